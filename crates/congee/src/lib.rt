@@ -1,0 +1,11 @@
+//! The typed faces of the tree: what users of the index call.
+#![tactic(auto)]
+
+pub mod calls;
+#[cfg(test)]
+mod tests;
+mod u64_congee;
+
+pub use congee_nodes::error::OOMError;
+pub use congee_nodes::traits::Word;
+pub use u64_congee::U64Congee;

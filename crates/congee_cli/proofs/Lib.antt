@@ -1,0 +1,7 @@
+mod CommandLemmas
+mod GrammarLemmas
+mod LawLemmas
+mod Numbers
+mod Running
+mod Sending
+mod WordLemmas

@@ -1,0 +1,42 @@
+-- What a line is answered.
+use Rattle.std.specs.Prelude.{◌≡◌, ℕ, List, [], ◌∷◌, ◌++◌, codes, decimal, Option, Some, None}
+use Rattle.congee_nodes.specs.Call.{old_value, Answer, replied, refused, Deed}
+use Rattle.congee_cli.specs.declared.command.Command.{Command}
+use Rattle.congee_cli.specs.declared.command.Command.TheVariants.{Get, Insert}
+use Rattle.congee_cli.specs.Command.{Says, IsBad, call_of}
+
+-- a value, or `none`
+abbrev pub value_text : Option ℕ → List ℕ
+value_text None = codes "none"
+value_text (Some value) = decimal value
+
+-- the text of what a command is answered, if it can be answered so
+abbrev pub IsText : Command → Answer ℕ ℕ ℕ → List ℕ → Type 0
+IsText (Get key) (replied (old_value value)) text = text ≡ value_text value
+IsText (Insert key value) (replied (old_value before)) text = text ≡ codes "ok " ++ value_text before
+IsText (Insert key value) refused text = text ≡ codes "oom"
+IsText command answer text = ⊥
+
+-- the line is a command that asks for the call, and the text is that of its answer
+pub record Obeys (line text : List ℕ) (deed : Deed ℕ ℕ ℕ) : Type 0 where
+  pub command : Command
+  pub says : Says line command
+  pub asks : deed.call ≡ call_of command
+  pub answers : IsText command deed.answer text
+
+-- The line is answered by the text: for what was done, if it is a command, and for nothing otherwise.
+abbrev pub IsAnswered : List ℕ → List ℕ → Option (Deed ℕ ℕ ℕ) → Type 0
+IsAnswered line text (Some deed) = Obeys line text deed
+IsAnswered line text None = IsBad line × (text ≡ codes "bad line")
+
+-- the lines are answered by the texts, one after another
+abbrev pub AreAnswered : List (List ℕ) → List (List ℕ) → List (Option (Deed ℕ ℕ ℕ)) → Type 0
+AreAnswered [] [] [] = Unit {0}
+AreAnswered (line ∷ lines) (text ∷ texts) (done ∷ dones) = IsAnswered line text done × AreAnswered lines texts dones
+AreAnswered lines texts dones = ⊥
+
+-- what was done, in order
+abbrev pub deeds_of : List (Option (Deed ℕ ℕ ℕ)) → List (Deed ℕ ℕ ℕ)
+deeds_of [] = []
+deeds_of (None ∷ dones) = deeds_of dones
+deeds_of (Some deed ∷ dones) = deed ∷ deeds_of dones

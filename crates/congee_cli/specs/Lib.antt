@@ -1,0 +1,11 @@
+pub mod Answer
+pub mod Bytes
+pub mod Command
+pub mod Grammar
+pub mod Lines
+pub mod Number
+pub mod Run
+pub mod Serve
+pub mod Session
+pub mod Watched
+pub mod Words

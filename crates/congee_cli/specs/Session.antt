@@ -1,0 +1,100 @@
+-- The middle of a run.
+use Rattle.std.specs.Prelude.{◌≡◌, ℕ, List, [], ◌∷◌, ◌++◌, codes, Option, None, Result, Ok, Err, Bool, false, nat_eq}
+use Rattle.std.specs.Io.KnownBytes.{Consumes, IsAtEnd}
+use Rattle.congee_nodes.specs.Map.{Pairs}
+use Rattle.congee_nodes.specs.Call.{old_value, Answer, replied, refused, Deed}
+use Rattle.congee_nodes.specs.Legal.{IsLegal}
+use Rattle.congee_nodes.specs.Refusal.{of_new_keys}
+use Rattle.congee_cli.specs.Bytes.{Sends}
+use Rattle.congee_cli.specs.Lines.{Cuts, lines_of, ended, Holds}
+use Rattle.congee_cli.specs.Command.{call_of}
+use Rattle.congee_cli.specs.Answer.{value_text, IsAnswered, deeds_of}
+use Rattle.congee_cli.specs.Run.{Tells, StopsReading, StopsWriting}
+use Rattle.congee_cli.specs.declared.command.Command.{Command}
+use Rattle.congee_cli.specs.declared.reply.Reply.{Reply}
+use Rattle.congee_cli.specs.declared.reply.Reply.TheVariants.{Value, Before, Refused, BadLine}
+use Rattle.congee_cli.specs.declared.run.RunError.{RunError}
+use Rattle.congee_cli.specs.declared.run.RunError.TheVariants.{Read, Write, Oom}
+
+-- the text of a reply
+abbrev pub reply_text : Reply → List ℕ
+reply_text (Value value) = value_text value
+reply_text (Before before) = codes "ok " ++ value_text before
+reply_text Refused = codes "oom"
+reply_text BadLine = codes "bad line"
+
+-- what came back of the call, if there was one
+abbrev pub answer_of : Reply → Answer ℕ ℕ ℕ
+answer_of (Value value) = replied (old_value value)
+answer_of (Before before) = replied (old_value before)
+answer_of Refused = refused
+answer_of BadLine = refused
+
+-- the call that a command asks for, and what came back
+abbrev pub deed_of : Command → Reply → Deed ℕ ℕ ℕ
+deed_of command reply = record { call = call_of command; asked = None; answer = answer_of reply }
+
+-- the line is answered by the text on the map m, which leaves the map n
+pub record AnswersLine (m : Pairs ℕ) (line text : List ℕ) (n : Pairs ℕ) : Type 0 where
+  pub done : Option (Deed ℕ ℕ ℕ)
+  pub answered : IsAnswered line text done
+  pub legal : IsLegal nat_eq of_new_keys m (deeds_of (done ∷ [])) n
+
+-- The bytes were read. Their whole lines have been answered, kept is held of the line that has begun, and
+-- left has still to be written.
+pub record Serves (m : Pairs ℕ) (kept : Option (List ℕ)) (left : List ℕ) (old new : Option (List ℕ)) (bytes : List ℕ) : Type 0 where
+  pub whole : List (List ℕ)
+  pub rest : List ℕ
+  pub cut : Cuts bytes whole rest
+  pub held : Holds kept rest
+  pub tells : Tells whole m old new left
+
+-- the same, and the bytes are what was read
+pub record Runs (m : Pairs ℕ) (kept : Option (List ℕ)) (left : List ℕ) (input input' output output' : Option (List ℕ)) : Type 0 where
+  pub taken : List ℕ
+  pub reads : Consumes input input' taken
+  pub serves : Serves m kept left output output' taken
+
+-- the same, and the line that has begun has been answered too
+pub record ServesAll (left : List ℕ) (old new : Option (List ℕ)) (bytes : List ℕ) : Type 0 where
+  pub whole : List (List ℕ)
+  pub rest : List ℕ
+  pub cut : Cuts bytes whole rest
+  pub map : Pairs ℕ
+  pub tells : Tells (lines_of whole rest) map old new left
+
+-- the line that kept is held of has been answered, by a text behind what was to be written
+pub record TakesLine (m n : Pairs ℕ) (kept : Option (List ℕ)) (left left' : List ℕ) (old new : Option (List ℕ)) : Type 0 where
+  pub text : List ℕ
+  pub answers : (line : List ℕ) → Holds kept line → AnswersLine m line text n
+  pub sends : Sends old new (left ++ ended text) left'
+
+-- it has been answered, and a write failed
+pub record StopsAnswer (m : Pairs ℕ) (kept : Option (List ℕ)) (left : List ℕ) (old new : Option (List ℕ)) : Type 0 where
+  pub after : Pairs ℕ
+  pub rest : List ℕ
+  pub takes : TakesLine m after kept left rest old new
+
+-- some whole lines of the bytes have been answered, and a beginning of their texts was written
+pub record Breaks (bytes : List ℕ) (old new : Option (List ℕ)) : Type 0 where
+  pub whole : List (List ℕ)
+  pub rest : List ℕ
+  pub cut : Cuts bytes whole rest
+  pub map : Pairs ℕ
+  pub left : List ℕ
+  pub tells : Tells whole map old new left
+
+-- it broke off after a first part of more bytes
+pub record BreaksWithin (bytes more : List ℕ) (old new : Option (List ℕ)) : Type 0 where
+  pub front : List ℕ
+  pub back : List ℕ
+  pub parts : more ≡ front ++ back
+  pub breaks : Breaks (bytes ++ front) old new
+
+-- One turn of a run goes on, ends the input, or breaks off.
+abbrev pub TurnsTo : Pairs ℕ → Option (List ℕ) → List ℕ → Option (List ℕ) → Option (List ℕ) → Option (List ℕ) → Option (List ℕ) → Result Bool RunError → Type 0
+TurnsTo m kept left input input' output output' (Ok goes_on) =
+    Runs m kept left input input' output output' × (goes_on ≡ false → IsAtEnd input')
+TurnsTo m kept left input input' output output' (Err Read) = StopsReading input input' output output'
+TurnsTo m kept left input input' output output' (Err Write) = StopsWriting input input' output output'
+TurnsTo m kept left input input' output output' (Err Oom) = ⊥

@@ -1,0 +1,52 @@
+//! The program `congee`: reads commands on an ordered map, a line each, and writes the answers.
+#![tactic(auto)]
+
+mod command;
+mod laws;
+mod line;
+mod number;
+mod pending;
+mod reply;
+mod run;
+mod serve;
+mod session;
+#[cfg(test)]
+mod tests;
+mod watched;
+mod words;
+
+use crate::serve::{serve, tell_no_memory};
+use crate::watched::Watched;
+use std::alloc::AllocError;
+use std::env;
+use std::io::ErrorKind;
+use std::process::ExitCode;
+
+fn main(rt: HostRuntime) -> ExitCode {
+    let Ok(words) = words_of(&rt) else {
+        return ExitCode::from(tell_no_memory(&mut rt.stderr()));
+    };
+    let mut input = Watched::new(rt.stdin());
+    let mut output = Watched::new(rt.stdout());
+    let status = serve(
+        rt.alloc(),
+        &words,
+        &mut input,
+        &mut output,
+        &mut rt.stderr(),
+    );
+    ExitCode::from(status)
+}
+
+// The words after the program's name. Where one of them is no text there are none, and nothing is
+// served. An error is want of memory.
+fn words_of(rt: &HostRuntime) -> Result<Vec<String>, AllocError> {
+    match env::args(rt) {
+        Ok(mut all) => {
+            let _ = all.next();
+            all.collect(rt.alloc())
+        }
+        Err(error) if error.kind() == ErrorKind::OutOfMemory => Err(AllocError),
+        Err(_) => Ok(Vec::new(rt.alloc())),
+    }
+}

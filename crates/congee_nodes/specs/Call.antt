@@ -1,0 +1,48 @@
+-- Calls on an ordered map, and what they are answered.
+use Rattle.std.specs.Prelude.{ℕ, Bool, List, Option, Result}
+
+-- A call with keys of type K and values of type V. The two compute calls have a closure besides.
+pub data Call (K V : Type 0) : Type 0 where
+  get : K → Call K V
+  insert : K → V → Call K V
+  remove : K → Call K V
+  -- the value that has to stand there, and what then replaces it: a value, or nothing
+  compare_exchange : K → V → Option V → Call K V
+  compute_if_present : K → Call K V
+  compute_or_insert : K → Call K V
+  is_empty : Call K V
+  value_count : Call K V
+  keys : Call K V
+  -- from a key on, below a key, at most so many pairs
+  range : K → K → ℕ → Call K V
+  drain : Call K V
+
+-- What the closure of a call was asked with and what it answered, if it was called. It is handed what is stored, of
+-- type P, and answers such a value, or nothing.
+abbrev pub Asked : Type 0 → Type 0
+Asked P = Option (Option P × Option P)
+
+-- A reply with keys of type K and values of type V, over what is stored, of type P.
+pub data Reply (K V P : Type 0) : Type 0 where
+  -- what stood at the key before
+  old_value : Option V → Reply K V P
+  -- the new value, or what stands in its place
+  exchanged : Result (Option V) (Option V) → Reply K V P
+  -- what stood at the key, and what the closure answered
+  computed : Option (P × Option P) → Reply K V P
+  tested : Bool → Reply K V P
+  counted : ℕ → Reply K V P
+  listed : List K → Reply K V P
+  ranged : List (ℕ × P) → Reply K V P
+  drained : List (K × V) → Reply K V P
+
+-- what comes back: a reply, or a refusal for want of memory
+pub data Answer (K V P : Type 0) : Type 0 where
+  replied : Reply K V P → Answer K V P
+  refused : Answer K V P
+
+-- a call, what its closure was asked and answered, and what came back
+pub record Deed (K V P : Type 0) : Type 0 where
+  pub call : Call K V
+  pub asked : Asked P
+  pub answer : Answer K V P

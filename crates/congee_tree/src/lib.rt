@@ -1,0 +1,5 @@
+//! The tree under the faces: an ordered map from keys of eight bytes to payloads.
+#![tactic(auto)]
+
+pub mod sorted_pairs;
+pub mod tree;

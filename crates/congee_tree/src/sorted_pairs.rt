@@ -1,0 +1,83 @@
+//! The plainest ordered map: one vector of pairs, their keys ascending.
+//!
+//! Its contract is the definition of the ordered map, call for call. So tests may compare any other body with it.
+
+ghost use Rattle.std.specs.Prelude.{◌≡◌, ℕ, [], length, IfOk, IfErr, OnOk, OnErr, option_copied};
+ghost use Rattle.congee_nodes.specs.Map.{lookup, put, IsMap};
+ghost use Rattle.congee_nodes.specs.Refusal.{IsNew};
+ghost use Rattle.congee_tree.specs.Place.{IsAt, IsGapFor};
+
+use congee_nodes::error::OOMError;
+use std::alloc::Global;
+use std::marker::Model;
+use std::mem;
+
+/// A map from numbers to values: 16 bytes a pair at a `u64`. A look-up takes time in the logarithm of the number of
+/// pairs, an insertion of a new key in their number.
+#[derive(Drop)]
+pub struct SortedPairs<P> {
+    pairs: Vec<(u64, P)>,
+}
+
+impl<P> Model for SortedPairs<P> {
+    ghost use Rattle.std.specs.Coded.{coded×, coded_list, coded_ℕ};
+    ghost use Rattle.congee_nodes.specs.Map.{Pairs, IsMap};
+
+    ghost Value = { Pairs P };
+
+    ghost coded = { coded_list (coded× coded_ℕ P.code) };
+
+    ghost view = { λ m. m.pairs.items };
+
+    ghost invariant = { λ m. IsMap m.pairs.items };
+}
+
+impl<P: Drop> SortedPairs<P> {
+    /// An empty map. Takes no memory.
+    pub fn new(alloc: Global) -> Self
+        ensures { result ≡ [] }
+    {
+        SortedPairs {
+            pairs: Vec::new(alloc),
+        }
+    }
+
+    /// The value at the key. Takes no memory.
+    pub fn get(&self, key: u64) -> Option<&P>
+        ensures { option_copied result ≡ lookup self.now key }
+    {
+        match search(&self.pairs, key) {
+            Ok(at) => Some(&self.pairs[at].1),
+            Err(_) => None,
+        }
+    }
+
+    /// Sets the value at the key, and answers the one that stood there. A refusal changes nothing, and only a new key
+    /// is refused, where the vector finds no memory to grow.
+    pub fn insert(&mut self, key: u64, value: P) -> Result<Option<P>, OOMError>
+        ensures before { IfOk result (λ before. before ≡ lookup self.old key) }
+        ensures ok { OnOk result (self.new ≡ put self.old key value) }
+        ensures err { OnErr result (self.new ≡ self.old) }
+        ensures refused { OnErr result (IsNew self.old key) }
+    {
+        match search(&self.pairs, key) {
+            Ok(at) => {
+                let slot = &mut self.pairs[at];
+                Ok(Some(mem::replace(slot, (key, value)).1))
+            }
+            Err(at) => {
+                self.pairs.insert(at, (key, value))?;
+                Ok(None)
+            }
+        }
+    }
+}
+
+// Where the key is, or where it would go.
+fn search<P>(pairs: &[(u64, P)], key: u64) -> Result<usize, usize>
+    requires { IsMap pairs.now }
+    ensures found { IfOk result (IsAt pairs.now key) }
+    ensures absent { IfErr result (IsGapFor pairs.now key) }
+{
+    pairs.binary_search_by_key(&key, |pair| pair.0)
+}
