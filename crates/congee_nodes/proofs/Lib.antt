@@ -1,2 +1,12 @@
+pub mod ByteMapLaws
+pub mod IndexLaws
 pub mod MapLaws
+pub mod LaneLaws
+pub mod MarkLaws
+pub mod MoveLaws
+pub mod PlacesLaws
+pub mod RangeLaws
 pub mod Runs
+pub mod ScanLaws
+pub mod SearchLaws
+pub mod SortedLaws

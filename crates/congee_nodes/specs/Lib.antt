@@ -1,6 +1,14 @@
+pub mod Any
 pub mod Call
 pub mod Conversion
+pub mod Form
+pub mod Indexed
 pub mod Legal
 pub mod Map
+pub mod Marked
+pub mod NodeView
+pub mod Places
 pub mod Refusal
 pub mod Request
+pub mod Rest
+pub mod Sorted

@@ -1,6 +1,18 @@
-//! What stands under every tree: the error, what a key or value is, and the definitions of the ordered map.
+//! What stands under every tree: the error, what a key or value is, the definitions of the ordered map, and the nodes.
 #![tactic(auto)]
 
+pub mod any_node;
+pub mod base_node;
 pub mod error;
+pub mod iter;
+pub mod lanes;
 pub mod laws;
+mod mask;
+pub mod node_16;
+pub mod node_256;
+pub mod node_4;
+pub mod node_48;
+mod sorted;
+#[cfg(test)]
+mod tests;
 pub mod traits;

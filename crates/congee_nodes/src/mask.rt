@@ -1,0 +1,38 @@
+//! A mask of 256 bits, one for each byte: which places of a node are in use, in 32 bytes.
+
+ghost use Rattle.std.specs.Prelude.{◌≡◌, ◌≢◌, ℕ, ◌+◌, ◌<◌, ◌≤◌, IfSome, IfNone};
+ghost use Rattle.congee_nodes.specs.Marked.{mark_at};
+
+// Sets the bit of a byte.
+pub(crate) fn mark(words: &mut [u64; 4], byte: u8)
+    ensures here { mark_at words.new byte ≡ 1 }
+    ensures others { (i : ℕ) → i < 256 → i ≢ byte → mark_at words.new i ≡ mark_at words.old i }
+{
+    words[byte as usize / 64] |= 1 << (byte as usize % 64);
+}
+
+// Clears the bit of a byte.
+pub(crate) fn unmark(words: &mut [u64; 4], byte: u8)
+    ensures here { mark_at words.new byte ≡ 0 }
+    ensures others { (i : ℕ) → i < 256 → i ≢ byte → mark_at words.new i ≡ mark_at words.old i }
+{
+    words[byte as usize / 64] &= !(1 << (byte as usize % 64));
+}
+
+// The first byte from this number on whose bit is set. A word without bits is passed in one step.
+pub(crate) fn next_marked(words: &[u64; 4], from: usize) -> Option<u8>
+    ensures order { IfSome result (λ byte. from ≤ byte) }
+    ensures here { IfSome result (λ byte. mark_at words.now byte ≡ 1) }
+    ensures free { IfSome result (λ byte. (i : ℕ) → from ≤ i → i < byte → mark_at words.now i ≡ 0) }
+    ensures none { IfNone result ((i : ℕ) → from ≤ i → mark_at words.now i ≡ 0) }
+{
+    let mut at = from;
+    while at < 256 {
+        let word = words[at / 64] >> (at % 64);
+        if word != 0 {
+            return Some((at + word.trailing_zeros() as usize) as u8);
+        }
+        at = (at / 64 + 1) * 64;
+    }
+    None
+}

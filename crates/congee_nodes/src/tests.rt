@@ -1,0 +1,226 @@
+//! Worked rows of the node forms, each public call at each form, and growth through all of them.
+
+use crate::any_node::AnyNode;
+use crate::base_node::{CopyTo, Node, NodeSize, NodeType, grown};
+use crate::node_4::Node4;
+use crate::node_16::Node16;
+use crate::node_48::Node48;
+use crate::node_256::Node256;
+use std::mem::size_of;
+use std::process::Abort;
+use std::test::Fail;
+
+// Puts a child under a byte, whether or not it has one; false where the node is full.
+fn put<N: Node<u32>>(node: &mut N, byte: u8, child: u32) -> bool {
+    if node.get_child(byte).is_some() {
+        node.change(byte, child);
+        return true;
+    }
+    if node.is_full() {
+        return false;
+    }
+    node.insert(byte, child);
+    true
+}
+
+// Takes a child out, where there is one.
+fn take<N: Node<u32>>(node: &mut N, byte: u8) -> Option<u32> {
+    if node.get_child(byte).is_none() {
+        return None;
+    }
+    Some(node.remove(byte))
+}
+
+// Whether a scan gives exactly these.
+fn scans<N: Node<u32>>(node: &N, start: u8, end: u8, wanted: &[(u8, u32)]) -> bool {
+    let mut children = node.get_children(start, end);
+    for (byte, child) in wanted {
+        if children.next().map(|(b, c)| (b, *c)) != Some((*byte, *child)) {
+            return false;
+        }
+    }
+    children.next().is_none()
+}
+
+// Puts children under the highest bytes, 255 downward; how many went in.
+fn fill<N: Node<u32>>(node: &mut N, most: u8) -> u8 {
+    for i in 0..most {
+        if !put(node, 255 - i, u32::from(i)) {
+            return i;
+        }
+    }
+    most
+}
+
+// Every call of the contract at one form, which starts empty under the prefix 7, 8.
+fn makes_every_call<N: Node<u32>>(
+    rt: &impl Abort,
+    mut node: N,
+    form: NodeType,
+    capacity: Option<u16>,
+) {
+    assert_eq!(rt; node.get_type(), form);
+    assert_eq!(rt; node.base().get_type(), form);
+    assert_eq!(rt; node.base().prefix(), [7, 8].as_slice());
+    assert_eq!(rt; node.value_count(), 0);
+    for (byte, child) in [(20u8, 2u32), (30, 9), (10, 1)] {
+        assert!(rt; put(&mut node, byte, child));
+    }
+    // the second child under a byte takes the place of the first
+    assert!(rt; put(&mut node, 30, 3));
+    assert_eq!(rt; node.base().value_count(), 3);
+    let rows: [(u8, u8, &[(u8, u32)]); 6] = [
+        (15, 25, &[(20, 2)]),
+        (0, 9, &[]),
+        (10, 30, &[(10, 1), (20, 2), (30, 3)]),
+        (25, 15, &[]),
+        (11, 255, &[(20, 2), (30, 3)]),
+        (31, 255, &[]),
+    ];
+    for (start, end, wanted) in rows {
+        assert!(rt; scans(&node, start, end, wanted), "from {start} to {end}");
+    }
+    for (byte, child) in [(10u8, Some(1u32)), (30, Some(3)), (29, None), (255, None)] {
+        assert_eq!(rt; node.get_child(byte).copied(), child, "at {byte}");
+    }
+    assert_eq!(rt; take(&mut node, 20), Some(2));
+    assert_eq!(rt; take(&mut node, 20), None);
+    assert!(rt; scans(&node, 0, 255, &[(10, 1), (30, 3)]));
+    assert_eq!(rt; take(&mut node, 10), Some(1));
+    assert_eq!(rt; take(&mut node, 30), Some(3));
+    let room = fill(&mut node, 60);
+    assert_eq!(rt; node.is_full(), capacity.is_some());
+    assert_eq!(rt; u16::from(room), capacity.unwrap_or(60));
+    assert_eq!(rt; node.value_count(), capacity.unwrap_or(60));
+}
+
+#[test]
+fn every_call_at_every_form(rt: HostRuntime) -> Result<(), Fail> {
+    let alloc = rt.alloc();
+    makes_every_call(&rt, Node4::new(alloc, &[7, 8])?, NodeType::N4, Some(4));
+    makes_every_call(&rt, Node16::new(alloc, &[7, 8])?, NodeType::N16, Some(16));
+    makes_every_call(&rt, Node48::new(alloc, &[7, 8])?, NodeType::N48, Some(48));
+    makes_every_call(&rt, Node256::new(alloc, &[7, 8])?, NodeType::N256, None);
+    makes_every_call(
+        &rt,
+        AnyNode::N4(Node4::new(alloc, &[7, 8])?),
+        NodeType::N4,
+        Some(4),
+    );
+    Ok(())
+}
+
+#[test]
+fn removed_places_are_used_again(rt: HostRuntime) -> Result<(), Fail> {
+    let mut node = Node48::new(rt.alloc(), &[])?;
+    for byte in 0..48u8 {
+        assert!(rt; put(&mut node, byte, u32::from(byte)));
+    }
+    for byte in 24..30u8 {
+        assert_eq!(rt; take(&mut node, byte), Some(u32::from(byte)));
+    }
+    for byte in 24..30u8 {
+        assert!(rt; put(&mut node, byte, 100 + u32::from(byte)));
+    }
+    for byte in 0..48u8 {
+        let last = if byte >= 24 && byte < 30 {
+            100 + u32::from(byte)
+        } else {
+            u32::from(byte)
+        };
+        assert_eq!(rt; node.get_child(byte).copied(), Some(last), "at {byte}");
+    }
+    Ok(())
+}
+
+#[test]
+fn bytes_past_the_count_never_match(rt: HostRuntime) -> Result<(), Fail> {
+    let mut node = Node16::new(rt.alloc(), &[])?;
+    assert!(rt; put(&mut node, 3, 30) && put(&mut node, 7, 70));
+    assert_eq!(rt; take(&mut node, 7), Some(70));
+    assert_eq!(rt; node.get_child(7), None);
+    let mut even = Node16::new(rt.alloc(), &[])?;
+    for i in 0..16u8 {
+        assert!(rt; put(&mut even, 2 * i, u32::from(i)));
+    }
+    assert_eq!(rt; even.get_child(30).copied(), Some(15));
+    assert_eq!(rt; even.get_child(31), None);
+    Ok(())
+}
+
+#[test]
+fn growth_keeps_every_child(rt: HostRuntime) -> Result<(), Fail> {
+    let alloc = rt.alloc();
+    let mut first = Node4::new(alloc, &[1])?;
+    assert_eq!(rt; fill(&mut first, 60), 4);
+    let _ = first.base();
+    assert!(rt; first.get_child(0).is_none());
+    let mut second = grown(first, Node16::new(alloc, &[2])?, 0, 100);
+    assert!(rt;
+        scans(
+            &second,
+            0,
+            255,
+            &[(0, 100), (252, 3), (253, 2), (254, 1), (255, 0)]
+        )
+    );
+    assert_eq!(rt; second.base().prefix(), [2].as_slice());
+    assert_eq!(rt; fill(&mut second, 60), 15);
+    let _ = second.base();
+    assert!(rt; second.get_child(1).is_none());
+    let mut third = grown(second, Node48::new(alloc, &[3])?, 1, 101);
+    assert_eq!(rt;
+        (third.value_count(), third.get_child(255).copied()),
+        (17, Some(0))
+    );
+    assert_eq!(rt; fill(&mut third, 60), 46);
+    assert!(rt; third.get_child(2).is_none());
+    let fourth = grown(third, Node256::new(alloc, &[4])?, 2, 102);
+    assert_eq!(rt;
+        (fourth.value_count(), fourth.get_child(255).copied()),
+        (49, Some(0))
+    );
+    assert!(rt; scans(&fourth, 0, 210, &[(0, 100), (1, 101), (2, 102), (210, 45)]));
+    let mut last = Node256::new(alloc, &[5])?;
+    fourth.copy_to(&mut last);
+    assert!(rt; scans(&last, 0, 210, &[(0, 100), (1, 101), (2, 102), (210, 45)]));
+    Ok(())
+}
+
+#[test]
+fn one_value_grows_through_all_forms(rt: HostRuntime) -> Result<(), Fail> {
+    let alloc = rt.alloc();
+    let mut node = AnyNode::N4(Node4::new(alloc, &[7, 8])?);
+    for byte in 0..=255u8 {
+        if node.is_full() {
+            node.grow(alloc)?;
+        }
+        assert!(rt; put(&mut node, byte, 3 * u32::from(byte)), "at {byte}");
+    }
+    assert_eq!(rt; node.get_type(), NodeType::N256);
+    assert_eq!(rt; node.base().prefix(), [7, 8].as_slice());
+    assert_eq!(rt; node.value_count(), 256);
+    for byte in 0..=255u8 {
+        assert_eq!(rt;
+            node.get_child(byte).copied(),
+            Some(3 * u32::from(byte)),
+            "at {byte}"
+        );
+    }
+    Ok(())
+}
+
+#[test]
+fn sizes_are_stated(rt: HostRuntime) -> Result<(), Fail> {
+    for (form, bytes) in [
+        (NodeType::N4, 64),
+        (NodeType::N16, 168),
+        (NodeType::N48, 672),
+        (NodeType::N256, 2104),
+    ] {
+        assert_eq!(rt; NodeSize::of(form).bytes(), bytes);
+    }
+    // what a table of nodes with children of 16 bytes takes for each
+    assert!(rt; size_of::<AnyNode<(u64, u64)>>() <= 64);
+    Ok(())
+}
