@@ -3,7 +3,7 @@ use Rattle.std.proofs.Common.{◌≡◌, ℕ, List, [], ◌∷◌, ◌++◌, Opt
 use Rattle.std.specs.Option.{option_map}
 use Rattle.congee_nodes.specs.Map.{Pairs, lookup, put}
 use Rattle.congee_nodes.specs.Call.{get, insert, old_value, replied, refused, Deed}
-use Rattle.congee_nodes.specs.Refusal.{Refusals, of_new_keys, IsNew}
+use Rattle.congee_nodes.specs.Refusal.{Refusals, of_new_nodes, NeedsNode}
 use Rattle.congee_nodes.specs.Conversion.{Conversion}
 use Rattle.congee_nodes.proofs.Runs.{IsLegalFor-append}
 use Rattle.congee.specs.declared.calls.Call.{Call as FaceCall}
@@ -35,7 +35,7 @@ module _ {K V : Type 0} where
   }
 
 module _ {V : Type 0} (number : V → ℕ) (of_number : ℕ → V) (m n : Pairs ℕ) (key : ℕ) where
-  pub get_step : (value : Option V) → value ≡ option_map of_number (lookup m key) → IsStep (by_numbers number of_number) of_new_keys m (Get key) (Old value) m
+  pub get_step : (value : Option V) → value ≡ option_map of_number (lookup m key) → IsStep (by_numbers number of_number) of_new_nodes m (Get key) (Old value) m
   get_step value is = record {
     deeds = record { call = get key; asked = None; answer = replied (old_value value) } ∷ [];
     made = (record { called = refl; answered = refl }, tt);
@@ -47,7 +47,7 @@ module _ {V : Type 0} (number : V → ℕ) (of_number : ℕ → V) (m n : Pairs 
   }
 
   pub insert_step : (value : V) (before : Option V) → before ≡ option_map of_number (lookup m key) → n ≡ put m key (number value)
-      → IsStep (by_numbers number of_number) of_new_keys m (Insert key value) (Old before) n
+      → IsStep (by_numbers number of_number) of_new_nodes m (Insert key value) (Old before) n
   insert_step value before is puts = record {
     deeds = record { call = insert key value; asked = None; answer = replied (old_value before) } ∷ [];
     made = (record { called = refl; answered = refl }, tt);
@@ -58,7 +58,7 @@ module _ {V : Type 0} (number : V → ℕ) (of_number : ℕ → V) (m n : Pairs 
     };
   }
 
-  pub refused_step : (value : V) → IsNew m key → n ≡ m → IsStep (by_numbers number of_number) of_new_keys m (Insert key value) Refused n
+  pub refused_step : (value : V) → NeedsNode m key → n ≡ m → IsStep (by_numbers number of_number) of_new_nodes m (Insert key value) Refused n
   refused_step value new same = record {
     deeds = record { call = insert key value; asked = None; answer = refused } ∷ [];
     made = (record { called = refl; answered = refl }, tt);

@@ -1,7 +1,7 @@
 //! Calls of a face as data, and whole runs of them: the statement that every list of calls is a legal run of one map.
 
 ghost use Rattle.std.specs.Prelude.{◌≡◌, ℕ, IfOk, OnErr};
-ghost use Rattle.congee_nodes.specs.Refusal.{of_new_keys};
+ghost use Rattle.congee_nodes.specs.Refusal.{of_new_nodes};
 ghost use Rattle.congee.specs.Calls.{by_numbers, IsStep, IsRun};
 
 use crate::u64_congee::U64Congee;
@@ -29,7 +29,7 @@ pub enum Reply<V: Copy> {
 
 /// Makes one call.
 pub fn make_call<V: Word>(map: &mut U64Congee<V>, call: &Call<u64, V>) -> Reply<V>
-    ensures { IsStep (by_numbers V.number V.of_number) of_new_keys map.old.pairs call.now result map.new.pairs }
+    ensures { IsStep (by_numbers V.number V.of_number) of_new_nodes map.old.pairs call.now result map.new.pairs }
 {
     match call {
         Call::Get(key) => Reply::Old(map.get(*key)),
@@ -47,7 +47,7 @@ pub fn run_calls<V: Word>(
     map: &mut U64Congee<V>,
     calls: &[Call<u64, V>],
 ) -> Result<Vec<Reply<V>>, OOMError>
-    ensures run { IfOk result (λ replies. IsRun (by_numbers V.number V.of_number) of_new_keys map.old.pairs calls.now replies.items map.new.pairs) }
+    ensures run { IfOk result (λ replies. IsRun (by_numbers V.number V.of_number) of_new_nodes map.old.pairs calls.now replies.items map.new.pairs) }
     ensures err { OnErr result (map.new.pairs ≡ map.old.pairs) }
 {
     let mut replies = Vec::with_capacity(alloc, calls.len())?;

@@ -2,6 +2,7 @@
 #![tactic(auto)]
 
 pub mod calls;
+mod fresh;
 #[cfg(test)]
 mod tests;
 mod u64_congee;

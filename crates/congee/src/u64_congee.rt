@@ -3,13 +3,15 @@
 ghost use Rattle.std.specs.Prelude.{◌≡◌, ℕ, [], IfOk, OnOk, OnErr};
 ghost use Rattle.std.specs.Option.{option_map};
 ghost use Rattle.congee_nodes.specs.Map.{lookup, put};
-ghost use Rattle.congee_nodes.specs.Refusal.{IsNew};
+ghost use Rattle.congee_nodes.specs.Refusal.{NeedsNode};
 
+use crate::fresh;
 use congee_nodes::error::OOMError;
 use congee_nodes::traits::Word;
 use congee_tree::tree::RawCongee;
 use std::alloc::Global;
-use std::marker::{Model, PhantomData};
+use std::marker::{Brand, Model, PhantomData};
+use std::sync::ledger::Blank;
 
 /// An ordered map from 64-bit numbers to values of a type that is written as a number.
 ///
@@ -43,21 +45,27 @@ impl<V: Word> U64Congee<V> {
     pub fn get(&self, key: u64) -> Option<V>
         ensures { result ≡ option_map V.of_number (lookup self.now.pairs key) }
     {
-        match self.tree.get(&key.to_be_bytes()) {
+        match fresh::get::<Brand, u64>(&self.tree, key, Blank::new(1)) {
             Some(number) => Some(V::from_u64(*number)),
             None => None,
         }
     }
 
     /// Sets the value at the key, and answers the one that stood there, read back from its number. `OOMError` comes
-    /// only for a new key, where memory is missing, and leaves the map as it was.
+    /// only for a new key that needs a node of its own or a larger one, where memory is missing for that, and leaves the
+    /// map as it was.
     pub fn insert(&mut self, key: u64, val: V) -> Result<Option<V>, OOMError>
         ensures before { IfOk result (λ before. before ≡ option_map V.of_number (lookup self.old.pairs key)) }
         ensures ok { OnOk result (self.new.pairs ≡ put self.old.pairs key (V.number val)) }
         ensures err { OnErr result (self.new.pairs ≡ self.old.pairs) }
-        ensures refused { OnErr result (IsNew self.old.pairs key) }
+        ensures refused { OnErr result (NeedsNode self.old.pairs key) }
     {
-        let before = self.tree.insert(&key.to_be_bytes(), val.into_u64())?;
+        let before = fresh::insert::<Brand, u64>(
+            &mut self.tree,
+            key,
+            val.into_u64(),
+            Blank::new(1),
+        )?;
         Ok(match before {
             Some(number) => Some(V::from_u64(number)),
             None => None,

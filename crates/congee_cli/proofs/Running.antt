@@ -7,7 +7,7 @@ use Rattle.std.proofs.lemmas.Bool.{cases_lt, cases_eq, lt-ltb, le-ltb}
 use Rattle.std.proofs.lemmas.List.Concat.{flat_map-append}
 use Rattle.congee_nodes.specs.Map.{Pairs}
 use Rattle.congee_nodes.specs.Call.{Deed}
-use Rattle.congee_nodes.specs.Refusal.{of_new_keys}
+use Rattle.congee_nodes.specs.Refusal.{of_new_nodes}
 use Rattle.congee_nodes.proofs.Runs.{IsLegal-append}
 use Rattle.congee_cli.specs.Bytes.{Sends}
 use Rattle.congee_cli.specs.Lines.{Lacks, Cuts, Holds, kept_with, lines_of, ended}
@@ -111,7 +111,7 @@ tells_line {lines} {m} {n} line text tells a sends = record {
   texts = tells.texts ++ text ∷ [];
   dones = tells.dones ++ a.done ∷ [];
   answers = answered_more lines tells.texts tells.dones line text a.done tells.answers a.answered;
-  legal = rw (deeds_of_more tells.dones (a.done ∷ [])) (IsLegal-append nat_eq of_new_keys [] m n (deeds_of tells.dones) (deeds_of (a.done ∷ [])) tells.legal a.legal);
+  legal = rw (deeds_of_more tells.dones (a.done ∷ [])) (IsLegal-append nat_eq of_new_nodes [] m n (deeds_of tells.dones) (deeds_of (a.done ∷ [])) tells.legal a.legal);
   sends = rw (ended_push tells.texts text) (sends_more (ended text) tells.sends sends);
 }
 

@@ -5,7 +5,7 @@ use Rattle.std.specs.Io.KnownBytes.{Consumes, IsAtEnd}
 use Rattle.congee_nodes.specs.Map.{Pairs}
 use Rattle.congee_nodes.specs.Call.{Deed}
 use Rattle.congee_nodes.specs.Legal.{IsLegal}
-use Rattle.congee_nodes.specs.Refusal.{of_new_keys}
+use Rattle.congee_nodes.specs.Refusal.{of_new_nodes}
 use Rattle.congee_cli.specs.Bytes.{Sends}
 use Rattle.congee_cli.specs.Lines.{Cuts, lines_of, ended}
 use Rattle.congee_cli.specs.Answer.{AreAnswered, deeds_of}
@@ -16,7 +16,7 @@ pub record Tells (lines : List (List ℕ)) (m : Pairs ℕ) (old new : Option (Li
   pub texts : List (List ℕ)
   pub dones : List (Option (Deed ℕ ℕ ℕ))
   pub answers : AreAnswered lines texts dones
-  pub legal : IsLegal nat_eq of_new_keys [] (deeds_of dones) m
+  pub legal : IsLegal nat_eq of_new_nodes [] (deeds_of dones) m
   pub sends : Sends old new (flat_map ended texts) left
 
 -- the texts of all lines of the bytes were written

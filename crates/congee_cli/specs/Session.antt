@@ -4,7 +4,7 @@ use Rattle.std.specs.Io.KnownBytes.{Consumes, IsAtEnd}
 use Rattle.congee_nodes.specs.Map.{Pairs}
 use Rattle.congee_nodes.specs.Call.{old_value, Answer, replied, refused, Deed}
 use Rattle.congee_nodes.specs.Legal.{IsLegal}
-use Rattle.congee_nodes.specs.Refusal.{of_new_keys}
+use Rattle.congee_nodes.specs.Refusal.{of_new_nodes}
 use Rattle.congee_cli.specs.Bytes.{Sends}
 use Rattle.congee_cli.specs.Lines.{Cuts, lines_of, ended, Holds}
 use Rattle.congee_cli.specs.Command.{call_of}
@@ -38,7 +38,7 @@ deed_of command reply = record { call = call_of command; asked = None; answer = 
 pub record AnswersLine (m : Pairs ℕ) (line text : List ℕ) (n : Pairs ℕ) : Type 0 where
   pub done : Option (Deed ℕ ℕ ℕ)
   pub answered : IsAnswered line text done
-  pub legal : IsLegal nat_eq of_new_keys m (deeds_of (done ∷ [])) n
+  pub legal : IsLegal nat_eq of_new_nodes m (deeds_of (done ∷ [])) n
 
 -- The bytes were read. Their whole lines have been answered, kept is held of the line that has begun, and
 -- left has still to be written.

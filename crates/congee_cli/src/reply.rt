@@ -23,7 +23,7 @@ pub enum Reply {
 }
 
 ghost use Rattle.congee_nodes.specs.Legal.{IsLegal};
-ghost use Rattle.congee_nodes.specs.Refusal.{of_new_keys};
+ghost use Rattle.congee_nodes.specs.Refusal.{of_new_nodes};
 ghost use Rattle.congee_cli.specs.Bytes.{Sends};
 ghost use Rattle.congee_cli.specs.Lines.{Holds, ended};
 ghost use Rattle.congee_cli.specs.Watched.{HasFailed, inner_of};
@@ -52,7 +52,7 @@ fn reply_to_text(map: &mut U64Congee<u64>, text: &[u8]) -> Reply
 
 fn execute(map: &mut U64Congee<u64>, command: Command) -> Reply
     ensures text { IsText command (answer_of result) (reply_text result) }
-    ensures legal { IsLegal nat_eq of_new_keys map.old.pairs (deed_of command result ∷ []) map.new.pairs }
+    ensures legal { IsLegal nat_eq of_new_nodes map.old.pairs (deed_of command result ∷ []) map.new.pairs }
 {
     match command {
         Command::Get(key) => Reply::Value(map.get(key)),

@@ -3,6 +3,7 @@ pub mod Call
 pub mod Conversion
 pub mod Form
 pub mod Indexed
+pub mod Key
 pub mod Legal
 pub mod Map
 pub mod Marked
@@ -11,4 +12,6 @@ pub mod Places
 pub mod Refusal
 pub mod Request
 pub mod Rest
+pub mod Shape
 pub mod Sorted
+pub mod Table

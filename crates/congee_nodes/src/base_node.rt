@@ -196,13 +196,6 @@ pub trait Node<C>: Drop + Sized {
         ensures prefix { prefix self.new ≡ prefix self.old }
         ensures form { form self.new ≡ form self.old };
 
-    /// How many children there are.
-    fn value_count(&self) -> u16
-        ensures { result ≡ length (children self.now) }
-    {
-        self.base().value_count()
-    }
-
     /// The node's form.
     fn get_type(&self) -> NodeType
         ensures { result ≡ form self.now }

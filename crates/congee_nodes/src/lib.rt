@@ -3,6 +3,7 @@
 
 pub mod any_node;
 pub mod base_node;
+pub mod child;
 pub mod error;
 pub mod iter;
 pub mod lanes;

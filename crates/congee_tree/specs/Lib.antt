@@ -1,2 +1,5 @@
 pub mod Place
 pub mod Tree
+pub mod Way
+pub mod Writes
+pub mod Path

@@ -1,11 +1,52 @@
 -- What a contract sees of a tree.
-use Rattle.std.specs.Prelude.{refl}
+use Rattle.std.specs.Prelude.{◌≡◌, ℕ, zero, suc, List, refl}
 use Rattle.std.specs.Coded.{Coded, code_by, coded×, coded_list, coded_ℕ}
 use Rattle.congee_nodes.specs.Map.{Pairs}
+use Rattle.congee_nodes.specs.Table.{NodeInfo}
+use Rattle.congee_nodes.specs.declared.base_node.NodeType.{NodeType}
+use Rattle.congee_nodes.specs.declared.base_node.NodeType.TheVariants.{N4, N16, N48, N256}
 
--- the pairs that a tree stores, and what else its calls speak of (nothing yet)
+-- a number for each form, which only the code below uses
+abbrev pub form_number : NodeType → ℕ
+form_number N4 = 0
+form_number N16 = 1
+form_number N48 = 2
+form_number N256 = 3
+
+abbrev pub numbered_form : ℕ → NodeType
+numbered_form zero = N4
+numbered_form (suc zero) = N16
+numbered_form (suc (suc zero)) = N48
+numbered_form (suc (suc (suc n))) = N256
+
+pub form_is_numbered : (f : NodeType) → numbered_form (form_number f) ≡ f
+form_is_numbered N4 = refl
+form_is_numbered N16 = refl
+form_is_numbered N48 = refl
+form_is_numbered N256 = refl
+
+abbrev pub form_code : Coded NodeType
+form_code = code_by ℕ coded_ℕ form_number numbered_form form_is_numbered
+
+abbrev pub node_info_code : Coded NodeInfo
+node_info_code =
+    code_by
+    (List ℕ × (List ℕ × (NodeType × ℕ)))
+    (coded× (coded_list coded_ℕ) (coded× (coded_list coded_ℕ) (coded× form_code coded_ℕ)))
+    (λ i. (i.edge, (i.prefix, (i.form, i.count))))
+    (λ p. record { edge = p.0; prefix = p.1.0; form = p.1.1.0; count = p.1.1.1 })
+    (λ _. refl)
+
+-- the pairs that a tree stores, and its nodes: the root first, then the nodes below each child in the order of the bytes
 pub record Tree (P : Type 0) : Type 0 where
   pub pairs : Pairs P
+  pub nodes : List NodeInfo
 
 abbrev pub tree_code : {P : Type 0} → Coded P → Coded (Tree P)
-tree_code {P} p = code_by (Pairs P) (coded_list (coded× coded_ℕ p)) (λ t. t.pairs) (λ m. record { pairs = m }) (λ _. refl)
+tree_code {P} p =
+    code_by
+    (Pairs P × List NodeInfo)
+    (coded× (coded_list (coded× coded_ℕ p)) (coded_list node_info_code))
+    (λ t. (t.pairs, t.nodes))
+    (λ m. record { pairs = m.0; nodes = m.1 })
+    (λ _. refl)

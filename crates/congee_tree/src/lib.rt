@@ -1,5 +1,8 @@
 //! The tree under the faces: an ordered map from keys of eight bytes to payloads.
 #![tactic(auto)]
 
+mod descent;
+mod insertion;
+pub mod reads;
 pub mod sorted_pairs;
 pub mod tree;

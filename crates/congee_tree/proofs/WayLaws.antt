@@ -1,0 +1,125 @@
+-- What a change at the end of a key's way does to the whole tree.
+use Rattle.std.proofs.Common.{◌≡◌, ℕ, zero, suc, ◌+◌, ◌-◌, ◌<◌, ◌≤◌, List, [], ◌∷◌, ◌++◌, length, Some, None, refl, ap, sym, subst, ◌∙◌, arith, length-append}
+use Rattle.congee_nodes.specs.Map.{lookup}
+use Rattle.congee_nodes.specs.Key.{AreBytes, key_number, Begins}
+use Rattle.congee_nodes.proofs.KeyLaws.{goes_on}
+use Rattle.congee_nodes.specs.Any.{any_children as children, any_prefix as prefix}
+use Rattle.congee_nodes.specs.Table.{IsSound}
+use Rattle.congee_nodes.specs.declared.any_node.AnyNode.{AnyNode}
+use Rattle.congee_nodes.specs.Table.{Table, node_at, pairs_at, IsTree}
+use Rattle.congee_nodes.specs.Key.{next_byte}
+use Rattle.congee_tree.specs.Way.{depth, Way, Walk, IsEnd, Arrives}
+use Rattle.congee_nodes.specs.declared.child.Child.{Child}
+use Rattle.congee_nodes.specs.declared.child.Child.TheVariants.{Payload, Node}
+use Rattle.congee_tree.specs.declared.descent.End.{End}
+use Rattle.congee_tree.specs.declared.descent.End.TheVariants.{Differs, Absent, Present}
+use Rattle.congee_tree.specs.declared.descent.Place.{Place}
+use Rattle.congee_nodes.proofs.TableLaws.{open_subtree, lookup-off_prefix, lookup-at_child, lookup-at_payload, lookup-at_node, IsChild-found}
+use Rattle.congee_nodes.proofs.DownLaws.{KeepsOthers, down}
+use Rattle.congee_nodes.proofs.LocalLaws.{IsLocal}
+
+pub depth_is : depth ≡ 8
+unfolding depth
+depth_is = refl
+
+module _ {P : Type 0} (s : Table P) (root : ℕ) (key : List ℕ) where
+  pub walk_start : IsTree s depth [] root → Walk s root key 0 root
+  walk_start h = record { levels = depth; q = []; way = (refl, refl, refl); tree = h; begins = record { rest = key; is = refl }; deep = omega arith; sum = omega (arith, depth_is) }
+
+  step_at : (above levels slot : ℕ) (q : List ℕ) (n : AnyNode (Child P)) → Way s root key above levels q slot → IsTree s levels q slot → Begins q key → above ≤ length q → above + levels ≡ 8
+      → node_at s slot ≡ Some n → Begins (prefix n) key → AreBytes key → length key ≡ 8 → (j : ℕ) → lookup (children n) (next_byte (prefix n) key) ≡ Some (Node j)
+      → Walk s root key (suc above) j
+  step_at above zero slot q n way h begins deep sum here goes bytes full j found = absurd h
+  step_at above (suc levels) slot q n way h begins deep sum here goes bytes full j found =
+      let both : Some h.node ≡ Some n = sym h.here ∙ here in
+      let is : n ≡ h.node = cc in
+      let goes' : Begins (prefix h.node) key = subst (λ m. Begins (prefix m) key) is goes in
+      let found' : lookup (children h.node) (next_byte (prefix h.node) key) ≡ Some (Node j) = subst (λ m. lookup (children m) (next_byte (prefix m) key) ≡ Some (Node j)) is found in
+      let on = goes_on (prefix h.node) key goes' bytes h.sound.short full in
+      let child = IsChild-found s levels (prefix h.node) (children h.node) (next_byte (prefix h.node) key) (Node j) h.children found' in
+      let one = length-append (prefix h.node) (next_byte (prefix h.node) key ∷ []) in
+      let long = simp length-append at (ap length h.begins.is) in
+      record {
+        levels = levels;
+        q = prefix h.node ++ next_byte (prefix h.node) key ∷ [];
+        way = record { parent = slot; parent_q = q; tree = h; way = way; begins = goes'; found = found'; is = refl };
+        tree = child;
+        begins = on.begins;
+        deep = omega (arith, one, long, deep);
+        sum = omega (arith, sum);
+      }
+
+  pub walk_step : (above slot : ℕ) (n : AnyNode (Child P)) → Walk s root key above slot → node_at s slot ≡ Some n → Begins (prefix n) key → AreBytes key → length key ≡ 8 → (j : ℕ)
+      → lookup (children n) (next_byte (prefix n) key) ≡ Some (Node j) → Walk s root key (above + 1) j
+  walk_step above slot n w here goes bytes full j found =
+      let more : suc above ≡ above + 1 = omega arith in
+      subst (λ a. Walk s root key a j) more (step_at above w.levels slot w.q n w.way w.tree w.begins w.deep w.sum here goes bytes full j found)
+
+  levels_left : (levels slot : ℕ) (q : List ℕ) → IsTree s levels q slot → 1 ≤ levels
+  levels_left zero slot q h = absurd h
+  levels_left (suc levels) slot q h = omega arith
+
+  pub walk_short : (above slot : ℕ) → Walk s root key above slot → above < 8
+  walk_short above slot w = let l = levels_left w.levels slot w.q w.tree in omega (arith, w.sum)
+
+  module _ (bytes : AreBytes key) (full : length key ≡ 8) where
+    -- what is found in the whole is found at the end of the way
+    pub lookup_along : (above levels slot : ℕ) (q : List ℕ) → Way s root key above levels q slot → lookup (pairs_at s depth root) (key_number key) ≡ lookup (pairs_at s levels slot) (key_number key)
+    lookup_along zero levels slot q way = rw (way.0, way.2) refl
+    lookup_along (suc above) levels slot q way =
+        let h = way.tree in
+        let o = open_subtree s (suc levels) way.parent h.node (record { above = way.parent_q; tree = h }) (sym h.here) in
+        let less : suc levels - 1 ≡ levels = omega arith in
+        lookup_along above (suc levels) way.parent way.parent_q way.way
+        ∙ lookup-at_node s (suc levels) way.parent h.node o (prefix h.node) key refl bytes full way.begins slot (sym way.found)
+        ∙ ap (λ l. lookup (pairs_at s l slot) (key_number key)) less
+
+    -- a change at the key in the subtree at the end of the way is one of the whole
+    pub along : (t : Table P) (f : List (ℕ × P) → List (ℕ × P)) → IsLocal (key_number key) f → (above levels slot : ℕ) (q : List ℕ) → Way s root key above levels q slot
+        → IsTree t levels q slot → pairs_at t levels slot ≡ f (pairs_at s levels slot) → KeepsOthers q s t
+        → IsTree t depth [] root × (pairs_at t depth root ≡ f (pairs_at s depth root))
+    along t f local zero levels slot q way tree pairs others = (
+      subst (λ i. IsTree t depth [] i) way.2 (subst (λ r. IsTree t depth r slot) way.1 (subst (λ l. IsTree t l q slot) way.0 tree)),
+      subst (λ i. pairs_at t depth i ≡ f (pairs_at s depth i)) way.2 (subst (λ l. pairs_at t l slot ≡ f (pairs_at s l slot)) way.0 pairs),
+    )
+    along t f local (suc above) levels slot q way tree pairs others =
+        let h = way.tree in
+        let p = prefix h.node in
+        let b = next_byte p key in
+        let on = goes_on p key way.begins bytes h.sound.short full in
+        let d = down s t levels way.parent_q way.parent b slot (key_number key) f local h way.found
+        (subst (λ r. KeepsOthers r s t) way.is others) (subst (λ r. IsTree t levels r slot) way.is tree) pairs on.at_least on.below in
+        along t f local above (suc levels) way.parent way.parent_q way.way d.0 d.1 d.2
+
+    pub lookup_end : (place : Place) → Arrives s root key place → (e : End) → e ≡ place.end → ((b : ℕ) → e ≡ Present b → ⊥) → lookup (pairs_at s depth root) (key_number key) ≡ None
+    lookup_end place a (Differs at) is absent =
+        let w = a.walk in
+        let o = open_subtree s w.levels place.slot a.node (record { above = w.q; tree = w.tree }) (sym a.here) in
+        let d : IsEnd key a.node (Differs at) = subst (λ e. IsEnd key a.node e) (sym is) a.end in
+        lookup_along place.above w.levels place.slot w.q w.way ∙ lookup-off_prefix s w.levels place.slot a.node o (prefix a.node) key refl bytes full at d
+    lookup_end place a (Absent b) is absent =
+        let w = a.walk in
+        let o = open_subtree s w.levels place.slot a.node (record { above = w.q; tree = w.tree }) (sym a.here) in
+        let d : IsEnd key a.node (Absent b) = subst (λ e. IsEnd key a.node e) (sym is) a.end in
+        lookup_along place.above w.levels place.slot w.q w.way
+        ∙ lookup-at_child s w.levels place.slot a.node o (prefix a.node) key refl bytes full d.1 None (sym (subst (λ x. lookup (children a.node) x ≡ None) d.0 d.2))
+    lookup_end place a (Present b) is absent = absurd (absent b refl)
+
+    pub lookup_present : (place : Place) (a : Arrives s root key place) → (b : ℕ) → place.end ≡ Present b → (v : P) → lookup (children a.node) b ≡ Some (Payload v) → lookup (pairs_at s depth root) (key_number key) ≡ Some v
+    lookup_present place a b is v found =
+        let w = a.walk in
+        let o = open_subtree s w.levels place.slot a.node (record { above = w.q; tree = w.tree }) (sym a.here) in
+        let d : IsEnd key a.node (Present b) = subst (λ e. IsEnd key a.node e) is a.end in
+        lookup_along place.above w.levels place.slot w.q w.way
+        ∙ lookup-at_payload s w.levels place.slot a.node o (prefix a.node) key refl bytes full d.1 v (sym (subst (λ x. lookup (children a.node) x ≡ Some (Payload v)) d.0 found))
+
+    pub arrives_sound : (place : Place) → Arrives s root key place → (n : AnyNode (Child P)) → node_at s place.slot ≡ Some n → IsSound n
+    arrives_sound place a n here =
+        let o = open_subtree s a.walk.levels place.slot n (record { above = a.walk.q; tree = a.walk.tree }) (sym here) in o.sound
+
+  at_sound : (levels slot : ℕ) (q : List ℕ) (n : AnyNode (Child P)) → IsTree s levels q slot → node_at s slot ≡ Some n → IsSound n
+  at_sound zero slot q n h here = absurd h
+  at_sound (suc levels) slot q n h here = let both : Some h.node ≡ Some n = sym h.here ∙ here in let is : h.node ≡ n = cc in subst (λ m. IsSound m) is h.sound
+
+  pub walk_sound : (above slot : ℕ) (n : AnyNode (Child P)) → Walk s root key above slot → node_at s slot ≡ Some n → IsSound n
+  walk_sound above slot n w here = at_sound w.levels slot w.q n w.tree here

@@ -1,0 +1,130 @@
+//! The way of a key from the root down, which all point calls take.
+
+ghost use Rattle.std.specs.Prelude.{◌≡◌, ℕ, ◌+◌, [], ◌≤◌, length, IfSome, IfNone, option_copied};
+ghost use Rattle.congee_nodes.specs.Map.{lookup};
+ghost use Rattle.congee_nodes.specs.Key.{key_number, Begins, IsFirstDifference};
+ghost use Rattle.congee_nodes.specs.Table.{pairs_at, nodes_at, IsTree};
+ghost use Rattle.congee_tree.specs.Path.{on_path};
+ghost use Rattle.congee_tree.specs.Way.{depth, Meets, Arrives};
+
+use crate::reads::Reads;
+use congee_nodes::any_node::AnyNode;
+use congee_nodes::base_node::Node;
+use congee_nodes::child::Child;
+use slab::Slab;
+use std::sync::ledger::Ledger;
+
+/// How the way of a key ends at a node.
+#[derive(Clone, Copy)]
+pub(crate) enum End {
+    /// The node's prefix differs from the key at this place.
+    Differs(usize),
+    /// The node has nothing under the key's byte.
+    Absent(u8),
+    /// The node has a payload under the key's byte.
+    Present(u8),
+}
+
+/// The node where the way of a key ends.
+#[derive(Clone, Copy)]
+pub(crate) struct Place {
+    pub(crate) slot: usize,
+    /// How many nodes were read above it.
+    pub(crate) above: usize,
+    pub(crate) end: End,
+}
+
+// The first place at which the prefix and the key differ.
+fn first_difference(prefix: &[u8], key: &[u8; 8]) -> Option<usize>
+    requires { length prefix.now ≤ 7 }
+    ensures some { IfSome result (λ i. IsFirstDifference prefix.now key.now i) }
+    ensures none { IfNone result (Begins prefix.now key.now) }
+{
+    for i in 0..prefix.len() {
+        if prefix[i] != key[i] {
+            return Some(i);
+        }
+    }
+    None
+}
+
+/// What a key meets at a node.
+#[derive(Clone, Copy)]
+enum Step {
+    /// The slot of the node below.
+    Down(usize),
+    /// The end of its way.
+    Stop(End),
+}
+
+// What the key meets at this node.
+fn look<P: Drop>(node: &AnyNode<Child<P>>, key: &[u8; 8]) -> Step
+    ensures { Meets key.now node.now result }
+{
+    let prefix = node.base().prefix();
+    let level = prefix.len();
+    if let Some(at) = first_difference(prefix, key) {
+        return Step::Stop(End::Differs(at));
+    }
+    let byte = key[level];
+    match node.get_child(byte) {
+        None => Step::Stop(End::Absent(byte)),
+        Some(Child::Payload(_)) => Step::Stop(End::Present(byte)),
+        Some(Child::Node(child)) => Step::Down(*child),
+    }
+}
+
+/// Goes down along the key as far as there are nodes. Reads each of them once, and copies and moves none.
+pub(crate) fn descend<P: Drop, L: Ledger>(
+    nodes: &Slab<AnyNode<Child<P>>>,
+    root: usize,
+    key: &[u8; 8],
+    reads: &mut Reads<L>,
+) -> Place
+    requires { IsTree nodes.now.slots depth [] root }
+    ensures arrives { Arrives nodes.now.slots root key.now result }
+    ensures reads { reads.new ≡ reads.old + result.above + 1 }
+{
+    let mut slot = root;
+    let mut above = 0;
+    'down: loop {
+        let Some(node) = nodes.get(slot) else {
+            unreachable!()
+        };
+        reads.tick();
+        match look(node, key) {
+            Step::Stop(end) => return Place { slot, above, end },
+            Step::Down(child) => {
+                slot = child;
+                above += 1;
+            }
+        }
+    }
+}
+
+/// The payload at the key.
+pub(crate) fn find<'a, P: Drop, L: Ledger>(
+    nodes: &'a Slab<AnyNode<Child<P>>>,
+    root: usize,
+    key: &[u8; 8],
+    reads: &mut Reads<L>,
+) -> Option<&'a P>
+    requires { IsTree nodes.now.slots depth [] root }
+    ensures value { option_copied result ≡ lookup (pairs_at nodes.now.slots depth root) (key_number key.now) }
+    ensures reads { reads.new ≡ reads.old + on_path (nodes_at nodes.now.slots depth [] root) key.now }
+    ensures few { on_path (nodes_at nodes.now.slots depth [] root) key.now ≤ 8 }
+{
+    let place = descend(nodes, root, key, reads);
+    match place.end {
+        End::Present(byte) => {
+            let Some(node) = nodes.get(place.slot) else {
+                unreachable!()
+            };
+            match node.get_child(byte) {
+                Some(Child::Payload(payload)) => Some(payload),
+                _ => unreachable!(),
+            }
+        }
+        _ => None,
+    }
+}
