@@ -1,2 +1,3 @@
 pub mod Calls
 pub mod Face
+pub mod U64Calls

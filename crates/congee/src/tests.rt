@@ -1,4 +1,6 @@
 //! Worked examples, and comparisons that cross crates.
 
+mod computation;
 mod faces;
+mod removal;
 mod tree;

@@ -2,24 +2,22 @@
 
 ghost use Rattle.std.specs.Prelude.{◌≡◌, ℕ, [], IfOk, OnOk, OnErr};
 ghost use Rattle.std.specs.Option.{option_map};
-ghost use Rattle.congee_nodes.specs.Map.{lookup, put};
+ghost use Rattle.congee_nodes.specs.Map.{lookup, put, without};
 ghost use Rattle.congee_nodes.specs.Refusal.{NeedsNode};
 
-use crate::fresh;
+use crate::typed_congee::Congee;
+use congee_nodes::allocator::DefaultAllocator;
 use congee_nodes::error::OOMError;
 use congee_nodes::traits::Word;
-use congee_tree::tree::RawCongee;
 use std::alloc::Global;
-use std::marker::{Brand, Model, PhantomData};
-use std::sync::ledger::Blank;
+use std::marker::Model;
 
 /// An ordered map from 64-bit numbers to values of a type that is written as a number.
 ///
 /// Contracts see the pairs of the map by their numbers. A value that is answered is read back from its number.
 #[derive(Drop)]
 pub struct U64Congee<V: Word> {
-    tree: RawCongee<u64>,
-    values: PhantomData<V>,
+    map: Congee<u64, V>,
 }
 
 impl<V: Word> Model for U64Congee<V> {
@@ -27,7 +25,7 @@ impl<V: Word> Model for U64Congee<V> {
 
     ghost Value = { Face };
 
-    ghost view = { λ m. record { pairs = m.tree.pairs } };
+    ghost view = { λ m. record { pairs = m.map.pairs } };
 }
 
 impl<V: Word> U64Congee<V> {
@@ -36,8 +34,7 @@ impl<V: Word> U64Congee<V> {
         ensures { IfOk result (λ map. map.pairs ≡ []) }
     {
         Ok(U64Congee {
-            tree: RawCongee::new(alloc)?,
-            values: PhantomData,
+            map: Congee::new(alloc, DefaultAllocator {})?,
         })
     }
 
@@ -45,10 +42,7 @@ impl<V: Word> U64Congee<V> {
     pub fn get(&self, key: u64) -> Option<V>
         ensures { result ≡ option_map V.of_number (lookup self.now.pairs key) }
     {
-        match fresh::get::<Brand, u64>(&self.tree, key, Blank::new(1)) {
-            Some(number) => Some(V::from_u64(*number)),
-            None => None,
-        }
+        self.map.get(&key)
     }
 
     /// Sets the value at the key, and answers the one that stood there, read back from its number. `OOMError` comes
@@ -60,15 +54,14 @@ impl<V: Word> U64Congee<V> {
         ensures err { OnErr result (self.new.pairs ≡ self.old.pairs) }
         ensures refused { OnErr result (NeedsNode self.old.pairs key) }
     {
-        let before = fresh::insert::<Brand, u64>(
-            &mut self.tree,
-            key,
-            val.into_u64(),
-            Blank::new(1),
-        )?;
-        Ok(match before {
-            Some(number) => Some(V::from_u64(number)),
-            None => None,
-        })
+        self.map.insert(key, val)
+    }
+
+    /// Takes the key out, and answers the value that stood there, read back from its number. Takes no memory.
+    pub fn remove(&mut self, key: u64) -> Option<V>
+        ensures before { result ≡ option_map V.of_number (lookup self.old.pairs key) }
+        ensures pairs { self.new.pairs ≡ without self.old.pairs key }
+    {
+        self.map.remove(&key)
     }
 }

@@ -1,15 +1,16 @@
 -- The grammar of commands.
-use Rattle.std.proofs.Common.{◌≡◌, ◌≢◌, ℕ, ◌≤◌, List, [], ◌∷◌, length, codes, Option, Some, None, if◌then◌else◌, bytes_eq, refl, ap, rules, arith}
+use Rattle.std.proofs.Common.{◌≡◌, ◌≢◌, ℕ, ◌<◌, ◌≤◌, ◌^◌, Bool, true, false, List, [], ◌∷◌, length, get_or, codes, decimal, Option, Some, None, if◌then◌else◌, bytes_eq, refl, ap, rules, arith}
 use Rattle.std.specs.List.{AllByRecursion}
 use Rattle.std.specs.Str.Parse.{digits_value}
 use Rattle.std.proofs.lemmas.Fmt.{digits_value-decimal}
+use Rattle.std.proofs.lemmas.Slice.Eq.{bytes_eq-Decides}
 use Rattle.congee_cli.specs.declared.command.Command.{Command}
-use Rattle.congee_cli.specs.declared.command.Command.TheVariants.{Get, Insert}
-use Rattle.congee_cli.specs.Words.{words_of}
-use Rattle.congee_cli.specs.Command.{name_of, words_of_command, HasNumbers, IsBad}
-use Rattle.congee_cli.proofs.Numbers.{own}
+use Rattle.congee_cli.specs.declared.command.Command.TheVariants.{Get, Insert, Remove, Exchange, Add, Put, Empty}
+use Rattle.congee_cli.specs.Command.{name_of, words_of_command, HasNumbers}
+use Rattle.congee_cli.specs.Value.{value_text, IsWide}
+use Rattle.congee_cli.proofs.Numbers.{own, number_digit}
 use Rattle.congee_cli.proofs.WordLemmas.{IsWord, number_word}
-use Rattle.congee_cli.proofs.GrammarLemmas.{IsGrammar, spells_words}
+use Rattle.congee_cli.proofs.GrammarLemmas.{IsGrammar}
 
 abbrev get_from : List (List ℕ) → Option Command
 get_from (key ∷ []) = Some (Get (digits_value 10 key))
@@ -19,23 +20,92 @@ abbrev insert_from : List (List ℕ) → Option Command
 insert_from (key ∷ value ∷ []) = Some (Insert (digits_value 10 key) (digits_value 10 value))
 insert_from words = None
 
+abbrev remove_from : List (List ℕ) → Option Command
+remove_from (key ∷ []) = Some (Remove (digits_value 10 key))
+remove_from words = None
+
+abbrev value_from : List ℕ → Option ℕ
+value_from word = if bytes_eq word (codes "none") then None else Some (digits_value 10 word)
+
+abbrev exchange_from : List (List ℕ) → Option Command
+exchange_from (key ∷ old ∷ new ∷ []) = Some (Exchange (digits_value 10 key) (digits_value 10 old) (value_from new))
+exchange_from words = None
+
+abbrev add_from : List (List ℕ) → Option Command
+add_from (key ∷ more ∷ []) = Some (Add (digits_value 10 key) (digits_value 10 more))
+add_from words = None
+
+abbrev put_from : List (List ℕ) → Option Command
+put_from (key ∷ more ∷ []) = Some (Put (digits_value 10 key) (digits_value 10 more))
+put_from words = None
+
+abbrev empty_from : List (List ℕ) → Option Command
+empty_from [] = Some Empty
+empty_from words = None
+
 abbrev command_from : List (List ℕ) → Option Command
 command_from [] = None
 command_from (name ∷ words) =
-    if bytes_eq name (codes "get") then get_from words else (if bytes_eq name (codes "insert") then insert_from words else None)
+    if bytes_eq name (codes "get") then get_from words else
+    (if bytes_eq name (codes "insert") then insert_from words else
+    (if bytes_eq name (codes "remove") then remove_from words else
+    (if bytes_eq name (codes "cas") then exchange_from words else
+    (if bytes_eq name (codes "add") then add_from words else
+    (if bytes_eq name (codes "put") then put_from words else
+    (if bytes_eq name (codes "empty") then empty_from words else None))))))
+
+-- no number is written `none`
+pub none_is_no_number : (value : ℕ) → value < 2 ^ 64 → decimal value ≡ codes "none" → ⊥
+none_is_no_number value h same =
+    let four : length (decimal value) ≡ 4 = ap length same in
+    let first : get_or (decimal value) 0 0 ≡ 110 = ap (λ (w : List ℕ). get_or w 0 0) same in
+    omega (arith, number_digit (decimal value) 0 (omega arith) value h refl)
+
+false_from : (b : Bool) → (b ≡ true → ⊥) → b ≡ false
+false_from true never = absurd (never refl)
+false_from false never = refl
+
+value_read : (value : Option ℕ) → IsWide value → value_from (value_text value) ≡ value
+value_read None fits = refl
+value_read (Some value) fits =
+    let other = false_from (bytes_eq (decimal value) (codes "none")) (λ same. none_is_no_number value fits ((bytes_eq-Decides (decimal value) (codes "none")).0 same)) in
+    rw (other, digits_value-decimal own value fits) refl
 
 command_read : (command : Command) → HasNumbers command → command_from (words_of_command command) ≡ Some command
 command_read (Get key) fits = ap (λ k. Some (Get k)) (digits_value-decimal own key fits)
 command_read (Insert key value) fits = rw (digits_value-decimal own key fits.0, digits_value-decimal own value fits.1) refl
+command_read (Remove key) fits = ap (λ k. Some (Remove k)) (digits_value-decimal own key fits)
+command_read (Exchange key old new) fits =
+    rw (digits_value-decimal own key fits.0, digits_value-decimal own old fits.1, value_read new fits.2) refl
+command_read (Add key more) fits = rw (digits_value-decimal own key fits.0, digits_value-decimal own more fits.1) refl
+command_read (Put key more) fits = rw (digits_value-decimal own key fits.0, digits_value-decimal own more fits.1) refl
+command_read Empty fits = refl
+
+value_word : (value : Option ℕ) → IsWide value → IsWord (value_text value)
+value_word None fits = record { lacks = search rules; short = omega arith }
+value_word (Some value) fits = number_word value fits
 
 are_words : (command : Command) → HasNumbers command → AllByRecursion IsWord (words_of_command command)
 are_words (Get key) fits = (record { lacks = search rules; short = omega arith }, (number_word key fits, tt))
 are_words (Insert key value) fits =
     (record { lacks = search rules; short = omega arith }, (number_word key fits.0, (number_word value fits.1, tt)))
+are_words (Remove key) fits = (record { lacks = search rules; short = omega arith }, (number_word key fits, tt))
+are_words (Exchange key old new) fits =
+    (record { lacks = search rules; short = omega arith }, (number_word key fits.0, (number_word old fits.1, (value_word new fits.2, tt))))
+are_words (Add key more) fits =
+    (record { lacks = search rules; short = omega arith }, (number_word key fits.0, (number_word more fits.1, tt)))
+are_words (Put key more) fits =
+    (record { lacks = search rules; short = omega arith }, (number_word key fits.0, (number_word more fits.1, tt)))
+are_words Empty fits = (record { lacks = search rules; short = omega arith }, tt)
 
 few_words : (command : Command) → HasNumbers command → length (words_of_command command) ≤ 12
 few_words (Get key) fits = omega arith
 few_words (Insert key value) fits = omega arith
+few_words (Remove key) fits = omega arith
+few_words (Exchange key old new) fits = omega arith
+few_words (Add key more) fits = omega arith
+few_words (Put key more) fits = omega arith
+few_words Empty fits = omega arith
 
 pub commands : IsGrammar words_of_command HasNumbers
 commands = record {
@@ -46,12 +116,16 @@ commands = record {
   reads = command_read;
 }
 
--- a line with another first word is no command
-pub bad_name : (line name : List ℕ) (left : List (List ℕ)) → words_of line ≡ name ∷ left → ((command : Command) → name ≢ name_of command) → IsBad line
-bad_name line name left e other command says =
-    let words = spells_words words_of_command HasNumbers commands line command says in
-    other command cc
+-- words that begin with no command's name are none
+pub no_name : (name : List ℕ) (left : List (List ℕ)) → ((command : Command) → name ≢ name_of command) → (command : Command) → HasNumbers command → words_of_command command ≡ name ∷ left → ⊥
+no_name name left other command fits words = other command cc
 
-pub other_name : (name : List ℕ) → name ≢ codes "get" → name ≢ codes "insert" → (command : Command) → name ≢ name_of command
-other_name name get insert (Get key) = get
-other_name name get insert (Insert key value) = insert
+pub other_name : (name : List ℕ) → name ≢ codes "get" → name ≢ codes "insert" → name ≢ codes "remove" → name ≢ codes "cas" → name ≢ codes "add" → name ≢ codes "put" → name ≢ codes "empty"
+    → (command : Command) → name ≢ name_of command
+other_name name get insert remove cas add put empty (Get key) = get
+other_name name get insert remove cas add put empty (Insert key value) = insert
+other_name name get insert remove cas add put empty (Remove key) = remove
+other_name name get insert remove cas add put empty (Exchange key old new) = cas
+other_name name get insert remove cas add put empty (Add key more) = add
+other_name name get insert remove cas add put empty (Put key more) = put
+other_name name get insert remove cas add put empty Empty = empty

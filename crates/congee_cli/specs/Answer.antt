@@ -1,27 +1,38 @@
 -- What a line is answered.
-use Rattle.std.specs.Prelude.{◌≡◌, ℕ, List, [], ◌∷◌, ◌++◌, codes, decimal, Option, Some, None}
-use Rattle.congee_nodes.specs.Call.{old_value, Answer, replied, refused, Deed}
+use Rattle.std.specs.Prelude.{◌≡◌, ℕ, List, [], ◌∷◌, ◌++◌, codes, decimal, Bool, true, false, Option, Some, None, Ok, Err}
+use Rattle.congee_nodes.specs.Call.{old_value, exchanged, computed, tested, Answer, replied, refused, Deed}
+use Rattle.congee.specs.Calls.{AnswersBy}
 use Rattle.congee_cli.specs.declared.command.Command.{Command}
-use Rattle.congee_cli.specs.declared.command.Command.TheVariants.{Get, Insert}
-use Rattle.congee_cli.specs.Command.{Says, IsBad, call_of}
+use Rattle.congee_cli.specs.declared.command.Command.TheVariants.{Get, Insert, Remove, Exchange, Add, Put, Empty}
+use Rattle.congee_cli.specs.Command.{Says, IsBad, call_of, closure_of}
+use Rattle.congee_cli.specs.Value.{value_text}
 
--- a value, or `none`
-abbrev pub value_text : Option ℕ → List ℕ
-value_text None = codes "none"
-value_text (Some value) = decimal value
+abbrev pub test_text : Bool → List ℕ
+test_text true = codes "true"
+test_text false = codes "false"
 
 -- the text of what a command is answered, if it can be answered so
 abbrev pub IsText : Command → Answer ℕ ℕ ℕ → List ℕ → Type 0
 IsText (Get key) (replied (old_value value)) text = text ≡ value_text value
 IsText (Insert key value) (replied (old_value before)) text = text ≡ codes "ok " ++ value_text before
 IsText (Insert key value) refused text = text ≡ codes "oom"
+IsText (Remove key) (replied (old_value before)) text = text ≡ value_text before
+IsText (Exchange key old new) (replied (exchanged (Ok put))) text = text ≡ codes "ok " ++ value_text put
+IsText (Exchange key old new) (replied (exchanged (Err standing))) text = text ≡ codes "err " ++ value_text standing
+IsText (Add key more) (replied (computed None)) text = text ≡ codes "none"
+IsText (Add key more) (replied (computed (Some (old, new)))) text = text ≡ decimal old ++ codes " " ++ value_text new
+IsText (Put key more) (replied (old_value before)) text = text ≡ codes "ok " ++ value_text before
+IsText (Put key more) refused text = text ≡ codes "oom"
+IsText Empty (replied (tested b)) text = text ≡ test_text b
 IsText command answer text = ⊥
 
--- the line is a command that asks for the call, and the text is that of its answer
+-- the line is a command that asks for the call, the closure answered as that command's, and the text is that of the
+-- answer
 pub record Obeys (line text : List ℕ) (deed : Deed ℕ ℕ ℕ) : Type 0 where
   pub command : Command
   pub says : Says line command
   pub asks : deed.call ≡ call_of command
+  pub closure : AnswersBy (closure_of command) deed.asked
   pub answers : IsText command deed.answer text
 
 -- The line is answered by the text: for what was done, if it is a command, and for nothing otherwise.

@@ -7,5 +7,6 @@ pub mod Number
 pub mod Run
 pub mod Serve
 pub mod Session
+pub mod Value
 pub mod Watched
 pub mod Words

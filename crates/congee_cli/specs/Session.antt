@@ -1,18 +1,20 @@
 -- The middle of a run.
-use Rattle.std.specs.Prelude.{◌≡◌, ℕ, List, [], ◌∷◌, ◌++◌, codes, Option, None, Result, Ok, Err, Bool, false, nat_eq}
+use Rattle.std.specs.Prelude.{◌≡◌, ℕ, List, [], ◌∷◌, ◌++◌, codes, decimal, Option, Some, None, Result, Ok, Err, Bool, false, nat_eq}
 use Rattle.std.specs.Io.KnownBytes.{Consumes, IsAtEnd}
 use Rattle.congee_nodes.specs.Map.{Pairs}
-use Rattle.congee_nodes.specs.Call.{old_value, Answer, replied, refused, Deed}
+use Rattle.congee_nodes.specs.Call.{Asked, Answer, old_value, exchanged, computed, tested, replied, refused, Deed}
 use Rattle.congee_nodes.specs.Legal.{IsLegal}
 use Rattle.congee_nodes.specs.Refusal.{of_new_nodes}
 use Rattle.congee_cli.specs.Bytes.{Sends}
 use Rattle.congee_cli.specs.Lines.{Cuts, lines_of, ended, Holds}
-use Rattle.congee_cli.specs.Command.{call_of}
-use Rattle.congee_cli.specs.Answer.{value_text, IsAnswered, deeds_of}
+use Rattle.congee_cli.specs.Command.{call_of, put_sum}
+use Rattle.congee_cli.specs.Value.{value_text}
+use Rattle.congee_cli.specs.Answer.{test_text, IsAnswered, deeds_of}
 use Rattle.congee_cli.specs.Run.{Tells, StopsReading, StopsWriting}
 use Rattle.congee_cli.specs.declared.command.Command.{Command}
+use Rattle.congee_cli.specs.declared.command.Command.TheVariants.{Add, Put}
 use Rattle.congee_cli.specs.declared.reply.Reply.{Reply}
-use Rattle.congee_cli.specs.declared.reply.Reply.TheVariants.{Value, Before, Refused, BadLine}
+use Rattle.congee_cli.specs.declared.reply.Reply.TheVariants.{Value, Before, Exchanged, Computed, Tested, Refused, BadLine}
 use Rattle.congee_cli.specs.declared.run.RunError.{RunError}
 use Rattle.congee_cli.specs.declared.run.RunError.TheVariants.{Read, Write, Oom}
 
@@ -20,6 +22,11 @@ use Rattle.congee_cli.specs.declared.run.RunError.TheVariants.{Read, Write, Oom}
 abbrev pub reply_text : Reply → List ℕ
 reply_text (Value value) = value_text value
 reply_text (Before before) = codes "ok " ++ value_text before
+reply_text (Exchanged (Ok put)) = codes "ok " ++ value_text put
+reply_text (Exchanged (Err standing)) = codes "err " ++ value_text standing
+reply_text (Computed None) = codes "none"
+reply_text (Computed (Some (old, new))) = decimal old ++ codes " " ++ value_text new
+reply_text (Tested b) = test_text b
 reply_text Refused = codes "oom"
 reply_text BadLine = codes "bad line"
 
@@ -27,12 +34,21 @@ reply_text BadLine = codes "bad line"
 abbrev pub answer_of : Reply → Answer ℕ ℕ ℕ
 answer_of (Value value) = replied (old_value value)
 answer_of (Before before) = replied (old_value before)
+answer_of (Exchanged r) = replied (exchanged r)
+answer_of (Computed r) = replied (computed r)
+answer_of (Tested b) = replied (tested b)
 answer_of Refused = refused
 answer_of BadLine = refused
 
--- the call that a command asks for, and what came back
+-- what the closure of a command that was replied so was asked and answered, if it was called
+abbrev pub asked_of : Command → Reply → Asked ℕ
+asked_of (Add key more) (Computed (Some (old, new))) = Some (Some old, new)
+asked_of (Put key more) (Before before) = Some (before, Some (put_sum before more))
+asked_of command reply = None
+
+-- the call that a command asks for, what its closure was asked, and what came back
 abbrev pub deed_of : Command → Reply → Deed ℕ ℕ ℕ
-deed_of command reply = record { call = call_of command; asked = None; answer = answer_of reply }
+deed_of command reply = record { call = call_of command; asked = asked_of command reply; answer = answer_of reply }
 
 -- the line is answered by the text on the map m, which leaves the map n
 pub record AnswersLine (m : Pairs ℕ) (line text : List ℕ) (n : Pairs ℕ) : Type 0 where

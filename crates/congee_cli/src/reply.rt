@@ -1,12 +1,13 @@
 //! What the lines are replied, and the texts of the replies.
 
-ghost use Rattle.std.specs.Prelude.{◌≡◌, ℕ, ◌+◌, ◌≤◌, ◌++◌, ◌∷◌, List, [], length, OnOk, OnErr, nat_eq};
+ghost use Rattle.std.specs.Prelude.{◌≡◌, ℕ, ◌+◌, ◌≤◌, ◌++◌, ◌∷◌, List, [], length, Some, None, IfOk, OnOk, OnErr, nat_eq};
+ghost use Rattle.congee_nodes.specs.Map.{lookup, put as put_pair, with_answer};
 
 use crate::command::{Command, command_of};
 use crate::line::Line;
 use crate::pending::Pending;
 use crate::watched::{Failed, Watched};
-use congee::U64Congee;
+use congee::{Congee, OOMError};
 use std::io::Write;
 
 /// What a line is replied.
@@ -16,6 +17,12 @@ pub enum Reply {
     Value(Option<u64>),
     /// It was done, and this was the value before.
     Before(Option<u64>),
+    /// What an exchange put there, or what stands there in its place.
+    Exchanged(Result<Option<u64>, Option<u64>>),
+    /// The old value, and what was made of it.
+    Computed(Option<(u64, Option<u64>)>),
+    /// Yes or no.
+    Tested(bool),
     /// There was no memory for it, and nothing was done.
     Refused,
     /// The line is no command.
@@ -23,16 +30,19 @@ pub enum Reply {
 }
 
 ghost use Rattle.congee_nodes.specs.Legal.{IsLegal};
-ghost use Rattle.congee_nodes.specs.Refusal.{of_new_nodes};
+ghost use Rattle.congee_nodes.specs.Refusal.{NeedsNode, of_new_nodes};
+ghost use Rattle.congee.specs.Calls.{AnswersBy};
 ghost use Rattle.congee_cli.specs.Bytes.{Sends};
+ghost use Rattle.congee_cli.specs.Command.{checked_sum, put_sum, closure_of};
 ghost use Rattle.congee_cli.specs.Lines.{Holds, ended};
 ghost use Rattle.congee_cli.specs.Watched.{HasFailed, inner_of};
-ghost use Rattle.congee_cli.specs.Answer.{value_text, IsText};
-ghost use Rattle.congee_cli.specs.Session.{reply_text, answer_of, deed_of, AnswersLine};
+ghost use Rattle.congee_cli.specs.Value.{value_text};
+ghost use Rattle.congee_cli.specs.Answer.{test_text, IsText};
+ghost use Rattle.congee_cli.specs.Session.{reply_text, answer_of, asked_of, deed_of, AnswersLine};
 
 /// Does what the line says. Memory is wanted only by the map, where it takes in a new key; where it
 /// has none, the reply is `Refused` and the map is as before.
-pub fn reply_to(map: &mut U64Congee<u64>, line: &Line) -> Reply
+pub fn reply_to(map: &mut Congee<u64, u64>, line: &Line) -> Reply
     ensures { (l : List ℕ) → Holds line.now l → AnswersLine map.old.pairs l (reply_text result) map.new.pairs }
 {
     match line.text() {
@@ -41,7 +51,7 @@ pub fn reply_to(map: &mut U64Congee<u64>, line: &Line) -> Reply
     }
 }
 
-fn reply_to_text(map: &mut U64Congee<u64>, text: &[u8]) -> Reply
+fn reply_to_text(map: &mut Congee<u64, u64>, text: &[u8]) -> Reply
     ensures { AnswersLine map.old.pairs text.now (reply_text result) map.new.pairs }
 {
     match command_of(text) {
@@ -50,16 +60,65 @@ fn reply_to_text(map: &mut U64Congee<u64>, text: &[u8]) -> Reply
     }
 }
 
-fn execute(map: &mut U64Congee<u64>, command: Command) -> Reply
+fn execute(map: &mut Congee<u64, u64>, command: Command) -> Reply
     ensures text { IsText command (answer_of result) (reply_text result) }
+    ensures closure { AnswersBy (closure_of command) (asked_of command result) }
     ensures legal { IsLegal nat_eq of_new_nodes map.old.pairs (deed_of command result ∷ []) map.new.pairs }
 {
     match command {
-        Command::Get(key) => Reply::Value(map.get(key)),
+        Command::Get(key) => Reply::Value(map.get(&key)),
         Command::Insert(key, value) => match map.insert(key, value) {
             Ok(before) => Reply::Before(before),
             Err(_) => Reply::Refused,
         },
+        Command::Remove(key) => Reply::Value(map.remove(&key)),
+        Command::Exchange(key, old, new) => {
+            Reply::Exchanged(map.compare_exchange(&key, &old, new))
+        }
+        Command::Add(key, more) => Reply::Computed(add(map, key, more)),
+        Command::Put(key, more) => match put(map, key, more) {
+            Ok(before) => Reply::Before(before),
+            Err(_) => Reply::Refused,
+        },
+        Command::Empty => Reply::Tested(map.is_empty()),
+    }
+}
+
+// Adds to the value of a key that is present, and answers it and the sum. Takes the key out where the sum doesn't fit.
+fn add(map: &mut Congee<u64, u64>, key: u64, more: u64) -> Option<(u64, Option<u64>)>
+    ensures absent { lookup map.old.pairs key ≡ None → (result ≡ None) × (map.new.pairs ≡ map.old.pairs) }
+    ensures present { (standing : ℕ) → lookup map.old.pairs key ≡ Some standing
+        → (result ≡ Some (standing, checked_sum standing more)) × (map.new.pairs ≡ with_answer map.old.pairs key (checked_sum standing more)) }
+{
+    map.compute_if_present(&key, &mut |value: u64| sum(value, more))
+}
+
+// The sum, where it fits.
+fn sum(value: u64, more: u64) -> Option<u64>
+    ensures { result ≡ checked_sum value more }
+{
+    value.checked_add(more)
+}
+
+// Adds to the value of a key, 0 for one that is absent, up to the greatest number. Answers what stood there.
+fn put(map: &mut Congee<u64, u64>, key: u64, more: u64) -> Result<Option<u64>, OOMError>
+    ensures before { IfOk result (λ before. before ≡ lookup map.old.pairs key) }
+    ensures ok { OnOk result (map.new.pairs ≡ put_pair map.old.pairs key (put_sum (lookup map.old.pairs key) more)) }
+    ensures err { OnErr result (map.new.pairs ≡ map.old.pairs) }
+    ensures refused { OnErr result (NeedsNode map.old.pairs key) }
+{
+    map.compute_or_insert(
+        key,
+        &mut |value: Option<u64>| sum_up_to_the_greatest(value, more),
+    )
+}
+
+fn sum_up_to_the_greatest(value: Option<u64>, more: u64) -> u64
+    ensures { result ≡ put_sum value more }
+{
+    match value {
+        None => more,
+        Some(value) => value.saturating_add(more),
     }
 }
 
@@ -84,7 +143,7 @@ pub fn put_reply<W: Write>(
 fn add_reply(pending: &mut Pending, reply: &Reply)
     requires { length pending.old + 64 ≤ 8192 }
     ensures text { pending.new ≡ pending.old ++ reply_text reply.now }
-    ensures short { length pending.new ≤ length pending.old + 32 }
+    ensures short { length pending.new ≤ length pending.old + 48 }
 {
     match reply {
         Reply::Value(value) => add_value(pending, *value),
@@ -92,6 +151,22 @@ fn add_reply(pending: &mut Pending, reply: &Reply)
             pending.add(b"ok ");
             add_value(pending, *before);
         }
+        Reply::Exchanged(Ok(put)) => {
+            pending.add(b"ok ");
+            add_value(pending, *put);
+        }
+        Reply::Exchanged(Err(standing)) => {
+            pending.add(b"err ");
+            add_value(pending, *standing);
+        }
+        Reply::Computed(None) => pending.add(b"none"),
+        Reply::Computed(Some((old, new))) => {
+            pending.add_number(*old);
+            pending.add(b" ");
+            add_value(pending, *new);
+        }
+        Reply::Tested(true) => pending.add(b"true"),
+        Reply::Tested(false) => pending.add(b"false"),
         Reply::Refused => pending.add(b"oom"),
         Reply::BadLine => pending.add(b"bad line"),
     }

@@ -9,14 +9,14 @@ use crate::line::Line;
 use crate::pending::Pending;
 use crate::reply::{put_reply, reply_to};
 use crate::watched::{Failed, Watched};
-use congee::{OOMError, U64Congee};
+use congee::{Congee, DefaultAllocator, OOMError};
 use std::alloc::Global;
 use std::io::Write;
 
 /// A map, the line that has begun, and the answers that have still to be written.
 #[derive(Drop)]
 pub struct Session {
-    map: U64Congee<u64>,
+    map: Congee<u64, u64>,
     line: Line,
     pending: Pending,
 }
@@ -27,7 +27,7 @@ impl Session {
         ensures { IfOk result (λ s. (o : Option (List ℕ)) → Serves s.map.pairs s.line s.pending o o []) }
     {
         Ok(Session {
-            map: U64Congee::new(alloc)?,
+            map: Congee::new(alloc, DefaultAllocator {})?,
             line: Line::new(),
             pending: Pending::new(),
         })

@@ -73,6 +73,26 @@ fn answers(rt: HostRuntime) -> Result<(), Fail> {
             "insert 18446744073709551615 0\nget 18446744073709551615\nget 18446744073709551616\n",
             "ok none\n0\nbad line\n",
         ),
+        (
+            "insert 5 18446744073709551615\nadd 5 1\nget 5\nput 7 3\nput 7 4\nget 7\nadd 9 1\n",
+            "ok none\n18446744073709551615 none\nnone\nok none\nok 3\n7\nnone\n",
+        ),
+        (
+            "put 7 18446744073709551615\nput 7 4\nget 7\nadd 7 0\nadd 7 1\nget 7\n",
+            "ok none\nok 18446744073709551615\n18446744073709551615\n18446744073709551615 18446744073709551615\n18446744073709551615 none\nnone\n",
+        ),
+        (
+            "insert 1 42\ncas 1 41 43\ncas 1 42 43\nget 1\ncas 1 43 none\ncas 1 43 44\nget 1\n",
+            "ok none\nerr 42\nok 43\n43\nok none\nerr none\nnone\n",
+        ),
+        (
+            "empty\ninsert 1 1\ninsert 256 2\nempty\nremove 1\nremove 1\nremove 256\nempty\n",
+            "true\nok none\nok none\nfalse\n1\nnone\n2\ntrue\n",
+        ),
+        (
+            "empty 1\nremove\nremove none\ncas 1 none 2\ncas 1 2\nadd 1 none\nput 1\n",
+            "bad line\nbad line\nbad line\nbad line\nbad line\nbad line\nbad line\n",
+        ),
     ];
     for (input, wanted) in cases {
         let mut written = Vec::new(rt.alloc());

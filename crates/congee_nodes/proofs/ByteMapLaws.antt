@@ -152,8 +152,3 @@ module _ {V : Type 0} where
         | inr (inr more) ↦
             let s' = rw (ne_eqb x.0 k (omega arith), lookup-below (x.0 + 1) b xs k h.2 (omega arith)) at s in absurd (false≢true s')
       ]
-
-  -- a map that has a key isn't empty
-  pub length-some : (es : List (ℕ × V)) (k : ℕ) → IsSome (lookup es k) → 0 < length es
-  length-some [] k s = absurd (false≢true s)
-  length-some (x ∷ xs) k s = omega arith

@@ -4,11 +4,10 @@ use Rattle.std.proofs.Math.Seq.{take-append_seam, take-append-add}
 use Rattle.std.proofs.lemmas.List.{append-nil}
 use Rattle.std.proofs.lemmas.Bool.{cases_order, cases_lt}
 use Rattle.std.proofs.Math.Nat.{mul-le-mul_right}
-use Rattle.std.specs.Int.{from_be_bytes, to_be_bytes}
-use Rattle.std.proofs.lemmas.Nat.{from_be_bytes-to_be_bytes_8}
-use Rattle.std.proofs.Common.{◌^◌}
+use Rattle.std.specs.Int.{from_be_bytes}
 use Rattle.std.proofs.Common.{w64}
 use Rattle.std.proofs.lemmas.List.{get_or_append_left}
+use Rattle.congee_nodes.proofs.BeginLaws.{after, begins_by}
 use Rattle.congee_nodes.specs.Key.{span, least, room, AreBytes, low, high, key_number, Begins, IsFirstDifference}
 
 -- b < d puts a whole span between them
@@ -74,19 +73,21 @@ split_at (b ∷ p) zero l = refl
 split_at (b ∷ p) (suc i) l = ap (λ t. b ∷ t) (split_at p i (omega arith))
 
 pub low-begins : (p q : List ℕ) → Begins p q → AreBytes q → length q ≤ 8 → low p ≤ low q
-low-begins p q h bytes short =
+low-begins p q g bytes short =
+    let h = after g in
     let b : AreBytes h.rest = AreBytes-append_right p h.rest (subst AreBytes h.is bytes) in
     let l : length q ≡ length p + length h.rest = simp (length-append) at (ap length h.is) in
     rw h.is (least-append 8 p h.rest b (omega arith))
 
 pub high-begins : (p q : List ℕ) → Begins p q → AreBytes q → length q ≤ 8 → high q ≤ high p
-high-begins p q h bytes short =
+high-begins p q g bytes short =
+    let h = after g in
     let b : AreBytes h.rest = AreBytes-append_right p h.rest (subst AreBytes h.is bytes) in
     let l : length q ≡ length p + length h.rest = simp (length-append) at (ap length h.is) in
     rw h.is (high-append 8 p h.rest b (omega arith))
 
 pub Begins-snoc : (p : List ℕ) (b : ℕ) (r q : List ℕ) → q ≡ p ++ b ∷ r → Begins (p ++ b ∷ []) q
-Begins-snoc p b r q e = record { rest = r; is = e ∙ sym (append_assoc p (b ∷ []) r) }
+Begins-snoc p b r q e = begins_by (p ++ b ∷ []) r q (e ∙ sym (append_assoc p (b ∷ []) r))
 
 -- two lists that part, the smaller byte in the first, have their numbers in that order
 pub apart : (p q c : List ℕ) (a b : ℕ) (p' q' : List ℕ) → p ≡ c ++ a ∷ p' → q ≡ c ++ b ∷ q' → a < b → AreBytes p → AreBytes q → length p ≤ 8 → length q ≤ 8 → high p ≤ low q
@@ -126,7 +127,7 @@ pub record GoesOn (p key : List ℕ) (b : ℕ) : Type 0 where
 pub goes_on : (p key : List ℕ) → Begins p key → AreBytes key → length p ≤ 7 → length key ≡ 8 → GoesOn p key (get_or key (length p) 0)
 goes_on p key h bytes short full =
     let s = split_at key (length p) (omega arith) in
-    let t : take (length p) key ≡ p = rw h.is (take-append_seam p h.rest) in
+    let t : take (length p) key ≡ p = let x = after h in rw x.is (take-append_seam p x.rest) in
     let f : key ≡ p ++ get_or key (length p) 0 ∷ drop (suc (length p)) key = s ∙ ap (λ x. x ++ get_or key (length p) 0 ∷ drop (suc (length p)) key) t in
     let b = Begins-snoc p _ _ key f in
     let one = high-key 8 key full in
@@ -137,7 +138,8 @@ goes_on p key h bytes short full =
 
 -- below seven bytes there is one key for each byte
 pub key_number_at : (p key : List ℕ) (b : ℕ) → Begins (p ++ b ∷ []) key → length p ≡ 7 → length key ≡ 8 → key ≡ p ++ b ∷ []
-key_number_at p key b h seven full =
+key_number_at p key b g seven full =
+    let h = after g in
     let l : length key ≡ length p + 1 + length h.rest = simp (length-append) at (ap length h.is) in
     h.is ∙ ap (λ r. (p ++ b ∷ []) ++ r) (empty h.rest (omega arith)) ∙ append-nil (p ++ b ∷ [])
   where
@@ -149,13 +151,17 @@ key_number_at p key b h seven full =
 pub length-common : (p key q : List ℕ) (i : ℕ) → IsFirstDifference p key i → Begins q p → Begins q key → length q ≤ i
 length-common p key q i d h k =
     elim (cases_lt i (length q)) [
-      | inl less ↦ absurd (d.differ (rw (h.is, k.is) (get_or_append_left q h.rest 0 i less ∙ sym (get_or_append_left q k.rest 0 i less))))
+      | inl less ↦
+          let x = after h in
+          let y = after k in
+          absurd (d.differ (rw (x.is, y.is) (get_or_append_left q x.rest 0 i less ∙ sym (get_or_append_left q y.rest 0 i less))))
       | inr more ↦ more
     ]
 
 pub Begins-take : (p q : List ℕ) (i : ℕ) → Begins q p → length q ≤ i → Begins q (take i p)
 Begins-take p q i h l =
-    record { rest = take (i - length q) h.rest; is = rw h.is (subst (λ n. take n (q ++ h.rest) ≡ q ++ take (i - length q) h.rest) {x = length q + (i - length q)} (omega arith) (take-append-add q h.rest (i - length q))) }
+    let x = after h in
+    begins_by q (take (i - length q) x.rest) (take i p) (ap (λ r. take i r) x.is ∙ subst (λ n. take n (q ++ x.rest) ≡ q ++ take (i - length q) x.rest) {x = length q + (i - length q)} (omega arith) (take-append-add q x.rest (i - length q)))
 
 -- what stands before and at the first difference
 pub Begins-at_difference_left : (p key : List ℕ) (i : ℕ) → IsFirstDifference p key i → Begins (take i p ++ get_or p i 0 ∷ []) p
@@ -168,6 +174,3 @@ Begins-at_difference_right p key i d l = Begins-snoc (take i p) _ (drop (suc i) 
 pub key_number-be_bytes : (key : List ℕ) → length key ≡ 8 → key_number key ≡ from_be_bytes w64 key
 key_number-be_bytes (a ∷ b ∷ c ∷ d ∷ e ∷ f ∷ g ∷ h ∷ []) l = omega arith
 key_number-be_bytes _ l = absurd (omega arith)
-
-pub key_number-to_be_bytes : (n : ℕ) → n < 2 ^ 64 → key_number (to_be_bytes w64 n) ≡ n
-key_number-to_be_bytes n h = key_number-be_bytes (to_be_bytes w64 n) refl ∙ from_be_bytes-to_be_bytes_8 n h

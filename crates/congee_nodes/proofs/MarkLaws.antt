@@ -1,16 +1,16 @@
--- One bit a place.
-use Rattle.std.proofs.Common.{◌≡◌, ◌≢◌, ℕ, zero, suc, ◌+◌, ◌-◌, ◌*◌, ◌/◌, ◌%◌, ◌^◌, ◌<◌, ◌≤◌, List, [], ◌∷◌, length, get_or, set, take, drop, length-set, IsSome, replicate, Option, Some, None, refl, ap, sym, subst, ◌∙◌, arith, inl, inr, w64}
+-- One bit a byte, and the places of the bytes whose bit is set.
+use Rattle.std.proofs.Common.{◌≡◌, ◌≢◌, ℕ, zero, suc, ◌+◌, ◌-◌, ◌*◌, ◌/◌, ◌%◌, ◌^◌, ◌<◌, ◌≤◌, List, length, get_or, slice_get, slice_index, set, replicate, None, refl, ap, sym, subst, ◌∙◌, arith, inl, inr, w64}
 use Rattle.std.specs.Int.{bit_at}
 use Rattle.std.specs.Int.Count.{count_trailing_zeros}
+use Rattle.std.proofs.lemmas.Option.{slice_get_past}
 use Rattle.std.proofs.lemmas.Nat.{pow_pos}
-use Rattle.std.proofs.lemmas.Bool.{cases_eq, cases_lt, eq-eqb, ne_eqb, false≢true}
-use Rattle.std.proofs.lemmas.List.{get_or-set_same, get_or-set_other, get_or-take, get_or-drop, length-take, length-drop, take_rest, get_or_past, get_or_default}
+use Rattle.std.proofs.lemmas.Bool.{cases_eq, cases_lt, eq-eqb, ne_eqb}
+use Rattle.std.proofs.lemmas.List.{get_or-set_same, get_or-set_other, get_or_past}
 use Rattle.std.proofs.lemmas.Nat.Bits.{bit_at-zero, bit_at_above, bit_at_cat_high, bit_at-trailing_zeros}
 use Rattle.std.proofs.Math.Nat.{div-add-mod, div-le_self, mod-lt, mul_comm}
-use Rattle.congee_nodes.specs.Map.{lookup}
-use Rattle.congee_nodes.specs.Places.{placed_from}
-use Rattle.congee_nodes.specs.Marked.{mark_at, mark_of, first, AgreesFrom, marked_from}
-use Rattle.congee_nodes.proofs.PlacesLaws.{lookup-read}
+use Rattle.congee_nodes.specs.Marked.{mark_at, marked_place, marked_child}
+use Rattle.congee_nodes.specs.Row.{at_place, under}
+use Rattle.congee_nodes.proofs.RowLaws.{under-same}
 
 -- a word that is written at the place of a bit
 pub marked-here : (ws : List ℕ) (b w n : ℕ) → b / 64 < length ws → bit_at w (b % 64) ≡ n → mark_at (set ws (b / 64) w) b ≡ n
@@ -74,116 +74,54 @@ module _ (ws : List ℕ) (at word : ℕ) (is : word ≡ get_or ws (at / 64) 0 / 
             ap (mark_at ws) e ∙ mark-shifted (i - at) (omega (arith, inside)) ∙ h.2 (i - at) (omega arith)),
       )
 
-zero_add : (n : ℕ) → 0 + n ≡ n
-zero_add n = omega arith
-
-add_zero : (n : ℕ) → n + 0 ≡ n
-add_zero n = omega arith
-
-module _ {C : Type 0} where
-  pub first-none : (at : ℕ) (p : Option C) (t : List (ℕ × C)) → p ≡ None → first at p t ≡ []
-  first-none at p t e = rw e refl
-
-  pub first-some : (at : ℕ) (p : Option C) (c : C) (t : List (ℕ × C)) → p ≡ Some c → first at p t ≡ (at, c) ∷ t
-  first-some at p c t e = rw e refl
-
 -- the bits past the last word aren't set
 pub mark-beyond : (ws : List ℕ) → length ws ≡ 4 → (i : ℕ) → 256 ≤ i → mark_at ws i ≡ 0
 mark-beyond ws four i l = ap (λ x. bit_at x (i % 64)) (get_or_past ws (i / 64) 0 (omega (arith, four, l))) ∙ bit_at-zero (i % 64)
 
-module _ {C : Type 0} (ws : List ℕ) where
-  unset : (at : ℕ) (p : Option C) (ps : List (Option C)) → mark_at ws at ≡ 0 → marked_from at ws (p ∷ ps) ≡ marked_from (at + 1) ws ps
-  unset at p ps e = rw (ne_eqb (mark_at ws at) 1 (omega (arith, e))) refl
+module _ (ws is : List ℕ) (b : ℕ) where
+  pub place-set : mark_at ws b ≡ 1 → marked_place ws is b ≡ slice_index is b
+  place-set one = rw (eq-eqb (mark_at ws b) 1 one) refl
 
-  is_set : (at : ℕ) (p : Option C) (ps : List (Option C)) → mark_at ws at ≡ 1 → marked_from at ws (p ∷ ps) ≡ first at p (marked_from (at + 1) ws ps)
-  is_set at p ps e = rw (eq-eqb (mark_at ws at) 1 e) refl
+  pub place-clear : mark_at ws b ≢ 1 → marked_place ws is b ≡ 256
+  place-clear other = rw (ne_eqb (mark_at ws b) 1 other) refl
 
-  nothing_marked : (at : ℕ) (ps : List (Option C)) → ((i : ℕ) → at ≤ i → i < at + length ps → mark_at ws i ≡ 0) → marked_from at ws ps ≡ []
-  nothing_marked at [] h = refl
-  nothing_marked at (p ∷ ps) h = unset at p ps (h at (omega arith) (omega arith)) ∙ nothing_marked (at + 1) ps (λ i l m. h i (omega arith) (omega arith))
-
-  -- no bit is set from here on
-  pub marked-none : (at : ℕ) (ps : List (Option C)) → ((i : ℕ) → at ≤ i → mark_at ws i ≡ 0) → marked_from at ws ps ≡ []
-  marked-none at ps h = nothing_marked at ps (λ i l m. h i l)
-
-  -- the first bit that is set is past the places
-  pub marked-past : (at place : ℕ) (ps : List (Option C)) → at + length ps ≤ place → ((i : ℕ) → at ≤ i → i < place → mark_at ws i ≡ 0) → marked_from at ws ps ≡ []
-  marked-past at place ps l h = nothing_marked at ps (λ i m n. h i m (omega arith))
-
-  skipped : (at k : ℕ) (p : Option C) (ps : List (Option C)) → ((i : ℕ) → at ≤ i → i < at + k → mark_at ws i ≡ 0) → mark_at ws (at + k) ≡ 1 → k < length ps → p ≡ get_or ps k p → marked_from at ws ps ≡ first (at + k) p (marked_from (at + k + 1) ws (drop (k + 1) ps))
-  skipped at k p [] h one l e = absurd (omega arith)
-  skipped at zero p (q ∷ ps) h one l e =
-      let start : at + 0 ≡ at = omega arith in
-      let one' : mark_at ws at ≡ 1 = ap (mark_at ws) (sym start) ∙ one in
-      is_set at q ps one' ∙ ap (λ x. first at x (marked_from (at + 1) ws ps)) (sym e) ∙ ap (λ x. first x p (marked_from (x + 1) ws ps)) (sym start)
-  skipped at (suc k) p (q ∷ ps) h one l e =
-      let f : at + 1 + k ≡ at + suc k = omega arith in
-      let t = skipped (at + 1) k p ps (λ i m n. h i (omega arith) (omega arith)) (ap (mark_at ws) f ∙ one) (omega arith) e in
-      let d : k + 1 ≡ suc k = omega arith in
-      let d' : suc k + 1 ≡ suc (suc k) = omega arith in
-      unset at q ps (h at (omega arith) (omega arith)) ∙ t ∙ ap (λ x. first x p (marked_from (x + 1) ws (drop (k + 1) ps))) f
-      ∙ ap (λ x. first (at + suc k) p (marked_from (at + suc k + 1) ws (drop x ps))) d
-      ∙ ap (λ x. first (at + suc k) p (marked_from (at + suc k + 1) ws (drop x (q ∷ ps)))) (sym d')
-
-  -- the place at the first bit, and what comes after it
-  pub marked-found : (at place : ℕ) (p : Option C) (ps : List (Option C)) → at ≤ place → place - at < length ps → ((i : ℕ) → at ≤ i → i < place → mark_at ws i ≡ 0) → mark_at ws place ≡ 1 → p ≡ get_or ps (place - at) p
-      → marked_from at ws ps ≡ first place p (marked_from (place + 1) ws (take (length ps - (place - at + 1)) (drop (place - at + 1) ps)))
-  marked-found at place p ps l m none one is =
-      let e : at + (place - at) ≡ place = omega arith in
-      skipped at (place - at) p ps (λ i n o. none i n (omega arith)) (ap (mark_at ws) e ∙ one) m is
-      ∙ ap (λ x. first x p (marked_from (x + 1) ws (drop (place - at + 1) ps))) e
-      ∙ ap (λ x. first place p (marked_from (place + 1) ws x)) (sym (take_rest ps (place - at + 1)))
-
-  later : (at : ℕ) (p : Option C) (ps : List (Option C)) → AgreesFrom at ws (p ∷ ps) → AgreesFrom (at + 1) ws ps
-  later at p ps h = λ i l. (let e : at + 1 + i ≡ at + suc i = omega arith in ap (mark_at ws) e ∙ h (suc i) (omega arith))
-
-  -- the children at the bits are those at the places, where they agree
-  pub marked-agree : (at : ℕ) (ps : List (Option C)) → AgreesFrom at ws ps → marked_from at ws ps ≡ placed_from at ps
-  marked-agree at [] h = refl
-  marked-agree at (None ∷ ps) h = unset at None ps (ap (mark_at ws) (sym (add_zero at)) ∙ h 0 (omega arith)) ∙ marked-agree (at + 1) ps (later at None ps h)
-  marked-agree at (Some c ∷ ps) h = is_set at (Some c) ps (ap (mark_at ws) (sym (add_zero at)) ∙ h 0 (omega arith)) ∙ ap (λ t. (at, c) ∷ t) (marked-agree (at + 1) ps (later at (Some c) ps h))
-
-module _ {C : Type 0} (ws : List ℕ) where
-  -- the bits of a part of the places
-  pub agrees-part : (at e k n : ℕ) (ps : List (Option C)) → AgreesFrom at ws ps → e ≡ at + k → AgreesFrom e ws (take n (drop k ps))
-  agrees-part at e k n ps h is = λ i l.
-      let d = length-drop k ps in
-      let t = length-take n (drop k ps) in
-      let inside : i < n = omega (arith, t, l) in
-      let there : k + i < length ps = omega (arith, t, d, l) in
-      let f : e + i ≡ at + (k + i) = omega arith in
-      ap (mark_at ws) f ∙ h (k + i) there ∙ ap mark_of (sym (get_or-take n (drop k ps) i None inside ∙ get_or-drop k ps i None))
-
-  -- a place and its bit that are written together
-  pub agrees-write : (vs : List ℕ) (ps : List (Option C)) (b : ℕ) (x : Option C) → length ps ≡ 256 → b < 256 → AgreesFrom 0 ws ps → mark_at vs b ≡ mark_of x → ((i : ℕ) → i < 256 → i ≢ b → mark_at vs i ≡ mark_at ws i) → AgreesFrom 0 vs (set ps b x)
-  agrees-write vs ps b x long byte h here others = λ i l.
-      let i256 : i < 256 = omega (arith, l, length-set ps b x, long) in
-      elim (cases_eq i b) [
-        | inl same ↦ ap (mark_at vs) (zero_add i ∙ same) ∙ here ∙ ap mark_of (sym (ap (λ j. get_or (set ps b x) j None) same ∙ get_or-set_same ps b x None (omega (arith, long))))
-        | inr differ ↦ ap (mark_at vs) (zero_add i) ∙ others i i256 differ ∙ ap (mark_at ws) (sym (zero_add i)) ∙ h i (omega (arith, i256, long)) ∙ ap mark_of (sym (get_or-set_other ps b i x None differ))
+  -- a place that some row reaches is that of a byte whose bit is set
+  pub place-reached : marked_place ws is b < 256 → (mark_at ws b ≡ 1) × (marked_place ws is b ≡ slice_index is b)
+  place-reached l =
+      elim (cases_eq (mark_at ws b) 1) [
+        | inl one ↦ (one, place-set one)
+        | inr other ↦ absurd (let l' = rw (ne_eqb (mark_at ws b) 1 other) at l in omega (arith, l'))
       ]
 
--- a byte that has a child has its bit
-pub mark_present : {C : Type 0} (ws : List ℕ) (ps : List (Option C)) (b : ℕ) → length ps ≡ 256 → b < 256 → AgreesFrom 0 ws ps → IsSome (lookup (placed_from 0 ps) b) → mark_at ws b ≡ 1
-mark_present ws ps b long byte h some =
-    let r = lookup-read ps b long byte (get_or ps b None) (get_or_default ps b None (get_or ps b None) (omega (arith, long))) in
-    ap (mark_at ws) (sym (zero_add b)) ∙ h b (omega (arith, long)) ∙ is_one (get_or ps b None) (rw r at some)
-  where
-    is_one : {C : Type 0} (o : Option C) → IsSome o → mark_of o ≡ 1
-    is_one None s = absurd (false≢true s)
-    is_one (Some c) s = refl
+  pub place-same : (vs js : List ℕ) → mark_at vs b ≡ mark_at ws b → (mark_at ws b ≡ 1 → slice_index js b ≡ slice_index is b) → marked_place vs js b ≡ marked_place ws is b
+  place-same vs js mark index =
+      elim (cases_eq (mark_at ws b) 1) [
+        | inl one ↦ rw (mark, eq-eqb (mark_at ws b) 1 one) (index one)
+        | inr other ↦ rw (mark, ne_eqb (mark_at ws b) 1 other) refl
+      ]
 
--- no bit is set, and no place has a child
-pub agrees-vacant : {C : Type 0} (n b : ℕ) (ps : List (Option C)) → placed_from b ps ≡ [] → AgreesFrom 0 (replicate n 0) ps
-agrees-vacant n b ps none = λ i l. ap (mark_at (replicate n 0)) (zero_add i) ∙ ap (λ x. bit_at x (i % 64)) (get_or-zeros n (i / 64)) ∙ bit_at-zero (i % 64) ∙ sym (unmarked b ps none i l)
+module _ {C : Type 0} (ws is : List ℕ) (cs : List C) where
+  pub child-set : (b : ℕ) → mark_at ws b ≡ 1 → marked_child ws is cs b ≡ slice_get cs (slice_index is b)
+  child-set b one = rw (eq-eqb (mark_at ws b) 1 one) refl
+
+  pub child-clear : (b : ℕ) → mark_at ws b ≡ 0 → marked_child ws is cs b ≡ None
+  child-clear b none = rw (ne_eqb (mark_at ws b) 1 (omega (arith, none))) refl
+
+  child-at_place : length cs ≤ 256 → (b : ℕ) → marked_child ws is cs b ≡ at_place (marked_place ws is) cs b
+  child-at_place small b =
+      elim (cases_eq (mark_at ws b) 1) [
+        | inl one ↦ rw (eq-eqb (mark_at ws b) 1 one) refl
+        | inr other ↦ rw (ne_eqb (mark_at ws b) 1 other) (sym (slice_get_past cs 256 small))
+      ]
+
+  pub under-marked : length cs ≤ 256 → (b n : ℕ) → under (marked_child ws is cs) b n ≡ under (at_place (marked_place ws is) cs) b n
+  under-marked small b n = under-same (marked_child ws is cs) (at_place (marked_place ws is) cs) b n (λ d l m. child-at_place small d)
+
+-- no bit is set where all words are 0
+pub none-set : (n b : ℕ) (is : List ℕ) → marked_place (replicate n 0) is b ≡ 256
+none-set n b is = place-clear (replicate n 0) is b (λ e. (let z = ap (λ x. bit_at x (b % 64)) (get_or-zeros n (b / 64)) ∙ bit_at-zero (b % 64) in omega (arith, z, e)))
   where
     get_or-zeros : (n i : ℕ) → get_or {A = ℕ} (replicate n 0) i 0 ≡ 0
     get_or-zeros zero i = refl
     get_or-zeros (suc n) zero = refl
     get_or-zeros (suc n) (suc i) = get_or-zeros n i
-
-    unmarked : {C : Type 0} (b : ℕ) (ps : List (Option C)) → placed_from b ps ≡ [] → (i : ℕ) → i < length ps → mark_of (get_or ps i None) ≡ 0
-    unmarked b [] e i l = refl
-    unmarked b (Some c ∷ ps) e i l = absurd (cc)
-    unmarked b (None ∷ ps) e zero l = refl
-    unmarked b (None ∷ ps) e (suc i) l = unmarked (b + 1) ps e i (omega arith)

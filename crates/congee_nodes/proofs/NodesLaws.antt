@@ -1,12 +1,12 @@
 -- What changes in a table do to the list of a tree's nodes.
 use Rattle.std.proofs.Common.{◌≡◌, ◌≢◌, ℕ, zero, suc, ◌+◌, ◌<◌, ◌≤◌, List, [], ◌∷◌, ◌++◌, length, Some, None, refl, ap, sym, subst, ◌∙◌, arith, inl, inr, append_assoc, append-nil, length-append}
 use Rattle.std.proofs.lemmas.Bool.{lt-ltb, le-ltb, eq-eqb, ne_eqb, cases_order}
+use Rattle.congee_nodes.proofs.BeginLaws.{after, begins_append, begins_itself}
 use Rattle.congee_nodes.specs.Map.{lookup, put, Rises}
 use Rattle.congee_nodes.specs.Key.{Begins}
-use Rattle.congee_nodes.specs.Any.{any_children as children, any_prefix as prefix}
 use Rattle.congee_nodes.specs.Table.{Table, NodeInfo, node_at, node_info, nodes_under, nodes_of, nodes_at, IsChild, AreChildren, IsTree}
 use Rattle.congee_nodes.specs.Shape.{Replaces, AreUnder, AllBegin}
-use Rattle.congee_nodes.specs.declared.any_node.AnyNode.{AnyNode}
+use Rattle.congee_nodes.specs.TableNode.{TableNode}
 use Rattle.congee_nodes.specs.declared.child.Child.{Child}
 use Rattle.congee_nodes.specs.declared.child.Child.TheVariants.{Payload, Node}
 use Rattle.congee_nodes.proofs.MapLaws.{lookup-below}
@@ -46,11 +46,11 @@ Replaces-behind front old new gone come r = record {
 pub Replaces-all : (gone come : List NodeInfo) → Replaces gone come gone come
 Replaces-all gone come = record { before = []; after = []; was = sym (append-nil gone); is = sym (append-nil come) }
 
-AreUnder-from : (Passes : ℕ → Type 0) (p : List ℕ) (c : ℕ) (ns : List NodeInfo) → Passes c → AllBegin (p ++ c ∷ []) ns → AreUnder Passes p ns
+pub AreUnder-from : (Passes : ℕ → Type 0) (p : List ℕ) (c : ℕ) (ns : List NodeInfo) → Passes c → AllBegin (p ++ c ∷ []) ns → AreUnder Passes p ns
 AreUnder-from Passes p c [] l h = tt
 AreUnder-from Passes p c (n ∷ ns) l h = (record { byte = c; passes = l; begins = h.0 }, AreUnder-from Passes p c ns l h.1)
 
-AreUnder-append : (Passes : ℕ → Type 0) (p : List ℕ) (xs ys : List NodeInfo) → AreUnder Passes p xs → AreUnder Passes p ys → AreUnder Passes p (xs ++ ys)
+pub AreUnder-append : (Passes : ℕ → Type 0) (p : List ℕ) (xs ys : List NodeInfo) → AreUnder Passes p xs → AreUnder Passes p ys → AreUnder Passes p (xs ++ ys)
 AreUnder-append Passes p [] ys h k = k
 AreUnder-append Passes p (x ∷ xs) ys h k = (h.0, AreUnder-append Passes p xs ys h.1 k)
 
@@ -64,15 +64,15 @@ module _ {P : Type 0} where
   children_begin s levels ih p ((b, Payload v) ∷ es) h = children_begin s levels ih p es h.1
   children_begin s levels ih p ((b, Node j) ∷ es) h =
       AllBegin-append p (nodes_at s levels (p ++ b ∷ []) j) (nodes_of (below s levels) p es)
-      (AllBegin-shorter p (p ++ b ∷ []) (nodes_at s levels (p ++ b ∷ []) j) (record { rest = b ∷ []; is = refl }) (ih (p ++ b ∷ []) j h.0)) (children_begin s levels ih p es h.1)
+      (AllBegin-shorter p (p ++ b ∷ []) (nodes_at s levels (p ++ b ∷ []) j) (begins_append p (b ∷ [])) (ih (p ++ b ∷ []) j h.0)) (children_begin s levels ih p es h.1)
 
   -- all bytes above a subtree lead to each of its nodes
   pub nodes_begin : (s : Table P) (levels : ℕ) (q : List ℕ) (slot : ℕ) → IsTree s levels q slot → AllBegin q (nodes_at s levels q slot)
   nodes_begin s zero q slot h = absurd h
   nodes_begin s (suc levels) q slot h =
       rw h.here (
-        record { rest = []; is = sym (append-nil q) },
-        AllBegin-shorter q (prefix h.node) (nodes_of (below s levels) (prefix h.node) (children h.node)) h.begins (children_begin s levels (nodes_begin s levels) (prefix h.node) (children h.node) h.children),
+        begins_itself q,
+        AllBegin-shorter q h.node.prefix (nodes_of (below s levels) h.node.prefix h.node.children) h.begins (children_begin s levels (nodes_begin s levels) h.node.prefix h.node.children h.children),
       )
 
   pub all_below : (s : Table P) (levels : ℕ) (p : List ℕ) (es : List (ℕ × Child P)) → AreChildren (λ r j. IsTree s levels r j) p es → AllBegin p (nodes_of (below s levels) p es)
@@ -84,7 +84,7 @@ module _ {P : Type 0} where
   frame_children s t levels ih p ((b, Payload v) ∷ es) h k = frame_children s t levels ih p es h.1 k
   frame_children s t levels ih p ((b, Node j) ∷ es) h k =
       let r = frame_children s t levels ih p es h.1 k in
-      let f = ih (p ++ b ∷ []) j h.0 (keeps_longer p (p ++ b ∷ []) s t (record { rest = b ∷ []; is = refl }) k) in
+      let f = ih (p ++ b ∷ []) j h.0 (keeps_longer p (p ++ b ∷ []) s t (begins_append p (b ∷ [])) k) in
       ap (λ x. x ++ nodes_of (below t levels) p es) f ∙ ap (λ x. nodes_at s levels (p ++ b ∷ []) j ++ x) r
 
   -- a subtree whose nodes stand
@@ -92,18 +92,18 @@ module _ {P : Type 0} where
   frame_nodes s t zero q slot h k = absurd h
   frame_nodes s t (suc levels) q slot h k =
       let there = k slot h.node h.here h.begins in
-      let c = frame_children s t levels (frame_nodes s t levels) (prefix h.node) (children h.node) h.children (keeps_longer q (prefix h.node) s t h.begins k) in
+      let c = frame_children s t levels (frame_nodes s t levels) h.node.prefix h.node.children h.children (keeps_longer q h.node.prefix s t h.begins k) in
       rw (there, h.here) (ap (λ x. node_info q h.node ∷ x) c)
 
   -- the children of the one node that changed
-  pub kept_nodes : (s t : Table P) (levels slot : ℕ) (n : AnyNode (Child P)) → node_at s slot ≡ Some n → KeepsSlots slot s t → (es : List (ℕ × Child P)) → AreChildren (λ r j. IsTree s levels r j) (prefix n) es
-      → nodes_of (below t levels) (prefix n) es ≡ nodes_of (below s levels) (prefix n) es
+  pub kept_nodes : (s t : Table P) (levels slot : ℕ) (n : TableNode P) → node_at s slot ≡ Some n → KeepsSlots slot s t → (es : List (ℕ × Child P)) → AreChildren (λ r j. IsTree s levels r j) n.prefix es
+      → nodes_of (below t levels) n.prefix es ≡ nodes_of (below s levels) n.prefix es
   kept_nodes s t levels slot n here k [] h = refl
   kept_nodes s t levels slot n here k ((b, Payload v) ∷ es) h = kept_nodes s t levels slot n here k es h.1
   kept_nodes s t levels slot n here k ((b, Node j) ∷ es) h =
       let r = kept_nodes s t levels slot n here k es h.1 in
-      let f = frame_nodes s t levels (prefix n ++ b ∷ []) j h.0 (keeps_children s t slot b n here k) in
-      ap (λ x. x ++ nodes_of (below t levels) (prefix n) es) f ∙ ap (λ x. nodes_at s levels (prefix n ++ b ∷ []) j ++ x) r
+      let f = frame_nodes s t levels (n.prefix ++ b ∷ []) j h.0 (keeps_children s t slot b n here k) in
+      ap (λ x. x ++ nodes_of (below t levels) n.prefix es) f ∙ ap (λ x. nodes_at s levels (n.prefix ++ b ∷ []) j ++ x) r
 
   -- the children beside the one whose subtree changed
   sibling_nodes : (s t : Table P) (levels : ℕ) (p : List ℕ) (b : ℕ) → KeepsOthers (p ++ b ∷ []) s t → (d : ℕ) (es : List (ℕ × Child P)) → b < d → Rises d 256 es → AreChildren (λ r j. IsTree s levels r j) p es
@@ -150,15 +150,15 @@ module _ {P : Type 0} where
       ]
 
   -- the whole subtree, where the one under its node's byte b changed
-  pub down_nodes : (s t : Table P) (levels : ℕ) (q : List ℕ) (slot b j : ℕ) (h : IsTree s (suc levels) q slot) → lookup (children h.node) b ≡ Some (Node j) → KeepsOthers (prefix h.node ++ b ∷ []) s t
-      → Replaces (nodes_at s (suc levels) q slot) (nodes_at t (suc levels) q slot) (nodes_at s levels (prefix h.node ++ b ∷ []) j) (nodes_at t levels (prefix h.node ++ b ∷ []) j) × KeepsOthers q s t
+  pub down_nodes : (s t : Table P) (levels : ℕ) (q : List ℕ) (slot b j : ℕ) (h : IsTree s (suc levels) q slot) → lookup h.node.children b ≡ Some (Node j) → KeepsOthers (h.node.prefix ++ b ∷ []) s t
+      → Replaces (nodes_at s (suc levels) q slot) (nodes_at t (suc levels) q slot) (nodes_at s levels (h.node.prefix ++ b ∷ []) j) (nodes_at t levels (h.node.prefix ++ b ∷ []) j) × KeepsOthers q s t
   down_nodes s t levels q slot b j h found others =
       let n = h.node in
-      let c = down_children s t levels (prefix n) b j others 0 (children n) h.sound.ordered h.children found in
-      let itself : Begins (prefix n ++ b ∷ []) (prefix n) → ⊥ = λ g. let l = simp (length-append, length-append) at (ap length g.is) in omega arith in
+      let c = down_children s t levels n.prefix b j others 0 n.children h.sound.ordered h.children found in
+      let itself : Begins (n.prefix ++ b ∷ []) n.prefix → ⊥ = λ g. let l = simp (length-append, length-append) at (ap length (after g).is) in omega arith in
       let there = others slot n h.here itself in (
-        rw (there, h.here) (Replaces-behind (node_info q n ∷ []) (nodes_of (below s levels) (prefix n) (children n)) (nodes_of (below t levels) (prefix n) (children n)) (nodes_at s levels (prefix n ++ b ∷ []) j) (nodes_at t levels (prefix n ++ b ∷ []) j) c),
-        λ i m here not_below. others i m here (λ g. not_below (Begins-trans q (prefix n) (prefix m) h.begins (Begins-trans (prefix n) (prefix n ++ b ∷ []) (prefix m) (record { rest = b ∷ []; is = refl }) g))),
+        rw (there, h.here) (Replaces-behind (node_info q n ∷ []) (nodes_of (below s levels) n.prefix n.children) (nodes_of (below t levels) n.prefix n.children) (nodes_at s levels (n.prefix ++ b ∷ []) j) (nodes_at t levels (n.prefix ++ b ∷ []) j) c),
+        λ i m here not_below. others i m here (λ g. not_below (Begins-trans q n.prefix m.prefix h.begins (Begins-trans n.prefix (n.prefix ++ b ∷ []) m.prefix (begins_append n.prefix (b ∷ [])) g))),
       )
 
   relevel_children : (s : Table P) (m n : ℕ) → ((q : List ℕ) (slot : ℕ) → IsTree s m q slot → 8 ≤ length q + n → nodes_at s n q slot ≡ nodes_at s m q slot)
@@ -174,10 +174,10 @@ module _ {P : Type 0} where
   -- a subtree stands on as many levels as its keys have bytes left
   pub relevel_nodes : (s : Table P) (m n : ℕ) (q : List ℕ) (slot : ℕ) → IsTree s m q slot → 8 ≤ length q + n → nodes_at s n q slot ≡ nodes_at s m q slot
   relevel_nodes s zero n q slot h l = absurd h
-  relevel_nodes s (suc m) zero q slot h l = let k = simp length-append at (ap length h.begins.is) in absurd (omega (arith, h.sound.short, k))
+  relevel_nodes s (suc m) zero q slot h l = let k = simp length-append at (ap length (after h.begins).is) in absurd (omega (arith, h.sound.short, k))
   relevel_nodes s (suc m) (suc n) q slot h l =
-      let k = simp length-append at (ap length h.begins.is) in
-      let c = relevel_children s m n (relevel_nodes s m n) (prefix h.node) (children h.node) h.children (omega (arith, k)) in
+      let k = simp length-append at (ap length (after h.begins).is) in
+      let c = relevel_children s m n (relevel_nodes s m n) h.node.prefix h.node.children h.children (omega (arith, k)) in
       rw h.here (ap (λ x. node_info q h.node ∷ x) c)
 
   -- below seven bytes there are no nodes
@@ -188,16 +188,16 @@ module _ {P : Type 0} where
   leaf_nodes s (suc levels) p ((b, Node j) ∷ es) seven h =
       let n = h.0 in
       let one = length-append p (b ∷ []) in
-      let long = simp length-append at (ap length n.begins.is) in
+      let long = simp length-append at (ap length (after n.begins).is) in
       absurd (omega (arith, one, long, seven, n.sound.short))
 
-  pub leaf_alone : (s : Table P) (levels : ℕ) (q : List ℕ) (slot : ℕ) (n : AnyNode (Child P)) → IsTree s levels q slot → node_at s slot ≡ Some n → length (prefix n) ≡ 7 → nodes_at s levels q slot ≡ node_info q n ∷ []
+  pub leaf_alone : (s : Table P) (levels : ℕ) (q : List ℕ) (slot : ℕ) (n : TableNode P) → IsTree s levels q slot → node_at s slot ≡ Some n → length n.prefix ≡ 7 → nodes_at s levels q slot ≡ node_info q n ∷ []
   leaf_alone s zero q slot n h here seven = absurd h
   leaf_alone s (suc levels) q slot n h here seven =
       let both : Some h.node ≡ Some n = sym h.here ∙ here in
       let is : h.node ≡ n = cc in
       subst (λ m. nodes_at s (suc levels) q slot ≡ node_info q m ∷ []) is
-      (rw h.here (ap (λ x. node_info q h.node ∷ x) (leaf_nodes s levels (prefix h.node) (children h.node) (subst (λ m. length (prefix m) ≡ 7) (sym is) seven) h.children)))
+      (rw h.here (ap (λ x. node_info q h.node ∷ x) (leaf_nodes s levels h.node.prefix h.node.children (subst (λ (m : TableNode P). length m.prefix ≡ 7) (sym is) seven) h.children)))
 
   -- a child put under a byte that had none, among the nodes below the others
   pub record PutAmong (s : Table P) (levels : ℕ) (p : List ℕ) (es : List (ℕ × Child P)) (b j : ℕ) : Type 0 where
@@ -208,11 +208,11 @@ module _ {P : Type 0} where
     pub was : nodes_of (below s levels) p es ≡ left ++ right
     pub is : nodes_of (below s levels) p (put es b (Node j)) ≡ left ++ (nodes_at s levels (p ++ b ∷ []) j ++ right)
 
-  under_begin : (s : Table P) (levels : ℕ) (p : List ℕ) (b : ℕ) (c : Child P) → IsChild (λ r j. IsTree s levels r j) p b c → AllBegin (p ++ b ∷ []) (nodes_under (below s levels) p b c)
+  pub under_begin : (s : Table P) (levels : ℕ) (p : List ℕ) (b : ℕ) (c : Child P) → IsChild (λ r j. IsTree s levels r j) p b c → AllBegin (p ++ b ∷ []) (nodes_under (below s levels) p b c)
   under_begin s levels p b (Payload v) h = tt
   under_begin s levels p b (Node j) h = nodes_begin s levels (p ++ b ∷ []) j h
 
-  all_greater : (s : Table P) (levels : ℕ) (p : List ℕ) (b d : ℕ) (es : List (ℕ × Child P)) → b < d → Rises d 256 es → AreChildren (λ r i. IsTree s levels r i) p es → AreUnder (λ c. b < c) p (nodes_of (below s levels) p es)
+  pub all_greater : (s : Table P) (levels : ℕ) (p : List ℕ) (b d : ℕ) (es : List (ℕ × Child P)) → b < d → Rises d 256 es → AreChildren (λ r i. IsTree s levels r i) p es → AreUnder (λ c. b < c) p (nodes_of (below s levels) p es)
   all_greater s levels p b d [] l o h = tt
   all_greater s levels p b d (e ∷ es) l o h =
       AreUnder-append (λ c. b < c) p (nodes_under (below s levels) p e.0 e.1) (nodes_of (below s levels) p es)

@@ -3,6 +3,7 @@ use Rattle.std.proofs.Common.{◌≡◌, ℕ, zero, suc, ◌+◌, ◌*◌, ◌/�
 use Rattle.std.proofs.lemmas.Bool.{lt-leb, eq-eqb, ne_eqb, cases_order}
 use Rattle.std.proofs.lemmas.List.Elements.{filter-append}
 use Rattle.std.proofs.lemmas.Nat.{div-mul-add}
+use Rattle.congee_nodes.proofs.BeginLaws.{after}
 use Rattle.congee_nodes.specs.Map.{Pairs, lookup, between, Rises}
 use Rattle.congee_nodes.specs.Refusal.{sharing}
 use Rattle.congee_nodes.specs.Key.{low, high, least, room, key_number, AreBytes}
@@ -76,5 +77,5 @@ module _ {P : Type 0} where
   leaf_length s (suc levels) p ((b, Node j) ∷ es) seven h =
       let n = h.0 in
       let one = length-append p (b ∷ []) in
-      let long = simp length-append at (ap length n.begins.is) in
+      let long = simp length-append at (ap length (after n.begins).is) in
       absurd (omega (arith, one, long, seven, n.sound.short))

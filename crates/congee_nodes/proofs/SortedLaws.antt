@@ -1,5 +1,5 @@
 -- Bytes beside children, as a map.
-use Rattle.std.proofs.Common.{◌≡◌, ◌≢◌, ℕ, zero, suc, ◌+◌, ◌-◌, ◌<◌, ◌≤◌, List, [], ◌∷◌, length, get_or, take, drop, set, Some, None, refl, ap, sym, ◌∙◌, arith, add-one, IsSome, subst, inl, inr}
+use Rattle.std.proofs.Common.{◌≡◌, ◌≢◌, ℕ, zero, suc, ◌+◌, ◌-◌, ◌<◌, ◌≤◌, List, [], ◌∷◌, length, get_or, slice_get, take, drop, set, Some, None, refl, ap, sym, ◌∙◌, arith, add-one, IsSome, subst, inl, inr}
 use Rattle.std.specs.List.{insert, remove}
 use Rattle.std.proofs.lemmas.Bool.{lt-ltb, le-ltb, eq-eqb, ne_eqb, cases_lt, cases_order, lt-leb, le-leb, false≢true}
 use Rattle.congee_nodes.specs.Map.{lookup, put, without, between, Rises}
@@ -7,6 +7,7 @@ use Rattle.congee_nodes.proofs.ByteMapLaws.{count_below}
 use Rattle.congee_nodes.proofs.MapLaws.{lookup-below}
 use Rattle.congee_nodes.proofs.ByteMapLaws.{put-absent, without-at_present, place_present, lookup-at_index, lookup-at_present}
 use Rattle.std.proofs.lemmas.List.{get_or_default}
+use Rattle.std.proofs.lemmas.Option.{slice_get_cases}
 use Rattle.congee_nodes.proofs.RangeLaws.{between-above, between-crossed}
 use Rattle.congee_nodes.specs.Sorted.{below, pairs}
 
@@ -81,6 +82,13 @@ module _ {C : Type 0} where
   pairs-take (k ∷ ks) [] (suc n) = refl
   pairs-take (k ∷ ks) (c ∷ cs) (suc n) = ap (λ t. (k, c) ∷ t) (pairs-take ks cs n)
 
+  -- children past the bytes don't count
+  pairs-short : (ks : List ℕ) (cs : List C) (n : ℕ) → pairs (take n ks) cs ≡ pairs (take n ks) (take n cs)
+  pairs-short ks cs zero = refl
+  pairs-short [] cs (suc n) = refl
+  pairs-short (k ∷ ks) [] (suc n) = refl
+  pairs-short (k ∷ ks) (c ∷ cs) (suc n) = ap (λ t. (k, c) ∷ t) (pairs-short ks cs n)
+
   pub pairs-drop : (ks : List ℕ) (cs : List C) (n : ℕ) → pairs (drop n ks) (drop n cs) ≡ drop n (pairs ks cs)
   pairs-drop ks cs zero = refl
   pairs-drop [] cs (suc n) = refl
@@ -153,8 +161,8 @@ module _ {C : Type 0} (ks : List ℕ) (cs : List C) (h : Rises 0 256 (pairs ks c
   pub place_is : i ≡ count_below (pairs ks cs) b
   place_is = at ∙ ap (λ m. below (take m ks) b) e ∙ below-pairs ks cs b l
 
-  pub found_at : (c : C) → i < length cs → get_or ks i 0 ≡ b → c ≡ get_or cs i c → Some c ≡ lookup (pairs ks cs) b
-  found_at c inside same is =
+  child_at : (c : C) → i < length cs → get_or ks i 0 ≡ b → c ≡ get_or cs i c → Some c ≡ lookup (pairs ks cs) b
+  child_at c inside same is =
       let d : get_or ks i b ≡ b = get_or_default ks i b 0 (omega arith) ∙ same in
       let r : get_or (pairs ks cs) i (b, c) ≡ (b, c) = get_or-pairs ks cs i b c l inside ∙ pair_is (get_or ks i b) b (get_or cs i c) c d (sym is) in
       let m = length-pairs ks cs l in
@@ -162,6 +170,9 @@ module _ {C : Type 0} (ks : List ℕ) (cs : List C) (h : Rises 0 256 (pairs ks c
     where
       pair_is : (x y : ℕ) (u v : C) → x ≡ y → u ≡ v → ◌≡◌ {A = ℕ × C} (x, u) (y, v)
       pair_is x y u v p q = rw (p, q) refl
+
+  pub found_at : i < length cs → get_or ks i 0 ≡ b → slice_get cs i ≡ lookup (pairs ks cs) b
+  found_at inside same = elim (slice_get_cases cs i).1 [ inl there ↦ there.2 ∙ child_at there.0 inside same (sym there.3) | inr past ↦ absurd (omega (arith, past.0, inside)) ]
 
   pub not_at : (i < length cs → get_or ks i 0 ≢ b) → lookup (pairs ks cs) b ≡ None
   not_at other = lookup-not_at 0 ks cs b h l (subst (λ j. j < length cs → get_or ks j 0 ≢ b) place_is other)
@@ -214,6 +225,9 @@ module _ {C : Type 0} (ks : List ℕ) (cs : List C) (h : Rises 0 256 (pairs ks c
       let p' = place_is ks cs h l s i n m p in
       let q' = place_is ks cs h l e j n m q in
       pairs-take (drop i ks) (drop i cs) (j - i) ∙ ap (take (j - i)) (pairs-drop ks cs i) ∙ rw (p', q') (between-places s e (pairs ks cs) h)
+
+  pub bytes_between : (s e i j n : ℕ) → n ≡ length cs → i ≡ below (take n ks) s → j ≡ below (take n ks) e → pairs (take (j - i) (drop i ks)) (drop i cs) ≡ between (pairs ks cs) s e
+  bytes_between s e i j n m p q = pairs-short (drop i ks) (drop i cs) (j - i) ∙ part_between s e i j n m p q
 
   pub part_none : (s e i j n : ℕ) → n ≡ length cs → i ≡ below (take n ks) s → j ≡ below (take n ks) e → j ≤ i → [] ≡ between (pairs ks cs) s e
   part_none s e i j n m p q o =

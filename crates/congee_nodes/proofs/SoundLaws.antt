@@ -3,9 +3,8 @@ use Rattle.std.proofs.Common.{◌≡◌, ℕ, ◌<◌, ◌≤◌, List, length, 
 use Rattle.std.proofs.lemmas.List.{take-append-drop}
 use Rattle.congee_nodes.specs.Map.{put, Rises}
 use Rattle.congee_nodes.specs.Key.{AreBytes}
-use Rattle.congee_nodes.specs.Any.{any_prefix, any_children}
 use Rattle.congee_nodes.specs.Table.{IsSound}
-use Rattle.congee_nodes.specs.declared.any_node.AnyNode.{AnyNode}
+use Rattle.congee_nodes.specs.TableNode.{TableNode}
 use Rattle.congee_nodes.specs.declared.child.Child.{Child}
 use Rattle.congee_nodes.proofs.MapLaws.{Rises-put}
 use Rattle.congee_nodes.proofs.KeyLaws.{AreBytes-append_left}
@@ -15,7 +14,7 @@ AreBytes-take i p h = AreBytes-append_left (take i p) (drop i p) (subst AreBytes
 
 module _ {P : Type 0} where
   -- a node with a prefix of bytes and children in order
-  pub sound_from : (m : AnyNode (Child P)) (p : List ℕ) (es : List (ℕ × Child P)) → any_prefix m ≡ p → any_children m ≡ es → AreBytes p → length p ≤ 7 → Rises 0 256 es → IsSound m
+  pub sound_from : (m : TableNode P) (p : List ℕ) (es : List (ℕ × Child P)) → m.prefix ≡ p → m.children ≡ es → AreBytes p → length p ≤ 7 → Rises 0 256 es → IsSound m
   sound_from m p es e f bytes short ordered = record {
     ordered = subst (λ x. Rises 0 256 x) (sym f) ordered;
     bytes = subst AreBytes (sym e) bytes;
@@ -23,6 +22,6 @@ module _ {P : Type 0} where
   }
 
   -- with one child put
-  pub sound-put : (n m : AnyNode (Child P)) (b : ℕ) (c : Child P) → IsSound n → b < 256 → any_prefix m ≡ any_prefix n → any_children m ≡ put (any_children n) b c → IsSound m
+  pub sound-put : (n m : TableNode P) (b : ℕ) (c : Child P) → IsSound n → b < 256 → m.prefix ≡ n.prefix → m.children ≡ put n.children b c → IsSound m
   sound-put n m b c h byte e f =
-      sound_from m (any_prefix n) (put (any_children n) b c) e f h.bytes h.short (Rises-put 0 256 (any_children n) b c h.ordered (omega arith) byte)
+      sound_from m n.prefix (put n.children b c) e f h.bytes h.short (Rises-put 0 256 n.children b c h.ordered (omega arith) byte)

@@ -1,22 +1,22 @@
 -- What a split of the node in a slot does to its subtree.
-use Rattle.std.proofs.Common.{◌≡◌, ℕ, zero, suc, ◌+◌, ◌<◌, ◌≤◌, List, [], ◌∷◌, ◌++◌, length, get_or, take, drop, Option, Some, None, refl, ap, sym, subst, ◌∙◌, arith, length-append, append-nil}
+use Rattle.std.proofs.Common.{◌≡◌, ℕ, zero, suc, ◌+◌, ◌<◌, ◌≤◌, List, [], ◌∷◌, ◌++◌, length, get_or, take, drop, Some, None, refl, ap, sym, subst, ◌∙◌, arith, length-append, append-nil}
 use Rattle.std.proofs.lemmas.Bool.{ne_eqb}
 use Rattle.std.proofs.lemmas.List.{length-take, take-append-drop, drop_all}
+use Rattle.congee_nodes.proofs.BeginLaws.{after, begins_by}
 use Rattle.congee_nodes.specs.Map.{lookup, put}
 use Rattle.congee_nodes.specs.Key.{AreBytes, low, high, key_number, Begins, IsFirstDifference}
 use Rattle.congee_nodes.proofs.KeyLaws.{goes_on, Begins-take, Begins-at_difference_left, length-common, split_at, AreBytes-append_right}
 use Rattle.congee_nodes.proofs.ChildrenLaws as laws
-use Rattle.congee_nodes.specs.Any.{any_children as children, any_prefix as prefix}
 use Rattle.congee_nodes.specs.Table.{IsSound}
-use Rattle.congee_nodes.specs.declared.any_node.AnyNode.{AnyNode}
-use Rattle.congee_nodes.specs.Table.{node_at, pairs_of, pairs_at, AreChildren, IsTree}
+use Rattle.congee_nodes.specs.TableNode.{TableNode}
+use Rattle.congee_nodes.specs.Table.{Table, node_at, pairs_of, pairs_at, AreChildren, IsTree}
 use Rattle.congee_nodes.specs.declared.child.Child.{Child}
 use Rattle.congee_nodes.specs.declared.child.Child.TheVariants.{Payload, Node}
 use Rattle.congee_nodes.proofs.TableLaws.{under, tree_rises, all_rise, same_pairs}
 use Rattle.congee_nodes.proofs.WriteLaws.{KeepsSlots, kept_children, Are-same, pairs-same, AreChildren-put}
 
 module _ {P : Type 0} where
-  relevel_children : (s : List (Option (AnyNode (Child P)))) (m n : ℕ) → ((q : List ℕ) (slot : ℕ) → IsTree s m q slot → 8 ≤ length q + n → IsTree s n q slot × (pairs_at s n slot ≡ pairs_at s m slot))
+  relevel_children : (s : Table P) (m n : ℕ) → ((q : List ℕ) (slot : ℕ) → IsTree s m q slot → 8 ≤ length q + n → IsTree s n q slot × (pairs_at s n slot ≡ pairs_at s m slot))
       → (p : List ℕ) (es : List (ℕ × Child P)) → AreChildren (λ r j. IsTree s m r j) p es → 7 ≤ length p + n
       → AreChildren (λ r j. IsTree s n r j) p es × (pairs_of (λ j. pairs_at s n j) p es ≡ pairs_of (λ j. pairs_at s m j) p es)
   relevel_children s m n ih p [] h l = (tt, refl)
@@ -30,24 +30,24 @@ module _ {P : Type 0} where
       ((f.0, r.0), ap (λ x. x ++ pairs_of (λ i. pairs_at s n i) p es) f.1 ∙ ap (λ x. pairs_at s m j ++ x) r.1)
 
   -- a subtree stands on as many levels as its keys have bytes left
-  pub relevel : (s : List (Option (AnyNode (Child P)))) (m n : ℕ) (q : List ℕ) (slot : ℕ) → IsTree s m q slot → 8 ≤ length q + n → IsTree s n q slot × (pairs_at s n slot ≡ pairs_at s m slot)
+  pub relevel : (s : Table P) (m n : ℕ) (q : List ℕ) (slot : ℕ) → IsTree s m q slot → 8 ≤ length q + n → IsTree s n q slot × (pairs_at s n slot ≡ pairs_at s m slot)
   relevel s zero n q slot h l = absurd h
-  relevel s (suc m) zero q slot h l = let k = simp length-append at (ap length h.begins.is) in absurd (omega (arith, h.sound.short, k))
+  relevel s (suc m) zero q slot h l = let k = simp length-append at (ap length (after h.begins).is) in absurd (omega (arith, h.sound.short, k))
   relevel s (suc m) (suc n) q slot h l =
-      let k = simp length-append at (ap length h.begins.is) in
-      let c = relevel_children s m n (relevel s m n) (prefix h.node) (children h.node) h.children (omega (arith, k)) in
+      let k = simp length-append at (ap length (after h.begins).is) in
+      let c = relevel_children s m n (relevel s m n) h.node.prefix h.node.children h.children (omega (arith, k)) in
       (record { node = h.node; here = h.here; begins = h.begins; sound = h.sound; children = c.0 }, rw h.here c.1)
 
-  module _ (s t : List (Option (AnyNode (Child P)))) (levels : ℕ) (q key : List ℕ) (slot lower leaf at : ℕ) (v : P) (m l : AnyNode (Child P)) (h : IsTree s (suc levels) q slot)
-      (enough : 7 ≤ length q + levels) (d : IsFirstDifference (prefix h.node) key at) (q_key : Begins q key) (bytes : AreBytes key) (full : length key ≡ 8)
+  module _ (s t : Table P) (levels : ℕ) (q key : List ℕ) (slot lower leaf at : ℕ) (v : P) (m l : TableNode P) (h : IsTree s (suc levels) q slot)
+      (enough : 7 ≤ length q + levels) (d : IsFirstDifference h.node.prefix key at) (q_key : Begins q key) (bytes : AreBytes key) (full : length key ≡ 8)
       (keeps : KeepsSlots slot s t) (upper_there : node_at t slot ≡ Some m) (lower_there : node_at t lower ≡ Some h.node) (leaf_there : node_at t leaf ≡ Some l)
-      (sound_m : IsSound m) (prefix_m : prefix m ≡ take at key) (children_m : children m ≡ put ((get_or (prefix h.node) at 0, Node lower) ∷ []) (get_or key at 0) (Node leaf))
-      (sound_l : IsSound l) (prefix_l : prefix l ≡ take 7 key) (children_l : children l ≡ (get_or key 7 0, Payload v) ∷ []) where
+      (sound_m : IsSound m) (prefix_m : m.prefix ≡ take at key) (children_m : m.children ≡ put ((get_or h.node.prefix at 0, Node lower) ∷ []) (get_or key at 0) (Node leaf))
+      (sound_l : IsSound l) (prefix_l : l.prefix ≡ take 7 key) (children_l : l.children ≡ (get_or key 7 0, Payload v) ∷ []) where
     abbrev p : List ℕ
     p = take at key
 
     abbrev a : ℕ
-    a = get_or (prefix h.node) at 0
+    a = get_or h.node.prefix at 0
 
     abbrev b : ℕ
     b = get_or key at 0
@@ -59,17 +59,17 @@ module _ {P : Type 0} where
     length_p = length-take at key ∙ omega (arith, d.inside, h.sound.short)
 
     q_short : length q ≤ at
-    q_short = length-common (prefix h.node) key q at d h.begins q_key
+    q_short = length-common h.node.prefix key q at d h.begins q_key
 
     lower_tree : IsTree t (suc levels) (p ++ a ∷ []) lower × (pairs_at t (suc levels) lower ≡ pairs_at s (suc levels) slot)
     lower_tree =
-        let kept = kept_children s t levels slot h.node h.here keeps (children h.node) h.children in
-        let left : Begins (p ++ a ∷ []) (prefix h.node) = subst (λ x. Begins (x ++ a ∷ []) (prefix h.node)) d.same_before (Begins-at_difference_left (prefix h.node) key at d) in
+        let kept = kept_children s t levels slot h.node h.here keeps h.node.children h.children in
+        let left : Begins (p ++ a ∷ []) h.node.prefix = subst (λ x. Begins (x ++ a ∷ []) h.node.prefix) d.same_before (Begins-at_difference_left h.node.prefix key at d) in
         (record { node = h.node; here = lower_there; begins = left; sound = h.sound; children = kept.0 }, rw (lower_there, h.here) kept.1)
 
     goes : Begins (p ++ b ∷ []) key × (low (p ++ b ∷ []) ≤ key_number key) × (key_number key < high (p ++ b ∷ []))
     goes =
-        let on = goes_on p key (record { rest = drop at key; is = sym (take-append-drop at key) }) bytes (omega (arith, length_p, at_small)) full in
+        let on = goes_on p key (begins_by p (drop at key) key (sym (take-append-drop at key))) bytes (omega (arith, length_p, at_small)) full in
         let begins : Begins (p ++ b ∷ []) key = subst (λ n. Begins (p ++ get_or key n 0 ∷ []) key) length_p on.begins in
         (begins, subst (λ n. low (p ++ get_or key n 0 ∷ []) ≤ key_number key) length_p on.at_least, subst (λ n. key_number key < high (p ++ get_or key n 0 ∷ [])) length_p on.below)
 
@@ -85,9 +85,9 @@ module _ {P : Type 0} where
     leaf_tree : IsTree t (suc levels) (p ++ b ∷ []) leaf × (pairs_at t (suc levels) leaf ≡ (key_number key, v) ∷ [])
     leaf_tree =
         let longer = length-append p (b ∷ []) in
-        let begins : Begins (p ++ b ∷ []) (prefix l) = subst (λ x. Begins (p ++ b ∷ []) x) (sym prefix_l) (Begins-take key (p ++ b ∷ []) 7 goes.0 (omega (arith, longer, length_p, at_small))) in (
-          record { node = l; here = leaf_there; begins = begins; sound = sound_l; children = Are-same (λ r j. IsTree t levels r j) (prefix l) (take 7 key) (children l) ((get_or key 7 0, Payload v) ∷ []) prefix_l children_l (seven, tt) },
-          rw leaf_there (pairs-same (λ j. pairs_at t levels j) (prefix l) (take 7 key) (children l) ((get_or key 7 0, Payload v) ∷ []) prefix_l children_l ∙ ap (λ x. (low x, v) ∷ []) whole),
+        let begins : Begins (p ++ b ∷ []) l.prefix = subst (λ x. Begins (p ++ b ∷ []) x) (sym prefix_l) (Begins-take key (p ++ b ∷ []) 7 goes.0 (omega (arith, longer, length_p, at_small))) in (
+          record { node = l; here = leaf_there; begins = begins; sound = sound_l; children = Are-same (λ r j. IsTree t levels r j) l.prefix (take 7 key) l.children ((get_or key 7 0, Payload v) ∷ []) prefix_l children_l (seven, tt) },
+          rw leaf_there (pairs-same (λ j. pairs_at t levels j) l.prefix (take 7 key) l.children ((get_or key 7 0, Payload v) ∷ []) prefix_l children_l ∙ ap (λ x. (low x, v) ∷ []) whole),
         )
 
     pub split : IsTree t (suc levels) q slot × (pairs_at t (suc levels) slot ≡ put (pairs_at s (suc levels) slot) (key_number key) v)
@@ -101,12 +101,12 @@ module _ {P : Type 0} where
         let rise = all_rise t levels (tree_rises t levels) p ((a, Node lower) ∷ []) first in
         let absent : lookup {V = Child P} ((a, Node lower) ∷ []) b ≡ None = rw (ne_eqb a b d.differ) refl in
         let k = key_number key in
-        let byte : a < 256 = let x = AreBytes-append_right (take at (prefix h.node)) _ (subst AreBytes (split_at (prefix h.node) at d.inside) h.sound.bytes) in x.0 in
+        let byte : a < 256 = let x = AreBytes-append_right (take at h.node.prefix) _ (subst AreBytes (split_at h.node.prefix at d.inside) h.sound.bytes) in x.0 in
         let pairs : under t levels p b (Node leaf) ≡ put (laws.pairs_at (under t levels p) p b (lookup ((a, Node lower) ∷ []) b)) k v = rw absent (leaf_t.1 ∙ leaf_tree.1) in
         let new = laws.pairs_of-put (under t levels p) p 0 ((a, Node lower) ∷ []) b k (Node leaf) v (omega (arith, length_p, at_small)) (omega arith, byte, tt) rise goes.1 goes.2 pairs in
         let old : laws.pairs_of (under t levels p) p ((a, Node lower) ∷ []) ≡ pairs_at s (suc levels) slot = append-nil (pairs_at t levels lower) ∙ low_t.1 ∙ lower_tree.1 in
-        let begins : Begins q (prefix m) = subst (λ x. Begins q x) (sym prefix_m) (Begins-take key q at q_key q_short) in (
-          record { node = m; here = upper_there; begins = begins; sound = sound_m; children = Are-same (λ r j. IsTree t levels r j) (prefix m) p (children m) (put ((a, Node lower) ∷ []) b (Node leaf)) prefix_m children_m all },
-          rw upper_there (pairs-same (λ j. pairs_at t levels j) (prefix m) p (children m) (put ((a, Node lower) ∷ []) b (Node leaf)) prefix_m children_m
+        let begins : Begins q m.prefix = subst (λ x. Begins q x) (sym prefix_m) (Begins-take key q at q_key q_short) in (
+          record { node = m; here = upper_there; begins = begins; sound = sound_m; children = Are-same (λ r j. IsTree t levels r j) m.prefix p m.children (put ((a, Node lower) ∷ []) b (Node leaf)) prefix_m children_m all },
+          rw upper_there (pairs-same (λ j. pairs_at t levels j) m.prefix p m.children (put ((a, Node lower) ∷ []) b (Node leaf)) prefix_m children_m
               ∙ same_pairs t levels p (put ((a, Node lower) ∷ []) b (Node leaf)) ∙ new ∙ ap (λ x. put x k v) old),
         )

@@ -1,29 +1,16 @@
--- One bit for each of 256 places, set exactly where the place has a child.
-use Rattle.std.specs.Prelude.{◌≡◌, ℕ, ◌+◌, ◌<◌, ◌/◌, ◌%◌, List, [], ◌∷◌, length, Option, Some, None, if◌then◌else◌, ◌==◌}
+-- One bit for each of 256 bytes, set exactly where the byte has a child.
+use Rattle.std.specs.Prelude.{ℕ, ◌/◌, ◌%◌, List, Option, None, slice_get, slice_index, if◌then◌else◌, ◌==◌}
 use Rattle.std.specs.Int.{bit_at}
 use Rattle.std.proofs.Common.{get_or}
 
--- the bit of a place in words of 64 bits: 1 or 0
+-- the bit of a byte in words of 64 bits: 1 or 0
 abbrev pub mark_at : List ℕ → ℕ → ℕ
-mark_at words i = bit_at (get_or words (i / 64) 0) (i % 64)
+mark_at words b = bit_at (get_or words (b / 64) 0) (b % 64)
 
-module _ {C : Type 0} where
-  -- the bit that a place should have
-  abbrev pub mark_of : Option C → ℕ
-  mark_of None = 0
-  mark_of (Some c) = 1
+-- the place that the index has for a byte whose bit is set; 256 for any other
+abbrev pub marked_place : List ℕ → List ℕ → ℕ → ℕ
+marked_place words index b = if mark_at words b == 1 then slice_index index b else 256
 
-  -- a place before others; a free one ends the list
-  abbrev pub first : ℕ → Option C → List (ℕ × C) → List (ℕ × C)
-  first at None others = []
-  first at (Some c) others = (at, c) ∷ others
-
-  -- the bits from this place on are those of these places
-  abbrev pub AgreesFrom : ℕ → List ℕ → List (Option C) → Type 0
-  AgreesFrom at words places = (i : ℕ) → i < length places → mark_at words (at + i) ≡ mark_of (get_or places i None)
-
-  -- the children at the places whose bits are set, from this place on, up to a bit whose place is free
-  abbrev pub marked_from : ℕ → List ℕ → List (Option C) → List (ℕ × C)
-  marked_from at words [] = []
-  marked_from at words (place ∷ places) =
-      if mark_at words at == 1 then first at place (marked_from (at + 1) words places) else marked_from (at + 1) words places
+-- the child at that place
+abbrev pub marked_child : {C : Type 0} → List ℕ → List ℕ → List C → ℕ → Option C
+marked_child words index row b = if mark_at words b == 1 then slice_get row (slice_index index b) else None

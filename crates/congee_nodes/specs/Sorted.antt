@@ -1,8 +1,6 @@
 -- Bytes in ascending order, and children beside them.
-use Rattle.std.specs.Prelude.{◌≡◌, ℕ, ◌+◌, ◌≤◌, List, [], ◌∷◌, length, vec_capacity, if◌then◌else◌, nat_lt}
+use Rattle.std.specs.Prelude.{◌≡◌, ℕ, ◌+◌, ◌≤◌, List, [], ◌∷◌, length, if◌then◌else◌, nat_lt}
 use Rattle.congee_nodes.specs.Map.{Rises}
-use Rattle.std.specs.declared.vec.Vec.{Vec}
-use Rattle.std.specs.declared.alloc.Global.{Global}
 
 -- how many bytes at the front are below this one
 abbrev pub below : List ℕ → ℕ → ℕ
@@ -16,9 +14,8 @@ pairs (k ∷ ks) [] = []
 pairs (k ∷ ks) (c ∷ cs) = (k, c) ∷ pairs ks cs
 
 -- what each node with bytes beside children keeps
-pub record IsSorted {C : Type 0} (most : ℕ) (keys : List ℕ) (children : Vec C Global) (count : ℕ) : Type 0 where
-  pub ascending : Rises 0 256 (pairs keys children.items)
+pub record IsSorted {C : Type 0} (most : ℕ) (keys : List ℕ) (children : List C) (count : ℕ) : Type 0 where
+  pub ascending : Rises 0 256 (pairs keys children)
   pub long : length keys ≡ most
-  pub within : length children.items ≤ most
-  pub counted : count ≡ length children.items
-  pub reserved : most ≤ vec_capacity children
+  pub within : length children ≤ most
+  pub counted : count ≡ length children

@@ -3,15 +3,14 @@
 use Rattle.std.specs.Prelude.{◌≡◌, ℕ, zero, suc, ◌≤◌, List, [], ◌∷◌, ◌++◌, length, Option, Some, None, slice_index_or}
 use Rattle.congee_nodes.specs.Map.{Pairs, Rises}
 use Rattle.congee_nodes.specs.Key.{low, Begins, AreBytes}
-use Rattle.congee_nodes.specs.Any.{any_form, any_prefix, any_children}
 use Rattle.congee_nodes.specs.declared.base_node.NodeType.{NodeType}
-use Rattle.congee_nodes.specs.declared.any_node.AnyNode.{AnyNode}
+use Rattle.congee_nodes.specs.TableNode.{TableNode}
 use Rattle.congee_nodes.specs.declared.child.Child.{Child}
 use Rattle.congee_nodes.specs.declared.child.Child.TheVariants.{Payload, Node}
 
 -- the node or nothing in each slot
 abbrev pub Table : Type 0 → Type 0
-Table P = List (Option (AnyNode (Child P)))
+Table P = List (Option (TableNode P))
 
 -- what a caller sees of a node: the bytes that lead to it (its parent's prefix and the byte), its prefix, its form, and
 -- how many children it has
@@ -22,14 +21,14 @@ pub record NodeInfo : Type 0 where
   pub count : ℕ
 
 module _ {P : Type 0} where
-  abbrev pub node_at : Table P → ℕ → Option (AnyNode (Child P))
+  abbrev pub node_at : Table P → ℕ → Option (TableNode P)
   node_at s slot = slice_index_or s slot None
 
   -- each child of a node stands under a byte of its own, in order, and the prefix leaves a byte at least
-  pub record IsSound (n : AnyNode (Child P)) : Type 0 where
-    pub ordered : Rises 0 256 (any_children n)
-    pub bytes : AreBytes (any_prefix n)
-    pub short : length (any_prefix n) ≤ 7
+  pub record IsSound (n : TableNode P) : Type 0 where
+    pub ordered : Rises 0 256 n.children
+    pub bytes : AreBytes n.prefix
+    pub short : length n.prefix ≤ 7
 
   -- the pairs under a byte, where `below` has those of a slot
   abbrev pub pairs_under : (ℕ → Pairs P) → List ℕ → ℕ → Child P → Pairs P
@@ -40,17 +39,17 @@ module _ {P : Type 0} where
   pairs_of below p [] = []
   pairs_of below p (e ∷ es) = pairs_under below p e.0 e.1 ++ pairs_of below p es
 
-  abbrev pub pairs_in : (ℕ → Pairs P) → Option (AnyNode (Child P)) → Pairs P
+  abbrev pub pairs_in : (ℕ → Pairs P) → Option (TableNode P) → Pairs P
   pairs_in below None = []
-  pairs_in below (Some n) = pairs_of below (any_prefix n) (any_children n)
+  pairs_in below (Some n) = pairs_of below n.prefix n.children
 
   -- the pairs of the subtree in a slot, of so many levels at most
   abbrev pub pairs_at : Table P → ℕ → ℕ → Pairs P
   pairs_at s zero slot = []
   pairs_at s (suc levels) slot = pairs_in (λ j. pairs_at s levels j) (node_at s slot)
 
-  abbrev pub node_info : List ℕ → AnyNode (Child P) → NodeInfo
-  node_info edge n = record { edge = edge; prefix = any_prefix n; form = any_form n; count = length (any_children n) }
+  abbrev pub node_info : List ℕ → TableNode P → NodeInfo
+  node_info edge n = record { edge = edge; prefix = n.prefix; form = n.form; count = length n.children }
 
   -- the nodes under a byte, where `below` has those of a slot with the bytes that lead to it
   abbrev pub nodes_under : (List ℕ → ℕ → List NodeInfo) → List ℕ → ℕ → Child P → List NodeInfo
@@ -61,9 +60,9 @@ module _ {P : Type 0} where
   nodes_of below p [] = []
   nodes_of below p (e ∷ es) = nodes_under below p e.0 e.1 ++ nodes_of below p es
 
-  abbrev pub nodes_in : (List ℕ → ℕ → List NodeInfo) → List ℕ → Option (AnyNode (Child P)) → List NodeInfo
+  abbrev pub nodes_in : (List ℕ → ℕ → List NodeInfo) → List ℕ → Option (TableNode P) → List NodeInfo
   nodes_in below edge None = []
-  nodes_in below edge (Some n) = node_info edge n ∷ nodes_of below (any_prefix n) (any_children n)
+  nodes_in below edge (Some n) = node_info edge n ∷ nodes_of below n.prefix n.children
 
   -- the nodes of the subtree in a slot to which these bytes lead, from above, children by their bytes
   abbrev pub nodes_at : Table P → ℕ → List ℕ → ℕ → List NodeInfo
@@ -80,11 +79,11 @@ module _ {P : Type 0} where
   AreChildren below p (e ∷ es) = IsChild below p e.0 e.1 × AreChildren below p es
 
   pub record IsNodeIn (below : List ℕ → ℕ → Type 0) (s : Table P) (q : List ℕ) (slot : ℕ) : Type 0 where
-    pub node : AnyNode (Child P)
+    pub node : TableNode P
     pub here : node_at s slot ≡ Some node
-    pub begins : Begins q (any_prefix node)
+    pub begins : Begins q node.prefix
     pub sound : IsSound node
-    pub children : AreChildren below (any_prefix node) (any_children node)
+    pub children : AreChildren below node.prefix node.children
 
   -- the slot holds a subtree of so many levels at most, below these bytes
   abbrev pub IsTree : Table P → ℕ → List ℕ → ℕ → Type 0

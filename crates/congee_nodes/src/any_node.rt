@@ -16,7 +16,7 @@ use crate::node_256::Node256;
 use std::alloc::Global;
 use std::mem;
 
-/// A node of one of the forms: 64 bytes for a child of any size, as the larger parts are on the heap.
+/// A node of one of the forms: 64 bytes for children of 8 bytes, as only the larger forms have parts on the heap.
 #[derive(Drop)]
 pub enum AnyNode<C> {
     N4(Node4<C>),

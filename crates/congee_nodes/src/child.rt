@@ -6,3 +6,10 @@ pub enum Child<P> {
     Payload(P),
     Node(usize),
 }
+
+/// The same, where the payload stays in its node.
+#[derive(Drop)]
+pub enum ChildRef<'a, P> {
+    Payload(&'a P),
+    Node(usize),
+}

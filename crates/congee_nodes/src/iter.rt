@@ -3,13 +3,15 @@
 ghost use Rattle.std.specs.Prelude.{◌≡◌, ℕ, ◌+◌, ◌≤◌, length};
 ghost use Rattle.std.specs.Iterator.{YieldsFirstBy, item_count};
 
+use crate::few::Few;
 use crate::mask::next_marked;
 
-/// What `get_children` of a `Node4` gives: bytes and the children beside them.
+/// What `get_children` of a `Node4` gives: bytes, and the children from a place on.
 #[derive(Drop)]
 pub struct Node4Iter<'a, C> {
     pub(crate) keys: &'a [u8],
-    pub(crate) children: &'a [C],
+    pub(crate) children: &'a Few<C>,
+    pub(crate) at: usize,
 }
 
 impl<'a, C> Iterator for Node4Iter<'a, C> {
@@ -23,9 +25,9 @@ impl<'a, C> Iterator for Node4Iter<'a, C> {
 
     fn next(&mut self) -> Option<(u8, &'a C)> {
         let (byte, keys) = self.keys.split_first()?;
-        let (child, children) = self.children.split_first()?;
+        let child = self.children.get(self.at)?;
         self.keys = keys;
-        self.children = children;
+        self.at += 1;
         Some((*byte, child))
     }
 }
@@ -55,12 +57,13 @@ impl<'a, C> Iterator for Node16Iter<'a, C> {
     }
 }
 
-/// What `get_children` of a `Node48` gives: a part of the index, and the places that it names.
+/// What `get_children` of a `Node48` gives: the bytes from one on up to the last, by the index.
 #[derive(Drop)]
 pub struct Node48Iter<'a, C> {
     pub(crate) at: usize,
-    pub(crate) index: &'a [u8],
-    pub(crate) places: &'a [Option<C>],
+    pub(crate) last: u8,
+    pub(crate) index: &'a [u8; 256],
+    pub(crate) children: &'a [C],
 }
 
 impl<'a, C> Iterator for Node48Iter<'a, C> {
@@ -73,29 +76,27 @@ impl<'a, C> Iterator for Node48Iter<'a, C> {
     ghost remaining = { item_count rest_48 };
 
     fn next(&mut self) -> Option<(u8, &'a C)> {
-        while self.at < 256
-            && let Some((first, others)) = self.index.split_first()
-        {
+        while self.at <= self.last as usize {
             let byte = self.at as u8;
             self.at += 1;
-            self.index = others;
-            let i = *first as usize;
-            if i < self.places.len()
-                && let Some(child) = &self.places[i]
-            {
-                return Some((byte, child));
+            let i = self.index[byte as usize] as usize;
+            if i < self.children.len() {
+                return Some((byte, &self.children[i]));
             }
         }
         None
     }
 }
 
-/// What `get_children` of a `Node256` gives: a part of the places, of which the free ones are passed by the mask.
+/// What `get_children` of a `Node256` gives: the bytes from one on up to the last, of which the mask passes those without
+/// a child.
 #[derive(Drop)]
 pub struct Node256Iter<'a, C> {
     pub(crate) at: usize,
+    pub(crate) last: u8,
     pub(crate) mask: &'a [u64; 4],
-    pub(crate) places: &'a [Option<C>],
+    pub(crate) index: &'a [u8; 256],
+    pub(crate) children: &'a [C],
 }
 
 impl<'a, C> Iterator for Node256Iter<'a, C> {
@@ -108,15 +109,17 @@ impl<'a, C> Iterator for Node256Iter<'a, C> {
     ghost remaining = { item_count rest_256 };
 
     fn next(&mut self) -> Option<(u8, &'a C)> {
-        let byte = next_marked(self.mask, self.at)?;
-        let free = byte as usize - self.at;
-        if free >= self.places.len() {
-            return None;
+        while let Some(byte) = next_marked(self.mask, self.at) {
+            if byte > self.last {
+                return None;
+            }
+            self.at = byte as usize + 1;
+            let i = self.index[byte as usize] as usize;
+            if i < self.children.len() {
+                return Some((byte, &self.children[i]));
+            }
         }
-        let child = self.places[free].as_ref()?;
-        self.places = &self.places[free + 1..];
-        self.at = byte as usize + 1;
-        Some((byte, child))
+        None
     }
 }
 

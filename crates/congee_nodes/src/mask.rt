@@ -1,7 +1,15 @@
-//! A mask of 256 bits, one for each byte: which places of a node are in use, in 32 bytes.
+//! A mask of 256 bits, one for each byte: which bytes of a node have a child, in 32 bytes.
 
-ghost use Rattle.std.specs.Prelude.{◌≡◌, ◌≢◌, ℕ, ◌+◌, ◌<◌, ◌≤◌, IfSome, IfNone};
+ghost use Rattle.std.specs.Prelude.{IsTrue, false, ◌≡◌, ◌≢◌, ℕ, ◌+◌, ◌<◌, ◌≤◌, IfSome, IfNone};
 ghost use Rattle.congee_nodes.specs.Marked.{mark_at};
+
+// Whether the bit of a byte is set.
+pub(crate) fn is_marked(words: &[u64; 4], byte: u8) -> bool
+    ensures set { IsTrue result → mark_at words.now byte ≡ 1 }
+    ensures clear { result ≡ false → mark_at words.now byte ≡ 0 }
+{
+    (words[byte as usize / 64] >> (byte as usize % 64)) & 1 == 1
+}
 
 // Sets the bit of a byte.
 pub(crate) fn mark(words: &mut [u64; 4], byte: u8)

@@ -24,7 +24,7 @@ pub struct Node16<C> {
 }
 
 impl<C> Model for Node16<C> {
-    ghost use Rattle.std.specs.Prelude.{◌≡◌, length};
+    ghost use Rattle.std.specs.Prelude.{◌≡◌, ◌≤◌, length, vec_capacity};
     ghost use Rattle.congee_nodes.specs.NodeView.{NodeView, node_view_code};
     ghost use Rattle.congee_nodes.specs.Sorted.{pairs, IsSorted};
     ghost use Rattle.congee_nodes.specs.declared.base_node.NodeType.TheVariants.{N16};
@@ -35,7 +35,7 @@ impl<C> Model for Node16<C> {
 
     ghost view = { λ n. record { prefix = n.base.prefix; children = pairs n.keys n.children.items } };
 
-    ghost invariant = { λ n. IsSorted 16 n.keys n.children n.base.count × (n.base.form ≡ N16) };
+    ghost invariant = { λ n. IsSorted 16 n.keys n.children.items n.base.count × (n.base.form ≡ N16) × (16 ≤ vec_capacity n.children) };
 }
 
 impl<C: Drop> Node16<C> {

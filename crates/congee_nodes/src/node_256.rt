@@ -1,4 +1,5 @@
-//! A node with one place a byte (*The Adaptive Radix Tree*, Leis et al., section III), and a mask of those in use.
+//! A node with up to 256 children in a row, an index of all bytes, and a mask of those that have a child
+//! (*The Adaptive Radix Tree*, Leis et al., section III).
 
 ghost use Rattle.std.specs.Prelude.{◌≡◌, ℕ, ◌≤◌, [], length, IfOk};
 ghost use Rattle.congee_nodes.specs.NodeView.{NodeView};
@@ -6,52 +7,65 @@ ghost use Rattle.congee_nodes.specs.NodeView.{NodeView};
 use crate::base_node::{BaseNode, Node, NodeType};
 use crate::error::OOMError;
 use crate::iter::{Node256Iter, NodeIter};
-use crate::mask::{mark, unmark};
+use crate::mask::{is_marked, mark, unmark};
+use crate::row::redirect;
 use std::alloc::Global;
 use std::marker::Model;
 use std::mem;
 
-/// A node with one place a byte, and a mask of the places in use, by which a scan passes free ones.
+// Which bytes have a child, and the places of their children; a byte without one may have any place.
+#[derive(Drop)]
+struct Marks {
+    mask: [u64; 4],
+    index: [u8; 256],
+}
+
+/// A node with up to 256 children in a row, an index of all bytes, and a mask of those that have a child.
 ///
-/// The places and the mask of 32 bytes are on the heap; the value itself takes 48 bytes.
+/// The row has no gaps and no order. By the mask a scan passes bytes without a child. On the heap are 8 bytes for each of
+/// 256 children of 8 bytes, and 288 bytes for mask and index; the value itself takes 48 bytes.
 #[derive(Drop)]
 pub struct Node256<C> {
-    places: Vec<Option<C>>,
-    mask: Box<[u64; 4]>,
+    children: Vec<C>,
+    marks: Box<Marks>,
     base: BaseNode,
 }
 
 impl<C> Model for Node256<C> {
-    ghost use Rattle.std.specs.Prelude.{◌≡◌, length};
+    ghost use Rattle.std.specs.Prelude.{◌≡◌, ◌≤◌, vec_capacity};
     ghost use Rattle.congee_nodes.specs.NodeView.{NodeView, node_view_code};
-    ghost use Rattle.congee_nodes.specs.Marked.{AgreesFrom};
-    ghost use Rattle.congee_nodes.specs.Places.{placed_from};
+    ghost use Rattle.congee_nodes.specs.Marked.{marked_place};
+    ghost use Rattle.congee_nodes.specs.Row.{in_row, IsRow};
     ghost use Rattle.congee_nodes.specs.declared.base_node.NodeType.TheVariants.{N256};
 
     ghost Value = { NodeView C };
 
     ghost coded = { node_view_code C.code };
 
-    ghost view = { λ n. record { prefix = n.base.prefix; children = placed_from 0 n.places.items } };
+    ghost view = { λ n. record { prefix = n.base.prefix; children = in_row (marked_place n.marks.value.mask n.marks.value.index) n.children.items } };
 
-    ghost invariant = { λ n. (length n.places.items ≡ 256) × (n.base.count ≡ length (placed_from 0 n.places.items)) × (n.base.form ≡ N256) × AgreesFrom 0 n.mask.value n.places.items };
+    ghost invariant = { λ n. IsRow 256 (marked_place n.marks.value.mask n.marks.value.index) n.children.items n.base.count × (n.base.form ≡ N256) × (256 ≤ vec_capacity n.children) };
 }
 
 impl<C: Drop> Node256<C> {
-    /// An empty node with all its 256 places; a refusal only for want of memory.
+    /// An empty node with room for all its 256 children; a refusal only for want of memory.
     pub fn new(alloc: Global, prefix: &[u8]) -> Result<Self, OOMError>
         requires { length prefix.now ≤ 7 }
         ensures prefix { IfOk result (λ n. n.prefix ≡ prefix.now) }
         ensures empty { IfOk result (λ n. n.children ≡ []) }
     {
         let base = BaseNode::new(prefix, NodeType::N256);
-        let mut places = Vec::with_capacity(alloc, 256)?;
-        for _ in 0..256usize {
-            places.push(None)?;
-        }
-        let words = [0u64; 4];
-        let mask = Box::new(alloc, words)?;
-        Ok(Node256 { places, mask, base })
+        let none = Marks {
+            mask: [0; 4],
+            index: [0; 256],
+        };
+        let marks = Box::new(alloc, none)?;
+        let children = Vec::with_capacity(alloc, 256)?;
+        Ok(Node256 {
+            children,
+            marks,
+            base,
+        })
     }
 }
 
@@ -73,43 +87,48 @@ impl<C: Drop> Node<C> for Node256<C> {
     }
 
     fn get_child(&self, byte: u8) -> Option<&C> {
-        self.places[byte as usize].as_ref()
+        let marks: &Marks = &self.marks;
+        if is_marked(&marks.mask, byte) {
+            Some(&self.children[marks.index[byte as usize] as usize])
+        } else {
+            None
+        }
     }
 
     fn get_children(&self, start: u8, end: u8) -> NodeIter<'_, C> {
-        let start = start as usize;
-        let end = end as usize + 1;
-        let places = if start < end {
-            &self.places[start..end]
-        } else {
-            &[]
-        };
+        let marks: &Marks = &self.marks;
         NodeIter::N256(Node256Iter {
-            at: start,
-            mask: &self.mask,
-            places,
+            at: start as usize,
+            last: end,
+            mask: &marks.mask,
+            index: &marks.index,
+            children: &self.children,
         })
     }
 
     fn insert(&mut self, byte: u8, child: C) {
-        mark(&mut self.mask, byte);
-        self.places[byte as usize] = Some(child);
+        let marks: &mut Marks = &mut self.marks;
+        mark(&mut marks.mask, byte);
+        marks.index[byte as usize] = self.children.len() as u8;
+        match self.children.push(child) {
+            Ok(()) => {}
+            Err(_) => unreachable!(),
+        }
         self.base.count_up();
     }
 
     fn change(&mut self, byte: u8, child: C) -> C {
-        match mem::replace(&mut self.places[byte as usize], Some(child)) {
-            Some(before) => before,
-            None => unreachable!(),
-        }
+        let i = self.marks.index[byte as usize] as usize;
+        mem::replace(&mut self.children[i], child)
     }
 
     fn remove(&mut self, byte: u8) -> C {
-        unmark(&mut self.mask, byte);
+        let marks: &mut Marks = &mut self.marks;
+        let i = marks.index[byte as usize];
+        let last = self.children.len() - 1;
+        unmark(&mut marks.mask, byte);
+        redirect(&mut marks.index, last as u8, i);
         self.base.count_down();
-        match mem::replace(&mut self.places[byte as usize], None) {
-            Some(before) => before,
-            None => unreachable!(),
-        }
+        self.children.swap_remove(i as usize)
     }
 }

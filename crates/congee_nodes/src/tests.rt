@@ -2,6 +2,7 @@
 
 use crate::any_node::AnyNode;
 use crate::base_node::{CopyTo, Node, NodeSize, NodeType, grown};
+use crate::few::Few;
 use crate::node_4::Node4;
 use crate::node_16::Node16;
 use crate::node_48::Node48;
@@ -225,7 +226,12 @@ fn sizes_are_stated(rt: HostRuntime) -> Result<(), Fail> {
     ] {
         assert_eq!(rt; NodeSize::of(form).bytes(), bytes);
     }
-    // what a table of nodes with children of 16 bytes takes for each
-    assert!(rt; size_of::<AnyNode<(u64, u64)>>() <= 64);
+    // what each takes in place for children of 8 bytes, and so what a table of nodes takes for one
+    assert_eq!(rt; size_of::<Few<u64>>(), 40);
+    assert_eq!(rt; size_of::<Node4<u64>>(), 56);
+    assert_eq!(rt; size_of::<Node16<u64>>(), 56);
+    assert_eq!(rt; size_of::<Node48<u64>>(), 48);
+    assert_eq!(rt; size_of::<Node256<u64>>(), 48);
+    assert_eq!(rt; size_of::<AnyNode<u64>>(), 64);
     Ok(())
 }

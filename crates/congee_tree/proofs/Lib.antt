@@ -6,3 +6,8 @@ mod WayLaws
 mod RefusalLaws
 mod PathLaws
 mod ShapeLaws
+mod RootLaws
+mod WholeLaws
+mod RemoveLaws
+mod CountLaws
+mod CallLaws

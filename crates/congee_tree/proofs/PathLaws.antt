@@ -1,11 +1,10 @@
 -- Which nodes a key's path has.
-use Rattle.std.proofs.Common.{◌≡◌, ◌≢◌, ℕ, zero, suc, ◌+◌, ◌≤◌, true, false, List, [], ◌∷◌, ◌++◌, length, Option, Some, None, refl, ap, sym, subst, ◌∙◌, arith, inl, inr, eqb, append_assoc, append-nil}
-use Rattle.std.proofs.lemmas.Bool.{eq-eqb, ne_eqb, cases_eq, cases_Bool, and_parts, eqb-true}
+use Rattle.std.proofs.Common.{◌≡◌, ◌≢◌, ℕ, zero, suc, ◌+◌, ◌≤◌, false, List, [], ◌∷◌, ◌++◌, length, Option, Some, None, refl, ap, sym, subst, ◌∙◌, arith, inl, inr, append_assoc}
+use Rattle.std.proofs.lemmas.Bool.{eq-eqb, ne_eqb, cases_eq, cases_Bool}
 use Rattle.congee_nodes.specs.Map.{lookup, Rises}
 use Rattle.congee_nodes.specs.Key.{Begins, AreBytes, IsFirstDifference}
-use Rattle.congee_nodes.specs.Any.{any_children as children, any_prefix as prefix}
 use Rattle.congee_nodes.specs.Table.{Table, NodeInfo, node_at, nodes_under, nodes_of, nodes_at, IsChild, AreChildren, IsTree}
-use Rattle.congee_nodes.specs.declared.any_node.AnyNode.{AnyNode}
+use Rattle.congee_nodes.specs.TableNode.{TableNode}
 use Rattle.congee_nodes.specs.declared.child.Child.{Child}
 use Rattle.congee_nodes.specs.declared.child.Child.TheVariants.{Payload, Node}
 use Rattle.congee_nodes.proofs.MapLaws.{lookup-below}
@@ -13,7 +12,9 @@ use Rattle.congee_nodes.proofs.KeyLaws.{goes_on, length-common}
 use Rattle.congee_nodes.proofs.DownLaws.{Begins-trans}
 use Rattle.congee_nodes.specs.Shape.{AllBegin}
 use Rattle.congee_nodes.proofs.NodesLaws.{below, nodes_begin, all_below}
-use Rattle.congee_tree.specs.Path.{begins, on_path}
+use Rattle.congee_nodes.specs.Key.{begins}
+use Rattle.congee_nodes.proofs.BeginLaws.{after, begins_itself, begins_other, begins_longer}
+use Rattle.congee_tree.specs.Path.{on_path}
 use Rattle.congee_nodes.specs.Key.{next_byte}
 use Rattle.congee_tree.specs.Way.{depth, Way, IsEnd, Arrives}
 use Rattle.congee_tree.specs.declared.descent.End.{End}
@@ -21,40 +22,11 @@ use Rattle.congee_tree.specs.declared.descent.End.TheVariants.{Differs, Absent, 
 use Rattle.congee_tree.specs.declared.descent.Place.{Place}
 use Rattle.congee_tree.proofs.WayLaws.{walk_short}
 
-begins-append : (q r : List ℕ) → begins q (q ++ r) ≡ true
-begins-append [] r = refl
-begins-append (b ∷ q) r = rw (eq-eqb b b refl) (begins-append q r)
-
-begins-is : (q key : List ℕ) → Begins q key → begins q key ≡ true
-begins-is q key h = rw h.is (begins-append q h.rest)
-
-begins_other : (p : List ℕ) (b c : ℕ) (r k : List ℕ) → b ≢ c → begins (p ++ b ∷ r) (p ++ c ∷ k) ≡ false
-begins_other [] b c r k d = rw (ne_eqb b c d) refl
-begins_other (x ∷ p) b c r k d = rw (eq-eqb x x refl) (begins_other p b c r k d)
-
-begins_longer : (q r key : List ℕ) → begins q key ≡ false → begins (q ++ r) key ≡ false
-begins_longer [] r key h = absurd (cc)
-begins_longer (b ∷ q) r [] h = refl
-begins_longer (b ∷ q) r (c ∷ key) h =
-    elim (cases_eq b c) [
-      | inl same ↦ let h' = rw (eq-eqb b c same) at h in rw (eq-eqb b c same) (begins_longer q r key h')
-      | inr other ↦ rw (ne_eqb b c other) refl
-    ]
-
-begins_true : (q key : List ℕ) → begins q key ≡ true → Begins q key
-begins_true [] key h = record { rest = key; is = refl }
-begins_true (b ∷ q) [] h = absurd (cc)
-begins_true (b ∷ q) (c ∷ key) h =
-    let parts = and_parts (eqb b c) (begins q key) h in
-    let same = eqb-true b c parts.0 in
-    let k = begins_true q key parts.1 in
-    record { rest = k.rest; is = ap (λ t. c ∷ t) k.is ∙ ap (λ x. x ∷ (q ++ k.rest)) (sym same) }
-
 -- no node below bytes that the key leaves is on its path
 on_path-off : (q : List ℕ) (ns : List NodeInfo) (key : List ℕ) → AllBegin q ns → begins q key ≡ false → on_path ns key ≡ 0
 on_path-off q [] key h f = refl
 on_path-off q (n ∷ ns) key h f =
-    let g : begins n.edge key ≡ false = rw h.0.is (begins_longer q h.0.rest key f) in
+    let g : begins n.edge key ≡ false = let x = after h.0 in rw x.is (begins_longer q x.rest key f) in
     rw g (omega (arith, on_path-off q ns key h.1 f))
 
 on_path-append : (xs ys : List NodeInfo) (key : List ℕ) → on_path (xs ++ ys) key ≡ on_path xs key + on_path ys key
@@ -63,7 +35,7 @@ on_path-append (x ∷ xs) ys key = omega (arith, on_path-append xs ys key)
 
 differs_begins : (p key : List ℕ) (i : ℕ) → IsFirstDifference p key i → begins p key ≡ false
 differs_begins p key i d = elim (cases_Bool (begins p key)) [
-  | inl t ↦ absurd (let k = begins_true p key t in let l = length-common p key p i d (record { rest = []; is = sym (append-nil p) }) k in omega (arith, d.inside))
+  | inl t ↦ absurd (let l = length-common p key p i d (begins_itself p) (record { holds = t }) in omega (arith, d.inside))
   | inr t ↦ t
 ]
 
@@ -95,17 +67,17 @@ module _ {P : Type 0} (s : Table P) where
 
   module _ (root : ℕ) (key : List ℕ) (bytes : AreBytes key) (full : length key ≡ 8) where
     -- a node on the path, and what is below it
-    at_node : (levels : ℕ) (q : List ℕ) (slot : ℕ) (h : IsTree s (suc levels) q slot) → Begins (prefix h.node) key
-        → on_path (nodes_at s (suc levels) q slot) key ≡ 1 + on_path (nodes_opt levels (prefix h.node) (next_byte (prefix h.node) key) (lookup (children h.node) (next_byte (prefix h.node) key))) key
+    at_node : (levels : ℕ) (q : List ℕ) (slot : ℕ) (h : IsTree s (suc levels) q slot) → Begins h.node.prefix key
+        → on_path (nodes_at s (suc levels) q slot) key ≡ 1 + on_path (nodes_opt levels h.node.prefix (next_byte h.node.prefix key) (lookup h.node.children (next_byte h.node.prefix key))) key
     at_node levels q slot h goes =
-        let p = prefix h.node in
+        let p = h.node.prefix in
         let b = next_byte p key in
         let on = goes_on p key goes bytes h.sound.short full in
         let others : (c : ℕ) → c ≢ b → begins (p ++ c ∷ []) key ≡ false =
-        λ c d. rw (on.begins.is, append_assoc p (b ∷ []) on.begins.rest) (begins_other p c b [] on.begins.rest d) in
-        let rest = on_path-nodes_of levels p 0 (children h.node) b key h.sound.ordered h.children others in
-        let here = begins-is q key (Begins-trans q p key h.begins goes) in
-        rw (h.here, here) (ap (λ x. 1 + x) rest)
+        λ c d. let x = after on.begins in rw (x.is, append_assoc p (b ∷ []) x.rest) (begins_other p c b [] x.rest d) in
+        let rest = on_path-nodes_of levels p 0 h.node.children b key h.sound.ordered h.children others in
+        let here = Begins-trans q p key h.begins goes in
+        rw (h.here, here.holds) (ap (λ x. 1 + x) rest)
 
     along : (above levels slot : ℕ) (q : List ℕ) → Way s root key above levels q slot → on_path (nodes_at s depth [] root) key ≡ above + on_path (nodes_at s levels q slot) key
     along zero levels slot q way =
@@ -113,7 +85,7 @@ module _ {P : Type 0} (s : Table P) where
         omega (arith, e)
     along (suc above) levels slot q way =
         let h = way.tree in
-        let p = prefix h.node in
+        let p = h.node.prefix in
         let b = next_byte p key in
         let ih = along above (suc levels) way.parent way.parent_q way.way in
         let one = at_node levels way.parent_q way.parent h way.begins in
@@ -121,38 +93,38 @@ module _ {P : Type 0} (s : Table P) where
         let same : on_path (nodes_at s levels (p ++ b ∷ []) slot) key ≡ on_path (nodes_at s levels q slot) key = ap (λ r. on_path (nodes_at s levels r slot) key) (sym way.is) in
         omega (arith, ih, one', same)
 
-    last : (levels slot : ℕ) (q : List ℕ) (n : AnyNode (Child P)) (e : End) → Begins q key → IsTree s levels q slot → node_at s slot ≡ Some n → IsEnd key n e → on_path (nodes_at s levels q slot) key ≡ 1
+    last : (levels slot : ℕ) (q : List ℕ) (n : TableNode P) (e : End P) → Begins q key → IsTree s levels q slot → node_at s slot ≡ Some n → IsEnd key n e → on_path (nodes_at s levels q slot) key ≡ 1
     last zero slot q n e begins h here end = absurd h
     last (suc levels) slot q n (Differs at) goes h here d =
         let both : Some n ≡ Some h.node = sym here ∙ h.here in
         let is : n ≡ h.node = cc in
-        let d' : IsFirstDifference (prefix h.node) key at = subst (λ m. IsFirstDifference (prefix m) key at) is d in
-        let none = on_path-off (prefix h.node) (nodes_of (below s levels) (prefix h.node) (children h.node)) key (all_below s levels (prefix h.node) (children h.node) h.children) (differs_begins (prefix h.node) key at d') in
-        rw (h.here, begins-is q key goes) (ap (λ x. 1 + x) none)
+        let d' : IsFirstDifference h.node.prefix key at = subst (λ (m : TableNode P). IsFirstDifference m.prefix key at) is d in
+        let none = on_path-off h.node.prefix (nodes_of (below s levels) h.node.prefix h.node.children) key (all_below s levels h.node.prefix h.node.children h.children) (differs_begins h.node.prefix key at d') in
+        rw (h.here, goes.holds) (ap (λ x. 1 + x) none)
     last (suc levels) slot q n (Absent b) goes h here d =
         let both : Some n ≡ Some h.node = sym here ∙ h.here in
         let is : n ≡ h.node = cc in
         let d' : IsEnd key h.node (Absent b) = subst (λ m. IsEnd key m (Absent b)) is d in
-        let none : lookup (children h.node) (next_byte (prefix h.node) key) ≡ None = subst (λ x. lookup (children h.node) x ≡ None) d'.0 d'.2 in
+        let none : lookup h.node.children (next_byte h.node.prefix key) ≡ None = subst (λ x. lookup h.node.children x ≡ None) d'.0 d'.2 in
         let one = at_node levels q slot h d'.1 in
         let one' = rw none at one in
         omega (arith, one')
-    last (suc levels) slot q n (Present b) goes h here d =
+    last (suc levels) slot q n (Present b w) goes h here d =
         let both : Some n ≡ Some h.node = sym here ∙ h.here in
         let is : n ≡ h.node = cc in
-        let d' : IsEnd key h.node (Present b) = subst (λ m. IsEnd key m (Present b)) is d in
-        let found : lookup (children h.node) (next_byte (prefix h.node) key) ≡ Some (Payload d'.2.0) = subst (λ x. lookup (children h.node) x ≡ Some (Payload d'.2.0)) d'.0 d'.2.1 in
+        let d' : IsEnd key h.node (Present b w) = subst (λ m. IsEnd key m (Present b w)) is d in
+        let found : lookup h.node.children (next_byte h.node.prefix key) ≡ Some (Payload w.now) = subst (λ x. lookup h.node.children x ≡ Some (Payload w.now)) d'.0 d'.2 in
         let one = at_node levels q slot h d'.1 in
         let one' = rw found at one in
         omega (arith, one')
 
     -- the nodes on the key's path are the last one and those above it
-    pub path_length : (place : Place) → Arrives s root key place → on_path (nodes_at s depth [] root) key ≡ place.above + 1
+    pub path_length : (place : Place P) → Arrives s root key place → on_path (nodes_at s depth [] root) key ≡ place.above + 1
     path_length place a =
         let w = a.walk in
         let x = along place.above w.levels place.slot w.q w.way in
         let y = last w.levels place.slot w.q a.node place.end w.begins w.tree a.here a.end in
         omega (arith, x, y)
 
-    pub path_short : (place : Place) → Arrives s root key place → on_path (nodes_at s depth [] root) key ≤ 8
-    path_short place a = let l = path_length place a in let m = walk_short s root key place.above place.slot a.walk in omega (arith, l, m)
+    pub path_short : (place : Place P) → Arrives s root key place → on_path (nodes_at s depth [] root) key ≤ 8
+    path_short place a = let l = path_length place a in let m = walk_short s root key place.above place.slot place.parent a.walk in omega (arith, l, m)

@@ -1,12 +1,12 @@
 -- What a binary search finds among ascending pairs, and what an edit at that place does.
 use Rattle.std.proofs.Common.{◌≡◌, ℕ, zero, suc, ◌+◌, ◌<◌, ◌≤◌, ◌≢◌, [], ◌∷◌, length, get_or, set, Some, None, Result, Ok, Err, IfOk, IfErr, refl, sym, ap, ◌∙◌, arith, inl, inr}
-use Rattle.std.specs.List.{insert}
+use Rattle.std.specs.List.{insert, remove}
 use Rattle.std.specs.List.Sorted.{IsSearchInRange, IsBinarySearchResult, IsNonDecreasingBy}
 use Rattle.std.specs.Ordering.{nat_cmp, ordering_index}
 use Rattle.std.proofs.lemmas.Cmp.{ranked}
 use Rattle.std.proofs.lemmas.Bool.{lt-ltb, le-ltb, eq-eqb, ne_eqb, cases_order}
 use Rattle.std.proofs.lemmas.Bool.Decides.{nat_tests}
-use Rattle.congee_nodes.specs.Map.{Pairs, lookup, put, Rises}
+use Rattle.congee_nodes.specs.Map.{Pairs, lookup, put, without, Rises}
 use Rattle.congee_nodes.proofs.MapLaws.{lookup-below}
 use Rattle.congee_tree.specs.Place.{IsAt, IsGapFor}
 
@@ -63,6 +63,14 @@ module _ {P : Type 0} where
       let less : x.0 < k = omega (arith, e, rises_from (x.0 + 1) b m i d h.2 (omega arith)) in
       rw (lt-ltb x.0 k less) (ap (λ t. x ∷ t) (put_at (x.0 + 1) b m k i d v h.2 (omega arith) e))
 
+  -- a removal at a place
+  without_at : (a b : ℕ) (m : Pairs P) (k i : ℕ) (d : ℕ × P) → Rises a b m → i < length m → (get_or m i d).0 ≡ k → without m k ≡ remove m i
+  without_at a b [] k i d h p e = absurd (omega arith)
+  without_at a b (x ∷ m) k zero d h p e = rw (eq-eqb x.0 k e)
+  without_at a b (x ∷ m) k (suc i) d h p e =
+      let other : x.0 ≢ k = omega (arith, e, rises_from (x.0 + 1) b m i d h.2 (omega arith)) in
+      rw (ne_eqb x.0 k other) (ap (λ t. x ∷ t) (without_at (x.0 + 1) b m k i d h.2 (omega arith) e))
+
   -- without the first pair
   gap_next : (x : ℕ × P) (m : Pairs P) (k at : ℕ) → IsGapFor (x ∷ m) k (suc at) → IsGapFor m k at
   gap_next x m k at gap = record {
@@ -98,3 +106,7 @@ module _ {P : Type 0} where
   -- a write there is one of the whole map
   pub put_found : (a b : ℕ) (m : Pairs P) (k i : ℕ) (e : ℕ × P) (v : P) → Rises a b m → IsAt m k i → put m k v ≡ set m i (k, v)
   put_found a b m k i e v h at = put_at a b m k i e v h at.in_range (at.has_key e)
+
+  -- and so is a removal
+  pub without_found : (a b : ℕ) (m : Pairs P) (k i : ℕ) (e : ℕ × P) → Rises a b m → IsAt m k i → without m k ≡ remove m i
+  without_found a b m k i e h at = without_at a b m k i e h at.in_range (at.has_key e)

@@ -1,15 +1,13 @@
 -- What a change at the end of a key's way does to the whole tree.
-use Rattle.std.proofs.Common.{◌≡◌, ℕ, zero, suc, ◌+◌, ◌-◌, ◌<◌, ◌≤◌, List, [], ◌∷◌, ◌++◌, length, Some, None, refl, ap, sym, subst, ◌∙◌, arith, length-append}
+use Rattle.std.proofs.Common.{Bor, IsSome, ◌≡◌, ℕ, zero, suc, ◌+◌, ◌-◌, ◌<◌, ◌≤◌, List, [], ◌∷◌, ◌++◌, length, Some, None, refl, ap, sym, subst, ◌∙◌, arith, length-append}
+use Rattle.congee_nodes.proofs.BeginLaws.{after, begins_append}
 use Rattle.congee_nodes.specs.Map.{lookup}
 use Rattle.congee_nodes.specs.Key.{AreBytes, key_number, Begins}
 use Rattle.congee_nodes.proofs.KeyLaws.{goes_on}
-use Rattle.congee_nodes.specs.Any.{any_children as children, any_prefix as prefix}
-use Rattle.congee_nodes.specs.Table.{IsSound}
-use Rattle.congee_nodes.specs.declared.any_node.AnyNode.{AnyNode}
+use Rattle.congee_nodes.specs.TableNode.{TableNode}
 use Rattle.congee_nodes.specs.Table.{Table, node_at, pairs_at, IsTree}
 use Rattle.congee_nodes.specs.Key.{next_byte}
 use Rattle.congee_tree.specs.Way.{depth, Way, Walk, IsEnd, Arrives}
-use Rattle.congee_nodes.specs.declared.child.Child.{Child}
 use Rattle.congee_nodes.specs.declared.child.Child.TheVariants.{Payload, Node}
 use Rattle.congee_tree.specs.declared.descent.End.{End}
 use Rattle.congee_tree.specs.declared.descent.End.TheVariants.{Differs, Absent, Present}
@@ -23,44 +21,52 @@ unfolding depth
 depth_is = refl
 
 module _ {P : Type 0} (s : Table P) (root : ℕ) (key : List ℕ) where
-  pub walk_start : IsTree s depth [] root → Walk s root key 0 root
-  walk_start h = record { levels = depth; q = []; way = (refl, refl, refl); tree = h; begins = record { rest = key; is = refl }; deep = omega arith; sum = omega (arith, depth_is) }
+  pub walk_start : IsTree s depth [] root → Walk s root key 0 root root
+  walk_start h = record { levels = depth; q = []; way = (refl, refl, refl); up = tt; tree = h; begins = begins_append [] key; deep = omega arith; sum = omega (arith, depth_is) }
 
-  step_at : (above levels slot : ℕ) (q : List ℕ) (n : AnyNode (Child P)) → Way s root key above levels q slot → IsTree s levels q slot → Begins q key → above ≤ length q → above + levels ≡ 8
-      → node_at s slot ≡ Some n → Begins (prefix n) key → AreBytes key → length key ≡ 8 → (j : ℕ) → lookup (children n) (next_byte (prefix n) key) ≡ Some (Node j)
-      → Walk s root key (suc above) j
+  step_at : (above levels slot : ℕ) (q : List ℕ) (n : TableNode P) → Way s root key above levels q slot → IsTree s levels q slot → Begins q key → above ≤ length q → above + levels ≡ 8
+      → node_at s slot ≡ Some n → Begins n.prefix key → AreBytes key → length key ≡ 8 → (j : ℕ) → lookup n.children (next_byte n.prefix key) ≡ Some (Node j)
+      → Walk s root key (suc above) j slot
   step_at above zero slot q n way h begins deep sum here goes bytes full j found = absurd h
   step_at above (suc levels) slot q n way h begins deep sum here goes bytes full j found =
       let both : Some h.node ≡ Some n = sym h.here ∙ here in
       let is : n ≡ h.node = cc in
-      let goes' : Begins (prefix h.node) key = subst (λ m. Begins (prefix m) key) is goes in
-      let found' : lookup (children h.node) (next_byte (prefix h.node) key) ≡ Some (Node j) = subst (λ m. lookup (children m) (next_byte (prefix m) key) ≡ Some (Node j)) is found in
-      let on = goes_on (prefix h.node) key goes' bytes h.sound.short full in
-      let child = IsChild-found s levels (prefix h.node) (children h.node) (next_byte (prefix h.node) key) (Node j) h.children found' in
-      let one = length-append (prefix h.node) (next_byte (prefix h.node) key ∷ []) in
-      let long = simp length-append at (ap length h.begins.is) in
+      let goes' : Begins h.node.prefix key = subst (λ (m : TableNode P). Begins m.prefix key) is goes in
+      let found' : lookup h.node.children (next_byte h.node.prefix key) ≡ Some (Node j) = subst (λ (m : TableNode P). lookup m.children (next_byte m.prefix key) ≡ Some (Node j)) is found in
+      let on = goes_on h.node.prefix key goes' bytes h.sound.short full in
+      let child = IsChild-found s levels h.node.prefix h.node.children (next_byte h.node.prefix key) (Node j) h.children found' in
+      let one = length-append h.node.prefix (next_byte h.node.prefix key ∷ []) in
+      let long = simp length-append at (ap length (after h.begins).is) in
       record {
         levels = levels;
-        q = prefix h.node ++ next_byte (prefix h.node) key ∷ [];
+        q = h.node.prefix ++ next_byte h.node.prefix key ∷ [];
         way = record { parent = slot; parent_q = q; tree = h; way = way; begins = goes'; found = found'; is = refl };
+        up = refl;
         tree = child;
         begins = on.begins;
         deep = omega (arith, one, long, deep);
         sum = omega (arith, sum);
       }
 
-  pub walk_step : (above slot : ℕ) (n : AnyNode (Child P)) → Walk s root key above slot → node_at s slot ≡ Some n → Begins (prefix n) key → AreBytes key → length key ≡ 8 → (j : ℕ)
-      → lookup (children n) (next_byte (prefix n) key) ≡ Some (Node j) → Walk s root key (above + 1) j
-  walk_step above slot n w here goes bytes full j found =
+  pub walk_step : (above slot parent : ℕ) (n : TableNode P) → Walk s root key above slot parent → node_at s slot ≡ Some n → Begins n.prefix key → AreBytes key → length key ≡ 8 → (j : ℕ)
+      → lookup n.children (next_byte n.prefix key) ≡ Some (Node j) → Walk s root key (above + 1) j slot
+  walk_step above slot parent n w here goes bytes full j found =
       let more : suc above ≡ above + 1 = omega arith in
-      subst (λ a. Walk s root key a j) more (step_at above w.levels slot w.q n w.way w.tree w.begins w.deep w.sum here goes bytes full j found)
+      subst (λ a. Walk s root key a j slot) more (step_at above w.levels slot w.q n w.way w.tree w.begins w.deep w.sum here goes bytes full j found)
+
+  pub walk_there : (above slot parent : ℕ) → Walk s root key above slot parent → IsSome (node_at s slot)
+  walk_there above slot parent w = there w.levels w.q w.tree
+    where
+      there : (levels : ℕ) (q : List ℕ) → IsTree s levels q slot → IsSome (node_at s slot)
+      there zero q h = absurd h
+      there (suc levels) q h = rw h.here refl
 
   levels_left : (levels slot : ℕ) (q : List ℕ) → IsTree s levels q slot → 1 ≤ levels
   levels_left zero slot q h = absurd h
   levels_left (suc levels) slot q h = omega arith
 
-  pub walk_short : (above slot : ℕ) → Walk s root key above slot → above < 8
-  walk_short above slot w = let l = levels_left w.levels slot w.q w.tree in omega (arith, w.sum)
+  pub walk_short : (above slot parent : ℕ) → Walk s root key above slot parent → above < 8
+  walk_short above slot parent w = let l = levels_left w.levels slot w.q w.tree in omega (arith, w.sum)
 
   module _ (bytes : AreBytes key) (full : length key ≡ 8) where
     -- what is found in the whole is found at the end of the way
@@ -71,7 +77,7 @@ module _ {P : Type 0} (s : Table P) (root : ℕ) (key : List ℕ) where
         let o = open_subtree s (suc levels) way.parent h.node (record { above = way.parent_q; tree = h }) (sym h.here) in
         let less : suc levels - 1 ≡ levels = omega arith in
         lookup_along above (suc levels) way.parent way.parent_q way.way
-        ∙ lookup-at_node s (suc levels) way.parent h.node o (prefix h.node) key refl bytes full way.begins slot (sym way.found)
+        ∙ lookup-at_node s (suc levels) way.parent h.node o h.node.prefix key refl bytes full way.begins slot (sym way.found)
         ∙ ap (λ l. lookup (pairs_at s l slot) (key_number key)) less
 
     -- a change at the key in the subtree at the end of the way is one of the whole
@@ -84,42 +90,39 @@ module _ {P : Type 0} (s : Table P) (root : ℕ) (key : List ℕ) where
     )
     along t f local (suc above) levels slot q way tree pairs others =
         let h = way.tree in
-        let p = prefix h.node in
+        let p = h.node.prefix in
         let b = next_byte p key in
         let on = goes_on p key way.begins bytes h.sound.short full in
         let d = down s t levels way.parent_q way.parent b slot (key_number key) f local h way.found
         (subst (λ r. KeepsOthers r s t) way.is others) (subst (λ r. IsTree t levels r slot) way.is tree) pairs on.at_least on.below in
         along t f local above (suc levels) way.parent way.parent_q way.way d.0 d.1 d.2
 
-    pub lookup_end : (place : Place) → Arrives s root key place → (e : End) → e ≡ place.end → ((b : ℕ) → e ≡ Present b → ⊥) → lookup (pairs_at s depth root) (key_number key) ≡ None
+    pub lookup_end : (place : Place P) → Arrives s root key place → (e : End P) → e ≡ place.end → ((b : ℕ) (v : Bor P) → e ≡ Present b v → ⊥) → lookup (pairs_at s depth root) (key_number key) ≡ None
     lookup_end place a (Differs at) is absent =
         let w = a.walk in
         let o = open_subtree s w.levels place.slot a.node (record { above = w.q; tree = w.tree }) (sym a.here) in
         let d : IsEnd key a.node (Differs at) = subst (λ e. IsEnd key a.node e) (sym is) a.end in
-        lookup_along place.above w.levels place.slot w.q w.way ∙ lookup-off_prefix s w.levels place.slot a.node o (prefix a.node) key refl bytes full at d
+        lookup_along place.above w.levels place.slot w.q w.way ∙ lookup-off_prefix s w.levels place.slot a.node o a.node.prefix key refl bytes full at d
     lookup_end place a (Absent b) is absent =
         let w = a.walk in
         let o = open_subtree s w.levels place.slot a.node (record { above = w.q; tree = w.tree }) (sym a.here) in
         let d : IsEnd key a.node (Absent b) = subst (λ e. IsEnd key a.node e) (sym is) a.end in
         lookup_along place.above w.levels place.slot w.q w.way
-        ∙ lookup-at_child s w.levels place.slot a.node o (prefix a.node) key refl bytes full d.1 None (sym (subst (λ x. lookup (children a.node) x ≡ None) d.0 d.2))
-    lookup_end place a (Present b) is absent = absurd (absent b refl)
+        ∙ lookup-at_child s w.levels place.slot a.node o a.node.prefix key refl bytes full d.1 None (sym (subst (λ x. lookup a.node.children x ≡ None) d.0 d.2))
+    lookup_end place a (Present b v) is absent = absurd (absent b v refl)
 
-    pub lookup_present : (place : Place) (a : Arrives s root key place) → (b : ℕ) → place.end ≡ Present b → (v : P) → lookup (children a.node) b ≡ Some (Payload v) → lookup (pairs_at s depth root) (key_number key) ≡ Some v
-    lookup_present place a b is v found =
+    pub lookup_present : (place : Place P) → Arrives s root key place → (b : ℕ) (v : Bor P) → place.end ≡ Present b v → lookup (pairs_at s depth root) (key_number key) ≡ Some v.now
+    lookup_present place a b v is =
         let w = a.walk in
         let o = open_subtree s w.levels place.slot a.node (record { above = w.q; tree = w.tree }) (sym a.here) in
-        let d : IsEnd key a.node (Present b) = subst (λ e. IsEnd key a.node e) is a.end in
+        let d : IsEnd key a.node (Present b v) = subst (λ e. IsEnd key a.node e) is a.end in
         lookup_along place.above w.levels place.slot w.q w.way
-        ∙ lookup-at_payload s w.levels place.slot a.node o (prefix a.node) key refl bytes full d.1 v (sym (subst (λ x. lookup (children a.node) x ≡ Some (Payload v)) d.0 found))
+        ∙ lookup-at_payload s w.levels place.slot a.node o a.node.prefix key refl bytes full d.1 v.now (sym (subst (λ x. lookup a.node.children x ≡ Some (Payload v.now)) d.0 d.2))
 
-    pub arrives_sound : (place : Place) → Arrives s root key place → (n : AnyNode (Child P)) → node_at s place.slot ≡ Some n → IsSound n
-    arrives_sound place a n here =
-        let o = open_subtree s a.walk.levels place.slot n (record { above = a.walk.q; tree = a.walk.tree }) (sym here) in o.sound
-
-  at_sound : (levels slot : ℕ) (q : List ℕ) (n : AnyNode (Child P)) → IsTree s levels q slot → node_at s slot ≡ Some n → IsSound n
-  at_sound zero slot q n h here = absurd h
-  at_sound (suc levels) slot q n h here = let both : Some h.node ≡ Some n = sym h.here ∙ here in let is : h.node ≡ n = cc in subst (λ m. IsSound m) is h.sound
-
-  pub walk_sound : (above slot : ℕ) (n : AnyNode (Child P)) → Walk s root key above slot → node_at s slot ≡ Some n → IsSound n
-  walk_sound above slot n w here = at_sound w.levels slot w.q n w.tree here
+    -- that payload, read another time
+    pub lookup_held : (place : Place P) (a : Arrives s root key place) (b : ℕ) (v : Bor P) → place.end ≡ Present b v → (u : P) → lookup a.node.children b ≡ Some (Payload u) → lookup (pairs_at s depth root) (key_number key) ≡ Some u
+    lookup_held place a b v is u found =
+        let d : IsEnd key a.node (Present b v) = subst (λ e. IsEnd key a.node e) is a.end in
+        let both : Some (Payload v.now) ≡ Some (Payload u) = sym d.2 ∙ found in
+        let same : v.now ≡ u = cc in
+        lookup_present place a b v is ∙ ap (λ x. Some x) same

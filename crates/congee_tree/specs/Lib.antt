@@ -3,3 +3,4 @@ pub mod Tree
 pub mod Way
 pub mod Writes
 pub mod Path
+pub mod Takes

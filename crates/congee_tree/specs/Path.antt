@@ -1,12 +1,7 @@
 -- Which nodes a point call reads.
-use Rattle.std.specs.Prelude.{ℕ, ◌+◌, Bool, true, false, ◌&&◌, List, [], ◌∷◌, ◌==◌, if◌then◌else◌}
+use Rattle.std.specs.Prelude.{ℕ, ◌+◌, List, [], ◌∷◌, if◌then◌else◌}
+use Rattle.congee_nodes.specs.Key.{begins}
 use Rattle.congee_nodes.specs.Table.{NodeInfo}
-
--- whether the key begins with these bytes
-abbrev pub begins : List ℕ → List ℕ → Bool
-begins [] key = true
-begins (b ∷ p) [] = false
-begins (b ∷ p) (c ∷ key) = b == c && begins p key
 
 -- how many of the nodes are on the key's path: those to which bytes lead that begin it
 abbrev pub on_path : List NodeInfo → List ℕ → ℕ

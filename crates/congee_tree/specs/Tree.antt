@@ -1,32 +1,10 @@
 -- What a contract sees of a tree.
-use Rattle.std.specs.Prelude.{◌≡◌, ℕ, zero, suc, List, refl}
+use Rattle.std.specs.Prelude.{ℕ, List, refl}
 use Rattle.std.specs.Coded.{Coded, code_by, coded×, coded_list, coded_ℕ}
+use Rattle.congee_nodes.specs.Codes.{form_code}
 use Rattle.congee_nodes.specs.Map.{Pairs}
 use Rattle.congee_nodes.specs.Table.{NodeInfo}
 use Rattle.congee_nodes.specs.declared.base_node.NodeType.{NodeType}
-use Rattle.congee_nodes.specs.declared.base_node.NodeType.TheVariants.{N4, N16, N48, N256}
-
--- a number for each form, which only the code below uses
-abbrev pub form_number : NodeType → ℕ
-form_number N4 = 0
-form_number N16 = 1
-form_number N48 = 2
-form_number N256 = 3
-
-abbrev pub numbered_form : ℕ → NodeType
-numbered_form zero = N4
-numbered_form (suc zero) = N16
-numbered_form (suc (suc zero)) = N48
-numbered_form (suc (suc (suc n))) = N256
-
-pub form_is_numbered : (f : NodeType) → numbered_form (form_number f) ≡ f
-form_is_numbered N4 = refl
-form_is_numbered N16 = refl
-form_is_numbered N48 = refl
-form_is_numbered N256 = refl
-
-abbrev pub form_code : Coded NodeType
-form_code = code_by ℕ coded_ℕ form_number numbered_form form_is_numbered
 
 abbrev pub node_info_code : Coded NodeInfo
 node_info_code =

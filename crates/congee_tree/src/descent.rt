@@ -8,30 +8,31 @@ ghost use Rattle.congee_tree.specs.Path.{on_path};
 ghost use Rattle.congee_tree.specs.Way.{depth, Meets, Arrives};
 
 use crate::reads::Reads;
-use congee_nodes::any_node::AnyNode;
-use congee_nodes::base_node::Node;
-use congee_nodes::child::Child;
+use congee_nodes::child::ChildRef;
+use congee_nodes::tree_node::TreeNode;
 use slab::Slab;
 use std::sync::ledger::Ledger;
 
 /// How the way of a key ends at a node.
-#[derive(Clone, Copy)]
-pub(crate) enum End {
+#[derive(Drop)]
+pub(crate) enum End<'a, P> {
     /// The node's prefix differs from the key at this place.
     Differs(usize),
     /// The node has nothing under the key's byte.
     Absent(u8),
-    /// The node has a payload under the key's byte.
-    Present(u8),
+    /// The node has this payload under the key's byte.
+    Present(u8, &'a P),
 }
 
 /// The node where the way of a key ends.
-#[derive(Clone, Copy)]
-pub(crate) struct Place {
+#[derive(Drop)]
+pub(crate) struct Place<'a, P> {
     pub(crate) slot: usize,
+    /// The slot of the node above it, if there is one.
+    pub(crate) parent: usize,
     /// How many nodes were read above it.
     pub(crate) above: usize,
-    pub(crate) end: End,
+    pub(crate) end: End<'a, P>,
 }
 
 // The first place at which the prefix and the key differ.
@@ -49,16 +50,16 @@ fn first_difference(prefix: &[u8], key: &[u8; 8]) -> Option<usize>
 }
 
 /// What a key meets at a node.
-#[derive(Clone, Copy)]
-enum Step {
+#[derive(Drop)]
+enum Step<'a, P> {
     /// The slot of the node below.
     Down(usize),
     /// The end of its way.
-    Stop(End),
+    Stop(End<'a, P>),
 }
 
 // What the key meets at this node.
-fn look<P: Drop>(node: &AnyNode<Child<P>>, key: &[u8; 8]) -> Step
+fn look<'a, P: Drop>(node: &'a TreeNode<P>, key: &[u8; 8]) -> Step<'a, P>
     ensures { Meets key.now node.now result }
 {
     let prefix = node.base().prefix();
@@ -69,23 +70,24 @@ fn look<P: Drop>(node: &AnyNode<Child<P>>, key: &[u8; 8]) -> Step
     let byte = key[level];
     match node.get_child(byte) {
         None => Step::Stop(End::Absent(byte)),
-        Some(Child::Payload(_)) => Step::Stop(End::Present(byte)),
-        Some(Child::Node(child)) => Step::Down(*child),
+        Some(ChildRef::Payload(payload)) => Step::Stop(End::Present(byte, payload)),
+        Some(ChildRef::Node(child)) => Step::Down(child),
     }
 }
 
 /// Goes down along the key as far as there are nodes. Reads each of them once, and copies and moves none.
-pub(crate) fn descend<P: Drop, L: Ledger>(
-    nodes: &Slab<AnyNode<Child<P>>>,
+pub(crate) fn descend<'a, P: Drop, L: Ledger>(
+    nodes: &'a Slab<TreeNode<P>>,
     root: usize,
     key: &[u8; 8],
     reads: &mut Reads<L>,
-) -> Place
+) -> Place<'a, P>
     requires { IsTree nodes.now.slots depth [] root }
     ensures arrives { Arrives nodes.now.slots root key.now result }
     ensures reads { reads.new ≡ reads.old + result.above + 1 }
 {
     let mut slot = root;
+    let mut parent = root;
     let mut above = 0;
     'down: loop {
         let Some(node) = nodes.get(slot) else {
@@ -93,8 +95,16 @@ pub(crate) fn descend<P: Drop, L: Ledger>(
         };
         reads.tick();
         match look(node, key) {
-            Step::Stop(end) => return Place { slot, above, end },
+            Step::Stop(end) => {
+                return Place {
+                    slot,
+                    parent,
+                    above,
+                    end,
+                };
+            }
             Step::Down(child) => {
+                parent = slot;
                 slot = child;
                 above += 1;
             }
@@ -104,7 +114,7 @@ pub(crate) fn descend<P: Drop, L: Ledger>(
 
 /// The payload at the key.
 pub(crate) fn find<'a, P: Drop, L: Ledger>(
-    nodes: &'a Slab<AnyNode<Child<P>>>,
+    nodes: &'a Slab<TreeNode<P>>,
     root: usize,
     key: &[u8; 8],
     reads: &mut Reads<L>,
@@ -114,17 +124,8 @@ pub(crate) fn find<'a, P: Drop, L: Ledger>(
     ensures reads { reads.new ≡ reads.old + on_path (nodes_at nodes.now.slots depth [] root) key.now }
     ensures few { on_path (nodes_at nodes.now.slots depth [] root) key.now ≤ 8 }
 {
-    let place = descend(nodes, root, key, reads);
-    match place.end {
-        End::Present(byte) => {
-            let Some(node) = nodes.get(place.slot) else {
-                unreachable!()
-            };
-            match node.get_child(byte) {
-                Some(Child::Payload(payload)) => Some(payload),
-                _ => unreachable!(),
-            }
-        }
+    match descend(nodes, root, key, reads).end {
+        End::Present(_, payload) => Some(payload),
         _ => None,
     }
 }

@@ -1,25 +1,24 @@
 //! An insertion into the table: at the end of the key's way, one node is changed, grown or put below a new one.
 //!
-//! All memory is taken before the first change.
+//! All memory is taken before the first change of what the tree stores, and before a closure is called.
 
-ghost use Rattle.std.specs.Prelude.{◌≡◌, ℕ, ◌+◌, ◌≤◌, [], IfOk, OnOk, OnErr, IsSome, Some};
-ghost use Rattle.slab.specs.Slab.{slab_len};
+ghost use Rattle.std.specs.Prelude.{◌≡◌, ℕ, ◌+◌, ◌≤◌, ◌<◌, [], IfOk, OnOk, OnErr, IsSome, Some, None, option_copied};
+ghost use Rattle.slab.specs.Slab.{slab_len, HasRoomFor};
+ghost use Rattle.congee_nodes.specs.Closure.{TakesOption, CalledAtOption};
 ghost use Rattle.congee_nodes.specs.Map.{lookup, put};
 ghost use Rattle.congee_nodes.specs.Key.{key_number};
 ghost use Rattle.congee_nodes.specs.Refusal.{NeedsNode};
 ghost use Rattle.congee_nodes.specs.Shape.{Reshapes};
 ghost use Rattle.congee_nodes.specs.Table.{node_at, pairs_at, nodes_at, IsTree};
 ghost use Rattle.congee_tree.specs.Path.{on_path};
-ghost use Rattle.congee_tree.specs.Way.{depth};
-ghost use Rattle.congee_tree.specs.Writes.{SameElsewhere, MakesRoom, IsFullAt, RefusesAt, IsReadyFor, WritesChild, HasChildUnder, WasChild, IsLeafOf, IsOpen, Adds, IsParted, Splits};
+ghost use Rattle.congee_tree.specs.Way.{depth, HasRoot};
+ghost use Rattle.congee_tree.specs.Writes.{SameElsewhere, MakesRoom, IsFullAt, RefusesAt, IsReadyFor, WritesChild, HasChildUnder, WasChild, IsLeafBelow, empty_leaf, HasRoomUnder, PutsPair, AreParts, IsParted, Splits};
 
-use crate::descent::{End, descend};
+use crate::descent::{End, Place, descend};
 use crate::reads::Reads;
-use congee_nodes::any_node::AnyNode;
-use congee_nodes::base_node::Node;
 use congee_nodes::child::Child;
 use congee_nodes::error::OOMError;
-use congee_nodes::node_4::Node4;
+use congee_nodes::tree_node::TreeNode;
 use slab::Slab;
 use std::alloc::Global;
 use std::mem;
@@ -27,7 +26,7 @@ use std::sync::ledger::Ledger;
 
 // Grows the node in a slot where it is full.
 fn make_room<P: Drop>(
-    nodes: &mut Slab<AnyNode<Child<P>>>,
+    nodes: &mut Slab<TreeNode<P>>,
     alloc: Global,
     slot: usize,
 ) -> Result<(), OOMError>
@@ -50,8 +49,8 @@ fn make_room<P: Drop>(
 }
 
 // Puts a child into the node in a slot, which has room.
-fn put_child<P: Drop>(nodes: &mut Slab<AnyNode<Child<P>>>, slot: usize, byte: u8, child: Child<P>)
-    requires { IsReadyFor nodes.old.slots slot byte }
+fn put_child<P: Drop>(nodes: &mut Slab<TreeNode<P>>, slot: usize, byte: u8, child: Child<P>)
+    requires { IsReadyFor nodes.old.slots slot byte child }
     ensures keeps { SameElsewhere slot nodes.old.slots nodes.new.slots }
     ensures written { WritesChild nodes.old.slots nodes.new.slots slot byte child }
 {
@@ -61,14 +60,14 @@ fn put_child<P: Drop>(nodes: &mut Slab<AnyNode<Child<P>>>, slot: usize, byte: u8
     node.insert(byte, child);
 }
 
-// Puts another child under a byte of the node in a slot.
-fn change_child<P: Drop>(
-    nodes: &mut Slab<AnyNode<Child<P>>>,
+/// Puts another child under a byte of the node in a slot.
+pub(crate) fn change_child<P: Drop>(
+    nodes: &mut Slab<TreeNode<P>>,
     slot: usize,
     byte: u8,
     child: Child<P>,
 ) -> Child<P>
-    requires { HasChildUnder nodes.old.slots slot byte }
+    requires { HasChildUnder nodes.old.slots slot byte child }
     ensures keeps { SameElsewhere slot nodes.old.slots nodes.new.slots }
     ensures written { WritesChild nodes.old.slots nodes.new.slots slot byte child }
     ensures before { WasChild nodes.old.slots slot byte result }
@@ -80,11 +79,7 @@ fn change_child<P: Drop>(
 }
 
 // Puts another node into a slot.
-fn swap_node<P: Drop>(
-    nodes: &mut Slab<AnyNode<Child<P>>>,
-    slot: usize,
-    other: AnyNode<Child<P>>,
-) -> AnyNode<Child<P>>
+fn swap_node<P: Drop>(nodes: &mut Slab<TreeNode<P>>, slot: usize, other: TreeNode<P>) -> TreeNode<P>
     requires { IsSome (node_at nodes.old.slots slot) }
     ensures keeps { SameElsewhere slot nodes.old.slots nodes.new.slots }
     ensures before { node_at nodes.old.slots slot ≡ Some result }
@@ -99,89 +94,135 @@ fn swap_node<P: Drop>(
     mem::replace(node, other)
 }
 
-// A leaf with this pair alone.
-fn make_leaf<P: Drop>(
-    alloc: Global,
-    key: &[u8; 8],
-    payload: P,
-) -> Result<AnyNode<Child<P>>, OOMError>
-    ensures { IfOk result (λ leaf. IsLeafOf leaf key.now payload) }
+// A leaf for the key, without payloads.
+fn leaf_for<P: Drop>(alloc: Global, key: &[u8; 8]) -> Result<TreeNode<P>, OOMError>
+    ensures { IfOk result (λ leaf. leaf ≡ empty_leaf key.now) }
 {
-    let mut leaf = Node4::new(alloc, &key[..7])?;
-    leaf.insert(key[7], Child::Payload(payload));
-    Ok(AnyNode::N4(leaf))
+    TreeNode::leaf(alloc, &key[..7])
 }
 
-// Adds a pair below the node in a slot, which has nothing under the key's byte.
-fn add<P: Drop>(
-    nodes: &mut Slab<AnyNode<Child<P>>>,
+// Takes all memory for one pair more below the node in a slot: room in that node and, unless it is the pair's leaf, an
+// empty leaf, for which a slot is reserved.
+fn ready_to_add<P: Drop>(
+    nodes: &mut Slab<TreeNode<P>>,
     alloc: Global,
     slot: usize,
     key: &[u8; 8],
-    byte: u8,
-    payload: P,
-) -> Result<(), OOMError>
-    requires { IsOpen nodes.old.slots slot key.now byte }
-    ensures ok { OnOk result (Adds nodes.old.slots nodes.new.slots slot key.now byte payload) }
+) -> Result<Option<TreeNode<P>>, OOMError>
+    requires { IsSome (node_at nodes.old.slots slot) }
+    ensures keeps { SameElsewhere slot nodes.old.slots nodes.new.slots }
+    ensures room { OnOk result (MakesRoom nodes.old.slots nodes.new.slots slot) }
+    ensures leaf { IfOk result (λ leaf. IsLeafBelow nodes.new.slots slot key.now leaf) }
+    ensures reserved { IfOk result (λ leaf. IsSome leaf → HasRoomFor nodes.new 1) }
     ensures err { OnErr result (nodes.new.slots ≡ nodes.old.slots) }
     ensures refused { OnErr result (RefusesAt nodes.old.slots slot) }
 {
     let Some(node) = nodes.get(slot) else {
         unreachable!()
     };
-    if node.base().prefix().len() == 7 {
+    if node.is_leaf() {
         make_room(nodes, alloc, slot)?;
-        put_child(nodes, slot, byte, Child::Payload(payload));
-        return Ok(());
+        return Ok(None);
     }
     nodes.reserve(1)?;
-    let leaf = make_leaf(alloc, key, payload)?;
+    let leaf = leaf_for(alloc, key)?;
     make_room(nodes, alloc, slot)?;
-    let child = nodes.insert_reserved(leaf);
-    put_child(nodes, slot, byte, Child::Node(child));
-    Ok(())
+    Ok(Some(leaf))
 }
 
-// Puts a node above the one in a slot, where the key leaves its prefix.
-fn split<P: Drop>(
-    nodes: &mut Slab<AnyNode<Child<P>>>,
+// Adds a pair below the node in a slot, which has nothing under the key's byte. Takes no memory.
+fn add<P: Drop>(
+    nodes: &mut Slab<TreeNode<P>>,
+    slot: usize,
+    key: &[u8; 8],
+    byte: u8,
+    leaf: Option<TreeNode<P>>,
+    payload: P,
+)
+    requires room { HasRoomUnder nodes.old.slots slot byte }
+    requires leaf { IsLeafBelow nodes.old.slots slot key.now leaf }
+    requires reserved { IsSome leaf → HasRoomFor nodes.old 1 }
+    ensures { PutsPair nodes.old.slots nodes.new.slots slot key.now byte payload }
+{
+    match leaf {
+        None => put_child(nodes, slot, byte, Child::Payload(payload)),
+        Some(mut leaf) => {
+            leaf.insert(key[7], Child::Payload(payload));
+            let child = nodes.insert_reserved(leaf);
+            put_child(nodes, slot, byte, Child::Node(child));
+        }
+    }
+}
+
+/// The two nodes that a split makes: the one above, and the leaf of the new key.
+#[derive(Drop)]
+struct Parts<P> {
+    upper: TreeNode<P>,
+    leaf: TreeNode<P>,
+}
+
+// Takes all memory for a split at a byte of the key: the two nodes, without children, and their slots.
+fn ready_to_split<P: Drop>(
+    nodes: &mut Slab<TreeNode<P>>,
     alloc: Global,
+    key: &[u8; 8],
+    at: usize,
+) -> Result<Parts<P>, OOMError>
+    requires { at < 7 }
+    ensures slots { nodes.new.slots ≡ nodes.old.slots }
+    ensures parts { IfOk result (λ parts. AreParts parts key.now at) }
+    ensures reserved { OnOk result (HasRoomFor nodes.new 2) }
+{
+    nodes.reserve(2)?;
+    let upper = TreeNode::inner(alloc, &key[..at])?;
+    let leaf = leaf_for(alloc, key)?;
+    Ok(Parts { upper, leaf })
+}
+
+// Puts a node above the one in a slot, where the key leaves its prefix. Takes no memory.
+fn split<P: Drop>(
+    nodes: &mut Slab<TreeNode<P>>,
     slot: usize,
     key: &[u8; 8],
     at: usize,
+    parts: Parts<P>,
     payload: P,
-) -> Result<(), OOMError>
-    requires { IsParted nodes.old.slots slot key.now at }
-    ensures ok { OnOk result (Splits nodes.old.slots nodes.new.slots slot key.now at payload) }
-    ensures err { OnErr result (nodes.new.slots ≡ nodes.old.slots) }
+)
+    requires parted { IsParted nodes.old.slots slot key.now at }
+    requires parts { AreParts parts key.now at }
+    requires reserved { HasRoomFor nodes.old 2 }
+    ensures { Splits nodes.old.slots nodes.new.slots slot key.now at payload }
 {
     let Some(node) = nodes.get(slot) else {
         unreachable!()
     };
     let byte = node.base().prefix()[at];
-    nodes.reserve(2)?;
-    let leaf = make_leaf(alloc, key, payload)?;
-    let mut upper = Node4::new(alloc, &key[..at])?;
+    let Parts {
+        mut upper,
+        mut leaf,
+    } = parts;
+    leaf.insert(key[7], Child::Payload(payload));
     let leaf_slot = nodes.insert_reserved(leaf);
     let lower = nodes.vacant_key();
     upper.insert(byte, Child::Node(lower));
     upper.insert(key[at], Child::Node(leaf_slot));
-    let old = swap_node(nodes, slot, AnyNode::N4(upper));
+    let old = swap_node(nodes, slot, upper);
     nodes.insert_reserved(old);
-    Ok(())
 }
 
 /// Sets the payload at the key, and answers the one that stood there.
 pub(crate) fn insert<P: Drop, L: Ledger>(
-    nodes: &mut Slab<AnyNode<Child<P>>>,
+    nodes: &mut Slab<TreeNode<P>>,
     alloc: Global,
     root: usize,
     key: &[u8; 8],
     payload: P,
     reads: &mut Reads<L>,
 ) -> Result<Option<P>, OOMError>
-    requires { IsTree nodes.old.slots depth [] root }
+    requires tree { IsTree nodes.old.slots depth [] root }
+    requires root { HasRoot nodes.old.slots root }
     ensures tree { IsTree nodes.new.slots depth [] root }
+    ensures root { HasRoot nodes.new.slots root }
     ensures before { IfOk result (λ before. before ≡ lookup (pairs_at nodes.old.slots depth root) (key_number key.now)) }
     ensures ok { OnOk result (pairs_at nodes.new.slots depth root ≡ put (pairs_at nodes.old.slots depth root) (key_number key.now) payload) }
     ensures err { OnErr result (nodes.new.slots ≡ nodes.old.slots) }
@@ -190,18 +231,82 @@ pub(crate) fn insert<P: Drop, L: Ledger>(
     ensures few { on_path (nodes_at nodes.old.slots depth [] root) key.now ≤ 8 }
     ensures refused { OnErr result (NeedsNode (pairs_at nodes.old.slots depth root) (key_number key.now)) }
 {
-    let place = descend(nodes, root, key, reads);
-    match place.end {
-        End::Present(byte) => match change_child(nodes, place.slot, byte, Child::Payload(payload)) {
+    let Place { slot, end, .. } = descend(nodes, root, key, reads);
+    match end {
+        End::Present(byte, _) => match change_child(nodes, slot, byte, Child::Payload(payload)) {
             Child::Payload(before) => Ok(Some(before)),
             Child::Node(_) => unreachable!(),
         },
         End::Absent(byte) => {
-            add(nodes, alloc, place.slot, key, byte, payload)?;
+            let leaf = ready_to_add(nodes, alloc, slot, key)?;
+            add(nodes, slot, key, byte, leaf, payload);
             Ok(None)
         }
         End::Differs(at) => {
-            split(nodes, alloc, place.slot, key, at, payload)?;
+            let parts = ready_to_split(nodes, alloc, key, at)?;
+            split(nodes, slot, key, at, parts, payload);
+            Ok(None)
+        }
+    }
+}
+
+// A payload as what stands at a key.
+fn shown<P>(payload: &P) -> Option<&P>
+    ensures { option_copied result ≡ Some payload.now }
+{
+    Some(payload)
+}
+
+// Nothing as what stands at a key.
+fn nothing<P>(_nodes: &Slab<TreeNode<P>>) -> Option<&P>
+    ensures { option_copied result ≡ None }
+{
+    None
+}
+
+/// Sets what the closure makes of the payload at the key, or of its absence, and answers the one that stood there. The
+/// closure is called once all memory is there.
+pub(crate) fn compute_or_insert<P: Drop, F: FnMut(Option<&P>) -> P, L: Ledger>(
+    nodes: &mut Slab<TreeNode<P>>,
+    alloc: Global,
+    root: usize,
+    key: &[u8; 8],
+    f: &mut F,
+    reads: &mut Reads<L>,
+) -> Result<Option<P>, OOMError>
+    requires tree { IsTree nodes.old.slots depth [] root }
+    requires root { HasRoot nodes.old.slots root }
+    requires call { TakesOption F.FnMut f.old (lookup (pairs_at nodes.old.slots depth root) (key_number key.now)) }
+    ensures tree { IsTree nodes.new.slots depth [] root }
+    ensures root { HasRoot nodes.new.slots root }
+    ensures before { IfOk result (λ before. before ≡ lookup (pairs_at nodes.old.slots depth root) (key_number key.now)) }
+    ensures ok { OnOk result ((answer : P) × CalledAtOption F.FnMut f.old (lookup (pairs_at nodes.old.slots depth root) (key_number key.now)) answer f.new × (pairs_at nodes.new.slots depth root ≡ put (pairs_at nodes.old.slots depth root) (key_number key.now) answer)) }
+    ensures err { OnErr result (nodes.new.slots ≡ nodes.old.slots) }
+    ensures not_called { OnErr result (f.new ≡ f.old) }
+    ensures shape { IfOk result (λ before. Reshapes before (nodes_at nodes.old.slots depth [] root) key.now (nodes_at nodes.new.slots depth [] root)) }
+    ensures reads { reads.new ≡ reads.old + on_path (nodes_at nodes.old.slots depth [] root) key.now }
+    ensures few { on_path (nodes_at nodes.old.slots depth [] root) key.now ≤ 8 }
+    ensures refused { OnErr result (NeedsNode (pairs_at nodes.old.slots depth root) (key_number key.now)) }
+{
+    let Place { slot, end, .. } = descend(nodes, root, key, reads);
+    match end {
+        End::Present(byte, standing) => {
+            let answer = f(shown(standing));
+            match change_child(nodes, slot, byte, Child::Payload(answer)) {
+                Child::Payload(old) => Ok(Some(old)),
+                Child::Node(_) => unreachable!(),
+            }
+        }
+        End::Absent(byte) => {
+            let leaf = ready_to_add(nodes, alloc, slot, key)?;
+            let answer = f(nothing(nodes));
+            add(nodes, slot, key, byte, leaf, answer);
+            Ok(None)
+        }
+        End::Differs(at) => {
+            let parts = ready_to_split(nodes, alloc, key, at)?;
+            let answer = f(nothing(nodes));
+            split(nodes, slot, key, at, parts, answer);
             Ok(None)
         }
     }

@@ -3,7 +3,7 @@
 //! Its contract is the definition of the ordered map, call for call. So tests may compare any other body with it.
 
 ghost use Rattle.std.specs.Prelude.{◌≡◌, ℕ, [], length, IfOk, IfErr, OnOk, OnErr, option_copied};
-ghost use Rattle.congee_nodes.specs.Map.{lookup, put, IsMap};
+ghost use Rattle.congee_nodes.specs.Map.{lookup, put, without, IsMap};
 ghost use Rattle.congee_nodes.specs.Refusal.{IsNew};
 ghost use Rattle.congee_tree.specs.Place.{IsAt, IsGapFor};
 
@@ -13,7 +13,7 @@ use std::marker::Model;
 use std::mem;
 
 /// A map from numbers to values: 16 bytes a pair at a `u64`. A look-up takes time in the logarithm of the number of
-/// pairs, an insertion of a new key in their number.
+/// pairs, an insertion of a new key and a removal in their number.
 #[derive(Drop)]
 pub struct SortedPairs<P> {
     pairs: Vec<(u64, P)>,
@@ -69,6 +69,17 @@ impl<P: Drop> SortedPairs<P> {
                 self.pairs.insert(at, (key, value))?;
                 Ok(None)
             }
+        }
+    }
+
+    /// Takes out the pair at the key, and answers its value. Takes no memory.
+    pub fn remove(&mut self, key: u64) -> Option<P>
+        ensures before { result ≡ lookup self.old key }
+        ensures pairs { self.new ≡ without self.old key }
+    {
+        match search(&self.pairs, key) {
+            Ok(at) => Some(self.pairs.remove(at).1),
+            Err(_) => None,
         }
     }
 }

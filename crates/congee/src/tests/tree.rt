@@ -30,7 +30,7 @@ fn key_of(kind: Kind, i: u64) -> u64 {
 }
 
 // A number that looks like no neighbour's.
-fn scattered(i: u64) -> u64 {
+pub(super) fn scattered(i: u64) -> u64 {
     let x = i.wrapping_add(1).wrapping_mul(0x9e37_79b9_7f4a_7c15);
     let y = (x ^ x.wrapping_shr(30)).wrapping_mul(0xbf58_476d_1ce4_e5b9);
     y ^ y.wrapping_shr(27)

@@ -1,14 +1,60 @@
-use Rattle.congee.proofs.Steps.{get_step, insert_step, refused_step}
+use Rattle.congee.specs.Calls.{by_numbers}
+use Rattle.congee.proofs.Steps.{get_step, insert_step, insert_refused, remove_step, exchange_step, compute_if_present_step, compute_or_insert_step, compute_or_insert_refused, is_empty_step}
 use Rattle.congee.proofs.calls.make_call.Goals as goal
 
 pub returns-in-Get : goal.returns-in-Get
 returns-in-Get g c =
-    rw c.in-Get.is (get_step g.V.Word.number g.V.Word.of_number c.args.map.now.pairs c.args.map.now.pairs c.in-Get.key c.get.result c.get.ensures)
+    let by = by_numbers g.K.Word.number g.K.Word.of_number g.V.Word.number g.V.Word.of_number in
+    rw c.in-Get.is (get_step by c.args.map.now.pairs c.args.map.now.pairs c.in-Get.key c.get.result c.get.ensures)
 
 pub returns-in-Ok : goal.returns-in-Ok
 returns-in-Ok g c =
-    rw c.in-Insert.is (insert_step g.V.Word.number g.V.Word.of_number c.args.map.now.pairs c.insert.new.self.pairs c.in-Insert.key c.in-Insert.val c.in-Ok.before c.in-Ok.ensures.before c.in-Ok.ensures.ok)
+    let by = by_numbers g.K.Word.number g.K.Word.of_number g.V.Word.number g.V.Word.of_number in
+    rw c.in-Insert.is (insert_step by c.args.map.now.pairs c.insert.new.self.pairs c.in-Insert.key c.in-Insert.value c.in-Ok.before c.in-Ok.ensures.before c.in-Ok.ensures.ok)
 
 pub returns-in-Err : goal.returns-in-Err
 returns-in-Err g c =
-    rw c.in-Insert.is (refused_step g.V.Word.number g.V.Word.of_number c.args.map.now.pairs c.insert.new.self.pairs c.in-Insert.key c.in-Insert.val c.in-Err.ensures.refused c.in-Err.ensures.err)
+    let by = by_numbers g.K.Word.number g.K.Word.of_number g.V.Word.number g.V.Word.of_number in
+    rw c.in-Insert.is (insert_refused by c.args.map.now.pairs c.insert.new.self.pairs c.in-Insert.key c.in-Insert.value c.in-Err.ensures.refused c.in-Err.ensures.err)
+
+pub returns-in-Remove : goal.returns-in-Remove
+returns-in-Remove g c =
+    let by = by_numbers g.K.Word.number g.K.Word.of_number g.V.Word.number g.V.Word.of_number in
+    rw c.in-Remove.is (remove_step by c.args.map.now.pairs c.remove.new.self.pairs c.in-Remove.key c.remove.result c.remove.ensures.before c.remove.ensures.pairs)
+
+pub returns-in-CompareExchange : goal.returns-in-CompareExchange
+returns-in-CompareExchange g c =
+    let by = by_numbers g.K.Word.number g.K.Word.of_number g.V.Word.number g.V.Word.of_number in
+    rw c.in-CompareExchange.is (
+    exchange_step by c.args.map.now.pairs c.compare_exchange.new.self.pairs c.in-CompareExchange.key c.in-CompareExchange.old c.in-CompareExchange.new c.compare_exchange.result
+    c.compare_exchange.ensures.absent c.compare_exchange.ensures.same c.compare_exchange.ensures.other
+    )
+
+pub returns-in-ComputeIfPresent : goal.returns-in-ComputeIfPresent
+returns-in-ComputeIfPresent g c =
+    let by = by_numbers g.K.Word.number g.K.Word.of_number g.V.Word.number g.V.Word.of_number in
+    rw c.in-ComputeIfPresent.is (
+    compute_if_present_step by c.args.map.now.pairs c.change.new.map.pairs c.in-ComputeIfPresent.key c.in-ComputeIfPresent.answer c.change.result
+    c.change.ensures.absent c.change.ensures.present
+    )
+
+pub returns-in-Ok-set : goal.returns-in-Ok-set
+returns-in-Ok-set g c =
+    let by = by_numbers g.K.Word.number g.K.Word.of_number g.V.Word.number g.V.Word.of_number in
+    rw c.in-ComputeOrInsert.is (
+    compute_or_insert_step by c.args.map.now.pairs c.set.new.map.pairs c.in-ComputeOrInsert.key c.in-ComputeOrInsert.answer c.in-Ok-set.before
+    c.in-Ok-set.ensures.before c.in-Ok-set.ensures.ok
+    )
+
+pub returns-in-Err-set : goal.returns-in-Err-set
+returns-in-Err-set g c =
+    let by = by_numbers g.K.Word.number g.K.Word.of_number g.V.Word.number g.V.Word.of_number in
+    rw c.in-ComputeOrInsert.is (
+    compute_or_insert_refused by c.args.map.now.pairs c.set.new.map.pairs c.in-ComputeOrInsert.key c.in-ComputeOrInsert.answer
+    c.in-Err-set.ensures.refused c.in-Err-set.ensures.err
+    )
+
+pub returns-in-IsEmpty : goal.returns-in-IsEmpty
+returns-in-IsEmpty g c =
+    let by = by_numbers g.K.Word.number g.K.Word.of_number g.V.Word.number g.V.Word.of_number in
+    rw c.in-IsEmpty.is (is_empty_step by c.args.map.now.pairs c.is_empty.result c.is_empty.ensures)

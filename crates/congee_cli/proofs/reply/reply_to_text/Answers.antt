@@ -8,6 +8,6 @@ returns-in-None c = record { done = None; answered = (c.in-None.ensures.bad, ref
 pub returns-in-Some : goal.returns-in-Some
 returns-in-Some c = record {
   done = Some (deed_of c.in-Some.command c.execute.result);
-  answered = record { command = c.in-Some.command; says = c.in-Some.ensures.said; asks = refl; answers = c.execute.ensures.text };
+  answered = record { command = c.in-Some.command; says = c.in-Some.ensures.said; asks = refl; closure = c.execute.ensures.closure; answers = c.execute.ensures.text };
   legal = c.execute.ensures.legal;
 }

@@ -5,7 +5,7 @@ use Rattle.congee_tree.proofs.descent.descend.Given as goal
 abbrev pub invariant-down : goal.invariant-down
 invariant-down g l =
     record {
-      walk : Walk l.nodes.slots l.root l.key l.above l.slot;
+      walk : Walk l.nodes.slots l.root l.key l.above l.slot l.parent;
       counted : l.reads ≡ l.initial.reads + l.above;
     }
 

@@ -1,103 +1,122 @@
+use Rattle.std.proofs.Common.{arith}
 use Rattle.std.proofs.lemmas.Result.{err_from_is_err_and}
-use Rattle.std.proofs.Common.{arith, sym}
 use Rattle.congee_nodes.proofs.KeyLaws.{AreBytes-from_items}
-use Rattle.congee_tree.specs.declared.descent.End.TheVariants.{Differs, Absent}
-use Rattle.congee_tree.proofs.WayLaws.{lookup_end, lookup_present}
-use Rattle.congee_tree.proofs.InsertLaws.{add_whole, change_whole, split_whole, ready_change, ready_add, ready_split}
-use Rattle.congee_tree.proofs.RefusalLaws.{needs_node-absent, needs_node-differs}
+use Rattle.congee_tree.proofs.InsertLaws.{ready_change}
 use Rattle.congee_tree.proofs.PathLaws.{path_length, path_short}
-use Rattle.congee_tree.proofs.ShapeLaws.{change_shape, add_shape, split_shape}
+use Rattle.congee_tree.proofs.RefusalLaws.{needs_node-absent, needs_node-differs}
+use Rattle.congee_tree.proofs.WholeLaws.{change_inserts, add_inserts, split_inserts, is_there, has_room, is_parted, parts_high}
 use Rattle.congee_tree.proofs.insertion.insert.Goals as goal
 
 pub change_child-requires : goal.change_child-requires
-change_child-requires g c = ready_change _ _ _ _ c.descend-place.ensures.arrives _ c.in-Present.is
+change_child-requires g c = ready_change _ _ _ _ c.descend-slot.ensures.arrives _ _ c.args.payload c.in-Present.is
+
+pub ready_to_add-requires : goal.ready_to_add-requires
+ready_to_add-requires g c = is_there c.args.nodes.now.slots c.args.root c.args.key.now _ c.descend-slot.ensures.arrives
 
 pub add-requires : goal.add-requires
-add-requires g c = ready_add _ _ _ _ c.descend-place.ensures.arrives _ c.in-Absent.is
+add-requires g c =
+    let e = c.in_ok-leaf-in-Absent.ensures in
+    record { room = has_room c.args.nodes.now.slots c.args.root c.args.key.now _ c.descend-slot.ensures.arrives _ _ c.in-Absent.is e.room; leaf = e.leaf; reserved = e.reserved }
+
+pub ready_to_split-requires : goal.ready_to_split-requires
+ready_to_split-requires g c = parts_high c.args.nodes.now.slots c.args.root c.args.key.now _ c.descend-slot.ensures.arrives _ c.in-Differs.is
 
 pub split-requires : goal.split-requires
-split-requires g c = ready_split _ _ _ _ c.descend-place.ensures.arrives _ c.in-Differs.is
+split-requires g c =
+    let e = c.in_ok-parts-in-Differs.ensures in
+    record { parted = is_parted c.args.nodes.now.slots c.args.root c.args.key.now _ c.descend-slot.ensures.arrives _ _ c.in-Differs.is e.slots; parts = e.parts; reserved = e.reserved }
 
-pub returns-in_err-add-in-Absent-clause-refused : goal.returns-in_err-add-in-Absent-clause-refused
-returns-in_err-add-in-Absent-clause-refused g c =
-    let p = err_from_is_err_and c.from_residual.result c.from_residual.ensures.1 in rw p.1 (needs_node-absent _ _ _ (AreBytes-from_items _ (λ k l. c.fits-key k)) c.told-key _ c.descend-place.ensures.arrives _ c.in-Absent.is c.in_err-add-in-Absent.ensures.refused)
+pub returns-in-Payload : goal.returns-in-Payload
+returns-in-Payload g c =
+    let bytes = (AreBytes-from_items _ (λ k l. c.fits-key k)) in
+    let a = c.descend-slot.ensures.arrives in
+    let e = c.change_child.ensures in
+    let x = change_inserts c.args.nodes.now.slots c.args.root c.args.key.now bytes c.told-key c.requires.root _ a c.change_child.new.nodes.slots c.args.payload _ _ c.in-Present.is e.keeps e.written c.in-Payload.before c.in-Payload.ensures.before in
+    let l = path_length _ _ _ bytes c.told-key _ a in
+    record {
+      tree = x.tree;
+      root = x.root_stays;
+      before = x.was;
+      ok = x.pairs;
+      err = tt;
+      shape = x.shape;
+      reads = omega (arith, l, c.descend-slot.ensures.reads);
+      few = path_short _ _ _ bytes c.told-key _ a;
+      refused = tt;
+    }
 
-pub returns-in_err-split-in-Differs-clause-refused : goal.returns-in_err-split-in-Differs-clause-refused
-returns-in_err-split-in-Differs-clause-refused g c =
-    let p = err_from_is_err_and c.from_residual-in_err-split-in-Differs.result c.from_residual-in_err-split-in-Differs.ensures.1 in rw p.1 (needs_node-differs _ _ _ (AreBytes-from_items _ (λ k l. c.fits-key k)) c.told-key _ c.descend-place.ensures.arrives _ c.in-Differs.is)
+pub returns-in_ok-leaf-in-Absent : goal.returns-in_ok-leaf-in-Absent
+returns-in_ok-leaf-in-Absent g c =
+    let bytes = (AreBytes-from_items _ (λ k l. c.fits-key k)) in
+    let a = c.descend-slot.ensures.arrives in
+    let e = c.in_ok-leaf-in-Absent.ensures in
+    let x = add_inserts c.args.nodes.now.slots c.args.root c.args.key.now bytes c.told-key c.requires.root _ a c.ready_to_add.new.nodes.slots c.add.new.nodes.slots c.args.payload _ c.in-Absent.is e.keeps e.room c.add.ensures in
+    let l = path_length _ _ _ bytes c.told-key _ a in
+    record {
+      tree = x.tree;
+      root = x.root_stays;
+      before = x.was;
+      ok = x.pairs;
+      err = tt;
+      shape = x.shape;
+      reads = omega (arith, l, c.descend-slot.ensures.reads);
+      few = path_short _ _ _ bytes c.told-key _ a;
+      refused = tt;
+    }
 
-pub returns-in-Payload-clause-tree : goal.returns-in-Payload-clause-tree
-returns-in-Payload-clause-tree g c =
-    let x = change_whole _ _ _ _ (AreBytes-from_items _ (λ k l. c.fits-key k)) c.told-key c.args.payload _ c.descend-place.ensures.arrives _ c.in-Present.is c.change_child.ensures.keeps c.change_child.ensures.written in x.0
+pub returns-in_ok-parts-in-Differs : goal.returns-in_ok-parts-in-Differs
+returns-in_ok-parts-in-Differs g c =
+    let bytes = (AreBytes-from_items _ (λ k l. c.fits-key k)) in
+    let a = c.descend-slot.ensures.arrives in
+    let e = c.in_ok-parts-in-Differs.ensures in
+    let x = split_inserts c.args.nodes.now.slots c.args.root c.args.key.now bytes c.told-key c.requires.root _ a c.ready_to_split.new.nodes.slots c.split.new.nodes.slots c.args.payload _ c.in-Differs.is e.slots c.split.ensures in
+    let l = path_length _ _ _ bytes c.told-key _ a in
+    record {
+      tree = x.tree;
+      root = x.root_stays;
+      before = x.was;
+      ok = x.pairs;
+      err = tt;
+      shape = x.shape;
+      reads = omega (arith, l, c.descend-slot.ensures.reads);
+      few = path_short _ _ _ bytes c.told-key _ a;
+      refused = tt;
+    }
 
-pub returns-in-Payload-clause-before : goal.returns-in-Payload-clause-before
-returns-in-Payload-clause-before g c =
-    let a = c.descend-place.ensures.arrives in
-    sym (lookup_present _ _ _ (AreBytes-from_items _ (λ k l. c.fits-key k)) c.told-key _ a c.in-Present.byte c.in-Present.is c.in-Payload.before (c.in-Payload.ensures.before a.node a.here))
+pub returns-in_err-leaf-in-Absent : goal.returns-in_err-leaf-in-Absent
+returns-in_err-leaf-in-Absent g c =
+    let bytes = (AreBytes-from_items _ (λ k l. c.fits-key k)) in
+    let a = c.descend-slot.ensures.arrives in
+    let l = path_length _ _ _ bytes c.told-key _ a in
+    let same = c.in_err-leaf-in-Absent.ensures.err in
+    let p = err_from_is_err_and c.from_residual.result c.from_residual.ensures.1 in
+    record {
+      tree = rw same c.requires.tree;
+      root = rw same c.requires.root;
+      before = rw p.1 tt;
+      ok = rw p.1 tt;
+      err = rw p.1 same;
+      shape = rw p.1 tt;
+      reads = omega (arith, l, c.descend-slot.ensures.reads);
+      few = path_short _ _ _ bytes c.told-key _ a;
+      refused = rw p.1 (needs_node-absent _ _ _ bytes c.told-key _ a _ c.in-Absent.is c.in_err-leaf-in-Absent.ensures.refused);
+    }
 
-pub returns-in-Payload-clause-ok : goal.returns-in-Payload-clause-ok
-returns-in-Payload-clause-ok g c =
-    let x = change_whole _ _ _ _ (AreBytes-from_items _ (λ k l. c.fits-key k)) c.told-key c.args.payload _ c.descend-place.ensures.arrives _ c.in-Present.is c.change_child.ensures.keeps c.change_child.ensures.written in x.1
-
-pub returns-in_ok-add-in-Absent-clause-tree : goal.returns-in_ok-add-in-Absent-clause-tree
-returns-in_ok-add-in-Absent-clause-tree g c =
-    let x = add_whole _ _ _ _ (AreBytes-from_items _ (λ k l. c.fits-key k)) c.told-key c.args.payload _ c.descend-place.ensures.arrives _ c.in-Absent.is c.in_ok-add-in-Absent.ensures.ok in x.0
-
-pub returns-in_ok-add-in-Absent-clause-before : goal.returns-in_ok-add-in-Absent-clause-before
-returns-in_ok-add-in-Absent-clause-before g c =
-    sym (lookup_end _ _ _ (AreBytes-from_items _ (λ k l. c.fits-key k)) c.told-key _ c.descend-place.ensures.arrives (Absent c.in-Absent.byte) (sym c.in-Absent.is) (λ b e. absurd (cc)))
-
-pub returns-in_ok-add-in-Absent-clause-ok : goal.returns-in_ok-add-in-Absent-clause-ok
-returns-in_ok-add-in-Absent-clause-ok g c =
-    let x = add_whole _ _ _ _ (AreBytes-from_items _ (λ k l. c.fits-key k)) c.told-key c.args.payload _ c.descend-place.ensures.arrives _ c.in-Absent.is c.in_ok-add-in-Absent.ensures.ok in x.1
-
-pub returns-in_ok-split-in-Differs-clause-tree : goal.returns-in_ok-split-in-Differs-clause-tree
-returns-in_ok-split-in-Differs-clause-tree g c =
-    let x = split_whole _ _ _ _ (AreBytes-from_items _ (λ k l. c.fits-key k)) c.told-key c.args.payload _ c.descend-place.ensures.arrives _ c.in-Differs.is c.in_ok-split-in-Differs.ensures.ok in x.0
-
-pub returns-in_ok-split-in-Differs-clause-before : goal.returns-in_ok-split-in-Differs-clause-before
-returns-in_ok-split-in-Differs-clause-before g c =
-    sym (lookup_end _ _ _ (AreBytes-from_items _ (λ k l. c.fits-key k)) c.told-key _ c.descend-place.ensures.arrives (Differs c.in-Differs.at) (sym c.in-Differs.is) (λ b e. absurd (cc)))
-
-pub returns-in_ok-split-in-Differs-clause-ok : goal.returns-in_ok-split-in-Differs-clause-ok
-returns-in_ok-split-in-Differs-clause-ok g c =
-    let x = split_whole _ _ _ _ (AreBytes-from_items _ (λ k l. c.fits-key k)) c.told-key c.args.payload _ c.descend-place.ensures.arrives _ c.in-Differs.is c.in_ok-split-in-Differs.ensures.ok in x.1
-
-pub returns-in_err-add-in-Absent-clause-reads : goal.returns-in_err-add-in-Absent-clause-reads
-returns-in_err-add-in-Absent-clause-reads g c = let x = path_length _ _ _ (AreBytes-from_items _ (λ k l. c.fits-key k)) c.told-key _ c.descend-place.ensures.arrives in omega (arith, x, c.descend-place.ensures.reads)
-
-pub returns-in_err-add-in-Absent-clause-few : goal.returns-in_err-add-in-Absent-clause-few
-returns-in_err-add-in-Absent-clause-few g c = path_short _ _ _ (AreBytes-from_items _ (λ k l. c.fits-key k)) c.told-key _ c.descend-place.ensures.arrives
-
-pub returns-in_err-split-in-Differs-clause-reads : goal.returns-in_err-split-in-Differs-clause-reads
-returns-in_err-split-in-Differs-clause-reads g c = let x = path_length _ _ _ (AreBytes-from_items _ (λ k l. c.fits-key k)) c.told-key _ c.descend-place.ensures.arrives in omega (arith, x, c.descend-place.ensures.reads)
-
-pub returns-in_err-split-in-Differs-clause-few : goal.returns-in_err-split-in-Differs-clause-few
-returns-in_err-split-in-Differs-clause-few g c = path_short _ _ _ (AreBytes-from_items _ (λ k l. c.fits-key k)) c.told-key _ c.descend-place.ensures.arrives
-
-pub returns-in-Payload-clause-reads : goal.returns-in-Payload-clause-reads
-returns-in-Payload-clause-reads g c = let x = path_length _ _ _ (AreBytes-from_items _ (λ k l. c.fits-key k)) c.told-key _ c.descend-place.ensures.arrives in omega (arith, x, c.descend-place.ensures.reads)
-
-pub returns-in-Payload-clause-few : goal.returns-in-Payload-clause-few
-returns-in-Payload-clause-few g c = path_short _ _ _ (AreBytes-from_items _ (λ k l. c.fits-key k)) c.told-key _ c.descend-place.ensures.arrives
-
-pub returns-in_ok-add-in-Absent-clause-reads : goal.returns-in_ok-add-in-Absent-clause-reads
-returns-in_ok-add-in-Absent-clause-reads g c = let x = path_length _ _ _ (AreBytes-from_items _ (λ k l. c.fits-key k)) c.told-key _ c.descend-place.ensures.arrives in omega (arith, x, c.descend-place.ensures.reads)
-
-pub returns-in_ok-add-in-Absent-clause-few : goal.returns-in_ok-add-in-Absent-clause-few
-returns-in_ok-add-in-Absent-clause-few g c = path_short _ _ _ (AreBytes-from_items _ (λ k l. c.fits-key k)) c.told-key _ c.descend-place.ensures.arrives
-
-pub returns-in_ok-split-in-Differs-clause-reads : goal.returns-in_ok-split-in-Differs-clause-reads
-returns-in_ok-split-in-Differs-clause-reads g c = let x = path_length _ _ _ (AreBytes-from_items _ (λ k l. c.fits-key k)) c.told-key _ c.descend-place.ensures.arrives in omega (arith, x, c.descend-place.ensures.reads)
-
-pub returns-in_ok-split-in-Differs-clause-few : goal.returns-in_ok-split-in-Differs-clause-few
-returns-in_ok-split-in-Differs-clause-few g c = path_short _ _ _ (AreBytes-from_items _ (λ k l. c.fits-key k)) c.told-key _ c.descend-place.ensures.arrives
-
-pub returns-in-Payload-clause-shape : goal.returns-in-Payload-clause-shape
-returns-in-Payload-clause-shape g c = change_shape _ _ _ _ (AreBytes-from_items _ (λ k l. c.fits-key k)) c.told-key c.args.payload _ c.descend-place.ensures.arrives _ c.in-Present.is c.change_child.ensures.keeps c.change_child.ensures.written
-
-pub returns-in_ok-add-in-Absent-clause-shape : goal.returns-in_ok-add-in-Absent-clause-shape
-returns-in_ok-add-in-Absent-clause-shape g c = add_shape _ _ _ _ (AreBytes-from_items _ (λ k l. c.fits-key k)) c.told-key c.args.payload _ c.descend-place.ensures.arrives _ c.in-Absent.is c.in_ok-add-in-Absent.ensures.ok
-
-pub returns-in_ok-split-in-Differs-clause-shape : goal.returns-in_ok-split-in-Differs-clause-shape
-returns-in_ok-split-in-Differs-clause-shape g c = split_shape _ _ _ _ (AreBytes-from_items _ (λ k l. c.fits-key k)) c.told-key c.args.payload _ c.descend-place.ensures.arrives _ c.in-Differs.is c.in_ok-split-in-Differs.ensures.ok
+pub returns-in_err-parts-in-Differs : goal.returns-in_err-parts-in-Differs
+returns-in_err-parts-in-Differs g c =
+    let bytes = (AreBytes-from_items _ (λ k l. c.fits-key k)) in
+    let a = c.descend-slot.ensures.arrives in
+    let l = path_length _ _ _ bytes c.told-key _ a in
+    let same = c.in_err-parts-in-Differs.ensures.slots in
+    let p = err_from_is_err_and c.from_residual-in_err-parts-in-Differs.result c.from_residual-in_err-parts-in-Differs.ensures.1 in
+    record {
+      tree = rw same c.requires.tree;
+      root = rw same c.requires.root;
+      before = rw p.1 tt;
+      ok = rw p.1 tt;
+      err = rw p.1 same;
+      shape = rw p.1 tt;
+      reads = omega (arith, l, c.descend-slot.ensures.reads);
+      few = path_short _ _ _ bytes c.told-key _ a;
+      refused = rw p.1 (needs_node-differs _ _ _ bytes c.told-key _ a _ c.in-Differs.is);
+    }

@@ -1,25 +1,26 @@
-use Rattle.std.proofs.Common.{rules, ◌≡◌, get_or, None, sym, ◌∙◌}
-use Rattle.std.proofs.lemmas.List.{get_or_default, get_or_past}
-use Rattle.congee_nodes.proofs.ScanLaws.{scan-found, scan-free}
+use Rattle.std.proofs.Common.{rules, arith, ◌∙◌, ◌+◌, sym, get_or, slice_index}
+use Rattle.std.proofs.lemmas.Option.{slice_get-get_or, slice_get_past}
+use Rattle.congee_nodes.specs.Row.{at_place}
+use Rattle.congee_nodes.proofs.RowLaws.{scan-found, scan-none, scan-end}
 use Rattle.congee_nodes.proofs.iter.Node48IterIterator.next.Goals as goal
-use Rattle.congee_nodes.proofs.iter.Node48IterIterator.next.Goals.{else-i-self-via-else-i-self, else-i-self-via-then-i-self+in-None-1}
 
-pub returns-in-loop-self-clause-steps : goal.returns-in-loop-self-clause-steps
-returns-in-loop-self-clause-steps g c =
+pub returns-then-i-self-clause-steps : goal.returns-then-i-self-clause-steps
+returns-then-i-self-clause-steps g c =
     let s = c.loop-self.self in
-    let there = get_or_default s.places.now c.in-Some.first.now None c.index-self-i.result c.if-i-self.true ∙ c.in-Some-places.is in
-    sym c.loop-self.invariant ∙ scan-found s.at c.in-Some.first.now s.index.now c.in-Some.others.now s.places.now c.loop-self-test.true c.in-Some.ensures.cases.0 c.in-Some-places.child there
+    let i = slice_index s.index.now s.at in
+    sym c.loop-self.invariant ∙ scan-found (at_place (slice_index s.index.now) s.children.now) s.at (s.last + 1) (get_or s.children.now i c.index-self-i.result) (omega (arith, c.loop-self-test.true))
+    (slice_get-get_or s.children.now i c.index-self-i.result c.if-i-self.true)
 
-pub returns-in-loop-self-clause-goes : goal.returns-in-loop-self-clause-goes
-returns-in-loop-self-clause-goes g c = let e = returns-in-loop-self-clause-steps g c in search (rules, e)
+pub returns-then-i-self-clause-goes : goal.returns-then-i-self-clause-goes
+returns-then-i-self-clause-goes g c = let e = returns-then-i-self-clause-steps g c in search (rules, e)
 
 pub loop-self-preserved : goal.loop-self-preserved
 loop-self-preserved g c =
     let s = c.loop-self.self in
-    let free : get_or s.places.now c.in-Some.first.now None ≡ None =
-    elim c.else-i-self.branch [
-      | else-i-self-via-else-i-self w ↦ get_or_past s.places.now c.in-Some.first.now None w.if-i-self.false
-      | else-i-self-via-then-i-self+in-None-1 w ↦ get_or_default s.places.now c.in-Some.first.now None w.index-self-i.result w.if-i-self.true ∙ search rules
-    ]
-    in
-    sym (scan-free s.at c.in-Some.first.now s.index.now c.in-Some.others.now s.places.now c.loop-self-test.true c.in-Some.ensures.cases.0 free) ∙ c.loop-self.invariant
+    sym (scan-none (at_place (slice_index s.index.now) s.children.now) s.at (s.last + 1) (omega (arith, c.loop-self-test.true)) (slice_get_past s.children.now (slice_index s.index.now s.at) c.if-i-self.false)) ∙ c.loop-self.invariant
+
+pub returns-clause-steps : goal.returns-clause-steps
+returns-clause-steps g c =
+    let s = c.loop-self.self in
+    let e = scan-end (at_place (slice_index s.index.now) s.children.now) s.at (s.last + 1) (omega (arith, c.loop-self-test.false)) in
+    (sym c.loop-self.invariant ∙ e, e)

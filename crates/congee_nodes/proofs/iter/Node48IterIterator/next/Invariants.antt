@@ -1,4 +1,4 @@
-use Rattle.std.proofs.Common.{◌≡◌, length}
+use Rattle.std.proofs.Common.{◌≡◌, ◌+◌, ◌-◌}
 use Rattle.congee_nodes.specs.Rest.{rest_48}
 use Rattle.congee_nodes.proofs.iter.Node48IterIterator.next.Given as goal
 
@@ -6,4 +6,4 @@ abbrev pub invariant-loop-self : goal.invariant-loop-self
 invariant-loop-self g l = rest_48 l.self ≡ rest_48 l.initial.self
 
 abbrev pub decreases-loop-self : goal.decreases-loop-self
-decreases-loop-self g l = length l.self.index.now
+decreases-loop-self g l = l.self.last + 1 - l.self.at

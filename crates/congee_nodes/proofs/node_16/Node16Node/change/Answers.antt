@@ -47,7 +47,7 @@ invariant_of-self g c =
         long = r.long;
         within = search (rules, length-set);
         counted = r.counted ∙ sym (length-set c.self.inside.children.items c.find-i.result c.replace.new.dest);
-        reserved = r.reserved;
       },
       c.self.invariant.1,
+      c.self.invariant.2,
     )

@@ -27,7 +27,7 @@ unreachable-requires g c =
     let l : length c.self.inside.children.items ≤ length c.self.inside.keys = omega (arith, r.long, r.within) in
     let m : length c.args.self.now.children ≡ length c.self.inside.children.items = rw (← c.self.view_is) (length-pairs c.self.inside.keys c.self.inside.children.items l) in
     let k : length c.args.self.now.children + 1 ≤ 16 = c.requires.room in
-    let v : length c.self.inside.children.items < vec_capacity c.self.inside.children = omega (arith, m, k, r.reserved) in
+    let v : length c.self.inside.children.items < vec_capacity c.self.inside.children = omega (arith, m, k, c.self.invariant.2) in
     search rules
 
 pub returns-clause-children : goal.returns-clause-children
@@ -63,7 +63,7 @@ invariant_of-self g c =
         long = search rules;
         within = omega (arith, longer, m, k);
         counted = rw c.count_up.ensures (omega (arith, longer, r.counted));
-        reserved = search rules;
       },
       rw c.count_up.ensures c.self.invariant.1,
+      search rules,
     )

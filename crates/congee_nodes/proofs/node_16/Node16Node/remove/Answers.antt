@@ -42,9 +42,9 @@ invariant_of-self g c =
         long = search rules;
         within = omega (arith, fewer, r.within);
         counted = omega (arith, fewer, r.counted, c.count_down.ensures.count);
-        reserved = search rules;
       },
       c.count_down.ensures.form ∙ c.self.invariant.1,
+      search rules,
     )
 
 pub remove_byte-requires-clause-inside : goal.remove_byte-requires-clause-inside

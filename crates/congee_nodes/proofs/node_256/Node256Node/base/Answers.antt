@@ -1,6 +1,8 @@
-use Rattle.std.proofs.Common.{arith}
-use Rattle.congee_nodes.proofs.PlacesLaws.{placed_ascending}
+use Rattle.std.proofs.Common.{refl}
+use Rattle.congee_nodes.specs.Marked.{marked_place}
+use Rattle.congee_nodes.specs.Row.{at_place}
+use Rattle.congee_nodes.proofs.RowLaws.{under-rises}
 use Rattle.congee_nodes.proofs.node_256.Node256Node.base.Goals as goal
 
 pub returns-clause-ascending : goal.returns-clause-ascending
-returns-clause-ascending g c = rw (← c.self.view_is) (placed_ascending c.self.inside.places.items 0 c.self.invariant.0 (omega arith))
+returns-clause-ascending g c = let m = c.self.inside.marks.value in rw (← c.self.view_is) (under-rises (at_place (marked_place m.mask m.index) c.self.inside.children.items) 0 256 256 refl)

@@ -1,32 +1,57 @@
-use Rattle.std.proofs.Common.{rules, ◌≡◌, ◌∙◌, sym, ap, None, Some, set, IsSome, refl}
-use Rattle.std.proofs.lemmas.Bool.{false≢true}
+use Rattle.std.proofs.Common.{rules, arith, ◌≡◌, ◌<◌, ◌∙◌, sym, ap, refl, IsSome, length, slice_index}
+use Rattle.std.proofs.lemmas.Option.{slice_get_read}
 use Rattle.congee_nodes.specs.Map.{lookup}
-use Rattle.congee_nodes.specs.Places.{placed_from}
-use Rattle.congee_nodes.proofs.PlacesLaws.{lookup-read, placed-write_some, length-replaced}
-use Rattle.congee_nodes.proofs.MarkLaws.{mark_present, agrees-write}
+use Rattle.congee_nodes.specs.Marked.{marked_place}
+use Rattle.congee_nodes.specs.Row.{in_row}
+use Rattle.congee_nodes.proofs.RowLaws.{row-inside, row-lookup, row-changed}
+use Rattle.congee_nodes.proofs.MarkLaws.{place-reached}
 use Rattle.congee_nodes.proofs.node_256.Node256Node.change.Goals as goal
 
-pub unreachable-requires : goal.unreachable-requires
-unreachable-requires g c =
-    let read = lookup-read c.self.inside.places.items c.args.byte c.self.invariant.0 (search rules) _ c.index_mut.ensures.value in
-    let none : lookup c.args.self.now.children c.args.byte ≡ None = rw (← c.self.view_is) (read ∙ sym c.in-None.ensures.value) in
-    false≢true (rw none at c.requires.present)
-
-pub invariant_of-self : goal.invariant_of-self
-invariant_of-self g c =
-    let some : IsSome (lookup (placed_from 0 c.self.inside.places.items) c.args.byte) = rw (← c.self.view_is) at c.requires.present in
-    let h = length-replaced c.self.inside.places.items c.args.byte c.self.invariant.0 (search rules) c.args.child some in
-    let i = c.self.inside in
-    let one = mark_present i.mask.value i.places.items c.args.byte c.self.invariant.0 (search rules) c.self.invariant.3 some in
-    let agree = agrees-write i.mask.value i.mask.value i.places.items c.args.byte (Some c.args.child) c.self.invariant.0 (search rules) c.self.invariant.3 one (λ _ _ _. refl) in
-    (search rules, rw c.replace.ensures.after (c.self.invariant.1 ∙ sym h), c.self.invariant.2, rw c.replace.ensures.after agree)
+pub index_mut-requires : goal.index_mut-requires
+index_mut-requires g c =
+    let byte : c.args.byte < 256 = search rules in
+    let m = c.self.inside.marks.value in
+    let row = c.self.inside.children.items in
+    let r = c.self.invariant.0 in
+    let some : IsSome (lookup (in_row (marked_place m.mask m.index) row) c.args.byte) = rw (← c.self.view_is) at c.requires.present in
+    let inside = row-inside 256 (marked_place m.mask m.index) row c.self.inside.base.count r c.args.byte byte some in
+    let reached = place-reached m.mask m.index c.args.byte (omega (arith, inside, r.within)) in
+    let z : slice_index c.deref.result.now.index c.args.byte ≡ marked_place m.mask m.index c.args.byte = ap (λ x. slice_index x.index c.args.byte) c.deref.ensures ∙ sym reached.1 in
+    search (rules, z, inside)
 
 pub returns-clause-before : goal.returns-clause-before
 returns-clause-before g c =
-    let read = lookup-read c.self.inside.places.items c.args.byte c.self.invariant.0 (search rules) _ c.index_mut.ensures.value in
-    rw (← c.self.view_is) (read ∙ sym c.in-Some.ensures.value)
+    let byte : c.args.byte < 256 = search rules in
+    let m = c.self.inside.marks.value in
+    let row = c.self.inside.children.items in
+    let r = c.self.invariant.0 in
+    let some : IsSome (lookup (in_row (marked_place m.mask m.index) row) c.args.byte) = rw (← c.self.view_is) at c.requires.present in
+    let inside = row-inside 256 (marked_place m.mask m.index) row c.self.inside.base.count r c.args.byte byte some in
+    let reached = place-reached m.mask m.index c.args.byte (omega (arith, inside, r.within)) in
+    let z : slice_index c.deref.result.now.index c.args.byte ≡ marked_place m.mask m.index c.args.byte = ap (λ x. slice_index x.index c.args.byte) c.deref.ensures ∙ sym reached.1 in
+    rw (← c.self.view_is, c.replace.ensures.value) (row-lookup 256 (marked_place m.mask m.index) row c.self.inside.base.count r c.args.byte byte
+    ∙ slice_get_read row (length row) (marked_place m.mask m.index c.args.byte) c.index_mut.result.now refl inside (rw z at c.index_mut.ensures.value))
 
 pub returns-clause-children : goal.returns-clause-children
 returns-clause-children g c =
-    ap (λ x. placed_from 0 (set c.self.inside.places.items c.args.byte x)) c.replace.ensures.after
-    ∙ rw (← c.self.view_is) (placed-write_some c.self.inside.places.items c.args.byte c.self.invariant.0 (search rules) c.args.child)
+    let byte : c.args.byte < 256 = search rules in
+    let m = c.self.inside.marks.value in
+    let row = c.self.inside.children.items in
+    let r = c.self.invariant.0 in
+    let some : IsSome (lookup (in_row (marked_place m.mask m.index) row) c.args.byte) = rw (← c.self.view_is) at c.requires.present in
+    let inside = row-inside 256 (marked_place m.mask m.index) row c.self.inside.base.count r c.args.byte byte some in
+    let reached = place-reached m.mask m.index c.args.byte (omega (arith, inside, r.within)) in
+    let z : slice_index c.deref.result.now.index c.args.byte ≡ marked_place m.mask m.index c.args.byte = ap (λ x. slice_index x.index c.args.byte) c.deref.ensures ∙ sym reached.1 in
+    rw (← c.self.view_is, c.replace.ensures.after, z) (row-changed 256 (marked_place m.mask m.index) row c.self.inside.base.count r c.args.byte byte c.args.child inside).1
+
+pub invariant_of-self : goal.invariant_of-self
+invariant_of-self g c =
+    let byte : c.args.byte < 256 = search rules in
+    let m = c.self.inside.marks.value in
+    let row = c.self.inside.children.items in
+    let r = c.self.invariant.0 in
+    let some : IsSome (lookup (in_row (marked_place m.mask m.index) row) c.args.byte) = rw (← c.self.view_is) at c.requires.present in
+    let inside = row-inside 256 (marked_place m.mask m.index) row c.self.inside.base.count r c.args.byte byte some in
+    let reached = place-reached m.mask m.index c.args.byte (omega (arith, inside, r.within)) in
+    let z : slice_index c.deref.result.now.index c.args.byte ≡ marked_place m.mask m.index c.args.byte = ap (λ x. slice_index x.index c.args.byte) c.deref.ensures ∙ sym reached.1 in
+    rw z ((row-changed 256 (marked_place m.mask m.index) row c.self.inside.base.count r c.args.byte byte c.replace.new.dest inside).0, c.self.invariant.1, c.self.invariant.2)

@@ -2,47 +2,48 @@ use Rattle.std.proofs.Common.{rules, arith, ◌≡◌, ◌≤◌, length, sym, �
 use Rattle.congee_nodes.specs.Map.{lookup, Rises}
 use Rattle.congee_nodes.proofs.MapLaws.{Rises-put}
 use Rattle.congee_nodes.specs.Sorted.{pairs}
+use Rattle.congee_nodes.specs.Few.{listed}
 use Rattle.congee_nodes.proofs.SortedLaws.{present_inside, value_at, changed}
 use Rattle.congee_nodes.proofs.node_4.Node4Node.change.Goals as goal
 
-pub index_mut-requires : goal.index_mut-requires
-index_mut-requires g c =
+pub replace-requires : goal.replace-requires
+replace-requires g c =
     let r = c.self.invariant.0 in
-    let l : length c.self.inside.children.items ≤ length c.self.inside.keys = omega (arith, r.long, r.within) in
-    let n : c.len-count.result ≡ length c.self.inside.children.items = search rules in
-    let some : IsSome (lookup (pairs c.self.inside.keys c.self.inside.children.items) c.args.byte) = rw (← c.self.view_is) at c.requires.present in
-    let p = present_inside c.self.inside.keys c.self.inside.children.items r.ascending l c.args.byte c.place-i.result c.len-count.result n c.place-i.ensures.at some in
+    let l : length (listed c.self.inside.children) ≤ length c.self.inside.keys = omega (arith, r.long, r.within) in
+    let n : c.value_count-count.result ≡ length (listed c.self.inside.children) = c.value_count-count.ensures ∙ r.counted in
+    let some : IsSome (lookup (pairs c.self.inside.keys (listed c.self.inside.children)) c.args.byte) = rw (← c.self.view_is) at c.requires.present in
+    let p = present_inside c.self.inside.keys (listed c.self.inside.children) r.ascending l c.args.byte c.place-i.result c.value_count-count.result n c.place-i.ensures.at some in
     search (rules, p)
 
 pub returns-clause-before : goal.returns-clause-before
 returns-clause-before g c =
     let r = c.self.invariant.0 in
-    let l : length c.self.inside.children.items ≤ length c.self.inside.keys = omega (arith, r.long, r.within) in
-    let n : c.len-count.result ≡ length c.self.inside.children.items = search rules in
-    let some : IsSome (lookup (pairs c.self.inside.keys c.self.inside.children.items) c.args.byte) = rw (← c.self.view_is) at c.requires.present in
-    rw (← c.self.view_is, c.replace.ensures.value) (value_at c.self.inside.keys c.self.inside.children.items r.ascending l c.args.byte c.place-i.result c.len-count.result n c.place-i.ensures.at _ some c.index_mut.ensures.value)
+    let l : length (listed c.self.inside.children) ≤ length c.self.inside.keys = omega (arith, r.long, r.within) in
+    let n : c.value_count-count.result ≡ length (listed c.self.inside.children) = c.value_count-count.ensures ∙ r.counted in
+    let some : IsSome (lookup (pairs c.self.inside.keys (listed c.self.inside.children)) c.args.byte) = rw (← c.self.view_is) at c.requires.present in
+    rw (← c.self.view_is) (value_at c.self.inside.keys (listed c.self.inside.children) r.ascending l c.args.byte c.place-i.result c.value_count-count.result n c.place-i.ensures.at _ some c.replace.ensures.value)
 
 pub returns-clause-children : goal.returns-clause-children
 returns-clause-children g c =
     let r = c.self.invariant.0 in
-    let l : length c.self.inside.children.items ≤ length c.self.inside.keys = omega (arith, r.long, r.within) in
-    let n : c.len-count.result ≡ length c.self.inside.children.items = search rules in
-    let some : IsSome (lookup (pairs c.self.inside.keys c.self.inside.children.items) c.args.byte) = rw (← c.self.view_is) at c.requires.present in
-    rw (← c.self.view_is, c.replace.ensures.after) (changed c.self.inside.keys c.self.inside.children.items r.ascending l c.args.byte c.place-i.result c.len-count.result n c.place-i.ensures.at c.args.child some)
+    let l : length (listed c.self.inside.children) ≤ length c.self.inside.keys = omega (arith, r.long, r.within) in
+    let n : c.value_count-count.result ≡ length (listed c.self.inside.children) = c.value_count-count.ensures ∙ r.counted in
+    let some : IsSome (lookup (pairs c.self.inside.keys (listed c.self.inside.children)) c.args.byte) = rw (← c.self.view_is) at c.requires.present in
+    rw (← c.self.view_is, c.replace.ensures.after) (changed c.self.inside.keys (listed c.self.inside.children) r.ascending l c.args.byte c.place-i.result c.value_count-count.result n c.place-i.ensures.at c.args.child some)
 
 pub invariant_of-self : goal.invariant_of-self
 invariant_of-self g c =
     let r = c.self.invariant.0 in
-    let l : length c.self.inside.children.items ≤ length c.self.inside.keys = omega (arith, r.long, r.within) in
-    let n : c.len-count.result ≡ length c.self.inside.children.items = search rules in
-    let some : IsSome (lookup (pairs c.self.inside.keys c.self.inside.children.items) c.args.byte) = rw (← c.self.view_is) at c.requires.present in
-    let e = changed c.self.inside.keys c.self.inside.children.items r.ascending l c.args.byte c.place-i.result c.len-count.result n c.place-i.ensures.at c.replace.new.dest some in (
+    let l : length (listed c.self.inside.children) ≤ length c.self.inside.keys = omega (arith, r.long, r.within) in
+    let n : c.value_count-count.result ≡ length (listed c.self.inside.children) = c.value_count-count.ensures ∙ r.counted in
+    let some : IsSome (lookup (pairs c.self.inside.keys (listed c.self.inside.children)) c.args.byte) = rw (← c.self.view_is) at c.requires.present in
+    let e = changed c.self.inside.keys (listed c.self.inside.children) r.ascending l c.args.byte c.place-i.result c.value_count-count.result n c.place-i.ensures.at c.args.child some in
+    rw c.replace.ensures.after (
       record {
-        ascending = subst (Rises 0 256) (sym e) (Rises-put 0 256 (pairs c.self.inside.keys c.self.inside.children.items) c.args.byte c.replace.new.dest r.ascending (omega arith) (search rules));
+        ascending = subst (Rises 0 256) (sym e) (Rises-put 0 256 (pairs c.self.inside.keys (listed c.self.inside.children)) c.args.byte c.args.child r.ascending (omega arith) (search rules));
         long = r.long;
         within = search (rules, length-set);
-        counted = r.counted ∙ sym (length-set c.self.inside.children.items c.place-i.result c.replace.new.dest);
-        reserved = r.reserved;
+        counted = r.counted ∙ sym (length-set (listed c.self.inside.children) c.place-i.result c.args.child);
       },
       c.self.invariant.1,
     )

@@ -1,19 +1,20 @@
-use Rattle.std.proofs.Common.{rules, arith, ◌≡◌, ◌≤◌, ◌+◌, ◌-◌, length, ◌∙◌, take, drop, ap, List}
+use Rattle.std.proofs.Common.{arith, ◌≡◌, ◌≤◌, ◌+◌, length, ◌∙◌, drop, ap}
+use Rattle.congee_nodes.specs.Few.{listed}
 use Rattle.congee_nodes.specs.Sorted.{pairs}
-use Rattle.congee_nodes.proofs.SortedLaws.{part_between, part_none}
+use Rattle.congee_nodes.proofs.SortedLaws.{bytes_between, part_none}
 use Rattle.congee_nodes.proofs.node_4.Node4Node.get_children.Goals as goal
-
-pub returns-then-low-high-clause-children : goal.returns-then-low-high-clause-children
-returns-then-low-high-clause-children g c =
-    let r = c.self.invariant.0 in
-    let l : length c.self.inside.children.items ≤ length c.self.inside.keys = omega (arith, r.long, r.within) in
-    let n : c.len-count.result ≡ length c.self.inside.children.items = search rules in
-    ap (λ (x : List g.row.C.Denot). pairs (take (c.place-high.result - c.place-low.result) (drop c.place-low.result c.self.inside.keys)) (take (c.place-high.result - c.place-low.result) (drop c.place-low.result x))) c.deref.ensures.value
-    ∙ rw (← c.self.view_is) (part_between c.self.inside.keys c.self.inside.children.items r.ascending l c.args.start (c.args.end + 1) c.place-low.result c.place-high.result c.len-count.result n c.place-low.ensures.at c.place-high.ensures.at)
+use Rattle.congee_nodes.proofs.node_4.Node4Node.get_children.Goals.{then-low-high, else-low-high}
 
 pub returns-clause-children : goal.returns-clause-children
 returns-clause-children g c =
     let r = c.self.invariant.0 in
-    let l : length c.self.inside.children.items ≤ length c.self.inside.keys = omega (arith, r.long, r.within) in
-    let n : c.len-count.result ≡ length c.self.inside.children.items = search rules in
-    rw (← c.self.view_is) (part_none c.self.inside.keys c.self.inside.children.items r.ascending l c.args.start (c.args.end + 1) c.place-low.result c.place-high.result c.len-count.result n c.place-low.ensures.at c.place-high.ensures.at c.if-low-high.false)
+    let l : length (listed c.self.inside.children) ≤ length c.self.inside.keys = omega (arith, r.long, r.within) in
+    let n : c.value_count-count.result ≡ length (listed c.self.inside.children) = c.value_count-count.ensures ∙ r.counted in
+    elim c.if-low-high.branch [
+      | then-low-high w ↦
+          ap (λ p. pairs p.now (drop c.place-low.result (listed c.self.inside.children))) w.keys-is
+          ∙ rw (← c.self.view_is) (bytes_between c.self.inside.keys (listed c.self.inside.children) r.ascending l c.args.start (c.args.end + 1) c.place-low.result c.place-high.result c.value_count-count.result n c.place-low.ensures.at c.place-high.ensures.at)
+      | else-low-high w ↦
+          ap (λ p. pairs p.now (drop c.place-low.result (listed c.self.inside.children))) w.keys-is
+          ∙ rw (← c.self.view_is) (part_none c.self.inside.keys (listed c.self.inside.children) r.ascending l c.args.start (c.args.end + 1) c.place-low.result c.place-high.result c.value_count-count.result n c.place-low.ensures.at c.place-high.ensures.at w.if-low-high.false)
+    ]

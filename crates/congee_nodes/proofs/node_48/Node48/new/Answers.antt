@@ -1,14 +1,14 @@
-use Rattle.std.proofs.Common.{rules, arith, ap, ◌∙◌}
-use Rattle.congee_nodes.specs.Indexed.{used}
-use Rattle.congee_nodes.proofs.IndexLaws.{used-push, vacant, nothing_placed}
+use Rattle.std.proofs.Common.{rules, ◌≡◌, refl, replicate, slice_index}
+use Rattle.std.proofs.lemmas.List.{get_or-replicate}
+use Rattle.congee_nodes.proofs.RowLaws.{row-empty}
 use Rattle.congee_nodes.proofs.node_48.Node48.new.Goals as goal
-
-pub loop-preserved : goal.loop-preserved
-loop-preserved g c = (search rules, ap used c.in_ok-push.ensures.items ∙ used-push c.loop.places.items ∙ c.loop.invariant.1)
 
 pub invariant_of-result : goal.invariant_of-result
 invariant_of-result g c =
-    (rw c.in_ok-index.ensures.ok (vacant 256 c.loop.places.items c.new-base.result.count (omega arith) (search rules) c.loop.invariant.1 (rw c.new-base.ensures (search rules))), rw c.new-base.ensures (search rules))
+    let marks : c.in_ok-index.index.value ≡ replicate 256 48 = search rules in
+    rw (marks, c.in_ok-children.ensures.items) ((row-empty 48 (slice_index (replicate 256 48)) c.new-base.result.count (λ b l. get_or-replicate 256 b 48 0 l) (search rules)).0, search rules, search rules)
 
 pub returns-clause-empty : goal.returns-clause-empty
-returns-clause-empty g c = rw c.in_ok-index.ensures.ok (nothing_placed 256 0 c.loop.places.items (search rules))
+returns-clause-empty g c =
+    let marks : c.in_ok-index.index.value ≡ replicate 256 48 = search rules in
+    rw (marks, c.in_ok-children.ensures.items) (row-empty 48 (slice_index (replicate 256 48)) 0 (λ b l. get_or-replicate 256 b 48 0 l) refl).1

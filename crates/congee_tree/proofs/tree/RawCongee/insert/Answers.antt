@@ -1,5 +1,16 @@
-use Rattle.congee_nodes.proofs.KeyLaws.{key_number-be_bytes}
+use Rattle.std.proofs.Common.{arith}
+use Rattle.congee_tree.proofs.CountLaws.{few_pairs, count_new, count_same}
 use Rattle.congee_tree.proofs.tree.RawCongee.insert.Goals as goal
 
-pub returns-clause-before : goal.returns-clause-before
-returns-clause-before g c = rw (← key_number-be_bytes _ c.told-key, ← c.self.view_is) c.insert.ensures.before
+pub overflow_add-self : goal.overflow_add-self
+overflow_add-self g c = omega (arith, c.self.invariant.2, few_pairs _ _ c.self.invariant.0)
+
+pub invariant_of-self-then-is_none : goal.invariant_of-self-then-is_none
+invariant_of-self-then-is_none g c =
+    let e = c.in_ok-before.ensures in
+    (e.tree, e.root, count_new _ _ c.self.invariant.0 _ _ _ e.before _ c.self.invariant.2 _ e.ok c.if-is_none.ensures)
+
+pub invariant_of-self-else-is_none : goal.invariant_of-self-else-is_none
+invariant_of-self-else-is_none g c =
+    let e = c.in_ok-before.ensures in
+    (e.tree, e.root, count_same _ _ c.self.invariant.0 _ _ _ e.before _ c.self.invariant.2 _ e.ok c.if-is_none.ensures)

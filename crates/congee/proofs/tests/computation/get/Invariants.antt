@@ -1,0 +1,4 @@
+use Rattle.congee.proofs.tests.computation.get.Given as goal
+
+abbrev pub ghosts-get : goal.ghosts-get
+ghosts-get a = record { name = a.blank.name; parts = a.blank.parts }

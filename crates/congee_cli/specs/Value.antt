@@ -1,0 +1,12 @@
+-- A value, or that there is none, as a word.
+use Rattle.std.specs.Prelude.{ℕ, ◌<◌, ◌^◌, List, codes, decimal, Option, Some, None}
+
+-- a value, or `none`
+abbrev pub value_text : Option ℕ → List ℕ
+value_text None = codes "none"
+value_text (Some value) = decimal value
+
+-- a value, if there is one, has 64 bits
+abbrev pub IsWide : Option ℕ → Type 0
+IsWide None = Unit {0}
+IsWide (Some value) = value < 2 ^ 64

@@ -1,0 +1,46 @@
+-- How forms and children are told apart as parts of values that contracts see.
+use Rattle.std.specs.Prelude.{◌≡◌, ℕ, zero, suc, ◌⊎◌, refl}
+use Rattle.std.proofs.Common.{inl, inr}
+use Rattle.std.specs.Coded.{Coded, code_by, coded⊎, coded_ℕ}
+use Rattle.congee_nodes.specs.declared.base_node.NodeType.{NodeType}
+use Rattle.congee_nodes.specs.declared.base_node.NodeType.TheVariants.{N4, N16, N48, N256}
+use Rattle.congee_nodes.specs.declared.child.Child.{Child}
+use Rattle.congee_nodes.specs.declared.child.Child.TheVariants.{Payload, Node}
+
+-- a number for each form, which only the code below uses
+abbrev pub form_number : NodeType → ℕ
+form_number N4 = 0
+form_number N16 = 1
+form_number N48 = 2
+form_number N256 = 3
+
+abbrev pub numbered_form : ℕ → NodeType
+numbered_form zero = N4
+numbered_form (suc zero) = N16
+numbered_form (suc (suc zero)) = N48
+numbered_form (suc (suc (suc n))) = N256
+
+pub form_is_numbered : (f : NodeType) → numbered_form (form_number f) ≡ f
+form_is_numbered N4 = refl
+form_is_numbered N16 = refl
+form_is_numbered N48 = refl
+form_is_numbered N256 = refl
+
+abbrev pub form_code : Coded NodeType
+form_code = code_by ℕ coded_ℕ form_number numbered_form form_is_numbered
+
+module _ {P : Type 0} where
+  abbrev pub child_part : Child P → P ⊎ ℕ
+  child_part (Payload v) = inl v
+  child_part (Node slot) = inr slot
+
+  abbrev pub child_of_part : P ⊎ ℕ → Child P
+  child_of_part (inl v) = Payload v
+  child_of_part (inr slot) = Node slot
+
+  pub child_has_part : (c : Child P) → child_of_part (child_part c) ≡ c
+  child_has_part (Payload v) = refl
+  child_has_part (Node slot) = refl
+
+  abbrev pub child_code : Coded P → Coded (Child P)
+  child_code code = code_by (P ⊎ ℕ) (coded⊎ code coded_ℕ) child_part child_of_part child_has_part

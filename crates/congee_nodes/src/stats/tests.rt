@@ -1,0 +1,268 @@
+//! Texts of worked rows, counts that stay at the greatest number, and what the derives show.
+
+use crate::base_node::NodeType;
+use crate::error::OOMError;
+use crate::stats::NodeStats;
+use crate::stats::fraction::hundredths;
+use crate::stats::levels::{LevelStats, Levels};
+use std::alloc::Global;
+use std::test::Fail;
+
+// Statistics with these counts, each level's nodes and entries.
+fn by_hand(
+    alloc: Global,
+    counts: &[([u64; 4], [u64; 4])],
+    kv_pairs: u64,
+) -> Result<NodeStats, OOMError> {
+    let mut levels = Vec::new(alloc);
+    for (nodes, entries) in counts {
+        levels.push(LevelStats {
+            nodes: *nodes,
+            entries: *entries,
+        })?;
+    }
+    Ok(NodeStats {
+        levels: Levels::from_vec(levels),
+        kv_pairs,
+    })
+}
+
+// A root and so many leaves below it, each with so many pairs.
+fn root_and_leaves(alloc: Global, leaves: u64, pairs: u64) -> Result<NodeStats, OOMError> {
+    let mut stats = NodeStats::empty(alloc);
+    stats.add_node(0, NodeType::N256, leaves)?;
+    for _ in 0..leaves {
+        stats.add_node(1, NodeType::N4, pairs)?;
+        stats.add_pairs(pairs);
+    }
+    Ok(stats)
+}
+
+#[test]
+fn trees_have_these_texts(rt: HostRuntime) -> Result<(), Fail> {
+    let alloc = rt.alloc();
+    let rows = [
+        // keys 1; 0 to 3; 32 and 96 keys that differ in their first byte
+        (
+            (1, 1),
+            "Level: 0 --- || N4:        0,     0.00 || N16:        0,     0.00 || N48:        0,     0.00 || N256:        1,     0.00 ||\n\
+             Level: 1 --- || N4:        1,     0.25 || N16:        0,     0.00 || N48:        0,     0.00 || N256:        0,     0.00 ||\n\
+             Overall node count: 2, entry count: 2\n\
+             Load factor: 0.13 (too low)\n\
+             Active memory usage: 0 Mb\n\
+             KV count: 1\n",
+        ),
+        (
+            (1, 4),
+            "Level: 0 --- || N4:        0,     0.00 || N16:        0,     0.00 || N48:        0,     0.00 || N256:        1,     0.00 ||\n\
+             Level: 1 --- || N4:        1,     1.00 || N16:        0,     0.00 || N48:        0,     0.00 || N256:        0,     0.00 ||\n\
+             Overall node count: 2, entry count: 5\n\
+             Load factor: 0.50\n\
+             Active memory usage: 0 Mb\n\
+             KV count: 4\n",
+        ),
+        (
+            (32, 1),
+            "Level: 0 --- || N4:        0,     0.00 || N16:        0,     0.00 || N48:        0,     0.00 || N256:        1,     0.12 ||\n\
+             Level: 1 --- || N4:       32,     0.25 || N16:        0,     0.00 || N48:        0,     0.00 || N256:        0,     0.00 ||\n\
+             Overall node count: 33, entry count: 64\n\
+             Load factor: 0.25 (too low)\n\
+             Active memory usage: 0 Mb\n\
+             KV count: 32\n",
+        ),
+        (
+            (96, 1),
+            "Level: 0 --- || N4:        0,     0.00 || N16:        0,     0.00 || N48:        0,     0.00 || N256:        1,     0.38 ||\n\
+             Level: 1 --- || N4:       96,     0.25 || N16:        0,     0.00 || N48:        0,     0.00 || N256:        0,     0.00 ||\n\
+             Overall node count: 97, entry count: 192\n\
+             Load factor: 0.25 (too low)\n\
+             Active memory usage: 0 Mb\n\
+             KV count: 96\n",
+        ),
+    ];
+    for ((leaves, pairs), wanted) in rows {
+        let stats = root_and_leaves(alloc, leaves, pairs)?;
+        assert_eq!(rt; format!(in alloc; "{stats}")?.as_str(), wanted);
+    }
+    assert_eq!(rt;
+        format!(in alloc; "{}", NodeStats::empty(alloc))?.as_str(),
+        "Overall node count: 0, entry count: 0\n\
+         Load factor: 0.00\n\
+         Active memory usage: 0 Mb\n\
+         KV count: 0\n"
+    );
+    Ok(())
+}
+
+#[test]
+fn levels_by_hand_have_these_texts(rt: HostRuntime) -> Result<(), Fail> {
+    let alloc = rt.alloc();
+    let none = [0; 4];
+    let full = [u64::MAX; 4];
+    let rows: [(&[([u64; 4], [u64; 4])], &str); 8] = [
+        // each form on a level, and a level without nodes
+        (
+            &[
+                ([1, 2, 3, 4], [3, 20, 100, 1000]),
+                (none, none),
+                ([5, 0, 0, 7], [11, 0, 0, 13]),
+            ],
+            "Level: 0 --- || N4:        1,     0.75 || N16:        2,     0.62 || N48:        3,     0.69 || N256:        4,     0.98 ||\n\
+             Level: 1 --- || N4:        0,     0.00 || N16:        0,     0.00 || N48:        0,     0.00 || N256:        0,     0.00 ||\n\
+             Level: 2 --- || N4:        5,     0.55 || N16:        0,     0.00 || N48:        0,     0.00 || N256:        7,     0.01 ||\n\
+             Overall node count: 22, entry count: 1147\n\
+             Load factor: 0.49 (too low)\n\
+             Active memory usage: 0 Mb\n",
+        ),
+        // a tie goes to the even hundredth: 13 / 40
+        (
+            &[([10, 0, 0, 0], [13, 0, 0, 0])],
+            "Level: 0 --- || N4:       10,     0.32 || N16:        0,     0.00 || N48:        0,     0.00 || N256:        0,     0.00 ||\n\
+             Overall node count: 10, entry count: 13\n\
+             Load factor: 0.32 (too low)\n\
+             Active memory usage: 0 Mb\n",
+        ),
+        // one half isn't too low; what is printed alike may be
+        (
+            &[([1, 0, 0, 0], [2, 0, 0, 0])],
+            "Level: 0 --- || N4:        1,     0.50 || N16:        0,     0.00 || N48:        0,     0.00 || N256:        0,     0.00 ||\n\
+             Overall node count: 1, entry count: 2\n\
+             Load factor: 0.50\n\
+             Active memory usage: 0 Mb\n",
+        ),
+        (
+            &[([0, 0, 0, 1], [0, 0, 0, 127])],
+            "Level: 0 --- || N4:        0,     0.00 || N16:        0,     0.00 || N48:        0,     0.00 || N256:        1,     0.50 ||\n\
+             Overall node count: 1, entry count: 127\n\
+             Load factor: 0.50 (too low)\n\
+             Active memory usage: 0 Mb\n",
+        ),
+        // 1047792 and 1049896 bytes
+        (
+            &[([0, 0, 0, 498], none)],
+            "Level: 0 --- || N4:        0,     0.00 || N16:        0,     0.00 || N48:        0,     0.00 || N256:      498,     0.00 ||\n\
+             Overall node count: 498, entry count: 0\n\
+             Load factor: 0.00 (too low)\n\
+             Active memory usage: 0 Mb\n",
+        ),
+        (
+            &[([0, 0, 0, 499], none)],
+            "Level: 0 --- || N4:        0,     0.00 || N16:        0,     0.00 || N48:        0,     0.00 || N256:      499,     0.00 ||\n\
+             Overall node count: 499, entry count: 0\n\
+             Load factor: 0.00 (too low)\n\
+             Active memory usage: 1 Mb\n",
+        ),
+        // entries without nodes, and a factor wider than its place
+        (
+            &[(none, full)],
+            "Level: 0 --- || N4:        0,     0.00 || N16:        0,     0.00 || N48:        0,     0.00 || N256:        0,     0.00 ||\n\
+             Overall node count: 0, entry count: 73786976294838206460\n\
+             Load factor: 0.00\n\
+             Active memory usage: 0 Mb\n",
+        ),
+        (
+            &[([1, 0, 0, 0], [u64::MAX, 0, 0, 0])],
+            "Level: 0 --- || N4:        1, 4611686018427387903.75 || N16:        0,     0.00 || N48:        0,     0.00 || N256:        0,     0.00 ||\n\
+             Overall node count: 1, entry count: 18446744073709551615\n\
+             Load factor: 4611686018427387903.75\n\
+             Active memory usage: 0 Mb\n",
+        ),
+    ];
+    for (counts, wanted) in rows {
+        let stats = by_hand(alloc, counts, 42)?;
+        let wanted = format!(in alloc; "{wanted}KV count: 42\n")?;
+        assert_eq!(rt; format!(in alloc; "{stats}")?.as_str(), wanted.as_str());
+    }
+    Ok(())
+}
+
+#[test]
+fn the_ninth_level_is_left_out(rt: HostRuntime) -> Result<(), Fail> {
+    let alloc = rt.alloc();
+    let stats = by_hand(alloc, &[([u64::MAX; 4], [u64::MAX; 4]); 9], u64::MAX)?;
+    let mut wanted = String::new(alloc);
+    for number in 0..8u8 {
+        let line = format!(in alloc;
+            "Level: {number} --- || N4: 18446744073709551615,     0.25 || N16: 18446744073709551615,     0.06 || N48: 18446744073709551615,     0.02 || N256: 18446744073709551615,     0.00 ||\n"
+        )?;
+        wanted.push_str(line.as_str())?;
+    }
+    wanted.push_str(
+        "Overall node count: 590295810358705651680, entry count: 590295810358705651680\n\
+         Load factor: 0.08 (too low)\n\
+         Active memory usage: 423338364972826623 Mb\n\
+         KV count: 18446744073709551615\n",
+    )?;
+    assert_eq!(rt; format!(in alloc; "{stats}")?.as_str(), wanted.as_str());
+    Ok(())
+}
+
+#[test]
+fn hundredths_are_the_nearest(rt: HostRuntime) {
+    for (numerator, denominator, wanted) in [
+        (32, 256, 12),
+        (96, 256, 38),
+        (13, 40, 32),
+        (195, 1536, 13),
+        (1, 256, 0),
+        (1, 200, 0),
+        (3, 200, 2),
+        (3, 2, 150),
+        (7, 0, 0),
+    ] {
+        assert_eq!(rt; hundredths(numerator, denominator), wanted);
+    }
+}
+
+#[test]
+fn counts_stay_at_the_greatest(rt: HostRuntime) -> Result<(), Fail> {
+    let mut stats = NodeStats::empty(rt.alloc());
+    stats.add_node(2, NodeType::N48, u64::MAX - 1)?;
+    stats.add_node(2, NodeType::N48, 5)?;
+    stats.add_node(0, NodeType::N16, 7)?;
+    stats.add_pairs(u64::MAX);
+    stats.add_pairs(1);
+    assert_eq!(rt; stats.kv_pairs, u64::MAX);
+    let levels = stats.levels.into_vec();
+    let wanted = [
+        ([0, 1, 0, 0], [0, 7, 0, 0]),
+        ([0, 0, 0, 0], [0, 0, 0, 0]),
+        ([0, 0, 2, 0], [0, 0, u64::MAX, 0]),
+    ];
+    assert_eq!(rt; levels.len(), wanted.len());
+    for (level, counts) in levels.iter().zip(&wanted) {
+        assert_eq!(rt; (level.nodes, level.entries), *counts);
+    }
+    Ok(())
+}
+
+#[test]
+fn a_level_without_end_has_no_memory(rt: HostRuntime) {
+    let mut stats = NodeStats::empty(rt.alloc());
+    assert_eq!(rt;
+        stats.add_node(usize::MAX, NodeType::N4, 1),
+        Err(OOMError::new())
+    );
+    assert_eq!(rt; stats.levels.as_slice().len(), 0);
+}
+
+#[test]
+fn derives_show_the_fields(rt: HostRuntime) -> Result<(), Fail> {
+    let alloc = rt.alloc();
+    let stats = root_and_leaves(alloc, 1, 1)?;
+    assert_eq!(rt;
+        format!(in alloc; "{stats:?}")?.as_str(),
+        "NodeStats { levels: [LevelStats { nodes: [0, 0, 0, 1], entries: [0, 0, 0, 1] }, LevelStats { nodes: [1, 0, 0, 0], entries: [1, 0, 0, 0] }], kv_pairs: 1 }"
+    );
+    assert_eq!(rt;
+        serde_json::to_string(alloc, &stats)?.as_str(),
+        r#"{"levels":[{"nodes":[0,0,0,1],"entries":[0,0,0,1]},{"nodes":[1,0,0,0],"entries":[1,0,0,0]}],"kv_pairs":1}"#
+    );
+    let level = LevelStats {
+        nodes: [1, 2, 3, 4],
+        entries: [5, 6, 7, 8],
+    };
+    let copy = level.clone()?;
+    assert_eq!(rt; (copy.nodes, copy.entries), ([1, 2, 3, 4], [5, 6, 7, 8]));
+    Ok(())
+}

@@ -1,0 +1,69 @@
+//! Both kinds of nodes of a table: each call once.
+
+use crate::base_node::NodeType;
+use crate::child::{Child, ChildRef};
+use crate::tree_node::TreeNode;
+use std::mem::size_of;
+use std::process::Abort;
+use std::test::Fail;
+
+// Puts a payload into a leaf under a byte that has none; false where it can't be.
+fn put(node: &mut TreeNode<u64>, byte: u8, payload: u64) -> bool {
+    if !node.is_leaf() || node.is_full() {
+        return false;
+    }
+    match node.get_child(byte) {
+        Some(_) => false,
+        None => {
+            node.insert(byte, Child::Payload(payload));
+            true
+        }
+    }
+}
+
+// The payload under a byte.
+fn payload_at(node: &TreeNode<u64>, byte: u8) -> Option<u64> {
+    match node.get_child(byte) {
+        Some(ChildRef::Payload(payload)) => Some(*payload),
+        _ => None,
+    }
+}
+
+#[test]
+fn leaf_grows_and_keeps_its_payloads(rt: HostRuntime) -> Result<(), Fail> {
+    let mut leaf = TreeNode::leaf(rt.alloc(), &[1, 2, 3, 4, 5, 6, 7])?;
+    for byte in 0..5u8 {
+        if leaf.is_full() {
+            leaf.grow(rt.alloc())?;
+        }
+        assert!(rt; put(&mut leaf, byte, 10 * u64::from(byte)), "at {byte}");
+    }
+    assert_eq!(rt; leaf.base().get_type(), NodeType::N16);
+    assert_eq!(rt; leaf.base().prefix(), [1, 2, 3, 4, 5, 6, 7].as_slice());
+    assert_eq!(rt; leaf.base().value_count(), 5);
+    assert_eq!(rt; payload_at(&leaf, 3), Some(30));
+    assert_eq!(rt; payload_at(&leaf, 5), None);
+    Ok(())
+}
+
+#[test]
+fn inner_nodes_have_slots(rt: HostRuntime) -> Result<(), Fail> {
+    let mut node = TreeNode::<u64>::inner(rt.alloc(), &[1])?;
+    node.insert(9, Child::Node(5));
+    let old = node.change(9, Child::Node(6));
+    assert!(rt; matches!(old, Child::Node(5)));
+    assert!(rt; matches!(node.get_child(9), Some(ChildRef::Node(6))));
+    assert!(rt; matches!(node.remove(9), Child::Node(6)));
+    assert!(rt; node.get_child(9).is_none());
+    let root = TreeNode::<u64>::root(rt.alloc())?;
+    assert_eq!(rt; root.base().get_type(), NodeType::N256);
+    assert!(rt; !root.is_leaf());
+    Ok(())
+}
+
+// A table's entry holds a node of payloads of 8 bytes in 72 bytes, whatever its form and kind.
+#[test]
+fn nodes_are_small(rt: HostRuntime) -> Result<(), Fail> {
+    assert_eq!(rt; size_of::<TreeNode<u64>>(), 72);
+    Ok(())
+}

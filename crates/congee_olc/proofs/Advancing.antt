@@ -1,0 +1,260 @@
+-- From a call's event to the machine's.
+use Rattle.std.proofs.Common.{◌≡◌, ◌≢◌, ℕ, ◌≤◌, Bool, true, false, List, [], Option, Some, None, is_some, IsSome, inl, inr, refl, sym, subst, ap, ◌∙◌, arith}
+use Rattle.std.proofs.lemmas.Bool.Decides.{eqb_tells}
+use Rattle.std.proofs.lemmas.Grind.{common_steps}
+use Rattle.std.specs.BTreeMap.{is_at}
+use Rattle.std.specs.Ordering.{nat_cmp}
+use Rattle.congee_olc.specs.Epoch.{PinsView, ChangesSeat, entry_at, pin_of, is_seated}
+use Rattle.congee_olc.specs.World.{World, Table, table_on, table_of, record_in, call_of}
+use Rattle.congee_olc.specs.Table.{view_on, shown}
+use Rattle.congee_olc.specs.Flight.{flight, flight_in, key_of, AlikeOp}
+use Rattle.congee_olc.specs.Event.{Advances, IsStep, IsStart, IsUnchanged, report_of}
+use Rattle.congee_olc.specs.declared.olc.types.Op.{Op}
+use Rattle.congee_olc.specs.declared.olc.types.Op.TheVariants.{Get}
+use Rattle.congee_olc.specs.declared.olc.types.Kind.TheVariants.{Start}
+use Rattle.congee_olc.specs.declared.olc.stage.Asking.TheVariants.{Fresh}
+use Rattle.congee_olc.specs.declared.olc.stage.Progress.TheVariants.{Open}
+use Rattle.congee_olc.specs.Facts.{Holding, NeedsHolder, IsPlaced, Facts, IsRead, IsAdvance, IsSound}
+use Rattle.congee_olc.specs.declared.olc.types.Env.{Env}
+use Rattle.congee_olc.specs.declared.olc.types.Report.{Report}
+use Rattle.congee_olc.specs.declared.olc.types.Outcome.{Outcome}
+use Rattle.congee_olc.specs.declared.olc.stage.Stage.{Stage}
+use Rattle.congee_olc.specs.declared.olc.stage.Stage.TheVariants.{TakeRoot, Read, Check, TakeBelow, CheckAbove, Finish}
+use Rattle.congee_olc.specs.declared.olc.stage.Record.{Record}
+
+-- a call that only reads holds nothing
+pub holds_none : (stage : Stage) (s : ℕ) → Holding stage s → ⊥
+holds_none TakeRoot s h = elim h [ inl x ↦ x | inr x ↦ x ]
+holds_none (Read path) s h = elim h [ inl x ↦ x | inr x ↦ x ]
+holds_none (Check path) s h = elim h [ inl x ↦ x | inr x ↦ x ]
+holds_none (TakeBelow path slot) s h = elim h [ inl x ↦ x | inr x ↦ x ]
+holds_none (CheckAbove path spot fits) s h = elim h [ inl x ↦ x | inr x ↦ x ]
+holds_none Finish s h = elim h [ inl x ↦ x | inr x ↦ x ]
+
+records_same : {P : Type 0} (x y : Record P) → Some x ≡ Some y → x ≡ y
+records_same x y e = cc
+
+module _ {P : Type 0} (alike : P → P → Type 0) (same : P → P → Bool) where
+  pub goes_on : (t : Table P) (root pin : ℕ) (call : Record P) (env : Env P) (next : Record P) (report : Report) (out : Outcome P)
+      → IsRead alike same t root pin call env next report out → IsAdvance alike same t root pin call env (Some next) report out
+  goes_on t root pin call env next report out r = record {
+    facts = λ n e. subst (λ (x : Record P). Facts alike t root pin x) (records_same next n e) r.facts;
+    says = r.says;
+    does = r.does;
+  }
+
+no_record : (P : Type 0) → let n : Option (Record P) = None in IsSome n → ⊥
+no_record P h = cc
+
+no_number : let n : Option ℕ = None in IsSome n → ⊥
+no_number h = cc
+
+-- the machine after an event that writes no node and changes the seat and the call of one number
+module _ {P : Type 0} (alike : P → P → Type 0) (w : World P) (pins : PinsView) (calls : List (ℕ × Option (Record P))) (id : ℕ)
+    (sound : IsSound alike w) (slots : pins.slots ≡ w.pins.slots) (count : pins.count ≡ w.pins.count)
+    (other_calls : (o : ℕ) → o ≢ id → entry_at calls o ≡ entry_at w.calls o)
+    (other_seats : (o : ℕ) → o ≢ id → is_seated pins o ≡ is_seated w.pins o)
+    (other_pins : (o : ℕ) → o ≢ id → pin_of pins o ≡ pin_of w.pins o) where
+  pub changed_sound :
+      ((r : Record P) (pin : ℕ) → record_in (entry_at calls id) ≡ Some r → pin_of pins id ≡ Some pin → Facts alike (table_of w) w.root pin r)
+      → ((r : Record P) → record_in (entry_at calls id) ≡ Some r → IsSome (pin_of pins id))
+      → ((pin : ℕ) → pin_of pins id ≡ Some pin → IsSome (record_in (entry_at calls id)))
+      → (is_seated pins id ≡ true → IsSome (entry_at calls id))
+      → ((pin : ℕ) → pin_of pins id ≡ Some pin → pin ≤ w.pins.count)
+      → IsSound alike (record w { pins = pins; calls = calls })
+  changed_sound facts pinned called seated before =
+      record {
+        placed = subst (λ l. IsPlaced (table_on w.slots l) w.root) (sym slots) sound.placed;
+        facts = λ o pin r e f. subst (λ l. Facts alike (table_on w.slots l) w.root pin r) (sym slots)
+            (elim (eqb_tells o id) [
+              | inl same ↦ facts r pin (subst (λ z. record_in (entry_at calls z) ≡ Some r) same.1 e) (subst (λ z. pin_of pins z ≡ Some pin) same.1 f)
+              | inr off ↦ sound.facts o pin r (sym (ap record_in (other_calls o off.1)) ∙ e) (sym (other_pins o off.1) ∙ f)
+            ]);
+        pinned = λ o r e.
+            elim (eqb_tells o id) [
+              | inl same ↦ subst (λ z. IsSome (pin_of pins z)) (sym same.1) (pinned r (subst (λ z. record_in (entry_at calls z) ≡ Some r) same.1 e))
+              | inr off ↦ subst (λ p. IsSome p) (sym (other_pins o off.1)) (sound.pinned o r (sym (ap record_in (other_calls o off.1)) ∙ e))
+            ];
+        called = λ o pin f.
+            elim (eqb_tells o id) [
+              | inl same ↦ subst (λ z. IsSome (record_in (entry_at calls z))) (sym same.1) (called pin (subst (λ z. pin_of pins z ≡ Some pin) same.1 f))
+              | inr off ↦ subst (λ p. IsSome (record_in p)) (sym (other_calls o off.1)) (sound.called o pin (sym (other_pins o off.1) ∙ f))
+            ];
+        seated = λ o f.
+            elim (eqb_tells o id) [
+              | inl same ↦ subst (λ z. IsSome (entry_at calls z)) (sym same.1) (seated (subst (λ z. is_seated pins z ≡ true) same.1 f))
+              | inr off ↦ subst (λ p. IsSome p) (sym (other_calls o off.1)) (sound.seated o (sym (other_seats o off.1) ∙ f))
+            ];
+        before = λ o pin f. subst (λ n. pin ≤ n) (sym count)
+            (elim (eqb_tells o id) [
+              | inl same ↦ before pin (subst (λ z. pin_of pins z ≡ Some pin) same.1 f)
+              | inr off ↦ sound.before o pin (sym (other_pins o off.1) ∙ f)
+            ]);
+        apart = λ i j s r q e f ne mine yours. holds_none r.stage s mine;
+        held = λ s need.
+            let old : NeedsHolder (table_of w) s = subst (λ l. NeedsHolder (table_on w.slots l) s) slots need in
+            let h = sound.held s old in
+            absurd (holds_none h.1.stage s h.3);
+      }
+
+  pub changed_step : (same : P → P → Bool) (env : Env P) (r : Record P) (pin : ℕ) (next : Option (Record P)) (report : Report) (out : Outcome P)
+      → call_of w id ≡ Some r → pin_of w.pins id ≡ Some pin → flight_in (record_in (entry_at calls id)) (pin_of pins id) ≡ flight_in next (Some pin)
+      → IsAdvance alike same (table_of w) w.root pin r env next report out
+      → IsStep alike same w (record w { pins = pins; calls = calls }) id env report out
+  changed_step same env r pin next report out found pinned now advances =
+      let old_view = view_on (table_on w.slots w.pins.slots) w.root w.pins.count w.charge in
+      let step : Advances alike same old_view old_view (flight pin r) (flight_in next (Some pin)) env report out = advances.does w.pins.count w.charge in
+      record {
+        call = flight pin r;
+        in_flight = ap (λ x. flight_in x (pin_of w.pins id)) found ∙ ap (λ x. flight_in (Some r) x) pinned;
+        others = λ o ne. ap (λ x. flight_in (record_in x) (pin_of pins o)) (other_calls o ne) ∙ ap (λ x. flight_in (record_in (entry_at w.calls o)) x) (other_pins o ne);
+        event = subst (λ f. Advances alike same old_view (view_on (table_on w.slots pins.slots) w.root pins.count w.charge) (flight pin r) f env report out) (sym now)
+            (subst (λ l. Advances alike same old_view (view_on (table_on w.slots l) w.root pins.count w.charge) (flight pin r) (flight_in next (Some pin)) env report out) (sym slots)
+            (subst (λ n. Advances alike same old_view (view_on (table_on w.slots w.pins.slots) w.root n w.charge) (flight pin r) (flight_in next (Some pin)) env report out) (sym count) step));
+      }
+
+-- a call in flight has a pin
+no_pin_at : {P : Type 0} (alike : P → P → Type 0) (w : World P) (id : ℕ) (found : Option (Record P)) → IsSound alike w → call_of w id ≡ found → IsSome found → pin_of w.pins id ≡ None → ⊥
+no_pin_at {P} alike w id None sound e h none = no_record P h
+no_pin_at alike w id (Some r) sound e h none = no_number (subst (λ (x : Option ℕ). IsSome x) none (sound.pinned id r e))
+
+pub no_pin : {P : Type 0} (alike : P → P → Type 0) (w : World P) (id : ℕ) → IsSound alike w → IsSome (call_of w id) → pin_of w.pins id ≡ None → ⊥
+no_pin alike w id sound h none = no_pin_at alike w id (call_of w id) sound refl h none
+
+-- the machine where the call goes on
+module _ {P : Type 0} (alike : P → P → Type 0) (w : World P) (calls : List (ℕ × Option (Record P))) (id : ℕ) (sound : IsSound alike w)
+    (others : (o : ℕ) → o ≢ id → entry_at calls o ≡ entry_at w.calls o) (next : Record P) (pin : ℕ)
+    (here : entry_at calls id ≡ Some (Some next)) (pinned : pin_of w.pins id ≡ Some pin) where
+  pins_same : (p q : ℕ) → Some p ≡ Some q → p ≡ q
+  pins_same p q e = cc
+
+  pub on_sound : Facts alike (table_of w) w.root pin next → IsSound alike (record w { calls = calls })
+  on_sound facts =
+      changed_sound alike w w.pins calls id sound refl refl others (λ o ne. refl) (λ o ne. refl)
+      (λ r p e f. subst (λ (x : Record P). Facts alike (table_of w) w.root p x) (records_same next r (sym (ap record_in here) ∙ e))
+      (subst (λ n. Facts alike (table_of w) w.root n next) (pins_same pin p (sym pinned ∙ f)) facts))
+      (λ r e. subst (λ (x : Option ℕ). IsSome x) (sym pinned) refl)
+      (λ p f. subst (λ (x : Option (Option (Record P))). IsSome (record_in x)) (sym here) refl)
+      (λ e. subst (λ (x : Option (Option (Record P))). IsSome x) (sym here) refl)
+      (λ p f. sound.before id p f)
+
+  pub on_step : (same : P → P → Bool) (env : Env P) (r : Record P) (report : Report) (out : Outcome P)
+      → call_of w id ≡ Some r → IsAdvance alike same (table_of w) w.root pin r env (Some next) report out → IsStep alike same w (record w { calls = calls }) id env report out
+  on_step same env r report out found advances =
+      changed_step alike w w.pins calls id sound refl refl others (λ o ne. refl) (λ o ne. refl) same env r pin (Some next) report out found pinned
+      (ap (λ x. flight_in (record_in x) (pin_of w.pins id)) here ∙ ap (λ x. flight_in (Some next) x) pinned) advances
+
+-- the machine where the call ends
+module _ {P : Type 0} (alike : P → P → Type 0) (w : World P) (pins : PinsView) (calls : List (ℕ × Option (Record P))) (id : ℕ) (sound : IsSound alike w)
+    (others : (o : ℕ) → o ≢ id → entry_at calls o ≡ entry_at w.calls o) (leaves : ChangesSeat w.pins pins id (is_seated w.pins id) None)
+    (gone : record_in (entry_at calls id) ≡ None) where
+  none_record : (r : Record P) → None ≡ Some r → ⊥
+  none_record r e = cc
+
+  none_pin : (p : ℕ) → None ≡ Some p → ⊥
+  none_pin p e = cc
+
+  pub gone_sound : (is_seated pins id ≡ true → IsSome (entry_at calls id)) → IsSound alike (record w { pins = pins; calls = calls })
+  gone_sound kept =
+      changed_sound alike w pins calls id sound leaves.slots leaves.count others leaves.other_seats leaves.other_pins
+      (λ r p e f. absurd (none_record r (sym gone ∙ e))) (λ r e. absurd (none_record r (sym gone ∙ e))) (λ p f. absurd (none_pin p (sym leaves.pinned ∙ f))) kept
+      (λ p f. absurd (none_pin p (sym leaves.pinned ∙ f)))
+
+  pub gone_step : (same : P → P → Bool) (env : Env P) (r : Record P) (pin : ℕ) (report : Report) (out : Outcome P)
+      → call_of w id ≡ Some r → pin_of w.pins id ≡ Some pin → IsAdvance alike same (table_of w) w.root pin r env None report out
+      → IsStep alike same w (record w { pins = pins; calls = calls }) id env report out
+  gone_step same env r pin report out found pinned advances =
+      changed_step alike w pins calls id sound leaves.slots leaves.count others leaves.other_seats leaves.other_pins same env r pin None report out found pinned
+      (ap (λ x. flight_in x (pin_of pins id)) gone) advances
+
+pub unseated : (b : Bool) → b ≡ false → b ≡ true → ⊥
+unseated b e f = cc
+
+-- another number isn't the one that is looked for
+pub off_at : (id o : ℕ) → o ≢ id → is_at (nat_cmp id) o ≡ false
+off_at id o ne = grind (arith, common_steps, ne)
+
+pub free_call : {P : Type 0} (x : Option (Record P)) → is_some x ≡ false → x ≡ None
+free_call None h = refl
+free_call (Some r) h = absurd (cc)
+
+-- a number that isn't in flight has no pin
+free_pin_at : {P : Type 0} (alike : P → P → Type 0) (w : World P) (id : ℕ) (p : Option ℕ) → IsSound alike w → call_of w id ≡ None → pin_of w.pins id ≡ p → pin_of w.pins id ≡ None
+free_pin_at alike w id None sound none e = e
+free_pin_at {P} alike w id (Some p) sound none e = absurd (no_record P (subst (λ (x : Option (Record P)). IsSome x) none (sound.called id p e)))
+
+pub free_pin : {P : Type 0} (alike : P → P → Type 0) (w : World P) (id : ℕ) → IsSound alike w → call_of w id ≡ None → pin_of w.pins id ≡ None
+free_pin alike w id sound none = free_pin_at alike w id (pin_of w.pins id) sound none refl
+
+numbers_same : (p q : ℕ) → Some p ≡ Some q → p ≡ q
+numbers_same p q e = cc
+
+no_pin_some : (p : ℕ) → None ≡ Some p → ⊥
+no_pin_some p e = cc
+
+no_call_some : {P : Type 0} (r : Record P) → None ≡ Some r → ⊥
+no_call_some r e = cc
+
+-- the machine where a call begins
+pub begun_sound : {P : Type 0} (alike : P → P → Type 0) (w : World P) (pins : PinsView) (calls : List (ℕ × Option (Record P))) (id : ℕ) (r : Record P) → IsSound alike w
+    → ChangesSeat w.pins pins id (is_seated w.pins id) (Some w.pins.count) → ((o : ℕ) → o ≢ id → entry_at calls o ≡ entry_at w.calls o) → entry_at calls id ≡ Some (Some r)
+    → Facts alike (table_of w) w.root w.pins.count r → IsSound alike (record w { pins = pins; calls = calls })
+begun_sound {P} alike w pins calls id r sound enters others here facts =
+    changed_sound alike w pins calls id sound enters.slots enters.count others enters.other_seats enters.other_pins
+    (λ q p e f. subst (λ (x : Record P). Facts alike (table_of w) w.root p x) (records_same r q (sym (ap record_in here) ∙ e))
+    (subst (λ n. Facts alike (table_of w) w.root n r) (numbers_same w.pins.count p (sym enters.pinned ∙ f)) facts))
+    (λ q e. subst (λ (x : Option ℕ). IsSome x) (sym enters.pinned) refl)
+    (λ p f. subst (λ (x : Option (Option (Record P))). IsSome (record_in x)) (sym here) refl)
+    (λ e. subst (λ (x : Option (Option (Record P))). IsSome x) (sym here) refl)
+    (λ p f. let e : w.pins.count ≡ p = numbers_same w.pins.count p (sym enters.pinned ∙ f) in omega arith)
+
+-- the machine where a number entered and left again
+pub same_sound : {P : Type 0} (alike : P → P → Type 0) (w : World P) (mid pins : PinsView) (calls : List (ℕ × Option (Record P))) (id : ℕ) → IsSound alike w → call_of w id ≡ None
+    → ChangesSeat w.pins mid id (is_seated w.pins id) (Some w.pins.count) → ChangesSeat mid pins id (is_seated mid id) None → calls ≡ w.calls
+    → IsSound alike (record w { pins = pins; calls = calls })
+same_sound {P} alike w mid pins calls id sound free enters leaves same =
+    changed_sound alike w pins calls id sound (leaves.slots ∙ enters.slots) (leaves.count ∙ enters.count) (λ o ne. ap (λ es. entry_at es o) same)
+    (λ o ne. leaves.other_seats o ne ∙ enters.other_seats o ne) (λ o ne. leaves.other_pins o ne ∙ enters.other_pins o ne)
+    (λ r p e f. absurd (no_pin_some p (sym leaves.pinned ∙ f)))
+    (λ r e. absurd (no_call_some r (sym free ∙ (sym (ap (λ es. record_in (entry_at es id)) same) ∙ e))))
+    (λ p f. absurd (no_pin_some p (sym leaves.pinned ∙ f)))
+    (λ e. subst (λ es. IsSome (entry_at es id)) (sym same) (sound.seated id (sym enters.seat ∙ (sym leaves.seat ∙ e))))
+    (λ p f. absurd (no_pin_some p (sym leaves.pinned ∙ f)))
+
+pub same_unchanged : {P : Type 0} (w : World P) (mid pins : PinsView) (calls : List (ℕ × Option (Record P))) (id : ℕ) → call_of w id ≡ None
+    → ChangesSeat w.pins mid id (is_seated w.pins id) (Some w.pins.count) → ChangesSeat mid pins id (is_seated mid id) None → calls ≡ w.calls
+    → IsUnchanged w (record w { pins = pins; calls = calls })
+same_unchanged {P} w mid pins calls id free enters leaves same = record {
+  calls = λ o.
+      elim (eqb_tells o id) [
+        | inl e ↦ subst (λ z. flight_in (record_in (entry_at calls z)) (pin_of pins z) ≡ flight_in (record_in (entry_at w.calls z)) (pin_of w.pins z)) (sym e.1)
+            (ap (λ es. flight_in (record_in (entry_at es id)) (pin_of pins id)) same ∙ (ap (λ x. flight_in x (pin_of pins id)) free ∙ sym (ap (λ x. flight_in x (pin_of w.pins id)) free)))
+        | inr off ↦ ap (λ es. flight_in (record_in (entry_at es o)) (pin_of pins o)) same
+            ∙ ap (λ x. flight_in (record_in (entry_at w.calls o)) x) (leaves.other_pins o off.1 ∙ enters.other_pins o off.1)
+      ];
+  seats = λ o.
+      elim (eqb_tells o id) [
+        | inl e ↦ subst (λ z. is_seated pins z ≡ is_seated w.pins z) (sym e.1) (leaves.seat ∙ enters.seat)
+        | inr off ↦ leaves.other_seats o off.1 ∙ enters.other_seats o off.1
+      ];
+  nodes = λ s. ap (λ l. shown (table_on w.slots l s)) (leaves.slots ∙ enters.slots);
+  books = record { root = refl; count = leaves.count ∙ enters.count; charge = refl };
+  entries = refl;
+}
+
+pub begun_start : {P : Type 0} (alike : P → P → Type 0) (same : P → P → Bool) (w : World P) (pins : PinsView) (calls : List (ℕ × Option (Record P))) (id key : ℕ) (op : Op P) (spare : Option P)
+    → op ≡ Get key → call_of w id ≡ None → ChangesSeat w.pins pins id (is_seated w.pins id) (Some w.pins.count) → ((o : ℕ) → o ≢ id → entry_at calls o ≡ entry_at w.calls o)
+    → entry_at calls id ≡ Some (Some (record { op = Get key; stage = TakeRoot; last = None; spare = spare; asking = Fresh; progress = Open }))
+    → IsStart alike same w (record w { pins = pins; calls = calls }) id op (report_of Start None 0 true)
+begun_start {P} alike same w pins calls id key op spare is free enters others here = record {
+  is = refl;
+  was_free = ap (λ x. flight_in x (pin_of w.pins id)) free;
+  shared = Get key;
+  alike_op = subst (λ (o : Op P). AlikeOp alike o (Get key)) (sym is) refl;
+  here = ap (λ x. flight_in (record_in x) (pin_of pins id)) here
+      ∙ (ap (λ x. flight_in (Some (record { op = Get key; stage = TakeRoot; last = None; spare = spare; asking = Fresh; progress = Open })) x) enters.pinned
+      ∙ ap (λ k. Some (record { op = Get key; pin = w.pins.count; cursor = k; seen = None; asking = Fresh; progress = Open; spots = []; held = []; made = [] })) (sym (ap key_of is)));
+  others = λ o ne. ap (λ x. flight_in (record_in x) (pin_of pins o)) (others o ne) ∙ ap (λ x. flight_in (record_in (entry_at w.calls o)) x) (enters.other_pins o ne);
+  nodes = λ s. ap (λ l. shown (table_on w.slots l s)) enters.slots;
+  books = record { root = refl; count = enters.count; charge = refl };
+}

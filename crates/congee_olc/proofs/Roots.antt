@@ -1,0 +1,124 @@
+-- The machine of the root alone.
+use Rattle.std.proofs.Common.{◌≡◌, ◌≢◌, ℕ, ◌≤◌, true, false, List, [], length, Option, Some, None, inl, inr, refl, sym, subst, ap, ◌∙◌, arith, slice_index_or}
+use Rattle.std.proofs.lemmas.Bool.Decides.{eqb_tells}
+use Rattle.congee_nodes.specs.Map.{Rises}
+use Rattle.congee_nodes.specs.Key.{AreBytes}
+use Rattle.congee_nodes.specs.declared.base_node.NodeType.TheVariants.{N256}
+use Rattle.congee_nodes.specs.declared.child.Child.{Child}
+use Rattle.congee_nodes.specs.declared.child.Child.TheVariants.{Payload, Node as below_at}
+use Rattle.congee_olc.specs.Epoch.{PinsView}
+use Rattle.congee_olc.specs.Lock.{IsLocked, IsObsolete}
+use Rattle.congee_olc.specs.World.{Node, Table, is_linked, is_private, is_retired, entry, node_of}
+use Rattle.congee_olc.specs.Facts.{IsPlaced, NeedsHolder, IsSound}
+use Rattle.congee_olc.specs.Run.{IsFresh}
+use Rattle.congee_olc.specs.Table.{shown}
+use Rattle.congee_olc.specs.declared.olc.stage.Stored.{Stored}
+use Rattle.congee_olc.specs.declared.olc.stage.Place.TheVariants.{Linked}
+use Rattle.congee_olc.specs.declared.olc.stage.Record.{Record}
+use Rattle.congee_olc.proofs.Ways.{node_same}
+
+abbrev pub top : {P : Type 0} → Node P
+top = record { word = 0; node = record { form = N256; prefix = []; children = [] }; standing = is_linked }
+
+linked_private : is_linked ≡ is_private → ⊥
+linked_private e = cc
+
+linked_retired : (stamp : Option ℕ) → is_linked ≡ is_retired stamp → ⊥
+linked_retired stamp e = cc
+
+not_odd : let n : ℕ = 0 in n ≡ 1 → ⊥
+not_odd e = absurd (omega arith)
+
+module _ {P : Type 0} (t : Table P) (root : ℕ) (here : t root ≡ Some top) (others : (o : ℕ) → o ≢ root → t o ≡ None) where
+  none_node : (b : Node P) → None ≡ Some b → ⊥
+  none_node b e = cc
+
+  none_child : (c : Child P) → None ≡ Some c → ⊥
+  none_child c e = cc
+
+  only : (s : ℕ) (b : Node P) → t s ≡ Some b → (s ≡ root) × (b ≡ top)
+  only s b h =
+      elim (eqb_tells s root) [
+        | inl e ↦ (e.1, node_same b top (sym (subst (λ z. t z ≡ Some b) e.1 h) ∙ here))
+        | inr off ↦ absurd (none_node b (sym (others s off.1) ∙ h))
+      ]
+
+  no_entry : (s : ℕ) (b : Node P) (x : ℕ) (c : Child P) → t s ≡ Some b → entry b x ≡ Some c → ⊥
+  no_entry s b x c h e = none_child c (subst (λ (z : Node P). entry z x ≡ Some c) (only s b h).1 e)
+
+  pub root_placed : IsPlaced t root
+  root_placed = record {
+    top = top;
+    top_linked = record { here = here; standing = refl };
+    top_prefix = refl;
+    top_form = refl;
+    short = λ s a h. subst (λ (z : Node P). length z.node.prefix ≤ 7) (sym (only s a h.here).1) (omega arith);
+    bytes = λ s a h. subst (λ (z : Node P). AreBytes z.node.prefix) (sym (only s a h.here).1) tt;
+    ordered = λ s a h. subst (λ (z : Node P). Rises 0 256 z.node.children) (sym (only s a h.here).1) tt;
+    below = λ s a h x c e. absurd (no_entry s a x (below_at c) h.here e);
+    leaf = λ s a h x v e. absurd (no_entry s a x (Payload v) h.here e);
+    leads = λ s r a b h g e. inl ((only s a h.here).0 ∙ sym (only r b g.here).0);
+    free = λ s a h e. inl (ap (λ (z : Node P). z.standing) (only s a h).1);
+    obsolete = λ s a h. (
+      (λ (o : IsObsolete a.word). absurd (not_odd (subst (λ (z : Node P). IsObsolete z.word) (only s a h).1 o))),
+      (λ r. absurd (linked_retired r.0 (sym (ap (λ (z : Node P). z.standing) (only s a h).1) ∙ r.1))),
+    );
+  }
+
+  pub none_needed : (s : ℕ) → NeedsHolder t s → ⊥
+  none_needed s n =
+      let is : n.node ≡ top = (only s n.node n.here).1 in
+      elim n.why [
+        | inl e ↦ linked_private (sym (ap (λ (z : Node P). z.standing) is) ∙ e)
+        | inr e ↦ not_odd (subst (λ (z : Node P). IsLocked z.word) is e.0)
+      ]
+
+module _ {P : Type 0} (alike : P → P → Type 0) (slots : List (Option (Stored P))) (root entries : ℕ) (charge : Option ℕ) (n : Stored P)
+    (here : slice_index_or slots root None ≡ Some n) (others : (o : ℕ) → o ≢ root → slice_index_or slots o None ≡ None)
+    (word : n.word ≡ 0) (place : n.place ≡ Linked) (node : n.node ≡ record { form = N256; prefix = []; children = [] }) where
+  node_top : node_of None (Some n) ≡ Some top
+  node_top = rw (word, place, node) refl
+
+  at_top : node_of None (slice_index_or slots root None) ≡ Some top
+  at_top = ap (node_of None) here ∙ node_top
+
+  none_call : (r : Record P) → None ≡ Some r → ⊥
+  none_call r e = cc
+
+  none_pin : (p : ℕ) → None ≡ Some p → ⊥
+  none_pin p e = cc
+
+  none_seat : false ≡ true → ⊥
+  none_seat e = cc
+
+  pub empty_sound : IsSound alike (record { slots = slots; root = root; pins = record { seats = []; slots = []; count = 0 }; calls = []; entries = entries; charge = charge })
+  empty_sound = record {
+    placed = root_placed (λ s. node_of None (slice_index_or slots s None)) root at_top (λ o off. ap (node_of None) (others o off));
+    facts = λ id pin r e f. absurd (none_call r e);
+    pinned = λ id r e. absurd (none_call r e);
+    called = λ id pin e. absurd (none_pin pin e);
+    seated = λ id e. absurd (none_seat e);
+    before = λ id pin e. absurd (none_pin pin e);
+    apart = λ i j s r q e f. absurd (none_call r e);
+    held = λ s h. absurd (none_needed (λ s. node_of None (slice_index_or slots s None)) root at_top (λ o off. ap (node_of None) (others o off)) s h);
+  }
+
+  pub root_sound : (pins : PinsView) (calls : List (ℕ × Option (Record P))) → pins ≡ record { seats = []; slots = []; count = 0 } → calls ≡ []
+      → IsSound alike (record { slots = slots; root = root; pins = pins; calls = calls; entries = entries; charge = charge })
+  root_sound pins calls e f =
+      subst (λ p. IsSound alike (record { slots = slots; root = root; pins = p; calls = calls; entries = entries; charge = charge })) (sym e)
+      (subst (λ x. IsSound alike (record { slots = slots; root = root; pins = record { seats = []; slots = []; count = 0 }; calls = x; entries = entries; charge = charge })) (sym f) empty_sound)
+
+  pub empty_fresh : IsFresh (record { slots = slots; root = root; pins = record { seats = []; slots = []; count = 0 }; calls = []; entries = entries; charge = charge })
+  empty_fresh = record {
+    root = ap shown at_top;
+    others = λ slot off. ap (λ n. shown (node_of None n)) (others slot off);
+    calls = λ id. refl;
+    count = refl;
+  }
+
+  pub root_fresh : (pins : PinsView) (calls : List (ℕ × Option (Record P))) → pins ≡ record { seats = []; slots = []; count = 0 } → calls ≡ []
+      → IsFresh (record { slots = slots; root = root; pins = pins; calls = calls; entries = entries; charge = charge })
+  root_fresh pins calls e f =
+      subst (λ p. IsFresh (record { slots = slots; root = root; pins = p; calls = calls; entries = entries; charge = charge })) (sym e)
+      (subst (λ x. IsFresh (record { slots = slots; root = root; pins = record { seats = []; slots = []; count = 0 }; calls = x; entries = entries; charge = charge })) (sym f) empty_fresh)

@@ -1,0 +1,9 @@
+pub mod Lock
+pub mod Epoch
+pub mod World
+pub mod Table
+pub mod Flight
+pub mod Event
+pub mod Run
+pub mod Facts
+pub mod Found

@@ -1,0 +1,42 @@
+use Rattle.std.proofs.Common.{arith, sym, refl}
+use Rattle.congee_nodes.proofs.KeyLaws.{AreBytes-from_items}
+use Rattle.congee_nodes.proofs.MapLaws.{without-absent}
+use Rattle.congee_tree.proofs.WayLaws.{lookup_end}
+use Rattle.congee_tree.proofs.PathLaws.{path_length, path_short}
+use Rattle.congee_tree.proofs.RemoveLaws.{ready_take, was_present, take_out}
+use Rattle.congee_tree.proofs.removal.remove.Goals as goal
+
+pub take_out-requires : goal.take_out-requires
+take_out-requires g c = ready_take _ _ _ (AreBytes-from_items _ (λ k l. c.fits-key k)) c.told-key _ c.descend-slot.ensures.arrives _ _ c.in-Present.is c.requires.root
+
+pub returns-in-Present : goal.returns-in-Present
+returns-in-Present g c =
+    let bytes = AreBytes-from_items _ (λ k l. c.fits-key k) in
+    let a = c.descend-slot.ensures.arrives in
+    let x = take_out _ _ _ bytes c.told-key _ a _ _ c.in-Present.is c.requires.root _ c.take_out.ensures.taken in
+    let l = path_length _ _ _ bytes c.told-key _ a in
+    record {
+      tree = x.0.tree;
+      root = x.1;
+      before = sym (was_present _ _ _ bytes c.told-key _ a _ _ c.in-Present.is _ c.take_out.ensures.before);
+      pairs = x.0.pairs;
+      shape = x.0.shape;
+      reads = omega (arith, l, c.descend-slot.ensures.reads);
+      few = path_short _ _ _ bytes c.told-key _ a;
+    }
+
+pub returns-in_default : goal.returns-in_default
+returns-in_default g c =
+    let bytes = AreBytes-from_items _ (λ k l. c.fits-key k) in
+    let a = c.descend-slot.ensures.arrives in
+    let none = lookup_end _ _ _ bytes c.told-key _ a _ refl (λ b v e. c.in_default.not-Present b v e) in
+    let l = path_length _ _ _ bytes c.told-key _ a in
+    record {
+      tree = c.requires.tree;
+      root = c.requires.root;
+      before = sym none;
+      pairs = sym (without-absent _ _ none);
+      shape = refl;
+      reads = omega (arith, l, c.descend-slot.ensures.reads);
+      few = path_short _ _ _ bytes c.told-key _ a;
+    }

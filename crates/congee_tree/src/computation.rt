@@ -1,0 +1,76 @@
+//! A computation at a key that is present: a closure's answer takes the place of the payload, or the payload goes.
+//!
+//! Takes no memory.
+
+ghost use Rattle.std.specs.Prelude.{◌≡◌, ℕ, ◌+◌, ◌≤◌, [], length, Option, Some, None, if◌then◌else◌};
+ghost use Rattle.std.specs.Fn.{TakesAt, CalledAt};
+ghost use Rattle.congee_nodes.specs.Map.{lookup, with_answer};
+ghost use Rattle.congee_nodes.specs.Key.{key_number};
+ghost use Rattle.congee_nodes.specs.Reduce.{Recomputes};
+ghost use Rattle.congee_nodes.specs.Table.{pairs_at, nodes_at, IsTree};
+ghost use Rattle.congee_tree.specs.Path.{on_path};
+ghost use Rattle.congee_tree.specs.Way.{depth, HasRoot};
+
+use crate::descent::{End, Place, descend};
+use crate::insertion::change_child;
+use crate::reads::Reads;
+use crate::removal::take_out;
+use congee_nodes::child::Child;
+use congee_nodes::tree_node::TreeNode;
+use slab::Slab;
+use std::sync::ledger::Ledger;
+
+/// What stood at the key, and whether it was taken out.
+#[derive(Drop)]
+pub(crate) struct Computed<P> {
+    pub(crate) before: Option<P>,
+    pub(crate) removed: bool,
+}
+
+/// Calls the closure at the payload at the key, where there is one, and puts its answer in the place of it, or takes the
+/// pair out.
+pub(crate) fn compute_if_present<P: Drop, F: FnMut(&P) -> Option<P>, L: Ledger>(
+    nodes: &mut Slab<TreeNode<P>>,
+    root: usize,
+    key: &[u8; 8],
+    f: &mut F,
+    reads: &mut Reads<L>,
+) -> Computed<P>
+    requires tree { IsTree nodes.old.slots depth [] root }
+    requires root { HasRoot nodes.old.slots root }
+    requires takes { (standing : P) → lookup (pairs_at nodes.old.slots depth root) (key_number key.now) ≡ Some standing → TakesAt F.FnMut f.old standing }
+    ensures tree { IsTree nodes.new.slots depth [] root }
+    ensures root { HasRoot nodes.new.slots root }
+    ensures before { result.before ≡ lookup (pairs_at nodes.old.slots depth root) (key_number key.now) }
+    ensures absent { lookup (pairs_at nodes.old.slots depth root) (key_number key.now) ≡ None → (nodes.new.slots ≡ nodes.old.slots) × (f.new ≡ f.old) }
+    ensures present { (standing : P) → lookup (pairs_at nodes.old.slots depth root) (key_number key.now) ≡ Some standing → (answer : Option P) × CalledAt F.FnMut f.old standing answer f.new × (pairs_at nodes.new.slots depth root ≡ with_answer (pairs_at nodes.old.slots depth root) (key_number key.now) answer) × Recomputes answer (nodes_at nodes.old.slots depth [] root) key.now (nodes_at nodes.new.slots depth [] root) }
+    ensures count { length (pairs_at nodes.new.slots depth root) + (if result.removed then 1 else 0) ≡ length (pairs_at nodes.old.slots depth root) }
+    ensures reads { reads.new ≡ reads.old + on_path (nodes_at nodes.old.slots depth [] root) key.now }
+    ensures few { on_path (nodes_at nodes.old.slots depth [] root) key.now ≤ 8 }
+{
+    let Place {
+        slot,
+        parent,
+        end,
+        ..
+    } = descend(nodes, root, key, reads);
+    let End::Present(byte, standing) = end else {
+        return Computed {
+            before: None,
+            removed: false,
+        };
+    };
+    match f(standing) {
+        Some(payload) => match change_child(nodes, slot, byte, Child::Payload(payload)) {
+            Child::Payload(before) => Computed {
+                before: Some(before),
+                removed: false,
+            },
+            Child::Node(_) => unreachable!(),
+        },
+        None => Computed {
+            before: Some(take_out(nodes, parent, slot, key, byte)),
+            removed: true,
+        },
+    }
+}

@@ -1,0 +1,103 @@
+//! A removal from the table: a payload goes out of its leaf, and a leaf that is empty then goes out of the node above it.
+//!
+//! Takes no memory. An inner node that is empty then stays.
+
+ghost use Rattle.std.specs.Prelude.{◌≡◌, ℕ, ◌+◌, ◌≤◌, [], Some, None};
+ghost use Rattle.congee_nodes.specs.Map.{lookup, without};
+ghost use Rattle.congee_nodes.specs.Key.{key_number};
+ghost use Rattle.congee_nodes.specs.Reduce.{Reduces};
+ghost use Rattle.congee_nodes.specs.Table.{node_at, pairs_at, nodes_at, IsTree};
+ghost use Rattle.congee_nodes.specs.declared.child.Child.TheVariants.{Payload};
+ghost use Rattle.congee_tree.specs.Path.{on_path};
+ghost use Rattle.congee_tree.specs.Way.{depth, HasRoot};
+ghost use Rattle.congee_tree.specs.Writes.{SameElsewhere, WasChild};
+ghost use Rattle.congee_tree.specs.Takes.{IsPresentIn, TakesChild, TakesOnWay, KeepsBut, IsLinked, IsHeld, TakesOut};
+
+use crate::descent::{End, Place, descend};
+use crate::reads::Reads;
+use congee_nodes::child::Child;
+use congee_nodes::tree_node::TreeNode;
+use slab::Slab;
+use std::sync::ledger::Ledger;
+
+// Takes out the child under a byte of the node in a slot.
+fn take_child<P: Drop>(nodes: &mut Slab<TreeNode<P>>, slot: usize, byte: u8) -> Child<P>
+    requires { IsPresentIn nodes.old.slots slot byte }
+    ensures keeps { SameElsewhere slot nodes.old.slots nodes.new.slots }
+    ensures taken { TakesChild nodes.old.slots nodes.new.slots slot byte }
+    ensures before { WasChild nodes.old.slots slot byte result }
+{
+    let Some(node) = nodes.get_mut(slot) else {
+        unreachable!()
+    };
+    node.remove(byte)
+}
+
+// Takes the node in a slot out of the one above it on the key's way, and gives its slot back.
+fn detach<P: Drop>(nodes: &mut Slab<TreeNode<P>>, parent: usize, slot: usize, key: &[u8; 8])
+    requires { IsLinked nodes.old.slots parent slot key.now }
+    ensures keeps { KeepsBut parent slot nodes.old.slots nodes.new.slots }
+    ensures taken { TakesOnWay nodes.old.slots nodes.new.slots parent key.now }
+    ensures gives_back { node_at nodes.new.slots slot ≡ None }
+{
+    let Some(above) = nodes.get(parent) else {
+        unreachable!()
+    };
+    let byte = key[above.base().prefix().len()];
+    take_child(nodes, parent, byte);
+    nodes.remove(slot);
+}
+
+/// Takes a payload out of its leaf, and the leaf out of the node above it where it has no other.
+pub(crate) fn take_out<P: Drop>(
+    nodes: &mut Slab<TreeNode<P>>,
+    parent: usize,
+    slot: usize,
+    key: &[u8; 8],
+    byte: u8,
+) -> P
+    requires { IsHeld nodes.old.slots parent slot key.now byte }
+    ensures taken { TakesOut nodes.old.slots nodes.new.slots slot parent key.now byte }
+    ensures before { WasChild nodes.old.slots slot byte (Payload result) }
+{
+    let before = match take_child(nodes, slot, byte) {
+        Child::Payload(before) => before,
+        Child::Node(_) => unreachable!(),
+    };
+    let Some(leaf) = nodes.get(slot) else {
+        unreachable!()
+    };
+    if leaf.base().value_count() == 0 {
+        detach(nodes, parent, slot, key);
+    }
+    before
+}
+
+/// Takes out the pair at the key, and answers its payload.
+pub(crate) fn remove<P: Drop, L: Ledger>(
+    nodes: &mut Slab<TreeNode<P>>,
+    root: usize,
+    key: &[u8; 8],
+    reads: &mut Reads<L>,
+) -> Option<P>
+    requires tree { IsTree nodes.old.slots depth [] root }
+    requires root { HasRoot nodes.old.slots root }
+    ensures tree { IsTree nodes.new.slots depth [] root }
+    ensures root { HasRoot nodes.new.slots root }
+    ensures before { result ≡ lookup (pairs_at nodes.old.slots depth root) (key_number key.now) }
+    ensures pairs { pairs_at nodes.new.slots depth root ≡ without (pairs_at nodes.old.slots depth root) (key_number key.now) }
+    ensures shape { Reduces result (nodes_at nodes.old.slots depth [] root) key.now (nodes_at nodes.new.slots depth [] root) }
+    ensures reads { reads.new ≡ reads.old + on_path (nodes_at nodes.old.slots depth [] root) key.now }
+    ensures few { on_path (nodes_at nodes.old.slots depth [] root) key.now ≤ 8 }
+{
+    let Place {
+        slot,
+        parent,
+        end,
+        ..
+    } = descend(nodes, root, key, reads);
+    match end {
+        End::Present(byte, _) => Some(take_out(nodes, parent, slot, key, byte)),
+        _ => None,
+    }
+}
