@@ -1,44 +1,57 @@
 -- Single calls as runs, and one run after another.
-use Rattle.std.proofs.Common.{◌≡◌, ◌≢◌, ℕ, Bool, true, false, IsTrue, ◌↔◌, List, [], ◌∷◌, ◌++◌, Option, Some, None, Result, Ok, Err, length, nat_eq, refl, ap, ◌∙◌, inl, inr, arith}
+use Rattle.std.proofs.Common.{◌≡◌, ◌≢◌, ℕ, Bool, true, false, IsTrue, ◌↔◌, List, [], ◌∷◌, ◌++◌, Option, Some, None, Result, Ok, Err, length, map, take, nat_eq, refl, ap, ◌∙◌, inl, inr, arith}
 use Rattle.std.specs.Option.{option_map}
+use Rattle.std.proofs.lemmas.List.{map-append}
 use Rattle.std.proofs.lemmas.Bool.{eq-eqb, ne_eqb, cases_eq}
-use Rattle.congee_nodes.specs.Map.{Pairs, lookup, put, without, with_answer}
-use Rattle.congee_nodes.specs.Call.{compare_exchange, Asked, Answer, old_value, exchanged, computed, tested, replied, refused, Deed}
+use Rattle.congee_nodes.specs.Map.{Pairs, lookup, put, without, with_answer, between}
+use Rattle.congee_nodes.specs.Call.{compare_exchange, Asked, Answer, old_value, exchanged, computed, tested, listed, ranged, replied, refused, Deed}
 use Rattle.congee_nodes.specs.Refusal.{Refusals, of_new_nodes, NeedsNode}
 use Rattle.congee_nodes.specs.Legal.{MayAnswer, after_answer, after_exchange, exchange}
 use Rattle.congee_nodes.specs.Conversion.{Conversion, converted, exchange_read, answer_read}
 use Rattle.congee_nodes.proofs.Runs.{IsLegalFor-append}
 use Rattle.congee.specs.declared.calls.Call.{Call as FaceCall}
-use Rattle.congee.specs.declared.calls.Call.TheVariants.{Get, Insert, Remove, CompareExchange, ComputeIfPresent, ComputeOrInsert, IsEmpty}
+use Rattle.congee.specs.declared.calls.Call.TheVariants.{Get, Insert, Remove, CompareExchange, ComputeIfPresent, ComputeOrInsert, IsEmpty, Keys, Range}
 use Rattle.congee.specs.declared.calls.Reply.{Reply}
 use Rattle.congee.specs.declared.calls.Reply.TheVariants.{Old, Exchanged, Computed, Tested, Refused}
-use Rattle.congee.specs.Calls.{AnswersBy, call_of, closure_of, answer_of, AreDeeds, IsRun, IsStep}
+use Rattle.congee.specs.Calls.{AnswersBy, call_of, closure_of, answer_of, deeds_of, AreMade, AnswersRun, IsRun, IsStep}
+
+-- what was done by two lists of calls
+deeds_of-append : {K V P : Type 0} (ds es : List (Option (Deed K V P))) → deeds_of (ds ++ es) ≡ deeds_of ds ++ deeds_of es
+deeds_of-append [] es = refl
+deeds_of-append (None ∷ ds) es = deeds_of-append ds es
+deeds_of-append (Some d ∷ ds) es = ap (λ xs. d ∷ xs) (deeds_of-append ds es)
 
 module _ {K V : Type 0} where
-  made-append : (calls calls' : List (FaceCall K V)) (replies replies' : List (Reply V)) (ds es : List (Deed K V ℕ))
-      → AreDeeds calls replies ds → AreDeeds calls' replies' es → AreDeeds (calls ++ calls') (replies ++ replies') (ds ++ es)
-  made-append [] calls' [] replies' [] es h k = k
-  made-append [] calls' [] replies' (d ∷ ds) es h k = absurd h
-  made-append [] calls' (y ∷ replies) replies' ds es h k = absurd h
-  made-append (x ∷ calls) calls' [] replies' ds es h k = absurd h
-  made-append (x ∷ calls) calls' (y ∷ replies) replies' [] es h k = absurd h
-  made-append (x ∷ calls) calls' (y ∷ replies) replies' (d ∷ ds) es h k = (h.0, made-append calls calls' replies replies' ds es h.1 k)
+  made-append : (calls calls' : List (FaceCall K V)) (answers answers' : List (Answer K V ℕ)) (ds es : List (Option (Deed K V ℕ)))
+      → AreMade calls answers ds → AreMade calls' answers' es → AreMade (calls ++ calls') (answers ++ answers') (ds ++ es)
+  made-append [] calls' [] answers' [] es h k = k
+  made-append [] calls' [] answers' (d ∷ ds) es h k = absurd h
+  made-append [] calls' (y ∷ answers) answers' ds es h k = absurd h
+  made-append (x ∷ calls) calls' [] answers' ds es h k = absurd h
+  made-append (x ∷ calls) calls' (y ∷ answers) answers' [] es h k = absurd h
+  made-append (x ∷ calls) calls' (y ∷ answers) answers' (d ∷ ds) es h k = (h.0, made-append calls calls' answers answers' ds es h.1 k)
 
-  -- a run goes on by one call
-  pub run_more : (c : Conversion K V ℕ) (r : Refusals) (m k n : Pairs ℕ) (calls : List (FaceCall K V)) (replies : List (Reply V)) (call : FaceCall K V) (reply : Reply V)
-      → IsRun c r m calls replies k → IsStep c r k call reply n → IsRun c r m (calls ++ call ∷ []) (replies ++ reply ∷ []) n
-  run_more c r m k n calls replies call reply run step = record {
-    deeds = run.deeds ++ step.deeds;
-    made = made-append calls (call ∷ []) replies (reply ∷ []) run.deeds step.deeds run.made step.made;
-    legal = IsLegalFor-append c nat_eq r m k n run.deeds step.deeds run.legal step.legal;
+  -- one run after another
+  pub answers_more : (c : Conversion K V ℕ) (r : Refusals) (m k n : Pairs ℕ) (calls calls' : List (FaceCall K V)) (answers answers' : List (Answer K V ℕ))
+      → AnswersRun c r m calls answers k → AnswersRun c r k calls' answers' n → AnswersRun c r m (calls ++ calls') (answers ++ answers') n
+  answers_more c r m k n calls calls' answers answers' run step = record {
+    dones = run.dones ++ step.dones;
+    made = made-append calls calls' answers answers' run.dones step.dones run.made step.made;
+    legal = rw (deeds_of-append run.dones step.dones) (IsLegalFor-append c nat_eq r m k n (deeds_of run.dones) (deeds_of step.dones) run.legal step.legal);
   }
 
+  -- a run goes on by one call
+  pub run_more : (c : Conversion K V ℕ) (r : Refusals) (m k n : Pairs ℕ) (calls : List (FaceCall K V)) (replies : List (Reply K V)) (call : FaceCall K V) (reply : Reply K V)
+      → IsRun c r m calls replies k → IsStep c r k call reply n → IsRun c r m (calls ++ call ∷ []) (replies ++ reply ∷ []) n
+  run_more c r m k n calls replies call reply run step =
+      rw (map-append) (answers_more c r m k n calls (call ∷ []) (map answer_of replies) (answer_of reply ∷ []) run step)
+
   -- a call on the numbers, read back
-  step_of : (c : Conversion K V ℕ) (m n : Pairs ℕ) (call : FaceCall K V) (reply : Reply V) (asked : Asked ℕ) (plain : Answer ℕ ℕ ℕ)
+  answers_of : (c : Conversion K V ℕ) (m n : Pairs ℕ) (call : FaceCall K V) (answer : Answer K V ℕ) (asked : Asked ℕ) (plain : Answer ℕ ℕ ℕ)
       → AnswersBy (closure_of call) asked → MayAnswer nat_eq of_new_nodes m (converted c (call_of call)) asked plain
-      → n ≡ after_answer nat_eq m (converted c (call_of call)) asked plain → answer_of reply ≡ answer_read c (call_of call) plain → IsStep c of_new_nodes m call reply n
-  step_of c m n call reply asked plain answers may leaves reads = record {
-    deeds = record { call = call_of call; asked = asked; answer = answer_of reply } ∷ [];
+      → n ≡ after_answer nat_eq m (converted c (call_of call)) asked plain → answer ≡ answer_read c (call_of call) plain → AnswersRun c of_new_nodes m (call ∷ []) (answer ∷ []) n
+  answers_of c m n call answer asked plain answers may leaves reads = record {
+    dones = Some (record { call = call_of call; asked = asked; answer = answer }) ∷ [];
     made = (record { called = refl; asked = answers; answered = refl }, tt);
     legal = record {
       plain = record { call = converted c (call_of call); asked = asked; answer = plain } ∷ [];
@@ -46,6 +59,11 @@ module _ {K V : Type 0} where
       read = (record { call = refl; asked = refl; answer = reads }, tt);
     };
   }
+
+  step_of : (c : Conversion K V ℕ) (m n : Pairs ℕ) (call : FaceCall K V) (reply : Reply K V) (asked : Asked ℕ) (plain : Answer ℕ ℕ ℕ)
+      → AnswersBy (closure_of call) asked → MayAnswer nat_eq of_new_nodes m (converted c (call_of call)) asked plain
+      → n ≡ after_answer nat_eq m (converted c (call_of call)) asked plain → answer_of reply ≡ answer_read c (call_of call) plain → IsStep c of_new_nodes m call reply n
+  step_of c m n call reply asked plain answers may leaves reads = answers_of c m n call (answer_of reply) asked plain answers may leaves reads
 
 module _ {K V : Type 0} (c : Conversion K V ℕ) (m n : Pairs ℕ) (key : K) where
   old_read : (value : Option V) → value ≡ option_map c.read (lookup m (c.key_number key)) → answer_of {K = K} (Old value) ≡ replied (old_value (option_map c.read (lookup m (c.key_number key))))
@@ -127,3 +145,24 @@ module _ {K V : Type 0} (c : Conversion K V ℕ) where
   is_empty_step (x ∷ xs) false told =
       let some : length (x ∷ xs) ≢ 0 = omega arith in
       step_of c (x ∷ xs) (x ∷ xs) IsEmpty (Tested false) None (replied (tested false)) tt (refl, rw (ne_eqb (length (x ∷ xs)) 0 some) refl) refl refl
+
+-- what lists keys or pairs
+module _ {K V : Type 0} (c : Conversion K V ℕ) (m n : Pairs ℕ) where
+  pub keys_step : (reply : Reply K V) → answer_of reply ≡ replied (listed (map c.key_read (map (λ (e : ℕ × ℕ). e.0) m))) → n ≡ m → IsStep c of_new_nodes m Keys reply n
+  keys_step reply is same = step_of c m n Keys reply None (replied (listed (map (λ (e : ℕ × ℕ). e.0) m))) tt (refl, refl) same is
+
+  pub keys_refused : n ≡ m → IsStep c of_new_nodes m Keys Refused n
+  keys_refused same = step_of c m n Keys Refused None refused tt (refl, tt) same refl
+
+  pub range_answers : (start end : K) (limit : ℕ) (answer : Answer K V ℕ) → answer ≡ replied (ranged (take limit (between m (c.key_number start) (c.key_number end)))) → n ≡ m
+      → AnswersRun c of_new_nodes m (Range start end limit ∷ []) (answer ∷ []) n
+  range_answers start end limit answer is same =
+      answers_of c m n (Range start end limit) answer None (replied (ranged (take limit (between m (c.key_number start) (c.key_number end))))) tt (refl, refl) same is
+
+  -- a range that finds no memory for its pairs isn't made
+  pub range_unmade : (start end : K) (limit : ℕ) → n ≡ m → IsStep c of_new_nodes m (Range start end limit) Refused n
+  range_unmade start end limit same = record {
+    dones = None ∷ [];
+    made = (tt, tt);
+    legal = record { plain = []; legal = same; read = tt };
+  }

@@ -1,7 +1,21 @@
 -- What a contract sees of a face.
-use Rattle.std.specs.Prelude.{ℕ}
+use Rattle.std.specs.Prelude.{ℕ, List, refl}
+use Rattle.std.specs.Coded.{Coded, code_by, coded×, coded_list, coded_ℕ}
 use Rattle.congee_nodes.specs.Map.{Pairs}
+use Rattle.congee_nodes.specs.Table.{NodeInfo}
+use Rattle.congee_tree.specs.Tree.{node_info_code}
 
--- the pairs of the map, by their numbers, and what else its calls speak of (nothing yet)
-pub record Face : Type 0 where
+-- the pairs of the map, by their numbers, the nodes of its tree, and the budget that is charged for them
+pub record Face (A : Type 0) : Type 0 where
   pub pairs : Pairs ℕ
+  pub nodes : List NodeInfo
+  pub budget : A
+
+abbrev pub face_code : {A : Type 0} → Coded A → Coded (Face A)
+face_code {A} a =
+    code_by
+    (Pairs ℕ × (List NodeInfo × A))
+    (coded× (coded_list (coded× coded_ℕ coded_ℕ)) (coded× (coded_list node_info_code) a))
+    (λ f. (f.pairs, (f.nodes, f.budget)))
+    (λ p. record { pairs = p.0; nodes = p.1.0; budget = p.1.1 })
+    (λ _. refl)

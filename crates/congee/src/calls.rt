@@ -1,14 +1,15 @@
 //! Calls of a face as data, and whole runs of them: the statement that every list of calls is a legal run of one map.
 
-ghost use Rattle.std.specs.Prelude.{◌≡◌, ℕ, Some, None, IfOk, OnOk, OnErr};
+ghost use Rattle.std.specs.Prelude.{◌≡◌, ℕ, Some, None, take, IfOk, OnOk, OnErr};
 ghost use Rattle.std.specs.Option.{option_map};
-ghost use Rattle.congee_nodes.specs.Map.{lookup, put, with_answer};
+ghost use Rattle.congee_nodes.specs.Map.{lookup, put, with_answer, between};
 ghost use Rattle.congee_nodes.specs.Refusal.{NeedsNode, of_new_nodes};
 ghost use Rattle.congee.specs.Calls.{by_numbers, IsStep, IsRun};
 
 use crate::typed_congee::Congee;
+use congee_nodes::allocator::Allocator;
 use congee_nodes::error::OOMError;
-use congee_nodes::traits::Word;
+use congee_nodes::traits::{Drainer, Word};
 use std::alloc::Global;
 
 /// A call with keys of type `K` and values of type `V`. The two compute calls carry what their closure answers when it
@@ -29,11 +30,15 @@ pub enum Call<K: Copy, V: Copy> {
     ComputeOrInsert(K, u64),
     /// Whether there is no pair.
     IsEmpty,
+    /// All keys.
+    Keys,
+    /// The first pairs with keys from the first one on and below the second, at most so many.
+    Range(K, K, usize),
 }
 
 /// What a call answers.
-#[derive(Clone, Copy, Debug, PartialEq, Eq)]
-pub enum Reply<V: Copy> {
+#[derive(Debug, PartialEq, Eq, Drop)]
+pub enum Reply<K: Copy, V: Copy> {
     /// What stood at the key.
     Old(Option<V>),
     /// What an exchange put there, or what stands there in its place.
@@ -42,12 +47,20 @@ pub enum Reply<V: Copy> {
     Computed(Option<(u64, Option<u64>)>),
     /// Yes or no.
     Tested(bool),
+    /// The keys, ascending.
+    Listed(Vec<K>),
+    /// The pairs of a range by their numbers, ascending.
+    Ranged(Vec<(u64, u64)>),
     /// There was no memory for it, and nothing was changed.
     Refused,
 }
 
-/// Makes one call.
-pub fn make_call<K: Word, V: Word>(map: &mut Congee<K, V>, call: &Call<K, V>) -> Reply<V>
+/// Makes one call. A range is written into a list of its own, and isn't made where there is no memory for that.
+pub fn make_call<K: Word, V: Word, A: Allocator, D: Drainer<K, V>>(
+    alloc: Global,
+    map: &mut Congee<K, V, A, D>,
+    call: &Call<K, V>,
+) -> Reply<K, V>
     ensures { IsStep (by_numbers K.number K.of_number V.number V.of_number) of_new_nodes map.old.pairs call.now result map.new.pairs }
 {
     match call {
@@ -66,12 +79,20 @@ pub fn make_call<K: Word, V: Word>(map: &mut Congee<K, V>, call: &Call<K, V>) ->
             Err(_) => Reply::Refused,
         },
         Call::IsEmpty => Reply::Tested(map.is_empty()),
+        Call::Keys => match map.keys() {
+            Ok(keys) => Reply::Listed(keys),
+            Err(_) => Reply::Refused,
+        },
+        Call::Range(start, end, limit) => match pairs_between(alloc, map, start, end, *limit) {
+            Ok(pairs) => Reply::Ranged(pairs),
+            Err(_) => Reply::Refused,
+        },
     }
 }
 
 // Makes the call whose closure answers this at a key that is present.
-fn change<K: Word, V: Word>(
-    map: &mut Congee<K, V>,
+fn change<K: Word, V: Word, A: Allocator, D: Drainer<K, V>>(
+    map: &mut Congee<K, V, A, D>,
     key: &K,
     answer: Option<u64>,
 ) -> Option<(u64, Option<u64>)>
@@ -83,7 +104,11 @@ fn change<K: Word, V: Word>(
 }
 
 // Makes the call whose closure answers this.
-fn set<K: Word, V: Word>(map: &mut Congee<K, V>, key: K, answer: u64) -> Result<Option<V>, OOMError>
+fn set<K: Word, V: Word, A: Allocator, D: Drainer<K, V>>(
+    map: &mut Congee<K, V, A, D>,
+    key: K,
+    answer: u64,
+) -> Result<Option<V>, OOMError>
     ensures before { IfOk result (λ before. before ≡ option_map V.of_number (lookup map.old.pairs (K.number key))) }
     ensures ok { OnOk result (map.new.pairs ≡ put map.old.pairs (K.number key) answer) }
     ensures err { OnErr result (map.new.pairs ≡ map.old.pairs) }
@@ -92,19 +117,36 @@ fn set<K: Word, V: Word>(map: &mut Congee<K, V>, key: K, answer: u64) -> Result<
     map.compute_or_insert(key, &mut |_standing: Option<u64>| answer)
 }
 
+/// The first pairs with keys from `start` on and below `end`, at most so many, in a list of their own: 16 bytes for each
+/// that is asked for. `OOMError` comes where there is no memory for it.
+pub fn pairs_between<K: Word, V: Word, A: Allocator, D: Drainer<K, V>>(
+    alloc: Global,
+    map: &Congee<K, V, A, D>,
+    start: &K,
+    end: &K,
+    limit: usize,
+) -> Result<Vec<(u64, u64)>, OOMError>
+    ensures { IfOk result (λ pairs. pairs.items ≡ take limit (between map.now.pairs (K.number start.now) (K.number end.now))) }
+{
+    let mut pairs = vec![in alloc; (0, 0); limit]?;
+    let count = map.range(start, end, &mut pairs);
+    pairs.truncate(count);
+    Ok(pairs)
+}
+
 /// Makes the calls, one after another, and answers their replies. `OOMError` comes where there is no memory for the
 /// list of replies; then no call was made.
-pub fn run_calls<K: Word, V: Word>(
+pub fn run_calls<K: Word, V: Word, A: Allocator, D: Drainer<K, V>>(
     alloc: Global,
-    map: &mut Congee<K, V>,
+    map: &mut Congee<K, V, A, D>,
     calls: &[Call<K, V>],
-) -> Result<Vec<Reply<V>>, OOMError>
+) -> Result<Vec<Reply<K, V>>, OOMError>
     ensures run { IfOk result (λ replies. IsRun (by_numbers K.number K.of_number V.number V.of_number) of_new_nodes map.old.pairs calls.now replies.items map.new.pairs) }
     ensures err { OnErr result (map.new.pairs ≡ map.old.pairs) }
 {
     let mut replies = Vec::with_capacity(alloc, calls.len())?;
     for call in calls {
-        replies.push(make_call(map, call)).unwrap();
+        replies.push(make_call(alloc, map, call)).unwrap();
     }
     Ok(replies)
 }

@@ -5,15 +5,18 @@ ghost use Rattle.std.specs.Fn.{TakesAt, CalledAt};
 ghost use Rattle.congee_nodes.specs.Closure.{TakesOption, CalledAtOption};
 ghost use Rattle.congee_nodes.specs.Map.{lookup, put, without, with_answer, IsMap};
 ghost use Rattle.congee_nodes.specs.Refusal.{NeedsNode};
+ghost use Rattle.congee_tree.specs.Charge.{charge_of, MovesAlike};
 
+use congee_nodes::allocator::Allocator;
 use congee_nodes::error::OOMError;
+use congee_nodes::payload::Payload;
 use congee_tree::reads::Reads;
 use congee_tree::tree::RawCongee;
 use std::sync::ledger::{Blank, Ledger};
 
 /// The payload at the key.
-pub(crate) fn get<'a, L: Ledger, P: Drop>(
-    tree: &'a RawCongee<P>,
+pub(crate) fn get<'a, L: Ledger, P: Payload, A: Allocator>(
+    tree: &'a RawCongee<P, A>,
     key: u64,
     blank: Blank,
 ) -> Option<&'a P>
@@ -27,8 +30,8 @@ pub(crate) fn get<'a, L: Ledger, P: Drop>(
 }
 
 /// Sets the payload at the key, and answers the one that stood there.
-pub(crate) fn insert<L: Ledger, P: Drop>(
-    tree: &mut RawCongee<P>,
+pub(crate) fn insert<L: Ledger, P: Payload, A: Allocator>(
+    tree: &mut RawCongee<P, A>,
     key: u64,
     payload: P,
     blank: Blank,
@@ -38,7 +41,8 @@ pub(crate) fn insert<L: Ledger, P: Drop>(
     requires some { 0 < blank.parts }
     ensures before { IfOk result (λ before. before ≡ lookup tree.old.pairs key) }
     ensures ok { OnOk result (tree.new.pairs ≡ put tree.old.pairs key payload) }
-    ensures err { OnErr result (tree.new ≡ tree.old) }
+    ensures err { OnErr result ((tree.new.pairs ≡ tree.old.pairs) × (tree.new.nodes ≡ tree.old.nodes)) }
+    ensures charge { MovesAlike (A.charge tree.old.budget) (charge_of tree.old.nodes) (A.charge tree.new.budget) (charge_of tree.new.nodes) }
     ensures refused { OnErr result (NeedsNode tree.old.pairs key) }
 {
     let mut reads = Reads::<L>::new(blank);
@@ -46,8 +50,8 @@ pub(crate) fn insert<L: Ledger, P: Drop>(
 }
 
 /// Takes the key out, and answers the payload that stood there.
-pub(crate) fn remove<L: Ledger, P: Drop>(
-    tree: &mut RawCongee<P>,
+pub(crate) fn remove<L: Ledger, P: Payload, A: Allocator>(
+    tree: &mut RawCongee<P, A>,
     key: u64,
     blank: Blank,
 ) -> Option<P>
@@ -56,6 +60,7 @@ pub(crate) fn remove<L: Ledger, P: Drop>(
     requires some { 0 < blank.parts }
     ensures before { result ≡ lookup tree.old.pairs key }
     ensures pairs { tree.new.pairs ≡ without tree.old.pairs key }
+    ensures charge { MovesAlike (A.charge tree.old.budget) (charge_of tree.old.nodes) (A.charge tree.new.budget) (charge_of tree.new.nodes) }
 {
     let mut reads = Reads::<L>::new(blank);
     tree.remove(&key.to_be_bytes(), &mut reads)
@@ -63,8 +68,8 @@ pub(crate) fn remove<L: Ledger, P: Drop>(
 
 /// Where the key is present, calls the closure, once, and stores what it answers; its `None` takes the key out. Answers
 /// the payload that stood there.
-pub(crate) fn compute_if_present<L: Ledger, P: Drop, F: FnMut(&P) -> Option<P>>(
-    tree: &mut RawCongee<P>,
+pub(crate) fn compute_if_present<L: Ledger, P: Payload, A: Allocator, F: FnMut(&P) -> Option<P>>(
+    tree: &mut RawCongee<P, A>,
     key: u64,
     f: &mut F,
     blank: Blank,
@@ -78,6 +83,7 @@ pub(crate) fn compute_if_present<L: Ledger, P: Drop, F: FnMut(&P) -> Option<P>>(
     ensures absent { lookup tree.old.pairs key ≡ None → (tree.new ≡ tree.old) × (f.new ≡ f.old) }
     ensures present { (standing : P) → lookup tree.old.pairs key ≡ Some standing
         → (answer : Option P) × CalledAt F.FnMut f.old standing answer f.new × (tree.new.pairs ≡ with_answer tree.old.pairs key answer) }
+    ensures charge { MovesAlike (A.charge tree.old.budget) (charge_of tree.old.nodes) (A.charge tree.new.budget) (charge_of tree.new.nodes) }
 {
     let mut reads = Reads::<L>::new(blank);
     tree.compute_if_present(&key.to_be_bytes(), f, &mut reads)
@@ -85,8 +91,8 @@ pub(crate) fn compute_if_present<L: Ledger, P: Drop, F: FnMut(&P) -> Option<P>>(
 
 /// Calls the closure once, with the payload at the key if there is one, and stores what it answers. Answers the payload
 /// that stood there.
-pub(crate) fn compute_or_insert<L: Ledger, P: Drop, F: FnMut(Option<&P>) -> P>(
-    tree: &mut RawCongee<P>,
+pub(crate) fn compute_or_insert<L: Ledger, P: Payload, A: Allocator, F: FnMut(Option<&P>) -> P>(
+    tree: &mut RawCongee<P, A>,
     key: u64,
     f: &mut F,
     blank: Blank,
@@ -98,7 +104,8 @@ pub(crate) fn compute_or_insert<L: Ledger, P: Drop, F: FnMut(Option<&P>) -> P>(
     ensures before { IfOk result (λ before. before ≡ lookup tree.old.pairs key) }
     ensures ok { OnOk result ((answer : P) × CalledAtOption F.FnMut f.old (lookup tree.old.pairs key) answer f.new
         × (tree.new.pairs ≡ put tree.old.pairs key answer)) }
-    ensures err { OnErr result (tree.new ≡ tree.old) }
+    ensures err { OnErr result ((tree.new.pairs ≡ tree.old.pairs) × (tree.new.nodes ≡ tree.old.nodes)) }
+    ensures charge { MovesAlike (A.charge tree.old.budget) (charge_of tree.old.nodes) (A.charge tree.new.budget) (charge_of tree.new.nodes) }
     ensures not_called { OnErr result (f.new ≡ f.old) }
     ensures refused { OnErr result (NeedsNode tree.old.pairs key) }
 {

@@ -1,11 +1,11 @@
 -- The grammar of commands.
-use Rattle.std.proofs.Common.{◌≡◌, ◌≢◌, ℕ, ◌<◌, ◌≤◌, ◌^◌, Bool, true, false, List, [], ◌∷◌, length, get_or, codes, decimal, Option, Some, None, if◌then◌else◌, bytes_eq, refl, ap, rules, arith}
+use Rattle.std.proofs.Common.{◌≡◌, ◌≢◌, ℕ, ◌<◌, ◌≤◌, ◌^◌, Bool, true, false, List, [], ◌∷◌, length, get_or, codes, decimal, Option, Some, None, if◌then◌else◌, bytes_eq, refl, sym, ap, ◌∙◌, rules, arith}
 use Rattle.std.specs.List.{AllByRecursion}
 use Rattle.std.specs.Str.Parse.{digits_value}
 use Rattle.std.proofs.lemmas.Fmt.{digits_value-decimal}
 use Rattle.std.proofs.lemmas.Slice.Eq.{bytes_eq-Decides}
 use Rattle.congee_cli.specs.declared.command.Command.{Command}
-use Rattle.congee_cli.specs.declared.command.Command.TheVariants.{Get, Insert, Remove, Exchange, Add, Put, Empty}
+use Rattle.congee_cli.specs.declared.command.Command.TheVariants.{Get, Insert, Remove, Exchange, Add, Put, Range, Keys, Empty}
 use Rattle.congee_cli.specs.Command.{name_of, words_of_command, HasNumbers}
 use Rattle.congee_cli.specs.Value.{value_text, IsWide}
 use Rattle.congee_cli.proofs.Numbers.{own, number_digit}
@@ -39,6 +39,14 @@ abbrev put_from : List (List ℕ) → Option Command
 put_from (key ∷ more ∷ []) = Some (Put (digits_value 10 key) (digits_value 10 more))
 put_from words = None
 
+abbrev range_from : List (List ℕ) → Option Command
+range_from (start ∷ end ∷ limit ∷ []) = Some (Range (digits_value 10 start) (digits_value 10 end) (digits_value 10 limit))
+range_from words = None
+
+abbrev keys_from : List (List ℕ) → Option Command
+keys_from [] = Some Keys
+keys_from words = None
+
 abbrev empty_from : List (List ℕ) → Option Command
 empty_from [] = Some Empty
 empty_from words = None
@@ -52,7 +60,15 @@ command_from (name ∷ words) =
     (if bytes_eq name (codes "cas") then exchange_from words else
     (if bytes_eq name (codes "add") then add_from words else
     (if bytes_eq name (codes "put") then put_from words else
-    (if bytes_eq name (codes "empty") then empty_from words else None))))))
+    (if bytes_eq name (codes "range") then range_from words else
+    (if bytes_eq name (codes "keys") then keys_from words else
+    (if bytes_eq name (codes "empty") then empty_from words else None))))))))
+
+-- a word is the text of one number
+pub one_number : (n k : ℕ) (words more : List (List ℕ)) → n < 2 ^ 64 → k < 2 ^ 64 → decimal n ∷ words ≡ decimal k ∷ more → n ≡ k
+one_number n k words more hn hk same =
+    let texts : decimal n ≡ decimal k = cc in
+    sym (digits_value-decimal own n hn) ∙ ap (digits_value 10) texts ∙ digits_value-decimal own k hk
 
 -- no number is written `none`
 pub none_is_no_number : (value : ℕ) → value < 2 ^ 64 → decimal value ≡ codes "none" → ⊥
@@ -71,6 +87,10 @@ value_read (Some value) fits =
     let other = false_from (bytes_eq (decimal value) (codes "none")) (λ same. none_is_no_number value fits ((bytes_eq-Decides (decimal value) (codes "none")).0 same)) in
     rw (other, digits_value-decimal own value fits) refl
 
+-- what is at most 4096 has 64 bits
+limit_wide : (limit : ℕ) → limit ≤ 4096 → limit < 2 ^ 64
+limit_wide limit h = omega arith
+
 command_read : (command : Command) → HasNumbers command → command_from (words_of_command command) ≡ Some command
 command_read (Get key) fits = ap (λ k. Some (Get k)) (digits_value-decimal own key fits)
 command_read (Insert key value) fits = rw (digits_value-decimal own key fits.0, digits_value-decimal own value fits.1) refl
@@ -79,6 +99,9 @@ command_read (Exchange key old new) fits =
     rw (digits_value-decimal own key fits.0, digits_value-decimal own old fits.1, value_read new fits.2) refl
 command_read (Add key more) fits = rw (digits_value-decimal own key fits.0, digits_value-decimal own more fits.1) refl
 command_read (Put key more) fits = rw (digits_value-decimal own key fits.0, digits_value-decimal own more fits.1) refl
+command_read (Range start end limit) fits =
+    rw (digits_value-decimal own start fits.0, digits_value-decimal own end fits.1, digits_value-decimal own limit (limit_wide limit fits.2)) refl
+command_read Keys fits = refl
 command_read Empty fits = refl
 
 value_word : (value : Option ℕ) → IsWide value → IsWord (value_text value)
@@ -96,6 +119,9 @@ are_words (Add key more) fits =
     (record { lacks = search rules; short = omega arith }, (number_word key fits.0, (number_word more fits.1, tt)))
 are_words (Put key more) fits =
     (record { lacks = search rules; short = omega arith }, (number_word key fits.0, (number_word more fits.1, tt)))
+are_words (Range start end limit) fits =
+    (record { lacks = search rules; short = omega arith }, (number_word start fits.0, (number_word end fits.1, (number_word limit (limit_wide limit fits.2), tt))))
+are_words Keys fits = (record { lacks = search rules; short = omega arith }, tt)
 are_words Empty fits = (record { lacks = search rules; short = omega arith }, tt)
 
 few_words : (command : Command) → HasNumbers command → length (words_of_command command) ≤ 12
@@ -105,6 +131,8 @@ few_words (Remove key) fits = omega arith
 few_words (Exchange key old new) fits = omega arith
 few_words (Add key more) fits = omega arith
 few_words (Put key more) fits = omega arith
+few_words (Range start end limit) fits = omega arith
+few_words Keys fits = omega arith
 few_words Empty fits = omega arith
 
 pub commands : IsGrammar words_of_command HasNumbers
@@ -120,12 +148,33 @@ commands = record {
 pub no_name : (name : List ℕ) (left : List (List ℕ)) → ((command : Command) → name ≢ name_of command) → (command : Command) → HasNumbers command → words_of_command command ≡ name ∷ left → ⊥
 no_name name left other command fits words = other command cc
 
-pub other_name : (name : List ℕ) → name ≢ codes "get" → name ≢ codes "insert" → name ≢ codes "remove" → name ≢ codes "cas" → name ≢ codes "add" → name ≢ codes "put" → name ≢ codes "empty"
+pub other_name : (name : List ℕ) → name ≢ codes "get" → name ≢ codes "insert" → name ≢ codes "remove" → name ≢ codes "cas" → name ≢ codes "add" → name ≢ codes "put" → name ≢ codes "range" → name ≢ codes "keys" → name ≢ codes "empty"
     → (command : Command) → name ≢ name_of command
-other_name name get insert remove cas add put empty (Get key) = get
-other_name name get insert remove cas add put empty (Insert key value) = insert
-other_name name get insert remove cas add put empty (Remove key) = remove
-other_name name get insert remove cas add put empty (Exchange key old new) = cas
-other_name name get insert remove cas add put empty (Add key more) = add
-other_name name get insert remove cas add put empty (Put key more) = put
-other_name name get insert remove cas add put empty Empty = empty
+other_name name get insert remove cas add put range keys empty (Get key) = get
+other_name name get insert remove cas add put range keys empty (Insert key value) = insert
+other_name name get insert remove cas add put range keys empty (Remove key) = remove
+other_name name get insert remove cas add put range keys empty (Exchange key old new) = cas
+other_name name get insert remove cas add put range keys empty (Add key more) = add
+other_name name get insert remove cas add put range keys empty (Put key more) = put
+other_name name get insert remove cas add put range keys empty (Range start end limit) = range
+other_name name get insert remove cas add put range keys empty Keys = keys
+other_name name get insert remove cas add put range keys empty Empty = empty
+
+-- the third byte of the first word, by which `range` differs from all other names
+abbrev third_byte : List (List ℕ) → ℕ
+third_byte [] = 0
+third_byte (word ∷ words) = get_or word 2 0
+
+-- words behind `range` are none where they aren't two numbers and a third that may be asked for
+pub no_range : (left : List (List ℕ)) → ((start end limit : ℕ) → start < 2 ^ 64 → end < 2 ^ 64 → limit ≤ 4096 → left ≡ decimal start ∷ decimal end ∷ decimal limit ∷ [] → ⊥)
+    → (command : Command) → HasNumbers command → words_of_command command ≡ codes "range" ∷ left → ⊥
+no_range left none (Get key) fits words = omega (arith, ap third_byte words)
+no_range left none (Insert key value) fits words = omega (arith, ap third_byte words)
+no_range left none (Remove key) fits words = omega (arith, ap third_byte words)
+no_range left none (Exchange key old new) fits words = omega (arith, ap third_byte words)
+no_range left none (Add key more) fits words = omega (arith, ap third_byte words)
+no_range left none (Put key more) fits words = omega (arith, ap third_byte words)
+no_range left none (Range start end limit) fits words =
+    let same : left ≡ decimal start ∷ decimal end ∷ decimal limit ∷ [] = cc in none start end limit fits.0 fits.1 fits.2 same
+no_range left none Keys fits words = omega (arith, ap third_byte words)
+no_range left none Empty fits words = omega (arith, ap third_byte words)

@@ -9,9 +9,10 @@ use Rattle.congee_nodes.specs.Map.{Pairs}
 use Rattle.congee_nodes.specs.Call.{Deed}
 use Rattle.congee_nodes.specs.Refusal.{of_new_nodes}
 use Rattle.congee_nodes.proofs.Runs.{IsLegal-append}
+use Rattle.congee.specs.Calls.{deeds_of}
 use Rattle.congee_cli.specs.Bytes.{Sends}
 use Rattle.congee_cli.specs.Lines.{Lacks, Cuts, Holds, kept_with, lines_of, ended}
-use Rattle.congee_cli.specs.Answer.{IsAnswered, AreAnswered, deeds_of}
+use Rattle.congee_cli.specs.Answer.{IsAnswered, AreAnswered}
 use Rattle.congee_cli.specs.Run.{Tells, TellsAll, TellsWhole, TellsPart}
 use Rattle.congee_cli.specs.Session.{Serves, ServesAll, AnswersLine, TakesLine, StopsAnswer, Breaks, BreaksWithin}
 use Rattle.congee_cli.proofs.Sending.{sends_more, sends_on, sends_kept, sends_nothing}

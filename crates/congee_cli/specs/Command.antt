@@ -1,10 +1,10 @@
 -- The lines that are commands.
-use Rattle.std.specs.Prelude.{ℕ, ◌+◌, ◌-◌, ◌<◌, ◌^◌, List, [], ◌∷◌, codes, decimal, Option, Some, None, if◌then◌else◌, min, nat_lt}
-use Rattle.congee_nodes.specs.Call.{Call, get, insert, remove, compare_exchange, compute_if_present, compute_or_insert, is_empty}
+use Rattle.std.specs.Prelude.{ℕ, ◌+◌, ◌-◌, ◌<◌, ◌≤◌, ◌^◌, List, [], ◌∷◌, codes, decimal, Option, Some, None, if◌then◌else◌, min, nat_lt}
+use Rattle.congee_nodes.specs.Call.{Call, get, insert, remove, compare_exchange, compute_if_present, compute_or_insert, is_empty, range, keys}
 use Rattle.congee_cli.specs.Grammar.{Spells, SpellsNone}
 use Rattle.congee_cli.specs.Value.{value_text, IsWide}
 use Rattle.congee_cli.specs.declared.command.Command.{Command}
-use Rattle.congee_cli.specs.declared.command.Command.TheVariants.{Get, Insert, Remove, Exchange, Add, Put, Empty}
+use Rattle.congee_cli.specs.declared.command.Command.TheVariants.{Get, Insert, Remove, Exchange, Add, Put, Range, Keys, Empty}
 
 -- the first word of a command, and the words behind it. A number is written in decimal, without a leading zero
 abbrev pub name_of : Command → List ℕ
@@ -14,6 +14,8 @@ name_of (Remove key) = codes "remove"
 name_of (Exchange key old new) = codes "cas"
 name_of (Add key more) = codes "add"
 name_of (Put key more) = codes "put"
+name_of (Range start end limit) = codes "range"
+name_of Keys = codes "keys"
 name_of Empty = codes "empty"
 
 abbrev pub arguments_of : Command → List (List ℕ)
@@ -23,12 +25,14 @@ arguments_of (Remove key) = decimal key ∷ []
 arguments_of (Exchange key old new) = decimal key ∷ decimal old ∷ value_text new ∷ []
 arguments_of (Add key more) = decimal key ∷ decimal more ∷ []
 arguments_of (Put key more) = decimal key ∷ decimal more ∷ []
+arguments_of (Range start end limit) = decimal start ∷ decimal end ∷ decimal limit ∷ []
+arguments_of Keys = []
 arguments_of Empty = []
 
 abbrev pub words_of_command : Command → List (List ℕ)
 words_of_command command = name_of command ∷ arguments_of command
 
--- its numbers have 64 bits
+-- its numbers have 64 bits, and at most 4096 pairs are asked for
 abbrev pub HasNumbers : Command → Type 0
 HasNumbers (Get key) = key < 2 ^ 64
 HasNumbers (Insert key value) = (key < 2 ^ 64) × (value < 2 ^ 64)
@@ -36,6 +40,8 @@ HasNumbers (Remove key) = key < 2 ^ 64
 HasNumbers (Exchange key old new) = (key < 2 ^ 64) × (old < 2 ^ 64) × IsWide new
 HasNumbers (Add key more) = (key < 2 ^ 64) × (more < 2 ^ 64)
 HasNumbers (Put key more) = (key < 2 ^ 64) × (more < 2 ^ 64)
+HasNumbers (Range start end limit) = (start < 2 ^ 64) × (end < 2 ^ 64) × (limit ≤ 4096)
+HasNumbers Keys = Unit {0}
 HasNumbers Empty = Unit {0}
 
 -- the line is the command's words, with one space between each two
@@ -54,6 +60,8 @@ call_of (Remove key) = remove key
 call_of (Exchange key old new) = compare_exchange key old new
 call_of (Add key more) = compute_if_present key
 call_of (Put key more) = compute_or_insert key
+call_of (Range start end limit) = range start end limit
+call_of Keys = keys
 call_of Empty = is_empty
 
 -- the sum, where it has 64 bits
@@ -74,4 +82,6 @@ closure_of (Exchange key old new) handed = None
 closure_of (Add key more) None = None
 closure_of (Add key more) (Some value) = checked_sum value more
 closure_of (Put key more) handed = Some (put_sum handed more)
+closure_of (Range start end limit) handed = None
+closure_of Keys handed = None
 closure_of Empty handed = None

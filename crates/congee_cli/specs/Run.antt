@@ -6,9 +6,10 @@ use Rattle.congee_nodes.specs.Map.{Pairs}
 use Rattle.congee_nodes.specs.Call.{Deed}
 use Rattle.congee_nodes.specs.Legal.{IsLegal}
 use Rattle.congee_nodes.specs.Refusal.{of_new_nodes}
+use Rattle.congee.specs.Calls.{deeds_of}
 use Rattle.congee_cli.specs.Bytes.{Sends}
 use Rattle.congee_cli.specs.Lines.{Cuts, lines_of, ended}
-use Rattle.congee_cli.specs.Answer.{AreAnswered, deeds_of}
+use Rattle.congee_cli.specs.Answer.{AreAnswered}
 
 -- Some texts answer these lines. What was done for them is a legal run from the empty map. The texts were written
 -- after old, up to what is left.

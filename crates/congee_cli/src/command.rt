@@ -1,6 +1,6 @@
 //! Commands, and the lines that say them.
 
-ghost use Rattle.std.specs.Prelude.{◌≡◌, ℕ, List, ◌∷◌, ◌<◌, ◌^◌, Option, IfSome, IfNone, codes, decimal};
+ghost use Rattle.std.specs.Prelude.{◌≡◌, ℕ, List, ◌∷◌, ◌<◌, ◌≤◌, ◌^◌, Option, IfSome, IfNone, codes, decimal};
 
 use crate::number::number;
 use crate::words::Words;
@@ -20,9 +20,16 @@ pub enum Command {
     Add(u64, u64),
     /// Adds to the value of a key, 0 for one that is absent, up to the greatest number.
     Put(u64, u64),
+    /// The first pairs with keys from the first number on and below the second, at most so many.
+    Range(u64, u64, u64),
+    /// All keys.
+    Keys,
     /// Whether there is no key.
     Empty,
 }
+
+/// How many pairs a range may ask for.
+pub const MAX_PAIRS: u64 = 4096;
 
 ghost use Rattle.congee_cli.specs.Words.{words_left};
 ghost use Rattle.congee_cli.specs.Grammar.{ReadsWords};
@@ -60,6 +67,12 @@ fn named(name: &[u8], words: Words) -> Option<Command>
     }
     if name == b"put".as_slice() {
         return put_of(words);
+    }
+    if name == b"range".as_slice() {
+        return range_of(words);
+    }
+    if name == b"keys".as_slice() {
+        return keys_of(words);
     }
     if name == b"empty".as_slice() {
         return empty_of(words);
@@ -120,6 +133,23 @@ fn put_of(mut words: Words) -> Option<Command>
     Some(Command::Put(key, more))
 }
 
+fn range_of(mut words: Words) -> Option<Command>
+    ensures { ReadsWords words_of_command HasNumbers (codes "range" ∷ words_left words.entry) result }
+{
+    let start = next_number(&mut words)?;
+    let end = next_number(&mut words)?;
+    let limit = next_limit(&mut words)?;
+    words.end()?;
+    Some(Command::Range(start, end, limit))
+}
+
+fn keys_of(words: Words) -> Option<Command>
+    ensures { ReadsWords words_of_command HasNumbers (codes "keys" ∷ words_left words.entry) result }
+{
+    words.end()?;
+    Some(Command::Keys)
+}
+
 fn empty_of(words: Words) -> Option<Command>
     ensures { ReadsWords words_of_command HasNumbers (codes "empty" ∷ words_left words.entry) result }
 {
@@ -134,6 +164,19 @@ fn next_number(words: &mut Words) -> Option<u64>
     ensures none { IfNone result ((n : ℕ) (rest : List (List ℕ)) → n < 2 ^ 64 → words_left words.old ≡ decimal n ∷ rest → ⊥) }
 {
     number(words.next_word()?)
+}
+
+// The next word as a number of pairs that a range may ask for.
+fn next_limit(words: &mut Words) -> Option<u64>
+    ensures found { IfSome result (λ n. words_left words.old ≡ decimal n ∷ words_left words.new) }
+    ensures range { IfSome result (λ n. n ≤ 4096) }
+    ensures none { IfNone result ((n : ℕ) (rest : List (List ℕ)) → n ≤ 4096 → words_left words.old ≡ decimal n ∷ rest → ⊥) }
+{
+    let limit = next_number(words)?;
+    if limit > MAX_PAIRS {
+        return None;
+    }
+    Some(limit)
 }
 
 // The next word as a number, or `none`.

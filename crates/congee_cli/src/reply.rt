@@ -1,17 +1,20 @@
 //! What the lines are replied, and the texts of the replies.
 
 ghost use Rattle.std.specs.Prelude.{◌≡◌, ℕ, ◌+◌, ◌≤◌, ◌++◌, ◌∷◌, List, [], length, Some, None, IfOk, OnOk, OnErr, nat_eq};
+ghost use Rattle.std.specs.List.{flat_map};
 ghost use Rattle.congee_nodes.specs.Map.{lookup, put as put_pair, with_answer};
 
 use crate::command::{Command, command_of};
 use crate::line::Line;
 use crate::pending::Pending;
 use crate::watched::{Failed, Watched};
-use congee::{Congee, OOMError};
+use congee::calls::pairs_between;
+use congee::{Allocator, Congee, OOMError};
+use std::alloc::Global;
 use std::io::Write;
 
 /// What a line is replied.
-#[derive(Clone, Copy, Debug, PartialEq, Eq)]
+#[derive(Debug, PartialEq, Eq, Drop)]
 pub enum Reply {
     /// The value of a key.
     Value(Option<u64>),
@@ -23,47 +26,53 @@ pub enum Reply {
     Computed(Option<(u64, Option<u64>)>),
     /// Yes or no.
     Tested(bool),
-    /// There was no memory for it, and nothing was done.
+    /// The pairs of a range, ascending.
+    Ranged(Vec<(u64, u64)>),
+    /// All keys, ascending.
+    Listed(Vec<u64>),
+    /// The map had no memory for it, and is as it was.
     Refused,
+    /// There was no memory for the pairs of a range, and the map wasn't asked for them.
+    NoMemory,
     /// The line is no command.
     BadLine,
 }
 
 ghost use Rattle.congee_nodes.specs.Legal.{IsLegal};
 ghost use Rattle.congee_nodes.specs.Refusal.{NeedsNode, of_new_nodes};
-ghost use Rattle.congee.specs.Calls.{AnswersBy};
+ghost use Rattle.congee.specs.Calls.{AnswersBy, deeds_of};
 ghost use Rattle.congee_cli.specs.Bytes.{Sends};
 ghost use Rattle.congee_cli.specs.Command.{checked_sum, put_sum, closure_of};
 ghost use Rattle.congee_cli.specs.Lines.{Holds, ended};
 ghost use Rattle.congee_cli.specs.Watched.{HasFailed, inner_of};
 ghost use Rattle.congee_cli.specs.Value.{value_text};
-ghost use Rattle.congee_cli.specs.Answer.{test_text, IsText};
-ghost use Rattle.congee_cli.specs.Session.{reply_text, answer_of, asked_of, deed_of, AnswersLine};
+ghost use Rattle.congee_cli.specs.Answer.{test_text, key_text, pair_text};
+ghost use Rattle.congee_cli.specs.Session.{reply_text, head_text, items_text, asked_of, done_of, IsServed, AnswersLine};
 
-/// Does what the line says. Memory is wanted only by the map, where it takes in a new key; where it
-/// has none, the reply is `Refused` and the map is as before.
-pub fn reply_to(map: &mut Congee<u64, u64>, line: &Line) -> Reply
+/// Does what the line says. Memory is wanted by the map, where it takes in a new key, and for what a reply
+/// lists; where there is none, the reply is `Refused` or `NoMemory` and the map is as before.
+pub fn reply_to<A: Allocator>(alloc: Global, map: &mut Congee<u64, u64, A>, line: &Line) -> Reply
     ensures { (l : List ℕ) → Holds line.now l → AnswersLine map.old.pairs l (reply_text result) map.new.pairs }
 {
     match line.text() {
-        Some(text) => reply_to_text(map, text),
+        Some(text) => reply_to_text(alloc, map, text),
         None => Reply::BadLine,
     }
 }
 
-fn reply_to_text(map: &mut Congee<u64, u64>, text: &[u8]) -> Reply
+fn reply_to_text<A: Allocator>(alloc: Global, map: &mut Congee<u64, u64, A>, text: &[u8]) -> Reply
     ensures { AnswersLine map.old.pairs text.now (reply_text result) map.new.pairs }
 {
     match command_of(text) {
-        Some(command) => execute(map, command),
+        Some(command) => execute(alloc, map, command),
         None => Reply::BadLine,
     }
 }
 
-fn execute(map: &mut Congee<u64, u64>, command: Command) -> Reply
-    ensures text { IsText command (answer_of result) (reply_text result) }
+fn execute<A: Allocator>(alloc: Global, map: &mut Congee<u64, u64, A>, command: Command) -> Reply
+    ensures text { IsServed command (done_of command result) (reply_text result) }
     ensures closure { AnswersBy (closure_of command) (asked_of command result) }
-    ensures legal { IsLegal nat_eq of_new_nodes map.old.pairs (deed_of command result ∷ []) map.new.pairs }
+    ensures legal { IsLegal nat_eq of_new_nodes map.old.pairs (deeds_of (done_of command result ∷ [])) map.new.pairs }
 {
     match command {
         Command::Get(key) => Reply::Value(map.get(&key)),
@@ -80,12 +89,26 @@ fn execute(map: &mut Congee<u64, u64>, command: Command) -> Reply
             Ok(before) => Reply::Before(before),
             Err(_) => Reply::Refused,
         },
+        Command::Range(start, end, limit) => {
+            match pairs_between(alloc, map, &start, &end, limit as usize) {
+                Ok(pairs) => Reply::Ranged(pairs),
+                Err(_) => Reply::NoMemory,
+            }
+        }
+        Command::Keys => match map.keys() {
+            Ok(keys) => Reply::Listed(keys),
+            Err(_) => Reply::Refused,
+        },
         Command::Empty => Reply::Tested(map.is_empty()),
     }
 }
 
 // Adds to the value of a key that is present, and answers it and the sum. Takes the key out where the sum doesn't fit.
-fn add(map: &mut Congee<u64, u64>, key: u64, more: u64) -> Option<(u64, Option<u64>)>
+fn add<A: Allocator>(
+    map: &mut Congee<u64, u64, A>,
+    key: u64,
+    more: u64,
+) -> Option<(u64, Option<u64>)>
     ensures absent { lookup map.old.pairs key ≡ None → (result ≡ None) × (map.new.pairs ≡ map.old.pairs) }
     ensures present { (standing : ℕ) → lookup map.old.pairs key ≡ Some standing
         → (result ≡ Some (standing, checked_sum standing more)) × (map.new.pairs ≡ with_answer map.old.pairs key (checked_sum standing more)) }
@@ -101,7 +124,11 @@ fn sum(value: u64, more: u64) -> Option<u64>
 }
 
 // Adds to the value of a key, 0 for one that is absent, up to the greatest number. Answers what stood there.
-fn put(map: &mut Congee<u64, u64>, key: u64, more: u64) -> Result<Option<u64>, OOMError>
+fn put<A: Allocator>(
+    map: &mut Congee<u64, u64, A>,
+    key: u64,
+    more: u64,
+) -> Result<Option<u64>, OOMError>
     ensures before { IfOk result (λ before. before ≡ lookup map.old.pairs key) }
     ensures ok { OnOk result (map.new.pairs ≡ put_pair map.old.pairs key (put_sum (lookup map.old.pairs key) more)) }
     ensures err { OnErr result (map.new.pairs ≡ map.old.pairs) }
@@ -135,14 +162,16 @@ pub fn put_reply<W: Write>(
     ensures failed { OnErr result (HasFailed output.new) }
 {
     pending.make_room(output)?;
-    add_reply(pending, reply);
+    add_head(pending, reply);
+    put_items(pending, output, reply)?;
     pending.add(b"\n");
     Ok(())
 }
 
-fn add_reply(pending: &mut Pending, reply: &Reply)
+// Adds a reply without what it lists.
+fn add_head(pending: &mut Pending, reply: &Reply)
     requires { length pending.old + 64 ≤ 8192 }
-    ensures text { pending.new ≡ pending.old ++ reply_text reply.now }
+    ensures text { pending.new ≡ pending.old ++ head_text reply.now }
     ensures short { length pending.new ≤ length pending.old + 48 }
 {
     match reply {
@@ -167,9 +196,90 @@ fn add_reply(pending: &mut Pending, reply: &Reply)
         }
         Reply::Tested(true) => pending.add(b"true"),
         Reply::Tested(false) => pending.add(b"false"),
+        Reply::Ranged(pairs) => pending.add_number(pairs.len() as u64),
+        Reply::Listed(keys) => pending.add_number(keys.len() as u64),
         Reply::Refused => pending.add(b"oom"),
+        Reply::NoMemory => pending.add(b"oom"),
         Reply::BadLine => pending.add(b"bad line"),
     }
+}
+
+// Adds what a reply lists, and writes what is kept whenever there is no room.
+fn put_items<W: Write>(
+    pending: &mut Pending,
+    output: &mut Watched<W>,
+    reply: &Reply,
+) -> Result<(), Failed>
+    requires { length pending.old + 16 ≤ 8192 }
+    ensures ok { OnOk result (Sends (W.contents (inner_of output.old)) (W.contents (inner_of output.new)) (pending.old ++ items_text reply.now) pending.new) }
+    ensures room { OnOk result (length pending.new + 16 ≤ 8192) }
+    ensures err { OnErr result ((rest : List ℕ) × Sends (W.contents (inner_of output.old)) (W.contents (inner_of output.new)) (pending.old ++ items_text reply.now) rest) }
+    ensures kept { OnOk result (output.new.failed ≡ output.old.failed) }
+    ensures failed { OnErr result (HasFailed output.new) }
+{
+    match reply {
+        Reply::Ranged(pairs) => put_pairs(pending, output, pairs),
+        Reply::Listed(keys) => put_keys(pending, output, keys),
+        _ => Ok(()),
+    }
+}
+
+fn put_pairs<W: Write>(
+    pending: &mut Pending,
+    output: &mut Watched<W>,
+    pairs: &[(u64, u64)],
+) -> Result<(), Failed>
+    requires { length pending.old + 16 ≤ 8192 }
+    ensures ok { OnOk result (Sends (W.contents (inner_of output.old)) (W.contents (inner_of output.new)) (pending.old ++ flat_map pair_text pairs.now) pending.new) }
+    ensures room { OnOk result (length pending.new + 16 ≤ 8192) }
+    ensures err { OnErr result ((rest : List ℕ) × Sends (W.contents (inner_of output.old)) (W.contents (inner_of output.new)) (pending.old ++ flat_map pair_text pairs.now) rest) }
+    ensures kept { OnOk result (output.new.failed ≡ output.old.failed) }
+    ensures failed { OnErr result (HasFailed output.new) }
+{
+    for pair in pairs {
+        pending.make_room(output)?;
+        add_pair(pending, *pair);
+    }
+    Ok(())
+}
+
+fn put_keys<W: Write>(
+    pending: &mut Pending,
+    output: &mut Watched<W>,
+    keys: &[u64],
+) -> Result<(), Failed>
+    requires { length pending.old + 16 ≤ 8192 }
+    ensures ok { OnOk result (Sends (W.contents (inner_of output.old)) (W.contents (inner_of output.new)) (pending.old ++ flat_map key_text keys.now) pending.new) }
+    ensures room { OnOk result (length pending.new + 16 ≤ 8192) }
+    ensures err { OnErr result ((rest : List ℕ) × Sends (W.contents (inner_of output.old)) (W.contents (inner_of output.new)) (pending.old ++ flat_map key_text keys.now) rest) }
+    ensures kept { OnOk result (output.new.failed ≡ output.old.failed) }
+    ensures failed { OnErr result (HasFailed output.new) }
+{
+    for key in keys {
+        pending.make_room(output)?;
+        add_key(pending, *key);
+    }
+    Ok(())
+}
+
+fn add_pair(pending: &mut Pending, pair: (u64, u64))
+    requires { length pending.old + 64 ≤ 8192 }
+    ensures text { pending.new ≡ pending.old ++ pair_text pair }
+    ensures short { length pending.new ≤ length pending.old + 48 }
+{
+    let (key, value) = pair;
+    add_key(pending, key);
+    pending.add(b"=");
+    pending.add_number(value);
+}
+
+fn add_key(pending: &mut Pending, key: u64)
+    requires { length pending.old + 24 ≤ 8192 }
+    ensures text { pending.new ≡ pending.old ++ key_text key }
+    ensures short { length pending.new ≤ length pending.old + 21 }
+{
+    pending.add(b" ");
+    pending.add_number(key);
 }
 
 fn add_value(pending: &mut Pending, value: Option<u64>)

@@ -1,6 +1,6 @@
 //! The engine of `congee run`: command lines in, answer lines out.
 
-ghost use Rattle.std.specs.Prelude.{◌≡◌, ℕ, ◌<◌, false, List, Option, Err, OnOk, IsNone};
+ghost use Rattle.std.specs.Prelude.{◌≡◌, ℕ, ◌<◌, false, List, Option, Err, OnOk};
 ghost use Rattle.congee_cli.specs.Watched.{HasFailed, inner_of, calls_left};
 ghost use Rattle.congee_cli.specs.Run.{Finished, StopsReading, StopsWriting};
 ghost use Rattle.congee_cli.specs.Session.{Runs, TurnsTo};
@@ -8,6 +8,7 @@ ghost use Rattle.congee_cli.specs.declared.run.RunError.TheVariants.{Read as Rea
 
 use crate::session::Session;
 use crate::watched::Watched;
+use congee::{Allocator, Budget, DefaultAllocator};
 use std::alloc::Global;
 use std::io::{Read, Write};
 
@@ -29,10 +30,10 @@ const CHUNK: usize = 8192;
 /// before each read. A line of more than 256 bytes is read to its end without being held, and is
 /// answered `bad line`.
 ///
-/// `limit` is a budget of the map's nodes in bytes. There are no budgets yet, so it has to be `None`.
+/// `limit` is a budget for the map's nodes, in bytes.
 ///
 /// Memory is wanted once before the first read, where an error is `RunError::Oom`. From then on
-/// a line that the map has no memory for is answered `oom`, and the run goes on.
+/// a line that the map, or its budget, has no memory for is answered `oom`, and the run goes on.
 pub fn run<R: Read, W: Write>(
     alloc: Global,
     input: &mut Watched<R>,
@@ -41,7 +42,6 @@ pub fn run<R: Read, W: Write>(
 ) -> Result<(), RunError>
     requires input { HasFailed input.old → ⊥ }
     requires output { HasFailed output.old → ⊥ }
-    requires unlimited { IsNone limit }
 
     // All of the input was read, and the texts of its lines were written, and nothing else.
     ensures ok { OnOk result (Finished (R.remaining (inner_of input.old)) (R.remaining (inner_of input.new))
@@ -63,7 +63,34 @@ pub fn run<R: Read, W: Write>(
     // Nothing was read or written.
     ensures oom { result ≡ Err Oom → (input.new ≡ input.old) × (output.new ≡ output.old) }
 {
-    let Ok(mut session) = Session::new(alloc) else {
+    match limit {
+        None => run_within(alloc, DefaultAllocator {}, input, output),
+        Some(limit) => run_within(alloc, Budget::new(limit), input, output),
+    }
+}
+
+// The run, with this budget for the map's nodes.
+fn run_within<R: Read, W: Write, A: Allocator>(
+    alloc: Global,
+    allocator: A,
+    input: &mut Watched<R>,
+    output: &mut Watched<W>,
+) -> Result<(), RunError>
+    requires input { HasFailed input.old → ⊥ }
+    requires output { HasFailed output.old → ⊥ }
+    ensures ok { OnOk result (Finished (R.remaining (inner_of input.old)) (R.remaining (inner_of input.new))
+        (W.contents (inner_of output.old)) (W.contents (inner_of output.new))) }
+    ensures ok_input { OnOk result (HasFailed input.new → ⊥) }
+    ensures ok_output { OnOk result (HasFailed output.new → ⊥) }
+    ensures read { result ≡ Err ReadFailed → StopsReading (R.remaining (inner_of input.old)) (R.remaining (inner_of input.new))
+        (W.contents (inner_of output.old)) (W.contents (inner_of output.new)) }
+    ensures read_failed { result ≡ Err ReadFailed → HasFailed input.new }
+    ensures write { result ≡ Err WriteFailed → StopsWriting (R.remaining (inner_of input.old)) (R.remaining (inner_of input.new))
+        (W.contents (inner_of output.old)) (W.contents (inner_of output.new)) }
+    ensures write_failed { result ≡ Err WriteFailed → HasFailed output.new }
+    ensures oom { result ≡ Err Oom → (input.new ≡ input.old) × (output.new ≡ output.old) }
+{
+    let Ok(mut session) = Session::new(alloc, allocator) else {
         return Err(RunError::Oom);
     };
     loop {
@@ -80,8 +107,8 @@ pub fn run<R: Read, W: Write>(
 }
 
 // Writes the answers so far, reads once, and serves what was read. Answers whether the input goes on.
-fn turn<R: Read, W: Write>(
-    session: &mut Session,
+fn turn<R: Read, W: Write, A: Allocator>(
+    session: &mut Session<A>,
     input: &mut Watched<R>,
     output: &mut Watched<W>,
 ) -> Result<bool, RunError>

@@ -1,10 +1,11 @@
 //! The program, but for its streams.
 
-ghost use Rattle.std.specs.Prelude.{◌≡◌, ◌≤◌, ◌↔◌, ◌⊎◌, IsTrue, map, string_bytes};
+ghost use Rattle.std.specs.Prelude.{◌≡◌, ℕ, ◌≤◌, ◌↔◌, ◌⊎◌, Option, IfSome, IfNone, map, string_bytes};
 ghost use Rattle.congee_cli.specs.Watched.{HasFailed, inner_of};
 ghost use Rattle.congee_cli.specs.Run.{Finished, StopsReading, StopsWriting};
 ghost use Rattle.congee_cli.specs.Serve.{AsksRun};
 
+use crate::number::number;
 use crate::run::{RunError, run};
 use crate::watched::Watched;
 use std::alloc::Global;
@@ -14,7 +15,8 @@ use std::io::{Read, Write};
 /// judged before anything is read. What went wrong is told on `errors` in one line; whether that
 /// works changes nothing.
 ///
-/// Only `run` is served. The usage text names more, which comes later.
+/// `run` is served, with a limit in bytes for the nodes of the map or without one. The usage text names more, which comes
+/// later.
 pub fn serve<R: Read, W: Write, E: Write>(
     alloc: Global,
     words: &[String],
@@ -38,16 +40,16 @@ pub fn serve<R: Read, W: Write, E: Write>(
         (W.contents (inner_of output.old)) (W.contents (inner_of output.new))) }
 
     // The words are others.
-    ensures usage { (result ≡ 2) ↔ (AsksRun (map string_bytes words.now) → ⊥) }
+    ensures usage { (result ≡ 2) ↔ ((limit : Option ℕ) → AsksRun (map string_bytes words.now) limit → ⊥) }
     ensures usage_untouched { result ≡ 2 → (input.new ≡ input.old) × (output.new ≡ output.old) }
 
     // There was no memory to begin.
     ensures memory_untouched { result ≡ 3 → (input.new ≡ input.old) × (output.new ≡ output.old) }
 {
-    if !asks_run(words) {
+    let Some(limit) = limit_of(words) else {
         return tell(errors, 2, b"usage: congee run [LIMIT] | congee schedule\n");
-    }
-    match run(alloc, input, output, None) {
+    };
+    match run(alloc, input, output, limit) {
         Ok(()) => 0,
         Err(RunError::Oom) => tell_no_memory(errors),
         Err(RunError::Read) => tell(errors, 1, b"congee: input or output failed\n"),
@@ -70,12 +72,14 @@ fn tell<E: Write>(errors: &mut E, status: u8, text: &[u8]) -> u8
     status
 }
 
-// Whether the words ask for a run without a limit.
-fn asks_run(words: &[String]) -> bool
-    ensures { IsTrue result ↔ AsksRun (map string_bytes words.now) }
+// The limit of the run that the words ask for, or no limit. `None` where they ask for something else.
+fn limit_of(words: &[String]) -> Option<Option<u64>>
+    ensures some { IfSome result (AsksRun (map string_bytes words.now)) }
+    ensures none { IfNone result ((limit : Option ℕ) → AsksRun (map string_bytes words.now) limit → ⊥) }
 {
     match words {
-        [name] => name.as_str() == "run",
-        _ => false,
+        [name] if name.as_str() == "run" => Some(None),
+        [name, limit] if name.as_str() == "run" => Some(Some(number(limit.as_bytes())?)),
+        _ => None,
     }
 }

@@ -9,25 +9,28 @@ use crate::line::Line;
 use crate::pending::Pending;
 use crate::reply::{put_reply, reply_to};
 use crate::watched::{Failed, Watched};
-use congee::{Congee, DefaultAllocator, OOMError};
+use congee::{Allocator, Congee, OOMError};
 use std::alloc::Global;
 use std::io::Write;
 
 /// A map, the line that has begun, and the answers that have still to be written.
 #[derive(Drop)]
-pub struct Session {
-    map: Congee<u64, u64>,
+pub struct Session<A: Allocator> {
+    alloc: Global,
+    map: Congee<u64, u64, A>,
     line: Line,
     pending: Pending,
 }
 
-impl Session {
-    /// Takes the memory of the empty map. The lines take none but what the map takes for them.
-    pub fn new(alloc: Global) -> Result<Self, OOMError>
+impl<A: Allocator> Session<A> {
+    /// Takes the memory of the empty map. A line takes none but what the map takes for it, and for what its
+    /// answer lists.
+    pub fn new(alloc: Global, allocator: A) -> Result<Self, OOMError>
         ensures { IfOk result (λ s. (o : Option (List ℕ)) → Serves s.map.pairs s.line s.pending o o []) }
     {
         Ok(Session {
-            map: Congee::new(alloc, DefaultAllocator {})?,
+            alloc,
+            map: Congee::new(alloc, allocator)?,
             line: Line::new(),
             pending: Pending::new(),
         })
@@ -88,7 +91,7 @@ impl Session {
         ensures kept { OnOk result (output.new.failed ≡ output.old.failed) }
         ensures failed { OnErr result (HasFailed output.new) }
     {
-        let reply = reply_to(&mut self.map, &self.line);
+        let reply = reply_to(self.alloc, &mut self.map, &self.line);
         put_reply(&mut self.pending, output, &reply)?;
         self.line.clear();
         Ok(())

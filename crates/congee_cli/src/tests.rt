@@ -90,6 +90,19 @@ fn answers(rt: HostRuntime) -> Result<(), Fail> {
             "true\nok none\nok none\nfalse\n1\nnone\n2\ntrue\n",
         ),
         (
+            "insert 1 42\nget 1\ninsert 1 43\nrange 0 10 8\ncas 1 43 none\nget 1\nget x\nkeys\nempty\n",
+            "ok none\n42\nok 42\n1 1=43\nok none\nnone\nbad line\n0\ntrue\n",
+        ),
+        ("get 1\nkeys", "none\n0\n"),
+        (
+            "insert 300 3\ninsert 2 18446744073709551615\ninsert 18446744073709551615 7\nkeys\nrange 0 18446744073709551615 9\nrange 2 300 9\nrange 2 301 1\n",
+            "ok none\nok none\nok none\n3 2 300 18446744073709551615\n2 2=18446744073709551615 300=3\n1 2=18446744073709551615\n1 2=18446744073709551615\n",
+        ),
+        (
+            "insert 5 5\nrange 0 5 8\nrange 0 6 8\nrange 6 0 8\nrange 0 6 0\nrange 0 6 4096\nrange 0 6 4097\nrange 0 6\nrange 0 6 1 1\nrange 0 x 1\nkeys 1\nkeys \n",
+            "ok none\n0\n1 5=5\n0\n0\n1 5=5\nbad line\nbad line\nbad line\nbad line\nbad line\nbad line\n",
+        ),
+        (
             "empty 1\nremove\nremove none\ncas 1 none 2\ncas 1 2\nadd 1 none\nput 1\n",
             "bad line\nbad line\nbad line\nbad line\nbad line\nbad line\nbad line\n",
         ),
@@ -125,11 +138,14 @@ fn long_lines(rt: HostRuntime) -> Result<(), Fail> {
 
 #[test]
 fn usage(rt: HostRuntime) -> Result<(), Fail> {
-    let cases: [&[&str]; 7] = [
+    let cases: [&[&str]; 10] = [
         &[],
         &["walk"],
-        &["run", "1"],
+        &["walk", "1"],
         &["run", "01"],
+        &["run", ""],
+        &["run", "+1"],
+        &["run", "18446744073709551616"],
         &["schedule"],
         &["run", "1", "2"],
         &["run\n"],
@@ -142,6 +158,87 @@ fn usage(rt: HostRuntime) -> Result<(), Fail> {
         assert_eq!(rt; written.len(), 0, "at {words:?}");
         assert_eq!(rt; run.told.as_str(), USAGE, "at {words:?}");
         assert_eq!(rt; (run.reader_failed, run.writer_failed), (false, false));
+    }
+    Ok(())
+}
+
+#[test]
+fn limits(rt: HostRuntime) -> Result<(), Fail> {
+    let lines = "insert 0 100\ninsert 18446744073709551615 100\nget 0\ninsert 0 7\nput 5 1\n";
+    let cases = [
+        ("2103", 3, "", "congee: Allocator is out of memory!\n"),
+        ("0", 3, "", "congee: Allocator is out of memory!\n"),
+        ("2104", 0, "oom\noom\nnone\noom\noom\n", ""),
+        ("2168", 0, "ok none\noom\n100\nok 100\nok none\n", ""),
+        ("2296", 0, "ok none\nok none\n100\nok 100\nok none\n", ""),
+        (
+            "18446744073709551615",
+            0,
+            "ok none\nok none\n100\nok 100\nok none\n",
+            "",
+        ),
+    ];
+    for (limit, status, wanted, told) in cases {
+        let mut written = Vec::new(rt.alloc());
+        let words = ["run", limit];
+        let run = outcome(rt.alloc(), &words, lines.as_bytes(), &mut written)?;
+        assert_eq!(rt; run.status, status, "at {limit}");
+        assert_eq!(rt; written.as_slice(), wanted.as_bytes(), "at {limit}");
+        assert_eq!(rt; run.told.as_str(), told, "at {limit}");
+        assert_eq!(rt; (run.reader_failed, run.writer_failed), (false, false));
+    }
+    Ok(())
+}
+
+// Lines that insert the keys below a number, each with itself as its value, and then this one.
+fn inserted(alloc: Global, count: u64, last: &str) -> Result<String, Fail> {
+    let mut input = String::new(alloc);
+    for key in 0..count {
+        input.push_str(format!(in alloc; "insert {key} {key}\n")?.as_str())?;
+    }
+    input.push_str(last)?;
+    Ok(input)
+}
+
+// What those lines are answered: all keys, or all pairs.
+fn listed(alloc: Global, count: u64, with_values: bool) -> Result<String, Fail> {
+    let mut text = String::new(alloc);
+    for _ in 0..count {
+        text.push_str("ok none\n")?;
+    }
+    text.push_str(format!(in alloc; "{count}")?.as_str())?;
+    for key in 0..count {
+        text.push_str(format!(in alloc; " {key}")?.as_str())?;
+        if with_values {
+            text.push_str(format!(in alloc; "={key}")?.as_str())?;
+        }
+    }
+    text.push_str("\n")?;
+    Ok(text)
+}
+
+#[test]
+fn answers_longer_than_the_buffer(rt: HostRuntime) -> Result<(), Fail> {
+    let cases = [("keys\n", false), ("range 0 5000 4096\n", true)];
+    for (line, with_values) in cases {
+        let input = inserted(rt.alloc(), 4000, line)?;
+        let wanted = listed(rt.alloc(), 4000, with_values)?;
+        let mut written = Vec::new(rt.alloc());
+        let run = outcome(rt.alloc(), &["run"], input.as_bytes(), &mut written)?;
+        assert_eq!(rt; run.status, 0, "at {line}");
+        assert_eq!(rt; written.as_slice(), wanted.as_bytes(), "at {line}");
+        // the writer is full in the middle of the list
+        for room in [33_000, 40_000, 50_000] {
+            let mut output = Full {
+                taken: Vec::new(rt.alloc()),
+                room,
+            };
+            let run = outcome(rt.alloc(), &["run"], input.as_bytes(), &mut output)?;
+            assert_eq!(rt; run.status, 1, "at {line}");
+            let count = output.taken.len().min(wanted.len());
+            assert_eq!(rt; output.taken.as_slice(), &wanted.as_bytes()[..count]);
+            assert_eq!(rt; count, room);
+        }
     }
     Ok(())
 }

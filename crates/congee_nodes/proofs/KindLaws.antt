@@ -1,7 +1,8 @@
 -- What a node's children are, where each is made of another.
-use Rattle.std.proofs.Common.{◌≡◌, ℕ, ◌+◌, List, [], ◌∷◌, length, Option, Some, None, IsSome, refl, ap, ◌∙◌, sym, subst, arith, inl, inr}
-use Rattle.std.proofs.lemmas.Bool.{lt-ltb, le-ltb, eq-eqb, ne_eqb, cases_order, cases_eq}
-use Rattle.congee_nodes.specs.Map.{lookup, put, without, Rises}
+use Rattle.std.proofs.Common.{◌≡◌, ℕ, ◌+◌, ◌≤◌, List, [], ◌∷◌, length, Option, Some, None, IsSome, refl, ap, ◌∙◌, sym, subst, arith, inl, inr}
+use Rattle.std.proofs.lemmas.Bool.{lt-ltb, le-ltb, lt-leb, le-leb, eq-eqb, ne_eqb, cases_order, cases_eq, cases_lt}
+use Rattle.congee_nodes.specs.Map.{lookup, put, without, between, Rises}
+use Rattle.congee_nodes.proofs.RangeLaws.{between-next}
 use Rattle.congee_nodes.specs.Any.{any_form, any_prefix, any_children}
 use Rattle.congee_nodes.specs.Form.{Fits}
 use Rattle.congee_nodes.specs.TableNode.{TableNode, mapped}
@@ -64,6 +65,28 @@ module _ {C D : Type 0} (f : C → D) where
     | inl same ↦ rw (eq-eqb e.0 k same) refl
     | inr other ↦ rw (ne_eqb e.0 k other) (ap (λ t. (e.0, f e.1) ∷ t) (without-mapped es k))
   ]
+
+  pub between-mapped : (es : List (ℕ × C)) (a b : ℕ) → between (mapped f es) a b ≡ mapped f (between es a b)
+  between-mapped [] a b = refl
+  between-mapped (e ∷ es) a b = elim (cases_lt e.0 a) [
+    | inl less ↦ rw (lt-leb a e.0 less) (between-mapped es a b)
+    | inr from ↦ elim (cases_lt e.0 b) [
+      | inl to ↦ rw (le-leb a e.0 from, lt-ltb e.0 b to) (ap (λ t. (e.0, f e.1) ∷ t) (between-mapped es a b))
+      | inr past ↦ rw (le-leb a e.0 from, le-ltb e.0 b past) (between-mapped es a b)
+    ]
+  ]
+
+  -- the first from a byte on
+  pub first-mapped : (es : List (ℕ × C)) (from : ℕ) (x : ℕ × C) (rest : List (ℕ × C)) → Rises 0 256 es → between es from 256 ≡ x ∷ rest
+      → (between (mapped f es) from 256 ≡ (x.0, f x.1) ∷ between (mapped f es) (x.0 + 1) 256) × (from ≤ x.0)
+  first-mapped es from x rest h is =
+      let n = between-next 0 256 from 256 es x rest h (omega arith) is in (
+        between-mapped es from 256 ∙ ap (mapped f) is ∙ ap (λ t. (x.0, f x.1) ∷ t) (ap (mapped f) n.after ∙ sym (between-mapped es (x.0 + 1) 256)),
+        n.order,
+      )
+
+  pub none-mapped : (es : List (ℕ × C)) (from : ℕ) → between es from 256 ≡ [] → between (mapped f es) from 256 ≡ []
+  none-mapped es from is = between-mapped es from 256 ∙ ap (mapped f) is
 
 -- a node of a table is one of any form, whose children are made into payloads or slots
 module _ {C P : Type 0} (f : C → Child P) where

@@ -8,7 +8,8 @@ use mathlib.Core.Logic.{⊎_elim}
 use Rattle.congee_nodes.specs.declared.base_node.NodeType.{NodeType}
 use Rattle.congee_nodes.specs.declared.base_node.NodeType.TheVariants.{N4, N16, N48, N256}
 use Rattle.congee_nodes.specs.declared.stats.levels.LevelStats.{LevelStats}
-use Rattle.congee_nodes.specs.LevelCounts.{form_place, nodes_of, entries_of, empty_level, capped}
+use Rattle.congee_nodes.specs.Form.{form_place}
+use Rattle.congee_nodes.specs.LevelCounts.{nodes_of, entries_of, empty_level, capped}
 use Rattle.congee_nodes.specs.Stats.{Visit, is_at, count_at, entries_at, level_of, depth, IsTally}
 use Rattle.congee_nodes.specs.StatsText.{all_nodes, all_entries}
 use Rattle.congee_nodes.proofs.TallyLaws.{counts_at-is}

@@ -2,32 +2,26 @@
 use Rattle.std.specs.Prelude.{◌≡◌, ℕ, zero, suc, ◌⊎◌, refl}
 use Rattle.std.proofs.Common.{inl, inr}
 use Rattle.std.specs.Coded.{Coded, code_by, coded⊎, coded_ℕ}
+use Rattle.congee_nodes.specs.Form.{form_place}
 use Rattle.congee_nodes.specs.declared.base_node.NodeType.{NodeType}
 use Rattle.congee_nodes.specs.declared.base_node.NodeType.TheVariants.{N4, N16, N48, N256}
 use Rattle.congee_nodes.specs.declared.child.Child.{Child}
 use Rattle.congee_nodes.specs.declared.child.Child.TheVariants.{Payload, Node}
 
--- a number for each form, which only the code below uses
-abbrev pub form_number : NodeType → ℕ
-form_number N4 = 0
-form_number N16 = 1
-form_number N48 = 2
-form_number N256 = 3
+abbrev pub form_in_place : ℕ → NodeType
+form_in_place zero = N4
+form_in_place (suc zero) = N16
+form_in_place (suc (suc zero)) = N48
+form_in_place (suc (suc (suc n))) = N256
 
-abbrev pub numbered_form : ℕ → NodeType
-numbered_form zero = N4
-numbered_form (suc zero) = N16
-numbered_form (suc (suc zero)) = N48
-numbered_form (suc (suc (suc n))) = N256
-
-pub form_is_numbered : (f : NodeType) → numbered_form (form_number f) ≡ f
-form_is_numbered N4 = refl
-form_is_numbered N16 = refl
-form_is_numbered N48 = refl
-form_is_numbered N256 = refl
+pub form_has_place : (f : NodeType) → form_in_place (form_place f) ≡ f
+form_has_place N4 = refl
+form_has_place N16 = refl
+form_has_place N48 = refl
+form_has_place N256 = refl
 
 abbrev pub form_code : Coded NodeType
-form_code = code_by ℕ coded_ℕ form_number numbered_form form_is_numbered
+form_code = code_by ℕ coded_ℕ form_place form_in_place form_has_place
 
 module _ {P : Type 0} where
   abbrev pub child_part : Child P → P ⊎ ℕ

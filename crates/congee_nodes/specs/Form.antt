@@ -1,4 +1,4 @@
--- How many children a form has room for, and its stated size.
+-- How many children a form has room for, its place among the forms, and its stated size.
 use Rattle.std.specs.Prelude.{ℕ, ◌≤◌, Option, Some, None}
 use Rattle.congee_nodes.specs.declared.base_node.NodeType.{NodeType}
 use Rattle.congee_nodes.specs.declared.base_node.NodeType.TheVariants.{N4, N16, N48, N256}
@@ -18,6 +18,13 @@ Within (Some most) n = n ≤ most
 -- this many children fit into a node of this form
 abbrev pub Fits : NodeType → ℕ → Type 0
 Fits form n = Within (limit form) n
+
+-- the forms in the order of their sizes
+abbrev pub form_place : NodeType → ℕ
+form_place N4 = 0
+form_place N16 = 1
+form_place N48 = 2
+form_place N256 = 3
 
 -- the form that a full node grows into
 abbrev pub next_form : NodeType → NodeType

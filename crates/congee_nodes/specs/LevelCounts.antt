@@ -1,17 +1,10 @@
 -- The counts of one level.
 use Rattle.std.specs.Prelude.{ℕ, ◌+◌, min, [], ◌∷◌, slice_index, slice_set}
+use Rattle.congee_nodes.specs.Form.{form_place}
 use Rattle.congee_nodes.specs.declared.base_node.NodeType.{NodeType}
-use Rattle.congee_nodes.specs.declared.base_node.NodeType.TheVariants.{N4, N16, N48, N256}
 use Rattle.congee_nodes.specs.declared.stats.levels.LevelStats.{LevelStats}
 
--- where a form's counts stand in the two lists of a level
-abbrev pub form_place : NodeType → ℕ
-form_place N4 = 0
-form_place N16 = 1
-form_place N48 = 2
-form_place N256 = 3
-
--- how many nodes of a form a level has, and how many entries are in them
+-- how many nodes of a form a level has, and how many entries are in them: the forms in the order of their sizes
 abbrev pub nodes_of : NodeType → LevelStats → ℕ
 nodes_of form level = slice_index level.nodes (form_place form)
 

@@ -3,7 +3,8 @@ use Rattle.std.specs.Prelude.{◌≡◌, ℕ, ◌+◌, max, Bool, ◌&&◌, ◌=
 use Rattle.congee_nodes.specs.declared.base_node.NodeType.{NodeType}
 use Rattle.congee_nodes.specs.declared.base_node.NodeType.TheVariants.{N4, N16, N48, N256}
 use Rattle.congee_nodes.specs.declared.stats.levels.LevelStats.{LevelStats}
-use Rattle.congee_nodes.specs.LevelCounts.{form_place, empty_level, capped}
+use Rattle.congee_nodes.specs.Form.{form_place}
+use Rattle.congee_nodes.specs.LevelCounts.{empty_level, capped}
 
 -- a node as the statistics see it: how many nodes are above it, its form, and how many entries it has
 pub record Visit : Type 0 where

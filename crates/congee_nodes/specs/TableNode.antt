@@ -52,3 +52,8 @@ module _ {P : Type 0} where
   seen None = None
   seen (Some (borrowed.Payload v)) = Some (Payload v.now)
   seen (Some (borrowed.Node slot)) = Some (Node slot)
+
+  -- the same child
+  abbrev pub looked_at : ChildRef P → Child P
+  looked_at (borrowed.Payload v) = Payload v.now
+  looked_at (borrowed.Node slot) = Node slot

@@ -21,9 +21,13 @@ pub trait Payload: Drop {
     /// What `same` answers.
     ghost tells_same: { Self → Self → Bool };
 
+    /// Sharing takes nothing that could be missing.
+    ghost always_shared: { Type 0 };
+
     /// One more of the same, or `OOMError` where it takes memory that is missing.
     fn share(&self) -> Result<Self, OOMError>
-        ensures { IfOk result (λ copy. alike self.now copy) };
+        ensures alike { IfOk result (λ copy. alike self.now copy) }
+        ensures granted { always_shared → IsOk result };
 
     /// Whether a change from one to the other would be none.
     fn same(&self, other: &Self) -> bool
@@ -40,6 +44,8 @@ impl Payload for u64 {
     ghost alike = { λ x y. y ≡ x };
 
     ghost tells_same = { λ x y. x == y };
+
+    ghost always_shared = { Unit {0} };
 
     /// Never refused.
     fn share(&self) -> Result<u64, OOMError>
@@ -64,6 +70,8 @@ impl<V: Drop> Payload for Arc<V> {
     ghost alike = { λ x y. arc_value y ≡ arc_value x };
 
     ghost tells_same = { λ _ _. false };
+
+    ghost always_shared = { ⊥ };
 
     /// One more owner; refused where the count of owners can't grow.
     fn share(&self) -> Result<Arc<V>, OOMError> {

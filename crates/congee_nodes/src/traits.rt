@@ -1,6 +1,8 @@
-//! What a type has to be to stand as a key or a value.
+//! What a type has to be to stand as a key or a value, and who is told of the pairs of a map that ends.
 
 ghost use Rattle.std.specs.Prelude.{◌≡◌, ℕ};
+
+use std::marker::PhantomData;
 
 /// A type whose values are read from a 64-bit number and written as one.
 ///
@@ -31,5 +33,62 @@ impl Word for u64 {
 
     fn into_u64(self) -> u64 {
         self
+    }
+}
+
+/// Is told of the pairs of a map.
+pub trait Drainer<K, V>: Drop {
+    /// It may be told of every pair.
+    ghost can_drain: { Self → Type 0 };
+
+    fn drain(&self, k: K, v: V)
+        requires { can_drain self.now };
+
+    /// Whether it wants to be told. Where it doesn't, nobody walks over the pairs for it.
+    fn wants_pairs(&self) -> bool {
+        true
+    }
+}
+
+/// Tells nobody.
+#[derive(Drop)]
+pub struct NoDrain {}
+
+impl<K: Drop, V: Drop> Drainer<K, V> for NoDrain {
+    ghost can_drain = { λ _. Unit {0} };
+
+    fn drain(&self, _k: K, _v: V) {}
+
+    fn wants_pairs(&self) -> bool {
+        false
+    }
+}
+
+/// Calls a closure with each pair.
+#[derive(Drop)]
+pub struct FnDrain<K, V, F> {
+    /// The closure.
+    pub call: F,
+    of: PhantomData<(K, V)>,
+}
+
+impl<K, V, F: Fn(K, V)> FnDrain<K, V, F> {
+    /// A drainer that calls this closure, which may be called with every pair.
+    pub fn new(call: F) -> Self
+        requires { F.IsAlwaysCallable call }
+        ensures { result.call ≡ call }
+    {
+        FnDrain {
+            call,
+            of: PhantomData,
+        }
+    }
+}
+
+impl<K, V, F: Fn(K, V) + Drop> Drainer<K, V> for FnDrain<K, V, F> {
+    ghost can_drain = { λ d. F.IsAlwaysCallable d.call };
+
+    fn drain(&self, k: K, v: V) {
+        (self.call)(k, v)
     }
 }

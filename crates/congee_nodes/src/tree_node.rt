@@ -1,9 +1,9 @@
 //! A node of a tree in one table: a leaf, whose children are payloads, or an inner node, whose children are slots.
 
-ghost use Rattle.std.specs.Prelude.{◌≡◌, ℕ, ◌+◌, ◌<◌, [], length, IfOk, OnOk, OnErr, IsTrue, false, IsSome, Some, None};
-ghost use Rattle.congee_nodes.specs.Map.{lookup, put, without, Rises};
+ghost use Rattle.std.specs.Prelude.{◌≡◌, ℕ, ◌+◌, ◌<◌, ◌≤◌, [], ◌∷◌, length, IfOk, OnOk, OnErr, IfSome, IfNone, IsTrue, false, IsSome, Some, None};
+ghost use Rattle.congee_nodes.specs.Map.{lookup, put, without, between, Rises};
 ghost use Rattle.congee_nodes.specs.Form.{Fits, next_form};
-ghost use Rattle.congee_nodes.specs.TableNode.{MayHave, seen};
+ghost use Rattle.congee_nodes.specs.TableNode.{MayHave, seen, looked_at};
 
 use crate::any_node::AnyNode;
 use crate::base_node::{BaseNode, Node};
@@ -126,6 +126,35 @@ impl<P: Drop> TreeNode<P> {
                 Some(payload) => Some(ChildRef::Payload(payload)),
                 None => None,
             },
+        }
+    }
+
+    /// The first child whose byte isn't below `from`, and its byte; `None` from 256 on.
+    ///
+    /// So a scan of all children takes constant work a child in each form: the bytes of a small node are searched at once,
+    /// the index of a `Node48` is passed once in the whole scan, and the mask of a `Node256` 64 bytes a step.
+    pub fn first_from(&self, from: usize) -> Option<(u8, ChildRef<'_, P>)>
+        ensures none { IfNone result (between self.now.children from 256 ≡ []) }
+        ensures some { IfSome result (λ found. between self.now.children from 256 ≡ (found.0, looked_at found.1) ∷ between self.now.children (found.0 + 1) 256) }
+        ensures order { IfSome result (λ found. from ≤ found.0) }
+    {
+        if from > 255 {
+            return None;
+        }
+        let start = from as u8;
+        match &self.kind {
+            Kind::Inner(node) => {
+                let Some((byte, slot)) = node.get_children(start, 255).next() else {
+                    return None;
+                };
+                Some((byte, ChildRef::Node(*slot)))
+            }
+            Kind::Leaf(node) => {
+                let Some((byte, payload)) = node.get_children(start, 255).next() else {
+                    return None;
+                };
+                Some((byte, ChildRef::Payload(payload)))
+            }
         }
     }
 

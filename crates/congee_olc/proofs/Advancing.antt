@@ -7,14 +7,15 @@ use Rattle.std.specs.Ordering.{nat_cmp}
 use Rattle.congee_olc.specs.Epoch.{PinsView, ChangesSeat, entry_at, pin_of, is_seated}
 use Rattle.congee_olc.specs.World.{World, Table, table_on, table_of, record_in, call_of}
 use Rattle.congee_olc.specs.Table.{view_on, shown}
-use Rattle.congee_olc.specs.Flight.{flight, flight_in, key_of, AlikeOp}
-use Rattle.congee_olc.specs.Event.{Advances, IsStep, IsStart, IsUnchanged, report_of}
+use Rattle.congee_olc.specs.Flight.{flight, flight_in, flight_of, key_of, AlikeOp}
+use Rattle.congee_olc.specs.Event.{Advances, IsStep, IsStart, IsReseated, IsUnchanged, report_of}
+use Rattle.congee_olc.proofs.Views.{same_content}
 use Rattle.congee_olc.specs.declared.olc.types.Op.{Op}
-use Rattle.congee_olc.specs.declared.olc.types.Op.TheVariants.{Get}
+use Rattle.congee_olc.specs.declared.olc.types.Op.TheVariants.{Get, Insert, Remove, ComputeIfPresent, ComputeOrInsert, CompareExchange, Range}
 use Rattle.congee_olc.specs.declared.olc.types.Kind.TheVariants.{Start}
 use Rattle.congee_olc.specs.declared.olc.stage.Asking.TheVariants.{Fresh}
 use Rattle.congee_olc.specs.declared.olc.stage.Progress.TheVariants.{Open}
-use Rattle.congee_olc.specs.Facts.{Holding, NeedsHolder, IsPlaced, Facts, IsRead, IsAdvance, IsSound}
+use Rattle.congee_olc.specs.Facts.{Holding, NeedsHolder, IsPlaced, Facts, IsCourse, IsRead, IsAdvance, IsSound}
 use Rattle.congee_olc.specs.declared.olc.types.Env.{Env}
 use Rattle.congee_olc.specs.declared.olc.types.Report.{Report}
 use Rattle.congee_olc.specs.declared.olc.types.Outcome.{Outcome}
@@ -40,6 +41,7 @@ module _ {P : Type 0} (alike : P → P → Type 0) (same : P → P → Bool) whe
   goes_on t root pin call env next report out r = record {
     facts = λ n e. subst (λ (x : Record P). Facts alike t root pin x) (records_same next n e) r.facts;
     says = r.says;
+    course = λ n e. subst (λ (x : Record P). IsCourse t root call x report out) (records_same next n e) r.course;
     does = r.does;
   }
 
@@ -95,6 +97,10 @@ module _ {P : Type 0} (alike : P → P → Type 0) (w : World P) (pins : PinsVie
             let old : NeedsHolder (table_of w) s = subst (λ l. NeedsHolder (table_on w.slots l) s) slots need in
             let h = sound.held s old in
             absurd (holds_none h.1.stage s h.3);
+        charged = sound.charged;
+        counted = λ m c. sound.counted m
+            (same_content (view_on (table_on w.slots pins.slots) w.root pins.count w.charge) (view_on (table_on w.slots w.pins.slots) w.root w.pins.count w.charge)
+            (λ s. ap (λ l. shown (table_on w.slots l s)) (sym slots)) refl m c);
       }
 
   pub changed_step : (same : P → P → Bool) (env : Env P) (r : Record P) (pin : ℕ) (next : Option (Record P)) (report : Report) (out : Outcome P)
@@ -242,19 +248,114 @@ same_unchanged {P} w mid pins calls id free enters leaves same = record {
   entries = refl;
 }
 
-pub begun_start : {P : Type 0} (alike : P → P → Type 0) (same : P → P → Bool) (w : World P) (pins : PinsView) (calls : List (ℕ × Option (Record P))) (id key : ℕ) (op : Op P) (spare : Option P)
-    → op ≡ Get key → call_of w id ≡ None → ChangesSeat w.pins pins id (is_seated w.pins id) (Some w.pins.count) → ((o : ℕ) → o ≢ id → entry_at calls o ≡ entry_at w.calls o)
-    → entry_at calls id ≡ Some (Some (record { op = Get key; stage = TakeRoot; last = None; spare = spare; asking = Fresh; progress = Open }))
+-- an alike call has the same key
+alike_key : {P : Type 0} (alike : P → P → Type 0) (op shared : Op P) → AlikeOp alike op shared → key_of shared ≡ key_of op
+alike_key alike (Get k) o h = ap key_of h
+alike_key alike (Insert k v) (Insert l w) h = h.0
+alike_key alike (Insert k v) (Get l) h = absurd h
+alike_key alike (Insert k v) (Remove l) h = absurd h
+alike_key alike (Insert k v) (ComputeIfPresent l) h = absurd h
+alike_key alike (Insert k v) (ComputeOrInsert l w) h = absurd h
+alike_key alike (Insert k v) (CompareExchange l old new) h = absurd h
+alike_key alike (Insert k v) (Range a b n) h = absurd h
+alike_key alike (Remove k) o h = ap key_of h
+alike_key alike (ComputeIfPresent k) o h = ap key_of h
+alike_key alike (ComputeOrInsert k v) (ComputeOrInsert l w) h = h.0
+alike_key alike (ComputeOrInsert k v) (Get l) h = absurd h
+alike_key alike (ComputeOrInsert k v) (Insert l w) h = absurd h
+alike_key alike (ComputeOrInsert k v) (Remove l) h = absurd h
+alike_key alike (ComputeOrInsert k v) (ComputeIfPresent l) h = absurd h
+alike_key alike (ComputeOrInsert k v) (CompareExchange l old new) h = absurd h
+alike_key alike (ComputeOrInsert k v) (Range a b n) h = absurd h
+alike_key alike (CompareExchange k old new) (CompareExchange l past next) h = h.0
+alike_key alike (CompareExchange k old new) (Get l) h = absurd h
+alike_key alike (CompareExchange k old new) (Insert l w) h = absurd h
+alike_key alike (CompareExchange k old new) (Remove l) h = absurd h
+alike_key alike (CompareExchange k old new) (ComputeIfPresent l) h = absurd h
+alike_key alike (CompareExchange k old new) (ComputeOrInsert l w) h = absurd h
+alike_key alike (CompareExchange k old new) (Range a b n) h = absurd h
+alike_key alike (Range a b n) o h = ap key_of h
+
+-- the record of a call that begins
+abbrev pub begun : {P : Type 0} → Op P → Record P
+begun op = record { op = op; stage = TakeRoot; last = None; spare = None; asking = Fresh; progress = Open }
+
+pub begun_start : {P : Type 0} (alike : P → P → Type 0) (same : P → P → Bool) (w : World P) (pins : PinsView) (calls : List (ℕ × Option (Record P))) (id : ℕ) (op shared : Op P)
+    → AlikeOp alike op shared → call_of w id ≡ None → ChangesSeat w.pins pins id (is_seated w.pins id) (Some w.pins.count) → ((o : ℕ) → o ≢ id → entry_at calls o ≡ entry_at w.calls o)
+    → entry_at calls id ≡ Some (Some (begun shared))
     → IsStart alike same w (record w { pins = pins; calls = calls }) id op (report_of Start None 0 true)
-begun_start {P} alike same w pins calls id key op spare is free enters others here = record {
+begun_start {P} alike same w pins calls id op shared like free enters others here = record {
   is = refl;
   was_free = ap (λ x. flight_in x (pin_of w.pins id)) free;
-  shared = Get key;
-  alike_op = subst (λ (o : Op P). AlikeOp alike o (Get key)) (sym is) refl;
+  shared = shared;
+  alike_op = like;
   here = ap (λ x. flight_in (record_in x) (pin_of pins id)) here
-      ∙ (ap (λ x. flight_in (Some (record { op = Get key; stage = TakeRoot; last = None; spare = spare; asking = Fresh; progress = Open })) x) enters.pinned
-      ∙ ap (λ k. Some (record { op = Get key; pin = w.pins.count; cursor = k; seen = None; asking = Fresh; progress = Open; spots = []; held = []; made = [] })) (sym (ap key_of is)));
+      ∙ (ap (λ x. flight_in (Some (begun shared)) x) enters.pinned
+      ∙ ap (λ k. Some (record { op = shared; pin = w.pins.count; cursor = k; seen = None; asking = Fresh; progress = Open; spots = []; held = []; made = [] })) (alike_key alike op shared like));
   others = λ o ne. ap (λ x. flight_in (record_in x) (pin_of pins o)) (others o ne) ∙ ap (λ x. flight_in (record_in (entry_at w.calls o)) x) (enters.other_pins o ne);
   nodes = λ s. ap (λ l. shown (table_on w.slots l s)) enters.slots;
   books = record { root = refl; count = enters.count; charge = refl };
 }
+
+flown_at : {P : Type 0} (alike : P → P → Type 0) (w : World P) (id pin : ℕ) (r : Record P) → IsSound alike w → call_of w id ≡ Some r → pin_of w.pins id ≡ Some pin → flight_of w id ≡ Some (flight pin r)
+flown_at alike w id pin r sound found pinned = ap (λ x. flight_in x (pin_of w.pins id)) found ∙ ap (λ x. flight_in (Some r) x) pinned
+
+some_number : (x : Option ℕ) → IsSome x → (n : ℕ) × (x ≡ Some n)
+some_number None h = absurd (no_number h)
+some_number (Some n) h = (n, refl)
+
+-- the call in flight of a number with a record
+pub flown : {P : Type 0} (alike : P → P → Type 0) (w : World P) (id : ℕ) (r : Record P) → IsSound alike w → call_of w id ≡ Some r → (pin : ℕ) × (flight_of w id ≡ Some (flight pin r))
+flown alike w id r sound found = let p = some_number (pin_of w.pins id) (sound.pinned id r found) in (p.0, flown_at alike w id p.0 r sound found p.1)
+
+-- the machine where the seat of a number and the room for its record change
+module _ {P : Type 0} (w : World P) (pins : PinsView) (calls : List (ℕ × Option (Record P))) (id : ℕ) (seated : Bool)
+    (others : (o : ℕ) → o ≢ id → entry_at calls o ≡ entry_at w.calls o) (here : record_in (entry_at calls id) ≡ call_of w id)
+    (changes : ChangesSeat w.pins pins id seated (pin_of w.pins id)) where
+  pub reseated_sound : (alike : P → P → Type 0) → IsSound alike w → (seated ≡ true → IsSome (entry_at calls id)) → IsSound alike (record w { pins = pins; calls = calls })
+  reseated_sound alike sound room =
+      changed_sound alike w pins calls id sound changes.slots changes.count others changes.other_seats changes.other_pins
+      (λ r p e f. sound.facts id p r (sym here ∙ e) (sym changes.pinned ∙ f))
+      (λ r e. subst (λ (x : Option ℕ). IsSome x) (sym changes.pinned) (sound.pinned id r (sym here ∙ e)))
+      (λ p f. subst (λ (x : Option (Record P)). IsSome x) (sym here) (sound.called id p (sym changes.pinned ∙ f)))
+      (λ e. room (sym changes.seat ∙ e))
+      (λ p f. sound.before id p (sym changes.pinned ∙ f))
+
+  same_flights : (o : ℕ) → flight_in (record_in (entry_at calls o)) (pin_of pins o) ≡ flight_in (record_in (entry_at w.calls o)) (pin_of w.pins o)
+  same_flights o =
+      elim (eqb_tells o id) [
+        | inl e ↦ subst (λ z. flight_in (record_in (entry_at calls z)) (pin_of pins z) ≡ flight_in (record_in (entry_at w.calls z)) (pin_of w.pins z)) (sym e.1)
+            (ap (λ x. flight_in x (pin_of pins id)) here ∙ ap (λ x. flight_in (call_of w id) x) changes.pinned)
+        | inr off ↦ ap (λ x. flight_in (record_in x) (pin_of pins o)) (others o off.1) ∙ ap (λ x. flight_in (record_in (entry_at w.calls o)) x) (changes.other_pins o off.1)
+      ]
+
+  pub reseated : IsReseated w (record w { pins = pins; calls = calls }) id seated
+  reseated = record {
+    here = changes.seat;
+    others = changes.other_seats;
+    calls = same_flights;
+    nodes = λ s. ap (λ l. shown (table_on w.slots l s)) changes.slots;
+    books = record { root = refl; count = changes.count; charge = refl };
+    entries = refl;
+  }
+
+-- the machine where only the room for a record that isn't there changes
+module _ {P : Type 0} (w : World P) (pins : PinsView) (calls : List (ℕ × Option (Record P))) (id : ℕ) (others : (o : ℕ) → o ≢ id → entry_at calls o ≡ entry_at w.calls o)
+    (here : record_in (entry_at calls id) ≡ call_of w id) (same : pins ≡ w.pins) where
+  no_change : ChangesSeat w.pins pins id (is_seated w.pins id) (pin_of w.pins id)
+  no_change = record {
+    seat = ap (λ p. is_seated p id) same;
+    pinned = ap (λ p. pin_of p id) same;
+    other_seats = λ o ne. ap (λ p. is_seated p o) same;
+    other_pins = λ o ne. ap (λ p. pin_of p o) same;
+    slots = ap (λ (p : PinsView). p.slots) same;
+    count = ap (λ (p : PinsView). p.count) same;
+  }
+
+  pub roomed_sound : (alike : P → P → Type 0) → IsSound alike w → (is_seated w.pins id ≡ true → IsSome (entry_at calls id)) → IsSound alike (record w { pins = pins; calls = calls })
+  roomed_sound alike sound room = reseated_sound w pins calls id (is_seated w.pins id) others here no_change alike sound room
+
+  pub roomed : IsUnchanged w (record w { pins = pins; calls = calls })
+  roomed =
+      let r = reseated w pins calls id (is_seated w.pins id) others here no_change in
+      record { calls = r.calls; seats = λ o. ap (λ p. is_seated p o) same; nodes = r.nodes; books = r.books; entries = r.entries }

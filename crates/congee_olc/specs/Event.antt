@@ -1,6 +1,6 @@
 -- THE KINDS OF EVENTS: what each does to the nodes and to its call, and what it reports. An event of any kind leaves what
 -- its record doesn't name.
-use Rattle.std.specs.Prelude.{◌≡◌, ◌≢◌, ℕ, ◌+◌, Bool, true, false, IsTrue, ◌↔◌, List, [], ◌∷◌, length, Option, Some, None, if◌then◌else◌, nat_lt, ◌⊎◌}
+use Rattle.std.specs.Prelude.{◌≡◌, ◌≢◌, ℕ, ◌+◌, Bool, true, false, IsTrue, ◌↔◌, List, [], ◌∷◌, length, ◌<◌, Option, Some, None, IsSome, if◌then◌else◌, nat_lt, ◌⊎◌}
 use Rattle.congee_nodes.specs.Map.{lookup, put, without}
 use Rattle.congee_nodes.specs.Key.{next_byte, low}
 use Rattle.congee_nodes.specs.Form.{Fits, stated_size}
@@ -12,7 +12,7 @@ use Rattle.congee_olc.specs.Lock.{IsFree, version, last_version}
 use Rattle.congee_olc.specs.Epoch.{count_after, stamp_at, is_seated, MayReclaim}
 use Rattle.congee_olc.specs.World.{World, bytes_of}
 use Rattle.congee_olc.specs.Table.{Shown, not_yet, retired, View, view_of, Reaches}
-use Rattle.congee_olc.specs.Flight.{Flight, flight_of, IsIn, Remembers, key_of, IsPoint, map_call, asked_of, map_asked, seen_payload, only_at, AlikeOption, AlikeChildren, AlikeReply, AlikeOp}
+use Rattle.congee_olc.specs.Flight.{Flight, flight_of, IsIn, Remembers, key_of, IsPoint, IsSameCall, map_call, asked_of, map_asked, seen_payload, only_at, AlikeOption, AlikeChildren, AlikeReply, AlikeOp}
 use Rattle.congee_olc.specs.declared.olc.types.Op.{Op}
 use Rattle.congee_olc.specs.declared.olc.types.Seen.{Seen}
 use Rattle.congee_olc.specs.declared.olc.types.Env.{Env}
@@ -51,6 +51,18 @@ module _ {P : Type 0} where
   -- the calls of all other numbers are as they were
   abbrev pub OthersStay : World P → World P → ℕ → Type 0
   OthersStay old new id = (other : ℕ) → other ≢ id → flight_of new other ≡ flight_of old other
+
+  -- a call of the handed one's kind and key is in flight under the number
+  pub record IsHanded (w : World P) (id : ℕ) (op : Op P) : Type 0 where
+    pub call : Flight P
+    pub in_flight : flight_of w id ≡ Some call
+    pub same : IsSameCall call.op op
+
+  -- the call of the number holds the node in the slot
+  pub record Holds (w : World P) (id slot : ℕ) : Type 0 where
+    pub call : Flight P
+    pub in_flight : flight_of w id ≡ Some call
+    pub holds : IsIn slot call.held
 
   -- the progress of a call after an outcome
   abbrev pub progress_after : Progress → Outcome P → Progress
@@ -382,6 +394,25 @@ module _ {P : Type 0} (alike : P → P → Type 0) (same : P → P → Bool) whe
     pub root : new.root ≡ old.root
     pub count : new.pins.count ≡ old.pins.count
     pub charge : old.charge ≡ add_charge new.charge (stated_size node.node.form)
+
+-- the number is seated, or has a call in flight
+abbrev pub IsTaken : {P : Type 0} → World P → ℕ → Type 0
+IsTaken w id = (is_seated w.pins id ≡ true) ⊎ IsSome (flight_of w id)
+
+-- Whether room is kept for one number is so, and nothing else that a reader sees has changed.
+pub record IsReseated {P : Type 0} (old new : World P) (id : ℕ) (seated : Bool) : Type 0 where
+  pub here : is_seated new.pins id ≡ seated
+  pub others : (other : ℕ) → other ≢ id → is_seated new.pins other ≡ is_seated old.pins other
+  pub calls : (number : ℕ) → flight_of new number ≡ flight_of old number
+  pub nodes : SameNodes (view_of old) (view_of new)
+  pub books : SameBooks (view_of old) (view_of new)
+  pub entries : new.entries ≡ old.entries
+
+-- A number has been seated that was neither seated nor in flight, and all lesser ones were.
+pub record IsSeating {P : Type 0} (old new : World P) (id : ℕ) : Type 0 where
+  pub free : IsTaken old id → ⊥
+  pub least : (lesser : ℕ) → lesser < id → IsTaken old lesser
+  pub seats : IsReseated old new id true
 
 -- nothing that a reader sees has changed
 pub record IsUnchanged {P : Type 0} (old new : World P) : Type 0 where

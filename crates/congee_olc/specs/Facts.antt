@@ -1,7 +1,8 @@
 -- What holds of the machine after each event: the place facts of its nodes, what each call in flight knows, and what one
 -- event leaves for the others. Only proofs need these words.
-use Rattle.std.specs.Prelude.{◌≡◌, ◌≢◌, ℕ, ◌+◌, ◌-◌, ◌*◌, ◌≤◌, Bool, true, IsTrue, List, [], ◌∷◌, ◌++◌, length, Option, Some, None, IsSome, ◌⊎◌, ◌↔◌}
-use Rattle.congee_nodes.specs.Map.{lookup, Rises}
+use Rattle.std.specs.Prelude.{◌≡◌, ◌≢◌, ℕ, ◌+◌, ◌-◌, ◌*◌, ◌^◌, ◌<◌, ◌≤◌, Bool, true, IsTrue, List, [], ◌∷◌, ◌++◌, length, Option, Some, None, IsSome, ◌⊎◌, ◌↔◌}
+use Rattle.congee_nodes.specs.Map.{Pairs, lookup, Rises}
+use Rattle.congee_nodes.specs.Charge.{Covers}
 use Rattle.congee_nodes.specs.Key.{Begins, AreBytes, next_byte}
 use Rattle.congee_nodes.specs.TableNode.{TableNode}
 use Rattle.congee_nodes.specs.declared.base_node.NodeType.TheVariants.{N256}
@@ -9,15 +10,17 @@ use Rattle.congee_nodes.specs.declared.child.Child.TheVariants.{Payload, Node as
 use Rattle.congee_olc.specs.Lock.{IsFree, IsLocked, IsObsolete}
 use Rattle.congee_olc.specs.Epoch.{is_seated, pin_of, entry_at}
 use Rattle.congee_olc.specs.World.{World, Standing, is_private, is_linked, is_detached, is_retired, Node, Table, table_of, entry, call_of, bytes_of}
-use Rattle.congee_olc.specs.Flight.{IsIn, held_at, made_at, flight, flight_in, key_of, payload_in}
-use Rattle.congee_olc.specs.Table.{view_on}
+use Rattle.congee_olc.specs.Flight.{IsIn, Remembers, path_spots, spots_of, held_at, made_at, flight, flight_in, key_of, payload_in}
+use Rattle.congee_olc.specs.Table.{view_on, view_of, IsContent, sizes_of}
 use Rattle.congee_olc.specs.Event.{IsReading, StepsOn, Advances}
 use Rattle.congee_olc.specs.declared.olc.types.Env.{Env}
+use Rattle.congee_olc.specs.declared.olc.types.Kind.TheVariants as kind
 use Rattle.congee_olc.specs.declared.olc.types.Report.{Report}
 use Rattle.congee_olc.specs.Run.{IsServedOp}
 use Rattle.congee_olc.specs.declared.olc.types.Seen.{Seen}
+use Rattle.congee_olc.specs.declared.olc.types.Op.{Op}
 use Rattle.congee_olc.specs.declared.olc.types.Reply.{Reply}
-use Rattle.congee_olc.specs.declared.olc.types.Reply.TheVariants.{Old, Computed, Exchanged}
+use Rattle.congee_olc.specs.declared.olc.types.Reply.TheVariants.{Old}
 use Rattle.congee_olc.specs.declared.olc.types.Outcome.{Outcome}
 use Rattle.congee_olc.specs.declared.olc.types.Outcome.TheVariants.{Going, Ask, Pair, Decided, Refused, Done, Unknown}
 use Rattle.congee_olc.specs.declared.olc.stage.Spot.{Spot}
@@ -39,6 +42,19 @@ IsSafe pin (is_retired (Some stamp)) = pin ≤ stamp
 -- the nodes that a call holds or has made before its next event
 abbrev pub Holding : Stage → ℕ → Type 0
 Holding stage s = IsIn s (held_at stage) ⊎ IsIn s (made_at stage)
+
+abbrev pub slots_in : List Spot → List ℕ
+slots_in [] = []
+slots_in (s ∷ spots) = s.slot ∷ slots_in spots
+
+-- the slots beside the root's that a call may touch before it reads on
+abbrev pub named_at : Stage → List ℕ
+named_at TakeRoot = []
+named_at (Read path) = slots_in (path_spots path)
+named_at (Check path) = slots_in (path_spots path)
+named_at (TakeBelow path slot) = slot ∷ slots_in (path_spots path)
+named_at (CheckAbove path spot fits) = spot.slot ∷ slots_in (path_spots path)
+named_at Finish = []
 
 module _ {P : Type 0} where
   -- the byte of a key under which it goes on below a node
@@ -77,6 +93,7 @@ module _ {P : Type 0} where
     pub leaf : (s : ℕ) (a : Node P) → IsLinked t s a → (x : ℕ) (v : P) → entry a x ≡ Some (Payload v) → length a.node.prefix ≡ 7
     pub leads : (s r : ℕ) (a b : Node P) → IsLinked t s a → IsLinked t r b → Begins a.node.prefix b.node.prefix → (s ≡ r) ⊎ LeadsOn t a b.node.prefix
     pub free : (s : ℕ) (a : Node P) → t s ≡ Some a → IsFree a.word → (a.standing ≡ is_linked) ⊎ (a.standing ≡ is_private)
+    pub locked : (s : ℕ) (a : Node P) → t s ≡ Some a → IsObsolete a.word → IsLocked a.word
     pub obsolete : (s : ℕ) (a : Node P) → t s ≡ Some a → IsObsolete a.word ↔ ((stamp : Option ℕ) × (a.standing ≡ is_retired stamp))
 
   -- a key stands in the table at a value: some linked leaf has it
@@ -186,6 +203,47 @@ module _ {P : Type 0} where
   work t (CheckAbove path spot fits) = 4 * (7 - depth_in (t path.here.slot)) + 7
   work t Finish = 1
 
+  -- each word that a call remembers stands there now
+  abbrev pub IsCurrent : Table P → Stage → Type 0
+  IsCurrent t stage = (slot word : ℕ) → Remembers (spots_of stage) slot word → (a : Node P) → t slot ≡ Some a → a.word ≡ word
+
+  -- no node needs a holder
+  abbrev pub NoneHeld : Table P → Type 0
+  NoneHeld t = (s : ℕ) → NeedsHolder t s → ⊥
+
+  pub record Stays (t : Table P) (spot : Spot) : Type 0 where
+    pub node : Node P
+    pub here : t spot.slot ≡ Some node
+    pub word : node.word ≡ spot.word
+
+  -- the last Read reported this slot, and its node's word is the remembered one
+  abbrev pub MayFollow : Table P → Stage → Option (Seen P) → ℕ → Type 0
+  MayFollow t TakeRoot last slot = ⊥
+  MayFollow t (Read path) last slot = ⊥
+  MayFollow t (Check path) last slot = SawNode last slot × Stays t path.here
+  MayFollow t (TakeBelow path below) last slot = ⊥
+  MayFollow t (CheckAbove path spot fits) last slot = ⊥
+  MayFollow t Finish last slot = ⊥
+
+  -- THE COURSE of a call: what it touches, which slots it knows of then and whence, and that its work falls
+  -- unless it goes back to the root, which nobody makes a call do whose words stand
+  pub record IsCourse (t : Table P) (root : ℕ) (call next : Record P) (report : Report) (out : Outcome P) : Type 0 where
+    pub touches : (slot : ℕ) → report.slot ≡ Some slot → (slot ≡ root) ⊎ IsIn slot (named_at call.stage)
+    pub names : (slot : ℕ) → IsIn slot (named_at next.stage) → (slot ≡ root) ⊎ (IsIn slot (named_at call.stage) ⊎ MayFollow t call.stage call.last slot)
+    pub reads : (slot : ℕ) → MayFollow t next.stage next.last slot → report.kind ≡ kind.Read
+    pub refuses : out ≡ Refused → call.progress ≡ progress.Open
+    pub keeps : IsCurrent t call.stage → IsCurrent t next.stage
+    pub falls : ((next.stage ≡ TakeRoot) × (IsCurrent t call.stage → NoneHeld t → ⊥)) ⊎ (work t next.stage < work t call.stage)
+
+  -- a call that isn't served comes no further than to a Read, or to the Check after one that was torn
+  abbrev pub IsServedAt : Table P → Op P → Stage → Type 0
+  IsServedAt t op TakeRoot = Unit {0}
+  IsServedAt t op (Read path) = Unit {0}
+  IsServedAt t op (Check path) = While t path.here (λ a. IsServedOp op)
+  IsServedAt t op (TakeBelow path slot) = IsServedOp op
+  IsServedAt t op (CheckAbove path spot fits) = IsServedOp op
+  IsServedAt t op Finish = Unit {0}
+
 -- What a call knows, where shares are alike.
 module _ {P : Type 0} (alike : P → P → Type 0) where
   -- beside what was seen, one more share is kept for the reply
@@ -196,6 +254,7 @@ module _ {P : Type 0} (alike : P → P → Type 0) where
 
   -- what the last Read reported stands there, and the spare share is alike to it and to what was seen
   pub record Agrees (key : ℕ) (a : Node P) (s : Seen P) (spare : Option P) : Type 0 where
+    pub small : key < 2 ^ 64
     pub reading : IsReading alike key a.node s
     pub stands : IsSpare (payload_in (entry a (byte_at a (bytes_of key)))) spare
     pub seen : IsSpare (payload_in s.child) spare
@@ -218,34 +277,39 @@ module _ {P : Type 0} (alike : P → P → Type 0) where
   FactsAt t root pin r Finish = r.progress ≢ progress.Open
 
   pub record Facts (t : Table P) (root pin : ℕ) (r : Record P) : Type 0 where
-    pub served : IsServedOp r.op
+    pub served : IsServedAt t r.op r.stage
     pub at : FactsAt t root pin r r.stage
 
-  -- what a key's reply says of the table
-  abbrev pub IsAnswer : Table P → List ℕ → Option P → Type 0
-  IsAnswer t k None = (v : P) → Keeps t k v → ⊥
-  IsAnswer t k (Some w) = (v : P) × Keeps t k v × alike v w
+  -- what stands at a key, told by a share
+  abbrev pub IsAnswer : Table P → ℕ → Option P → Type 0
+  IsAnswer t key None = (v : P) → Keeps t (bytes_of key) v → ⊥
+  IsAnswer t key (Some w) = (key < 2 ^ 64) × (v : P) × Keeps t (bytes_of key) v × alike v w
 
-  abbrev pub IsReplied : Table P → List ℕ → Reply P → Type 0
-  IsReplied t k (Old before) = IsAnswer t k before
-  IsReplied t k (Computed both) = ⊥
-  IsReplied t k (Exchanged r) = ⊥
+  -- what the reply of a call that only reads says of the table
+  pub record IsReplied (t : Table P) (call : Record P) (reply : Reply P) : Type 0 where
+    pub served : IsServedOp call.op
+    pub fresh : call.asking ≡ Fresh
+    pub before : Option P
+    pub is : reply ≡ Old before
+    pub answer : IsAnswer t (key_of call.op) before
 
   -- what an outcome says of the table of a call that only reads
-  abbrev pub Says : Table P → List ℕ → Outcome P → Type 0
-  Says t k Going = Unit {0}
-  Says t k (Ask old) = ⊥
-  Says t k (Pair key v) = ⊥
-  Says t k (Decided reply) = IsReplied t k reply
-  Says t k Refused = Unit {0}
-  Says t k Done = Unit {0}
-  Says t k Unknown = ⊥
+  abbrev pub Says : Table P → Record P → Outcome P → Type 0
+  Says t call Going = Unit {0}
+  Says t call (Ask old) = ⊥
+  Says t call (Pair key v) = ⊥
+  Says t call (Decided reply) = IsReplied t call reply
+  Says t call Refused = Unit {0}
+  Says t call Done = Unit {0}
+  Says t call Unknown = ⊥
 
   -- A Read of a node whose word is the remembered one: what it reports agrees with the node, or a share was refused.
   pub record Looks (n : TableNode P) (call : Record P) (path : Path) (next : Record P) : Type 0 where
     pub seen : Seen P
     pub spare : Option P
     pub is : next ≡ record call { stage = Check path; last = Some seen; spare = spare }
+    pub served : IsServedOp call.op
+    pub small : key_of call.op < 2 ^ 64
     pub reading : IsReading alike (key_of call.op) n seen
     pub stands : IsSpare (payload_in (lookup n.children (next_byte n.prefix (bytes_of (key_of call.op))))) spare
     pub agrees : IsSpare (payload_in seen.child) spare
@@ -262,14 +326,16 @@ module _ {P : Type 0} (alike : P → P → Type 0) where
   -- what a kind that only reads leaves of a call and says, in any state of the books
   pub record IsRead (same : P → P → Bool) (t : Table P) (root pin : ℕ) (call : Record P) (env : Env P) (next : Record P) (report : Report) (out : Outcome P) : Type 0 where
     pub facts : Facts t root pin next
-    pub says : Says t (bytes_of (key_of call.op)) out
+    pub says : Says t call out
+    pub course : IsCourse t root call next report out
     pub does : (count : ℕ) (charge : Option ℕ)
         → StepsOn alike same (view_on t root count charge) (view_on t root count charge) (flight pin call) (flight pin next) env report out
 
   -- what one event leaves of a call, if it goes on, and says, where nothing is written
   pub record IsAdvance (same : P → P → Bool) (t : Table P) (root pin : ℕ) (call : Record P) (env : Env P) (next : Option (Record P)) (report : Report) (out : Outcome P) : Type 0 where
     pub facts : (r : Record P) → next ≡ Some r → Facts t root pin r
-    pub says : Says t (bytes_of (key_of call.op)) out
+    pub says : Says t call out
+    pub course : (r : Record P) → next ≡ Some r → IsCourse t root call r report out
     pub does : (count : ℕ) (charge : Option ℕ)
         → Advances alike same (view_on t root count charge) (view_on t root count charge) (flight pin call) (flight_in next (Some pin)) env report out
 
@@ -292,3 +358,28 @@ module _ {P : Type 0} (alike : P → P → Type 0) where
     pub before : (id pin : ℕ) → pin_of w.pins id ≡ Some pin → pin ≤ w.pins.count
     pub apart : (i j s : ℕ) (r q : Record P) → call_of w i ≡ Some r → call_of w j ≡ Some q → i ≢ j → Holding r.stage s → Holding q.stage s → ⊥
     pub held : (s : ℕ) → NeedsHolder (table_of w) s → (id : ℕ) × (r : Record P) × (call_of w id ≡ Some r) × Holding r.stage s
+    pub charged : Covers w.charge (sizes_of w.slots)
+    pub counted : (m : Pairs P) → IsContent (view_of w) m → w.entries ≡ length m
+
+  -- The begin of a call, as the machine's records have it: nothing is written, and all other records stay.
+  pub record IsBegun (w w' : World P) (id : ℕ) : Type 0 where
+    pub others : (o : ℕ) → o ≢ id → call_of w' o ≡ call_of w o
+    pub slots : w'.slots ≡ w.slots
+    pub lives : w'.pins.slots ≡ w.pins.slots
+    pub root : w'.root ≡ w.root
+    pub stage : (r : Record P) → call_of w' id ≡ Some r → r.stage ≡ TakeRoot
+    pub after : IsSound w'
+
+  -- ONE EVENT OF A CALL, as the machine's records have it: nothing is written, and all other records stay.
+  pub record IsTurn (same : P → P → Bool) (w w' : World P) (id : ℕ) (env : Env P) (report : Report) (out : Outcome P) : Type 0 where
+    pub call : Record P
+    pub pin : ℕ
+    pub found : call_of w id ≡ Some call
+    pub pinned : pin_of w.pins id ≡ Some pin
+    pub others : (o : ℕ) → o ≢ id → call_of w' o ≡ call_of w o
+    pub slots : w'.slots ≡ w.slots
+    pub lives : w'.pins.slots ≡ w.pins.slots
+    pub root : w'.root ≡ w.root
+    pub before : IsSound w
+    pub after : IsSound w'
+    pub advance : IsAdvance same (table_of w) w.root pin call env (call_of w' id) report out

@@ -123,6 +123,17 @@ module _ {P : Type 0} where
   IsPoint (CompareExchange k old new) = Unit {0}
   IsPoint (Range a b n) = ⊥
 
+  -- the same kind and key; of a range the same start, end and limit
+  abbrev pub IsSameCall : Op P → Op P → Type 0
+  IsSameCall (Get k) (Get l) = l ≡ k
+  IsSameCall (Insert k v) (Insert l w) = l ≡ k
+  IsSameCall (Remove k) (Remove l) = l ≡ k
+  IsSameCall (ComputeIfPresent k) (ComputeIfPresent l) = l ≡ k
+  IsSameCall (ComputeOrInsert k v) (ComputeOrInsert l w) = l ≡ k
+  IsSameCall (CompareExchange k old new) (CompareExchange l past next) = l ≡ k
+  IsSameCall (Range a b n) (Range c d m) = (c ≡ a) × (d ≡ b) × (m ≡ n)
+  IsSameCall _ _ = ⊥
+
   -- the call of the ordered map
   abbrev pub map_call : Op P → Call ℕ P
   map_call (Get k) = get k

@@ -7,3 +7,4 @@ pub mod Event
 pub mod Run
 pub mod Facts
 pub mod Found
+pub mod Played

@@ -9,7 +9,7 @@ use Rattle.congee_nodes.specs.declared.child.Child.TheVariants.{Node}
 use Rattle.congee_olc.specs.Lock.{version, last_version}
 use Rattle.congee_olc.specs.Epoch.{MayReclaim}
 use Rattle.congee_olc.specs.World.{World}
-use Rattle.congee_olc.specs.Table.{Shown, published, view_of}
+use Rattle.congee_olc.specs.Table.{Shown, published, view_of, IsContent}
 use Rattle.congee_olc.specs.Flight.{Flight, flight_of, IsPoint, map_call, asked_of, map_asked, map_reply, AlikeReply, AlikePairs}
 use Rattle.congee_olc.specs.Event.{IsStart, IsStep, IsReclaim}
 use Rattle.congee_olc.specs.declared.olc.types.Op.{Op}
@@ -34,7 +34,8 @@ module _ {P : Type 0} where
   IsEnabled w (Step id env) = IsSome (flight_of w id)
   IsEnabled w (Reclaim slot) = MayReclaim w.pins slot
 
-  -- the calls and events that the machine serves so far; every other event is skipped
+  -- The calls and events that are served so far; a schedule's other events are skipped. A call of another kind that is
+  -- begun all the same is refused at its first Read.
   abbrev pub IsServedOp : Op P → Type 0
   IsServedOp (Get k) = Unit {0}
   IsServedOp _ = ⊥
@@ -73,6 +74,14 @@ module _ {P : Type 0} (alike : P → P → Type 0) (same : P → P → Bool) whe
   Carries m n call Refused = AlikePairs alike m n
   Carries m n call Done = AlikePairs alike m n
   Carries m n call Unknown = AlikePairs alike m n
+
+  -- what a step of the call of a number makes of the content, which was m
+  pub record IsCarried (m : Pairs P) (old new : World P) (id : ℕ) (out : Outcome P) : Type 0 where
+    pub call : Flight P
+    pub in_flight : flight_of old id ≡ Some call
+    pub after : Pairs P
+    pub content : IsContent (view_of new) after
+    pub carries : Carries m after call out
 
 -- A number is alike to itself alone.
 abbrev pub IsCopy : ℕ → ℕ → Type 0
@@ -283,6 +292,11 @@ abbrev pub AllEndAlone : List Entry → Type 0
 AllEndAlone [] = Unit {0}
 AllEndAlone (x ∷ xs) = ((id : ℕ) → BeginsPoint id x.event x.line → EndsWithin 39 x.after id xs) × AllEndAlone xs
 
+-- and each point call in flight that is alone from here on, wherever it is in its course, within 80 more
+abbrev pub AllEndSoon : World ℕ → List Entry → Type 0
+AllEndSoon w [] = Unit {0}
+AllEndSoon w (x ∷ xs) = ((id : ℕ) (call : Flight ℕ) → flight_of w id ≡ Some call → IsPoint call.op → EndsWithin 80 w id (x ∷ xs)) × AllEndSoon x.after xs
+
 -- THE THEOREM'S RUN: from the root alone, by these events, with these lines and decisions, to this machine.
 pub record Runs (events : List (Event ℕ)) (lines : List Line) (decided : List Decision) (last : World ℕ) : Type 0 where
   pub first : World ℕ
@@ -293,3 +307,14 @@ pub record Runs (events : List (Event ℕ)) (lines : List Line) (decided : List 
   pub lines_are : lines_of entries ≡ lines
   pub decided_are : decided_in entries ≡ decided
   pub touching : AllTouchKnown first [] entries
+
+-- WHAT A REPLAY GIVES: a run of the schedule from the root alone; its decided calls are one legal history from the empty map
+-- to the content at its end; each call is in order; and each point call that is alone ends.
+pub record IsReplayed (events : List (Event ℕ)) (lines : List Line) (decided : List Decision) (content : Pairs ℕ) : Type 0 where
+  pub last : World ℕ
+  pub run : Runs events lines decided last
+  pub content_is : IsContent (view_of last) content
+  pub history : IsHistory [] decided content
+  pub orderly : (id : ℕ) → IsOrderly id idle events lines
+  pub ends : AllEndAlone run.entries
+  pub soon : AllEndSoon run.first run.entries

@@ -1,8 +1,11 @@
 //! The machine.
 
 mod advance;
+pub mod calls;
+mod copies;
 pub mod machine;
 mod reading;
+pub mod replay;
 pub mod stage;
 pub mod trace;
 pub mod types;

@@ -9,22 +9,22 @@ use Rattle.congee_tree.specs.Tree.{Tree}
 use Rattle.congee_tree.specs.Way.{depth}
 
 -- the same nodes are the same tree
-pub same_tree : {P : Type 0} → (s t : Table P) (root : ℕ) → t ≡ s
-    → ◌≡◌ {A = Tree P} (record { pairs = pairs_at t depth root; nodes = nodes_at t depth [] root }) (record { pairs = pairs_at s depth root; nodes = nodes_at s depth [] root })
-same_tree s t root e = rw e refl
+pub same_tree : {P A : Type 0} → (s t : Table P) (root : ℕ) (a b : A) → t ≡ s → b ≡ a
+    → ◌≡◌ {A = Tree P A} (record { pairs = pairs_at t depth root; nodes = nodes_at t depth [] root; budget = b }) (record { pairs = pairs_at s depth root; nodes = nodes_at s depth [] root; budget = a })
+same_tree s t root a b e f = rw (e, f) refl
 
-module _ {P F : Type 0} (w t : Tree P) (seen : w ≡ t) (k j : ℕ) (same : k ≡ j) (g : Mut F (Bor P × Unit {0}) (Option P)) (f : F) where
+module _ {P A F : Type 0} (w t : Tree P A) (seen : w ≡ t) (k j : ℕ) (same : k ≡ j) (g : Mut F (Bor P × Unit {0}) (Option P)) (f : F) where
   pub takes_seen : ((standing : P) → lookup t.pairs j ≡ Some standing → TakesAt g f standing) → (standing : P) → lookup w.pairs k ≡ Some standing → TakesAt g f standing
-  takes_seen takes standing is = takes standing (subst (λ i. lookup t.pairs i ≡ Some standing) same (subst (λ (u : Tree P). lookup u.pairs k ≡ Some standing) seen is))
+  takes_seen takes standing is = takes standing (subst (λ i. lookup t.pairs i ≡ Some standing) same (subst (λ (u : Tree P A). lookup u.pairs k ≡ Some standing) seen is))
 
-  module _ (new : Tree P) (f' : F) where
-    abbrev Absent : Tree P → ℕ → Type 0
+  module _ (new : Tree P A) (f' : F) where
+    abbrev Absent : Tree P A → ℕ → Type 0
     Absent u i = lookup u.pairs i ≡ None → (new ≡ u) × (f' ≡ f)
 
     pub absent_seen : Absent w k → Absent t j
     absent_seen x = subst (λ i. Absent t i) same (subst (λ u. Absent u k) seen x)
 
-    abbrev Present : List ℕ → Tree P → ℕ → Type 0
+    abbrev Present : List ℕ → Tree P A → ℕ → Type 0
     Present key u i =
         (standing : P) → lookup u.pairs i ≡ Some standing → (answer : Option P) × CalledAt g f standing answer f' × (new.pairs ≡ with_answer u.pairs i answer) × Recomputes answer u.nodes key new.nodes
 

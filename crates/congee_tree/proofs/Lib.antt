@@ -11,3 +11,10 @@ mod WholeLaws
 mod RemoveLaws
 mod CountLaws
 mod CallLaws
+mod VisitedLaws
+mod WindowLaws
+mod FillLaws
+mod ScanLaws
+mod WalkLaws
+mod WeightLaws
+mod ChargeLaws

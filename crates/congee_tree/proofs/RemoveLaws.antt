@@ -1,11 +1,12 @@
 -- What a removal at the end of a key's way does to the whole tree.
-use Rattle.std.proofs.Common.{Bor, ◌≡◌, ◌≢◌, ◌+◌, ℕ, zero, suc, ◌<◌, List, [], ◌∷◌, ◌++◌, length, take, Some, IsSome, refl, ap, sym, subst, ◌∙◌, arith, ◌⊎◌, inl, inr, length-append}
+use Rattle.std.proofs.Common.{Bor, ◌≡◌, ◌≢◌, ◌+◌, ℕ, zero, suc, ◌<◌, List, [], ◌∷◌, ◌++◌, length, take, Option, Some, None, IsSome, refl, ap, sym, subst, ◌∙◌, arith, ◌⊎◌, inl, inr, length-append}
 use Rattle.std.proofs.lemmas.Bool.{eq-eqb, ne_eqb, cases_eq}
 use Rattle.congee_nodes.specs.Map.{lookup, without, Rises}
 use Rattle.congee_nodes.specs.Key.{AreBytes, low, key_number, Begins, next_byte}
 use Rattle.congee_nodes.specs.TableNode.{TableNode}
 use Rattle.congee_nodes.specs.Table.{Table, NodeInfo, node_at, node_info, pairs_at, nodes_at, IsTree}
 use Rattle.congee_nodes.specs.Reduce.{LosesPayload, DetachesLeaf, with_one_less}
+use Rattle.congee_nodes.specs.declared.base_node.NodeType.{NodeType}
 use Rattle.congee_nodes.specs.declared.child.Child.TheVariants.{Payload}
 use Rattle.congee_nodes.proofs.BeginLaws.{after}
 use Rattle.congee_nodes.proofs.ByteMapLaws.{length-without_present}
@@ -15,6 +16,7 @@ use Rattle.congee_nodes.proofs.WriteLaws.{KeepsSlots, pairs-same}
 use Rattle.congee_nodes.proofs.NodesLaws.{Replaces-trans, leaf_alone}
 use Rattle.congee_nodes.proofs.WithoutLaws.{without_local, unwrite}
 use Rattle.congee_nodes.proofs.DetachLaws.{detach, less_info}
+use Rattle.congee_tree.specs.Charge.{total}
 use Rattle.congee_tree.specs.Way.{depth, HasRoot, Way, IsUp, IsEnd, Arrives}
 use Rattle.congee_tree.specs.Writes.{SameElsewhere, WasChild}
 use Rattle.congee_tree.specs.Takes.{TakesChild, TakesOnWay, KeepsBut, IsLinked, IsHeld, TakesOut, Loses}
@@ -23,6 +25,7 @@ use Rattle.congee_tree.specs.declared.descent.Place.{Place}
 use Rattle.congee_tree.proofs.WayLaws.{along, lookup_present}
 use Rattle.congee_tree.proofs.InsertLaws.{keeps_others}
 use Rattle.congee_tree.proofs.ShapeLaws.{along_nodes, alone, begins_seven}
+use Rattle.congee_tree.proofs.WeightLaws.{total-loses, total-detaches}
 
 -- a link stands while another slot's node changes
 pub linked_after : {P : Type 0} → (s r : Table P) (parent slot : ℕ) (key : List ℕ) (m : TableNode P) → IsLinked s parent slot key → SameElsewhere slot s r → node_at r slot ≡ Some m → IsLinked r parent slot key
@@ -48,10 +51,29 @@ module _ {P : Type 0} (s t : Table P) (root : ℕ) (key : List ℕ) (bytes : Are
   abbrev new : List NodeInfo
   new = nodes_at t depth [] root
 
-  pub record Reduced : Type 0 where
+  -- where a leaf goes with its last payload, this is its form
+  abbrev pub Shrinks : Option NodeType → Type 0
+  Shrinks None = LosesPayload old key new
+  Shrinks (Some form) = (x : DetachesLeaf old key new) × (x.leaf.form ≡ form)
+
+  pub shrinks_shape : (detached : Option NodeType) → Shrinks detached → LosesPayload old key new ⊎ DetachesLeaf old key new
+  shrinks_shape None x = inl x
+  shrinks_shape (Some form) x = inr x.0
+
+  pub record Reduced (detached : Option NodeType) : Type 0 where
     pub tree : IsTree t depth [] root
     pub pairs : pairs_at t depth root ≡ without (pairs_at s depth root) (key_number key)
-    pub shape : LosesPayload old key new ⊎ DetachesLeaf old key new
+    pub nodes : Shrinks detached
+
+  -- what a leaf that goes takes off a sum
+  pub shrinks_counted : (detached : Option NodeType) → Reduced detached → (form : NodeType) → detached ≡ Some form → (w : NodeType → ℕ) → total w new + w form ≡ total w old
+  shrinks_counted None x form is w = absurd (cc)
+  shrinks_counted (Some f) x form is w =
+      let same : f ≡ form = cc in
+      subst (λ g. total w new + w g ≡ total w old) (x.nodes.1 ∙ same) (total-detaches w old key new x.nodes.0)
+
+  pub shrinks_kept : Reduced None → (w : NodeType → ℕ) → total w new ≡ total w old
+  shrinks_kept x w = total-loses w old key new x.nodes
 
   -- the leaf at the end of the way
   pub record IsLeaf (levels : ℕ) (q : List ℕ) (slot : ℕ) (n : TableNode P) (b : ℕ) (v : P) : Type 0 where
@@ -86,7 +108,7 @@ module _ {P : Type 0} (s t : Table P) (root : ℕ) (key : List ℕ) (bytes : Are
 
   -- one payload of several
   take_from : (above levels slot : ℕ) (q : List ℕ) (n : TableNode P) (b : ℕ) (v : Bor P) → node_at s slot ≡ Some n → Way s root key above levels q slot → IsTree s levels q slot → IsEnd key n (Present b v)
-      → SameElsewhere slot s t → TakesChild s t slot b → 1 < length n.children → Reduced
+      → SameElsewhere slot s t → TakesChild s t slot b → 1 < length n.children → Reduced None
   take_from above zero slot q n b v here way h e keeps takes more = absurd h
   take_from above (suc levels) slot q n b v here way h e keeps takes more =
       let both : Some n ≡ Some h.node = sym here ∙ h.here in
@@ -105,16 +127,16 @@ module _ {P : Type 0} (s t : Table P) (root : ℕ) (key : List ℕ) (bytes : Are
       let less = less_info q h.node x.0 b h.sound.ordered some x.2.0 x.2.1 x.2.2 in
       let is_now : nodes_at t (suc levels) q slot ≡ with_one_less (node_info q h.node) ∷ [] =
       leaf_alone t (suc levels) q slot x.0 y.0 x.1 (ap length x.2.0 ∙ l.seven) ∙ ap (λ i. i ∷ []) less in
-      let lift = along_nodes s t root key bytes full v.now above (suc levels) slot q way others in
+      let lift = along_nodes s t root key above (suc levels) slot q way others in
       record {
         tree = whole.0;
         pairs = whole.1;
-        shape = inl (record {
+        nodes = record {
           leaf = node_info q h.node;
           prefix = l.is;
           others = subst (λ (m : TableNode P). 1 < length m.children) is more;
           replaces = Replaces-trans old new (nodes_at s (suc levels) q slot) (nodes_at t (suc levels) q slot) _ _ lift (alone (nodes_at s (suc levels) q slot) (nodes_at t (suc levels) q slot) _ _ l.was is_now);
-        });
+        };
       }
 
   -- a leaf has only the key's pair
@@ -128,7 +150,7 @@ module _ {P : Type 0} (s t : Table P) (root : ℕ) (key : List ℕ) (bytes : Are
 
   -- the leaf at the end of the way, with this pair alone, taken out of the node above it
   detach_from : (above levels slot : ℕ) (q : List ℕ) (n m : TableNode P) (b : ℕ) (v : Bor P) (way : Way s root key (suc above) levels q slot) → node_at s slot ≡ Some n → IsTree s levels q slot → IsEnd key n (Present b v) → length n.children ≡ 1
-      → KeepsBut way.parent slot s t → node_at t way.parent ≡ Some m → Loses way.tree.node (next_byte way.tree.node.prefix key) m → Reduced
+      → KeepsBut way.parent slot s t → node_at t way.parent ≡ Some m → Loses way.tree.node (next_byte way.tree.node.prefix key) m → Reduced (Some n.form)
   detach_from above levels slot q n m b v way here tree e one keeps there loses =
       let h = way.tree in
       let p = h.node.prefix in
@@ -146,24 +168,27 @@ module _ {P : Type 0} (s t : Table P) (root : ℕ) (key : List ℕ) (bytes : Are
       rw h.here (ap (λ x. node_info way.parent_q h.node ∷ x) (y.among.was ∙ ap (λ x. y.among.left ++ (x ++ y.among.right)) leaf_was)) in
       let is_now : nodes_at t (suc levels) way.parent_q way.parent ≡ with_one_less (node_info way.parent_q h.node) ∷ (y.among.left ++ y.among.right) =
       y.nodes ∙ ap (λ i. i ∷ (y.among.left ++ y.among.right)) less in
-      let lift = along_nodes s t root key bytes full v.now above (suc levels) way.parent way.parent_q way.way y.others in
+      let lift = along_nodes s t root key above (suc levels) way.parent way.parent_q way.way y.others in
       record {
         tree = whole.0;
         pairs = whole.1;
-        shape = inr (record {
-          node = node_info way.parent_q h.node;
-          begins = way.begins;
-          inner = (let long = simp (length-append, length-append) at (ap length (after begins).is) in omega (arith, long, l.seven));
-          leaf = node_info (p ++ c ∷ []) n;
-          edge = refl;
-          prefix = l.is;
-          last = one;
-          left = y.among.left;
-          right = y.among.right;
-          smaller = y.among.smaller;
-          greater = y.among.greater;
-          replaces = Replaces-trans old new (nodes_at s (suc levels) way.parent_q way.parent) (nodes_at t (suc levels) way.parent_q way.parent) _ _ lift (alone (nodes_at s (suc levels) way.parent_q way.parent) (nodes_at t (suc levels) way.parent_q way.parent) _ _ was is_now);
-        });
+        nodes = (
+          record {
+            node = node_info way.parent_q h.node;
+            begins = way.begins;
+            inner = (let long = simp (length-append, length-append) at (ap length (after begins).is) in omega (arith, long, l.seven));
+            leaf = node_info (p ++ c ∷ []) n;
+            edge = refl;
+            prefix = l.is;
+            last = one;
+            left = y.among.left;
+            right = y.among.right;
+            smaller = y.among.smaller;
+            greater = y.among.greater;
+            replaces = Replaces-trans old new (nodes_at s (suc levels) way.parent_q way.parent) (nodes_at t (suc levels) way.parent_q way.parent) _ _ lift (alone (nodes_at s (suc levels) way.parent_q way.parent) (nodes_at t (suc levels) way.parent_q way.parent) _ _ was is_now);
+          },
+          refl,
+        );
       }
 
   -- the root is no leaf
@@ -175,7 +200,7 @@ module _ {P : Type 0} (s t : Table P) (root : ℕ) (key : List ℕ) (bytes : Are
       omega (arith, none, l.seven)
 
   less_from : (above levels slot parent : ℕ) (q : List ℕ) (n : TableNode P) (b : ℕ) (v : Bor P) (way : Way s root key above levels q slot) → IsUp s root key above levels q slot way parent → HasRoot s root
-      → node_at s slot ≡ Some n → IsTree s levels q slot → IsEnd key n (Present b v) → length n.children ≡ 1 → KeepsBut parent slot s t → TakesOnWay s t parent key → Reduced
+      → node_at s slot ≡ Some n → IsTree s levels q slot → IsEnd key n (Present b v) → length n.children ≡ 1 → KeepsBut parent slot s t → TakesOnWay s t parent key → Reduced (Some n.form)
   less_from zero levels slot parent q n b v way up r here tree e one keeps takes = absurd (root_no_leaf levels slot q n b v.now way.2 r here (leaf_at levels slot q n b v here tree e))
   less_from (suc above) levels slot parent q n b v way up r here tree e one keeps takes =
       let h = way.tree in
@@ -237,13 +262,13 @@ module _ {P : Type 0} (s : Table P) (root : ℕ) (key : List ℕ) (bytes : AreBy
         subst (λ (o : TableNode P). (length o.children + 1 ≡ length a.node.children) × (o.prefix ≡ a.node.prefix) × (o.form ≡ a.node.form)) same (ap (λ es. length es + 1) x.2.1 ∙ counted, x.2.0, x.2.2)
 
     -- it has other payloads
-    take_whole : length m.children ≢ 0 → Reduced s r root key bytes full
+    take_whole : length m.children ≢ 0 → Reduced s r root key bytes full None
     take_whole more =
         let w = a.walk in
         take_from s r root key bytes full place.above w.levels place.slot w.q a.node b v a.here w.way w.tree end_is keeps takes (omega (arith, one_less.0, more))
 
     -- it is empty, and taken out of the node above it
-    detach_whole : HasRoot s root → length m.children ≡ 0 → (t : Table P) → KeepsBut place.parent place.slot r t → TakesOnWay r t place.parent key → Reduced s t root key bytes full
+    detach_whole : HasRoot s root → length m.children ≡ 0 → (t : Table P) → KeepsBut place.parent place.slot r t → TakesOnWay r t place.parent key → Reduced s t root key bytes full (Some a.node.form)
     detach_whole rooted none t keeps_but takes_on =
         let w = a.walk in
         let x = linked rooted in
@@ -268,16 +293,17 @@ module _ {P : Type 0} (s : Table P) (root : ℕ) (key : List ℕ) (bytes : AreBy
           | inr other ↦ record { node = y.1.node; here = keeps_but root other y.0 ∙ y.1.here; form = y.1.form; prefix = y.1.prefix }
         ]
 
-  pub take_out : HasRoot s root → (t : Table P) → TakesOut s t place.slot place.parent key b → Reduced s t root key bytes full × HasRoot t root
-  take_out rooted t x =
-      let p = x.rest in
-      elim p [
-        | inl more ↦
-            let r = take_whole x.between x.keeps x.takes x.left x.left_there more.0 in
-            let rooted' = take_root x.between x.keeps x.takes x.left x.left_there rooted in
-            subst (λ u. Reduced s u root key bytes full × HasRoot u root) (sym more.1) (r, rooted'.1)
-        | inr none ↦ (
-          detach_whole x.between x.keeps x.takes x.left x.left_there rooted none.0 t none.1 none.2,
-          detach_root x.between x.keeps x.takes x.left x.left_there rooted t none.1 none.2,
-        )
-      ]
+  pub take_out : HasRoot s root → (t : Table P) (detached : Option NodeType) → TakesOut s t place.slot place.parent key b detached → Reduced s t root key bytes full detached × HasRoot t root
+  take_out rooted t None x =
+      let more = x.rest in
+      let r = take_whole x.between x.keeps x.takes x.left x.left_there more.0 in
+      let rooted' = take_root x.between x.keeps x.takes x.left x.left_there rooted in
+      subst (λ u. Reduced s u root key bytes full None × HasRoot u root) (sym more.1) (r, rooted'.1)
+  take_out rooted t (Some form) x =
+      let none = x.rest in
+      let less = one_less x.between x.keeps x.takes x.left x.left_there in
+      let same : form ≡ a.node.form = none.4 ∙ less.2 in
+      let r = detach_whole x.between x.keeps x.takes x.left x.left_there rooted none.0 t none.1 none.2 in (
+        subst (λ f. Reduced s t root key bytes full (Some f)) (sym same) r,
+        detach_root x.between x.keeps x.takes x.left x.left_there rooted t none.1 none.2,
+      )

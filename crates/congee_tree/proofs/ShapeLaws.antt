@@ -38,6 +38,23 @@ begins_seven p key h seven =
 pub alone : (old new gone come : List NodeInfo) → old ≡ gone → new ≡ come → Replaces old new gone come
 alone old new gone come e f = record { before = []; after = []; was = e ∙ sym (append-nil gone); is = f ∙ sym (append-nil come) }
 
+module _ {P : Type 0} (s t : Table P) (root : ℕ) (key : List ℕ) where
+  abbrev all_old : List NodeInfo
+  all_old = nodes_at s depth [] root
+
+  abbrev all_new : List NodeInfo
+  all_new = nodes_at t depth [] root
+
+  pub along_nodes : (above levels slot : ℕ) (q : List ℕ) → Way s root key above levels q slot → KeepsOthers q s t → Replaces all_old all_new (nodes_at s levels q slot) (nodes_at t levels q slot)
+  along_nodes zero levels slot q way others = rw (way.0, way.1, way.2) (Replaces-all (nodes_at s depth [] root) (nodes_at t depth [] root))
+  along_nodes (suc above) levels slot q way others =
+      let h = way.tree in
+      let p = h.node.prefix in
+      let d = down_nodes s t levels way.parent_q way.parent (next_byte p key) slot h way.found (subst (λ r. KeepsOthers r s t) way.is others) in
+      let up = along_nodes above (suc levels) way.parent way.parent_q way.way d.1 in
+      Replaces-trans all_old all_new (nodes_at s (suc levels) way.parent_q way.parent) (nodes_at t (suc levels) way.parent_q way.parent) (nodes_at s levels q slot) (nodes_at t levels q slot) up
+      (subst (λ r. Replaces (nodes_at s (suc levels) way.parent_q way.parent) (nodes_at t (suc levels) way.parent_q way.parent) (nodes_at s levels r slot) (nodes_at t levels r slot)) (sym way.is) d.0)
+
 module _ {P : Type 0} (s t : Table P) (root : ℕ) (key : List ℕ) (bytes : AreBytes key) (full : length key ≡ 8) (v : P) where
   abbrev old : List NodeInfo
   old = nodes_at s depth [] root
@@ -45,15 +62,19 @@ module _ {P : Type 0} (s t : Table P) (root : ℕ) (key : List ℕ) (bytes : Are
   abbrev new : List NodeInfo
   new = nodes_at t depth [] root
 
-  pub along_nodes : (above levels slot : ℕ) (q : List ℕ) → Way s root key above levels q slot → KeepsOthers q s t → Replaces old new (nodes_at s levels q slot) (nodes_at t levels q slot)
-  along_nodes zero levels slot q way others = rw (way.0, way.1, way.2) (Replaces-all (nodes_at s depth [] root) (nodes_at t depth [] root))
-  along_nodes (suc above) levels slot q way others =
-      let h = way.tree in
-      let p = h.node.prefix in
-      let d = down_nodes s t levels way.parent_q way.parent (next_byte p key) slot h way.found (subst (λ r. KeepsOthers r s t) way.is others) in
-      let up = along_nodes above (suc levels) way.parent way.parent_q way.way d.1 in
-      Replaces-trans old new (nodes_at s (suc levels) way.parent_q way.parent) (nodes_at t (suc levels) way.parent_q way.parent) (nodes_at s levels q slot) (nodes_at t levels q slot) up
-      (subst (λ r. Replaces (nodes_at s (suc levels) way.parent_q way.parent) (nodes_at t (suc levels) way.parent_q way.parent) (nodes_at s levels r slot) (nodes_at t levels r slot)) (sym way.is) d.0)
+  -- the node has one payload more
+  pub record FillsAt (n : TableNode P) : Type 0 where
+    pub seven : length n.prefix ≡ 7
+    pub shape : FillsLeaf old key new
+    pub form : shape.leaf.form ≡ n.form
+    pub count : shape.leaf.count ≡ length n.children
+
+  -- the node has a new leaf below it
+  pub record AddsAt (n : TableNode P) : Type 0 where
+    pub inner : length n.prefix ≢ 7
+    pub shape : AddsLeaf old key new
+    pub form : shape.node.form ≡ n.form
+    pub count : shape.node.count ≡ length n.children
 
   leaf_info : (r : List ℕ) (l : TableNode P) → IsLeafOf l key v → node_info r l ≡ new_leaf r key
   leaf_info r l x = info-same r l.prefix (take 7 key) l.form N4 (length l.children) 1 x.prefix x.form (ap length x.children)
@@ -73,7 +94,7 @@ module _ {P : Type 0} (s t : Table P) (root : ℕ) (key : List ℕ) (bytes : Are
     es = h.node.children
 
     lift : Replaces old new (nodes_at s (suc levels) q slot) (nodes_at t (suc levels) q slot)
-    lift = along_nodes above (suc levels) slot q way (keeps_others s t root key bytes full v levels q slot h keeps)
+    lift = along_nodes s t root key above (suc levels) slot q way (keeps_others s t root key bytes full v levels q slot h keeps)
 
     longer : length q ≤ length p
     longer = let long = simp length-append at (ap length (after h.begins).is) in omega (arith, long)
@@ -83,7 +104,7 @@ module _ {P : Type 0} (s t : Table P) (root : ℕ) (key : List ℕ) (bytes : Are
         info-same q m.prefix p m.form (grown_form h.node.form (length es)) (length m.children) (length es + 1) e g (ap length f ∙ length-put_new 0 256 es b c h.sound.ordered none)
 
     add_here : (c : Child P) (m : TableNode P) → Begins p key → lookup es (next_byte p key) ≡ None → node_at t slot ≡ Some m → m.prefix ≡ p → m.children ≡ put es (next_byte p key) c → m.form ≡ grown_form h.node.form (length es)
-        → StandsFor t p key v c → FillsLeaf old key new ⊎ (AddsLeaf old key new ⊎ SplitsNode old key new)
+        → StandsFor t p key v c → FillsAt h.node ⊎ AddsAt h.node
     add_here (Payload w) m begins none there e f g stands =
         let b = next_byte p key in
         let kept = kept_children s t levels slot h.node h.here keeps es h.children in
@@ -92,11 +113,12 @@ module _ {P : Type 0} (s t : Table P) (root : ℕ) (key : List ℕ) (bytes : Are
         let is : nodes_at t (suc levels) q slot ≡ with_one_more (node_info q h.node) ∷ [] =
         rw there (ap (λ x. node_info q m ∷ x) (nodes-same (below t levels) m.prefix p m.children (put es b (Payload w)) e f ∙ empty)) ∙ ap (λ i. i ∷ []) (more_info b (Payload w) m e f g none) in
         let was = leaf_alone s (suc levels) q slot h.node h h.here stands.0 in
-        inl (record {
+        let shape : FillsLeaf old key new = record {
           leaf = node_info q h.node;
           prefix = begins_seven p key begins stands.0;
           replaces = Replaces-trans old new (nodes_at s (suc levels) q slot) (nodes_at t (suc levels) q slot) _ _ lift (alone (nodes_at s (suc levels) q slot) (nodes_at t (suc levels) q slot) _ _ was is);
-        })
+        } in
+        inl (record { seven = stands.0; shape = shape; form = refl; count = refl })
     add_here (Node j) m begins none there e f g stands =
         let b = next_byte p key in
         let on = goes_on p key begins bytes h.sound.short full in
@@ -109,7 +131,7 @@ module _ {P : Type 0} (s t : Table P) (root : ℕ) (key : List ℕ) (bytes : Are
         rw there (ap (λ x. node_info q m ∷ x) (nodes-same (below t levels) m.prefix p m.children (put es b (Node j)) e f ∙ among.is ∙ ap (λ x. among.left ++ (x ++ among.right)) leaf))
         ∙ ap (λ i. i ∷ (among.left ++ (new_leaf (p ++ b ∷ []) key ∷ among.right))) (more_info b (Node j) m e f g none) in
         let was : nodes_at s (suc levels) q slot ≡ node_info q h.node ∷ (among.left ++ among.right) = rw h.here (ap (λ x. node_info q h.node ∷ x) (sym same ∙ among.was)) in
-        inr (inl (record {
+        let shape : AddsLeaf old key new = record {
           node = node_info q h.node;
           begins = begins;
           inner = omega (arith, stands.0, h.sound.short);
@@ -118,7 +140,8 @@ module _ {P : Type 0} (s t : Table P) (root : ℕ) (key : List ℕ) (bytes : Are
           smaller = among.smaller;
           greater = among.greater;
           replaces = Replaces-trans old new (nodes_at s (suc levels) q slot) (nodes_at t (suc levels) q slot) _ _ lift (alone (nodes_at s (suc levels) q slot) (nodes_at t (suc levels) q slot) _ _ was is);
-        }))
+        } in
+        inr (record { inner = stands.0; shape = shape; form = refl; count = refl })
 
     split_here : (at : ℕ) → IsFirstDifference p key at → Begins q key → Splits s t slot key at v → SplitsNode old key new
     split_here at d q_key x =
@@ -191,7 +214,7 @@ module _ {P : Type 0} (s t : Table P) (root : ℕ) (key : List ℕ) (bytes : Are
       let now : nodes_at t (suc levels) q slot ≡ node_info q h.node ∷ [] =
       rw x.1 (ap (λ z. node_info q x.0 ∷ z) (nodes-same (below t levels) x.0.prefix p x.0.children (put es b (Payload v)) x.2 x.3 ∙ empty)) ∙ ap (λ i. i ∷ []) info in
       let was = leaf_alone s (suc levels) q slot h.node h h.here seven in
-      let r = along_nodes above (suc levels) slot q way (keeps_others s t root key bytes full v levels q slot h keeps') in
+      let r = along_nodes s t root key above (suc levels) slot q way (keeps_others s t root key bytes full v levels q slot h keeps') in
       r.is ∙ ap (λ z. r.before ++ (z ++ r.after)) (now ∙ sym was) ∙ sym r.was
 
   pub change_shape : (place : Place P) → Arrives s root key place → (b : ℕ) (w : Bor P) → place.end ≡ Present b w → SameElsewhere place.slot s t → WritesChild s t place.slot b (Payload v) → new ≡ old
@@ -200,19 +223,27 @@ module _ {P : Type 0} (s t : Table P) (root : ℕ) (key : List ℕ) (bytes : Are
       change_from place.above k.levels place.slot k.q a.node b w a.here k.way k.tree (subst (λ e. IsEnd key a.node e) is a.end) keeps writes
 
   add_from : (above levels slot : ℕ) (q : List ℕ) (n : TableNode P) (b : ℕ) → node_at s slot ≡ Some n → Way s root key above levels q slot → IsTree s levels q slot → above ≤ length q → above + levels ≡ 8
-      → IsEnd key n (Absent b) → Adds s t slot key b v → FillsLeaf old key new ⊎ (AddsLeaf old key new ⊎ SplitsNode old key new)
+      → IsEnd key n (Absent b) → Adds s t slot key b v → FillsAt n ⊎ AddsAt n
   add_from above zero slot q n b here way h deep sum e adds = absurd h
   add_from above (suc levels) slot q n b here way h deep sum e adds =
       let both : Some n ≡ Some h.node = sym here ∙ h.here in
       let is : n ≡ h.node = cc in
       let d : IsEnd key h.node (Absent b) = subst (λ m. IsEnd key m (Absent b)) is e in
       let x = adds.1 h.node h.here in
-      add_here above levels slot q way h deep sum adds.0 x.0 x.1 d.1 (subst (λ y. lookup h.node.children y ≡ None) d.0 d.2) x.2 x.3 (subst (λ y. x.1.children ≡ put h.node.children y x.0) d.0 x.4) x.5 x.6
+      subst (λ m. FillsAt m ⊎ AddsAt m) (sym is)
+      (add_here above levels slot q way h deep sum adds.0 x.0 x.1 d.1 (subst (λ y. lookup h.node.children y ≡ None) d.0 d.2) x.2 x.3 (subst (λ y. x.1.children ≡ put h.node.children y x.0) d.0 x.4) x.5 x.6)
+
+  pub add_at : (place : Place P) (a : Arrives s root key place) (b : ℕ) → place.end ≡ Absent b → Adds s t place.slot key b v → FillsAt a.node ⊎ AddsAt a.node
+  add_at place a b is adds =
+      let w = a.walk in
+      add_from place.above w.levels place.slot w.q a.node b a.here w.way w.tree w.deep w.sum (subst (λ e. IsEnd key a.node e) is a.end) adds
 
   pub add_shape : (place : Place P) → Arrives s root key place → (b : ℕ) → place.end ≡ Absent b → Adds s t place.slot key b v → FillsLeaf old key new ⊎ (AddsLeaf old key new ⊎ SplitsNode old key new)
   add_shape place a b is adds =
-      let w = a.walk in
-      add_from place.above w.levels place.slot w.q a.node b a.here w.way w.tree w.deep w.sum (subst (λ e. IsEnd key a.node e) is a.end) adds
+      elim (add_at place a b is adds) [
+        | inl x ↦ inl x.shape
+        | inr x ↦ inr (inl x.shape)
+      ]
 
   split_from : (above levels slot : ℕ) (q : List ℕ) (n : TableNode P) (at : ℕ) → node_at s slot ≡ Some n → Way s root key above levels q slot → IsTree s levels q slot → Begins q key → above ≤ length q → above + levels ≡ 8
       → IsEnd key n (Differs at) → Splits s t slot key at v → SplitsNode old key new
@@ -223,7 +254,10 @@ module _ {P : Type 0} (s t : Table P) (root : ℕ) (key : List ℕ) (bytes : Are
       let d : IsEnd key h.node (Differs at) = subst (λ m. IsEnd key m (Differs at)) is e in
       split_here above levels slot q way h deep sum x.keeps at d begins x
 
-  pub split_shape : (place : Place P) → Arrives s root key place → (at : ℕ) → place.end ≡ Differs at → Splits s t place.slot key at v → FillsLeaf old key new ⊎ (AddsLeaf old key new ⊎ SplitsNode old key new)
-  split_shape place a at is x =
+  pub split_at : (place : Place P) → Arrives s root key place → (at : ℕ) → place.end ≡ Differs at → Splits s t place.slot key at v → SplitsNode old key new
+  split_at place a at is x =
       let w = a.walk in
-      inr (inr (split_from place.above w.levels place.slot w.q a.node at a.here w.way w.tree w.begins w.deep w.sum (subst (λ e. IsEnd key a.node e) is a.end) x))
+      split_from place.above w.levels place.slot w.q a.node at a.here w.way w.tree w.begins w.deep w.sum (subst (λ e. IsEnd key a.node e) is a.end) x
+
+  pub split_shape : (place : Place P) → Arrives s root key place → (at : ℕ) → place.end ≡ Differs at → Splits s t place.slot key at v → FillsLeaf old key new ⊎ (AddsLeaf old key new ⊎ SplitsNode old key new)
+  split_shape place a at is x = inr (inr (split_at place a at is x))

@@ -4,3 +4,7 @@ pub mod Way
 pub mod Writes
 pub mod Path
 pub mod Takes
+pub mod Count
+pub mod Scan
+pub mod Charge
+pub mod Supply

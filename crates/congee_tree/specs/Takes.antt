@@ -1,8 +1,9 @@
 -- What taking a payload or a leaf out does to the table.
-use Rattle.std.specs.Prelude.{◌≡◌, ◌≢◌, ℕ, List, length, Some, None, IsSome, ◌⊎◌}
+use Rattle.std.specs.Prelude.{◌≡◌, ◌≢◌, ℕ, List, length, Option, Some, None, IsSome}
 use Rattle.congee_nodes.specs.Map.{lookup, without}
 use Rattle.congee_nodes.specs.Key.{next_byte}
 use Rattle.congee_nodes.specs.TableNode.{TableNode}
+use Rattle.congee_nodes.specs.declared.base_node.NodeType.{NodeType}
 use Rattle.congee_nodes.specs.declared.child.Child.TheVariants.{Payload, Node}
 use Rattle.congee_nodes.specs.Table.{Table, node_at}
 use Rattle.congee_tree.specs.Writes.{SameElsewhere}
@@ -46,11 +47,17 @@ module _ {P : Type 0} where
     pub value : P
     pub has : lookup leaf.children byte ≡ Some (Payload value)
 
+  -- A leaf that is not empty stays. One that is empty is gone, and the node above it has no child there; this is its form.
+  abbrev pub Detaches : Table P → Table P → ℕ → ℕ → List ℕ → TableNode P → Option NodeType → Type 0
+  Detaches s t slot parent key left None = (length left.children ≢ 0) × (t ≡ s)
+  Detaches s t slot parent key left (Some form) =
+      (length left.children ≡ 0) × KeepsBut parent slot s t × TakesOnWay s t parent key × (node_at t slot ≡ None) × (form ≡ left.form)
+
   -- the leaf's payload is taken out, and where the leaf is empty then, it too
-  pub record TakesOut (s t : Table P) (slot parent : ℕ) (key : List ℕ) (byte : ℕ) : Type 0 where
+  pub record TakesOut (s t : Table P) (slot parent : ℕ) (key : List ℕ) (byte : ℕ) (detached : Option NodeType) : Type 0 where
     pub between : Table P
     pub keeps : SameElsewhere slot s between
     pub takes : TakesChild s between slot byte
     pub left : TableNode P
     pub left_there : node_at between slot ≡ Some left
-    pub rest : ((length left.children ≢ 0) × (t ≡ between)) ⊎ ((length left.children ≡ 0) × KeepsBut parent slot between t × TakesOnWay between t parent key × (node_at t slot ≡ None))
+    pub rest : Detaches between t slot parent key left detached

@@ -15,16 +15,18 @@ node_info_code =
     (λ p. record { edge = p.0; prefix = p.1.0; form = p.1.1.0; count = p.1.1.1 })
     (λ _. refl)
 
--- the pairs that a tree stores, and its nodes: the root first, then the nodes below each child in the order of the bytes
-pub record Tree (P : Type 0) : Type 0 where
+-- the pairs that a tree stores, its nodes (the root first, then the nodes below each child in the order of the bytes), and
+-- the budget that is charged for them
+pub record Tree (P A : Type 0) : Type 0 where
   pub pairs : Pairs P
   pub nodes : List NodeInfo
+  pub budget : A
 
-abbrev pub tree_code : {P : Type 0} → Coded P → Coded (Tree P)
-tree_code {P} p =
+abbrev pub tree_code : {P A : Type 0} → Coded P → Coded A → Coded (Tree P A)
+tree_code {P} {A} p a =
     code_by
-    (Pairs P × List NodeInfo)
-    (coded× (coded_list (coded× coded_ℕ p)) (coded_list node_info_code))
-    (λ t. (t.pairs, t.nodes))
-    (λ m. record { pairs = m.0; nodes = m.1 })
+    (Pairs P × (List NodeInfo × A))
+    (coded× (coded_list (coded× coded_ℕ p)) (coded× (coded_list node_info_code) a))
+    (λ t. (t.pairs, (t.nodes, t.budget)))
+    (λ m. record { pairs = m.0; nodes = m.1.0; budget = m.1.1 })
     (λ _. refl)

@@ -9,12 +9,15 @@ ghost use Rattle.congee_nodes.specs.Key.{key_number};
 ghost use Rattle.congee_nodes.specs.Reduce.{Recomputes};
 ghost use Rattle.congee_nodes.specs.Table.{pairs_at, nodes_at, IsTree};
 ghost use Rattle.congee_tree.specs.Path.{on_path};
+ghost use Rattle.congee_tree.specs.Supply.{IsCounted, Alike};
 ghost use Rattle.congee_tree.specs.Way.{depth, HasRoot};
 
 use crate::descent::{End, Place, descend};
 use crate::insertion::change_child;
 use crate::reads::Reads;
-use crate::removal::take_out;
+use crate::removal::{Taken, take_out};
+use crate::supply::Supply;
+use congee_nodes::allocator::Allocator;
 use congee_nodes::child::Child;
 use congee_nodes::tree_node::TreeNode;
 use slab::Slab;
@@ -29,8 +32,9 @@ pub(crate) struct Computed<P> {
 
 /// Calls the closure at the payload at the key, where there is one, and puts its answer in the place of it, or takes the
 /// pair out.
-pub(crate) fn compute_if_present<P: Drop, F: FnMut(&P) -> Option<P>, L: Ledger>(
+pub(crate) fn compute_if_present<P: Drop, A: Allocator, F: FnMut(&P) -> Option<P>, L: Ledger>(
     nodes: &mut Slab<TreeNode<P>>,
+    supply: &mut Supply<A>,
     root: usize,
     key: &[u8; 8],
     f: &mut F,
@@ -38,12 +42,15 @@ pub(crate) fn compute_if_present<P: Drop, F: FnMut(&P) -> Option<P>, L: Ledger>(
 ) -> Computed<P>
     requires tree { IsTree nodes.old.slots depth [] root }
     requires root { HasRoot nodes.old.slots root }
+    requires counts { IsCounted supply.old.forms (nodes_at nodes.old.slots depth [] root) }
     requires takes { (standing : P) → lookup (pairs_at nodes.old.slots depth root) (key_number key.now) ≡ Some standing → TakesAt F.FnMut f.old standing }
     ensures tree { IsTree nodes.new.slots depth [] root }
     ensures root { HasRoot nodes.new.slots root }
     ensures before { result.before ≡ lookup (pairs_at nodes.old.slots depth root) (key_number key.now) }
-    ensures absent { lookup (pairs_at nodes.old.slots depth root) (key_number key.now) ≡ None → (nodes.new.slots ≡ nodes.old.slots) × (f.new ≡ f.old) }
+    ensures absent { lookup (pairs_at nodes.old.slots depth root) (key_number key.now) ≡ None → (nodes.new.slots ≡ nodes.old.slots) × (supply.new ≡ supply.old) × (f.new ≡ f.old) }
     ensures present { (standing : P) → lookup (pairs_at nodes.old.slots depth root) (key_number key.now) ≡ Some standing → (answer : Option P) × CalledAt F.FnMut f.old standing answer f.new × (pairs_at nodes.new.slots depth root ≡ with_answer (pairs_at nodes.old.slots depth root) (key_number key.now) answer) × Recomputes answer (nodes_at nodes.old.slots depth [] root) key.now (nodes_at nodes.new.slots depth [] root) }
+    ensures counts { IsCounted supply.new.forms (nodes_at nodes.new.slots depth [] root) }
+    ensures alike { Alike A.charge supply.old supply.new }
     ensures count { length (pairs_at nodes.new.slots depth root) + (if result.removed then 1 else 0) ≡ length (pairs_at nodes.old.slots depth root) }
     ensures reads { reads.new ≡ reads.old + on_path (nodes_at nodes.old.slots depth [] root) key.now }
     ensures few { on_path (nodes_at nodes.old.slots depth [] root) key.now ≤ 8 }
@@ -68,9 +75,13 @@ pub(crate) fn compute_if_present<P: Drop, F: FnMut(&P) -> Option<P>, L: Ledger>(
             },
             Child::Node(_) => unreachable!(),
         },
-        None => Computed {
-            before: Some(take_out(nodes, parent, slot, key, byte)),
-            removed: true,
-        },
+        None => {
+            let Taken { before, detached } = take_out(nodes, parent, slot, key, byte);
+            supply.give_back_if_some(detached);
+            Computed {
+                before: Some(before),
+                removed: true,
+            }
+        }
     }
 }

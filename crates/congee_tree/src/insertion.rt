@@ -2,7 +2,7 @@
 //!
 //! All memory is taken before the first change of what the tree stores, and before a closure is called.
 
-ghost use Rattle.std.specs.Prelude.{◌≡◌, ℕ, ◌+◌, ◌≤◌, ◌<◌, [], IfOk, OnOk, OnErr, IsSome, Some, None, option_copied};
+ghost use Rattle.std.specs.Prelude.{◌≡◌, ℕ, ◌+◌, ◌≤◌, ◌<◌, ◌^◌, [], IfOk, OnOk, OnErr, IsSome, Some, None, option_copied};
 ghost use Rattle.slab.specs.Slab.{slab_len, HasRoomFor};
 ghost use Rattle.congee_nodes.specs.Closure.{TakesOption, CalledAtOption};
 ghost use Rattle.congee_nodes.specs.Map.{lookup, put};
@@ -11,39 +11,48 @@ ghost use Rattle.congee_nodes.specs.Refusal.{NeedsNode};
 ghost use Rattle.congee_nodes.specs.Shape.{Reshapes};
 ghost use Rattle.congee_nodes.specs.Table.{node_at, pairs_at, nodes_at, IsTree};
 ghost use Rattle.congee_tree.specs.Path.{on_path};
+ghost use Rattle.congee_nodes.specs.declared.base_node.NodeType.{NodeType};
+ghost use Rattle.congee_nodes.specs.declared.base_node.NodeType.TheVariants.{N4};
+ghost use Rattle.congee_tree.specs.Supply.{count, with_form, with_leaf, IsCounted, IsCountedAt, CountsGrown, AreFew, Alike};
 ghost use Rattle.congee_tree.specs.Way.{depth, HasRoot};
 ghost use Rattle.congee_tree.specs.Writes.{SameElsewhere, MakesRoom, IsFullAt, RefusesAt, IsReadyFor, WritesChild, HasChildUnder, WasChild, IsLeafBelow, empty_leaf, HasRoomUnder, PutsPair, AreParts, IsParted, Splits};
 
 use crate::descent::{End, Place, descend};
 use crate::reads::Reads;
+use crate::supply::Supply;
+use congee_nodes::allocator::Allocator;
+use congee_nodes::base_node::NodeType;
 use congee_nodes::child::Child;
 use congee_nodes::error::OOMError;
 use congee_nodes::tree_node::TreeNode;
 use slab::Slab;
-use std::alloc::Global;
 use std::mem;
 use std::sync::ledger::Ledger;
 
 // Grows the node in a slot where it is full.
-fn make_room<P: Drop>(
+fn make_room<P: Drop, A: Allocator>(
     nodes: &mut Slab<TreeNode<P>>,
-    alloc: Global,
+    supply: &mut Supply<A>,
     slot: usize,
 ) -> Result<(), OOMError>
-    requires { IsSome (node_at nodes.old.slots slot) }
+    requires counted { IsCountedAt nodes.old.slots slot supply.old.forms }
+    requires few { (form : NodeType) → count form supply.old.forms < 2 ^ 63 }
     ensures keeps { SameElsewhere slot nodes.old.slots nodes.new.slots }
     ensures ok { OnOk result (MakesRoom nodes.old.slots nodes.new.slots slot) }
     ensures err { OnErr result (nodes.new.slots ≡ nodes.old.slots) }
     ensures refused { OnErr result (IsFullAt nodes.old.slots slot) }
     ensures len { slab_len nodes.new ≡ slab_len nodes.old }
     ensures capacity { nodes.new.capacity ≡ nodes.old.capacity }
+    ensures grown { OnOk result (CountsGrown nodes.old.slots slot supply.old.forms supply.new.forms) }
+    ensures same { OnErr result (supply.new.forms ≡ supply.old.forms) }
+    ensures alike { Alike A.charge supply.old supply.new }
 {
     let Some(node) = nodes.get_mut(slot) else {
         unreachable!()
     };
     let _ = node.base();
     if node.is_full() {
-        node.grow(alloc)?;
+        supply.grow(node)?;
     }
     Ok(())
 }
@@ -94,39 +103,39 @@ fn swap_node<P: Drop>(nodes: &mut Slab<TreeNode<P>>, slot: usize, other: TreeNod
     mem::replace(node, other)
 }
 
-// A leaf for the key, without payloads.
-fn leaf_for<P: Drop>(alloc: Global, key: &[u8; 8]) -> Result<TreeNode<P>, OOMError>
-    ensures { IfOk result (λ leaf. leaf ≡ empty_leaf key.now) }
-{
-    TreeNode::leaf(alloc, &key[..7])
-}
-
 // Takes all memory for one pair more below the node in a slot: room in that node and, unless it is the pair's leaf, an
 // empty leaf, for which a slot is reserved.
-fn ready_to_add<P: Drop>(
+fn ready_to_add<P: Drop, A: Allocator>(
     nodes: &mut Slab<TreeNode<P>>,
-    alloc: Global,
+    supply: &mut Supply<A>,
     slot: usize,
     key: &[u8; 8],
 ) -> Result<Option<TreeNode<P>>, OOMError>
-    requires { IsSome (node_at nodes.old.slots slot) }
+    requires counted { IsCountedAt nodes.old.slots slot supply.old.forms }
+    requires few { AreFew supply.old.forms }
     ensures keeps { SameElsewhere slot nodes.old.slots nodes.new.slots }
     ensures room { OnOk result (MakesRoom nodes.old.slots nodes.new.slots slot) }
     ensures leaf { IfOk result (λ leaf. IsLeafBelow nodes.new.slots slot key.now leaf) }
     ensures reserved { IfOk result (λ leaf. IsSome leaf → HasRoomFor nodes.new 1) }
     ensures err { OnErr result (nodes.new.slots ≡ nodes.old.slots) }
     ensures refused { OnErr result (RefusesAt nodes.old.slots slot) }
+    ensures grown { IfOk result (λ leaf. CountsGrown nodes.old.slots slot (with_leaf leaf supply.old.forms) supply.new.forms) }
+    ensures same { OnErr result (supply.new.forms ≡ supply.old.forms) }
+    ensures alike { Alike A.charge supply.old supply.new }
 {
     let Some(node) = nodes.get(slot) else {
         unreachable!()
     };
     if node.is_leaf() {
-        make_room(nodes, alloc, slot)?;
+        make_room(nodes, supply, slot)?;
         return Ok(None);
     }
     nodes.reserve(1)?;
-    let leaf = leaf_for(alloc, key)?;
-    make_room(nodes, alloc, slot)?;
+    let leaf = supply.leaf(&key[..7])?;
+    if let Err(error) = make_room(nodes, supply, slot) {
+        supply.give_back(NodeType::N4);
+        return Err(error);
+    }
     Ok(Some(leaf))
 }
 
@@ -162,21 +171,30 @@ struct Parts<P> {
 }
 
 // Takes all memory for a split at a byte of the key: the two nodes, without children, and their slots.
-fn ready_to_split<P: Drop>(
+fn ready_to_split<P: Drop, A: Allocator>(
     nodes: &mut Slab<TreeNode<P>>,
-    alloc: Global,
+    supply: &mut Supply<A>,
     key: &[u8; 8],
     at: usize,
 ) -> Result<Parts<P>, OOMError>
-    requires { at < 7 }
+    requires prefix { at < 7 }
+    requires few { AreFew supply.old.forms }
     ensures slots { nodes.new.slots ≡ nodes.old.slots }
     ensures parts { IfOk result (λ parts. AreParts parts key.now at) }
     ensures reserved { OnOk result (HasRoomFor nodes.new 2) }
+    ensures more { OnOk result (supply.new.forms ≡ with_form N4 (with_form N4 supply.old.forms)) }
+    ensures same { OnErr result (supply.new.forms ≡ supply.old.forms) }
+    ensures alike { Alike A.charge supply.old supply.new }
 {
     nodes.reserve(2)?;
-    let upper = TreeNode::inner(alloc, &key[..at])?;
-    let leaf = leaf_for(alloc, key)?;
-    Ok(Parts { upper, leaf })
+    let upper = supply.inner(&key[..at])?;
+    match supply.leaf(&key[..7]) {
+        Ok(leaf) => Ok(Parts { upper, leaf }),
+        Err(error) => {
+            supply.give_back(NodeType::N4);
+            Err(error)
+        }
+    }
 }
 
 // Puts a node above the one in a slot, where the key leaves its prefix. Takes no memory.
@@ -211,9 +229,9 @@ fn split<P: Drop>(
 }
 
 /// Sets the payload at the key, and answers the one that stood there.
-pub(crate) fn insert<P: Drop, L: Ledger>(
+pub(crate) fn insert<P: Drop, A: Allocator, L: Ledger>(
     nodes: &mut Slab<TreeNode<P>>,
-    alloc: Global,
+    supply: &mut Supply<A>,
     root: usize,
     key: &[u8; 8],
     payload: P,
@@ -221,11 +239,14 @@ pub(crate) fn insert<P: Drop, L: Ledger>(
 ) -> Result<Option<P>, OOMError>
     requires tree { IsTree nodes.old.slots depth [] root }
     requires root { HasRoot nodes.old.slots root }
+    requires counts { IsCounted supply.old.forms (nodes_at nodes.old.slots depth [] root) }
     ensures tree { IsTree nodes.new.slots depth [] root }
     ensures root { HasRoot nodes.new.slots root }
     ensures before { IfOk result (λ before. before ≡ lookup (pairs_at nodes.old.slots depth root) (key_number key.now)) }
     ensures ok { OnOk result (pairs_at nodes.new.slots depth root ≡ put (pairs_at nodes.old.slots depth root) (key_number key.now) payload) }
     ensures err { OnErr result (nodes.new.slots ≡ nodes.old.slots) }
+    ensures counts { IsCounted supply.new.forms (nodes_at nodes.new.slots depth [] root) }
+    ensures alike { Alike A.charge supply.old supply.new }
     ensures shape { IfOk result (λ before. Reshapes before (nodes_at nodes.old.slots depth [] root) key.now (nodes_at nodes.new.slots depth [] root)) }
     ensures reads { reads.new ≡ reads.old + on_path (nodes_at nodes.old.slots depth [] root) key.now }
     ensures few { on_path (nodes_at nodes.old.slots depth [] root) key.now ≤ 8 }
@@ -238,12 +259,12 @@ pub(crate) fn insert<P: Drop, L: Ledger>(
             Child::Node(_) => unreachable!(),
         },
         End::Absent(byte) => {
-            let leaf = ready_to_add(nodes, alloc, slot, key)?;
+            let leaf = ready_to_add(nodes, supply, slot, key)?;
             add(nodes, slot, key, byte, leaf, payload);
             Ok(None)
         }
         End::Differs(at) => {
-            let parts = ready_to_split(nodes, alloc, key, at)?;
+            let parts = ready_to_split(nodes, supply, key, at)?;
             split(nodes, slot, key, at, parts, payload);
             Ok(None)
         }
@@ -266,9 +287,9 @@ fn nothing<P>(_nodes: &Slab<TreeNode<P>>) -> Option<&P>
 
 /// Sets what the closure makes of the payload at the key, or of its absence, and answers the one that stood there. The
 /// closure is called once all memory is there.
-pub(crate) fn compute_or_insert<P: Drop, F: FnMut(Option<&P>) -> P, L: Ledger>(
+pub(crate) fn compute_or_insert<P: Drop, A: Allocator, F: FnMut(Option<&P>) -> P, L: Ledger>(
     nodes: &mut Slab<TreeNode<P>>,
-    alloc: Global,
+    supply: &mut Supply<A>,
     root: usize,
     key: &[u8; 8],
     f: &mut F,
@@ -276,6 +297,7 @@ pub(crate) fn compute_or_insert<P: Drop, F: FnMut(Option<&P>) -> P, L: Ledger>(
 ) -> Result<Option<P>, OOMError>
     requires tree { IsTree nodes.old.slots depth [] root }
     requires root { HasRoot nodes.old.slots root }
+    requires counts { IsCounted supply.old.forms (nodes_at nodes.old.slots depth [] root) }
     requires call { TakesOption F.FnMut f.old (lookup (pairs_at nodes.old.slots depth root) (key_number key.now)) }
     ensures tree { IsTree nodes.new.slots depth [] root }
     ensures root { HasRoot nodes.new.slots root }
@@ -283,6 +305,8 @@ pub(crate) fn compute_or_insert<P: Drop, F: FnMut(Option<&P>) -> P, L: Ledger>(
     ensures ok { OnOk result ((answer : P) × CalledAtOption F.FnMut f.old (lookup (pairs_at nodes.old.slots depth root) (key_number key.now)) answer f.new × (pairs_at nodes.new.slots depth root ≡ put (pairs_at nodes.old.slots depth root) (key_number key.now) answer)) }
     ensures err { OnErr result (nodes.new.slots ≡ nodes.old.slots) }
     ensures not_called { OnErr result (f.new ≡ f.old) }
+    ensures counts { IsCounted supply.new.forms (nodes_at nodes.new.slots depth [] root) }
+    ensures alike { Alike A.charge supply.old supply.new }
     ensures shape { IfOk result (λ before. Reshapes before (nodes_at nodes.old.slots depth [] root) key.now (nodes_at nodes.new.slots depth [] root)) }
     ensures reads { reads.new ≡ reads.old + on_path (nodes_at nodes.old.slots depth [] root) key.now }
     ensures few { on_path (nodes_at nodes.old.slots depth [] root) key.now ≤ 8 }
@@ -298,15 +322,15 @@ pub(crate) fn compute_or_insert<P: Drop, F: FnMut(Option<&P>) -> P, L: Ledger>(
             }
         }
         End::Absent(byte) => {
-            let leaf = ready_to_add(nodes, alloc, slot, key)?;
-            let answer = f(nothing(nodes));
-            add(nodes, slot, key, byte, leaf, answer);
+            let leaf = ready_to_add(nodes, supply, slot, key)?;
+            let payload = f(nothing(nodes));
+            add(nodes, slot, key, byte, leaf, payload);
             Ok(None)
         }
         End::Differs(at) => {
-            let parts = ready_to_split(nodes, alloc, key, at)?;
+            let made = ready_to_split(nodes, supply, key, at)?;
             let answer = f(nothing(nodes));
-            split(nodes, slot, key, at, parts, answer);
+            split(nodes, slot, key, at, made, answer);
             Ok(None)
         }
     }

@@ -4,7 +4,12 @@
 mod computation;
 mod descent;
 mod insertion;
+pub mod into_pairs;
+pub mod range_scan;
 pub mod reads;
 mod removal;
 pub mod sorted_pairs;
+mod statistics;
+mod supply;
 pub mod tree;
+mod walk;

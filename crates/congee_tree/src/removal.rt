@@ -9,12 +9,16 @@ ghost use Rattle.congee_nodes.specs.Reduce.{Reduces};
 ghost use Rattle.congee_nodes.specs.Table.{node_at, pairs_at, nodes_at, IsTree};
 ghost use Rattle.congee_nodes.specs.declared.child.Child.TheVariants.{Payload};
 ghost use Rattle.congee_tree.specs.Path.{on_path};
+ghost use Rattle.congee_tree.specs.Supply.{IsCounted, Alike};
 ghost use Rattle.congee_tree.specs.Way.{depth, HasRoot};
 ghost use Rattle.congee_tree.specs.Writes.{SameElsewhere, WasChild};
 ghost use Rattle.congee_tree.specs.Takes.{IsPresentIn, TakesChild, TakesOnWay, KeepsBut, IsLinked, IsHeld, TakesOut};
 
 use crate::descent::{End, Place, descend};
 use crate::reads::Reads;
+use crate::supply::Supply;
+use congee_nodes::allocator::Allocator;
+use congee_nodes::base_node::NodeType;
 use congee_nodes::child::Child;
 use congee_nodes::tree_node::TreeNode;
 use slab::Slab;
@@ -48,6 +52,13 @@ fn detach<P: Drop>(nodes: &mut Slab<TreeNode<P>>, parent: usize, slot: usize, ke
     nodes.remove(slot);
 }
 
+/// The payload that was taken out, and the form of the leaf that went with it, if one did.
+#[derive(Drop)]
+pub(crate) struct Taken<P> {
+    pub(crate) before: P,
+    pub(crate) detached: Option<NodeType>,
+}
+
 /// Takes a payload out of its leaf, and the leaf out of the node above it where it has no other.
 pub(crate) fn take_out<P: Drop>(
     nodes: &mut Slab<TreeNode<P>>,
@@ -55,10 +66,10 @@ pub(crate) fn take_out<P: Drop>(
     slot: usize,
     key: &[u8; 8],
     byte: u8,
-) -> P
+) -> Taken<P>
     requires { IsHeld nodes.old.slots parent slot key.now byte }
-    ensures taken { TakesOut nodes.old.slots nodes.new.slots slot parent key.now byte }
-    ensures before { WasChild nodes.old.slots slot byte (Payload result) }
+    ensures taken { TakesOut nodes.old.slots nodes.new.slots slot parent key.now byte result.detached }
+    ensures before { WasChild nodes.old.slots slot byte (Payload result.before) }
 {
     let before = match take_child(nodes, slot, byte) {
         Child::Payload(before) => before,
@@ -67,25 +78,38 @@ pub(crate) fn take_out<P: Drop>(
     let Some(leaf) = nodes.get(slot) else {
         unreachable!()
     };
-    if leaf.base().value_count() == 0 {
-        detach(nodes, parent, slot, key);
+    let base = leaf.base();
+    if base.value_count() != 0 {
+        return Taken {
+            before,
+            detached: None,
+        };
     }
-    before
+    let form = base.get_type();
+    detach(nodes, parent, slot, key);
+    Taken {
+        before,
+        detached: Some(form),
+    }
 }
 
 /// Takes out the pair at the key, and answers its payload.
-pub(crate) fn remove<P: Drop, L: Ledger>(
+pub(crate) fn remove<P: Drop, A: Allocator, L: Ledger>(
     nodes: &mut Slab<TreeNode<P>>,
+    supply: &mut Supply<A>,
     root: usize,
     key: &[u8; 8],
     reads: &mut Reads<L>,
 ) -> Option<P>
     requires tree { IsTree nodes.old.slots depth [] root }
     requires root { HasRoot nodes.old.slots root }
+    requires counts { IsCounted supply.old.forms (nodes_at nodes.old.slots depth [] root) }
     ensures tree { IsTree nodes.new.slots depth [] root }
     ensures root { HasRoot nodes.new.slots root }
     ensures before { result ≡ lookup (pairs_at nodes.old.slots depth root) (key_number key.now) }
     ensures pairs { pairs_at nodes.new.slots depth root ≡ without (pairs_at nodes.old.slots depth root) (key_number key.now) }
+    ensures counts { IsCounted supply.new.forms (nodes_at nodes.new.slots depth [] root) }
+    ensures alike { Alike A.charge supply.old supply.new }
     ensures shape { Reduces result (nodes_at nodes.old.slots depth [] root) key.now (nodes_at nodes.new.slots depth [] root) }
     ensures reads { reads.new ≡ reads.old + on_path (nodes_at nodes.old.slots depth [] root) key.now }
     ensures few { on_path (nodes_at nodes.old.slots depth [] root) key.now ≤ 8 }
@@ -97,7 +121,11 @@ pub(crate) fn remove<P: Drop, L: Ledger>(
         ..
     } = descend(nodes, root, key, reads);
     match end {
-        End::Present(byte, _) => Some(take_out(nodes, parent, slot, key, byte)),
+        End::Present(byte, _) => {
+            let Taken { before, detached } = take_out(nodes, parent, slot, key, byte);
+            supply.give_back_if_some(detached);
+            Some(before)
+        }
         _ => None,
     }
 }

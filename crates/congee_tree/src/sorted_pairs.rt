@@ -52,6 +52,13 @@ impl<P: Drop> SortedPairs<P> {
         }
     }
 
+    /// All pairs, keys ascending. Takes no memory.
+    pub fn pairs(&self) -> &[(u64, P)]
+        ensures { result.now ≡ self.now }
+    {
+        &self.pairs
+    }
+
     /// Sets the value at the key, and answers the one that stood there. A refusal changes nothing, and only a new key
     /// is refused, where the vector finds no memory to grow.
     pub fn insert(&mut self, key: u64, value: P) -> Result<Option<P>, OOMError>

@@ -4,7 +4,7 @@
 //! from the root down to it. Under seven bytes stand payloads, under fewer nodes. The root has no prefix, and the form that
 //! never grows.
 
-ghost use Rattle.std.specs.Prelude.{◌≡◌, ℕ, ◌+◌, ◌≤◌, ◌↔◌, [], ◌∷◌, length, Option, Some, None, IfOk, OnOk, OnErr, IsTrue, option_copied};
+ghost use Rattle.std.specs.Prelude.{◌≡◌, ℕ, ◌+◌, ◌≤◌, ◌<◌, ◌^◌, ◌↔◌, [], ◌∷◌, length, Option, Some, None, IfOk, OnOk, OnErr, IsTrue, option_copied};
 ghost use Rattle.std.specs.Fn.{TakesAt, CalledAt};
 ghost use Rattle.std.specs.Int.{from_be_bytes, w64};
 ghost use Rattle.congee_nodes.specs.Closure.{TakesOption, CalledAtOption};
@@ -12,14 +12,29 @@ ghost use Rattle.congee_nodes.specs.Map.{lookup, put, without, with_answer, IsMa
 ghost use Rattle.congee_nodes.specs.Refusal.{NeedsNode};
 ghost use Rattle.congee_nodes.specs.Shape.{Reshapes};
 ghost use Rattle.congee_nodes.specs.Reduce.{Reduces, Recomputes};
+ghost use Rattle.congee_nodes.specs.LevelCounts.{capped};
+ghost use Rattle.congee_nodes.specs.Stats.{IsTally};
+ghost use Rattle.congee_nodes.specs.StatsText.{all_nodes, all_entries};
+ghost use Rattle.congee_nodes.specs.Visits.{visits_below};
+ghost use Rattle.congee_nodes.specs.Charge.{add_charge};
+ghost use Rattle.congee_tree.specs.Charge.{charge_of, MovesAlike};
 ghost use Rattle.congee_tree.specs.Path.{on_path};
 
 use crate::computation::{Computed, compute_if_present};
 use crate::descent::find;
 use crate::insertion::{compute_or_insert, insert};
+use crate::into_pairs::IntoPairs;
+use crate::range_scan::{RangeEntry, scan};
 use crate::reads::Reads;
 use crate::removal::remove;
+use crate::statistics::count_subtree;
+use crate::supply::Supply;
+use crate::walk::{key_from, push_keys};
+use congee_nodes::allocator::Allocator;
 use congee_nodes::error::OOMError;
+use congee_nodes::payload::Payload;
+use congee_nodes::stats::NodeStats;
+use congee_nodes::traits::Word;
 use congee_nodes::tree_node::TreeNode;
 use slab::Slab;
 use std::alloc::Global;
@@ -29,45 +44,50 @@ use std::sync::ledger::Ledger;
 /// An ordered map from keys of eight bytes, most significant first, to payloads.
 ///
 /// Contracts see the list of its pairs by the keys' numbers (byte order is numeric order), and the list of its nodes.
+///
+/// The budget is charged for each node from before it is made until it is gone, at the latest at the drop of the tree.
 #[derive(Drop)]
-pub struct RawCongee<P> {
-    alloc: Global,
+pub struct RawCongee<P: Payload, A: Allocator> {
     nodes: Slab<TreeNode<P>>,
+    supply: Supply<A>,
     root: usize,
     /// How many pairs there are: 2 to the 64 at most.
     count: u128,
 }
 
-impl<P> Model for RawCongee<P> {
+impl<P: Payload, A: Allocator> Model for RawCongee<P, A> {
     ghost use Rattle.std.specs.Prelude.{◌≡◌, [], length};
     ghost use Rattle.congee_tree.specs.Tree.{Tree, tree_code};
     ghost use Rattle.congee_nodes.specs.Table.{IsTree, pairs_at, nodes_at};
+    ghost use Rattle.congee_tree.specs.Supply.{IsCounted};
     ghost use Rattle.congee_tree.specs.Way.{depth, HasRoot};
 
-    ghost Value = { Tree P };
+    ghost Value = { Tree P A };
 
-    ghost coded = { tree_code P.code };
+    ghost coded = { tree_code P.code A.code };
 
-    ghost view = { λ t. record { pairs = pairs_at t.nodes.slots depth t.root; nodes = nodes_at t.nodes.slots depth [] t.root } };
+    ghost view = { λ t. record { pairs = pairs_at t.nodes.slots depth t.root; nodes = nodes_at t.nodes.slots depth [] t.root; budget = t.supply.budget } };
 
-    ghost invariant = { λ t. IsTree t.nodes.slots depth [] t.root × HasRoot t.nodes.slots t.root × (t.count ≡ length (pairs_at t.nodes.slots depth t.root)) };
+    ghost invariant = { λ t. IsTree t.nodes.slots depth [] t.root × HasRoot t.nodes.slots t.root × (t.count ≡ length (pairs_at t.nodes.slots depth t.root)) × IsCounted t.supply.forms (nodes_at t.nodes.slots depth [] t.root) };
 }
 
-impl<P: Drop> RawCongee<P> {
+impl<P: Payload, A: Allocator> RawCongee<P, A> {
     ghost use Rattle.congee_nodes.specs.Table.{NodeInfo};
     ghost use Rattle.congee_nodes.specs.declared.base_node.NodeType.TheVariants.{N256};
 
-    /// An empty tree, or `OOMError` where there is no memory for its root.
-    pub fn new(alloc: Global) -> Result<Self, OOMError>
+    /// An empty tree, or `OOMError` where the budget or the machine has no memory for its root.
+    pub fn new(alloc: Global, budget: A) -> Result<Self, OOMError>
         ensures pairs { IfOk result (λ tree. tree.pairs ≡ []) }
         ensures nodes { IfOk result (λ tree. tree.nodes ≡ record { edge = []; prefix = []; form = N256; count = 0 } ∷ []) }
+        ensures charge { IfOk result (λ tree. A.charge tree.budget ≡ add_charge (A.charge budget) (charge_of tree.nodes)) }
     {
         let mut nodes = Slab::new(alloc);
         nodes.reserve(1)?;
-        let root = nodes.insert_reserved(TreeNode::root(alloc)?);
+        let mut supply = Supply::new(alloc, budget);
+        let root = nodes.insert_reserved(supply.root()?);
         Ok(RawCongee {
-            alloc,
             nodes,
+            supply,
             root,
             count: 0,
         })
@@ -94,12 +114,20 @@ impl<P: Drop> RawCongee<P> {
         ensures before { IfOk result (λ before. before ≡ lookup self.old.pairs (from_be_bytes w64 key.now)) }
         ensures ok { OnOk result (self.new.pairs ≡ put self.old.pairs (from_be_bytes w64 key.now) payload) }
         ensures shape { IfOk result (λ before. Reshapes before self.old.nodes key.now self.new.nodes) }
-        ensures err { OnErr result (self.new ≡ self.old) }
+        ensures err { OnErr result ((self.new.pairs ≡ self.old.pairs) × (self.new.nodes ≡ self.old.nodes)) }
+        ensures charge { MovesAlike (A.charge self.old.budget) (charge_of self.old.nodes) (A.charge self.new.budget) (charge_of self.new.nodes) }
         ensures reads { reads.new ≡ reads.old + on_path self.old.nodes key.now }
         ensures few { on_path self.old.nodes key.now ≤ 8 }
         ensures refused { OnErr result (NeedsNode self.old.pairs (from_be_bytes w64 key.now)) }
     {
-        let before = insert(&mut self.nodes, self.alloc, self.root, key, payload, reads)?;
+        let before = insert(
+            &mut self.nodes,
+            &mut self.supply,
+            self.root,
+            key,
+            payload,
+            reads,
+        )?;
         if before.is_none() {
             self.count += 1;
         }
@@ -120,13 +148,14 @@ impl<P: Drop> RawCongee<P> {
         ensures before { IfOk result (λ before. before ≡ lookup self.old.pairs (from_be_bytes w64 key.now)) }
         ensures ok { OnOk result ((answer : P) × CalledAtOption F.FnMut f.old (lookup self.old.pairs (from_be_bytes w64 key.now)) answer f.new × (self.new.pairs ≡ put self.old.pairs (from_be_bytes w64 key.now) answer)) }
         ensures shape { IfOk result (λ before. Reshapes before self.old.nodes key.now self.new.nodes) }
-        ensures err { OnErr result (self.new ≡ self.old) }
+        ensures err { OnErr result ((self.new.pairs ≡ self.old.pairs) × (self.new.nodes ≡ self.old.nodes)) }
+        ensures charge { MovesAlike (A.charge self.old.budget) (charge_of self.old.nodes) (A.charge self.new.budget) (charge_of self.new.nodes) }
         ensures not_called { OnErr result (f.new ≡ f.old) }
         ensures refused { OnErr result (NeedsNode self.old.pairs (from_be_bytes w64 key.now)) }
         ensures reads { reads.new ≡ reads.old + on_path self.old.nodes key.now }
         ensures few { on_path self.old.nodes key.now ≤ 8 }
     {
-        let old = compute_or_insert(&mut self.nodes, self.alloc, self.root, key, f, reads)?;
+        let old = compute_or_insert(&mut self.nodes, &mut self.supply, self.root, key, f, reads)?;
         if old.is_none() {
             self.count += 1;
         }
@@ -139,10 +168,11 @@ impl<P: Drop> RawCongee<P> {
         ensures before { result ≡ lookup self.old.pairs (from_be_bytes w64 key.now) }
         ensures pairs { self.new.pairs ≡ without self.old.pairs (from_be_bytes w64 key.now) }
         ensures shape { Reduces result self.old.nodes key.now self.new.nodes }
+        ensures charge { MovesAlike (A.charge self.old.budget) (charge_of self.old.nodes) (A.charge self.new.budget) (charge_of self.new.nodes) }
         ensures reads { reads.new ≡ reads.old + on_path self.old.nodes key.now }
         ensures few { on_path self.old.nodes key.now ≤ 8 }
     {
-        let before = remove(&mut self.nodes, self.root, key, reads);
+        let before = remove(&mut self.nodes, &mut self.supply, self.root, key, reads);
         if before.is_some() {
             self.count -= 1;
         }
@@ -163,11 +193,13 @@ impl<P: Drop> RawCongee<P> {
         ensures before { result ≡ lookup self.old.pairs (from_be_bytes w64 key.now) }
         ensures absent { lookup self.old.pairs (from_be_bytes w64 key.now) ≡ None → (self.new ≡ self.old) × (f.new ≡ f.old) }
         ensures present { (standing : P) → lookup self.old.pairs (from_be_bytes w64 key.now) ≡ Some standing → (answer : Option P) × CalledAt F.FnMut f.old standing answer f.new × (self.new.pairs ≡ with_answer self.old.pairs (from_be_bytes w64 key.now) answer) × Recomputes answer self.old.nodes key.now self.new.nodes }
+        ensures charge { MovesAlike (A.charge self.old.budget) (charge_of self.old.nodes) (A.charge self.new.budget) (charge_of self.new.nodes) }
         ensures reads { reads.new ≡ reads.old + on_path self.old.nodes key.now }
         ensures few { on_path self.old.nodes key.now ≤ 8 }
     {
         let Computed { before, removed } = compute_if_present(
             &mut self.nodes,
+            &mut self.supply,
             self.root,
             key,
             f,
@@ -191,5 +223,91 @@ impl<P: Drop> RawCongee<P> {
         ensures { result ≡ length self.now.pairs }
     {
         self.count
+    }
+
+    /// The sum of the stated sizes of the tree's nodes, which its budget is charged for.
+    pub fn charged(&self) -> u128
+        ensures { result ≡ charge_of self.now.nodes }
+    {
+        self.supply.bytes()
+    }
+
+    /// The counts of the tree's nodes by level and form, and of its pairs. Reads each node once. `OOMError` comes where
+    /// there is no memory for the levels, of which there are eight at most.
+    ///
+    /// Each entry of a node is a pair or leads to a node, and none leads to the root: where no count stays at the greatest
+    /// `u64`, the entries are the pairs plus the nodes minus 1.
+    pub fn stats(&self) -> Result<NodeStats, OOMError>
+        ensures levels { IfOk result (λ stats. IsTally (visits_below 0 self.now.nodes) stats.levels) }
+        ensures pairs { IfOk result (λ stats. stats.kv_pairs ≡ capped (length self.now.pairs)) }
+        ensures entries { length self.now.pairs + length self.now.nodes < 2 ^ 64 → IfOk result (λ stats. all_entries stats.levels + 1 ≡ stats.kv_pairs + all_nodes stats.levels) }
+    {
+        let mut stats = NodeStats::empty(self.supply.memory());
+        count_subtree(&self.nodes, self.root, 0, &mut stats)?;
+        stats.add_pairs(u64::try_from(self.count).unwrap_or(u64::MAX));
+        Ok(stats)
+    }
+}
+
+impl<A: Allocator> RawCongee<u64, A> {
+    ghost use Rattle.std.specs.Prelude.{◌≡◌, ◌++◌, length, map, min, take, drop};
+    ghost use Rattle.std.specs.Int.{from_be_bytes, w64};
+    ghost use Rattle.congee_nodes.specs.Map.{between};
+
+    /// Writes the first pairs with `start <= key < end`, keys ascending, and answers their number: all of them, or as many
+    /// as the buffer has places for. The places after them stay as they were. Takes no memory.
+    pub fn range<E: RangeEntry>(&self, start: &[u8; 8], end: &[u8; 8], buffer: &mut [E]) -> usize
+        ensures count { result ≡ min (length buffer.old) (length (between self.now.pairs (from_be_bytes w64 start.now) (from_be_bytes w64 end.now))) }
+        ensures written { buffer.new ≡ take result (map (λ pair. E.entry pair.0 pair.1) (between self.now.pairs (from_be_bytes w64 start.now) (from_be_bytes w64 end.now))) ++ drop result buffer.old }
+    {
+        let first = u64::from_be_bytes(*start);
+        let past = u64::from_be_bytes(*end);
+        scan(&self.nodes, self.root, first, past, buffer, 0)
+    }
+}
+
+impl<P: Payload, A: Allocator> RawCongee<P, A> {
+    ghost use Rattle.std.specs.Prelude.{◌≡◌, IfOk, map};
+    ghost use Rattle.std.specs.List.{FoldsTo};
+    ghost use Rattle.congee_tree.specs.Scan.{from_key, first_number};
+
+    /// The keys, ascending, each read back from its number. The one vector is made with room for all of them; `OOMError`
+    /// comes where there is no memory for it.
+    pub fn keys<K: Word>(&self) -> Result<Vec<K>, OOMError>
+        ensures { IfOk result (λ keys. keys.items ≡ map K.of_number (map (λ pair. pair.0) self.now.pairs)) }
+    {
+        let Ok(count) = usize::try_from(self.count) else {
+            return Err(OOMError::new());
+        };
+        let mut keys = Vec::with_capacity(self.supply.memory(), count)?;
+        push_keys(&self.nodes, self.root, &mut keys);
+        Ok(keys)
+    }
+
+    /// The least key that isn't below `start`. Takes no memory.
+    pub fn key_from(&self, start: u64) -> Option<u64>
+        ensures { result ≡ first_number (from_key start self.now.pairs) }
+    {
+        key_from(&self.nodes, self.root, start)
+    }
+
+    /// The pairs by value, keys ascending.
+    pub fn into_pairs(self) -> IntoPairs<P, A>
+        ensures { result ≡ self.pairs }
+    {
+        // A look at a field tells the proof that the keys are in order.
+        let _ = &self.nodes;
+        IntoPairs::new(self)
+    }
+
+    /// Calls the closure with each pair, keys ascending, and gives the tree up. Takes no memory.
+    pub fn drain<F: FnMut(u64, P)>(self, f: &mut F)
+        requires { F.IsAlwaysCallable f.old }
+        ensures { FoldsTo (λ state pair next. F.step state pair.0 pair.1 tt next) f.old self.pairs f.new }
+    {
+        let mut pairs = self.into_pairs();
+        while let Some((key, payload)) = pairs.next() {
+            f(key, payload);
+        }
     }
 }

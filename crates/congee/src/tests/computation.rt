@@ -1,55 +1,44 @@
 //! Computations that may insert: what the closure sees, and what stands after its call.
 
-ghost use Rattle.std.specs.Prelude.{◌≡◌, ◌<◌};
-
 use crate::fresh;
+use congee_nodes::allocator::DefaultAllocator;
 use congee_nodes::error::OOMError;
-use congee_tree::reads::Reads;
 use congee_tree::tree::RawCongee;
 use std::marker::Brand;
 use std::process::Abort;
-use std::sync::ledger::{Blank, Ledger};
+use std::sync::ledger::Blank;
 use std::test::Fail;
 
-fn get(tree: &RawCongee<u64>, key: u64) -> Option<u64> {
-    match fresh::get::<Brand, u64>(tree, key, Blank::new(1)) {
+fn get(tree: &RawCongee<u64, DefaultAllocator>, key: u64) -> Option<u64> {
+    match fresh::get::<Brand, u64, DefaultAllocator>(tree, key, Blank::new(1)) {
         Some(payload) => Some(*payload),
         None => None,
     }
 }
 
 // Sets the answer at the key; answers the payload before, and what the closure saw, if it was called.
-fn compute_counted<L: Ledger>(
-    tree: &mut RawCongee<u64>,
+fn compute(
+    tree: &mut RawCongee<u64, DefaultAllocator>,
     key: u64,
     answer: u64,
-    blank: Blank,
-) -> (Result<Option<u64>, OOMError>, Option<Option<u64>>)
-    requires name { blank.name ≡ L.name }
-    requires parts { blank.parts ≡ L.parts }
-    requires some { 0 < blank.parts }
-{
-    let mut reads = Reads::<L>::new(blank);
+) -> (Result<Option<u64>, OOMError>, Option<Option<u64>>) {
     let mut seen = None;
     let mut note = |standing: Option<&u64>| -> u64 {
         seen = Some(standing.copied());
         answer
     };
-    let before = tree.compute_or_insert(&key.to_be_bytes(), &mut note, &mut reads);
+    let before = fresh::compute_or_insert::<Brand, u64, DefaultAllocator, _>(
+        tree,
+        key,
+        &mut note,
+        Blank::new(1),
+    );
     (before, seen)
-}
-
-fn compute(
-    tree: &mut RawCongee<u64>,
-    key: u64,
-    answer: u64,
-) -> (Result<Option<u64>, OOMError>, Option<Option<u64>>) {
-    compute_counted::<Brand>(tree, key, answer, Blank::new(1))
 }
 
 #[test]
 fn closure_sees_what_stands(rt: HostRuntime) -> Result<(), Fail> {
-    let mut tree = RawCongee::new(rt.alloc())?;
+    let mut tree = RawCongee::new(rt.alloc(), DefaultAllocator {})?;
     assert_eq!(rt; compute(&mut tree, 7, 70), (Ok(None), Some(None)));
     assert_eq!(rt; compute(&mut tree, 7, 71), (Ok(Some(70)), Some(Some(70))));
     for key in 256..273u64 {

@@ -3,7 +3,7 @@
 ghost use Rattle.std.specs.Prelude.{◌*◌, ◌/◌, ◌%◌, ◌^◌};
 
 use crate::calls::{Call, Reply, run_calls};
-use crate::u64_calls::{U64Call, run_u64_calls};
+use crate::u64_calls::{U64Call, U64Reply, run_u64_calls};
 use crate::{Congee, DefaultAllocator, OOMError, U64Congee, Word};
 use std::test::Fail;
 
@@ -27,7 +27,7 @@ impl Word for Half {
 
 /// Written as its value divided by ten; n is read back as 10n.
 #[derive(Clone, Copy, Debug, PartialEq, Eq)]
-struct Tens(u64);
+pub(super) struct Tens(pub(super) u64);
 
 impl Word for Tens {
     ghost number = { λ t. t.0 / 10 };
@@ -228,8 +228,16 @@ fn runs_a_list_of_calls(rt: HostRuntime) -> Result<(), Fail> {
         Call::Remove(other),
         Call::Remove(other),
         Call::IsEmpty,
+        Call::Insert(other, Half(9)),
+        Call::Keys,
+        Call::Range(other, Tens(60), 1),
     ];
     let replies = run_calls(rt.alloc(), &mut map, &calls)?;
+    let mut keys = Vec::new(rt.alloc());
+    keys.push(Tens(40))?;
+    keys.push(Tens(50))?;
+    let mut pairs = Vec::new(rt.alloc());
+    pairs.push((4, 4))?;
     let wanted = [
         Reply::Tested(true),
         Reply::Old(None),
@@ -247,6 +255,9 @@ fn runs_a_list_of_calls(rt: HostRuntime) -> Result<(), Fail> {
         Reply::Old(Some(Half(0))),
         Reply::Old(None),
         Reply::Tested(false),
+        Reply::Old(None),
+        Reply::Listed(keys),
+        Reply::Ranged(pairs),
     ];
     assert_eq!(rt; replies.as_slice(), wanted.as_slice());
     Ok(())
@@ -263,16 +274,25 @@ fn runs_a_list_of_calls_by_numbers(rt: HostRuntime) -> Result<(), Fail> {
         U64Call::Get(4),
         U64Call::Remove(5),
         U64Call::Get(5),
+        U64Call::Insert(6, Half(9)),
+        U64Call::Insert(5, Half(9)),
+        U64Call::Range(4, 6, 8),
     ];
     let replies = run_u64_calls(rt.alloc(), &mut map, &calls)?;
+    let mut pairs = Vec::new(rt.alloc());
+    pairs.push(([0, 0, 0, 0, 0, 0, 0, 4], 0))?;
+    pairs.push(([0, 0, 0, 0, 0, 0, 0, 5], 4))?;
     let wanted = [
-        Reply::Old(None),
-        Reply::Old(None),
-        Reply::Old(None),
-        Reply::Old(Some(Half(2))),
-        Reply::Old(Some(Half(0))),
-        Reply::Old(Some(Half(4))),
-        Reply::Old(None),
+        U64Reply::Old(None),
+        U64Reply::Old(None),
+        U64Reply::Old(None),
+        U64Reply::Old(Some(Half(2))),
+        U64Reply::Old(Some(Half(0))),
+        U64Reply::Old(Some(Half(4))),
+        U64Reply::Old(None),
+        U64Reply::Old(None),
+        U64Reply::Old(None),
+        U64Reply::Ranged(pairs),
     ];
     assert_eq!(rt; replies.as_slice(), wanted.as_slice());
     Ok(())

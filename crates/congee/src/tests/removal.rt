@@ -1,70 +1,58 @@
 //! Removals and computations in the tree, call by call against the plain map, and where they empty a leaf.
 
-ghost use Rattle.std.specs.Prelude.{◌≡◌, ◌<◌};
-
 use super::tree::scattered;
 use crate::fresh;
+use congee_nodes::allocator::DefaultAllocator;
 use congee_nodes::error::OOMError;
-use congee_tree::reads::Reads;
 use congee_tree::sorted_pairs::SortedPairs;
 use congee_tree::tree::RawCongee;
 use std::marker::Brand;
 use std::process::Abort;
-use std::sync::ledger::{Blank, Ledger};
+use std::sync::ledger::Blank;
 use std::test::Fail;
 
-fn get(tree: &RawCongee<u64>, key: u64) -> Option<u64> {
-    match fresh::get::<Brand, u64>(tree, key, Blank::new(1)) {
+fn get(tree: &RawCongee<u64, DefaultAllocator>, key: u64) -> Option<u64> {
+    match fresh::get::<Brand, u64, DefaultAllocator>(tree, key, Blank::new(1)) {
         Some(payload) => Some(*payload),
         None => None,
     }
 }
 
-fn insert(tree: &mut RawCongee<u64>, key: u64, payload: u64) -> Result<Option<u64>, OOMError> {
-    fresh::insert::<Brand, u64>(tree, key, payload, Blank::new(1))
+fn insert(
+    tree: &mut RawCongee<u64, DefaultAllocator>,
+    key: u64,
+    payload: u64,
+) -> Result<Option<u64>, OOMError> {
+    fresh::insert::<Brand, u64, DefaultAllocator>(tree, key, payload, Blank::new(1))
 }
 
-fn remove_counted<L: Ledger>(tree: &mut RawCongee<u64>, key: u64, blank: Blank) -> Option<u64>
-    requires name { blank.name ≡ L.name }
-    requires parts { blank.parts ≡ L.parts }
-    requires some { 0 < blank.parts }
-{
-    let mut reads = Reads::<L>::new(blank);
-    tree.remove(&key.to_be_bytes(), &mut reads)
-}
-
-fn remove(tree: &mut RawCongee<u64>, key: u64) -> Option<u64> {
-    remove_counted::<Brand>(tree, key, Blank::new(1))
+fn remove(tree: &mut RawCongee<u64, DefaultAllocator>, key: u64) -> Option<u64> {
+    fresh::remove::<Brand, u64, DefaultAllocator>(tree, key, Blank::new(1))
 }
 
 // Puts the answer in the place of the payload, or takes it out; answers it, and what the closure saw.
-fn compute_counted<L: Ledger>(
-    tree: &mut RawCongee<u64>,
+fn compute(
+    tree: &mut RawCongee<u64, DefaultAllocator>,
     key: u64,
     answer: Option<u64>,
-    blank: Blank,
-) -> (Option<u64>, Option<u64>)
-    requires name { blank.name ≡ L.name }
-    requires parts { blank.parts ≡ L.parts }
-    requires some { 0 < blank.parts }
-{
-    let mut reads = Reads::<L>::new(blank);
+) -> (Option<u64>, Option<u64>) {
     let mut seen = None;
     let mut note = |standing: &u64| -> Option<u64> {
         seen = Some(*standing);
         answer
     };
-    let before = tree.compute_if_present(&key.to_be_bytes(), &mut note, &mut reads);
+    let before = fresh::compute_if_present::<Brand, u64, DefaultAllocator, _>(
+        tree,
+        key,
+        &mut note,
+        Blank::new(1),
+    );
     (before, seen)
-}
-
-fn compute(tree: &mut RawCongee<u64>, key: u64, answer: Option<u64>) -> (Option<u64>, Option<u64>) {
-    compute_counted::<Brand>(tree, key, answer, Blank::new(1))
 }
 
 #[test]
 fn emptied_tree_is_empty(rt: HostRuntime) -> Result<(), Fail> {
-    let mut tree = RawCongee::new(rt.alloc())?;
+    let mut tree = RawCongee::new(rt.alloc(), DefaultAllocator {})?;
     assert!(rt; tree.is_empty());
     assert_eq!(rt; insert(&mut tree, 1, 1), Ok(None));
     assert_eq!(rt; insert(&mut tree, 256, 2), Ok(None));
@@ -78,7 +66,7 @@ fn emptied_tree_is_empty(rt: HostRuntime) -> Result<(), Fail> {
 
 #[test]
 fn removal_in_a_leaf_of_form_48(rt: HostRuntime) -> Result<(), Fail> {
-    let mut tree = RawCongee::new(rt.alloc())?;
+    let mut tree = RawCongee::new(rt.alloc(), DefaultAllocator {})?;
     for key in 0..17u64 {
         assert_eq!(rt; insert(&mut tree, key, key), Ok(None));
     }
@@ -94,7 +82,7 @@ fn removal_in_a_leaf_of_form_48(rt: HostRuntime) -> Result<(), Fail> {
 
 #[test]
 fn computations_at_a_key(rt: HostRuntime) -> Result<(), Fail> {
-    let mut tree = RawCongee::new(rt.alloc())?;
+    let mut tree = RawCongee::new(rt.alloc(), DefaultAllocator {})?;
     assert_eq!(rt; compute(&mut tree, 7, Some(1)), (None, None));
     assert_eq!(rt; insert(&mut tree, 7, 70), Ok(None));
     assert_eq!(rt; compute(&mut tree, 7, Some(71)), (Some(70), Some(70)));
@@ -111,7 +99,11 @@ fn crowded(i: u64) -> u64 {
 }
 
 // Both maps have the same pairs.
-fn assert_alike(rt: &impl Abort, tree: &RawCongee<u64>, plain: &SortedPairs<u64>) {
+fn assert_alike(
+    rt: &impl Abort,
+    tree: &RawCongee<u64, DefaultAllocator>,
+    plain: &SortedPairs<u64>,
+) {
     for place in 0..8u32 {
         for byte in 0..7u64 {
             let key = byte.wrapping_shl(8 * place);
@@ -122,7 +114,7 @@ fn assert_alike(rt: &impl Abort, tree: &RawCongee<u64>, plain: &SortedPairs<u64>
 
 #[test]
 fn removals_agree_with_the_plain_map(rt: HostRuntime) -> Result<(), Fail> {
-    let mut tree = RawCongee::new(rt.alloc())?;
+    let mut tree = RawCongee::new(rt.alloc(), DefaultAllocator {})?;
     let mut plain = SortedPairs::new(rt.alloc());
     for i in 0..20_000u64 {
         let key = crowded(i);

@@ -1,7 +1,8 @@
 //! The counts of one level, and the list of the levels.
 
 ghost use Rattle.std.specs.Prelude.{◌≡◌, ◌+◌, ◌-◌, ◌<◌, ◌++◌, length, replicate, OnOk, OnErr, slice_set};
-ghost use Rattle.congee_nodes.specs.LevelCounts.{form_place, nodes_of, entries_of, empty_level, with_node};
+ghost use Rattle.congee_nodes.specs.Form.{form_place};
+ghost use Rattle.congee_nodes.specs.LevelCounts.{nodes_of, entries_of, empty_level, with_node};
 ghost use Rattle.congee_nodes.specs.Stats.{counts_at};
 
 use crate::base_node::NodeType;

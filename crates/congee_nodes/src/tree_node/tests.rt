@@ -53,6 +53,8 @@ fn inner_nodes_have_slots(rt: HostRuntime) -> Result<(), Fail> {
     let old = node.change(9, Child::Node(6));
     assert!(rt; matches!(old, Child::Node(5)));
     assert!(rt; matches!(node.get_child(9), Some(ChildRef::Node(6))));
+    assert!(rt; matches!(node.first_from(0), Some((9, ChildRef::Node(6)))));
+    assert!(rt; node.first_from(10).is_none());
     assert!(rt; matches!(node.remove(9), Child::Node(6)));
     assert!(rt; node.get_child(9).is_none());
     let root = TreeNode::<u64>::root(rt.alloc())?;

@@ -1,6 +1,6 @@
 //! The kinds of events that only read: Take, Read, Check and Finish.
 
-ghost use Rattle.std.specs.Prelude.{◌≡◌, ℕ, ◌<◌, ◌↔◌, ◌⊎◌, Option, Some, None, IsTrue, IfOk, IfErr, option_copied, length};
+ghost use Rattle.std.specs.Prelude.{◌≡◌, ℕ, ◌^◌, ◌<◌, ◌↔◌, ◌⊎◌, Option, Some, None, IsTrue, IfOk, IfErr, option_copied, length};
 ghost use Rattle.slab.specs.Slab.{get};
 ghost use Rattle.congee_nodes.specs.Key.{Begins, AreBytes, next_byte};
 ghost use Rattle.congee_nodes.specs.Map.{lookup};
@@ -16,6 +16,7 @@ ghost use Rattle.congee_olc.specs.declared.olc.types.Env.{Env};
 
 use crate::epoch::Pins;
 use crate::lock::Word64;
+use crate::olc::calls::is_served;
 use crate::olc::stage::{Asking, Path, Progress, Record, Spot, Stage, Stored};
 use crate::olc::types::{Kind, Op, Outcome, Reply, Report, Seen};
 use congee_nodes::child::{Child, ChildRef};
@@ -176,6 +177,7 @@ fn shared<P: Payload>(
 
 // What stands under the key's byte of a node.
 fn look<P: Payload>(node: &TreeNode<P>, key: u64) -> Result<Looked<P>, OOMError>
+    ensures small { key < 2 ^ 64 }
     ensures reading { IfOk result (λ x. IsReading P.alike key node.now x.seen) }
     ensures stands { IfOk result (λ x. IsSpare P.alike (payload_in (lookup node.now.children (next_byte node.now.prefix (bytes_of key)))) x.spare) }
     ensures seen { IfOk result (λ x. IsSpare P.alike (payload_in x.seen.child) x.spare) }
@@ -260,7 +262,8 @@ pub(crate) fn read<P: Payload>(
     }
 }
 
-// A Read of a node whose word is the remembered one; what a torn Read would have reported is dropped.
+// A Read of a node whose word is the remembered one; what a torn Read would have reported is dropped. A call of a kind
+// that isn't served is refused here.
 fn read_whole<P: Payload>(
     node: &TreeNode<P>,
     call: Record<P>,
@@ -271,16 +274,24 @@ fn read_whole<P: Payload>(
     ensures report { result.report ≡ report }
     ensures says { IsWholeRead P.alike node.now call path result.call result.outcome }
 {
+    if !is_served(&call.op) {
+        return refused(call, report);
+    }
     match look(node, key_of(&call.op)) {
         Ok(Looked { seen, spare }) => going(saw(call, path, seen, spare), report),
-        Err(_) => {
-            let (call, _) = ended(call, Progress::Refused);
-            Stepped {
-                call,
-                report,
-                outcome: Outcome::Refused,
-            }
-        }
+        Err(_) => refused(call, report),
+    }
+}
+
+// An event that is refused; the call only ends.
+fn refused<P: Drop>(call: Record<P>, report: Report) -> Stepped<P>
+    ensures { result ≡ record { call = record call { stage = Stage.Finish; spare = None; progress = Progress.Refused }; report = report; outcome = Outcome.Refused } }
+{
+    let (call, _) = ended(call, Progress::Refused);
+    Stepped {
+        call,
+        report,
+        outcome: Outcome::Refused,
     }
 }
 
@@ -332,6 +343,13 @@ fn begins(prefix: &[u8], bytes: &[u8]) -> bool
     bytes.starts_with(prefix)
 }
 
+// Whether a node's word is the remembered one.
+fn stands<P>(node: &Stored<P>, spot: Spot) -> bool
+    ensures { IsTrue result ↔ (node.now.word ≡ spot.word) }
+{
+    node.word.matches(Word64::from_number(spot.word))
+}
+
 /// Check of the current node after a Read, which decides a call that ends there.
 pub(crate) fn check<P: Payload>(
     nodes: &Slab<Stored<P>>,
@@ -350,8 +368,7 @@ pub(crate) fn check<P: Payload>(
     let Some(node) = nodes.get(slot) else {
         unreachable!()
     };
-    let now = node.word;
-    if !now.matches(Word64::from_number(path.here.word)) {
+    if !stands(node, path.here) {
         let report = report(Kind::Check, slot, 0, false);
         return going(restarted(call), report);
     }
@@ -427,8 +444,7 @@ pub(crate) fn check_above<P: Payload>(
     let Some(node) = nodes.get(slot) else {
         unreachable!()
     };
-    let now = node.word;
-    if !now.matches(Word64::from_number(path.here.word)) {
+    if !stands(node, path.here) {
         let report = report(Kind::Check, slot, 0, false);
         return going(restarted(call), report);
     }

@@ -1,5 +1,8 @@
-use Rattle.congee.specs.Calls.{by_numbers}
-use Rattle.congee.proofs.Steps.{get_step, insert_step, insert_refused, remove_step, exchange_step, compute_if_present_step, compute_or_insert_step, compute_or_insert_refused, is_empty_step}
+use Rattle.std.proofs.Common.{ℕ, List, refl, ap}
+use Rattle.congee_nodes.specs.Call.{listed, ranged, replied}
+use Rattle.congee.specs.declared.calls.Reply.TheVariants.{Listed, Ranged}
+use Rattle.congee.specs.Calls.{by_numbers, answer_of}
+use Rattle.congee.proofs.Steps.{get_step, insert_step, insert_refused, remove_step, exchange_step, compute_if_present_step, compute_or_insert_step, compute_or_insert_refused, is_empty_step, keys_step, keys_refused, range_answers, range_unmade}
 use Rattle.congee.proofs.calls.make_call.Goals as goal
 
 pub returns-in-Get : goal.returns-in-Get
@@ -15,7 +18,7 @@ returns-in-Ok g c =
 pub returns-in-Err : goal.returns-in-Err
 returns-in-Err g c =
     let by = by_numbers g.K.Word.number g.K.Word.of_number g.V.Word.number g.V.Word.of_number in
-    rw c.in-Insert.is (insert_refused by c.args.map.now.pairs c.insert.new.self.pairs c.in-Insert.key c.in-Insert.value c.in-Err.ensures.refused c.in-Err.ensures.err)
+    rw c.in-Insert.is (insert_refused by c.args.map.now.pairs c.insert.new.self.pairs c.in-Insert.key c.in-Insert.value c.in-Err.ensures.refused c.in-Err.ensures.err.0)
 
 pub returns-in-Remove : goal.returns-in-Remove
 returns-in-Remove g c =
@@ -58,3 +61,26 @@ pub returns-in-IsEmpty : goal.returns-in-IsEmpty
 returns-in-IsEmpty g c =
     let by = by_numbers g.K.Word.number g.K.Word.of_number g.V.Word.number g.V.Word.of_number in
     rw c.in-IsEmpty.is (is_empty_step by c.args.map.now.pairs c.is_empty.result c.is_empty.ensures)
+
+pub returns-in-Ok-keys : goal.returns-in-Ok-keys
+returns-in-Ok-keys g c =
+    let by = by_numbers g.K.Word.number g.K.Word.of_number g.V.Word.number g.V.Word.of_number in
+    rw c.in-Keys.is (keys_step by c.args.map.now.pairs c.args.map.now.pairs (Listed c.in-Ok-keys.keys) (ap (λ (ks : List g.row.K.Denot). replied (listed ks)) c.in-Ok-keys.ensures) refl)
+
+pub returns-in-Err-keys : goal.returns-in-Err-keys
+returns-in-Err-keys g c =
+    let by = by_numbers g.K.Word.number g.K.Word.of_number g.V.Word.number g.V.Word.of_number in
+    rw c.in-Keys.is (keys_refused by c.args.map.now.pairs c.args.map.now.pairs refl)
+
+pub returns-in-Ok-pairs_between : goal.returns-in-Ok-pairs_between
+returns-in-Ok-pairs_between g c =
+    let by = by_numbers g.K.Word.number g.K.Word.of_number g.V.Word.number g.V.Word.of_number in
+    rw c.in-Range.is (
+    range_answers by c.args.map.now.pairs c.args.map.now.pairs c.in-Range.start c.in-Range.end c.in-Range.limit (answer_of (Ranged c.in-Ok-pairs_between.pairs))
+    (ap (λ (es : List (ℕ × ℕ)). replied (ranged es)) c.in-Ok-pairs_between.ensures) refl
+    )
+
+pub returns-in-Err-pairs_between : goal.returns-in-Err-pairs_between
+returns-in-Err-pairs_between g c =
+    let by = by_numbers g.K.Word.number g.K.Word.of_number g.V.Word.number g.V.Word.of_number in
+    rw c.in-Range.is (range_unmade by c.args.map.now.pairs c.args.map.now.pairs c.in-Range.start c.in-Range.end c.in-Range.limit refl)

@@ -19,9 +19,9 @@ added m n key more r (Some standing) is absent present =
     let p = present standing is in rw (p.0, is) (refl, (((checked_sum standing more, refl), refl), p.1))
 
 pub returns-in-Add-clause-closure : goal.returns-in-Add-clause-closure
-returns-in-Add-clause-closure c =
+returns-in-Add-clause-closure g c =
     rw c.in-Add.is (added c.args.map.now.pairs c.add.new.map.pairs c.in-Add.key c.in-Add.more c.add.result _ refl c.add.ensures.absent c.add.ensures.present).0
 
 pub returns-in-Add-clause-legal : goal.returns-in-Add-clause-legal
-returns-in-Add-clause-legal c =
+returns-in-Add-clause-legal g c =
     rw c.in-Add.is (added c.args.map.now.pairs c.add.new.map.pairs c.in-Add.key c.in-Add.more c.add.result _ refl c.add.ensures.absent c.add.ensures.present).1

@@ -1,17 +1,17 @@
-use Rattle.std.proofs.Common.{◌≡◌, None, refl}
+use Rattle.std.proofs.Common.{◌≡◌, None, inl, refl}
 use Rattle.congee_cli.specs.Command.{words_of_command, HasNumbers}
 use Rattle.congee_cli.proofs.GrammarLemmas.{none_long}
 use Rattle.congee_cli.proofs.CommandLemmas.{commands}
 use Rattle.congee_cli.proofs.reply.reply_to.Goals as goal
 
 pub returns-in-None : goal.returns-in-None
-returns-in-None c line held = record {
+returns-in-None g c line held = record {
   done = None;
-  answered = (none_long words_of_command HasNumbers commands line (rw c.in-None.ensures at held), refl);
+  answered = inl (none_long words_of_command HasNumbers commands line (rw c.in-None.ensures at held), refl);
   legal = refl;
 }
 
 pub returns-in-Some : goal.returns-in-Some
-returns-in-Some c line held =
+returns-in-Some g c line held =
     let same : line ≡ c.in-Some.text.now = rw c.in-Some.ensures at held in
     rw same c.reply_to_text.ensures

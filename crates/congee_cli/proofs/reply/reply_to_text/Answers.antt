@@ -1,13 +1,11 @@
-use Rattle.std.proofs.Common.{None, Some, refl}
-use Rattle.congee_cli.specs.Session.{deed_of}
+use Rattle.std.proofs.Common.{None, inl, refl}
+use Rattle.congee_cli.proofs.Replies.{answers_line}
 use Rattle.congee_cli.proofs.reply.reply_to_text.Goals as goal
 
 pub returns-in-None : goal.returns-in-None
-returns-in-None c = record { done = None; answered = (c.in-None.ensures.bad, refl); legal = refl }
+returns-in-None g c = record { done = None; answered = inl (c.in-None.ensures.bad, refl); legal = refl }
 
 pub returns-in-Some : goal.returns-in-Some
-returns-in-Some c = record {
-  done = Some (deed_of c.in-Some.command c.execute.result);
-  answered = record { command = c.in-Some.command; says = c.in-Some.ensures.said; asks = refl; closure = c.execute.ensures.closure; answers = c.execute.ensures.text };
-  legal = c.execute.ensures.legal;
-}
+returns-in-Some g c =
+    answers_line c.args.map.now.pairs c.execute.new.map.pairs c.args.text.now c.in-Some.command c.in-Some.ensures.said c.execute.result
+    c.execute.ensures.text c.execute.ensures.closure c.execute.ensures.legal

@@ -5,7 +5,8 @@ use Rattle.congee_tree.proofs.PathLaws.{path_length, path_short}
 use Rattle.congee_tree.proofs.InsertLaws.{change_whole, ready_change}
 use Rattle.congee_tree.proofs.ShapeLaws.{change_shape}
 use Rattle.congee_tree.proofs.RootLaws.{change_root}
-use Rattle.congee_tree.proofs.RemoveLaws.{ready_take, was_present, take_out}
+use Rattle.congee_tree.proofs.ChargeLaws.{gone_counted, remove_counted}
+use Rattle.congee_tree.proofs.RemoveLaws.{ready_take, was_present, take_out, shrinks_shape}
 use Rattle.congee_tree.proofs.CountLaws.{count_same, count_less}
 use Rattle.congee_tree.proofs.computation.compute_if_present.Goals as goal
 
@@ -17,8 +18,14 @@ f-requires g c =
 pub change_child-requires : goal.change_child-requires
 change_child-requires g c = ready_change _ _ _ _ c.descend-slot.ensures.arrives _ _ _ c.in-Present.is
 
-pub take_out-requires : goal.take_out-requires
-take_out-requires g c = ready_take _ _ _ (AreBytes-from_items _ (λ k l. c.fits-key k)) c.told-key _ c.descend-slot.ensures.arrives _ _ c.in-Present.is c.requires.root
+pub take_out-before-requires : goal.take_out-before-requires
+take_out-before-requires g c = ready_take _ _ _ (AreBytes-from_items _ (λ k l. c.fits-key k)) c.told-key _ c.descend-slot.ensures.arrives _ _ c.in-Present.is c.requires.root
+
+pub give_back_if_some-requires : goal.give_back_if_some-requires
+give_back_if_some-requires g c =
+    let bytes = AreBytes-from_items _ (λ k l. c.fits-key k) in
+    let x = take_out _ _ _ bytes c.told-key _ c.descend-slot.ensures.arrives _ _ c.in-Present.is c.requires.root _ _ c.take_out-before.ensures.taken in
+    gone_counted _ _ _ _ bytes c.told-key c.args.supply.now.forms c.requires.counts _ x.0
 
 pub returns-in-Payload : goal.returns-in-Payload
 returns-in-Payload g c =
@@ -39,6 +46,8 @@ returns-in-Payload g c =
       present = λ standing is.
           let both : Some c.in-Present.standing.now ≡ Some standing = sym found ∙ is in
           (Some c.in-Some.payload, record { shown = c.in-Present.standing; shows = (cc); called = c.in-Some.ensures }, x.1, shape);
+      counts = rw shape c.requires.counts;
+      alike = refl;
       count = omega (arith, same);
       reads = omega (arith, l, c.descend-slot.ensures.reads);
       few = path_short _ _ _ bytes c.told-key _ a;
@@ -49,8 +58,8 @@ returns-in-None g c =
     let bytes = AreBytes-from_items _ (λ k l. c.fits-key k) in
     let a = c.descend-slot.ensures.arrives in
     let found = lookup_present _ _ _ bytes c.told-key _ a _ _ c.in-Present.is in
-    let was = was_present _ _ _ bytes c.told-key _ a _ _ c.in-Present.is _ c.take_out.ensures.before in
-    let x = take_out _ _ _ bytes c.told-key _ a _ _ c.in-Present.is c.requires.root _ c.take_out.ensures.taken in
+    let was = was_present _ _ _ bytes c.told-key _ a _ _ c.in-Present.is _ c.take_out-before.ensures.before in
+    let x = take_out _ _ _ bytes c.told-key _ a _ _ c.in-Present.is c.requires.root _ _ c.take_out-before.ensures.taken in
     let less = count_less _ _ c.requires.tree _ _ (sym was) _ refl _ x.0.pairs refl in
     let l = path_length _ _ _ bytes c.told-key _ a in
     record {
@@ -60,7 +69,9 @@ returns-in-None g c =
       absent = λ none. absurd (let clash = sym found ∙ none in cc);
       present = λ standing is.
           let both : Some c.in-Present.standing.now ≡ Some standing = sym found ∙ is in
-          (None, record { shown = c.in-Present.standing; shows = (cc); called = c.in-None.ensures }, x.0.pairs, x.0.shape);
+          (None, record { shown = c.in-Present.standing; shows = (cc); called = c.in-None.ensures }, x.0.pairs, shrinks_shape _ _ _ _ bytes c.told-key _ x.0.nodes);
+      counts = remove_counted _ _ _ _ bytes c.told-key c.args.supply.now.forms c.requires.counts _ _ x.0 c.give_back_if_some.ensures.forms;
+      alike = c.give_back_if_some.ensures.alike;
       count = omega (arith, less);
       reads = omega (arith, l, c.descend-slot.ensures.reads);
       few = path_short _ _ _ bytes c.told-key _ a;
@@ -76,8 +87,10 @@ returns-in_default g c =
       tree = c.requires.tree;
       root = c.requires.root;
       before = sym none;
-      absent = λ e. (refl, refl);
+      absent = λ e. (refl, refl, refl);
       present = λ standing is. absurd (let clash = sym none ∙ is in cc);
+      counts = c.requires.counts;
+      alike = refl;
       count = omega arith;
       reads = omega (arith, l, c.descend-slot.ensures.reads);
       few = path_short _ _ _ bytes c.told-key _ a;

@@ -1,18 +1,23 @@
 use Rattle.std.proofs.Common.{arith, refl, sym, ◌∙◌}
 use Rattle.std.proofs.lemmas.Result.{err_from_is_err_and}
 use Rattle.congee_nodes.proofs.KeyLaws.{AreBytes-from_items}
+use Rattle.congee_tree.proofs.ChargeLaws.{end_counted, add_counted, split_counted}
 use Rattle.congee_tree.proofs.InsertLaws.{ready_change}
 use Rattle.congee_tree.proofs.PathLaws.{path_length, path_short}
 use Rattle.congee_tree.proofs.RefusalLaws.{needs_node-absent, needs_node-differs}
 use Rattle.congee_tree.proofs.WayLaws.{lookup_present}
-use Rattle.congee_tree.proofs.WholeLaws.{change_inserts, add_inserts, split_inserts, is_there, has_room, is_parted, parts_high, none_absent, none_differs}
+use Rattle.congee_tree.proofs.WeightLaws.{few_counted}
+use Rattle.congee_tree.proofs.WholeLaws.{change_inserts, add_inserts, split_inserts, has_room, is_parted, parts_high, none_absent, none_differs}
 use Rattle.congee_tree.proofs.insertion.compute_or_insert.Goals as goal
 
 pub change_child-requires : goal.change_child-requires
 change_child-requires g c = ready_change _ _ _ _ c.descend-slot.ensures.arrives _ _ c.f-answer.result c.in-Present.is
 
 pub ready_to_add-requires : goal.ready_to_add-requires
-ready_to_add-requires g c = is_there c.args.nodes.now.slots c.args.root c.args.key.now _ c.descend-slot.ensures.arrives
+ready_to_add-requires g c = record {
+  counted = end_counted c.args.nodes.now.slots c.args.root c.args.key.now _ c.descend-slot.ensures.arrives c.args.supply.now.forms c.requires.counts;
+  few = few_counted c.args.nodes.now.slots c.args.root c.args.supply.now.forms c.requires.tree c.requires.counts;
+}
 
 pub add-requires : goal.add-requires
 add-requires g c =
@@ -20,11 +25,14 @@ add-requires g c =
     record { room = has_room c.args.nodes.now.slots c.args.root c.args.key.now _ c.descend-slot.ensures.arrives _ _ c.in-Absent.is e.room; leaf = e.leaf; reserved = e.reserved }
 
 pub ready_to_split-requires : goal.ready_to_split-requires
-ready_to_split-requires g c = parts_high c.args.nodes.now.slots c.args.root c.args.key.now _ c.descend-slot.ensures.arrives _ c.in-Differs.is
+ready_to_split-requires g c = record {
+  prefix = parts_high c.args.nodes.now.slots c.args.root c.args.key.now _ c.descend-slot.ensures.arrives _ c.in-Differs.is;
+  few = few_counted c.args.nodes.now.slots c.args.root c.args.supply.now.forms c.requires.tree c.requires.counts;
+}
 
 pub split-requires : goal.split-requires
 split-requires g c =
-    let e = c.in_ok-parts-in-Differs.ensures in
+    let e = c.in_ok-made-in-Differs.ensures in
     record { parted = is_parted c.args.nodes.now.slots c.args.root c.args.key.now _ c.descend-slot.ensures.arrives _ _ c.in-Differs.is e.slots; parts = e.parts; reserved = e.reserved }
 
 pub returns-in-Payload : goal.returns-in-Payload
@@ -41,6 +49,8 @@ returns-in-Payload g c =
       ok = (c.f-answer.result, record { shown = _; shows = c.shown.ensures ∙ sym (lookup_present _ _ _ bytes c.told-key _ a _ _ c.in-Present.is); called = c.f-answer.ensures }, x.pairs);
       err = tt;
       not_called = tt;
+      counts = rw x.shape c.requires.counts;
+      alike = refl;
       shape = x.shape;
       reads = omega (arith, l, c.descend-slot.ensures.reads);
       few = path_short _ _ _ bytes c.told-key _ a;
@@ -52,26 +62,28 @@ returns-in_ok-leaf-in-Absent g c =
     let bytes = (AreBytes-from_items _ (λ k l. c.fits-key k)) in
     let a = c.descend-slot.ensures.arrives in
     let e = c.in_ok-leaf-in-Absent.ensures in
-    let x = add_inserts c.args.nodes.now.slots c.args.root c.args.key.now bytes c.told-key c.requires.root _ a c.ready_to_add.new.nodes.slots c.add.new.nodes.slots c.f-answer-in-Absent.result _ c.in-Absent.is e.keeps e.room c.add.ensures in
+    let x = add_inserts c.args.nodes.now.slots c.args.root c.args.key.now bytes c.told-key c.requires.root _ a c.ready_to_add.new.nodes.slots c.add.new.nodes.slots c.f-payload.result _ c.in-Absent.is e.keeps e.room c.add.ensures in
     let l = path_length _ _ _ bytes c.told-key _ a in
     record {
       tree = x.tree;
       root = x.root_stays;
       before = x.was;
-      ok = (c.f-answer-in-Absent.result, record { shown = _; shows = c.nothing.ensures ∙ sym (none_absent c.args.nodes.now.slots c.args.root c.args.key.now bytes c.told-key c.requires.root _ a _ c.in-Absent.is); called = c.f-answer-in-Absent.ensures }, x.pairs);
+      ok = (c.f-payload.result, record { shown = _; shows = c.nothing.ensures ∙ sym (none_absent c.args.nodes.now.slots c.args.root c.args.key.now bytes c.told-key c.requires.root _ a _ c.in-Absent.is); called = c.f-payload.ensures }, x.pairs);
       err = tt;
       not_called = tt;
+      counts = add_counted c.args.nodes.now.slots c.args.root c.args.key.now _ a c.args.supply.now.forms c.requires.counts bytes c.told-key c.add.new.nodes.slots c.f-payload.result c.ready_to_add.new.nodes.slots _ _ _ c.in-Absent.is e.keeps e.room c.add.ensures e.leaf e.grown;
+      alike = e.alike;
       shape = x.shape;
       reads = omega (arith, l, c.descend-slot.ensures.reads);
       few = path_short _ _ _ bytes c.told-key _ a;
       refused = tt;
     }
 
-pub returns-in_ok-parts-in-Differs : goal.returns-in_ok-parts-in-Differs
-returns-in_ok-parts-in-Differs g c =
+pub returns-in_ok-made-in-Differs : goal.returns-in_ok-made-in-Differs
+returns-in_ok-made-in-Differs g c =
     let bytes = (AreBytes-from_items _ (λ k l. c.fits-key k)) in
     let a = c.descend-slot.ensures.arrives in
-    let e = c.in_ok-parts-in-Differs.ensures in
+    let e = c.in_ok-made-in-Differs.ensures in
     let x = split_inserts c.args.nodes.now.slots c.args.root c.args.key.now bytes c.told-key c.requires.root _ a c.ready_to_split.new.nodes.slots c.split.new.nodes.slots c.f-answer-in-Differs.result _ c.in-Differs.is e.slots c.split.ensures in
     let l = path_length _ _ _ bytes c.told-key _ a in
     record {
@@ -81,6 +93,8 @@ returns-in_ok-parts-in-Differs g c =
       ok = (c.f-answer-in-Differs.result, record { shown = _; shows = c.nothing-in-Differs.ensures ∙ sym (none_differs c.args.nodes.now.slots c.args.root c.args.key.now bytes c.told-key c.requires.root _ a _ c.in-Differs.is); called = c.f-answer-in-Differs.ensures }, x.pairs);
       err = tt;
       not_called = tt;
+      counts = split_counted c.args.nodes.now.slots c.args.root c.args.key.now _ a c.args.supply.now.forms c.requires.counts bytes c.told-key c.split.new.nodes.slots c.f-answer-in-Differs.result c.ready_to_split.new.nodes.slots _ _ c.in-Differs.is e.slots c.split.ensures e.more;
+      alike = e.alike;
       shape = x.shape;
       reads = omega (arith, l, c.descend-slot.ensures.reads);
       few = path_short _ _ _ bytes c.told-key _ a;
@@ -101,19 +115,21 @@ returns-in_err-leaf-in-Absent g c =
       ok = rw p.1 tt;
       err = rw p.1 same;
       not_called = rw p.1 refl;
+      counts = rw (same, c.in_err-leaf-in-Absent.ensures.same) c.requires.counts;
+      alike = c.in_err-leaf-in-Absent.ensures.alike;
       shape = rw p.1 tt;
       reads = omega (arith, l, c.descend-slot.ensures.reads);
       few = path_short _ _ _ bytes c.told-key _ a;
       refused = rw p.1 (needs_node-absent _ _ _ bytes c.told-key _ a _ c.in-Absent.is c.in_err-leaf-in-Absent.ensures.refused);
     }
 
-pub returns-in_err-parts-in-Differs : goal.returns-in_err-parts-in-Differs
-returns-in_err-parts-in-Differs g c =
+pub returns-in_err-made-in-Differs : goal.returns-in_err-made-in-Differs
+returns-in_err-made-in-Differs g c =
     let bytes = (AreBytes-from_items _ (λ k l. c.fits-key k)) in
     let a = c.descend-slot.ensures.arrives in
     let l = path_length _ _ _ bytes c.told-key _ a in
-    let same = c.in_err-parts-in-Differs.ensures.slots in
-    let p = err_from_is_err_and c.from_residual-in_err-parts-in-Differs.result c.from_residual-in_err-parts-in-Differs.ensures.1 in
+    let same = c.in_err-made-in-Differs.ensures.slots in
+    let p = err_from_is_err_and c.from_residual-in_err-made-in-Differs.result c.from_residual-in_err-made-in-Differs.ensures.1 in
     record {
       tree = rw same c.requires.tree;
       root = rw same c.requires.root;
@@ -121,6 +137,8 @@ returns-in_err-parts-in-Differs g c =
       ok = rw p.1 tt;
       err = rw p.1 same;
       not_called = rw p.1 refl;
+      counts = rw (same, c.in_err-made-in-Differs.ensures.same) c.requires.counts;
+      alike = c.in_err-made-in-Differs.ensures.alike;
       shape = rw p.1 tt;
       reads = omega (arith, l, c.descend-slot.ensures.reads);
       few = path_short _ _ _ bytes c.told-key _ a;
@@ -130,8 +148,8 @@ returns-in_err-parts-in-Differs g c =
 pub f-answer-requires : goal.f-answer-requires
 f-answer-requires g c = c.requires.call _ (c.shown.ensures ∙ sym (lookup_present _ _ _ (AreBytes-from_items _ (λ k l. c.fits-key k)) c.told-key _ c.descend-slot.ensures.arrives _ _ c.in-Present.is))
 
-pub f-answer-requires-in-Absent : goal.f-answer-requires-in-Absent
-f-answer-requires-in-Absent g c = c.requires.call _ (c.nothing.ensures ∙ sym (none_absent c.args.nodes.now.slots c.args.root c.args.key.now (AreBytes-from_items _ (λ k l. c.fits-key k)) c.told-key c.requires.root _ c.descend-slot.ensures.arrives _ c.in-Absent.is))
+pub f-payload-requires : goal.f-payload-requires
+f-payload-requires g c = c.requires.call _ (c.nothing.ensures ∙ sym (none_absent c.args.nodes.now.slots c.args.root c.args.key.now (AreBytes-from_items _ (λ k l. c.fits-key k)) c.told-key c.requires.root _ c.descend-slot.ensures.arrives _ c.in-Absent.is))
 
 pub f-answer-requires-in-Differs : goal.f-answer-requires-in-Differs
 f-answer-requires-in-Differs g c = c.requires.call _ (c.nothing-in-Differs.ensures ∙ sym (none_differs c.args.nodes.now.slots c.args.root c.args.key.now (AreBytes-from_items _ (λ k l. c.fits-key k)) c.told-key c.requires.root _ c.descend-slot.ensures.arrives _ c.in-Differs.is))

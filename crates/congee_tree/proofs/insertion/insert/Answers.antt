@@ -1,17 +1,22 @@
-use Rattle.std.proofs.Common.{arith}
+use Rattle.std.proofs.Common.{arith, refl}
 use Rattle.std.proofs.lemmas.Result.{err_from_is_err_and}
 use Rattle.congee_nodes.proofs.KeyLaws.{AreBytes-from_items}
+use Rattle.congee_tree.proofs.ChargeLaws.{end_counted, add_counted, split_counted}
 use Rattle.congee_tree.proofs.InsertLaws.{ready_change}
 use Rattle.congee_tree.proofs.PathLaws.{path_length, path_short}
 use Rattle.congee_tree.proofs.RefusalLaws.{needs_node-absent, needs_node-differs}
-use Rattle.congee_tree.proofs.WholeLaws.{change_inserts, add_inserts, split_inserts, is_there, has_room, is_parted, parts_high}
+use Rattle.congee_tree.proofs.WeightLaws.{few_counted}
+use Rattle.congee_tree.proofs.WholeLaws.{change_inserts, add_inserts, split_inserts, has_room, is_parted, parts_high}
 use Rattle.congee_tree.proofs.insertion.insert.Goals as goal
 
 pub change_child-requires : goal.change_child-requires
 change_child-requires g c = ready_change _ _ _ _ c.descend-slot.ensures.arrives _ _ c.args.payload c.in-Present.is
 
 pub ready_to_add-requires : goal.ready_to_add-requires
-ready_to_add-requires g c = is_there c.args.nodes.now.slots c.args.root c.args.key.now _ c.descend-slot.ensures.arrives
+ready_to_add-requires g c = record {
+  counted = end_counted c.args.nodes.now.slots c.args.root c.args.key.now _ c.descend-slot.ensures.arrives c.args.supply.now.forms c.requires.counts;
+  few = few_counted c.args.nodes.now.slots c.args.root c.args.supply.now.forms c.requires.tree c.requires.counts;
+}
 
 pub add-requires : goal.add-requires
 add-requires g c =
@@ -19,7 +24,10 @@ add-requires g c =
     record { room = has_room c.args.nodes.now.slots c.args.root c.args.key.now _ c.descend-slot.ensures.arrives _ _ c.in-Absent.is e.room; leaf = e.leaf; reserved = e.reserved }
 
 pub ready_to_split-requires : goal.ready_to_split-requires
-ready_to_split-requires g c = parts_high c.args.nodes.now.slots c.args.root c.args.key.now _ c.descend-slot.ensures.arrives _ c.in-Differs.is
+ready_to_split-requires g c = record {
+  prefix = parts_high c.args.nodes.now.slots c.args.root c.args.key.now _ c.descend-slot.ensures.arrives _ c.in-Differs.is;
+  few = few_counted c.args.nodes.now.slots c.args.root c.args.supply.now.forms c.requires.tree c.requires.counts;
+}
 
 pub split-requires : goal.split-requires
 split-requires g c =
@@ -39,6 +47,8 @@ returns-in-Payload g c =
       before = x.was;
       ok = x.pairs;
       err = tt;
+      counts = rw x.shape c.requires.counts;
+      alike = refl;
       shape = x.shape;
       reads = omega (arith, l, c.descend-slot.ensures.reads);
       few = path_short _ _ _ bytes c.told-key _ a;
@@ -58,6 +68,8 @@ returns-in_ok-leaf-in-Absent g c =
       before = x.was;
       ok = x.pairs;
       err = tt;
+      counts = add_counted c.args.nodes.now.slots c.args.root c.args.key.now _ a c.args.supply.now.forms c.requires.counts bytes c.told-key c.add.new.nodes.slots c.args.payload c.ready_to_add.new.nodes.slots _ _ _ c.in-Absent.is e.keeps e.room c.add.ensures e.leaf e.grown;
+      alike = e.alike;
       shape = x.shape;
       reads = omega (arith, l, c.descend-slot.ensures.reads);
       few = path_short _ _ _ bytes c.told-key _ a;
@@ -77,6 +89,8 @@ returns-in_ok-parts-in-Differs g c =
       before = x.was;
       ok = x.pairs;
       err = tt;
+      counts = split_counted c.args.nodes.now.slots c.args.root c.args.key.now _ a c.args.supply.now.forms c.requires.counts bytes c.told-key c.split.new.nodes.slots c.args.payload c.ready_to_split.new.nodes.slots _ _ c.in-Differs.is e.slots c.split.ensures e.more;
+      alike = e.alike;
       shape = x.shape;
       reads = omega (arith, l, c.descend-slot.ensures.reads);
       few = path_short _ _ _ bytes c.told-key _ a;
@@ -96,6 +110,8 @@ returns-in_err-leaf-in-Absent g c =
       before = rw p.1 tt;
       ok = rw p.1 tt;
       err = rw p.1 same;
+      counts = rw (same, c.in_err-leaf-in-Absent.ensures.same) c.requires.counts;
+      alike = c.in_err-leaf-in-Absent.ensures.alike;
       shape = rw p.1 tt;
       reads = omega (arith, l, c.descend-slot.ensures.reads);
       few = path_short _ _ _ bytes c.told-key _ a;
@@ -115,6 +131,8 @@ returns-in_err-parts-in-Differs g c =
       before = rw p.1 tt;
       ok = rw p.1 tt;
       err = rw p.1 same;
+      counts = rw (same, c.in_err-parts-in-Differs.ensures.same) c.requires.counts;
+      alike = c.in_err-parts-in-Differs.ensures.alike;
       shape = rw p.1 tt;
       reads = omega (arith, l, c.descend-slot.ensures.reads);
       few = path_short _ _ _ bytes c.told-key _ a;

@@ -11,7 +11,7 @@ returns-in_ok-grow-clause-ok g c = λ n here.
     let is : c.in-Some.node.now ≡ n = cc in
     let e = c.in_ok-grow.ensures in
     let full : Fits n.form (length n.children + 1) → ⊥ = rw is at (c.if-is_full.ensures.full refl) in
-    (c.grow.new.self, get_or-set_same _ _ _ _ (in_range c.args.nodes.now.slots c.args.slot n here), rw (e.ok, is) refl, rw (e.ok, is) refl, e.room, rw (e.ok, is) (sym (grown_full n.form (length n.children) full)))
+    (c.grow.new.node, get_or-set_same _ _ _ _ (in_range c.args.nodes.now.slots c.args.slot n here), rw (e.ok, is) refl, rw (e.ok, is) refl, e.fits, rw (e.ok, is) (sym (grown_full n.form (length n.children) full)))
 
 pub returns-else-is_full-clause-ok : goal.returns-else-is_full-clause-ok
 returns-else-is_full-clause-ok g c = λ n here.

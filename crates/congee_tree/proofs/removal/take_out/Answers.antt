@@ -1,4 +1,4 @@
-use Rattle.std.proofs.Common.{◌≡◌, ◌∙◌, sym, Some, refl, inl, inr, arith}
+use Rattle.std.proofs.Common.{◌≡◌, ◌∙◌, sym, Some, refl}
 use Rattle.congee_nodes.specs.declared.child.Child.TheVariants.{Payload, Node}
 use Rattle.congee_tree.proofs.RemoveLaws.{linked_after}
 use Rattle.congee_tree.proofs.removal.take_out.Goals as goal
@@ -14,23 +14,3 @@ unreachable-requires g c =
     let x = c.requires in
     let e : Some (Payload x.value) ≡ Some (Node c.in-Node.field-0) = sym x.has ∙ c.in-Node.ensures.before x.leaf x.leaf_here in
     cc
-
-pub returns-then-value_count-eq0-clause-taken : goal.returns-then-value_count-eq0-clause-taken
-returns-then-value_count-eq0-clause-taken g c = record {
-  between = c.take_child.new.nodes.slots;
-  keeps = c.take_child.ensures.keeps;
-  takes = c.take_child.ensures.taken;
-  left = c.in-Some.leaf.now;
-  left_there = sym c.in-Some.ensures;
-  rest = inr (omega (arith, c.base.ensures.count, c.value_count.ensures, c.if-value_count-eq0.true), c.detach.ensures.keeps, c.detach.ensures.taken, c.detach.ensures.gives_back);
-}
-
-pub returns-else-value_count-eq0-clause-taken : goal.returns-else-value_count-eq0-clause-taken
-returns-else-value_count-eq0-clause-taken g c = record {
-  between = c.take_child.new.nodes.slots;
-  keeps = c.take_child.ensures.keeps;
-  takes = c.take_child.ensures.taken;
-  left = c.in-Some.leaf.now;
-  left_there = sym c.in-Some.ensures;
-  rest = inl (λ none. c.if-value_count-eq0.false (c.value_count.ensures ∙ c.base.ensures.count ∙ none), refl);
-}

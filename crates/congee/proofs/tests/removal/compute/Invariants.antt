@@ -1,4 +1,4 @@
 use Rattle.congee.proofs.tests.removal.compute.Given as goal
 
-abbrev pub ghosts-compute_counted : goal.ghosts-compute_counted
-ghosts-compute_counted a = record { name = a.blank.name; parts = a.blank.parts }
+abbrev pub ghosts-compute_if_present : goal.ghosts-compute_if_present
+ghosts-compute_if_present a = record { name = a.blank.name; parts = a.blank.parts }

@@ -1,4 +1,4 @@
-use Rattle.std.proofs.Common.{rules, ◌≡◌, Some, None, slice_index_or, ap, sym, subst, ◌∙◌}
+use Rattle.std.proofs.Common.{rules, ◌≡◌, Some, None, slice_index_or, ap, subst}
 use Rattle.congee_olc.specs.Epoch.{entry_at}
 use Rattle.congee_olc.specs.World.{node_of}
 use Rattle.congee_olc.specs.Found.{IsFound}
@@ -6,19 +6,19 @@ use Rattle.congee_olc.specs.declared.olc.reading.Found.{Found}
 use Rattle.congee_olc.proofs.Reading.{check_restarts, check_goes_down, check_nothing, check_payload, check_known, check_remembers, test_false}
 use Rattle.congee_olc.proofs.olc.reading.check.Goals as goal
 
-pub returns-then-not-matches : goal.returns-then-not-matches
-returns-then-not-matches g c env =
+pub returns-then-not-stands : goal.returns-then-not-stands
+returns-then-not-stands g c env =
     let at : slice_index_or c.args.nodes.now.slots c.args.path.here.slot None ≡ Some c.in-Some.node.now = search rules in
     let there = ap (node_of (entry_at c.args.pins.now.slots c.args.path.here.slot)) at in
     rw (c.going.ensures, c.restarted.ensures, c.report-report.ensures)
     (check_restarts g.P.Payload.alike g.P.Payload.tells_same _ c.args.root c.args.pin c.args.call c.requires.placed c.requires.facts env c.args.path.here.slot c.args.path.here.word _ (check_known g.P.Payload.alike g.P.Payload.tells_same _ c.args.root c.args.pin c.args.call c.requires.placed c.requires.facts c.args.path c.requires.stage) (check_remembers g.P.Payload.alike g.P.Payload.tells_same _ c.args.root c.args.pin c.args.call c.requires.placed c.requires.facts c.args.path c.requires.stage) there
-    (λ (e : c.in-Some.node.now.word ≡ c.args.path.here.word). test_false c.matches.result (search rules) (c.matches.ensures.1 (e ∙ sym c.from_number.ensures))))
+    (λ (e : c.in-Some.node.now.word ≡ c.args.path.here.word). test_false c.stands.result (search rules) (c.stands.ensures.1 e)))
 
 pub returns-in-Nothing : goal.returns-in-Nothing
 returns-in-Nothing g c env =
     let at : slice_index_or c.args.nodes.now.slots c.args.path.here.slot None ≡ Some c.in-Some.node.now = search rules in
     let there = ap (node_of (entry_at c.args.pins.now.slots c.args.path.here.slot)) at in
-    let word : c.in-Some.node.now.word ≡ c.args.path.here.word = c.matches.ensures.0 (search rules) ∙ c.from_number.ensures in
+    let word : c.in-Some.node.now.word ≡ c.args.path.here.word = c.stands.ensures.0 (search rules) in
     let told = subst (λ (f : Found). IsFound c.args.call.last f) c.in-Nothing.is c.told.ensures in
     rw (c.decided.ensures, c.ended.ensures.call, c.report-report-2.ensures)
     (check_nothing g.P.Payload.alike g.P.Payload.tells_same _ c.args.root c.args.pin c.args.call c.requires.placed c.requires.facts env c.args.path _ there word c.requires.stage told)
@@ -27,7 +27,7 @@ pub returns-in-Payload : goal.returns-in-Payload
 returns-in-Payload g c env =
     let at : slice_index_or c.args.nodes.now.slots c.args.path.here.slot None ≡ Some c.in-Some.node.now = search rules in
     let there = ap (node_of (entry_at c.args.pins.now.slots c.args.path.here.slot)) at in
-    let word : c.in-Some.node.now.word ≡ c.args.path.here.word = c.matches.ensures.0 (search rules) ∙ c.from_number.ensures in
+    let word : c.in-Some.node.now.word ≡ c.args.path.here.word = c.stands.ensures.0 (search rules) in
     let told = subst (λ (f : Found). IsFound c.args.call.last f) c.in-Payload.is c.told.ensures in
     rw (c.decided-in-Payload.ensures, c.ended-call.ensures.call, c.ended-call.ensures.spare, c.report-report-2.ensures)
     (check_payload g.P.Payload.alike g.P.Payload.tells_same _ c.args.root c.args.pin c.args.call c.requires.placed c.requires.facts env c.args.path _ there word c.requires.stage told.0 told.1 told.2 told.3)
@@ -36,7 +36,7 @@ pub returns-in-Node : goal.returns-in-Node
 returns-in-Node g c env =
     let at : slice_index_or c.args.nodes.now.slots c.args.path.here.slot None ≡ Some c.in-Some.node.now = search rules in
     let there = ap (node_of (entry_at c.args.pins.now.slots c.args.path.here.slot)) at in
-    let word : c.in-Some.node.now.word ≡ c.args.path.here.word = c.matches.ensures.0 (search rules) ∙ c.from_number.ensures in
+    let word : c.in-Some.node.now.word ≡ c.args.path.here.word = c.stands.ensures.0 (search rules) in
     let told = subst (λ (f : Found). IsFound c.args.call.last f) c.in-Node.is c.told.ensures in
     rw (c.going-in-Node.ensures, c.moved.ensures, c.report-report-2.ensures)
     (check_goes_down g.P.Payload.alike g.P.Payload.tells_same _ c.args.root c.args.pin c.args.call c.requires.placed c.requires.facts env c.args.path _ there word c.in-Node.slot c.requires.stage (record { seen = told.0; is = told.1; child = told.2 }))

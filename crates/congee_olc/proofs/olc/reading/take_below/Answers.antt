@@ -3,7 +3,7 @@ use Rattle.congee_olc.specs.Epoch.{entry_at}
 use Rattle.congee_nodes.specs.Key.{Begins}
 use Rattle.congee_olc.specs.World.{node_of, bytes_of}
 use Rattle.congee_olc.specs.Lock.{IsFree}
-use Rattle.congee_olc.proofs.Reading.{below_ok, take_restarts, below_known, test_false}
+use Rattle.congee_olc.proofs.Reading.{below_ok, below_restarts, test_false}
 use Rattle.congee_olc.proofs.olc.reading.take_below.Goals as goal
 
 pub returns-then-is_free : goal.returns-then-is_free
@@ -20,5 +20,5 @@ returns-else-is_free g c env =
     let at : slice_index_or c.args.nodes.now.slots c.args.slot None ≡ Some c.in-Some.node.now = search rules in
     let there = ap (node_of (entry_at c.args.pins.now.slots c.args.slot)) at in
     rw (c.going-else-is_free.ensures, c.restarted.ensures, c.report-report-else-is_free.ensures, c.number-else-is_free.ensures)
-    (take_restarts g.P.Payload.alike g.P.Payload.tells_same _ c.args.root c.args.pin c.args.call c.requires.placed c.requires.facts env c.args.slot _ (below_known g.P.Payload.alike g.P.Payload.tells_same _ c.args.root c.args.pin c.args.call c.requires.placed c.requires.facts c.args.path c.args.slot c.requires.stage) there
+    (below_restarts g.P.Payload.alike g.P.Payload.tells_same _ c.args.root c.args.pin c.args.call c.requires.placed c.requires.facts env c.args.path c.args.slot _ c.requires.stage there
     (λ (f : IsFree c.in-Some.node.now.word). test_false _ c.if-is_free.false (c.is_free.ensures.1 f)))

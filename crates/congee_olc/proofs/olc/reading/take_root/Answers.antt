@@ -2,7 +2,7 @@ use Rattle.std.proofs.Common.{rules, ◌≡◌, Some, None, slice_index_or, ap}
 use Rattle.congee_olc.specs.Epoch.{entry_at}
 use Rattle.congee_olc.specs.World.{node_of}
 use Rattle.congee_olc.specs.Lock.{IsFree}
-use Rattle.congee_olc.proofs.Reading.{root_ok, take_restarts, test_false, root_known}
+use Rattle.congee_olc.proofs.Reading.{root_ok, root_restarts, test_false}
 use Rattle.congee_olc.proofs.olc.reading.take_root.Goals as goal
 
 pub returns-then-is_free : goal.returns-then-is_free
@@ -18,6 +18,5 @@ returns-else-is_free g c env =
     let at : slice_index_or c.args.nodes.now.slots c.args.root None ≡ Some c.in-Some.node.now = search rules in
     let there = ap (node_of (entry_at c.args.pins.now.slots c.args.root)) at in
     rw (c.going-else-is_free.ensures, c.restarted.ensures, c.report-report-else-is_free.ensures, c.number-else-is_free.ensures)
-    (take_restarts g.P.Payload.alike g.P.Payload.tells_same _ c.args.root c.args.pin c.args.call c.requires.placed c.requires.facts env c.args.root _
-    (root_known g.P.Payload.alike g.P.Payload.tells_same _ c.args.root c.args.pin c.args.call c.requires.placed c.requires.facts c.requires.stage) there
+    (root_restarts g.P.Payload.alike g.P.Payload.tells_same _ c.args.root c.args.pin c.args.call c.requires.placed c.requires.facts env _ c.requires.stage there
     (λ (f : IsFree c.in-Some.node.now.word). test_false _ c.if-is_free.false (c.is_free.ensures.1 f)))

@@ -1,0 +1,108 @@
+-- When a call is in flight, and that an event says so.
+use Rattle.std.proofs.Common.{◌≡◌, ℕ, Bool, true, false, IsTrue, ◌↔◌, Option, Some, None, IsSome, inl, inr, refl, sym, subst, ap, ◌∙◌}
+use Rattle.congee_olc.specs.Epoch.{entry_at, pin_of, is_seated}
+use Rattle.congee_olc.specs.World.{World, call_of}
+use Rattle.congee_olc.specs.Table.{View, view_of}
+use Rattle.congee_olc.specs.Flight.{Flight, flight, flight_in, flight_of, IsSameCall}
+use Rattle.congee_olc.specs.Event.{IsHanded, MaySay, CheckSays, DoesAs, Advances, IsStep}
+use Rattle.congee_olc.specs.Run.{seen_of}
+use Rattle.congee_olc.specs.Facts.{IsSound}
+use Rattle.congee_olc.specs.declared.olc.types.Op.{Op}
+use Rattle.congee_olc.specs.declared.olc.types.Env.{Env}
+use Rattle.congee_olc.specs.declared.olc.types.Kind.{Kind}
+use Rattle.congee_olc.specs.declared.olc.types.Kind.TheVariants as kind
+use Rattle.congee_olc.specs.declared.olc.types.Report.{Report}
+use Rattle.congee_olc.specs.declared.olc.types.Outcome.{Outcome}
+use Rattle.congee_olc.specs.declared.olc.types.Outcome.TheVariants.{Going, Refused, Done, Unknown}
+use Rattle.congee_olc.specs.declared.olc.stage.Record.{Record}
+use Rattle.congee_olc.proofs.Advancing.{flown}
+
+no_flight : (P : Type 0) → let n : Option (Flight P) = None in IsSome n → ⊥
+no_flight P h = cc
+
+no_entry : (P : Type 0) → let n : Option (Option (Record P)) = None in IsSome n → ⊥
+no_entry P h = cc
+
+pub never_both : false ≡ true → ⊥
+never_both e = cc
+
+module _ {P : Type 0} where
+  going_unknown : let g : Outcome P = Going in let u : Outcome P = Unknown in g ≡ u → ⊥
+  going_unknown e = cc
+
+  refused_unknown : let g : Outcome P = Refused in let u : Outcome P = Unknown in g ≡ u → ⊥
+  refused_unknown e = cc
+
+  done_unknown : let g : Outcome P = Done in let u : Outcome P = Unknown in g ≡ u → ⊥
+  done_unknown e = cc
+
+  flights_same : (x y : Flight P) → Some x ≡ Some y → x ≡ y
+  flights_same x y e = cc
+
+  pub none_flight : (x : Option (Flight P)) → (IsSome x → ⊥) → x ≡ None
+  none_flight None h = refl
+  none_flight (Some call) h = absurd (h refl)
+
+module _ {P : Type 0} (alike : P → P → Type 0) (same : P → P → Bool) where
+  check_known : (ok : Bool) (call : Flight P) (out : Outcome P) → CheckSays alike same ok call out → out ≡ Unknown → ⊥
+  check_known true call out h e = subst (λ (o : Outcome P). MaySay alike same call o) e h
+  check_known false call out h e = going_unknown (sym h ∙ e)
+
+  module _ (old new : View P) (call next : Flight P) (env : Env P) (report : Report) (out : Outcome P) (e : out ≡ Unknown) where
+    does_known : (k : Kind) → DoesAs alike same old new call next env report out k → ⊥
+    does_known kind.Start h = h
+    does_known kind.Take h = going_unknown (sym h.outcome ∙ e)
+    does_known kind.Check h = check_known report.ok call out h.outcome e
+    does_known kind.Read h = elim h.outcome [ inl x ↦ going_unknown (sym x ∙ e) | inr x ↦ refused_unknown (sym x ∙ e) ]
+    does_known kind.Upgrade h = going_unknown (sym h.outcome ∙ e)
+    does_known kind.Make h = elim h [ inl m ↦ going_unknown (sym m.outcome ∙ e) | inr m ↦ refused_unknown (sym m.outcome ∙ e) ]
+    does_known kind.Write h = subst (λ (o : Outcome P). MaySay alike same call o) e h.outcome
+    does_known kind.Obsolete h = going_unknown (sym h.outcome ∙ e)
+    does_known kind.Unlock h = going_unknown (sym h.outcome ∙ e)
+    does_known kind.Answer h = elim h.outcome [ inl x ↦ going_unknown (sym x ∙ e) | inr x ↦ refused_unknown (sym x ∙ e) ]
+    does_known kind.Finish h = h
+    does_known kind.Reclaim h = h
+
+  advances_known : (old new : View P) (call : Flight P) (next : Option (Flight P)) (env : Env P) (report : Report) (out : Outcome P)
+      → Advances alike same old new call next env report out → out ≡ Unknown → ⊥
+  advances_known old new call None env report out h e = done_unknown (sym h.outcome ∙ e)
+  advances_known old new call (Some next) env report out h e = does_known old new call next env report out e report.kind h.does
+
+  -- an event that is done is known
+  pub step_known : (old new : World P) (id : ℕ) (env : Env P) (report : Report) (out : Outcome P) → IsStep alike same old new id env report out → out ≡ Unknown → ⊥
+  step_known old new id env report out h e = advances_known (view_of old) (view_of new) h.call (flight_of new id) env report out h.event e
+
+module _ {P : Type 0} (alike : P → P → Type 0) (w : World P) (id : ℕ) (sound : IsSound alike w) where
+  -- a number without a call in flight has no record
+  unflown_at : (x : Option (Record P)) → call_of w id ≡ x → flight_of w id ≡ None → call_of w id ≡ None
+  unflown_at None e f = e
+  unflown_at (Some r) e f = absurd (no_flight P (subst (λ (x : Option (Flight P)). IsSome x) (sym (flown alike w id r sound e).1 ∙ f) refl))
+
+  pub unflown : flight_of w id ≡ None → call_of w id ≡ None
+  unflown f = unflown_at (call_of w id) refl f
+
+  -- a seated number has room for its record
+  pub has_room : is_seated w.pins id ≡ true → entry_at w.calls id ≡ None → ⊥
+  has_room seat none = no_entry P (subst (λ (x : Option (Option (Record P))). IsSome x) none (sound.seated id seat))
+
+  -- and one with a call in flight has one
+  recorded_at : (x : Option (Record P)) → call_of w id ≡ x → IsSome (flight_of w id) → IsSome x
+  recorded_at None e h = absurd (no_flight P (subst (λ (f : Option (Flight P)). IsSome f) (ap (λ x. flight_in x (pin_of w.pins id)) e) h))
+  recorded_at (Some r) e h = refl
+
+  pub recorded : IsSome (flight_of w id) → IsSome (call_of w id)
+  recorded h = recorded_at (call_of w id) refl h
+
+  module _ (r : Record P) (found : call_of w id ≡ Some r) where
+    pub in_flight : IsSome (flight_of w id)
+    in_flight = subst (λ (x : Option (Flight P)). IsSome x) (sym (flown alike w id r sound found).1) refl
+
+    pub last_seen : seen_of (flight_of w id) ≡ r.last
+    last_seen = ap seen_of (flown alike w id r sound found).1
+
+    pub handed : (op : Op P) (b : Bool) → (IsTrue b ↔ IsSameCall r.op op) → (IsTrue b ↔ IsHanded w id op)
+    handed op b h =
+        let f = flown alike w id r sound found in (
+          (λ (t : IsTrue b). record { call = flight f.0 r; in_flight = f.1; same = h.0 t }),
+          (λ (x : IsHanded w id op). h.1 (subst (λ (call : Flight P). IsSameCall call.op op) (flights_same x.call (flight f.0 r) (sym x.in_flight ∙ f.1)) x.same)),
+        )

@@ -1,0 +1,12 @@
+use Rattle.std.proofs.Common.{refl}
+use denote.Param.Always.{mut_next}
+use Rattle.congee_tree.proofs.tree.RawCongee.drain.Goals as goal
+
+pub loop-key-preserved : goal.loop-key-preserved
+loop-key-preserved g c = (
+  mut_next g.F.FnMut _ _ _ _ _ c.f.ensures refl c.loop-key.invariant.0,
+  λ last h. c.loop-key.invariant.1 last (rw c.in-Some.ensures.steps (c.f.new.self, c.f.ensures, h)),
+)
+
+pub returns : goal.returns
+returns g c = c.loop-key.invariant.1 c.loop-key.f (rw c.in_default.ensures.steps.0 refl)

@@ -1,0 +1,82 @@
+//! The pairs of a tree, taken out of it one by one.
+
+ghost use Rattle.std.specs.Prelude.{◌≡◌, ℕ, ◌<◌};
+ghost use Rattle.std.specs.Iterator.{YieldsFirst, item_count};
+ghost use Rattle.congee_nodes.specs.Map.{lookup, without, IsMap};
+
+use crate::reads::Reads;
+use crate::tree::RawCongee;
+use congee_nodes::allocator::Allocator;
+use congee_nodes::payload::Payload;
+use std::marker::{Brand, Model};
+use std::sync::ledger::{Blank, Ledger};
+
+/// The pairs of a tree by value, keys ascending, as numbers. Contracts see the list of those that are left.
+///
+/// A pair is taken out when it is asked for, and takes no memory. Each step reads two paths, since it goes on at the key
+/// after the last one and doesn't pass what is already emptied.
+#[derive(Drop)]
+pub struct IntoPairs<P: Payload, A: Allocator> {
+    tree: RawCongee<P, A>,
+    /// No key is below it.
+    from: u64,
+}
+
+impl<P: Payload, A: Allocator> Model for IntoPairs<P, A> {
+    ghost use Rattle.std.specs.Prelude.{◌^◌};
+    ghost use Rattle.std.specs.Coded.{coded×, coded_list, coded_ℕ};
+    ghost use Rattle.congee_nodes.specs.Map.{Pairs, Rises};
+
+    ghost Value = { Pairs P };
+
+    ghost coded = { coded_list (coded× coded_ℕ P.code) };
+
+    ghost view = { λ left. left.tree.pairs };
+
+    ghost invariant = { λ left. Rises left.from (2 ^ 64) left.tree.pairs };
+}
+
+impl<P: Payload, A: Allocator> IntoPairs<P, A> {
+    // All pairs of a tree.
+    pub(crate) fn new(tree: RawCongee<P, A>) -> Self
+        requires { IsMap tree.pairs }
+        ensures { result ≡ tree.pairs }
+    {
+        IntoPairs { tree, from: 0 }
+    }
+}
+
+impl<P: Payload, A: Allocator> Iterator for IntoPairs<P, A> {
+    type Item = (u64, P);
+
+    ghost next_gives = { YieldsFirst (λ left. left) };
+
+    ghost remaining = { item_count (λ left. left) };
+
+    fn next(&mut self) -> Option<(u64, P)> {
+        let Some(key) = self.tree.key_from(self.from) else {
+            return None;
+        };
+        let Some(payload) = take::<P, A, Brand>(&mut self.tree, key, Blank::new(1)) else {
+            unreachable!()
+        };
+        self.from = key.saturating_add(1);
+        Some((key, payload))
+    }
+}
+
+// Takes the pair at the key out, with a count of reads that nobody looks at.
+fn take<P: Payload, A: Allocator, L: Ledger>(
+    tree: &mut RawCongee<P, A>,
+    key: u64,
+    blank: Blank,
+) -> Option<P>
+    requires name { blank.name ≡ L.name }
+    requires parts { blank.parts ≡ L.parts }
+    requires some { 0 < blank.parts }
+    ensures before { result ≡ lookup tree.old.pairs key }
+    ensures pairs { tree.new.pairs ≡ without tree.old.pairs key }
+{
+    let mut reads = Reads::<L>::new(blank);
+    tree.remove(&key.to_be_bytes(), &mut reads)
+}
