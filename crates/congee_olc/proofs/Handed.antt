@@ -5,9 +5,10 @@ use Rattle.congee_olc.specs.World.{World, call_of}
 use Rattle.congee_olc.specs.Table.{View, view_of}
 use Rattle.congee_olc.specs.Flight.{Flight, flight, flight_in, flight_of, IsSameCall}
 use Rattle.congee_olc.specs.Event.{IsHanded, MaySay, CheckSays, DoesAs, Advances, IsStep}
-use Rattle.congee_olc.specs.Run.{seen_of}
+use Rattle.congee_olc.specs.Run.{IsServedOp, seen_of}
 use Rattle.congee_olc.specs.Facts.{IsSound}
 use Rattle.congee_olc.specs.declared.olc.types.Op.{Op}
+use Rattle.congee_olc.specs.declared.olc.types.Op.TheVariants.{Get, Insert, Remove, ComputeIfPresent, ComputeOrInsert, CompareExchange, Range}
 use Rattle.congee_olc.specs.declared.olc.types.Env.{Env}
 use Rattle.congee_olc.specs.declared.olc.types.Kind.{Kind}
 use Rattle.congee_olc.specs.declared.olc.types.Kind.TheVariants as kind
@@ -106,3 +107,21 @@ module _ {P : Type 0} (alike : P → P → Type 0) (w : World P) (id : ℕ) (sou
           (λ (t : IsTrue b). record { call = flight f.0 r; in_flight = f.1; same = h.0 t }),
           (λ (x : IsHanded w id op). h.1 (subst (λ (call : Flight P). IsSameCall call.op op) (flights_same x.call (flight f.0 r) (sym x.in_flight ∙ f.1)) x.same)),
         )
+
+-- the record of a Get in flight is one of a served call
+pub get_record : {P : Type 0} (alike : P → P → Type 0) (w : World P) (id : ℕ) (r : Record P) → IsSound alike w → call_of w id ≡ Some r → (call : Flight P) (key : ℕ) → flight_of w id ≡ Some call
+    → call.op ≡ Get key → IsServedOp r.op
+get_record {P} alike w id r sound found call key flies get =
+    let f = flown alike w id r sound found in
+    let is : r.op ≡ Get key = ap (λ (x : Flight P). x.op) (sym (flights_same call (flight f.0 r) (sym flies ∙ f.1))) ∙ get in
+    subst (λ (op : Op P). IsServedOp op) (sym is) tt
+
+-- a call of a Get's kind and key is that Get
+pub same_get : {P : Type 0} (call : Op P) (key : ℕ) → IsSameCall call (Get key) → call ≡ Get key
+same_get (Get k) key same = ap (λ k. Get k) (sym same)
+same_get (Insert k v) key same = absurd same
+same_get (Remove k) key same = absurd same
+same_get (ComputeIfPresent k) key same = absurd same
+same_get (ComputeOrInsert k v) key same = absurd same
+same_get (CompareExchange k v n) key same = absurd same
+same_get (Range a b n) key same = absurd same

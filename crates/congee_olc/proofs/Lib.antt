@@ -12,6 +12,14 @@ pub mod Contents
 pub mod Formed
 pub mod Rely
 pub mod OnePair
+pub mod Keeping
+pub mod Growing
+pub mod Sizes
+pub mod Rewording
+pub mod Attaching
+pub mod Linking
+pub mod Putting
+pub mod Quiet
 pub mod Roots
 pub mod Playing
 pub mod Alone
@@ -20,4 +28,6 @@ pub mod Orders
 pub mod Histories
 pub mod Single
 pub mod Happening
+pub mod Telling
+pub mod Finding
 pub mod Replaying

@@ -1,22 +1,19 @@
 -- From the events that were made one by one to the theorem on the whole run.
-use Rattle.std.proofs.Common.{◌≡◌, ℕ, List, [], ◌∷◌, Some, None, inl, inr, refl, sym, subst, ap, ◌∙◌}
+use Rattle.std.proofs.Common.{◌≡◌, ℕ, List, [], ◌∷◌, Some, None, inl, inr, refl, sym, subst, ◌∙◌}
 use Rattle.std.proofs.lemmas.Bool.Decides.{eqb_tells}
 use Rattle.congee_nodes.specs.Map.{Pairs, lookup}
 use Rattle.congee_nodes.specs.declared.child.Child.{Child}
 use Rattle.congee_nodes.specs.declared.child.Child.TheVariants.{Payload}
 use Rattle.congee_olc.specs.World.{World}
-use Rattle.congee_olc.specs.Table.{Shown, view_of, shown, Stands, IsContent}
+use Rattle.congee_olc.specs.Table.{Shown, view_of, Stands, IsContent}
 use Rattle.congee_olc.specs.Facts.{IsSound}
 use Rattle.congee_olc.specs.Run.{IsCopy, IsFresh, Entry, lines_of, decided_in, IsOrderly, idle, Runs, IsReplayed, IsHistory}
-use Rattle.congee_olc.specs.Played.{Leaves, Plays, SoFar, Told}
+use Rattle.congee_olc.specs.Played.{Plays, SoFar, Told}
 use Rattle.congee_olc.specs.declared.olc.types.Event.{Event}
-use Rattle.congee_olc.specs.declared.olc.types.Event.TheVariants.{Start, Step, Reclaim}
 use Rattle.congee_olc.specs.declared.olc.trace.Line.{Line}
-use Rattle.congee_olc.specs.declared.olc.trace.Line.TheVariants.{Done as Made, Skipped}
 use Rattle.congee_olc.specs.declared.olc.trace.Decision.{Decision}
 use Rattle.congee_olc.proofs.Handed.{unflown}
-use Rattle.congee_olc.proofs.Alone.{table_same, all_end, all_end_soon}
-use Rattle.congee_olc.proofs.Views.{same_content}
+use Rattle.congee_olc.proofs.Alone.{all_end, all_end_soon}
 use Rattle.congee_olc.proofs.Histories.{IsHistory-append}
 use Rattle.congee_olc.proofs.Orders.{orderly}
 use Rattle.congee_olc.proofs.Playing.{run_of}
@@ -85,19 +82,3 @@ replayed first last events lines decided content fresh sound so_far stands =
       ends = all_end first last so_far.entries sound so_far.plays;
       soon = all_end_soon first last so_far.entries sound so_far.plays;
     }
-
--- as long as no event writes, the content stays
-stays_at : (w after : World ℕ) (event : Event ℕ) (line : Line) (m : Pairs ℕ) → Leaves w event line after → IsContent (view_of w) m → IsContent (view_of after) m
-stays_at w after event Skipped m l content = subst (λ (z : World ℕ). IsContent (view_of z) m) (sym l) content
-stays_at w after (Start id op) (Made report out seen) m l content =
-    same_content (view_of w) (view_of after) (λ s. ap (λ t. shown (t s)) (table_same w after l.slots l.lives)) l.root m content
-stays_at w after (Step id env) (Made report out seen) m l content =
-    same_content (view_of w) (view_of after) (λ s. ap (λ t. shown (t s)) (table_same w after l.slots l.lives)) l.root m content
-stays_at w after (Reclaim slot) (Made report out seen) m l content = absurd l
-
-stays : (w last : World ℕ) (xs : List Entry) (m : Pairs ℕ) → Plays w xs last → IsContent (view_of w) m → IsContent (view_of last) m
-stays w last [] m plays content = subst (λ (z : World ℕ). IsContent (view_of z) m) (sym plays) content
-stays w last (x ∷ xs) m plays content = stays x.after last xs m plays.1 (stays_at w x.after x.event x.line m plays.0.leaves content)
-
-pub stays_empty : (first last : World ℕ) (events : List (Event ℕ)) (lines : List Line) (decided : List Decision) → IsFresh first → SoFar first events lines decided last → IsContent (view_of last) []
-stays_empty first last events lines decided fresh so_far = stays first last so_far.entries [] so_far.plays (fresh_content first fresh)

@@ -18,7 +18,7 @@ module _ {V : Type 0} where
   first-found : (e : ℕ × V) (es : List (ℕ × V)) (k : ℕ) → e.0 ≡ k → lookup (e ∷ es) k ≡ Some e.1
   first-found e es k same = rw (eq-eqb e.0 k same) refl
 
-  later-found : (e : ℕ × V) (es : List (ℕ × V)) (k : ℕ) → e.0 ≢ k → lookup (e ∷ es) k ≡ lookup es k
+  pub later-found : (e : ℕ × V) (es : List (ℕ × V)) (k : ℕ) → e.0 ≢ k → lookup (e ∷ es) k ≡ lookup es k
   later-found e es k off = rw (ne_eqb e.0 k off) refl
 
   abbrev Within : List (ℕ × V) → List (ℕ × V) → Type 0

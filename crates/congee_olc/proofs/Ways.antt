@@ -94,7 +94,7 @@ module _ {P : Type 0} where
         ]
 
     -- what a leaf that is this node has under the key's byte
-    leaf_entry : (s : ℕ) (a : Node P) (v : P) (h : Keeps t k v) → IsLinked t s a → s ≡ h.slot → entry a (byte_at a k) ≡ Some (Payload v)
+    pub leaf_entry : (s : ℕ) (a : Node P) (v : P) (h : Keeps t k v) → IsLinked t s a → s ≡ h.slot → entry a (byte_at a k) ≡ Some (Payload v)
     leaf_entry s a v h ha e =
         let at : t s ≡ Some h.leaf = subst (λ (z : ℕ). t z ≡ Some h.leaf) (sym e) h.linked.here in
         let same : a ≡ h.leaf = node_same a h.leaf (sym ha.here ∙ at) in

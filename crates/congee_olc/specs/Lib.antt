@@ -3,6 +3,7 @@ pub mod Epoch
 pub mod World
 pub mod Table
 pub mod Flight
+pub mod Content
 pub mod Event
 pub mod Run
 pub mod Facts

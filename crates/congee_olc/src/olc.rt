@@ -2,6 +2,7 @@
 
 mod advance;
 pub mod calls;
+mod content;
 mod copies;
 pub mod machine;
 mod reading;

@@ -1,8 +1,9 @@
 //! The next event of a call, by its stage.
 
-ghost use Rattle.std.specs.Prelude.{◌≡◌, ℕ, Some};
+ghost use Rattle.std.specs.Prelude.{◌≡◌, ◌≢◌, ℕ, Some};
 ghost use Rattle.congee_olc.specs.World.{table_on};
 ghost use Rattle.congee_olc.specs.Facts.{IsPlaced, Facts, IsAdvance};
+ghost use Rattle.congee_olc.specs.Run.{IsServedOp};
 
 use crate::epoch::Pins;
 use crate::olc::reading::{Stepped, check, check_above, read, take_below, take_root};
@@ -46,7 +47,8 @@ pub(crate) fn advance<P: Payload>(
 ) -> Advanced<P>
     requires placed { IsPlaced (table_on nodes.now.slots pins.now.slots) root }
     requires facts { Facts P.alike (table_on nodes.now.slots pins.now.slots) root pin call }
-    ensures { IsAdvance P.alike P.tells_same (table_on nodes.now.slots pins.now.slots) root pin call env result.call result.report result.outcome }
+    ensures advances { IsAdvance P.alike P.tells_same (table_on nodes.now.slots pins.now.slots) root pin call env result.call result.report result.outcome }
+    ensures granted { P.always_shared → IsServedOp call.op → result.outcome ≢ Outcome.Refused }
 {
     match call.stage {
         Stage::TakeRoot => on(take_root(nodes, pins, root, pin, call)),

@@ -5,17 +5,19 @@ ghost use Rattle.congee_nodes.specs.Charge.{add_charge};
 ghost use Rattle.congee_nodes.specs.Map.{Pairs};
 ghost use Rattle.congee_olc.specs.Epoch.{is_seated};
 ghost use Rattle.congee_olc.specs.World.{World, call_of};
-ghost use Rattle.congee_olc.specs.Flight.{flight_of, AlikeOp};
+ghost use Rattle.congee_olc.specs.Flight.{Flight, flight_of, AlikeOp};
 ghost use Rattle.congee_olc.specs.Event.{Holds, IsStart, IsStep, IsHanded, IsTaken, IsReseated, IsSeating, IsUnchanged, report_of};
 ghost use Rattle.congee_olc.specs.Facts.{IsSound, IsBegun, IsTurn};
 ghost use Rattle.congee_olc.specs.Run.{IsFresh, IsCarried, seen_of};
 ghost use Rattle.congee_olc.specs.Table.{view_of, IsContent, IsWellFormed, sizes_of};
+ghost use Rattle.congee_olc.specs.Content.{IsTold};
 ghost use Rattle.congee_olc.specs.declared.olc.types.Op.{Op};
 
 use crate::epoch::Pins;
 use crate::lock::Word64;
 use crate::olc::advance::{Advanced, advance};
 use crate::olc::calls::{is_same_call, share_op};
+use crate::olc::content::push_pairs;
 use crate::olc::stage::{Asking, Place, Progress, Record, Stage, Stored};
 use crate::olc::types::{Env, Kind, Op, Outcome, Report, Seen, StartError};
 use congee_nodes::allocator::Allocator;
@@ -228,12 +230,14 @@ impl<P: Payload, A: Allocator> Machine<P, A> {
     ///
     /// `Unknown` exactly where no call of the handed one's kind and key is in flight under the number, and then nothing is
     /// done and the report is of no meaning. What is done, answered and stored follows from the call as it started: the
-    /// payloads that are handed here are ignored, and so is what the event doesn't use of `env`.
+    /// payloads that are handed here are ignored, and so is what the event doesn't use of `env`. A `Get` is never refused where
+    /// shares never are, as over `u64`.
     pub fn step(&mut self, id: u64, op: &Op<P>, env: Env<P>) -> (Report, Outcome<P>)
         ensures known { (result.1 ≡ Outcome.Unknown) ↔ (IsHanded self.old id op.now → ⊥) }
         ensures unknown { result.1 ≡ Outcome.Unknown → IsUnchanged self.old self.new }
         ensures event { IsHanded self.old id op.now → IsStep P.alike P.tells_same self.old self.new id env result.0 result.1 }
         ensures content { IsHanded self.old id op.now → (m : Pairs P) → IsContent (view_of self.old) m → IsCarried P.alike P.tells_same m self.old self.new id result.1 }
+        ensures granted { P.always_shared → (key : ℕ) → op.now ≡ Op.Get key → result.1 ≢ Outcome.Refused }
     {
         if !self.is_handed(id, op) {
             return (unknown(), Outcome::Unknown);
@@ -263,9 +267,22 @@ impl<P: Payload, A: Allocator> Machine<P, A> {
 
     /// How many pairs are stored.
     pub fn entry_count(&self) -> u128
-        ensures { (m : Pairs P) → IsContent (view_of self.now) m → result ≡ length m }
+        ensures content { (m : Pairs P) × IsContent (view_of self.now) m × (result ≡ length m) }
+        ensures no_other { (m : Pairs P) → IsContent (view_of self.now) m → result ≡ length m }
     {
         self.entries
+    }
+
+    /// All pairs that are stored, keys ascending, each with a share of its payload.
+    ///
+    /// One walk over all reachable nodes, at most eight of them below one another. `OOMError` where memory for the vector is
+    /// missing or a share is refused.
+    pub fn content(&self, alloc: Global) -> Result<Vec<(u64, P)>, OOMError>
+        ensures { IfOk result (λ pairs. IsTold P.alike (view_of self.now) pairs.items) }
+    {
+        let mut pairs = Vec::new(alloc);
+        push_pairs(&self.nodes, self.root, &mut pairs)?;
+        Ok(pairs)
     }
 
     /// The law that a machine is well formed, whatever its calls have done.
@@ -300,6 +317,7 @@ impl<P: Payload, A: Allocator> Machine<P, A> {
         ensures event { IsStep P.alike P.tells_same self.old self.new id env result.0 result.1 }
         ensures content { (m : Pairs P) → IsContent (view_of self.old) m → IsCarried P.alike P.tells_same m self.old self.new id result.1 }
         ensures turn { IsTurn P.alike P.tells_same self.old self.new id env result.0 result.1 }
+        ensures granted { P.always_shared → (call : Flight P) (key : ℕ) → flight_of self.old id ≡ Some call → call.op ≡ Op.Get key → result.1 ≢ Outcome.Refused }
     {
         let Some(pin) = self.pins.pin(id) else {
             unreachable!()

@@ -1,6 +1,6 @@
 //! The kinds of events that only read: Take, Read, Check and Finish.
 
-ghost use Rattle.std.specs.Prelude.{◌≡◌, ℕ, ◌^◌, ◌<◌, ◌↔◌, ◌⊎◌, Option, Some, None, IsTrue, IfOk, IfErr, option_copied, length};
+ghost use Rattle.std.specs.Prelude.{◌≡◌, ◌≢◌, ℕ, ◌^◌, ◌<◌, ◌↔◌, ◌⊎◌, Option, Some, None, IsTrue, IsOk, IfOk, IfErr, option_copied, length};
 ghost use Rattle.slab.specs.Slab.{get};
 ghost use Rattle.congee_nodes.specs.Key.{Begins, AreBytes, next_byte};
 ghost use Rattle.congee_nodes.specs.Map.{lookup};
@@ -12,6 +12,7 @@ ghost use Rattle.congee_olc.specs.Flight.{flight, key_of, payload_in, AlikeChild
 ghost use Rattle.congee_olc.specs.Event.{IsReading, StepsOn, Finishes, report_of};
 ghost use Rattle.congee_olc.specs.Facts.{IsPlaced, Facts, IsSpare, IsWholeRead, IsRead};
 ghost use Rattle.congee_olc.specs.Found.{IsFound};
+ghost use Rattle.congee_olc.specs.Run.{IsServedOp};
 ghost use Rattle.congee_olc.specs.declared.olc.types.Env.{Env};
 
 use crate::epoch::Pins;
@@ -163,6 +164,7 @@ fn shared<P: Payload>(
     ensures child { IfOk result (λ x. AlikeChildren P.alike (seen child.entry) x.0) }
     ensures stands { IfOk result (λ x. IsSpare P.alike (payload_in (seen child.entry)) x.1) }
     ensures seen { IfOk result (λ x. IsSpare P.alike (payload_in x.0) x.1) }
+    ensures granted { P.always_shared → IsOk result }
 {
     match child {
         None => Ok((None, None)),
@@ -181,6 +183,7 @@ fn look<P: Payload>(node: &TreeNode<P>, key: u64) -> Result<Looked<P>, OOMError>
     ensures reading { IfOk result (λ x. IsReading P.alike key node.now x.seen) }
     ensures stands { IfOk result (λ x. IsSpare P.alike (payload_in (lookup node.now.children (next_byte node.now.prefix (bytes_of key)))) x.spare) }
     ensures seen { IfOk result (λ x. IsSpare P.alike (payload_in x.seen.child) x.spare) }
+    ensures granted { P.always_shared → IsOk result }
 {
     let bytes = key.to_be_bytes();
     let byte = bytes[node.base().prefix().len()];
@@ -204,7 +207,8 @@ pub(crate) fn take_root<P: Payload>(
     requires placed { IsPlaced (table_on nodes.now.slots pins.now.slots) root }
     requires facts { Facts P.alike (table_on nodes.now.slots pins.now.slots) root pin call }
     requires stage { call.stage ≡ Stage.TakeRoot }
-    ensures { (env : Env P) → IsRead P.alike P.tells_same (table_on nodes.now.slots pins.now.slots) root pin call env result.call result.report result.outcome }
+    ensures reads { (env : Env P) → IsRead P.alike P.tells_same (table_on nodes.now.slots pins.now.slots) root pin call env result.call result.report result.outcome }
+    ensures granted { result.outcome ≢ Outcome.Refused }
 {
     let Some(node) = nodes.get(root) else {
         unreachable!()
@@ -247,7 +251,8 @@ pub(crate) fn read<P: Payload>(
     requires placed { IsPlaced (table_on nodes.now.slots pins.now.slots) root }
     requires facts { Facts P.alike (table_on nodes.now.slots pins.now.slots) root pin call }
     requires stage { call.stage ≡ Stage.Read path }
-    ensures { (env : Env P) → env.torn ≡ torn → IsRead P.alike P.tells_same (table_on nodes.now.slots pins.now.slots) root pin call env result.call result.report result.outcome }
+    ensures reads { (env : Env P) → env.torn ≡ torn → IsRead P.alike P.tells_same (table_on nodes.now.slots pins.now.slots) root pin call env result.call result.report result.outcome }
+    ensures granted { P.always_shared → IsServedOp call.op → result.outcome ≢ Outcome.Refused }
 {
     let slot = path.here.slot;
     let Some(node) = nodes.get(slot) else {
@@ -273,6 +278,7 @@ fn read_whole<P: Payload>(
 ) -> Stepped<P>
     ensures report { result.report ≡ report }
     ensures says { IsWholeRead P.alike node.now call path result.call result.outcome }
+    ensures granted { P.always_shared → IsServedOp call.op → result.outcome ≢ Outcome.Refused }
 {
     if !is_served(&call.op) {
         return refused(call, report);
@@ -308,7 +314,8 @@ pub(crate) fn take_below<P: Payload>(
     requires placed { IsPlaced (table_on nodes.now.slots pins.now.slots) root }
     requires facts { Facts P.alike (table_on nodes.now.slots pins.now.slots) root pin call }
     requires stage { call.stage ≡ Stage.TakeBelow path slot }
-    ensures { (env : Env P) → IsRead P.alike P.tells_same (table_on nodes.now.slots pins.now.slots) root pin call env result.call result.report result.outcome }
+    ensures reads { (env : Env P) → IsRead P.alike P.tells_same (table_on nodes.now.slots pins.now.slots) root pin call env result.call result.report result.outcome }
+    ensures granted { result.outcome ≢ Outcome.Refused }
 {
     let Some(node) = nodes.get(slot) else {
         unreachable!()
@@ -362,7 +369,8 @@ pub(crate) fn check<P: Payload>(
     requires placed { IsPlaced (table_on nodes.now.slots pins.now.slots) root }
     requires facts { Facts P.alike (table_on nodes.now.slots pins.now.slots) root pin call }
     requires stage { call.stage ≡ Stage.Check path }
-    ensures { (env : Env P) → IsRead P.alike P.tells_same (table_on nodes.now.slots pins.now.slots) root pin call env result.call result.report result.outcome }
+    ensures reads { (env : Env P) → IsRead P.alike P.tells_same (table_on nodes.now.slots pins.now.slots) root pin call env result.call result.report result.outcome }
+    ensures granted { result.outcome ≢ Outcome.Refused }
 {
     let slot = path.here.slot;
     let Some(node) = nodes.get(slot) else {
@@ -438,7 +446,8 @@ pub(crate) fn check_above<P: Payload>(
     requires placed { IsPlaced (table_on nodes.now.slots pins.now.slots) root }
     requires facts { Facts P.alike (table_on nodes.now.slots pins.now.slots) root pin call }
     requires stage { call.stage ≡ Stage.CheckAbove path below fits }
-    ensures { (env : Env P) → IsRead P.alike P.tells_same (table_on nodes.now.slots pins.now.slots) root pin call env result.call result.report result.outcome }
+    ensures reads { (env : Env P) → IsRead P.alike P.tells_same (table_on nodes.now.slots pins.now.slots) root pin call env result.call result.report result.outcome }
+    ensures granted { result.outcome ≢ Outcome.Refused }
 {
     let slot = path.here.slot;
     let Some(node) = nodes.get(slot) else {

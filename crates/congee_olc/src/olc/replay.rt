@@ -139,8 +139,7 @@ pub fn replay_with<A: Allocator>(
         lines.push(happened.line)?;
         note(&mut decided, happened.decided)?;
     }
-    // No event that is served yet writes, so nothing stands at the end.
-    let content = Vec::new(alloc);
+    let content = machine.content(alloc)?;
     Ok(Trace {
         lines,
         decided,

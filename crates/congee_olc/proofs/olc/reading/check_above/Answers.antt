@@ -5,16 +5,16 @@ use Rattle.congee_olc.specs.declared.olc.stage.Stage.TheVariants.{CheckAbove}
 use Rattle.congee_olc.proofs.Reading.{check_restarts, above_goes, above_decides, above_known, above_remembers, test_false}
 use Rattle.congee_olc.proofs.olc.reading.check_above.Goals as goal
 
-pub returns-then-not-stands : goal.returns-then-not-stands
-returns-then-not-stands g c env =
+pub returns-then-not-stands-clause-reads : goal.returns-then-not-stands-clause-reads
+returns-then-not-stands-clause-reads g c env =
     let at : slice_index_or c.args.nodes.now.slots c.args.path.here.slot None ≡ Some c.in-Some.node.now = search rules in
     let there = ap (node_of (entry_at c.args.pins.now.slots c.args.path.here.slot)) at in
     rw (c.going.ensures, c.restarted.ensures, c.report-report.ensures)
     (check_restarts g.P.Payload.alike g.P.Payload.tells_same _ c.args.root c.args.pin c.args.call c.requires.placed c.requires.facts env c.args.path.here.slot c.args.path.here.word _ (above_known g.P.Payload.alike g.P.Payload.tells_same _ c.args.root c.args.pin c.args.call c.requires.placed c.requires.facts c.args.path c.args.below c.args.fits c.requires.stage) (above_remembers g.P.Payload.alike g.P.Payload.tells_same _ c.args.root c.args.pin c.args.call c.requires.placed c.requires.facts c.args.path c.args.below c.args.fits c.requires.stage) there
     (λ (e : c.in-Some.node.now.word ≡ c.args.path.here.word). test_false c.stands.result (search rules) (c.stands.ensures.1 e)))
 
-pub returns-then-fits : goal.returns-then-fits
-returns-then-fits g c env =
+pub returns-then-fits-clause-reads : goal.returns-then-fits-clause-reads
+returns-then-fits-clause-reads g c env =
     let at : slice_index_or c.args.nodes.now.slots c.args.path.here.slot None ≡ Some c.in-Some.node.now = search rules in
     let there = ap (node_of (entry_at c.args.pins.now.slots c.args.path.here.slot)) at in
     let word : c.in-Some.node.now.word ≡ c.args.path.here.word = c.stands.ensures.0 (search rules) in
@@ -22,8 +22,8 @@ returns-then-fits g c env =
     rw (c.going-then-fits.ensures, c.moved.ensures, c.report-report-2.ensures)
     (above_goes g.P.Payload.alike g.P.Payload.tells_same _ c.args.root c.args.pin c.args.call c.requires.placed c.requires.facts env c.args.path _ there word c.args.below stage)
 
-pub returns-else-fits : goal.returns-else-fits
-returns-else-fits g c env =
+pub returns-else-fits-clause-reads : goal.returns-else-fits-clause-reads
+returns-else-fits-clause-reads g c env =
     let at : slice_index_or c.args.nodes.now.slots c.args.path.here.slot None ≡ Some c.in-Some.node.now = search rules in
     let there = ap (node_of (entry_at c.args.pins.now.slots c.args.path.here.slot)) at in
     let word : c.in-Some.node.now.word ≡ c.args.path.here.word = c.stands.ensures.0 (search rules) in

@@ -4,16 +4,16 @@ use Rattle.congee_olc.specs.World.{node_of}
 use Rattle.congee_olc.proofs.Reading.{torn_read, whole_or_refused, test_false}
 use Rattle.congee_olc.proofs.olc.reading.read.Goals as goal
 
-pub returns-then-matches : goal.returns-then-matches
-returns-then-matches g c env torn =
+pub returns-then-matches-clause-reads : goal.returns-then-matches-clause-reads
+returns-then-matches-clause-reads g c env torn =
     let at : slice_index_or c.args.nodes.now.slots c.args.path.here.slot None ≡ Some c.in-Some.node.now = search rules in
     let there = ap (node_of (entry_at c.args.pins.now.slots c.args.path.here.slot)) at in
     let word : c.in-Some.node.now.word ≡ c.args.path.here.word = c.matches.ensures.0 (search rules) ∙ c.from_number.ensures in
     rw (c.read_whole.ensures.report, c.report-report.ensures)
     (whole_or_refused g.P.Payload.alike g.P.Payload.tells_same _ c.args.root c.args.pin c.args.call c.requires.placed c.requires.facts env c.args.path _ _ _ c.requires.stage there word c.read_whole.ensures.says)
 
-pub returns-else-matches : goal.returns-else-matches
-returns-else-matches g c env torn =
+pub returns-else-matches-clause-reads : goal.returns-else-matches-clause-reads
+returns-else-matches-clause-reads g c env torn =
     let at : slice_index_or c.args.nodes.now.slots c.args.path.here.slot None ≡ Some c.in-Some.node.now = search rules in
     let there = ap (node_of (entry_at c.args.pins.now.slots c.args.path.here.slot)) at in
     rw (c.going.ensures, c.saw.ensures, c.report-report.ensures)
