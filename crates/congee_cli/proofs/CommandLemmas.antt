@@ -144,22 +144,6 @@ commands = record {
   reads = command_read;
 }
 
--- words that begin with no command's name are none
-pub no_name : (name : List ℕ) (left : List (List ℕ)) → ((command : Command) → name ≢ name_of command) → (command : Command) → HasNumbers command → words_of_command command ≡ name ∷ left → ⊥
-no_name name left other command fits words = other command cc
-
-pub other_name : (name : List ℕ) → name ≢ codes "get" → name ≢ codes "insert" → name ≢ codes "remove" → name ≢ codes "cas" → name ≢ codes "add" → name ≢ codes "put" → name ≢ codes "range" → name ≢ codes "keys" → name ≢ codes "empty"
-    → (command : Command) → name ≢ name_of command
-other_name name get insert remove cas add put range keys empty (Get key) = get
-other_name name get insert remove cas add put range keys empty (Insert key value) = insert
-other_name name get insert remove cas add put range keys empty (Remove key) = remove
-other_name name get insert remove cas add put range keys empty (Exchange key old new) = cas
-other_name name get insert remove cas add put range keys empty (Add key more) = add
-other_name name get insert remove cas add put range keys empty (Put key more) = put
-other_name name get insert remove cas add put range keys empty (Range start end limit) = range
-other_name name get insert remove cas add put range keys empty Keys = keys
-other_name name get insert remove cas add put range keys empty Empty = empty
-
 -- the third byte of the first word, by which `range` differs from all other names
 abbrev third_byte : List (List ℕ) → ℕ
 third_byte [] = 0

@@ -11,12 +11,6 @@ module _ {V : Type 0} where
   count_below [] k = 0
   count_below (e ∷ es) k = if nat_lt e.0 k then count_below es k + 1 else 0
 
-  -- where a key stands or would stand
-  pub count_below-le-length : (es : List (ℕ × V)) (k : ℕ) → count_below es k ≤ length es
-  count_below-le-length [] k = omega arith
-  count_below-le-length (e ∷ es) k =
-      elim (ltb e.0 k) as (λ b. cond b (count_below es k + 1) 0 ≤ suc (length es)) [ true ↦ omega (arith, count_below-le-length es k) | false ↦ omega arith ]
-
   -- the pair at that place answers the look-up
   pub lookup-at_place : (a b : ℕ) (es : List (ℕ × V)) (k : ℕ) (d : ℕ × V) → Rises a b es → count_below es k < length es → (get_or es (count_below es k) d).0 ≡ k → lookup es k ≡ Some (get_or es (count_below es k) d).1
   lookup-at_place a b [] k d h l e = absurd (omega arith)
@@ -27,21 +21,6 @@ module _ {V : Type 0} where
             let l' = rw s at l in
             rw (s, ne_eqb x.0 k (omega arith)) (lookup-at_place (x.0 + 1) b xs k d h.2 (omega (arith, l')) (rw s at e))
         | inr more ↦ let s : count_below (x ∷ xs) k ≡ 0 = rw (le-ltb x.0 k more) in rw (s, eq-eqb x.0 k (rw s at e))
-      ]
-
-  -- no pair is at its place
-  pub lookup-no_place : (a b : ℕ) (es : List (ℕ × V)) (k : ℕ) (d : ℕ × V) → Rises a b es → (count_below es k < length es → (get_or es (count_below es k) d).0 ≢ k) → lookup es k ≡ None
-  lookup-no_place a b [] k d h n = refl
-  lookup-no_place a b (x ∷ xs) k d h n =
-      elim (cases_lt x.0 k) [
-        | inl less ↦
-            let s : count_below (x ∷ xs) k ≡ suc (count_below xs k) = rw (lt-ltb x.0 k less, add-one) in
-            let n' = rw s at n in
-            rw (ne_eqb x.0 k (omega arith)) (lookup-no_place (x.0 + 1) b xs k d h.2 (λ l. n' (omega arith)))
-        | inr more ↦
-            let s : count_below (x ∷ xs) k ≡ 0 = rw (le-ltb x.0 k more) in
-            let other : x.0 ≢ k = (rw s at n) (omega arith) in
-            rw (ne_eqb x.0 k other) (lookup-below (x.0 + 1) b xs k h.2 (omega arith))
       ]
 
   -- the same for an index and a pair that were read
@@ -60,19 +39,6 @@ module _ {V : Type 0} where
             let n' = rw (ne_eqb x.0 k (omega arith)) at n in
             rw (lt-ltb x.0 k less, add-one) (ap (λ t. x ∷ t) (put-absent (x.0 + 1) b xs k v h.2 n'))
         | inr (inr more) ↦ rw (le-ltb x.0 k (omega arith), ne_eqb x.0 k (omega arith))
-      ]
-
-  -- an insertion of a present key is a write at its place
-  pub put-present : (a b : ℕ) (es : List (ℕ × V)) (k : ℕ) (v w : V) → Rises a b es → lookup es k ≡ Some w → put es k v ≡ set es (count_below es k) (k, v)
-  put-present a b [] k v w h n = absurd (cc)
-  put-present a b (x ∷ xs) k v w h n =
-      elim (cases_order x.0 k) [
-        | inl same ↦ rw (le-ltb x.0 k (omega arith), eq-eqb x.0 k same)
-        | inr (inl less) ↦
-            let n' = rw (ne_eqb x.0 k (omega arith)) at n in
-            rw (lt-ltb x.0 k less, add-one) (ap (λ t. x ∷ t) (put-present (x.0 + 1) b xs k v w h.2 n'))
-        | inr (inr more) ↦
-            let n' = rw (ne_eqb x.0 k (omega arith), lookup-below (x.0 + 1) b xs k h.2 (omega arith)) at n in absurd (cc)
       ]
 
   -- a removal of a present key takes its place out

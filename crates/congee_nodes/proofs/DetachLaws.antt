@@ -127,7 +127,7 @@ module _ {P : Type 0} where
     pub among : TakeAmong s levels n.prefix n.children b j
     pub nodes : nodes_at t (suc levels) q slot ≡ node_info q m ∷ (among.left ++ among.right)
 
-  nodes-same : (below : List ℕ → ℕ → List NodeInfo) (p q : List ℕ) (xs ys : List (ℕ × Child P)) → p ≡ q → xs ≡ ys → nodes_of below p xs ≡ nodes_of below q ys
+  pub nodes-same : (below : List ℕ → ℕ → List NodeInfo) (p q : List ℕ) (xs ys : List (ℕ × Child P)) → p ≡ q → xs ≡ ys → nodes_of below p xs ≡ nodes_of below q ys
   nodes-same below p q xs ys e f = rw (e, f) refl
 
   pub detach : (s t : Table P) (levels : ℕ) (q : List ℕ) (slot j b k : ℕ) (m l : TableNode P) (h : IsTree s (suc levels) q slot)

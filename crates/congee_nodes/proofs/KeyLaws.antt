@@ -11,7 +11,7 @@ use Rattle.congee_nodes.proofs.BeginLaws.{after, begins_by}
 use Rattle.congee_nodes.specs.Key.{span, least, room, AreBytes, low, high, key_number, Begins, IsFirstDifference}
 
 -- b < d puts a whole span between them
-between_spans : (b d s : ℕ) → b < d → b * s + s ≤ d * s
+pub between_spans : (b d s : ℕ) → b < d → b * s + s ≤ d * s
 between_spans b d s h = let k = mul-le-mul_right s h in omega (arith, k)
 
 pub span-positive : (r : ℕ) → 0 < span r

@@ -63,10 +63,6 @@ module _ {V : Type 0} where
         | inr other ↦ rw (ne_eqb x.0 k other) (h.0, h.1, Rises-without (x.0 + 1) b xs k h.2)
       ]
 
-  pub without-below : (b c : ℕ) (ys : List (ℕ × V)) (k : ℕ) → Rises b c ys → k < b → without ys k ≡ ys
-  without-below b c [] k h p = refl
-  without-below b c (y ∷ ys) k h p = rw (ne_eqb y.0 k (omega arith)) (ap (λ t. y ∷ t) (without-below (y.0 + 1) c ys k h.2 (omega arith)))
-
   pub lookup-without_same : (a b : ℕ) (es : List (ℕ × V)) (k : ℕ) → Rises a b es → lookup (without es k) k ≡ None
   lookup-without_same a b [] k h = refl
   lookup-without_same a b (x ∷ xs) k h =

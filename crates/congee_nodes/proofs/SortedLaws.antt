@@ -157,6 +157,9 @@ module _ {C : Type 0} where
       ]
 
 -- what a place in a sorted node says, where n children stand beside the bytes
+pair_is : {C : Type 0} (x y : ℕ) (u v : C) → x ≡ y → u ≡ v → ◌≡◌ {A = ℕ × C} (x, u) (y, v)
+pair_is x y u v p q = rw (p, q) refl
+
 module _ {C : Type 0} (ks : List ℕ) (cs : List C) (h : Rises 0 256 (pairs ks cs)) (l : length cs ≤ length ks) (b i n : ℕ) (e : n ≡ length cs) (at : i ≡ below (take n ks) b) where
   pub place_is : i ≡ count_below (pairs ks cs) b
   place_is = at ∙ ap (λ m. below (take m ks) b) e ∙ below-pairs ks cs b l
@@ -167,9 +170,6 @@ module _ {C : Type 0} (ks : List ℕ) (cs : List C) (h : Rises 0 256 (pairs ks c
       let r : get_or (pairs ks cs) i (b, c) ≡ (b, c) = get_or-pairs ks cs i b c l inside ∙ pair_is (get_or ks i b) b (get_or cs i c) c d (sym is) in
       let m = length-pairs ks cs l in
       sym (lookup-at_index 0 256 (pairs ks cs) b i (b, c) h place_is (omega (arith, m)) (sym r) refl)
-    where
-      pair_is : (x y : ℕ) (u v : C) → x ≡ y → u ≡ v → ◌≡◌ {A = ℕ × C} (x, u) (y, v)
-      pair_is x y u v p q = rw (p, q) refl
 
   pub found_at : i < length cs → get_or ks i 0 ≡ b → slice_get cs i ≡ lookup (pairs ks cs) b
   found_at inside same = elim (slice_get_cases cs i).1 [ inl there ↦ there.2 ∙ child_at there.0 inside same (sym there.3) | inr past ↦ absurd (omega (arith, past.0, inside)) ]
@@ -197,9 +197,6 @@ module _ {C : Type 0} (ks : List ℕ) (cs : List C) (h : Rises 0 256 (pairs ks c
   value_at c some is =
       lookup-at_present 0 256 (pairs ks cs) b i (get_or ks i b, c) h some place_is
       (sym (get_or-pairs ks cs i (get_or ks i b) c l (present_inside some) ∙ pair_is _ _ _ _ (sym (get_or_default ks i b (get_or ks i b) (let p = present_inside some in omega (arith, p)))) (sym is)))
-    where
-      pair_is : (x y : ℕ) (u v : C) → x ≡ y → u ≡ v → ◌≡◌ {A = ℕ × C} (x, u) (y, v)
-      pair_is x y u v p q = rw (p, q) refl
 
 module _ {C : Type 0} where
   -- a change writes the child at the byte's place

@@ -33,13 +33,13 @@ module _ {P : Type 0} where
     pub short : length a.node.prefix ≤ 7
     pub bytes : AreBytes a.node.prefix
 
-  -- the node in a slot gets a child where it had none; the others stay, and new nodes may come to stand beside it
+  -- the node in a slot gets a child where it had none; other linked nodes stay, and new ones may come to stand beside it
   pub record Attaches (t t' : Table P) (slot byte : ℕ) (a : Node P) (child : Child P) (New : ℕ → Node P → Type 0) : Type 0 where
     pub here : IsLinked t slot a
     pub empty : entry a byte ≡ None
     pub small : byte < 256
     pub after : t' slot ≡ Some (with_child a byte child)
-    pub stay : (o : ℕ) (x : Node P) → o ≢ slot → t o ≡ Some x → t' o ≡ Some x
+    pub stay : (o : ℕ) (x : Node P) → o ≢ slot → IsLinked t o x → t' o ≡ Some x
     pub come : (o : ℕ) (x : Node P) → o ≢ slot → t' o ≡ Some x → (t o ≡ Some x) ⊎ New o x
 
   -- a node that was there before, with the child if it is the one that got it
@@ -68,7 +68,7 @@ module _ {P : Type 0} {t t' : Table P} {slot byte : ℕ} {a : Node P} {child : C
                   let off : y ≢ byte = λ q. none_child c (sym at.empty ∙ subst (λ z. entry a z ≡ Some c) q was) in
                   lookup-put_other a.node.children byte child y off ∙ was;
             }
-        | inr off ↦ record { node = x; linked = record { here = at.stay s x off.1 h.here; standing = h.standing }; prefix = refl; form = refl; kept = λ y c f. f }
+        | inr off ↦ record { node = x; linked = record { here = at.stay s x off.1 h; standing = h.standing }; prefix = refl; form = refl; kept = λ y c f. f }
       ]
 
   came_in : (y : Node P) (x : ℕ) (c : Child P) → y ≡ with_child a byte child → entry y x ≡ Some c → (entry a x ≡ Some c) ⊎ ((y ≡ with_child a byte child) × (x ≡ byte) × (c ≡ child))

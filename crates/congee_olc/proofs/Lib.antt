@@ -11,12 +11,12 @@ pub mod Views
 pub mod Contents
 pub mod Formed
 pub mod Rely
-pub mod OnePair
 pub mod Keeping
 pub mod Growing
 pub mod Sizes
 pub mod Rewording
 pub mod Attaching
+pub mod Openings
 pub mod Linking
 pub mod Putting
 pub mod Quiet

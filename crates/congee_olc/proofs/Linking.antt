@@ -1,38 +1,39 @@
 -- A new node is linked below another, or a payload is put into a leaf.
-use Rattle.std.proofs.Common.{◌≡◌, ◌≢◌, ℕ, ◌+◌, ◌<◌, List, [], ◌∷◌, ◌++◌, length, length-append, Some, None, ◌⊎◌, inl, inr, sym, subst, ap, ◌∙◌, arith}
+use Rattle.std.proofs.Common.{◌≡◌, ◌≢◌, ℕ, ◌+◌, ◌<◌, ◌↔◌, [], ◌∷◌, ◌++◌, length, length-append, Option, Some, None, ◌⊎◌, inl, inr, sym, subst, ap, ◌∙◌, arith}
 use Rattle.std.proofs.lemmas.Bool.{cases_lt}
 use Rattle.std.proofs.lemmas.Bool.Decides.{eqb_tells}
+use Rattle.congee_nodes.specs.Map.{Pairs}
 use Rattle.congee_nodes.specs.Key.{Begins}
 use Rattle.congee_nodes.specs.declared.child.Child.{Child}
 use Rattle.congee_nodes.specs.declared.child.Child.TheVariants.{Payload, Node as below_at}
 use Rattle.congee_nodes.proofs.BeginLaws.{begins_append, begins_itself}
 use Rattle.congee_nodes.proofs.MapLaws.{lookup-put_same}
 use Rattle.congee_olc.specs.World.{Node, Table, entry}
+use Rattle.congee_olc.specs.Table.{view_on, IsContent}
 use Rattle.congee_olc.specs.Facts.{byte_at, IsLinked, LeadsOn, IsPlaced}
-use Rattle.congee_olc.proofs.Attaching.{with_child, IsBare, Attaches, IsOld, attached_grows, origin, linked_before, attached_placed}
-use Rattle.congee_olc.proofs.Growing.{leads_grown}
-use Rattle.congee_olc.proofs.Reaching.{last-byte, onward}
+use Rattle.congee_olc.proofs.Attaching.{with_child, IsBare, Attaches, IsOld, attached_grows, origin, linked_before, attached_placed, attached_keeps}
+use Rattle.congee_olc.proofs.Growing.{leads_grown, keeps_grown}
+use Rattle.congee_olc.proofs.Keeping.{KeepsOn, content_on}
+use Rattle.congee_olc.proofs.Openings.{byte_after}
+use Rattle.congee_olc.proofs.Reaching.{onward}
 use Rattle.congee_olc.proofs.Ways.{Begins-trans, Begins-both, get_or-begins, longer-begins, node_same}
 
 module _ {P : Type 0} where
-  none_node : (b : Node P) → None ≡ Some b → ⊥
-  none_node b e = cc
-
   none_child : (c : Child P) → None ≡ Some c → ⊥
   none_child c e = cc
 
-  pub slot_payload : (c : ℕ) (v : P) → let x : Child P = below_at c in let y : Child P = Payload v in x ≡ y → ⊥
+  slot_payload : (c : ℕ) (v : P) → let x : Child P = below_at c in let y : Child P = Payload v in x ≡ y → ⊥
   slot_payload c v e = cc
 
   slots_same : (c d : ℕ) → let x : Child P = below_at c in let y : Child P = below_at d in x ≡ y → d ≡ c
   slots_same c d e = cc
 
-  -- a node that wasn't there is linked below the node in a slot, under a byte where nothing stood
+  -- a node that wasn't there, or was private, is linked below the one in a slot, under a byte where nothing stood
   pub record Links (t t' : Table P) (slot byte fresh : ℕ) (a b : Node P) : Type 0 where
     pub here : IsLinked t slot a
     pub empty : entry a byte ≡ None
     pub small : byte < 256
-    pub vacant : t fresh ≡ None
+    pub vacant : (x : Node P) → IsLinked t fresh x → ⊥
     pub bare : IsBare b
     pub begins : Begins (a.node.prefix ++ byte ∷ []) b.node.prefix
     pub after : t' slot ≡ Some (with_child a byte (below_at fresh))
@@ -50,8 +51,8 @@ module _ {P : Type 0} {t t' : Table P} {slot byte fresh : ℕ} {a b : Node P} (l
     small = l.small;
     after = l.after;
     stay = λ o x off h. elim (eqb_tells o fresh) [
-      | inl e ↦ absurd (none_node x (sym l.vacant ∙ subst (λ z. t z ≡ Some x) e.1 h))
-      | inr far ↦ l.others o off far.1 ∙ h
+      | inl e ↦ absurd (l.vacant x (subst (λ z. IsLinked t z x) e.1 h))
+      | inr far ↦ l.others o off far.1 ∙ h.here
     ];
     come = λ o x off h. elim (eqb_tells o fresh) [
       | inl e ↦ inr (e.1, node_same x b (sym h ∙ subst (λ z. t' z ≡ Some b) (sym e.1) l.made))
@@ -68,11 +69,6 @@ module _ {P : Type 0} {t t' : Table P} {slot byte fresh : ℕ} {a b : Node P} (l
   down : Begins a.node.prefix b.node.prefix
   down = Begins-trans a.node.prefix (a.node.prefix ++ byte ∷ []) b.node.prefix step l.begins
 
-  byte_is : (k : List ℕ) → Begins (a.node.prefix ++ byte ∷ []) k → byte_at a k ≡ byte
-  byte_is k h =
-      let grown : length (a.node.prefix ++ byte ∷ []) ≡ length a.node.prefix + 1 = length-append a.node.prefix (byte ∷ []) in
-      sym (get_or-begins (a.node.prefix ++ byte ∷ []) k (length a.node.prefix) h (omega arith)) ∙ last-byte a.node.prefix byte
-
   module _ (root : ℕ) (placed : IsPlaced t root) where
     -- no linked node stood below that byte
     none_below : (r : ℕ) (q : Node P) → IsLinked t r q → Begins (a.node.prefix ++ byte ∷ []) q.node.prefix → ⊥
@@ -82,7 +78,7 @@ module _ {P : Type 0} {t t' : Table P} {slot byte fresh : ℕ} {a b : Node P} (l
               let is : a ≡ q = node_same a q (sym l.here.here ∙ subst (λ z. t z ≡ Some q) (sym same) h.here) in
               let longer : length a.node.prefix < length q.node.prefix = longer-begins a.node.prefix q.node.prefix byte e in
               let even : length a.node.prefix ≡ length q.node.prefix = ap (λ (z : Node P). length z.node.prefix) is in absurd (omega arith)
-          | inr on ↦ none_child (below_at on.slot) (sym l.empty ∙ subst (λ z. entry a z ≡ Some (below_at on.slot)) (byte_is q.node.prefix e) on.entry_is)
+          | inr on ↦ none_child (below_at on.slot) (sym l.empty ∙ subst (λ z. entry a z ≡ Some (below_at on.slot)) (byte_after a.node.prefix byte q.node.prefix e) on.entry_is)
         ]
 
     -- the way from a node to the new one
@@ -102,7 +98,7 @@ module _ {P : Type 0} {t t' : Table P} {slot byte fresh : ℕ} {a b : Node P} (l
                 (record {
                   slot = fresh;
                   node = b;
-                  entry_is = subst (λ z. entry (with_child a byte (below_at fresh)) z ≡ Some (below_at fresh)) (sym (byte_is b.node.prefix l.begins))
+                  entry_is = subst (λ z. entry (with_child a byte (below_at fresh)) z ≡ Some (below_at fresh)) (sym (byte_after a.node.prefix byte b.node.prefix l.begins))
                       (lookup-put_same a.node.children byte (below_at fresh));
                   linked = record { here = l.made; standing = l.bare.linked };
                   begins = begins_itself b.node.prefix;
@@ -145,3 +141,12 @@ module _ {P : Type 0} {t t' : Table P} {slot byte fresh : ℕ} {a b : Node P} (l
           begins = l.begins;
         })
         (λ v e. absurd (slot_payload fresh v e)) leads_made placed
+
+    -- the content stays
+    pub content_link : (count : ℕ) (charge charge' : Option ℕ) (m : Pairs P) → IsContent (view_on t root count charge) m ↔ IsContent (view_on t' root count charge') m
+    content_link count charge charge' m =
+        let on : KeepsOn t t' = keeps_grown t t' (attached_grows link_attaches) in
+        let back : KeepsOn t' t = λ k v h. elim (attached_keeps link_attaches made_bare k v h) [ inl was ↦ was | inr new ↦ absurd (slot_payload fresh v new.0) ] in (
+          (λ (c : IsContent (view_on t root count charge) m). content_on t t' root count charge charge' placed link_placed on back m c),
+          (λ (c : IsContent (view_on t' root count charge') m). content_on t' t root count charge' charge link_placed placed back on m c),
+        )

@@ -59,7 +59,7 @@ module _ {P : Type 0} {t t' : Table P} {slot : ℕ} {a : Node P} {key : ℕ} {v 
     empty = p.empty;
     small = (goes_on a.node.prefix (bytes_of key) p.begins (bytes-of_key key) (omega (arith, p.full)) refl).byte;
     after = p.after;
-    stay = λ o x off h. p.others o off ∙ h;
+    stay = λ o x off h. p.others o off ∙ h.here;
     come = λ o x off h. inl (sym (p.others o off) ∙ h);
   }
 

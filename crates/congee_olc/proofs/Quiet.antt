@@ -6,28 +6,45 @@ use Rattle.congee_nodes.specs.Key.{Begins, AreBytes, next_byte}
 use Rattle.congee_nodes.specs.Charge.{add_charge, Covers}
 use Rattle.congee_nodes.specs.Form.{stated_size}
 use Rattle.congee_nodes.specs.declared.child.Child.TheVariants.{Payload, Node as below_at}
-use Rattle.congee_olc.specs.Epoch.{life_of}
+use Rattle.congee_olc.specs.Epoch.{life_of, entry_at}
 use Rattle.congee_olc.specs.Lock.{IsFree}
-use Rattle.congee_olc.specs.World.{World, Node, standing_of, node_of, table_on, table_of, call_of, bytes_of}
+use Rattle.congee_olc.specs.World.{World, Node, standing_of, node_of, table_on, table_of, record_in, call_of, bytes_of}
 use Rattle.congee_olc.specs.Table.{view_on, IsContent, sizes_of}
 use Rattle.congee_olc.specs.Facts.{IsPlaced, NeedsHolder, IsSound}
 use Rattle.congee_olc.specs.declared.olc.stage.Stored.{Stored}
 use Rattle.congee_olc.specs.declared.olc.stage.Place.TheVariants.{Linked}
 use Rattle.congee_olc.specs.declared.olc.stage.Record.{Record}
-use Rattle.congee_olc.proofs.Attaching.{attached_needs, attached_grows, attached_keeps}
-use Rattle.congee_olc.proofs.Growing.{keeps_grown}
-use Rattle.congee_olc.proofs.Keeping.{content_on}
-use Rattle.congee_olc.proofs.Linking.{slot_payload, Links, link_attaches, made_bare, link_placed}
+use Rattle.congee_olc.proofs.Attaching.{attached_needs}
+use Rattle.congee_olc.proofs.Linking.{Links, link_attaches, made_bare, link_placed, content_link}
 use Rattle.congee_olc.proofs.Putting.{Puts, put_attaches, none_bare, put_placed, content_grows}
+use Rattle.congee_olc.proofs.Roots.{none_stored, stored_same}
 use Rattle.congee_olc.proofs.Sizes.{size_at, size_in, sizes_same, sizes_more}
 
+nothing_in : {X : Type 0} (xs : List X) → length xs ≡ 0 → xs ≡ []
+nothing_in [] h = refl
+nothing_in (x ∷ xs) h = absurd (omega (arith, h))
+
 module _ {P : Type 0} where
+  none_node : (x : Node P) → None ≡ Some x → ⊥
+  none_node x e = cc
+
   none_call : (r : Record P) → None ≡ Some r → ⊥
   none_call r e = cc
 
   -- no number has a call in flight
   abbrev pub IsQuiet : World P → Type 0
   IsQuiet w = (id : ℕ) → call_of w id ≡ None
+
+  pub empty_quiet : (w : World P) → length w.calls ≡ 0 → IsQuiet w
+  empty_quiet w h id = ap (λ calls. record_in (entry_at calls id)) (nothing_in w.calls h)
+
+  -- a node stays where it is while another comes to a vacant slot
+  pub stays_there : (before kept after : List (Option (Stored P))) (slot fresh : ℕ) (n m : Stored P) → kept ≡ before → slice_index_or before slot None ≡ Some n → slice_index_or kept fresh None ≡ None
+      → ((o : ℕ) → o ≢ fresh → slice_index_or after o None ≡ slice_index_or kept o None) → Some m ≡ slice_index_or after slot None → (m ≡ n) × (slot ≢ fresh)
+  stays_there before kept after slot fresh n m same here vacant others found =
+      let there : slice_index_or kept slot None ≡ Some n = subst (λ s. slice_index_or s slot None ≡ Some n) (sym same) here in
+      let apart : slot ≢ fresh = λ e. none_stored n (sym vacant ∙ subst (λ z. slice_index_or kept z None ≡ Some n) e there) in
+      (stored_same m n (found ∙ (others slot apart ∙ there)), apart)
 
   abbrev pub changed_to : World P → List (Option (Stored P)) → ℕ → Option ℕ → World P
   changed_to w slots entries charge = record w { slots = slots; entries = entries; charge = charge }
@@ -76,7 +93,7 @@ module _ {P : Type 0} (alike : P → P → Type 0) (w : World P) (slots : List (
     here = record { here = ap (node_of (life_of w.pins slot)) here; standing = ap (λ p. standing_of p (life_of w.pins slot)) is_linked };
     empty = empty;
     small = small;
-    vacant = ap (node_of (life_of w.pins fresh)) vacant;
+    vacant = λ x h. none_node x (sym (ap (node_of (life_of w.pins fresh)) vacant) ∙ h.here);
     bare = record {
       free = subst (λ z. IsFree z) (sym b_word) refl;
       linked = ap (λ p. standing_of p (life_of w.pins fresh)) b_place;
@@ -110,10 +127,7 @@ module _ {P : Type 0} (alike : P → P → Type 0) (w : World P) (slots : List (
   linked_sound =
       quiet_sound alike w slots w.entries charge sound quiet placed (attached_needs (link_attaches links) (made_bare links))
       (subst (λ z. Covers charge z) (sym sizes) (subst (λ c. Covers c (sizes_of w.slots + stated_size b.node.form)) (sym paid) (covers_more w.charge (sizes_of w.slots) (stated_size b.node.form) sound.charged)))
-      (λ m c. sound.counted m
-      (content_on (table_on slots w.pins.slots) (table_of w) w.root w.pins.count charge w.charge placed sound.placed
-      (λ k v h. elim (attached_keeps (link_attaches links) (made_bare links) k v h) [ inl was ↦ was | inr new ↦ absurd (slot_payload fresh v new.0) ])
-      (keeps_grown (table_of w) (table_on slots w.pins.slots) (attached_grows (link_attaches links))) m c))
+      (λ m c. sound.counted m ((content_link links w.root sound.placed w.pins.count w.charge charge m).1 c))
 
 -- a machine where a payload is put into a leaf
 module _ {P : Type 0} (alike : P → P → Type 0) (w : World P) (slots : List (Option (Stored P))) (slot key : ℕ) (n : Stored P) (v : P)

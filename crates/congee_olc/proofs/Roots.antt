@@ -39,7 +39,7 @@ linked_private e = cc
 pub linked_retired : (stamp : Option ℕ) → is_linked ≡ is_retired stamp → ⊥
 linked_retired stamp e = cc
 
-pub not_odd : let n : ℕ = 0 in n ≡ 1 → ⊥
+not_odd : let n : ℕ = 0 in n ≡ 1 → ⊥
 not_odd e = absurd (omega arith)
 
 module _ {P : Type 0} (t : Table P) (root : ℕ) (here : t root ≡ Some top) (others : (o : ℕ) → o ≢ root → t o ≡ None) where
@@ -100,7 +100,7 @@ module _ {P : Type 0} where
   pub none_stored : (n : Stored P) → None ≡ Some n → ⊥
   none_stored n e = cc
 
-  pub some_stored : (n : Stored P) → Some n ≡ None → ⊥
+  some_stored : (n : Stored P) → Some n ≡ None → ⊥
   some_stored n e = cc
 
   pub stored_same : (m n : Stored P) → Some m ≡ Some n → m ≡ n
@@ -111,7 +111,7 @@ module _ {P : Type 0} where
   sizes_none (None ∷ slots) none = sizes_none slots (λ o. none (suc o))
   sizes_none (Some m ∷ slots) none = absurd (some_stored m (none 0))
 
-  pub sizes_one : (slots : List (Option (Stored P))) (root : ℕ) (n : Stored P) → slice_index_or slots root None ≡ Some n → ((o : ℕ) → o ≢ root → slice_index_or slots o None ≡ None)
+  sizes_one : (slots : List (Option (Stored P))) (root : ℕ) (n : Stored P) → slice_index_or slots root None ≡ Some n → ((o : ℕ) → o ≢ root → slice_index_or slots o None ≡ None)
       → sizes_of slots ≡ stated_size n.node.form
   sizes_one [] root n here others = absurd (none_stored n here)
   sizes_one (None ∷ slots) zero n here others = absurd (none_stored n here)

@@ -2,7 +2,7 @@
 use Rattle.std.proofs.Common.{◌≡◌, ℕ, suc, ◌+◌, ◌<◌, ◌≤◌, List, [], ◌∷◌, ◌++◌, length, drop, set, get_or, refl, ap, sym, subst, ◌∙◌, arith, append_assoc, length-append, length-take, length-drop, length-set, add-one}
 use Rattle.std.proofs.lemmas.List.{append-nil, take_all, take-append-le}
 use Rattle.std.proofs.Math.Seq.{drop-cons, set-append_seam}
-use Rattle.congee_tree.specs.Scan.{Fills, Adds}
+use Rattle.congee_tree.specs.Scan.{Fills, AddsEntries}
 
 module _ {E : Type 0} where
   same_length : (whole done : List E) (n : ℕ) (b : List E) → Fills whole done n b → length b ≡ length whole
@@ -35,22 +35,22 @@ module _ {E : Type 0} where
         filled = h.filled ∙ ap (λ t. t ++ drop n whole) (sym (take-append-le n done more (omega (arith, h.counted))));
       }
 
-  pub adds-none : (b : List E) (n : ℕ) → n ≤ length b → Adds [] b n b n
+  pub adds-none : (b : List E) (n : ℕ) → n ≤ length b → AddsEntries [] b n b n
   adds-none b n inside = record { inside = inside; fills = λ whole done h. subst (λ t. Fills whole t n b) (sym (append-nil done)) h }
 
-  pub adds-join : (f g b0 b b' : List E) (n0 n n' : ℕ) → Adds f b0 n0 b n → Adds g b n b' n' → Adds (f ++ g) b0 n0 b' n'
+  pub adds-join : (f g b0 b b' : List E) (n0 n n' : ℕ) → AddsEntries f b0 n0 b n → AddsEntries g b n b' n' → AddsEntries (f ++ g) b0 n0 b' n'
   adds-join f g b0 b b' n0 n n' h k =
       record {
         inside = k.inside;
         fills = λ whole done x. subst (λ t. Fills whole t n' b') (append_assoc done f g) (k.fills whole (done ++ f) (h.fills whole done x));
       }
 
-  pub adds-one : (b : List E) (n : ℕ) (x : E) → n < length b → Adds (x ∷ []) b n (set b n x) (n + 1)
+  pub adds-one : (b : List E) (n : ℕ) (x : E) → n < length b → AddsEntries (x ∷ []) b n (set b n x) (n + 1)
   adds-one b n x room =
       record {
         inside = simp length-set (omega arith);
         fills = λ whole done h. fills-push whole done n b x h room;
       }
 
-  pub adds-full : (more b : List E) (n : ℕ) → n ≤ length b → length b ≤ n → Adds more b n b n
+  pub adds-full : (more b : List E) (n : ℕ) → n ≤ length b → length b ≤ n → AddsEntries more b n b n
   adds-full more b n inside full = record { inside = inside; fills = λ whole done h. fills-full whole done more n b h full }

@@ -5,15 +5,13 @@ use Rattle.congee_nodes.specs.Table.{Table, NodeInfo, node_at, pairs_at, nodes_o
 use Rattle.congee_nodes.specs.TableNode.{TableNode}
 use Rattle.congee_nodes.specs.declared.child.Child.{Child}
 use Rattle.congee_nodes.proofs.WriteLaws.{Are-same, pairs-same}
+use Rattle.congee_nodes.proofs.DetachLaws.{nodes-same}
 use Rattle.congee_nodes.proofs.SoundLaws.{sound_from}
 use Rattle.congee_tree.specs.Way.{depth, HasRoot}
 use Rattle.congee_nodes.specs.declared.base_node.NodeType.TheVariants.{N256}
 use Rattle.congee_tree.proofs.WayLaws.{depth_is}
 
 module _ {P : Type 0} where
-  pub nodes-same : (below : List ℕ → ℕ → List NodeInfo) (p q : List ℕ) (xs ys : List (ℕ × Child P)) → p ≡ q → xs ≡ ys → nodes_of below p xs ≡ nodes_of below q ys
-  nodes-same below p q xs ys e f = rw (e, f) refl
-
   module _ (t : Table P) (root : ℕ) (n : TableNode P) (there : node_at t root ≡ Some n) (is : n ≡ record { form = N256; prefix = []; children = [] }) where
     no_prefix : n.prefix ≡ []
     no_prefix = ap (λ (x : TableNode P). x.prefix) is

@@ -12,9 +12,10 @@ use Rattle.congee_nodes.specs.declared.child.Child.TheVariants.{Payload, Node}
 use Rattle.congee_nodes.proofs.MapLaws.{Rises-between}
 use Rattle.congee_nodes.proofs.RangeLaws.{between-all, between-above}
 use Rattle.congee_nodes.proofs.BeginLaws.{after}
+use Rattle.congee_nodes.proofs.ShareLaws.{between-below}
 use Rattle.congee_nodes.proofs.ChildrenLaws as laws
 use Rattle.congee_nodes.proofs.TableLaws.{under, same_pairs, all_rise, tree_rises}
-use Rattle.congee_tree.specs.Scan.{IsWindow, Stands, bytes_left, Fills, Adds, found}
+use Rattle.congee_tree.specs.Scan.{IsWindow, Stands, bytes_left, Fills, AddsEntries, found}
 use Rattle.congee_tree.specs.Way.{depth}
 use Rattle.congee_tree.proofs.WayLaws.{depth_is}
 use Rattle.congee_tree.specs.declared.range_scan.Window.{Window}
@@ -22,11 +23,6 @@ use Rattle.congee_tree.proofs.WindowLaws.{low-leaf}
 use Rattle.congee_tree.proofs.FillLaws.{fills-none, adds-none, adds-join, adds-one, adds-full}
 
 module _ {V : Type 0} where
-  -- nothing below
-  between-below : (a b s e : ℕ) (es : List (ℕ × V)) → Rises a b es → b ≤ s → between es s e ≡ []
-  between-below a b s e [] h l = refl
-  between-below a b s e (x ∷ xs) h l = rw (lt-leb s x.0 (omega (arith, h.1))) (between-below (x.0 + 1) b s e xs h.2 l)
-
   -- those from a key on begin there
   between-rises : (a b s e : ℕ) (es : List (ℕ × V)) → Rises a b es → Rises s b (between es s e)
   between-rises a b s e [] h = tt
@@ -101,11 +97,11 @@ module _ {P E : Type 0} (entry : ℕ → P → E) (start end : ℕ) where
     -- what was done of a node, and what is left of it
     pub record Part (less slot : ℕ) (n : TableNode P) (from : ℕ) (old : List E) (first : ℕ) (new : List E) (count : ℕ) : Type 0 where
       pub seen : List E
-      pub adds : Adds seen old first new count
+      pub adds : AddsEntries seen old first new count
       pub whole : found entry start end (pairs_at s (suc less) slot) ≡ seen ++ found entry start end (pairs_from s less n from)
 
     abbrev pub Whole : ℕ → ℕ → List E → ℕ → List E → ℕ → Type 0
-    Whole less slot old first new count = Adds (found entry start end (pairs_at s (suc less) slot)) old first new count
+    Whole less slot old first new count = AddsEntries (found entry start end (pairs_at s (suc less) slot)) old first new count
 
     module _ (less slot : ℕ) (n : TableNode P) (tree : IsSubtree s (suc less) slot) (here : Some n ≡ node_at s slot) where
       pub part_start : (w : Window) (b : List E) (count : ℕ) → IsWindow n.prefix start end w → count ≤ length b → Part less slot n w.from b count b count
@@ -118,9 +114,9 @@ module _ {P E : Type 0} (entry : ℕ → P → E) (start end : ℕ) where
           }
 
       module _ (from first count : ℕ) (old new : List E) (part : Part less slot n from old first new count) where
-        whole_from : (more : List E) → found entry start end (pairs_from s less n from) ≡ more → Adds more new count new count → Whole less slot old first new count
+        whole_from : (more : List E) → found entry start end (pairs_from s less n from) ≡ more → AddsEntries more new count new count → Whole less slot old first new count
         whole_from more is adds =
-            subst (λ t. Adds t old first new count) (sym (part.whole ∙ ap (λ t. part.seen ++ t) is)) (adds-join part.seen more old new new first count count part.adds adds)
+            subst (λ t. AddsEntries t old first new count) (sym (part.whole ∙ ap (λ t. part.seen ++ t) is)) (adds-join part.seen more old new new first count count part.adds adds)
 
         pub part_full : length new ≤ count → Whole less slot old first new count
         part_full full = whole_from _ refl (adds-full _ new count part.adds.inside full)
@@ -145,7 +141,7 @@ module _ {P E : Type 0} (entry : ℕ → P → E) (start end : ℕ) where
               let a = at_node s less slot n tree here in
               (subst (λ t. AreChildren (λ q j. IsTree s less q j) n.prefix t) next (AreChildren-between (λ q j. IsTree s less q j) n.prefix n.children from 256 a.children)).0
 
-          go_on : (b : List E) (k : ℕ) (more : List E) → found entry start end (pairs_under (λ j. pairs_at s less j) n.prefix byte c) ≡ more → Adds more new count b k → Part less slot n (byte + 1) old first b k
+          go_on : (b : List E) (k : ℕ) (more : List E) → found entry start end (pairs_under (λ j. pairs_at s less j) n.prefix byte c) ≡ more → AddsEntries more new count b k → Part less slot n (byte + 1) old first b k
           go_on b k more is adds =
               record {
                 seen = part.seen ++ more;
@@ -173,7 +169,7 @@ module _ {P E : Type 0} (entry : ℕ → P → E) (start end : ℕ) where
             let child : IsTree s less (n.prefix ++ byte ∷ []) j = is_child byte (Node j) next in
             go_on byte (Node j) next b k _ refl (go less child)
           where
-            go : (l : ℕ) → IsTree s l (n.prefix ++ byte ∷ []) j → Adds (found entry start end (pairs_at s l j)) new count b k
+            go : (l : ℕ) → IsTree s l (n.prefix ++ byte ∷ []) j → AddsEntries (found entry start end (pairs_at s l j)) new count b k
             go zero h = absurd h
             go (suc l) h = adds l (record { above = n.prefix ++ byte ∷ []; tree = h })
 
@@ -222,13 +218,6 @@ module _ {P : Type 0} (s : Table P) where
         shorter = rw (← here) (omega (arith, l, a.short));
       }
 
-  pub stands_there : (slot : ℕ) → Stands s slot → node_at s slot ≡ None → ⊥
-  stands_there slot h none = go h.levels h.tree
-    where
-      go : (levels : ℕ) → IsSubtree s levels slot → ⊥
-      go zero t = t.tree
-      go (suc levels) t = let both = sym t.tree.here ∙ none in absurd (cc)
-
   -- payloads stand in leaves
   pub in_leaf : (slot : ℕ) (n : TableNode P) (from byte : ℕ) (v : P) (rest : List (ℕ × Child P)) → Stands s slot → Some n ≡ node_at s slot → between n.children from 256 ≡ (byte, Payload v) ∷ rest → length n.prefix ≡ 7
   in_leaf slot n from byte v rest h here next = (next_inside slot n from byte (Payload v) rest h here next).child
@@ -241,10 +230,10 @@ module _ {P : Type 0} (s : Table P) where
   root_stands root h = record { levels = 8; tree = root_tree root h }
 
 module _ {P E : Type 0} (entry : ℕ → P → E) (start end : ℕ) (s : Table P) (root : ℕ) (tree : IsTree s depth [] root) where
-  pub range_fills : (old new : List E) (count : ℕ) → ((levels : ℕ) → IsSubtree s (suc levels) root → Adds (found entry start end (pairs_at s (suc levels) root)) old 0 new count) → Fills old (found entry start end (pairs_at s depth root)) count new
+  pub range_fills : (old new : List E) (count : ℕ) → ((levels : ℕ) → IsSubtree s (suc levels) root → AddsEntries (found entry start end (pairs_at s (suc levels) root)) old 0 new count) → Fills old (found entry start end (pairs_at s depth root)) count new
   range_fills old new count adds = subst (λ d. Fills old (found entry start end (pairs_at s d root)) count new) (sym depth_is) ((adds 7 (root_tree s root tree)).fills old [] (fills-none old))
 
-  module _ (old new : List E) (count : ℕ) (adds : (levels : ℕ) → IsSubtree s (suc levels) root → Adds (found entry start end (pairs_at s (suc levels) root)) old 0 new count)
+  module _ (old new : List E) (count : ℕ) (adds : (levels : ℕ) → IsSubtree s (suc levels) root → AddsEntries (found entry start end (pairs_at s (suc levels) root)) old 0 new count)
       (m : Pairs P) (is : pairs_at s depth root ≡ m) (first past : ℕ) (from : start ≡ first) (to : end ≡ past) where
     found_is : found entry start end (pairs_at s depth root) ≡ map (λ pair. entry pair.0 pair.1) (between m first past)
     found_is = rw (is, from, to) refl

@@ -24,7 +24,7 @@ use Rattle.congee_tree.specs.Way.{depth, Way, IsEnd, Arrives}
 use Rattle.congee_tree.specs.Writes.{SameElsewhere, WritesChild, IsLeafOf, StandsFor, Adds, Splits}
 use Rattle.congee_tree.specs.declared.descent.End.TheVariants.{Differs, Absent, Present}
 use Rattle.congee_tree.specs.declared.descent.Place.{Place}
-use Rattle.congee_tree.proofs.NewLaws.{nodes-same}
+use Rattle.congee_nodes.proofs.DetachLaws.{nodes-same}
 use Rattle.congee_tree.proofs.InsertLaws.{keeps_others, leaf_here}
 
 info-same : (e p q : List ℕ) (f g : NodeType) (a b : ℕ) → p ≡ q → f ≡ g → a ≡ b → ◌≡◌ {A = NodeInfo} (record { edge = e; prefix = p; form = f; count = a }) (record { edge = e; prefix = q; form = g; count = b })

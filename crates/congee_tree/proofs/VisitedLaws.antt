@@ -21,16 +21,16 @@ use Rattle.congee_nodes.proofs.NodesLaws.{below, under_begin, all_greater, leaf_
 use Rattle.congee_nodes.proofs.TableLaws.{open_subtree}
 use Rattle.congee_nodes.proofs.TallySums.{nodes_complete, entries_complete}
 use Rattle.congee_nodes.proofs.VisitLaws.{visits-node, visits-append}
-use Rattle.congee_tree.specs.Count.{Adds, AddsSubtree, visits_under, Counting}
+use Rattle.congee_tree.specs.Count.{AddsVisits, AddsSubtree, visits_under, Counting}
 use Rattle.congee_tree.specs.Way.{depth}
 use Rattle.congee_tree.proofs.WayLaws.{depth_is}
 
-adds-more : (xs ys : List Visit) (old mid new : List LevelStats) → Adds xs old mid → Adds ys mid new → Adds (xs ++ ys) old new
+adds-more : (xs ys : List Visit) (old mid new : List LevelStats) → AddsVisits xs old mid → AddsVisits ys mid new → AddsVisits (xs ++ ys) old new
 adds-more xs ys old mid new first second nodes tally = subst (λ vs. IsTally vs new) (append_assoc nodes xs ys) (second (nodes ++ xs) (first nodes tally))
 
 pub counted_node : {P : Type 0} (above : ℕ) (n : TableNode P) (form : NodeType) (entries : ℕ) (old now : List LevelStats) → form ≡ n.form → entries ≡ length n.children
-    → Adds (visit above form entries ∷ []) old now → Adds (visit above n.form (length n.children) ∷ []) old now
-counted_node above n form entries old now same as_many adds = subst (λ k. Adds (visit above n.form k ∷ []) old now) as_many (subst (λ f. Adds (visit above f entries ∷ []) old now) same adds)
+    → AddsVisits (visit above form entries ∷ []) old now → AddsVisits (visit above n.form (length n.children) ∷ []) old now
+counted_node above n form entries old now same as_many adds = subst (λ k. AddsVisits (visit above n.form k ∷ []) old now) as_many (subst (λ f. AddsVisits (visit above f entries ∷ []) old now) same adds)
 
 pub byte_fits : {P : Type 0} (n : TableNode P) (from b : ℕ) (c : Child P) (rest : List (ℕ × Child P)) → Rises 0 256 n.children → between n.children from 256 ≡ (b, c) ∷ rest → b < 256
 byte_fits n from b c rest rises found = let r = subst (λ es. Rises 0 256 es) found (Rises-between 0 256 from 256 n.children rises) in r.1
@@ -66,7 +66,7 @@ module _ {P : Type 0} (s : Table P) where
   pub not_deep : (above slot : ℕ) → IsSubtree s (depth - above) slot → above < 8
   not_deep above slot h = let one = not_last (depth - above) above h.above slot refl h.tree in omega (arith, one, depth_is)
 
-  pub count_start : (above : ℕ) (n : TableNode P) (old now : List LevelStats) → Rises 0 256 n.children → Adds (visit above n.form (length n.children) ∷ []) old now → Counting s above n 0 old now
+  pub count_start : (above : ℕ) (n : TableNode P) (old now : List LevelStats) → Rises 0 256 n.children → AddsVisits (visit above n.form (length n.children) ∷ []) old now → Counting s above n 0 old now
   count_start above n old now rises adds = record {
     done = visit above n.form (length n.children) ∷ [];
     adds = adds;
@@ -105,18 +105,18 @@ module _ {P : Type 0} (s : Table P) where
         left = append_assoc before.done first (visits_under s (above + 1) p rest) ∙ sym (ap (λ vs. before.done ++ vs) split) ∙ before.left;
       }
 
-  whole : (above slot : ℕ) (n : TableNode P) (old now : List LevelStats) → node_at s slot ≡ Some n → Adds (visit above n.form (length n.children) ∷ visits_under s (above + 1) n.prefix n.children) old now
+  whole : (above slot : ℕ) (n : TableNode P) (old now : List LevelStats) → node_at s slot ≡ Some n → AddsVisits (visit above n.form (length n.children) ∷ visits_under s (above + 1) n.prefix n.children) old now
       → AddsSubtree s above slot old now
   whole above slot n old now here adds q h =
       let is = not_last (depth - above) above q slot refl h in
-      let at : (t : IsTree s (suc (depth - (above + 1))) q slot) → Adds (visits_below above (nodes_at s (suc (depth - (above + 1))) q slot)) old now
+      let at : (t : IsTree s (suc (depth - (above + 1))) q slot) → AddsVisits (visits_below above (nodes_at s (suc (depth - (above + 1))) q slot)) old now
       = λ t.
       let both : Some n ≡ Some t.node = sym here ∙ t.here in
       let same : n ≡ t.node = cc in
-      subst (λ vs. Adds vs old now) (sym (visits_at (depth - (above + 1)) above q slot t))
-      (subst (λ (m : TableNode P). Adds (visit above m.form (length m.children) ∷ visits_under s (above + 1) m.prefix m.children) old now) same adds)
+      subst (λ vs. AddsVisits vs old now) (sym (visits_at (depth - (above + 1)) above q slot t))
+      (subst (λ (m : TableNode P). AddsVisits (visit above m.form (length m.children) ∷ visits_under s (above + 1) m.prefix m.children) old now) same adds)
       in
-      subst (λ m. IsTree s m q slot → Adds (visits_below above (nodes_at s m q slot)) old now) is at h
+      subst (λ m. IsTree s m q slot → AddsVisits (visits_below above (nodes_at s m q slot)) old now) is at h
 
   pub count_end : (above slot : ℕ) (n : TableNode P) (from : ℕ) (old now : List LevelStats) → node_at s slot ≡ Some n → between n.children from 256 ≡ [] → Counting s above n from old now
       → AddsSubtree s above slot old now
@@ -124,21 +124,21 @@ module _ {P : Type 0} (s : Table P) where
       let all : counted.done ≡ visit above n.form (length n.children) ∷ visits_under s (above + 1) n.prefix n.children
       = sym (append-nil counted.done) ∙ sym (ap (λ es. counted.done ++ visits_under s (above + 1) n.prefix es) none) ∙ counted.left
       in
-      whole above slot n old now here (subst (λ vs. Adds vs old now) all counted.adds)
+      whole above slot n old now here (subst (λ vs. AddsVisits vs old now) all counted.adds)
 
   pub count_leaf : (above slot : ℕ) (n : TableNode P) (old now : List LevelStats) → IsSubtree s (depth - above) slot → node_at s slot ≡ Some n → length n.prefix ≡ 7
-      → Adds (visit above n.form (length n.children) ∷ []) old now → AddsSubtree s above slot old now
+      → AddsVisits (visit above n.form (length n.children) ∷ []) old now → AddsSubtree s above slot old now
   count_leaf above slot n old now h here seven adds =
       let o = open_subtree s (depth - above) slot n h (sym here) in
       let less : o.less ≡ depth - (above + 1) = omega (arith, o.is, not_last (depth - above) above h.above slot refl h.tree) in
       let children : AreChildren (λ r i. IsTree s (depth - (above + 1)) r i) n.prefix n.children = subst (λ m. AreChildren (λ r i. IsTree s m r i) n.prefix n.children) less o.children in
       let none : visits_under s (above + 1) n.prefix n.children ≡ [] = ap (λ ns. visits_below (above + 1) ns) (leaf_nodes s (depth - (above + 1)) n.prefix n.children seven children) in
-      whole above slot n old now here (subst (λ vs. Adds (visit above n.form (length n.children) ∷ vs) old now) (sym none) adds)
+      whole above slot n old now here (subst (λ vs. AddsVisits (visit above n.form (length n.children) ∷ vs) old now) (sym none) adds)
 
   pub count_root : (root : ℕ) (old new : List LevelStats) → IsTree s depth [] root → IsTally [] old → AddsSubtree s 0 root old new → IsTally (visits_below 0 (nodes_at s depth [] root)) new
   count_root root old new tree none adds =
       let all : depth - 0 ≡ depth = omega arith in
-      subst (λ m. IsTree s m [] root → Adds (visits_below 0 (nodes_at s m [] root)) old new) all (adds []) tree [] none
+      subst (λ m. IsTree s m [] root → AddsVisits (visits_below 0 (nodes_at s m [] root)) old new) all (adds []) tree [] none
 
 -- What the sums of a whole tree come to.
 

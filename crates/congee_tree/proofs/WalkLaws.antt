@@ -57,9 +57,6 @@ module _ {P K : Type 0} (key : ℕ → K) (s : Table P) where
     keys_start old = record { whole = ap (λ es. old ++ keys_of es) (sym (pairs_first s less slot n tree here)) }
 
     module _ (from : ℕ) (old new : List K) (left : KeysLeft less slot n from old new) where
-      pub keys_end : between n.children from 256 ≡ [] → new ≡ old ++ keys_of (pairs_at s (suc less) slot)
-      keys_end none = sym (append-nil new) ∙ ap (λ es. new ++ keys_of (pairs_of (λ j. pairs_at s less j) n.prefix es)) (sym none) ∙ left.whole
-
       module _ (byte : ℕ) (c : Child P) (next : between n.children from 256 ≡ (byte, c) ∷ between n.children (byte + 1) 256) where
         here_and_rest : keys_of (pairs_from s less n from) ≡ keys_of (pairs_under (λ j. pairs_at s less j) n.prefix byte c) ++ keys_of (pairs_from s less n (byte + 1))
         here_and_rest = ap keys_of (pairs_next s less n from byte c next) ∙ keys-append (pairs_under (λ j. pairs_at s less j) n.prefix byte c) (pairs_from s less n (byte + 1))

@@ -142,9 +142,6 @@ module _ (forms : FormCounts) (nodes : List NodeInfo) (h : IsCounted forms nodes
   pub size_counted : size_of forms ≡ charge_of nodes
   size_counted = omega (arith, size_total nodes, h N4, h N16, h N48, h N256)
 
-  pub counted_here : (f : NodeType) → one f f ≤ total (one f) nodes → 0 < count f forms
-  counted_here f l = omega (arith, h f, counts_itself f, l)
-
   module _ (forms' : FormCounts) (nodes' : List NodeInfo) where
     pub counted_trade : (gone come : NodeType) → Trades forms gone come forms' → ((f : NodeType) → total (one f) nodes' + one f gone ≡ total (one f) nodes + one f come) → IsCounted forms' nodes'
     counted_trade gone come x sums f =

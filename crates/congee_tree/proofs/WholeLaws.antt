@@ -70,9 +70,6 @@ module _ {P : Type 0} (s : Table P) (root : ℕ) (key : List ℕ) (bytes : AreBy
         }
 
 module _ {P : Type 0} (s : Table P) (root : ℕ) (key : List ℕ) (place : Place P) (a : Arrives s root key place) where
-  pub is_there : IsSome (node_at s place.slot)
-  is_there = rw a.here refl
-
   -- once there is room, a child may be put
   pub has_room : (g : Table P) (b : ℕ) → place.end ≡ Absent b → MakesRoom s g place.slot → HasRoomUnder g place.slot b
   has_room g b is room =

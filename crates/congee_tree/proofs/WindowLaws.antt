@@ -6,7 +6,7 @@ use Rattle.std.proofs.Math.Nat.{mul-le-mul_right, mod-lt}
 use Rattle.std.proofs.Common.{w64}
 use Rattle.std.specs.Int.{from_be_bytes}
 use Rattle.congee_nodes.specs.Key.{span, least, room, low, high}
-use Rattle.congee_nodes.proofs.KeyLaws.{room-positive, key_number-be_bytes}
+use Rattle.congee_nodes.proofs.KeyLaws.{between_spans, room-positive, key_number-be_bytes}
 use Rattle.congee_tree.specs.Scan.{IsWindow}
 use Rattle.congee_tree.specs.declared.range_scan.Window.{Window}
 
@@ -52,16 +52,13 @@ span-power (suc k) =
     let more : 8 * suc k ≡ 8 + 8 * k = omega arith in
     rw (more, pow-add 2 8 (8 * k)) (ap (λ x. 256 * x) (span-power k))
 
-next_span : (b q s : ℕ) → b < q → b * s + s ≤ q * s
-next_span b q s h = let k = mul-le-mul_right s h in omega (arith, k)
-
 module _ (p : List ℕ) (k : ℕ) (short : length p + suc k ≡ 8) where
   -- the bytes below a quotient have keys before a number
   before_quotient : (n b : ℕ) → b < n / 2 ^ (8 * k) → high (p ++ b ∷ []) ≤ low p + n
   before_quotient n b less =
       let q = n / 2 ^ (8 * k) in
       let split = shr_split n (8 * k) in
-      let step = next_span b q (2 ^ (8 * k)) less in
+      let step = between_spans b q (2 ^ (8 * k)) less in
       rw (least-snoc 8 k p b short, room-snoc 8 k p b short, span-power k) (omega arith)
 
   -- and those above it have keys past that number
@@ -69,7 +66,7 @@ module _ (p : List ℕ) (k : ℕ) (short : length p + suc k ≡ 8) where
   past_quotient n b more =
       let q = n / 2 ^ (8 * k) in
       let split = shr_split n (8 * k) in
-      let step = next_span q b (2 ^ (8 * k)) more in
+      let step = between_spans q b (2 ^ (8 * k)) more in
       let rest = mod-lt n {m = 2 ^ (8 * k)} (pow_pos (8 * k)) in
       rw (least-snoc 8 k p b short, span-power k) (omega arith)
 

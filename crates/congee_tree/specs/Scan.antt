@@ -25,7 +25,7 @@ module _ {E : Type 0} where
     pub filled : buffer ≡ take count done ++ drop count whole
 
   -- these entries are done besides
-  pub record Adds (entries old : List E) (from : ℕ) (new : List E) (count : ℕ) : Type 0 where
+  pub record AddsEntries (entries old : List E) (from : ℕ) (new : List E) (count : ℕ) : Type 0 where
     pub inside : count ≤ length new
     pub fills : (whole done : List E) → Fills whole done from old → Fills whole (done ++ entries) count new
 

@@ -8,7 +8,7 @@
 ghost use Rattle.std.specs.Prelude.{◌≡◌, ℕ, suc, ◌≤◌, length};
 ghost use Rattle.congee_nodes.specs.Table.{IsSubtree, pairs_at};
 ghost use Rattle.congee_nodes.specs.Key.{low};
-ghost use Rattle.congee_tree.specs.Scan.{IsWindow, Stands, Adds, found};
+ghost use Rattle.congee_tree.specs.Scan.{IsWindow, Stands, AddsEntries, found};
 
 use congee_nodes::child::ChildRef;
 use congee_nodes::tree_node::TreeNode;
@@ -97,7 +97,7 @@ pub(crate) fn scan<E: RangeEntry>(
 ) -> usize
     requires tree { Stands nodes.now.slots slot }
     requires room { count ≤ length buffer.old }
-    ensures { (levels : ℕ) → IsSubtree nodes.now.slots (suc levels) slot → Adds (found E.entry start end (pairs_at nodes.now.slots (suc levels) slot)) buffer.old count buffer.new result }
+    ensures { (levels : ℕ) → IsSubtree nodes.now.slots (suc levels) slot → AddsEntries (found E.entry start end (pairs_at nodes.now.slots (suc levels) slot)) buffer.old count buffer.new result }
 {
     let Some(node) = nodes.get(slot) else {
         unreachable!()

@@ -2,52 +2,89 @@
 
 ghost use Rattle.std.specs.Prelude.{None};
 
+use super::asserts::{assert_number, assert_old, assert_put, assert_test};
+use super::rows::assert_rows;
+use crate::calls::{Call, Reply};
 use crate::{Allocator, Budget, Congee, NodeSize, OOMError};
 use std::alloc::Global;
 use std::process::Abort;
 use std::sync::atomic::{AtomicU64, Ordering};
 use std::test::Fail;
 
-// A map of so many keys, each so far from the one before, and each its own value.
-fn filled(
-    alloc: Global,
-    limit: u64,
+/// An insertion that takes memory, and the least limit with which it succeeds.
+#[derive(Clone, Copy)]
+struct Least {
+    /// How many keys there are before, each so far from the one before.
     count: u64,
     step: u64,
-) -> Result<Congee<u64, u64, Budget>, Fail> {
+    /// What is inserted.
+    key: u64,
+    limit: u64,
+    /// What is charged before and after.
+    before: u128,
+    after: u128,
+}
+
+// A map with the row's keys, each its own value.
+fn filled(alloc: Global, limit: u64, row: &Least) -> Result<Congee<u64, u64, Budget>, OOMError> {
     let mut map = Congee::new(alloc, Budget::new(limit))?;
-    for i in 0..count {
-        let key = i.wrapping_mul(step);
+    for i in 0..row.count {
+        let key = i.wrapping_mul(row.step);
         map.insert(key, key)?;
     }
     Ok(map)
 }
 
+// The limit is enough.
+fn assert_enough(rt: &impl Abort, map: &mut Congee<u64, u64, Budget>, row: &Least) {
+    assert_number(rt, map.charged(), row.before);
+    assert_put(rt, row.key, map.insert(row.key, 7), Ok(None));
+    assert_number(rt, map.charged(), row.after);
+}
+
+// The limit isn't enough, and the map stays as it was.
+fn assert_refused(rt: &impl Abort, map: &mut Congee<u64, u64, Budget>, row: &Least) {
+    assert_number(rt, map.charged(), row.before);
+    assert_put(rt, row.key, map.insert(row.key, 7), Err(OOMError::new()));
+    assert_number(rt, map.charged(), row.before);
+    assert_old(rt, row.key, map.get(&row.key), None);
+    for i in 0..row.count {
+        let key = i.wrapping_mul(row.step);
+        assert_old(rt, key, map.get(&key), Some(key));
+    }
+}
+
+fn assert_least(rt: &impl Abort, alloc: Global, row: &Least) -> Result<(), OOMError> {
+    let mut map = filled(alloc, row.limit, row)?;
+    assert_enough(rt, &mut map, row);
+    let mut map = filled(alloc, row.limit.wrapping_sub(1), row)?;
+    assert_refused(rt, &mut map, row);
+    Ok(())
+}
+
+fn least_limit(count: u64, step: u64, key: u64, limit: u64, before: u128, after: u128) -> Least {
+    Least {
+        count,
+        step,
+        key,
+        limit,
+        before,
+        after,
+    }
+}
+
 #[test]
 fn least_limits(rt: HostRuntime) -> Result<(), Fail> {
-    let rows: [(u64, u64, u64, u64, u128, u128); 6] = [
-        (0, 1, 0, 2168, 2104, 2168),
-        (1, 1, 256, 2296, 2168, 2296),
-        (4, 1, 4, 2336, 2168, 2272),
-        (4, 256, 1024, 2656, 2424, 2592),
-        (16, 1, 16, 2944, 2272, 2776),
-        (48, 1, 48, 4880, 2776, 4208),
+    let rows = [
+        least_limit(0, 1, 0, 2168, 2104, 2168),
+        least_limit(1, 1, 256, 2296, 2168, 2296),
+        least_limit(4, 1, 4, 2336, 2168, 2272),
+        least_limit(4, 256, 1024, 2656, 2424, 2592),
+        least_limit(16, 1, 16, 2944, 2272, 2776),
+        least_limit(48, 1, 48, 4880, 2776, 4208),
     ];
-    for (count, step, key, least, before, after) in rows {
-        let mut map = filled(rt.alloc(), least, count, step)?;
-        assert_eq!(rt; map.charged(), before, "at {key}");
-        assert_eq!(rt; map.insert(key, 7), Ok(None), "at {key}");
-        assert_eq!(rt; map.charged(), after, "at {key}");
-
-        let mut map = filled(rt.alloc(), least.wrapping_sub(1), count, step)?;
-        assert_eq!(rt; map.charged(), before, "at {key}");
-        assert_eq!(rt; map.insert(key, 7), Err(OOMError::new()), "at {key}");
-        assert_eq!(rt; map.charged(), before, "at {key}");
-        assert_eq!(rt; map.get(&key), None, "at {key}");
-        for i in 0..count {
-            let stored = i.wrapping_mul(step);
-            assert_eq!(rt; map.get(&stored), Some(stored), "at {key}");
-        }
+    for row in &rows {
+        assert_least(&rt, rt.alloc(), row)?;
     }
     Ok(())
 }
@@ -55,165 +92,254 @@ fn least_limits(rt: HostRuntime) -> Result<(), Fail> {
 #[test]
 fn no_memory_for_a_second_path(rt: HostRuntime) -> Result<(), Fail> {
     let mut map = Congee::new(rt.alloc(), Budget::new(2168))?;
-    assert_eq!(rt; map.insert(0u64, 100u64), Ok(None));
-    assert_eq!(rt; map.insert(u64::MAX, 100), Err(OOMError::new()));
-    assert_eq!(rt; map.get(&0), Some(100));
-    assert_eq!(rt; map.charged(), 2168);
+    let rows = [
+        (Call::Insert(0, 100), Reply::Old(None)),
+        (Call::Insert(u64::MAX, 100), Reply::Refused),
+        (Call::Get(0), Reply::Old(Some(100))),
+    ];
+    assert_rows(&rt, rt.alloc(), &mut map, &rows);
+    assert_number(&rt, map.charged(), 2168);
     Ok(())
 }
 
 #[test]
 fn no_memory_for_a_leaf(rt: HostRuntime) -> Result<(), Fail> {
     let mut map = Congee::new(rt.alloc(), Budget::new(2104))?;
-    assert_eq!(rt; map.insert(100u64, 100u64), Err(OOMError::new()));
     let mut called = false;
     let mut note = |_standing: Option<u64>| -> u64 {
         called = true;
         7
     };
-    assert_eq!(rt; map.compute_or_insert(100, &mut note), Err(OOMError::new()));
-    assert_eq!(rt; called, false);
-    assert_eq!(rt; map.is_empty(), true);
+    let answer = map.compute_or_insert(100, &mut note);
+    assert_put(&rt, 100, answer, Err(OOMError::new()));
+    assert_test(&rt, called, false);
+    let rows = [
+        (Call::Insert(100, 100), Reply::Refused),
+        (Call::IsEmpty, Reply::Tested(true)),
+    ];
+    assert_rows(&rt, rt.alloc(), &mut map, &rows);
+    Ok(())
+}
+
+#[test]
+fn no_memory_for_the_root(rt: HostRuntime) {
     let none: Result<Congee<u64, u64, Budget>, OOMError> = Congee::new(
         rt.alloc(),
         Budget::new(2103),
     );
-    assert_eq!(rt; none.is_err(), true);
-    Ok(())
+    assert_test(&rt, none.is_err(), true);
 }
 
 #[test]
 fn a_split_needs_two_nodes(rt: HostRuntime) -> Result<(), Fail> {
     let mut map = Congee::new(rt.alloc(), Budget::new(2232))?;
-    assert_eq!(rt; map.insert(1u64, 1u64), Ok(None));
-    assert_eq!(rt; map.insert(256, 2), Err(OOMError::new()));
-    assert_eq!(rt; map.charged(), 2168);
-    assert_eq!(rt; map.get(&256), None);
-    assert_eq!(rt; map.insert(2, 2), Ok(None));
-    assert_eq!(rt; map.insert(72057594037927936, 3), Ok(None));
-    assert_eq!(rt; map.charged(), 2232);
+    let rows = [
+        (Call::Insert(1, 1), Reply::Old(None)),
+        (Call::Insert(256, 2), Reply::Refused),
+    ];
+    assert_rows(&rt, rt.alloc(), &mut map, &rows);
+    assert_number(&rt, map.charged(), 2168);
+    let rows = [
+        (Call::Get(256), Reply::Old(None)),
+        (Call::Insert(2, 2), Reply::Old(None)),
+        (Call::Insert(72057594037927936, 3), Reply::Old(None)),
+    ];
+    assert_rows(&rt, rt.alloc(), &mut map, &rows);
+    assert_number(&rt, map.charged(), 2232);
     Ok(())
 }
 
 #[test]
 fn removal_gives_a_leaf_back(rt: HostRuntime) -> Result<(), Fail> {
     let mut map = Congee::new(rt.alloc(), Budget::new(2168))?;
-    assert_eq!(rt; map.insert(0u64, 1u64), Ok(None));
-    assert_eq!(rt; map.insert(1, 2), Ok(None));
-    assert_eq!(rt; map.remove(&0), Some(1));
-    assert_eq!(rt; map.charged(), 2168);
-    assert_eq!(rt;
-        map.compute_if_present(&1, &mut |_standing: u64| None),
-        Some((2, None))
-    );
-    assert_eq!(rt; map.charged(), 2104);
-    assert_eq!(rt; map.insert(u64::MAX, 3), Ok(None));
+    let rows = [
+        (Call::Insert(0, 1), Reply::Old(None)),
+        (Call::Insert(1, 2), Reply::Old(None)),
+        (Call::Remove(0), Reply::Old(Some(1))),
+    ];
+    assert_rows(&rt, rt.alloc(), &mut map, &rows);
+    assert_number(&rt, map.charged(), 2168);
+    let rows = [(
+        Call::ComputeIfPresent(1, None),
+        Reply::Computed(Some((2, None))),
+    )];
+    assert_rows(&rt, rt.alloc(), &mut map, &rows);
+    assert_number(&rt, map.charged(), 2104);
+    let rows = [(Call::Insert(u64::MAX, 3), Reply::Old(None))];
+    assert_rows(&rt, rt.alloc(), &mut map, &rows);
     Ok(())
+}
+
+/// How many requests are still granted, and what is charged.
+#[derive(Drop)]
+struct Counts {
+    requests: AtomicU64,
+    charged: AtomicU64,
+}
+
+impl Counts {
+    fn new() -> Self {
+        Counts {
+            requests: AtomicU64::new(0),
+            charged: AtomicU64::new(0),
+        }
+    }
+
+    fn grant(&self, requests: u64) {
+        self.requests.store(requests, Ordering::Relaxed);
+    }
+
+    fn charged(&self) -> u64 {
+        self.charged.load(Ordering::Relaxed)
+    }
 }
 
 // Grants so many requests, and refuses the one after them. Tells what is charged.
 #[derive(Drop)]
 struct Counted<'a> {
-    requests: &'a AtomicU64,
-    charged: &'a AtomicU64,
+    counts: &'a Counts,
 }
 
 impl Allocator for Counted<'_> {
     ghost charge = { λ _. None };
 
     fn allocate(&mut self, size: NodeSize) -> Result<(), OOMError> {
-        if self.requests.fetch_sub(1, Ordering::Relaxed) == 0 {
+        if self.counts.requests.fetch_sub(1, Ordering::Relaxed) == 0 {
             return Err(OOMError::new());
         }
-        self.charged.fetch_add(size.bytes(), Ordering::Relaxed);
+        self.counts
+            .charged
+            .fetch_add(size.bytes(), Ordering::Relaxed);
         Ok(())
     }
 
     fn deallocate(&mut self, size: NodeSize) {
-        self.charged.fetch_sub(size.bytes(), Ordering::Relaxed);
+        self.counts
+            .charged
+            .fetch_sub(size.bytes(), Ordering::Relaxed);
     }
+}
+
+type CountedMap<'a> = Congee<u64, u64, Counted<'a>>;
+
+// Inserts the key as its own value, by a computation or not. Answers also how often the closure was called.
+fn insert_by(
+    map: &mut CountedMap<'_>,
+    key: u64,
+    computes: bool,
+) -> (Result<Option<u64>, OOMError>, u8) {
+    let mut calls = 0u8;
+    if !computes {
+        return (map.insert(key, key), calls);
+    }
+    let mut count = |_standing: Option<u64>| -> u64 {
+        calls = calls.wrapping_add(1);
+        key
+    };
+    let result = map.compute_or_insert(key, &mut count);
+    (result, calls)
+}
+
+// Makes the insertion of a new key with so many requests granted, and answers whether they were enough.
+fn is_enough(
+    rt: &impl Abort,
+    map: &mut CountedMap<'_>,
+    counts: &Counts,
+    key: u64,
+    computes: bool,
+    granted: u64,
+) -> bool {
+    let before = counts.charged();
+    counts.grant(granted);
+    let (result, calls) = insert_by(map, key, computes);
+    let after = counts.charged();
+    assert_number(rt, map.charged(), u128::from(after));
+    let enough = result.is_ok();
+    let (wanted, stands, called) = if enough {
+        (Ok(None), Some(key), computes)
+    } else {
+        assert_number(rt, u128::from(after), u128::from(before));
+        (Err(OOMError::new()), None, false)
+    };
+    assert_put(rt, key, result, wanted);
+    assert_old(rt, key, map.get(&key), stands);
+    assert_number(rt, u128::from(calls), u128::from(called));
+    enough
 }
 
 // Makes the insertion of a new key again and again, its first request refused, then its second and so on, until one is
 // granted all. Answers how many it asked for.
-fn insert_refused(
+fn requests_of(
     rt: &impl Abort,
-    map: &mut Congee<u64, u64, Counted<'_>>,
-    requests: &AtomicU64,
-    charged: &AtomicU64,
+    map: &mut CountedMap<'_>,
+    counts: &Counts,
     key: u64,
     computes: bool,
 ) -> u64 {
-    let before = charged.load(Ordering::Relaxed);
     for granted in 0..8 {
-        requests.store(granted, Ordering::Relaxed);
-        let mut calls = 0u8;
-        let result = if computes {
-            let mut count = |_standing: Option<u64>| -> u64 {
-                calls = calls.wrapping_add(1);
-                key
-            };
-            map.compute_or_insert(key, &mut count)
-        } else {
-            map.insert(key, key)
-        };
-        let after = charged.load(Ordering::Relaxed);
-        assert_eq!(rt; map.charged(), u128::from(after));
-        if result.is_ok() {
-            assert_eq!(rt; result, Ok(None));
-            assert_eq!(rt; map.get(&key), Some(key));
-            assert_eq!(rt; calls, u8::from(computes));
+        if is_enough(rt, map, counts, key, computes, granted) {
             return granted;
         }
-        assert_eq!(rt; after, before);
-        assert_eq!(rt; map.get(&key), None);
-        assert_eq!(rt; calls, 0);
     }
     8
 }
 
+// Insertions that take each kind of memory, and calls that take none.
+fn assert_requests(rt: &impl Abort, map: &mut CountedMap<'_>, counts: &Counts, computes: bool) {
+    // a leaf; none; a split; a leaf in a node with room, which is then full; a leaf and growth; growth of a leaf
+    let rows = [
+        (0, 1),
+        (1, 0),
+        (256, 2),
+        (512, 1),
+        (768, 1),
+        (1024, 2),
+        (2, 0),
+        (3, 0),
+        (4, 1),
+    ];
+    for (key, wanted) in rows {
+        let asked = requests_of(rt, map, counts, key, computes);
+        assert_old(rt, key, Some(asked), Some(wanted));
+    }
+}
+
+// What takes no memory is never refused.
+fn assert_never_refused(rt: &impl Abort, alloc: Global, map: &mut CountedMap<'_>, counts: &Counts) {
+    counts.grant(0);
+    let rows = [
+        (Call::Insert(2, 9), Reply::Old(Some(2))),
+        (
+            Call::CompareExchange(2, 9, Some(2)),
+            Reply::Exchanged(Ok(Some(2))),
+        ),
+        (
+            Call::ComputeIfPresent(2, None),
+            Reply::Computed(Some((2, None))),
+        ),
+        (Call::Remove(1024), Reply::Old(Some(1024))),
+    ];
+    assert_rows(rt, alloc, map, &rows);
+    assert_number(rt, map.charged(), u128::from(counts.charged()));
+}
+
 #[test]
 fn each_request_refused(rt: HostRuntime) -> Result<(), Fail> {
-    let charged = AtomicU64::new(0);
-    let requests = AtomicU64::new(0);
+    let counts = Counts::new();
     for computes in [false, true] {
-        requests.store(0, Ordering::Relaxed);
-        let refused: Result<Congee<u64, u64, Counted>, OOMError> = Congee::new(
+        counts.grant(0);
+        let refused: Result<CountedMap<'_>, OOMError> = Congee::new(
             rt.alloc(),
-            Counted {
-                requests: &requests,
-                charged: &charged,
-            },
+            Counted { counts: &counts },
         );
-        assert_eq!(rt; refused.is_err(), true);
-        assert_eq!(rt; charged.load(Ordering::Relaxed), 0);
-        requests.store(1, Ordering::Relaxed);
-        let mut map = Congee::new(
-            rt.alloc(),
-            Counted {
-                requests: &requests,
-                charged: &charged,
-            },
-        )?;
-        // a leaf; none; a split; a leaf in a node with room, which is then full; a leaf and growth; growth of a leaf
-        let keys = [0, 1, 256, 512, 768, 1024, 2, 3, 4];
-        let wanted = [1, 0, 2, 1, 1, 2, 0, 0, 1];
-        for i in 0..keys.len() {
-            let asked = insert_refused(&rt, &mut map, &requests, &charged, keys[i], computes);
-            assert_eq!(rt; asked, wanted[i], "at {}", keys[i]);
-        }
-        // what takes no memory is never refused
-        requests.store(0, Ordering::Relaxed);
-        assert_eq!(rt; map.insert(2, 9), Ok(Some(2)));
-        assert_eq!(rt; map.compare_exchange(&2, &9, Some(2)), Ok(Some(2)));
-        assert_eq!(rt;
-            map.compute_if_present(&2, &mut |_standing: u64| None),
-            Some((2, None))
-        );
-        assert_eq!(rt; map.remove(&1024), Some(1024));
-        assert_eq!(rt; map.charged(), u128::from(charged.load(Ordering::Relaxed)));
+        assert_test(&rt, refused.is_err(), true);
+        assert_number(&rt, u128::from(counts.charged()), 0);
+        counts.grant(1);
+        let mut map = Congee::new(rt.alloc(), Counted { counts: &counts })?;
+        assert_requests(&rt, &mut map, &counts, computes);
+        assert_never_refused(&rt, rt.alloc(), &mut map, &counts);
         drop(map);
-        assert_eq!(rt; charged.load(Ordering::Relaxed), 0);
+        assert_number(&rt, u128::from(counts.charged()), 0);
     }
     Ok(())
 }

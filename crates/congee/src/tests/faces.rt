@@ -2,9 +2,12 @@
 
 ghost use Rattle.std.specs.Prelude.{◌*◌, ◌/◌, ◌%◌, ◌^◌};
 
+use super::asserts::{assert_number, assert_old};
+use super::rows::{assert_number_run, assert_rows, assert_run};
 use crate::calls::{Call, Reply, run_calls};
 use crate::u64_calls::{U64Call, U64Reply, run_u64_calls};
 use crate::{Congee, DefaultAllocator, OOMError, U64Congee, Word};
+use std::process::Abort;
 use std::test::Fail;
 
 /// Written as its value divided by two; n is read back as 2n.
@@ -45,165 +48,222 @@ impl Word for Tens {
 
 #[test]
 fn answers_the_value_before(rt: HostRuntime) -> Result<(), Fail> {
-    let mut map: U64Congee<u64> = U64Congee::new(rt.alloc())?;
-    assert_eq!(rt; map.insert(1, 42), Ok(None));
-    assert_eq!(rt; map.get(1), Some(42));
-    assert_eq!(rt; map.insert(1, 43), Ok(Some(42)));
-    assert_eq!(rt; map.get(1), Some(43));
-    assert_eq!(rt; map.get(0), None);
-    assert_eq!(rt; map.insert(u64::MAX, 7), Ok(None));
-    assert_eq!(rt; map.insert(0, 8), Ok(None));
-    assert_eq!(rt; map.get(u64::MAX), Some(7));
-    assert_eq!(rt; map.get(0), Some(8));
-    Ok(())
+    let rows = [
+        (U64Call::Insert(1, 42), None),
+        (U64Call::Get(1), Some(42)),
+        (U64Call::Insert(1, 43), Some(42)),
+        (U64Call::Get(1), Some(43)),
+        (U64Call::Get(0), None),
+        (U64Call::Insert(u64::MAX, 7), None),
+        (U64Call::Insert(0, 8), None),
+        (U64Call::Get(u64::MAX), Some(7)),
+        (U64Call::Get(0), Some(8)),
+    ];
+    assert_number_run::<u64>(&rt, rt.alloc(), &rows)
 }
 
 #[test]
 fn reads_values_back_from_their_numbers(rt: HostRuntime) -> Result<(), Fail> {
-    let mut map: U64Congee<Half> = U64Congee::new(rt.alloc())?;
-    assert_eq!(rt; map.insert(1, Half(7)), Ok(None));
-    assert_eq!(rt; map.get(1), Some(Half(6)));
-    assert_eq!(rt; map.insert(1, Half(9)), Ok(Some(Half(6))));
-    assert_eq!(rt; map.get(1), Some(Half(8)));
-    Ok(())
+    let rows = [
+        (U64Call::Insert(1, Half(7)), None),
+        (U64Call::Get(1), Some(Half(6))),
+        (U64Call::Insert(1, Half(9)), Some(Half(6))),
+        (U64Call::Get(1), Some(Half(8))),
+    ];
+    assert_number_run::<Half>(&rt, rt.alloc(), &rows)
 }
 
 #[test]
 fn sets_overwrites_and_takes_out(rt: HostRuntime) -> Result<(), Fail> {
-    let mut map: U64Congee<u64> = U64Congee::new(rt.alloc())?;
-    assert_eq!(rt; map.remove(7), None);
-    assert_eq!(rt; map.insert(7, 70), Ok(None));
-    assert_eq!(rt; map.get(7), Some(70));
-    assert_eq!(rt; map.remove(7), Some(70));
-    assert_eq!(rt; map.get(7), None);
-    assert_eq!(rt; map.remove(7), None);
-    assert_eq!(rt; map.insert(7, 71), Ok(None));
-    assert_eq!(rt; map.insert(7, 72), Ok(Some(71)));
-    assert_eq!(rt; map.get(7), Some(72));
-    Ok(())
+    let rows = [
+        (U64Call::Remove(7), None),
+        (U64Call::Insert(7, 70), None),
+        (U64Call::Get(7), Some(70)),
+        (U64Call::Remove(7), Some(70)),
+        (U64Call::Get(7), None),
+        (U64Call::Remove(7), None),
+        (U64Call::Insert(7, 71), None),
+        (U64Call::Insert(7, 72), Some(71)),
+        (U64Call::Get(7), Some(72)),
+    ];
+    assert_number_run::<u64>(&rt, rt.alloc(), &rows)
 }
 
 #[test]
 fn several_keys_stand_beside_each_other(rt: HostRuntime) -> Result<(), Fail> {
-    let mut map: Congee<u64, u64> = Congee::new(rt.alloc(), DefaultAllocator {})?;
-    for key in [1, 2, 300, 70_000, u64::MAX] {
-        assert_eq!(rt; map.insert(key, key ^ 5), Ok(None), "{key}");
-    }
-    assert_eq!(rt; map.remove(&300), Some(300 ^ 5));
-    assert_eq!(rt; map.remove(&301), None);
-    let wanted = [
-        (1, Some(4)),
-        (2, Some(7)),
-        (3, None),
-        (300, None),
-        (70_000, Some(70_000 ^ 5)),
-        (u64::MAX, Some(u64::MAX ^ 5)),
+    let rows = [
+        (Call::Insert(1, 4), Reply::Old(None)),
+        (Call::Insert(2, 7), Reply::Old(None)),
+        (Call::Insert(300, 300 ^ 5), Reply::Old(None)),
+        (Call::Insert(70_000, 70_000 ^ 5), Reply::Old(None)),
+        (Call::Insert(u64::MAX, u64::MAX ^ 5), Reply::Old(None)),
+        (Call::Remove(300), Reply::Old(Some(300 ^ 5))),
+        (Call::Remove(301), Reply::Old(None)),
+        (Call::Get(1), Reply::Old(Some(4))),
+        (Call::Get(2), Reply::Old(Some(7))),
+        (Call::Get(3), Reply::Old(None)),
+        (Call::Get(300), Reply::Old(None)),
+        (Call::Get(70_000), Reply::Old(Some(70_000 ^ 5))),
+        (Call::Get(u64::MAX), Reply::Old(Some(u64::MAX ^ 5))),
     ];
-    for (key, value) in wanted {
-        assert_eq!(rt; map.get(&key), value, "{key}");
-    }
-    Ok(())
+    assert_run::<u64, u64>(&rt, rt.alloc(), &rows)
 }
 
 #[test]
 fn keys_with_one_number_are_one_key(rt: HostRuntime) -> Result<(), Fail> {
-    let mut map: Congee<Tens, u64> = Congee::new(rt.alloc(), DefaultAllocator {})?;
-    assert_eq!(rt; map.insert(Tens(12), 1), Ok(None));
-    assert_eq!(rt; map.insert(Tens(17), 2), Ok(Some(1)));
-    assert_eq!(rt; map.get(&Tens(19)), Some(2));
-    assert_eq!(rt; map.get(&Tens(20)), None);
-    assert_eq!(rt; map.remove(&Tens(10)), Some(2));
-    assert_eq!(rt; map.is_empty(), true);
-    Ok(())
+    let rows = [
+        (Call::Insert(Tens(12), 1), Reply::Old(None)),
+        (Call::Insert(Tens(17), 2), Reply::Old(Some(1))),
+        (Call::Get(Tens(19)), Reply::Old(Some(2))),
+        (Call::Get(Tens(20)), Reply::Old(None)),
+        (Call::Remove(Tens(10)), Reply::Old(Some(2))),
+        (Call::IsEmpty, Reply::Tested(true)),
+    ];
+    assert_run::<Tens, u64>(&rt, rt.alloc(), &rows)
 }
 
 #[test]
 fn empty_where_an_emptied_node_stays(rt: HostRuntime) -> Result<(), Fail> {
-    let mut map: Congee<u64, u64> = Congee::new(rt.alloc(), DefaultAllocator {})?;
-    assert_eq!(rt; map.is_empty(), true);
-    assert_eq!(rt; map.insert(1, 1), Ok(None));
-    assert_eq!(rt; map.insert(256, 2), Ok(None));
-    assert_eq!(rt; map.is_empty(), false);
-    assert_eq!(rt; map.remove(&1), Some(1));
-    assert_eq!(rt; map.is_empty(), false);
-    assert_eq!(rt; map.remove(&256), Some(2));
-    assert_eq!(rt; map.is_empty(), true);
-    Ok(())
+    let rows = [
+        (Call::IsEmpty, Reply::Tested(true)),
+        (Call::Insert(1, 1), Reply::Old(None)),
+        (Call::Insert(256, 2), Reply::Old(None)),
+        (Call::IsEmpty, Reply::Tested(false)),
+        (Call::Remove(1), Reply::Old(Some(1))),
+        (Call::IsEmpty, Reply::Tested(false)),
+        (Call::Remove(256), Reply::Old(Some(2))),
+        (Call::IsEmpty, Reply::Tested(true)),
+    ];
+    assert_run::<u64, u64>(&rt, rt.alloc(), &rows)
 }
 
 #[test]
 fn exchanges_where_the_value_stands(rt: HostRuntime) -> Result<(), Fail> {
-    let mut map: Congee<u64, u64> = Congee::new(rt.alloc(), DefaultAllocator {})?;
-    assert_eq!(rt; map.compare_exchange(&1, &42, Some(43)), Err(None));
-    assert_eq!(rt; map.insert(1, 42), Ok(None));
-    assert_eq!(rt; map.compare_exchange(&1, &41, Some(43)), Err(Some(42)));
-    assert_eq!(rt; map.get(&1), Some(42));
-    assert_eq!(rt; map.compare_exchange(&1, &42, Some(43)), Ok(Some(43)));
-    assert_eq!(rt; map.get(&1), Some(43));
-    assert_eq!(rt; map.compare_exchange(&1, &43, None), Ok(None));
-    assert_eq!(rt; map.get(&1), None);
-    Ok(())
+    let rows = [
+        (
+            Call::CompareExchange(1, 42, Some(43)),
+            Reply::Exchanged(Err(None)),
+        ),
+        (Call::Insert(1, 42), Reply::Old(None)),
+        (
+            Call::CompareExchange(1, 41, Some(43)),
+            Reply::Exchanged(Err(Some(42))),
+        ),
+        (Call::Get(1), Reply::Old(Some(42))),
+        (
+            Call::CompareExchange(1, 42, Some(43)),
+            Reply::Exchanged(Ok(Some(43))),
+        ),
+        (Call::Get(1), Reply::Old(Some(43))),
+        (
+            Call::CompareExchange(1, 43, None),
+            Reply::Exchanged(Ok(None)),
+        ),
+        (Call::Get(1), Reply::Old(None)),
+    ];
+    assert_run::<u64, u64>(&rt, rt.alloc(), &rows)
 }
 
 #[test]
 fn exchange_answers_the_handed_value(rt: HostRuntime) -> Result<(), Fail> {
-    let mut map: Congee<u64, Half> = Congee::new(rt.alloc(), DefaultAllocator {})?;
-    assert_eq!(rt; map.insert(1, Half(7)), Ok(None));
     let (old, new) = (Half(6), Some(Half(9)));
-    assert_eq!(rt; map.compare_exchange(&1, &old, new), Ok(new));
-    assert_eq!(rt; map.compare_exchange(&1, &old, new), Err(Some(Half(8))));
-    Ok(())
+    let rows = [
+        (Call::Insert(1, Half(7)), Reply::Old(None)),
+        (
+            Call::CompareExchange(1, old, new),
+            Reply::Exchanged(Ok(new)),
+        ),
+        (
+            Call::CompareExchange(1, old, new),
+            Reply::Exchanged(Err(Some(Half(8)))),
+        ),
+    ];
+    assert_run::<u64, Half>(&rt, rt.alloc(), &rows)
+}
+
+// Raises the number at the key by one, or takes the greatest one out, and counts the calls of its closure.
+fn raise(map: &mut Congee<u64, u64>, key: u64, calls: &mut u32) -> Option<(u64, Option<u64>)> {
+    let mut raise = |standing: u64| -> Option<u64> {
+        *calls = calls.wrapping_add(1);
+        standing.checked_add(1)
+    };
+    map.compute_if_present(&key, &mut raise)
+}
+
+// A raise at key 1 answers so, and then this stands there.
+fn assert_raised(
+    rt: &impl Abort,
+    map: &mut Congee<u64, u64>,
+    calls: &mut u32,
+    wanted: Option<(u64, Option<u64>)>,
+    standing: Option<u64>,
+) {
+    assert_eq!(rt; raise(map, 1, calls), wanted);
+    assert_old(rt, 1, map.get(&1), standing);
 }
 
 #[test]
 fn computes_where_a_key_is_present(rt: HostRuntime) -> Result<(), Fail> {
     let mut map: Congee<u64, u64> = Congee::new(rt.alloc(), DefaultAllocator {})?;
     let mut calls = 0u32;
-    let mut raise = |standing: u64| -> Option<u64> {
-        calls = calls.wrapping_add(1);
-        standing.checked_add(1)
-    };
-    assert_eq!(rt; map.compute_if_present(&1, &mut raise), None);
-    assert_eq!(rt; map.insert(1, u64::MAX - 1), Ok(None));
-    let raised = map.compute_if_present(&1, &mut raise);
-    assert_eq!(rt; raised, Some((u64::MAX - 1, Some(u64::MAX))));
-    assert_eq!(rt; map.get(&1), Some(u64::MAX));
-    let removed = map.compute_if_present(&1, &mut raise);
-    assert_eq!(rt; removed, Some((u64::MAX, None)));
-    assert_eq!(rt; map.get(&1), None);
-    assert_eq!(rt; map.compute_if_present(&1, &mut raise), None);
-    assert_eq!(rt; calls, 2);
+    assert_raised(&rt, &mut map, &mut calls, None, None);
+    assert_old(&rt, 1, map.insert(1, u64::MAX - 1)?, None);
+    let rows = [
+        (Some((u64::MAX - 1, Some(u64::MAX))), Some(u64::MAX)),
+        (Some((u64::MAX, None)), None),
+        (None, None),
+    ];
+    for (raised, standing) in rows {
+        assert_raised(&rt, &mut map, &mut calls, raised, standing);
+    }
+    assert_number(&rt, u128::from(calls), 2);
     Ok(())
+}
+
+// Puts what stands at the key raised by one there, or 11; counts the calls of its closure.
+fn raise_or_begin(
+    map: &mut Congee<u64, Half>,
+    key: u64,
+    calls: &mut u32,
+) -> Result<Option<Half>, OOMError> {
+    let mut count = |standing: Option<u64>| -> u64 {
+        *calls = calls.wrapping_add(1);
+        standing.unwrap_or(10).wrapping_add(1)
+    };
+    map.compute_or_insert(key, &mut count)
 }
 
 #[test]
 fn computes_or_inserts(rt: HostRuntime) -> Result<(), Fail> {
     let mut map: Congee<u64, Half> = Congee::new(rt.alloc(), DefaultAllocator {})?;
     let mut calls = 0u32;
-    let mut count = |standing: Option<u64>| -> u64 {
-        calls = calls.wrapping_add(1);
-        standing.unwrap_or(10).wrapping_add(1)
-    };
-    assert_eq!(rt; map.compute_or_insert(5, &mut count), Ok(None));
-    let again = map.compute_or_insert(5, &mut count);
-    assert_eq!(rt; again, Ok(Some(Half(22))));
+    for wanted in [None, Some(Half(22))] {
+        assert_eq!(rt; raise_or_begin(&mut map, 5, &mut calls), Ok(wanted));
+    }
     assert_eq!(rt; map.get(&5), Some(Half(24)));
-    assert_eq!(rt; calls, 2);
+    assert_number(&rt, u128::from(calls), 2);
     Ok(())
 }
 
 #[test]
 fn first_example(rt: HostRuntime) -> Result<(), Fail> {
     let mut map: Congee<u64, u64> = Congee::new(rt.alloc(), DefaultAllocator {})?;
-    assert_eq!(rt;
-        map.compute_or_insert(1, &mut |old: Option<u64>| old.unwrap_or(41)),
-        Ok(None)
-    );
+    let begun = map.compute_or_insert(1, &mut |old: Option<u64>| old.unwrap_or(41));
+    assert_eq!(rt; begun, Ok(None));
     let raised = map.compute_if_present(&1, &mut |old: u64| old.checked_add(1));
     assert_eq!(rt; raised, Some((41, Some(42))));
-    assert_eq!(rt; map.compare_exchange(&1, &41, Some(43)), Err(Some(42)));
-    assert_eq!(rt; map.compare_exchange(&1, &42, None), Ok(None));
-    assert_eq!(rt; map.is_empty(), true);
+    let rows = [
+        (
+            Call::CompareExchange(1, 41, Some(43)),
+            Reply::Exchanged(Err(Some(42))),
+        ),
+        (
+            Call::CompareExchange(1, 42, None),
+            Reply::Exchanged(Ok(None)),
+        ),
+        (Call::IsEmpty, Reply::Tested(true)),
+    ];
+    assert_rows(&rt, rt.alloc(), &mut map, &rows);
     Ok(())
 }
 

@@ -1,94 +1,70 @@
 //! Removals and computations in the tree, call by call against the plain map, and where they empty a leaf.
 
+use super::asserts::{assert_number, assert_old, assert_put, assert_test};
+use super::fresh_calls::{Tree, compute_if_present, get, insert, remove};
 use super::tree::scattered;
-use crate::fresh;
 use congee_nodes::allocator::DefaultAllocator;
-use congee_nodes::error::OOMError;
 use congee_tree::sorted_pairs::SortedPairs;
 use congee_tree::tree::RawCongee;
-use std::marker::Brand;
 use std::process::Abort;
-use std::sync::ledger::Blank;
 use std::test::Fail;
-
-fn get(tree: &RawCongee<u64, DefaultAllocator>, key: u64) -> Option<u64> {
-    match fresh::get::<Brand, u64, DefaultAllocator>(tree, key, Blank::new(1)) {
-        Some(payload) => Some(*payload),
-        None => None,
-    }
-}
-
-fn insert(
-    tree: &mut RawCongee<u64, DefaultAllocator>,
-    key: u64,
-    payload: u64,
-) -> Result<Option<u64>, OOMError> {
-    fresh::insert::<Brand, u64, DefaultAllocator>(tree, key, payload, Blank::new(1))
-}
-
-fn remove(tree: &mut RawCongee<u64, DefaultAllocator>, key: u64) -> Option<u64> {
-    fresh::remove::<Brand, u64, DefaultAllocator>(tree, key, Blank::new(1))
-}
-
-// Puts the answer in the place of the payload, or takes it out; answers it, and what the closure saw.
-fn compute(
-    tree: &mut RawCongee<u64, DefaultAllocator>,
-    key: u64,
-    answer: Option<u64>,
-) -> (Option<u64>, Option<u64>) {
-    let mut seen = None;
-    let mut note = |standing: &u64| -> Option<u64> {
-        seen = Some(*standing);
-        answer
-    };
-    let before = fresh::compute_if_present::<Brand, u64, DefaultAllocator, _>(
-        tree,
-        key,
-        &mut note,
-        Blank::new(1),
-    );
-    (before, seen)
-}
 
 #[test]
 fn emptied_tree_is_empty(rt: HostRuntime) -> Result<(), Fail> {
     let mut tree = RawCongee::new(rt.alloc(), DefaultAllocator {})?;
-    assert!(rt; tree.is_empty());
-    assert_eq!(rt; insert(&mut tree, 1, 1), Ok(None));
-    assert_eq!(rt; insert(&mut tree, 256, 2), Ok(None));
-    assert_eq!(rt; (tree.is_empty(), tree.value_count()), (false, 2));
-    assert_eq!(rt; remove(&mut tree, 1), Some(1));
-    assert_eq!(rt; remove(&mut tree, 1), None);
-    assert_eq!(rt; remove(&mut tree, 256), Some(2));
-    assert_eq!(rt; (tree.is_empty(), tree.value_count()), (true, 0));
+    assert_test(&rt, tree.is_empty(), true);
+    assert_put(&rt, 1, insert(&mut tree, 1, 1), Ok(None));
+    assert_put(&rt, 256, insert(&mut tree, 256, 2), Ok(None));
+    assert_test(&rt, tree.is_empty(), false);
+    assert_number(&rt, tree.value_count(), 2);
+    for (key, wanted) in [(1, Some(1)), (1, None), (256, Some(2))] {
+        assert_old(&rt, key, remove(&mut tree, key), wanted);
+    }
+    assert_test(&rt, tree.is_empty(), true);
+    assert_number(&rt, tree.value_count(), 0);
     Ok(())
+}
+
+// The keys below 17 stand, without 5.
+fn assert_all_but_five(rt: &impl Abort, tree: &Tree) {
+    for key in 0..17u64 {
+        let wanted = if key == 5 { None } else { Some(key) };
+        assert_old(rt, key, get(tree, key), wanted);
+    }
 }
 
 #[test]
 fn removal_in_a_leaf_of_form_48(rt: HostRuntime) -> Result<(), Fail> {
     let mut tree = RawCongee::new(rt.alloc(), DefaultAllocator {})?;
     for key in 0..17u64 {
-        assert_eq!(rt; insert(&mut tree, key, key), Ok(None));
+        assert_put(&rt, key, insert(&mut tree, key, key), Ok(None));
     }
-    assert_eq!(rt; remove(&mut tree, 5), Some(5));
-    for key in 0..17u64 {
-        let wanted = if key == 5 { None } else { Some(key) };
-        assert_eq!(rt; get(&tree, key), wanted, "{key}");
-    }
-    assert_eq!(rt; insert(&mut tree, 5, 50), Ok(None));
-    assert_eq!(rt; (get(&tree, 5), tree.value_count()), (Some(50), 17));
+    assert_old(&rt, 5, remove(&mut tree, 5), Some(5));
+    assert_all_but_five(&rt, &tree);
+    assert_put(&rt, 5, insert(&mut tree, 5, 50), Ok(None));
+    assert_old(&rt, 5, get(&tree, 5), Some(50));
+    assert_number(&rt, tree.value_count(), 17);
     Ok(())
+}
+
+// The closure sees what stands at key 7, if anything does, and that is answered.
+fn assert_computed(rt: &impl Abort, tree: &mut Tree, answer: Option<u64>, standing: Option<u64>) {
+    let (before, seen) = compute_if_present(tree, 7, answer);
+    assert_old(rt, 7, before, standing);
+    assert_old(rt, 7, seen, standing);
 }
 
 #[test]
 fn computations_at_a_key(rt: HostRuntime) -> Result<(), Fail> {
     let mut tree = RawCongee::new(rt.alloc(), DefaultAllocator {})?;
-    assert_eq!(rt; compute(&mut tree, 7, Some(1)), (None, None));
-    assert_eq!(rt; insert(&mut tree, 7, 70), Ok(None));
-    assert_eq!(rt; compute(&mut tree, 7, Some(71)), (Some(70), Some(70)));
-    assert_eq!(rt; (get(&tree, 7), tree.value_count()), (Some(71), 1));
-    assert_eq!(rt; compute(&mut tree, 7, None), (Some(71), Some(71)));
-    assert_eq!(rt; (get(&tree, 7), tree.is_empty()), (None, true));
+    assert_computed(&rt, &mut tree, Some(1), None);
+    assert_put(&rt, 7, insert(&mut tree, 7, 70), Ok(None));
+    assert_computed(&rt, &mut tree, Some(71), Some(70));
+    assert_old(&rt, 7, get(&tree, 7), Some(71));
+    assert_number(&rt, tree.value_count(), 1);
+    assert_computed(&rt, &mut tree, None, Some(71));
+    assert_old(&rt, 7, get(&tree, 7), None);
+    assert_test(&rt, tree.is_empty(), true);
     Ok(())
 }
 
@@ -99,16 +75,23 @@ fn crowded(i: u64) -> u64 {
 }
 
 // Both maps have the same pairs.
-fn assert_alike(
-    rt: &impl Abort,
-    tree: &RawCongee<u64, DefaultAllocator>,
-    plain: &SortedPairs<u64>,
-) {
+fn assert_alike(rt: &impl Abort, tree: &Tree, plain: &SortedPairs<u64>) {
     for place in 0..8u32 {
         for byte in 0..7u64 {
             let key = byte.wrapping_shl(8 * place);
-            assert_eq!(rt; get(tree, key), plain.get(key).copied(), "{key}");
+            assert_old(rt, key, get(tree, key), plain.get(key).copied());
         }
+    }
+}
+
+// Inserts or removes a key in both maps.
+fn assert_change(rt: &impl Abort, tree: &mut Tree, plain: &mut SortedPairs<u64>, i: u64) {
+    let key = crowded(i);
+    if scattered(i).wrapping_shr(40) % 2 == 0 {
+        let wanted = plain.insert(key, i);
+        assert_put(rt, key, insert(tree, key, i), wanted);
+    } else {
+        assert_old(rt, key, remove(tree, key), plain.remove(key));
     }
 }
 
@@ -117,13 +100,7 @@ fn removals_agree_with_the_plain_map(rt: HostRuntime) -> Result<(), Fail> {
     let mut tree = RawCongee::new(rt.alloc(), DefaultAllocator {})?;
     let mut plain = SortedPairs::new(rt.alloc());
     for i in 0..20_000u64 {
-        let key = crowded(i);
-        if scattered(i).wrapping_shr(40) % 2 == 0 {
-            let wanted = plain.insert(key, i);
-            assert_eq!(rt; insert(&mut tree, key, i), wanted, "{key}");
-        } else {
-            assert_eq!(rt; remove(&mut tree, key), plain.remove(key), "{key}");
-        }
+        assert_change(&rt, &mut tree, &mut plain, i);
         if i % 1000 == 999 {
             assert_alike(&rt, &tree, &plain);
         }

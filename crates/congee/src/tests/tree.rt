@@ -1,12 +1,16 @@
 //! The tree against the plain map, call by call, with keys of each kind.
 
+use super::asserts::{assert_old, assert_put};
+use super::rows::assert_number_run;
 use crate::U64Congee;
+use crate::u64_calls::U64Call;
 use congee_tree::sorted_pairs::SortedPairs;
+use std::alloc::Global;
 use std::process::Abort;
 use std::test::Fail;
 
 /// How the keys of a run lie.
-#[derive(Clone, Copy, Debug)]
+#[derive(Clone, Copy)]
 enum Kind {
     Dense,
     Random,
@@ -47,9 +51,35 @@ fn assert_alike(
     for i in 0..count {
         let key = key_of(kind, i);
         for key in [key, key ^ 1, key.wrapping_add(256)] {
-            assert_eq!(rt; tree.get(key), plain.get(key).copied(), "{kind:?}: {key}");
+            assert_old(rt, key, tree.get(key), plain.get(key).copied());
         }
     }
+}
+
+// Puts the key of this number into both maps.
+fn insert_both(
+    rt: &impl Abort,
+    tree: &mut U64Congee<u64>,
+    plain: &mut SortedPairs<u64>,
+    kind: Kind,
+    i: u64,
+) {
+    let key = key_of(kind, i);
+    let wanted = plain.insert(key, i);
+    assert_put(rt, key, tree.insert(key, i), wanted);
+}
+
+// Both maps are alike all along while keys of this kind go in.
+fn assert_kind(rt: &impl Abort, alloc: Global, kind: Kind) -> Result<(), Fail> {
+    let mut tree: U64Congee<u64> = U64Congee::new(alloc)?;
+    let mut plain = SortedPairs::new(alloc);
+    for i in 0..2000u64 {
+        insert_both(rt, &mut tree, &mut plain, kind, i);
+        if i % 100 == 99 {
+            assert_alike(rt, &tree, &plain, kind, i + 1);
+        }
+    }
+    Ok(())
 }
 
 #[test]
@@ -68,36 +98,40 @@ fn agrees_with_the_plain_map(rt: HostRuntime) -> Result<(), Fail> {
         Kind::Boundary,
     ];
     for kind in kinds {
-        let mut tree: U64Congee<u64> = U64Congee::new(rt.alloc())?;
-        let mut plain = SortedPairs::new(rt.alloc());
-        for i in 0..2000u64 {
-            let key = key_of(kind, i);
-            let wanted = plain.insert(key, i);
-            assert_eq!(rt; tree.insert(key, i), wanted, "{kind:?}: {key}");
-            if i % 100 == 99 {
-                assert_alike(&rt, &tree, &plain, kind, i + 1);
-            }
-        }
+        assert_kind(&rt, rt.alloc(), kind)?;
     }
     Ok(())
 }
 
+// Puts two keys that part at this byte into an empty map.
+fn assert_split(rt: &impl Abort, map: &mut U64Congee<u64>, place: u32) {
+    let first = 0x1111_1111_1111_1111u64;
+    let other = first ^ 0x33u64.wrapping_shl(8 * (place & 7));
+    assert_put(rt, first, map.insert(first, 1), Ok(None));
+    assert_old(rt, other, map.get(other), None);
+    assert_put(rt, other, map.insert(other, 2), Ok(None));
+    assert_old(rt, first, map.get(first), Some(1));
+    assert_old(rt, other, map.get(other), Some(2));
+}
+
 #[test]
 fn splits_at_each_byte(rt: HostRuntime) -> Result<(), Fail> {
-    let first = 0x1111_1111_1111_1111u64;
     for place in 0..8u32 {
         let mut map: U64Congee<u64> = U64Congee::new(rt.alloc())?;
-        let other = first ^ 0x33u64.wrapping_shl(8 * place);
-        assert_eq!(rt; map.insert(first, 1), Ok(None));
-        assert_eq!(rt; map.get(other), None, "at {place}");
-        assert_eq!(rt; map.insert(other, 2), Ok(None), "at {place}");
-        assert_eq!(rt;
-            (map.get(first), map.get(other)),
-            (Some(1), Some(2)),
-            "at {place}"
-        );
+        assert_split(&rt, &mut map, place);
     }
     Ok(())
+}
+
+// Puts the next key into a map that has those before it.
+fn assert_next(rt: &impl Abort, map: &mut U64Congee<u64>, i: u64, shift: u32) {
+    let key = i.wrapping_shl(shift);
+    assert_put(rt, key, map.insert(key, i), Ok(None));
+    for j in 0..256u64 {
+        let key = j.wrapping_shl(shift);
+        let wanted = if j <= i { Some(j) } else { None };
+        assert_old(rt, key, map.get(key), wanted);
+    }
 }
 
 #[test]
@@ -106,15 +140,7 @@ fn grows_through_all_forms(rt: HostRuntime) -> Result<(), Fail> {
     for shift in [0u32, 8, 40] {
         let mut map: U64Congee<u64> = U64Congee::new(rt.alloc())?;
         for i in 0..256u64 {
-            assert_eq!(rt; map.insert(i.wrapping_shl(shift), i), Ok(None));
-            for j in 0..256u64 {
-                let wanted = if j <= i { Some(j) } else { None };
-                assert_eq!(rt;
-                    map.get(j.wrapping_shl(shift)),
-                    wanted,
-                    "{j} of {i} at {shift}"
-                );
-            }
+            assert_next(&rt, &mut map, i, shift);
         }
     }
     Ok(())
@@ -122,12 +148,14 @@ fn grows_through_all_forms(rt: HostRuntime) -> Result<(), Fail> {
 
 #[test]
 fn long_and_short_ways(rt: HostRuntime) -> Result<(), Fail> {
-    let mut map: U64Congee<u64> = U64Congee::new(rt.alloc())?;
-    for (key, value) in [(1, 1), (256, 2), (u64::MAX, 3)] {
-        assert_eq!(rt; map.insert(key, value), Ok(None));
-    }
-    for (key, value) in [(1, Some(1)), (256, Some(2)), (u64::MAX, Some(3)), (0, None)] {
-        assert_eq!(rt; map.get(key), value, "{key}");
-    }
-    Ok(())
+    let rows = [
+        (U64Call::Insert(1, 1), None),
+        (U64Call::Insert(256, 2), None),
+        (U64Call::Insert(u64::MAX, 3), None),
+        (U64Call::Get(1), Some(1)),
+        (U64Call::Get(256), Some(2)),
+        (U64Call::Get(u64::MAX), Some(3)),
+        (U64Call::Get(0), None),
+    ];
+    assert_number_run::<u64>(&rt, rt.alloc(), &rows)
 }

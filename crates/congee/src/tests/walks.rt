@@ -1,36 +1,54 @@
 //! Lists of keys, drains and drainers.
 
+use super::asserts::{assert_old, assert_put};
 use super::faces::Tens;
 use crate::{Congee, DefaultAllocator, Drainer, FnDrain, NoDrain};
 use std::alloc::Global;
 use std::cell::RefCell;
+use std::process::Abort;
 use std::test::Fail;
+
+// Puts a new key into the map, and at the end of the list.
+fn insert_noted(
+    rt: &impl Abort,
+    map: &mut Congee<u64, u64>,
+    keys: &mut Vec<u64>,
+    key: u64,
+) -> Result<(), Fail> {
+    assert_put(rt, key, map.insert(key, key), Ok(None));
+    keys.push(key)?;
+    Ok(())
+}
+
+fn assert_keys(rt: &impl Abort, map: &Congee<u64, u64>, wanted: &[u64]) -> Result<(), Fail> {
+    let keys = map.keys()?;
+    assert_eq!(rt; keys.as_slice(), wanted);
+    Ok(())
+}
 
 #[test]
 fn keys_ascend(rt: HostRuntime) -> Result<(), Fail> {
     let mut map: Congee<u64, u64> = Congee::new(rt.alloc(), DefaultAllocator {})?;
-    assert_eq!(rt; map.keys()?.len(), 0);
+    assert_keys(&rt, &map, &[])?;
     let mut wanted = Vec::new(rt.alloc());
     for key in 0..17u64 {
-        assert_eq!(rt; map.insert(key, key), Ok(None));
-        wanted.push(key)?;
+        insert_noted(&rt, &mut map, &mut wanted, key)?;
     }
-    assert_eq!(rt; map.remove(&5), Some(5));
-    assert_eq!(rt; map.insert(5, 5), Ok(None));
-    assert_eq!(rt; map.keys()?.as_slice(), wanted.as_slice());
+    assert_old(&rt, 5, map.remove(&5), Some(5));
+    assert_put(&rt, 5, map.insert(5, 5), Ok(None));
+    assert_keys(&rt, &map, &wanted)?;
     for key in [300, 1 << 40, u64::MAX] {
-        assert_eq!(rt; map.insert(key, 0), Ok(None));
-        wanted.push(key)?;
+        insert_noted(&rt, &mut map, &mut wanted, key)?;
     }
-    assert_eq!(rt; map.keys()?.as_slice(), wanted.as_slice());
+    assert_keys(&rt, &map, &wanted)?;
     Ok(())
 }
 
 #[test]
 fn keys_are_read_back(rt: HostRuntime) -> Result<(), Fail> {
     let mut map: Congee<Tens, u64> = Congee::new(rt.alloc(), DefaultAllocator {})?;
-    assert_eq!(rt; map.insert(Tens(12), 1), Ok(None));
-    assert_eq!(rt; map.insert(Tens(17), 2), Ok(Some(1)));
+    assert_put(&rt, 12, map.insert(Tens(12), 1), Ok(None));
+    assert_put(&rt, 17, map.insert(Tens(17), 2), Ok(Some(1)));
     assert_eq!(rt; map.keys()?.as_slice(), [Tens(10)].as_slice());
     Ok(())
 }

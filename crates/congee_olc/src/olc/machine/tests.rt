@@ -1,62 +1,17 @@
 //! The courses of single calls on a tree of one pair, and what refuses them.
 
-ghost use Rattle.std.specs.Prelude.{◌≡◌};
-
-use crate::epoch::Pins;
-use crate::lock::Word64;
 use crate::olc::copies::copy_seen;
 use crate::olc::machine::Machine;
-use crate::olc::stage::{Place, Stored};
+use crate::olc::machine::tests::building::{flat, of_pairs};
 use crate::olc::types::{Env, Kind, Op, Outcome, Reply, Report, Seen, StartError};
 use congee_nodes::allocator::{Allocator, DefaultAllocator};
-use congee_nodes::base_node::{NodeSize, NodeType};
 use congee_nodes::child::Child;
-use congee_nodes::error::OOMError;
 use congee_nodes::payload::Payload;
-use congee_nodes::tree_node::TreeNode;
-use slab::Slab;
 use std::alloc::Global;
-use std::collections::BTreeMap;
 use std::test::Fail;
 
-// A linked node.
-fn stored<P>(node: TreeNode<P>) -> Stored<P>
-    ensures { result ≡ record { word = 0; place = Place.Linked; node = node } }
-{
-    Stored {
-        word: Word64::from_number(0),
-        place: Place::Linked,
-        node,
-    }
-}
-
-// A machine that stores one pair: the root, and a leaf below it.
-fn of_pair<P: Payload, A: Allocator>(
-    alloc: Global,
-    mut budget: A,
-    key: u64,
-    value: P,
-) -> Result<Machine<P, A>, OOMError> {
-    budget.allocate(NodeSize::of(NodeType::N256))?;
-    budget.allocate(NodeSize::of(NodeType::N4))?;
-    let bytes = key.to_be_bytes();
-    let mut leaf = TreeNode::leaf(alloc, &bytes[..7])?;
-    leaf.insert(bytes[7], Child::Payload(value));
-    let mut top = TreeNode::root(alloc)?;
-    let mut nodes = Slab::new(alloc);
-    nodes.reserve(2)?;
-    let slot = nodes.insert_reserved(stored(leaf));
-    top.insert(bytes[0], Child::Node(slot));
-    let root = nodes.insert_reserved(stored(top));
-    Ok(Machine {
-        nodes,
-        root,
-        pins: Pins::new(alloc),
-        calls: BTreeMap::new(alloc),
-        entries: 1,
-        budget,
-    })
-}
+mod building;
+mod many_pairs;
 
 // Gives the node in a slot the word that its next writer would leave, where its word is free and not of the last version.
 // Answers whether it did.
@@ -213,7 +168,7 @@ fn a_get_alone_takes_its_course(rt: HostRuntime) -> Result<(), Fail> {
         (72057594037927936, "STRCF", None),
         (256, "STRCTCF", None),
     ] {
-        let mut machine = of_pair(rt.alloc(), DefaultAllocator {}, 1, 42)?;
+        let mut machine = of_pairs(rt.alloc(), DefaultAllocator {}, flat(), &[(1, 42)])?;
         let id = machine.seat()?;
         let mut course = Course::start(rt.alloc(), &mut machine, id, key)?;
         course.go_on(&mut machine, want.len() - 1)?;
@@ -231,7 +186,7 @@ fn a_torn_read_is_not_believed(rt: HostRuntime) -> Result<(), Fail> {
         seen_of(None),
         seen_of(Some(Child::Node(77))),
     ] {
-        let mut machine = of_pair(rt.alloc(), DefaultAllocator {}, 1, 42)?;
+        let mut machine = of_pairs(rt.alloc(), DefaultAllocator {}, flat(), &[(1, 42)])?;
         let mut course = Course::start(rt.alloc(), &mut machine, 0, 1)?;
         course.go_on(&mut machine, 4)?;
         let leaf = course.slot;
@@ -254,7 +209,7 @@ fn a_torn_read_is_not_believed(rt: HostRuntime) -> Result<(), Fail> {
 
 #[test]
 fn only_the_call_in_flight_is_stepped(rt: HostRuntime) -> Result<(), Fail> {
-    let mut machine = of_pair(rt.alloc(), DefaultAllocator {}, 1, 42)?;
+    let mut machine = of_pairs(rt.alloc(), DefaultAllocator {}, flat(), &[(1, 42)])?;
     let (_, outcome) = machine.step(0, &Op::Get(1), plain());
     assert!(rt; is_unknown(&outcome), "a number without a call");
     let report = machine.start(0, &Op::Get(1))?;
@@ -273,7 +228,7 @@ fn only_the_call_in_flight_is_stepped(rt: HostRuntime) -> Result<(), Fail> {
 
 #[test]
 fn seats_are_the_least_free_numbers(rt: HostRuntime) -> Result<(), Fail> {
-    let mut machine = of_pair(rt.alloc(), DefaultAllocator {}, 1, 42)?;
+    let mut machine = of_pairs(rt.alloc(), DefaultAllocator {}, flat(), &[(1, 42)])?;
     assert_eq!(rt; machine.seat()?, 0);
     machine.start(1, &Op::Get(1))?;
     assert_eq!(rt; machine.seat()?, 2);
@@ -286,7 +241,7 @@ fn seats_are_the_least_free_numbers(rt: HostRuntime) -> Result<(), Fail> {
 
 #[test]
 fn a_call_that_is_not_served_is_refused(rt: HostRuntime) -> Result<(), Fail> {
-    let mut machine = of_pair(rt.alloc(), DefaultAllocator {}, 1, 42)?;
+    let mut machine = of_pairs(rt.alloc(), DefaultAllocator {}, flat(), &[(1, 42)])?;
     let op = Op::Insert(1, 43);
     machine.start(0, &op)?;
     let (_, _) = machine.step(0, &op, plain());
@@ -300,7 +255,7 @@ fn a_call_that_is_not_served_is_refused(rt: HostRuntime) -> Result<(), Fail> {
 
 #[test]
 fn the_content_is_all_that_is_stored(rt: HostRuntime) -> Result<(), Fail> {
-    let machine = of_pair(rt.alloc(), DefaultAllocator {}, 1, 42)?;
+    let machine = of_pairs(rt.alloc(), DefaultAllocator {}, flat(), &[(1, 42)])?;
     let pairs = machine.content(rt.alloc())?;
     let wanted: [(u64, u64); 1] = [(1, 42)];
     assert_eq!(rt; pairs.as_slice(), wanted.as_slice());

@@ -1,4 +1,4 @@
-use Rattle.congee.proofs.tests.computation.get.Given as goal
+use Rattle.congee.proofs.tests.fresh_calls.get.Given as goal
 
 abbrev pub ghosts-get : goal.ghosts-get
 ghosts-get a = record { name = a.blank.name; parts = a.blank.parts }

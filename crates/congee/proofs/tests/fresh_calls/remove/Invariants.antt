@@ -1,4 +1,4 @@
-use Rattle.congee.proofs.tests.removal.remove.Given as goal
+use Rattle.congee.proofs.tests.fresh_calls.remove.Given as goal
 
 abbrev pub ghosts-remove : goal.ghosts-remove
 ghosts-remove a = record { name = a.blank.name; parts = a.blank.parts }
