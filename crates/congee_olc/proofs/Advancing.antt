@@ -22,6 +22,7 @@ use Rattle.congee_olc.specs.declared.olc.types.Outcome.{Outcome}
 use Rattle.congee_olc.specs.declared.olc.stage.Stage.{Stage}
 use Rattle.congee_olc.specs.declared.olc.stage.Stage.TheVariants.{TakeRoot, Read, Check, TakeBelow, CheckAbove, Finish}
 use Rattle.congee_olc.specs.declared.olc.stage.Record.{Record}
+use Rattle.congee_olc.proofs.Options.{none_some, some_same}
 
 -- a call that only reads holds nothing
 pub holds_none : (stage : Stage) (s : ℕ) → Holding stage s → ⊥
@@ -32,16 +33,13 @@ holds_none (TakeBelow path slot) s h = elim h [ inl x ↦ x | inr x ↦ x ]
 holds_none (CheckAbove path spot fits) s h = elim h [ inl x ↦ x | inr x ↦ x ]
 holds_none Finish s h = elim h [ inl x ↦ x | inr x ↦ x ]
 
-records_same : {P : Type 0} (x y : Record P) → Some x ≡ Some y → x ≡ y
-records_same x y e = cc
-
 module _ {P : Type 0} (alike : P → P → Type 0) (same : P → P → Bool) where
   pub goes_on : (t : Table P) (root pin : ℕ) (call : Record P) (env : Env P) (next : Record P) (report : Report) (out : Outcome P)
       → IsRead alike same t root pin call env next report out → IsAdvance alike same t root pin call env (Some next) report out
   goes_on t root pin call env next report out r = record {
-    facts = λ n e. subst (λ (x : Record P). Facts alike t root pin x) (records_same next n e) r.facts;
+    facts = λ n e. subst (λ (x : Record P). Facts alike t root pin x) (some_same next n e) r.facts;
     says = r.says;
-    course = λ n e. subst (λ (x : Record P). IsCourse t root call x report out) (records_same next n e) r.course;
+    course = λ n e. subst (λ (x : Record P). IsCourse t root call x report out) (some_same next n e) r.course;
     does = r.does;
   }
 
@@ -131,14 +129,11 @@ no_pin alike w id sound h none = no_pin_at alike w id (call_of w id) sound refl 
 module _ {P : Type 0} (alike : P → P → Type 0) (w : World P) (calls : List (ℕ × Option (Record P))) (id : ℕ) (sound : IsSound alike w)
     (others : (o : ℕ) → o ≢ id → entry_at calls o ≡ entry_at w.calls o) (next : Record P) (pin : ℕ)
     (here : entry_at calls id ≡ Some (Some next)) (pinned : pin_of w.pins id ≡ Some pin) where
-  pins_same : (p q : ℕ) → Some p ≡ Some q → p ≡ q
-  pins_same p q e = cc
-
   pub on_sound : Facts alike (table_of w) w.root pin next → IsSound alike (record w { calls = calls })
   on_sound facts =
       changed_sound alike w w.pins calls id sound refl refl others (λ o ne. refl) (λ o ne. refl)
-      (λ r p e f. subst (λ (x : Record P). Facts alike (table_of w) w.root p x) (records_same next r (sym (ap record_in here) ∙ e))
-      (subst (λ n. Facts alike (table_of w) w.root n next) (pins_same pin p (sym pinned ∙ f)) facts))
+      (λ r p e f. subst (λ (x : Record P). Facts alike (table_of w) w.root p x) (some_same next r (sym (ap record_in here) ∙ e))
+      (subst (λ n. Facts alike (table_of w) w.root n next) (some_same pin p (sym pinned ∙ f)) facts))
       (λ r e. subst (λ (x : Option ℕ). IsSome x) (sym pinned) refl)
       (λ p f. subst (λ (x : Option (Option (Record P))). IsSome (record_in x)) (sym here) refl)
       (λ e. subst (λ (x : Option (Option (Record P))). IsSome x) (sym here) refl)
@@ -180,10 +175,6 @@ unseated b e f = cc
 pub off_at : (id o : ℕ) → o ≢ id → is_at (nat_cmp id) o ≡ false
 off_at id o ne = grind (arith, common_steps, ne)
 
-pub free_call : {P : Type 0} (x : Option (Record P)) → is_some x ≡ false → x ≡ None
-free_call None h = refl
-free_call (Some r) h = absurd (cc)
-
 -- a number that isn't in flight has no pin
 free_pin_at : {P : Type 0} (alike : P → P → Type 0) (w : World P) (id : ℕ) (p : Option ℕ) → IsSound alike w → call_of w id ≡ None → pin_of w.pins id ≡ p → pin_of w.pins id ≡ None
 free_pin_at alike w id None sound none e = e
@@ -192,27 +183,18 @@ free_pin_at {P} alike w id (Some p) sound none e = absurd (no_record P (subst (�
 pub free_pin : {P : Type 0} (alike : P → P → Type 0) (w : World P) (id : ℕ) → IsSound alike w → call_of w id ≡ None → pin_of w.pins id ≡ None
 free_pin alike w id sound none = free_pin_at alike w id (pin_of w.pins id) sound none refl
 
-numbers_same : (p q : ℕ) → Some p ≡ Some q → p ≡ q
-numbers_same p q e = cc
-
-no_pin_some : (p : ℕ) → None ≡ Some p → ⊥
-no_pin_some p e = cc
-
-no_call_some : {P : Type 0} (r : Record P) → None ≡ Some r → ⊥
-no_call_some r e = cc
-
 -- the machine where a call begins
 pub begun_sound : {P : Type 0} (alike : P → P → Type 0) (w : World P) (pins : PinsView) (calls : List (ℕ × Option (Record P))) (id : ℕ) (r : Record P) → IsSound alike w
     → ChangesSeat w.pins pins id (is_seated w.pins id) (Some w.pins.count) → ((o : ℕ) → o ≢ id → entry_at calls o ≡ entry_at w.calls o) → entry_at calls id ≡ Some (Some r)
     → Facts alike (table_of w) w.root w.pins.count r → IsSound alike (record w { pins = pins; calls = calls })
 begun_sound {P} alike w pins calls id r sound enters others here facts =
     changed_sound alike w pins calls id sound enters.slots enters.count others enters.other_seats enters.other_pins
-    (λ q p e f. subst (λ (x : Record P). Facts alike (table_of w) w.root p x) (records_same r q (sym (ap record_in here) ∙ e))
-    (subst (λ n. Facts alike (table_of w) w.root n r) (numbers_same w.pins.count p (sym enters.pinned ∙ f)) facts))
+    (λ q p e f. subst (λ (x : Record P). Facts alike (table_of w) w.root p x) (some_same r q (sym (ap record_in here) ∙ e))
+    (subst (λ n. Facts alike (table_of w) w.root n r) (some_same w.pins.count p (sym enters.pinned ∙ f)) facts))
     (λ q e. subst (λ (x : Option ℕ). IsSome x) (sym enters.pinned) refl)
     (λ p f. subst (λ (x : Option (Option (Record P))). IsSome (record_in x)) (sym here) refl)
     (λ e. subst (λ (x : Option (Option (Record P))). IsSome x) (sym here) refl)
-    (λ p f. let e : w.pins.count ≡ p = numbers_same w.pins.count p (sym enters.pinned ∙ f) in omega arith)
+    (λ p f. let e : w.pins.count ≡ p = some_same w.pins.count p (sym enters.pinned ∙ f) in omega arith)
 
 -- the machine where a number entered and left again
 pub same_sound : {P : Type 0} (alike : P → P → Type 0) (w : World P) (mid pins : PinsView) (calls : List (ℕ × Option (Record P))) (id : ℕ) → IsSound alike w → call_of w id ≡ None
@@ -221,11 +203,11 @@ pub same_sound : {P : Type 0} (alike : P → P → Type 0) (w : World P) (mid pi
 same_sound {P} alike w mid pins calls id sound free enters leaves same =
     changed_sound alike w pins calls id sound (leaves.slots ∙ enters.slots) (leaves.count ∙ enters.count) (λ o ne. ap (λ es. entry_at es o) same)
     (λ o ne. leaves.other_seats o ne ∙ enters.other_seats o ne) (λ o ne. leaves.other_pins o ne ∙ enters.other_pins o ne)
-    (λ r p e f. absurd (no_pin_some p (sym leaves.pinned ∙ f)))
-    (λ r e. absurd (no_call_some r (sym free ∙ (sym (ap (λ es. record_in (entry_at es id)) same) ∙ e))))
-    (λ p f. absurd (no_pin_some p (sym leaves.pinned ∙ f)))
+    (λ r p e f. absurd (none_some p (sym leaves.pinned ∙ f)))
+    (λ r e. absurd (none_some r (sym free ∙ (sym (ap (λ es. record_in (entry_at es id)) same) ∙ e))))
+    (λ p f. absurd (none_some p (sym leaves.pinned ∙ f)))
     (λ e. subst (λ es. IsSome (entry_at es id)) (sym same) (sound.seated id (sym enters.seat ∙ (sym leaves.seat ∙ e))))
-    (λ p f. absurd (no_pin_some p (sym leaves.pinned ∙ f)))
+    (λ p f. absurd (none_some p (sym leaves.pinned ∙ f)))
 
 pub same_unchanged : {P : Type 0} (w : World P) (mid pins : PinsView) (calls : List (ℕ × Option (Record P))) (id : ℕ) → call_of w id ≡ None
     → ChangesSeat w.pins mid id (is_seated w.pins id) (Some w.pins.count) → ChangesSeat mid pins id (is_seated mid id) None → calls ≡ w.calls

@@ -20,13 +20,11 @@ use Rattle.congee_olc.specs.declared.olc.stage.Record.{Record}
 use Rattle.congee_olc.proofs.Advancing.{holds_none}
 use Rattle.congee_olc.specs.Played.{Leaves, Plays}
 use Rattle.congee_olc.proofs.Playing.{sound_next}
+use Rattle.congee_olc.proofs.Options.{none_some, some_same}
 
 -- nothing is written where neither the slots nor their lives change
 pub table_same : (w w' : World ℕ) → w'.slots ≡ w.slots → w'.pins.slots ≡ w.pins.slots → table_of w' ≡ table_of w
 table_same w w' slots lives = ap (λ l. table_on l w'.pins.slots) slots ∙ ap (λ l. table_on w.slots l) lives
-
-pub record_same : (x y : Record ℕ) → Some x ≡ Some y → x ≡ y
-record_same x y e = cc
 
 -- a number with a call in flight has a record and a pin
 pub record Flies (w : World ℕ) (id : ℕ) (f : Flight ℕ) : Type 0 where
@@ -36,16 +34,10 @@ pub record Flies (w : World ℕ) (id : ℕ) (f : Flight ℕ) : Type 0 where
   pub pinned : pin_of w.pins id ≡ Some pin
   pub is : flight pin call ≡ f
 
-no_flight : (f : Flight ℕ) → None ≡ Some f → ⊥
-no_flight f e = cc
-
-flight_same : (x y : Flight ℕ) → Some x ≡ Some y → x ≡ y
-flight_same x y e = cc
-
 flies_at : (w : World ℕ) (id : ℕ) (f : Flight ℕ) (x : Option (Record ℕ)) (p : Option ℕ) → call_of w id ≡ x → pin_of w.pins id ≡ p → flight_in x p ≡ Some f → Flies w id f
-flies_at w id f None p found pinned e = absurd (no_flight f e)
-flies_at w id f (Some r) None found pinned e = absurd (no_flight f e)
-flies_at w id f (Some r) (Some pin) found pinned e = record { call = r; pin = pin; found = found; pinned = pinned; is = flight_same (flight pin r) f e }
+flies_at w id f None p found pinned e = absurd (none_some f e)
+flies_at w id f (Some r) None found pinned e = absurd (none_some f e)
+flies_at w id f (Some r) (Some pin) found pinned e = record { call = r; pin = pin; found = found; pinned = pinned; is = some_same (flight pin r) f e }
 
 pub flies : (w : World ℕ) (id : ℕ) (f : Flight ℕ) → flight_of w id ≡ Some f → Flies w id f
 flies w id f e = flies_at w id f (call_of w id) (pin_of w.pins id) refl refl e
@@ -96,7 +88,7 @@ module _ (w after : World ℕ) (id n : ℕ) (env : Env ℕ) (report : Report) (o
       let ends = a.does 0 None in
       inl ends.outcome
   turn_at (Some next) e =
-      let same : turn.call ≡ busy.call = record_same turn.call busy.call (sym turn.found ∙ busy.found) in
+      let same : turn.call ≡ busy.call = some_same turn.call busy.call (sym turn.found ∙ busy.found) in
       let course : IsCourse (table_of w) w.root turn.call next report out = turn.advance.course next e in
       let tables : table_of after ≡ table_of w = table_same w after turn.slots turn.lives in
       let current : IsCurrent (table_of w) turn.call.stage = subst (λ (r : Record ℕ). IsCurrent (table_of w) r.stage) (sym same) busy.current in
@@ -193,7 +185,7 @@ module _ (w after : World ℕ) (id n : ℕ) (env : Env ℕ) (report : Report) (o
       let ends = a.does 0 None in
       inl ends.outcome
   late_at (Some next) e =
-      let same : turn.call ≡ late.call = record_same turn.call late.call (sym turn.found ∙ late.found) in
+      let same : turn.call ≡ late.call = some_same turn.call late.call (sym turn.found ∙ late.found) in
       let course : IsCourse (table_of w) w.root turn.call next report out = turn.advance.course next e in
       let tables : table_of after ≡ table_of w = table_same w after turn.slots turn.lives in
       elim course.falls [

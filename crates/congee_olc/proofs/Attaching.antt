@@ -11,8 +11,9 @@ use Rattle.congee_olc.specs.World.{Node, Table, is_linked, is_private, entry}
 use Rattle.congee_olc.specs.Facts.{byte_at, IsLinked, IsBelow, LeadsOn, IsPlaced, Keeps, NeedsHolder}
 use Rattle.congee_olc.proofs.Growing.{Grown, AllGrow, below_grown, leads_grown}
 use Rattle.congee_olc.proofs.Rewording.{free_kept, free_unlocked}
-use Rattle.congee_olc.proofs.Roots.{linked_private, linked_retired}
-use Rattle.congee_olc.proofs.Ways.{node_same}
+use Rattle.congee_olc.proofs.Courses.{linked_retired}
+use Rattle.congee_olc.proofs.Roots.{linked_private}
+use Rattle.congee_olc.proofs.Options.{some_same}
 
 module _ {P : Type 0} where
   -- a node with one child more
@@ -21,9 +22,6 @@ module _ {P : Type 0} where
 
   none_child : (c : Child P) → None ≡ Some c → ⊥
   none_child c e = cc
-
-  children_same : (c d : Child P) → Some c ≡ Some d → c ≡ d
-  children_same c d e = cc
 
   -- a linked node that nobody has changed, with no child
   pub record IsBare (a : Node P) : Type 0 where
@@ -57,7 +55,7 @@ module _ {P : Type 0} {t t' : Table P} {slot byte : ℕ} {a : Node P} {child : C
   attached_grows s x h =
       elim (eqb_tells s slot) [
         | inl e ↦
-            let is : x ≡ a = node_same x a (sym h.here ∙ subst (λ z. t z ≡ Some a) (sym e.1) at.here.here) in
+            let is : x ≡ a = some_same x a (sym h.here ∙ subst (λ z. t z ≡ Some a) (sym e.1) at.here.here) in
             record {
               node = with_child a byte child;
               linked = record { here = subst (λ z. t' z ≡ Some (with_child a byte child)) (sym e.1) at.after; standing = at.here.standing };
@@ -77,7 +75,7 @@ module _ {P : Type 0} {t t' : Table P} {slot byte : ℕ} {a : Node P} {child : C
       elim (eqb_tells x byte) [
         | inl same ↦
             let there : entry (with_child a byte child) byte ≡ Some c = subst (λ z. entry (with_child a byte child) z ≡ Some c) same.1 now in
-            inr (is, same.1, children_same c child (sym there ∙ lookup-put_same a.node.children byte child))
+            inr (is, same.1, some_same c child (sym there ∙ lookup-put_same a.node.children byte child))
         | inr off ↦ inl (sym (lookup-put_other a.node.children byte child x off.1) ∙ now)
       ]
 
@@ -85,7 +83,7 @@ module _ {P : Type 0} {t t' : Table P} {slot byte : ℕ} {a : Node P} {child : C
   origin s y h =
       elim (eqb_tells s slot) [
         | inl e ↦
-            let is : y ≡ with_child a byte child = node_same y (with_child a byte child) (sym h ∙ subst (λ z. t' z ≡ Some (with_child a byte child)) (sym e.1) at.after) in
+            let is : y ≡ with_child a byte child = some_same y (with_child a byte child) (sym h ∙ subst (λ z. t' z ≡ Some (with_child a byte child)) (sym e.1) at.after) in
             inl (record {
               node = a;
               here = subst (λ z. t z ≡ Some a) (sym e.1) at.here.here;

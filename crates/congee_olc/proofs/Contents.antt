@@ -27,9 +27,6 @@ module _ {P : Type 0} where
   found_at None h = refl
   found_at (Some v) h = absurd (h v refl)
 
-  flights_same : (x y : Flight P) → Some x ≡ Some y → x ≡ y
-  flights_same x y e = cc
-
 module _ {P : Type 0} (alike : P → P → Type 0) (itself : (x : P) → alike x x) where
   pub pairs_alike : (m : Pairs P) → AlikePairs alike m m
   pairs_alike [] = tt

@@ -15,10 +15,8 @@ use Rattle.congee_olc.specs.declared.olc.stage.Path.{Path}
 use Rattle.congee_olc.specs.declared.olc.stage.Stage.{Stage}
 use Rattle.congee_olc.specs.declared.olc.stage.Stage.TheVariants.{TakeRoot, Read, Check, TakeBelow, CheckAbove, Finish}
 use Rattle.congee_olc.specs.declared.olc.stage.Record.{Record}
-use Rattle.congee_olc.proofs.Ways.{known_linked, longer-begins, node_same}
-
-pub slot_same : (p q : ℕ) → Some p ≡ Some q → p ≡ q
-slot_same p q e = cc
+use Rattle.congee_olc.proofs.Ways.{known_linked, longer-begins}
+use Rattle.congee_olc.proofs.Options.{some_same}
 
 pub going_refused : {P : Type 0} → let o : Outcome P = Going in o ≡ Refused → ⊥
 going_refused e = cc
@@ -39,7 +37,7 @@ remembered_named (TakeBelow path below) slot word h = inr (remembered_in (path_s
 remembered_named (CheckAbove path spot fits) slot word h = remembered_in (spot ∷ path_spots path) slot word h
 remembered_named Finish slot word h = absurd h
 
-linked_retired : (stamp : Option ℕ) → is_linked ≡ is_retired stamp → ⊥
+pub linked_retired : (stamp : Option ℕ) → is_linked ≡ is_retired stamp → ⊥
 linked_retired stamp e = cc
 
 neither : (word : ℕ) → (IsLocked word → ⊥) → (IsObsolete word → ⊥) → IsFree word
@@ -60,7 +58,7 @@ module _ {P : Type 0} (t : Table P) where
   -- the word that was taken stands there
   pub taken_stands : (at : ℕ) (a : Node P) → t at ≡ Some a → (slot word : ℕ) → (at ≡ slot) × (a.word ≡ word) → (b : Node P) → t slot ≡ Some b → b.word ≡ word
   taken_stands at a here slot word e b there =
-      let same : a ≡ b = node_same a b (sym here ∙ subst (λ (z : ℕ). t z ≡ Some b) (sym e.0) there) in ap (λ (z : Node P). z.word) (sym same) ∙ e.1
+      let same : a ≡ b = some_same a b (sym here ∙ subst (λ (z : ℕ). t z ≡ Some b) (sym e.0) there) in ap (λ (z : Node P). z.word) (sym same) ∙ e.1
 
   module _ (root : ℕ) (placed : IsPlaced t root) where
     -- a linked node that nobody holds is free
@@ -71,7 +69,7 @@ module _ {P : Type 0} (t : Table P) where
 
     pub root_free : (a : Node P) → NoneHeld t → t root ≡ Some a → IsFree a.word
     root_free a none at =
-        let top : placed.top ≡ a = node_same placed.top a (sym placed.top_linked.here ∙ at) in
+        let top : placed.top ≡ a = some_same placed.top a (sym placed.top_linked.here ∙ at) in
         linked_free root a none (record { here = at; standing = subst (λ (z : Node P). z.standing ≡ is_linked) top placed.top_linked.standing })
 
     module _ (pin : ℕ) (k : List ℕ) (path : Path) (on : OnPath t root pin k path) (slot : ℕ) (led : LedTo t path.here k slot) where
@@ -83,7 +81,7 @@ module _ {P : Type 0} (t : Table P) where
       below_free b remembered current none at =
           let word : on.here.node.word ≡ path.here.word = current path.here.slot path.here.word remembered on.here.node on.here.here in
           let below = below_is on.here.node on.here.here word in
-          let same : below.node ≡ b = node_same below.node b (sym below.linked.here ∙ at) in
+          let same : below.node ≡ b = some_same below.node b (sym below.linked.here ∙ at) in
           linked_free slot b none (subst (λ (z : Node P). IsLinked t slot z) same below.linked)
 
       -- a step down makes the prefix longer

@@ -16,12 +16,13 @@ use Rattle.congee_olc.specs.Flight.{AlikePairs}
 use Rattle.congee_olc.specs.Facts.{byte_at, IsLinked, IsBelow, IsPlaced, Keeps}
 use Rattle.congee_olc.specs.declared.epoch.Life.{Life}
 use Rattle.congee_olc.specs.declared.olc.stage.Stored.{Stored}
-use Rattle.congee_olc.proofs.Ways.{longer-begins, node_same, toward_leaf, leaf_entry}
+use Rattle.congee_olc.proofs.Ways.{longer-begins, toward_leaf, leaf_entry}
 use Rattle.congee_olc.proofs.Views.{first_is}
 use Rattle.congee_olc.proofs.Telling.{stored_node, node_on}
 use Rattle.congee_olc.proofs.Single.{later-found}
 use Rattle.congee_olc.proofs.Reading.{one}
 use Rattle.congee_olc.proofs.Reaching.{bytes-of_key, key-of_bytes, lookup-inside, seen_at, reaches_linked, stands_keeps}
+use Rattle.congee_olc.proofs.Options.{none_some, some_same}
 
 module _ {P : Type 0} where
   -- the node of a slot, without its word and its place
@@ -35,9 +36,6 @@ module _ {P : Type 0} where
       same : (x : Option (Stored P)) → stored_node x ≡ node_in (node_of (entry_at lives s) x)
       same None = refl
       same (Some n) = refl
-
-  no_value : (v : P) → None ≡ Some v → ⊥
-  no_value v e = cc
 
   -- what is found in two lists is found in one of them
   found_in : (xs ys : Pairs P) (key : ℕ) (v : P) → lookup (xs ++ ys) key ≡ Some v → (lookup xs key ≡ Some v) ⊎ (lookup ys key ≡ Some v)
@@ -129,13 +127,13 @@ module _ {P : Type 0} (t : Table P) (root : ℕ) (placed : IsPlaced t root) (nod
                   payload = is ∙ ap (λ z. Some (Payload z)) value;
                   key_is = sym same;
                 }
-            | inr off ↦ absurd (no_value v (rw (ne_eqb k key off) at e))
+            | inr off ↦ absurd (none_some v (rw (ne_eqb k key off) at e))
           ]
       under_stands a here byte (below_at j) is e = below j (by_child s byte (one a) reach (seen_at t root count charge s a here) is) e
 
       among_stands : (a : Node P) → t s ≡ Some a → (d : ℕ) (es : List (ℕ × Child P)) → Rises d 256 es → ((byte : ℕ) (c : Child P) → lookup es byte ≡ Some c → lookup a.node.children byte ≡ Some c)
           → lookup (pairs_of (λ j. pairs_at nodes levels j) a.node.prefix es) key ≡ Some v → Stands (view_on t root count charge) key v
-      among_stands a here d [] rises of e = absurd (no_value v e)
+      among_stands a here d [] rises of e = absurd (none_some v e)
       among_stands a here d (x ∷ es) rises of e =
           elim (found_in (pairs_under (λ j. pairs_at nodes levels j) a.node.prefix x.0 x.1) (pairs_of (λ j. pairs_at nodes levels j) a.node.prefix es) key v e) [
             | inl first ↦ under_stands a here x.0 x.1 (of x.0 x.1 (first_is x es)) first
@@ -146,16 +144,16 @@ module _ {P : Type 0} (t : Table P) (root : ℕ) (placed : IsPlaced t root) (nod
           ]
 
       in_stands : (x : Option (Node P)) → t s ≡ x → lookup (pairs_in (λ j. pairs_at nodes levels j) (node_in x)) key ≡ Some v → Stands (view_on t root count charge) key v
-      in_stands None here e = absurd (no_value v e)
+      in_stands None here e = absurd (none_some v e)
       in_stands (Some a) here e =
           let f = reaches_linked t root count charge placed s reach in
-          let same : f.0 ≡ a = node_same f.0 a (sym f.1.here ∙ here) in
+          let same : f.0 ≡ a = some_same f.0 a (sym f.1.here ∙ here) in
           let ordered : Rises 0 256 a.node.children = subst (λ (z : Node P). Rises 0 256 z.node.children) same (placed.ordered s f.0 f.1) in
           among_stands a here 0 a.node.children ordered (λ byte c is. is) e
 
     -- a pair that is found below a reachable node stands
     found_stands : (levels key : ℕ) (v : P) (s : ℕ) → Reaches (view_on t root count charge) s → lookup (pairs_at nodes levels s) key ≡ Some v → Stands (view_on t root count charge) key v
-    found_stands zero key v s reach found = absurd (no_value v found)
+    found_stands zero key v s reach found = absurd (none_some v found)
     found_stands (suc levels) key v s reach found =
         in_stands levels key v (found_stands levels key v) s reach (t s) refl (ap (λ x. lookup (pairs_in (λ j. pairs_at nodes levels j) x) key) (sym (agree s)) ∙ found)
 

@@ -15,10 +15,11 @@ use Rattle.congee_olc.specs.Flight.{Flight, flight, flight_in, IsIn}
 use Rattle.congee_olc.specs.Event.{Holds}
 use Rattle.congee_olc.specs.Facts.{byte_at, IsLinked, IsBelow, IsPlaced, Holding, NeedsHolder, IsSound}
 use Rattle.congee_olc.specs.declared.olc.stage.Record.{Record}
-use Rattle.congee_olc.proofs.Ways.{node_same, Begins-trans, Begins-both, get_or-begins, longer-begins}
+use Rattle.congee_olc.proofs.Ways.{Begins-trans, Begins-both, get_or-begins, longer-begins, slots_same}
 use Rattle.congee_olc.proofs.Reading.{one}
 use Rattle.congee_olc.proofs.Reaching.{last-byte, shown_at, seen_at, reaches_linked, linked_reaches, onward}
 use Rattle.congee_olc.proofs.Advancing.{holds_none}
+use Rattle.congee_olc.proofs.Options.{some_same}
 
 retired_linked : (stamp : Option ℕ) → is_retired stamp ≡ is_linked → ⊥
 retired_linked stamp e = cc
@@ -32,16 +33,12 @@ byte_after p q b h =
     let l : length (p ++ b ∷ []) ≡ length p + 1 = length-append p (b ∷ []) in
     sym (get_or-begins (p ++ b ∷ []) q (length p) h (omega arith)) ∙ last-byte p b
 
-module _ {P : Type 0} where
-  slot_same : (s r : ℕ) → let c : Child P = below_at s in let d : Child P = below_at r in Some c ≡ Some d → s ≡ r
-  slot_same s r e = cc
-
 module _ {P : Type 0} (t : Table P) (root : ℕ) (placed : IsPlaced t root) where
   -- what stands under a byte of a linked node
   child_of : (s c : ℕ) (a n : Node P) (x : ℕ) → IsLinked t s a → IsLinked t c n → entry a x ≡ Some (below_at c) → Begins (a.node.prefix ++ x ∷ []) n.node.prefix
   child_of s c a n x ha hn e =
       let g : IsBelow t a x c = placed.below s a ha x c e in
-      subst (λ (z : Node P). Begins (a.node.prefix ++ x ∷ []) z.node.prefix) (node_same g.node n (sym g.linked.here ∙ hn.here)) g.begins
+      subst (λ (z : Node P). Begins (a.node.prefix ++ x ∷ []) z.node.prefix) (some_same g.node n (sym g.linked.here ∙ hn.here)) g.begins
 
   shorter_parent : (m p c : ℕ) (b a n : Node P) (y x : ℕ) → IsLinked t m b → IsLinked t p a → IsLinked t c n → entry b y ≡ Some (below_at c) → entry a x ≡ Some (below_at c)
       → length b.node.prefix ≤ length a.node.prefix → m ≡ p
@@ -60,9 +57,9 @@ module _ {P : Type 0} (t : Table P) (root : ℕ) (placed : IsPlaced t root) wher
             let below : length b.node.prefix < length a.node.prefix = omega arith in
             let byte : byte_at b a.node.prefix ≡ y = get_or-begins a.node.prefix n.node.prefix (length b.node.prefix) a_n below ∙ byte_after b.node.prefix n.node.prefix y begins_b in
             let there : entry b y ≡ Some (below_at on.slot) = subst (λ z. entry b z ≡ Some (below_at on.slot)) byte on.entry_is in
-            let slot : on.slot ≡ c = slot_same on.slot c (sym there ∙ eb) in
+            let slot : on.slot ≡ c = slots_same on.slot c (sym there ∙ eb) in
             let at : t c ≡ Some on.node = subst (λ z. t z ≡ Some on.node) slot on.linked.here in
-            let same : on.node ≡ n = node_same on.node n (sym at ∙ hn.here) in
+            let same : on.node ≡ n = some_same on.node n (sym at ∙ hn.here) in
             let longer : length a.node.prefix < length n.node.prefix = longer-begins a.node.prefix n.node.prefix x begins_a in
             let equal : length on.node.node.prefix ≡ length n.node.prefix = ap (λ (z : Node P). length z.node.prefix) same in
             absurd (omega arith)
@@ -76,15 +73,12 @@ module _ {P : Type 0} (t : Table P) (root : ℕ) (placed : IsPlaced t root) wher
         | inl h ↦ sym (shorter_parent p m c a b n x y ha hb hn ea eb (omega (arith, h)))
         | inr h ↦ shorter_parent m p c b a n y x hb ha hn eb ea (omega (arith, h))
       ] in
-      let same : b ≡ a = node_same b a (sym (subst (λ z. t z ≡ Some b) slot hb.here) ∙ ha.here) in
+      let same : b ≡ a = some_same b a (sym (subst (λ z. t z ≡ Some b) slot hb.here) ∙ ha.here) in
       let byte_b : get_or n.node.prefix (length b.node.prefix) 0 ≡ y = byte_after b.node.prefix n.node.prefix y (child_of m c b n y hb hn eb) in
       let byte_a : get_or n.node.prefix (length a.node.prefix) 0 ≡ x = byte_after a.node.prefix n.node.prefix x (child_of p c a n x ha hn ea) in
       (slot, sym byte_b ∙ (ap (λ (z : Node P). get_or n.node.prefix (length z.node.prefix) 0) same ∙ byte_a))
 
 module _ {P : Type 0} where
-  flights_same : (x y : Flight P) → Some x ≡ Some y → x ≡ y
-  flights_same x y e = cc
-
   no_flight_is : (call : Flight P) → None ≡ Some call → ⊥
   no_flight_is call e = cc
 
@@ -92,7 +86,7 @@ module _ {P : Type 0} where
   record_at : (x : Option (Record P)) (pin : Option ℕ) (call : Flight P) → flight_in x pin ≡ Some call → (r : Record P) × (n : ℕ) × (x ≡ Some r) × (call ≡ flight n r)
   record_at None pin call e = absurd (no_flight_is call e)
   record_at (Some r) None call e = absurd (no_flight_is call e)
-  record_at (Some r) (Some n) call e = (r, n, refl, flights_same call (flight n r) (sym e))
+  record_at (Some r) (Some n) call e = (r, n, refl, some_same call (flight n r) (sym e))
 
   held_by : (w : World P) (id slot : ℕ) → Holds w id slot → (r : Record P) × (call_of w id ≡ Some r) × Holding r.stage slot
   held_by w id slot h =
@@ -117,7 +111,7 @@ module _ {P : Type 0} (alike : P → P → Type 0) (w : World P) (sound : IsSoun
   linked_in slot a r h =
       let f = reaches_linked (table_of w) w.root w.pins.count w.charge sound.placed slot r in
       let x = node_in slot a h in
-      (f.0, f.1, x.2 ∙ ap one (node_same x.0 f.0 (sym x.1 ∙ f.1.here)))
+      (f.0, f.1, x.2 ∙ ap one (some_same x.0 f.0 (sym x.1 ∙ f.1.here)))
 
   entry_in : (a : Shown P) (n : Node P) (byte below : ℕ) → a ≡ one n → lookup a.node.children byte ≡ Some (below_at below) → entry n byte ≡ Some (below_at below)
   entry_in a n byte below is e = subst (λ (z : Shown P). lookup z.node.children byte ≡ Some (below_at below)) is e
@@ -152,7 +146,7 @@ module _ {P : Type 0} (alike : P → P → Type 0) (w : World P) (sound : IsSoun
             let f = linked_in slot a r here in
             let ef = entry_in a f.0 byte w.root f.2 e in
             let child : IsBelow (table_of w) f.0 byte w.root = p.below slot f.0 f.1 byte w.root ef in
-            let same : child.node ≡ p.top = node_same child.node p.top (sym child.linked.here ∙ p.top_linked.here) in
+            let same : child.node ≡ p.top = some_same child.node p.top (sym child.linked.here ∙ p.top_linked.here) in
             let longer : length f.0.node.prefix < length child.node.node.prefix = longer-begins f.0.node.prefix child.node.node.prefix byte child.begins in
             let none : length child.node.node.prefix ≡ 0 = ap (λ (z : Node P). length z.node.prefix) same ∙ ap length p.top_prefix in
             absurd (omega arith);

@@ -6,7 +6,7 @@ use Rattle.congee_nodes.specs.declared.child.Child.TheVariants.{Payload, Node as
 use Rattle.congee_olc.specs.World.{Node, Table, entry}
 use Rattle.congee_olc.specs.Facts.{byte_at, IsLinked, IsBelow, LeadsOn}
 use Rattle.congee_olc.proofs.Keeping.{KeepsOn}
-use Rattle.congee_olc.proofs.Ways.{node_same}
+use Rattle.congee_olc.proofs.Options.{some_same}
 
 module _ {P : Type 0} where
   -- a linked node with this prefix and form stands in the slot, with at least these children
@@ -35,7 +35,7 @@ module _ {P : Type 0} where
     pub leads_grown : (s : ℕ) (a b : Node P) (k : List ℕ) → IsLinked t s a → IsLinked t' s b → LeadsOn t a k → LeadsOn t' b k
     leads_grown s a b k ha hb h =
         let g : Grown t' s a = on s a ha in
-        let same : g.node ≡ b = node_same g.node b (sym g.linked.here ∙ hb.here) in
+        let same : g.node ≡ b = some_same g.node b (sym g.linked.here ∙ hb.here) in
         let next : Grown t' h.slot h.node = on h.slot h.node h.linked in
         let e : entry g.node (byte_at a k) ≡ Some (below_at h.slot) = g.kept (byte_at a k) (below_at h.slot) h.entry_is in
         record {

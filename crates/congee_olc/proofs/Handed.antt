@@ -17,6 +17,7 @@ use Rattle.congee_olc.specs.declared.olc.types.Outcome.{Outcome}
 use Rattle.congee_olc.specs.declared.olc.types.Outcome.TheVariants.{Going, Refused, Done, Unknown}
 use Rattle.congee_olc.specs.declared.olc.stage.Record.{Record}
 use Rattle.congee_olc.proofs.Advancing.{flown}
+use Rattle.congee_olc.proofs.Options.{some_same}
 
 no_flight : (P : Type 0) → let n : Option (Flight P) = None in IsSome n → ⊥
 no_flight P h = cc
@@ -36,9 +37,6 @@ module _ {P : Type 0} where
 
   done_unknown : let g : Outcome P = Done in let u : Outcome P = Unknown in g ≡ u → ⊥
   done_unknown e = cc
-
-  flights_same : (x y : Flight P) → Some x ≡ Some y → x ≡ y
-  flights_same x y e = cc
 
   pub none_flight : (x : Option (Flight P)) → (IsSome x → ⊥) → x ≡ None
   none_flight None h = refl
@@ -105,7 +103,7 @@ module _ {P : Type 0} (alike : P → P → Type 0) (w : World P) (id : ℕ) (sou
     handed op b h =
         let f = flown alike w id r sound found in (
           (λ (t : IsTrue b). record { call = flight f.0 r; in_flight = f.1; same = h.0 t }),
-          (λ (x : IsHanded w id op). h.1 (subst (λ (call : Flight P). IsSameCall call.op op) (flights_same x.call (flight f.0 r) (sym x.in_flight ∙ f.1)) x.same)),
+          (λ (x : IsHanded w id op). h.1 (subst (λ (call : Flight P). IsSameCall call.op op) (some_same x.call (flight f.0 r) (sym x.in_flight ∙ f.1)) x.same)),
         )
 
 -- the record of a Get in flight is one of a served call
@@ -113,7 +111,7 @@ pub get_record : {P : Type 0} (alike : P → P → Type 0) (w : World P) (id : �
     → call.op ≡ Get key → IsServedOp r.op
 get_record {P} alike w id r sound found call key flies get =
     let f = flown alike w id r sound found in
-    let is : r.op ≡ Get key = ap (λ (x : Flight P). x.op) (sym (flights_same call (flight f.0 r) (sym flies ∙ f.1))) ∙ get in
+    let is : r.op ≡ Get key = ap (λ (x : Flight P). x.op) (sym (some_same call (flight f.0 r) (sym flies ∙ f.1))) ∙ get in
     subst (λ (op : Op P). IsServedOp op) (sym is) tt
 
 -- a call of a Get's kind and key is that Get

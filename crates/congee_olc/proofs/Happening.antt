@@ -19,9 +19,10 @@ use Rattle.congee_olc.specs.declared.olc.types.Event.TheVariants.{Start, Step}
 use Rattle.congee_olc.specs.declared.olc.trace.Line.TheVariants.{Done as Made}
 use Rattle.congee_olc.specs.declared.olc.trace.Decision.{Decision}
 use Rattle.congee_olc.specs.declared.olc.stage.Record.{Record}
-use Rattle.congee_olc.proofs.Alone.{record_same, in_flight, flight_at}
+use Rattle.congee_olc.proofs.Alone.{in_flight, flight_at}
 use Rattle.congee_olc.proofs.Views.{same_content}
 use Rattle.congee_olc.proofs.Histories.{carried}
+use Rattle.congee_olc.proofs.Options.{some_same}
 
 option_itself : (x : Option ℕ) → AlikeOption IsCopy x x
 option_itself None = tt
@@ -55,7 +56,7 @@ module _ (old new : World ℕ) (id : ℕ) (env : Env ℕ) (report : Report) (out
   pub decided_is : (r : Record ℕ) (op : Op ℕ) (asked : Option (Option ℕ × Option ℕ)) → call_of old id ≡ Some r → op ≡ r.op → asked ≡ asked_of r.asking
       → ((call : Flight ℕ) → call.op ≡ op → asked_of call.asking ≡ asked → decided ≡ decided_by id (Some call) out) → decided ≡ decided_by id (flight_of old id) out
   decided_is r op asked found op_is asked_is tells =
-      let same : turn.call ≡ r = record_same turn.call r (sym turn.found ∙ found) in
+      let same : turn.call ≡ r = some_same turn.call r (sym turn.found ∙ found) in
       let flies : flight_of old id ≡ Some (flight turn.pin turn.call) = flight_at old id turn.pin turn.call turn.found turn.pinned in
       let is = tells (flight turn.pin turn.call) (ap (λ (x : Record ℕ). x.op) same ∙ sym op_is) (ap (λ (x : Record ℕ). asked_of x.asking) same ∙ sym asked_is) in
       is ∙ ap (λ (f : Option (Flight ℕ)). decided_by id f out) (sym flies)

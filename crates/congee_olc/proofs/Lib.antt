@@ -1,3 +1,4 @@
+pub mod Options
 pub mod Begun
 pub mod Steps
 pub mod Ways

@@ -16,7 +16,8 @@ use Rattle.congee_olc.proofs.Growing.{leads_grown, keeps_grown}
 use Rattle.congee_olc.proofs.Keeping.{KeepsOn, content_on}
 use Rattle.congee_olc.proofs.Openings.{byte_after}
 use Rattle.congee_olc.proofs.Reaching.{onward}
-use Rattle.congee_olc.proofs.Ways.{Begins-trans, Begins-both, get_or-begins, longer-begins, node_same}
+use Rattle.congee_olc.proofs.Ways.{Begins-trans, Begins-both, get_or-begins, longer-begins}
+use Rattle.congee_olc.proofs.Options.{some_same}
 
 module _ {P : Type 0} where
   none_child : (c : Child P) → None ≡ Some c → ⊥
@@ -55,7 +56,7 @@ module _ {P : Type 0} {t t' : Table P} {slot byte fresh : ℕ} {a b : Node P} (l
       | inr far ↦ l.others o off far.1 ∙ h.here
     ];
     come = λ o x off h. elim (eqb_tells o fresh) [
-      | inl e ↦ inr (e.1, node_same x b (sym h ∙ subst (λ z. t' z ≡ Some b) (sym e.1) l.made))
+      | inl e ↦ inr (e.1, some_same x b (sym h ∙ subst (λ z. t' z ≡ Some b) (sym e.1) l.made))
       | inr far ↦ inl (sym (l.others o off far.1) ∙ h)
     ];
   }
@@ -75,7 +76,7 @@ module _ {P : Type 0} {t t' : Table P} {slot byte fresh : ℕ} {a b : Node P} (l
     none_below r q h e =
         elim (placed.leads slot r a q l.here h (Begins-trans a.node.prefix (a.node.prefix ++ byte ∷ []) q.node.prefix step e)) [
           | inl same ↦
-              let is : a ≡ q = node_same a q (sym l.here.here ∙ subst (λ z. t z ≡ Some q) (sym same) h.here) in
+              let is : a ≡ q = some_same a q (sym l.here.here ∙ subst (λ z. t z ≡ Some q) (sym same) h.here) in
               let longer : length a.node.prefix < length q.node.prefix = longer-begins a.node.prefix q.node.prefix byte e in
               let even : length a.node.prefix ≡ length q.node.prefix = ap (λ (z : Node P). length z.node.prefix) is in absurd (omega arith)
           | inr on ↦ none_child (below_at on.slot) (sym l.empty ∙ subst (λ z. entry a z ≡ Some (below_at on.slot)) (byte_after a.node.prefix byte q.node.prefix e) on.entry_is)
@@ -93,7 +94,7 @@ module _ {P : Type 0} {t t' : Table P} {slot byte fresh : ℕ} {a b : Node P} (l
           | inr le ↦ elim (placed.leads s slot o.node a was l.here (Begins-both o.node.node.prefix a.node.prefix b.node.prefix begins down le)) [
             | inl same ↦
                 let is : x ≡ with_child a byte (below_at fresh) =
-                node_same x (with_child a byte (below_at fresh)) (sym h.here ∙ subst (λ z. t' z ≡ Some (with_child a byte (below_at fresh))) (sym same) l.after) in
+                some_same x (with_child a byte (below_at fresh)) (sym h.here ∙ subst (λ z. t' z ≡ Some (with_child a byte (below_at fresh))) (sym same) l.after) in
                 subst (λ (z : Node P). LeadsOn t' z b.node.prefix) (sym is)
                 (record {
                   slot = fresh;

@@ -25,6 +25,7 @@ use Rattle.congee_olc.specs.declared.olc.stage.Progress.TheVariants as progress
 use Rattle.congee_olc.specs.declared.olc.stage.Record.{Record}
 use Rattle.congee_olc.proofs.Alone.{flight_at}
 use Rattle.congee_olc.specs.Played.{Leaves, Plays}
+use Rattle.congee_olc.proofs.Options.{some_same}
 
 -- how far a call in flight is
 abbrev pub fate_at : Progress → Op ℕ → Fate
@@ -140,9 +141,6 @@ step_turns old new id env report out step refuses =
     subst (λ (f : Option (Flight ℕ)). TurnsBy out (fate_of f) (fate_of (flight_of new id))) (sym step.in_flight)
     (advances_turns (view_of old) (view_of new) step.call (flight_of new id) env report out (refuses step.call step.in_flight) step.event)
 
-flight_same : (x y : Flight ℕ) → Some x ≡ Some y → x ≡ y
-flight_same x y e = cc
-
 -- a call that is refused was open
 refuses_open : (old new : World ℕ) (id : ℕ) (env : Env ℕ) (report : Report) (out : Outcome ℕ) → IsTurn IsCopy same_number old new id env report out
     → (next : Option (Record ℕ)) → call_of new id ≡ next → (call : Flight ℕ) → flight_of old id ≡ Some call → out ≡ Refused → call.progress ≡ progress.Open
@@ -152,7 +150,7 @@ refuses_open old new id env report out turn None e call flown refused =
     let ends = a.does 0 None in
     absurd (refused_done (sym refused ∙ ends.outcome))
 refuses_open old new id env report out turn (Some next) e call flown refused =
-    let is : flight turn.pin turn.call ≡ call = flight_same (flight turn.pin turn.call) call (sym (flight_at old id turn.pin turn.call turn.found turn.pinned) ∙ flown) in
+    let is : flight turn.pin turn.call ≡ call = some_same (flight turn.pin turn.call) call (sym (flight_at old id turn.pin turn.call turn.found turn.pinned) ∙ flown) in
     sym (ap (λ (f : Flight ℕ). f.progress) is) ∙ (turn.advance.course next e).refuses refused
 
 -- a served call is shared as itself

@@ -17,6 +17,7 @@ use Rattle.congee_olc.proofs.Keeping.{stands_on}
 use Rattle.congee_olc.proofs.Reaching.{bytes-of_key, key-of_bytes, keeps_stands, stands_keeps}
 use Rattle.congee_olc.proofs.Single.{content_once}
 use Rattle.congee_olc.proofs.Ways.{absent_here}
+use Rattle.congee_olc.proofs.Options.{some_same}
 
 module _ {P : Type 0} where
   none_value : (w : P) → None ≡ Some w → ⊥
@@ -27,9 +28,6 @@ module _ {P : Type 0} where
 
   payloads_same : (v w : P) → let x : Child P = Payload v in let y : Child P = Payload w in x ≡ y → w ≡ v
   payloads_same v w e = cc
-
-  values_same : (v w : P) → Some v ≡ Some w → v ≡ w
-  values_same v w e = cc
 
   -- the payload of a key is put into the linked leaf in a slot, where nothing stood
   pub record Puts (t t' : Table P) (slot : ℕ) (a : Node P) (key : ℕ) (v : P) : Type 0 where
@@ -110,7 +108,7 @@ module _ {P : Type 0} {t t' : Table P} {slot : ℕ} {a : Node P} {key : ℕ} {v 
         (λ e. elim (eqb_tells k key) [
           | inl same ↦
               let there : lookup (put m key v) key ≡ Some w = subst (λ z. lookup (put m key v) z ≡ Some w) same.1 e in
-              let is : v ≡ w = values_same v w (sym (lookup-put_same m key v) ∙ there) in
+              let is : v ≡ w = some_same v w (sym (lookup-put_same m key v) ∙ there) in
               subst (λ z. Stands (view_on t' root count charge') z w) (sym same.1) (subst (λ z. Stands (view_on t' root count charge') key z) is stands_now)
           | inr off ↦ stands_still k w ((c.pairs k w).0 (sym (lookup-put_other m key v k off.1) ∙ e))
         ]),

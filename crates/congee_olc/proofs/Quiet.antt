@@ -17,8 +17,8 @@ use Rattle.congee_olc.specs.declared.olc.stage.Record.{Record}
 use Rattle.congee_olc.proofs.Attaching.{attached_needs}
 use Rattle.congee_olc.proofs.Linking.{Links, link_attaches, made_bare, link_placed, content_link}
 use Rattle.congee_olc.proofs.Putting.{Puts, put_attaches, none_bare, put_placed, content_grows}
-use Rattle.congee_olc.proofs.Roots.{none_stored, stored_same}
 use Rattle.congee_olc.proofs.Sizes.{size_at, size_in, sizes_same, sizes_more}
+use Rattle.congee_olc.proofs.Options.{none_some, some_same}
 
 nothing_in : {X : Type 0} (xs : List X) → length xs ≡ 0 → xs ≡ []
 nothing_in [] h = refl
@@ -43,8 +43,8 @@ module _ {P : Type 0} where
       → ((o : ℕ) → o ≢ fresh → slice_index_or after o None ≡ slice_index_or kept o None) → Some m ≡ slice_index_or after slot None → (m ≡ n) × (slot ≢ fresh)
   stays_there before kept after slot fresh n m same here vacant others found =
       let there : slice_index_or kept slot None ≡ Some n = subst (λ s. slice_index_or s slot None ≡ Some n) (sym same) here in
-      let apart : slot ≢ fresh = λ e. none_stored n (sym vacant ∙ subst (λ z. slice_index_or kept z None ≡ Some n) e there) in
-      (stored_same m n (found ∙ (others slot apart ∙ there)), apart)
+      let apart : slot ≢ fresh = λ e. none_some n (sym vacant ∙ subst (λ z. slice_index_or kept z None ≡ Some n) e there) in
+      (some_same m n (found ∙ (others slot apart ∙ there)), apart)
 
   abbrev pub changed_to : World P → List (Option (Stored P)) → ℕ → Option ℕ → World P
   changed_to w slots entries charge = record w { slots = slots; entries = entries; charge = charge }

@@ -11,8 +11,9 @@ use Rattle.congee_nodes.proofs.BeginLaws.{begins_append}
 use Rattle.congee_olc.specs.World.{Node, Table, entry, bytes_of}
 use Rattle.congee_olc.specs.Table.{Shown, shown, view_on, Reaches, at_root, by_child, Stands}
 use Rattle.congee_olc.specs.Facts.{byte_at, IsLinked, IsBelow, LeadsOn, IsPlaced, Keeps}
-use Rattle.congee_olc.proofs.Ways.{node_same, longer-begins, length-begins}
+use Rattle.congee_olc.proofs.Ways.{longer-begins, length-begins}
 use Rattle.congee_olc.proofs.Reading.{one}
+use Rattle.congee_olc.proofs.Options.{none_some, some_same}
 
 -- the bytes of a key, and the key of eight bytes
 pub bytes-of_key : (key : ℕ) → AreBytes (bytes_of key)
@@ -34,9 +35,6 @@ key-small p h l =
     let bound : least 8 p + room 8 p ≤ span 8 = least-bound 8 p h (omega arith) in
     let some : 0 < room 8 p = room-positive 8 p in
     let is : span 8 ≡ 2 ^ 64 = refl in omega arith
-
-none_some : {X : Type 0} (x : X) → None ≡ Some x → ⊥
-none_some x e = cc
 
 -- a key that is found is in the range
 pub lookup-inside : {V : Type 0} (a b : ℕ) (es : List (ℕ × V)) (k : ℕ) (v : V) → Rises a b es → lookup es k ≡ Some v → (a ≤ k) × (k < b)
@@ -73,7 +71,7 @@ module _ {P : Type 0} (t : Table P) (root count : ℕ) (charge : Option ℕ) (pl
   reaches_linked c (by_child s byte b r here there) =
       let f = reaches_linked s r in
       let x = shown_at (t s) b here in
-      let same : x.0 ≡ f.0 = node_same x.0 f.0 (sym x.1 ∙ f.1.here) in
+      let same : x.0 ≡ f.0 = some_same x.0 f.0 (sym x.1 ∙ f.1.here) in
       let e : entry x.0 byte ≡ Some (below_at c) = subst (λ (z : Shown P). lookup z.node.children byte ≡ Some (below_at c)) x.2 there in
       let g : IsBelow t f.0 byte c = placed.below s f.0 f.1 byte c (subst (λ (z : Node P). entry z byte ≡ Some (below_at c)) same e) in
       (g.node, g.linked)
@@ -82,7 +80,7 @@ module _ {P : Type 0} (t : Table P) (root count : ℕ) (charge : Option ℕ) (pl
   pub onward : (s : ℕ) (a : Node P) (k : List ℕ) → IsLinked t s a → (on : LeadsOn t a k) → (length a.node.prefix < length on.node.node.prefix) × (length on.node.node.prefix ≤ length k)
   onward s a k ha on =
       let below : IsBelow t a (byte_at a k) on.slot = placed.below s a ha (byte_at a k) on.slot on.entry_is in
-      let same : below.node ≡ on.node = node_same below.node on.node (sym below.linked.here ∙ on.linked.here) in (
+      let same : below.node ≡ on.node = some_same below.node on.node (sym below.linked.here ∙ on.linked.here) in (
         subst (λ (z : Node P). length a.node.prefix < length z.node.prefix) same (longer-begins a.node.prefix below.node.node.prefix (byte_at a k) below.begins),
         length-begins on.node.node.prefix k on.begins,
       )
@@ -130,7 +128,7 @@ module _ {P : Type 0} (t : Table P) (root count : ℕ) (charge : Option ℕ) (pl
   stands_keeps key v h =
       let f = reaches_linked h.slot h.reaches in
       let x = shown_at (t h.slot) h.leaf h.here in
-      let same : x.0 ≡ f.0 = node_same x.0 f.0 (sym x.1 ∙ f.1.here) in
+      let same : x.0 ≡ f.0 = some_same x.0 f.0 (sym x.1 ∙ f.1.here) in
       let leaf : h.leaf ≡ one f.0 = x.2 ∙ ap one same in
       let e : entry f.0 h.byte ≡ Some (Payload v) = subst (λ (z : Shown P). lookup z.node.children h.byte ≡ Some (Payload v)) leaf h.payload in
       let full : length f.0.node.prefix ≡ 7 = placed.leaf h.slot f.0 f.1 h.byte v e in

@@ -24,8 +24,9 @@ use Rattle.congee_olc.specs.declared.olc.stage.Stage.{Stage}
 use Rattle.congee_olc.specs.declared.olc.stage.Stage.TheVariants.{TakeRoot, Read, Check, TakeBelow, CheckAbove, Finish}
 use Rattle.congee_olc.specs.declared.olc.stage.Record.{Record}
 use Rattle.congee_olc.proofs.Steps.{served_point, take_ok, take_fails, check_goes, check_fails, check_decides, read_whole, read_torn, read_refused, get_local}
-use Rattle.congee_olc.proofs.Courses.{slot_same, going_refused, decided_refused, remembered_named, more_work, root_free, below_free, taken_stands, descends, course_at}
-use Rattle.congee_olc.proofs.Ways.{check_absent, check_present, check_below, check_mismatch, node_same}
+use Rattle.congee_olc.proofs.Courses.{going_refused, decided_refused, remembered_named, more_work, root_free, below_free, taken_stands, descends, course_at}
+use Rattle.congee_olc.proofs.Ways.{check_absent, check_present, check_below, check_mismatch}
+use Rattle.congee_olc.proofs.Options.{some_same}
 
 abbrev pub one : {P : Type 0} → Node P → Shown P
 one a = record { word = a.word; node = a.node; publicity = publicity a.standing }
@@ -34,10 +35,6 @@ abbrev pub restart : {P : Type 0} → Record P → Record P
 restart call = record { op = call.op; stage = TakeRoot; last = None; spare = None; asking = Fresh; progress = call.progress }
 
 -- what is alike to a slot or to nothing is it
-module _ {P : Type 0} where
-  pub seen_same : (x y : Seen P) → Some x ≡ Some y → x ≡ y
-  seen_same x y e = cc
-
 module _ {P : Type 0} (alike : P → P → Type 0) where
   pub slot_alike_to : (c : Option (Child P)) (slot : ℕ) → AlikeChildren alike c (Some (below_at slot)) → c ≡ Some (below_at slot)
   slot_alike_to None slot h = absurd h
@@ -79,7 +76,7 @@ module _ {P : Type 0} (alike : P → P → Type 0) (same : P → P → Bool) whe
         → IsRead alike same t root pin call env (record call { stage = Read (record { above = None; here = record { slot = root; word = a.word } }) }) (report_of kind.Take (Some root) a.word true) Going
     root_ok env a stage at free =
         let f = known_at TakeRoot stage in
-        let top : a ≡ placed.top = node_same a placed.top (sym at ∙ placed.top_linked.here) in
+        let top : a ≡ placed.top = some_same a placed.top (sym at ∙ placed.top_linked.here) in
         let standing : a.standing ≡ is_linked = subst (λ (z : Node P). z.standing ≡ is_linked) (sym top) placed.top_linked.standing in
         let prefix : a.node.prefix ≡ [] = subst (λ (z : Node P). z.node.prefix ≡ []) (sym top) placed.top_prefix in
         let next : Record P = record call { stage = Read (record { above = None; here = record { slot = root; word = a.word } }) } in
@@ -92,13 +89,13 @@ module _ {P : Type 0} (alike : P → P → Type 0) (same : P → P → Bool) whe
               record {
                 above = refl;
                 here = record { node = a; here = at; safe = subst (λ (z : Standing). IsSafe pin z) (sym standing) tt; free = free; word = omega arith };
-                way = λ (b : Node P) (h : t root ≡ Some b). subst (λ (z : Node P). Begins z.node.prefix (bytes_of (key_of call.op))) (node_same a b (sym at ∙ h)) (rw prefix (record { holds = refl }));
+                way = λ (b : Node P) (h : t root ≡ Some b). subst (λ (z : Node P). Begins z.node.prefix (bytes_of (key_of call.op))) (some_same a b (sym at ∙ h)) (rw prefix (record { holds = refl }));
               },
             );
           };
           says = tt;
           course = course_at t root call next (report_of kind.Take (Some root) a.word true) Going TakeRoot (Read (record { above = None; here = record { slot = root; word = a.word } })) stage refl
-              (λ s e. inl (sym (slot_same root s e)))
+              (λ s e. inl (sym (some_same root s e)))
               (λ s h. elim h [ inl e ↦ inl (sym e) | inr never ↦ absurd never ])
               (λ s h. absurd h) (λ e. absurd (going_refused e))
               (λ s w h. elim h [ inl e ↦ inr (taken_stands t root a at s w e) | inr never ↦ absurd never ]) (inr (omega arith));
@@ -116,7 +113,7 @@ module _ {P : Type 0} (alike : P → P → Type 0) (same : P → P → Bool) whe
           facts = record { served = tt; at = (undecided, refl, refl) };
           says = tt;
           course = course_at t root call (restart call) (report_of kind.Take (Some slot) a.word false) Going call.stage TakeRoot refl refl
-              (λ s e. subst (λ (z : ℕ). (z ≡ root) ⊎ IsIn z (named_at call.stage)) (slot_same slot s e) known)
+              (λ s e. subst (λ (z : ℕ). (z ≡ root) ⊎ IsIn z (named_at call.stage)) (some_same slot s e) known)
               (λ s h. absurd h) (λ s h. absurd h) (λ e. absurd (going_refused e)) (λ s w h. absurd h) (inl (refl, (λ current none. free (frees current none))));
           does = λ count charge. take_fails alike same (view_on t root count charge) (flight pin call) (flight pin (restart call)) env (report_of kind.Take (Some slot) a.word false)
               slot (one a) (here_is slot a at count charge) refl free refl refl refl refl refl (λ s w h. absurd h);
@@ -140,7 +137,7 @@ module _ {P : Type 0} (alike : P → P → Type 0) (same : P → P → Bool) whe
           facts = record { served = tt; at = (undecided, refl, refl) };
           says = tt;
           course = course_at t root call (restart call) (report_of kind.Check (Some slot) 0 false) Going call.stage TakeRoot refl refl
-              (λ s e. inr (subst (λ (z : ℕ). IsIn z (named_at call.stage)) (slot_same slot s e) (remembered_named call.stage slot word remembered)))
+              (λ s e. inr (subst (λ (z : ℕ). IsIn z (named_at call.stage)) (some_same slot s e) (remembered_named call.stage slot word remembered)))
               (λ s h. absurd h) (λ s h. absurd h) (λ e. absurd (going_refused e)) (λ s w h. absurd h) (inl (refl, (λ current none. other (current slot word remembered a at))));
           does = λ count charge. check_fails alike same (view_on t root count charge) (flight pin call) (flight pin (restart call)) env (report_of kind.Check (Some slot) 0 false)
               slot word (one a) (here_is slot a at count charge) refl remembered other refl refl refl refl refl (λ s w h. absurd h);
@@ -157,12 +154,12 @@ module _ {P : Type 0} (alike : P → P → Type 0) (same : P → P → Bool) whe
         let next : Record P = record call { stage = Check path; last = Some torn; spare = None } in
         record {
           facts = record {
-            served = λ (b : Node P) (h : t path.here.slot ≡ Some b) (e : b.word ≡ path.here.word). absurd (other (ap (λ (z : Node P). z.word) (node_same a b (sym at ∙ h)) ∙ e));
-            at = (f.0, f.1, f.2, record { seen = torn; is = refl; agrees = λ (b : Node P) (h : t path.here.slot ≡ Some b) (e : b.word ≡ path.here.word). absurd (other (ap (λ (z : Node P). z.word) (node_same a b (sym at ∙ h)) ∙ e)) });
+            served = λ (b : Node P) (h : t path.here.slot ≡ Some b) (e : b.word ≡ path.here.word). absurd (other (ap (λ (z : Node P). z.word) (some_same a b (sym at ∙ h)) ∙ e));
+            at = (f.0, f.1, f.2, record { seen = torn; is = refl; agrees = λ (b : Node P) (h : t path.here.slot ≡ Some b) (e : b.word ≡ path.here.word). absurd (other (ap (λ (z : Node P). z.word) (some_same a b (sym at ∙ h)) ∙ e)) });
           };
           says = tt;
           course = course_at t root call next (report_of kind.Read (Some path.here.slot) 0 true) Going (Read path) (Check path) stage refl
-              (λ s e. inr (inl (slot_same path.here.slot s e))) (λ s h. inr (inl h)) (λ s h. refl) (λ e. absurd (going_refused e)) (λ s w h. inl h) (inr (omega arith));
+              (λ s e. inr (inl (some_same path.here.slot s e))) (λ s h. inr (inl h)) (λ s h. refl) (λ e. absurd (going_refused e)) (λ s w h. inl h) (inr (omega arith));
           does = λ count charge. read_torn alike same (view_on t root count charge) (flight pin call) (flight pin next) env (report_of kind.Read (Some path.here.slot) 0 true)
               path.here.slot path.here.word (one a) (here_is path.here.slot a at count charge) refl (remembered_at (Read path) stage path.here.slot path.here.word (inl (refl, refl))) other
               refl refl refl (ap Some (sym is)) refl (λ s w h. remembered_at (Read path) stage s w h);
@@ -186,13 +183,13 @@ module _ {P : Type 0} (alike : P → P → Type 0) (same : P → P → Bool) whe
                 seen = looks.seen;
                 is = refl;
                 agrees = λ (b : Node P) (h : t path.here.slot ≡ Some b) (e : b.word ≡ path.here.word).
-                    subst (λ (z : Node P). Agrees alike (key_of call.op) z looks.seen looks.spare) (node_same a b (sym at ∙ h)) (record { small = looks.small; reading = looks.reading; stands = looks.stands; seen = looks.agrees });
+                    subst (λ (z : Node P). Agrees alike (key_of call.op) z looks.seen looks.spare) (some_same a b (sym at ∙ h)) (record { small = looks.small; reading = looks.reading; stands = looks.stands; seen = looks.agrees });
               },
             );
           };
           says = tt;
           course = course_at t root call literal (report_of kind.Read (Some path.here.slot) 0 true) Going (Read path) (Check path) stage refl
-              (λ s e. inr (inl (slot_same path.here.slot s e))) (λ s h. inr (inl h)) (λ s h. refl) (λ e. absurd (going_refused e)) (λ s w h. inl h) (inr (omega arith));
+              (λ s e. inr (inl (some_same path.here.slot s e))) (λ s h. inr (inl h)) (λ s h. refl) (λ e. absurd (going_refused e)) (λ s w h. inl h) (inr (omega arith));
           does = λ count charge. read_whole alike same (view_on t root count charge) (flight pin call) (flight pin literal) env (report_of kind.Read (Some path.here.slot) 0 true)
               path.here.slot (one a) looks.seen (here_is path.here.slot a at count charge) refl remembered (served_point call.op looks.served) looks.reading
               refl refl refl refl refl (λ s w h. remembered_at (Read path) stage s w h);
@@ -214,7 +211,7 @@ module _ {P : Type 0} (alike : P → P → Type 0) (same : P → P → Bool) whe
           facts = record { served = tt; at = refused_open };
           says = tt;
           course = course_at t root call next (report_of kind.Read (Some path.here.slot) 0 true) Refused (Read path) Finish stage refl
-              (λ s e. inr (inl (slot_same path.here.slot s e))) (λ s h. absurd h) (λ s h. absurd h) (λ e. f.0) (λ s w h. absurd h) (inr (omega arith));
+              (λ s e. inr (inl (some_same path.here.slot s e))) (λ s h. absurd h) (λ s h. absurd h) (λ e. f.0) (λ s w h. absurd h) (inr (omega arith));
           does = λ count charge. read_refused alike same (view_on t root count charge) (flight pin call) (flight pin next) env (report_of kind.Read (Some path.here.slot) 0 true)
               path.here.slot (one a) (here_is path.here.slot a at count charge) refl remembered refl refl refl refl (λ s w h. absurd h);
         }
@@ -239,7 +236,7 @@ module _ {P : Type 0} (alike : P → P → Type 0) (same : P → P → Bool) whe
         let below : Spot = record { slot = slot; word = a.word } in
         let next : Record P = record call { stage = CheckAbove path below fits } in
         let there : IsThere t pin slot = f.5 in
-        let same_node : there.node ≡ a = node_same there.node a (sym there.here ∙ at) in
+        let same_node : there.node ≡ a = some_same there.node a (sym there.here ∙ at) in
         record {
           facts = record {
             served = served_known (TakeBelow path slot) stage;
@@ -250,12 +247,12 @@ module _ {P : Type 0} (alike : P → P → Type 0) (same : P → P → Bool) whe
               f.3,
               f.4,
               record { node = a; here = at; safe = subst (λ (z : Node P). IsSafe pin z.standing) same_node there.safe; free = free; word = omega arith },
-              λ (b : Node P) (h : t slot ≡ Some b). subst (λ (z : Node P). IsTrue fits ↔ Begins z.node.prefix (bytes_of (key_of call.op))) (node_same a b (sym at ∙ h)) test,
+              λ (b : Node P) (h : t slot ≡ Some b). subst (λ (z : Node P). IsTrue fits ↔ Begins z.node.prefix (bytes_of (key_of call.op))) (some_same a b (sym at ∙ h)) test,
             );
           };
           says = tt;
           course = course_at t root call next (report_of kind.Take (Some slot) a.word true) Going (TakeBelow path slot) (CheckAbove path below fits) stage refl
-              (λ s e. inr (inl (slot_same slot s e))) (λ s h. inr (inl h)) (λ s h. absurd h) (λ e. absurd (going_refused e))
+              (λ s e. inr (inl (some_same slot s e))) (λ s h. inr (inl h)) (λ s h. absurd h) (λ e. absurd (going_refused e))
               (λ s w h. elim h [ inl e ↦ inr (taken_stands t slot a at s w e) | inr old ↦ inl old ]) (inr (omega arith));
           does = λ count charge. take_ok alike same (view_on t root count charge) (flight pin call) (flight pin next) env (report_of kind.Take (Some slot) a.word true)
               slot (one a) (here_is slot a at count charge) refl free refl refl refl refl refl
@@ -285,7 +282,7 @@ module _ {P : Type 0} (alike : P → P → Type 0) (same : P → P → Bool) whe
           let f = known_at (Check path) stage in
           let next : Record P = record call { stage = TakeBelow path slot } in
           let s : Saw alike t path.here (key_of call.op) call.last call.spare = f.3 in
-          let one_seen : s.seen ≡ saw_node.seen = seen_same s.seen saw_node.seen (sym s.is ∙ saw_node.is) in
+          let one_seen : s.seen ≡ saw_node.seen = some_same s.seen saw_node.seen (sym s.is ∙ saw_node.is) in
           let child : s.seen.child ≡ Some (below_at slot) = ap (λ (z : Seen P). z.child) one_seen ∙ saw_node.child in
           let led : LedTo t path.here (bytes_of (key_of call.op)) slot = λ (b : Node P) (h : t path.here.slot ≡ Some b) (e : b.word ≡ path.here.word).
           slot_alike_to alike (entry b (byte_at b (bytes_of (key_of call.op)))) slot (subst (λ (c : Option (Child P)). AlikeChildren alike (entry b (byte_at b (bytes_of (key_of call.op)))) c) child (s.agrees b h e).reading.child) in
@@ -296,7 +293,7 @@ module _ {P : Type 0} (alike : P → P → Type 0) (same : P → P → Bool) whe
             };
             says = tt;
             course = course_at t root call next (report_of kind.Check (Some path.here.slot) 0 true) Going (Check path) (TakeBelow path slot) stage refl
-                (λ s e. inr (inl (slot_same path.here.slot s e)))
+                (λ s e. inr (inl (some_same path.here.slot s e)))
                 (λ s h. elim h [ inl e ↦ inr (inr (subst (λ (z : ℕ). SawNode call.last z) e saw_node, record { node = a; here = at; word = word })) | inr e ↦ inr (inl e) ])
                 (λ s h. absurd h) (λ e. absurd (going_refused e)) (λ s w h. inl h) (inr (omega arith));
             does = λ count charge. check_goes alike same (view_on t root count charge) (flight pin call) (flight pin next) env (report_of kind.Check (Some path.here.slot) 0 true)
@@ -314,7 +311,7 @@ module _ {P : Type 0} (alike : P → P → Type 0) (same : P → P → Bool) whe
             facts = record { served = tt; at = decided_open };
             says = record { served = served; fresh = fresh; before = old; is = refl; answer = answer };
             course = course_at t root call next (report_of kind.Check (Some path.here.slot) 0 true) (Decided (Old old)) stage Finish e refl
-                (λ s q. inr (subst (λ (z : ℕ). IsIn z (named_at stage)) (slot_same path.here.slot s q) (remembered_named stage path.here.slot path.here.word h)))
+                (λ s q. inr (subst (λ (z : ℕ). IsIn z (named_at stage)) (some_same path.here.slot s q) (remembered_named stage path.here.slot path.here.word h)))
                 (λ s h. absurd h) (λ s h. absurd h) (λ q. absurd (decided_refused (Old old) q)) (λ s w q. absurd q) (inr (more_work t stage path.here.slot path.here.word h));
             does = λ count charge. check_decides alike same (view_on t root count charge) (flight pin call) (flight pin next) env (report_of kind.Check (Some path.here.slot) 0 true)
                 path.here.slot (one a) (Old old) (here_is path.here.slot a at count charge) refl (stands stage e h)
@@ -338,7 +335,7 @@ module _ {P : Type 0} (alike : P → P → Type 0) (same : P → P → Bool) whe
       check_payload stage s v is there =
           let f = known_at (Check path) stage in
           let saw : Saw alike t path.here (key_of call.op) call.last call.spare = f.3 in
-          let one_seen : saw.seen ≡ s = seen_same saw.seen s (sym saw.is ∙ is) in
+          let one_seen : saw.seen ≡ s = some_same saw.seen s (sym saw.is ∙ is) in
           let agrees : Agrees alike (key_of call.op) a s call.spare = subst (λ (z : Seen P). Agrees alike (key_of call.op) a z call.spare) one_seen (saw.agrees a at word) in
           let stands_there = payload_alike_to alike (entry a (byte_at a (bytes_of (key_of call.op)))) v (subst (λ (c : Option (Child P)). AlikeChildren alike (entry a (byte_at a (bytes_of (key_of call.op)))) c) there agrees.reading.child) in
           let kept : IsSpare alike (Some v) call.spare = subst (λ (x : Option P). IsSpare alike x call.spare) (ap payload_in there) agrees.seen in
@@ -360,7 +357,7 @@ module _ {P : Type 0} (alike : P → P → Type 0) (same : P → P → Bool) whe
             };
             says = tt;
             course = course_at t root call next (report_of kind.Check (Some path.here.slot) 0 true) Going (CheckAbove path below true) (Read (record { above = Some path.here; here = below })) stage refl
-                (λ s e. inr (inr (inl (slot_same path.here.slot s e))))
+                (λ s e. inr (inr (inl (some_same path.here.slot s e))))
                 (λ s h. elim h [ inl e ↦ inr (inl (inl e)) | inr more ↦ elim more [ inl e ↦ inr (inl (inr (inl e))) | inr never ↦ absurd never ] ])
                 (λ s h. absurd h) (λ e. absurd (going_refused e))
                 (λ s w h. elim h [ inl e ↦ inl (inl e) | inr more ↦ elim more [ inl e ↦ inl (inr (inl e)) | inr never ↦ absurd never ] ])

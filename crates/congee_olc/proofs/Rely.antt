@@ -18,7 +18,7 @@ use Rattle.congee_olc.specs.declared.olc.stage.Path.{Path}
 use Rattle.congee_olc.specs.declared.olc.stage.Stage.{Stage}
 use Rattle.congee_olc.specs.declared.olc.stage.Stage.TheVariants.{TakeRoot, Read, Check, TakeBelow, CheckAbove, Finish}
 use Rattle.congee_olc.specs.declared.olc.stage.Record.{Record}
-use Rattle.congee_olc.proofs.Ways.{node_same}
+use Rattle.congee_olc.proofs.Options.{some_same}
 
 module _ {P : Type 0} (t t' : Table P) (Mine : ℕ → Type 0) (pin : ℕ) (g : Guarantees t t' Mine pin) where
   there_lasts : (slot : ℕ) → IsThere t pin slot → IsThere t' pin slot
@@ -33,7 +33,7 @@ module _ {P : Type 0} (t t' : Table P) (Mine : ℕ → Type 0) (pin : ℕ) (g : 
   prefix_lasts : (slot : ℕ) (Q : List ℕ → Type 0) (a : Node P) → t slot ≡ Some a → IsSafe pin a.standing → Q a.node.prefix → (b : Node P) → t' slot ≡ Some b → Q b.node.prefix
   prefix_lasts slot Q a at safe q b bt =
       let r : Remains t' Mine pin slot a = g slot a at safe in
-      let same : r.node ≡ b = node_same r.node b (sym r.here ∙ bt) in
+      let same : r.node ≡ b = some_same r.node b (sym r.here ∙ bt) in
       subst (λ (z : Node P). Q z.node.prefix) same (subst Q (sym r.kept.prefix) q)
 
   way_lasts : (spot : Spot) (k : List ℕ) → Known t pin spot → OnWay t spot.slot k → OnWay t' spot.slot k
@@ -47,7 +47,7 @@ module _ {P : Type 0} (t t' : Table P) (Mine : ℕ → Type 0) (pin : ℕ) (g : 
       → (b : Node P) → t' spot.slot ≡ Some b → b.word ≡ spot.word → Q b.node
   while_lasts spot Q kn f b bt w =
       let r : Remains t' Mine pin spot.slot kn.node = g spot.slot kn.node kn.here kn.safe in
-      let same : r.node ≡ b = node_same r.node b (sym r.here ∙ bt) in
+      let same : r.node ≡ b = some_same r.node b (sym r.here ∙ bt) in
       let word : r.node.word ≡ spot.word = ap (λ (z : Node P). z.word) same ∙ w in
       let was : kn.node.word ≡ spot.word = omega (arith, word, r.kept.word, kn.word) in
       let free : IsFree r.node.word = subst (λ z. IsFree z) (sym word) kn.free in

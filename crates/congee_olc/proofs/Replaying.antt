@@ -19,18 +19,7 @@ use Rattle.congee_olc.proofs.Orders.{orderly}
 use Rattle.congee_olc.proofs.Playing.{run_of}
 use Rattle.congee_olc.proofs.Single.{content_once}
 use Rattle.congee_olc.proofs.Touching.{all_touch}
-
-no_node : (a : Shown ℕ) → None ≡ Some a → ⊥
-no_node a e = cc
-
-node_same : (a b : Shown ℕ) → Some a ≡ Some b → a ≡ b
-node_same a b e = cc
-
-no_child : (c : Child ℕ) → None ≡ Some c → ⊥
-no_child c e = cc
-
-no_value : (v : ℕ) → None ≡ Some v → ⊥
-no_value v e = cc
+use Rattle.congee_olc.proofs.Options.{none_some, some_same}
 
 -- nothing stands where there is only an empty root
 none_stands : (w : World ℕ) (key value : ℕ) → IsFresh w → Stands (view_of w) key value → ⊥
@@ -38,15 +27,15 @@ none_stands w key value fresh h =
     elim (eqb_tells h.slot w.root) [
       | inl top ↦
           let at : (view_of w).node w.root ≡ Some h.leaf = subst (λ (s : ℕ). (view_of w).node s ≡ Some h.leaf) top.1 h.here in
-          let is = node_same _ h.leaf (sym fresh.root ∙ at) in
-          no_child (Payload value) (subst (λ (a : Shown ℕ). lookup a.node.children h.byte ≡ Some (Payload value)) (sym is) h.payload)
-      | inr off ↦ no_node h.leaf (sym (fresh.others h.slot off.1) ∙ h.here)
+          let is = some_same _ h.leaf (sym fresh.root ∙ at) in
+          none_some (Payload value) (subst (λ (a : Shown ℕ). lookup a.node.children h.byte ≡ Some (Payload value)) (sym is) h.payload)
+      | inr off ↦ none_some h.leaf (sym (fresh.others h.slot off.1) ∙ h.here)
     ]
 
 fresh_content : (w : World ℕ) → IsFresh w → IsContent (view_of w) []
 fresh_content w fresh = record {
   map = tt;
-  pairs = λ key value. ((λ e. absurd (no_value value e)), (λ h. absurd (none_stands w key value fresh h)));
+  pairs = λ key value. ((λ e. absurd (none_some value e)), (λ h. absurd (none_stands w key value fresh h)));
 }
 
 -- all that was decided is one history

@@ -17,8 +17,8 @@ use Rattle.congee_olc.proofs.Growing.{Grown, AllGrow, below_grown, leads_grown, 
 use Rattle.congee_olc.proofs.Keeping.{content_on}
 use Rattle.congee_olc.proofs.Rely.{facts_last}
 use Rattle.congee_olc.proofs.Sizes.{size_at, size_in, sizes_same}
-use Rattle.congee_olc.proofs.Ways.{node_same}
-use Rattle.congee_olc.proofs.Roots.{linked_retired}
+use Rattle.congee_olc.proofs.Courses.{linked_retired}
+use Rattle.congee_olc.proofs.Options.{some_same}
 
 pub free_kept : (word : ℕ) → IsFree word → IsObsolete word → ⊥
 free_kept word free obsolete = omega (arith, free, obsolete)
@@ -102,7 +102,7 @@ module _ {P : Type 0} (t t' : Table P) (slot word : ℕ) (a : Node P) (here : t 
   reworded_on s b h =
       elim (eqb_tells s slot) [
         | inl e ↦
-            let is : b ≡ a = node_same b a (sym h ∙ subst (λ z. t z ≡ Some a) (sym e.1) here) in
+            let is : b ≡ a = some_same b a (sym h ∙ subst (λ z. t z ≡ Some a) (sym e.1) here) in
             record {
               node = record a { word = word };
               here = subst (λ z. t' z ≡ Some (record a { word = word })) (sym e.1) after;
@@ -116,7 +116,7 @@ module _ {P : Type 0} (t t' : Table P) (slot word : ℕ) (a : Node P) (here : t 
   is_either : (s : ℕ) (b : Node P) → t' s ≡ Some b → (t s ≡ Some b) ⊎ ((s ≡ slot) × (b ≡ record a { word = word }))
   is_either s b h =
       elim (eqb_tells s slot) [
-        | inl e ↦ inr (e.1, node_same b (record a { word = word }) (sym h ∙ subst (λ z. t' z ≡ Some (record a { word = word })) (sym e.1) after))
+        | inl e ↦ inr (e.1, some_same b (record a { word = word }) (sym h ∙ subst (λ z. t' z ≡ Some (record a { word = word })) (sym e.1) after))
         | inr off ↦ inl (sym (others s off.1) ∙ h)
       ]
 
@@ -155,7 +155,7 @@ module _ {P : Type 0} (t t' : Table P) (slot word : ℕ) (a : Node P) (here : t 
   reworded_guarantees Mine pin rises may s b h safe =
       elim (eqb_tells s slot) [
         | inl e ↦
-            let is : b ≡ a = node_same b a (sym h ∙ subst (λ z. t z ≡ Some a) (sym e.1) here) in
+            let is : b ≡ a = some_same b a (sym h ∙ subst (λ z. t z ≡ Some a) (sym e.1) here) in
             record {
               node = record a { word = word };
               here = subst (λ z. t' z ≡ Some (record a { word = word })) (sym e.1) after;

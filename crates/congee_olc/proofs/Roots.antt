@@ -20,7 +20,8 @@ use Rattle.congee_olc.proofs.Reaching.{stands_keeps}
 use Rattle.congee_olc.specs.declared.olc.stage.Stored.{Stored}
 use Rattle.congee_olc.specs.declared.olc.stage.Place.TheVariants.{Linked}
 use Rattle.congee_olc.specs.declared.olc.stage.Record.{Record}
-use Rattle.congee_olc.proofs.Ways.{node_same}
+use Rattle.congee_olc.proofs.Courses.{linked_retired}
+use Rattle.congee_olc.proofs.Options.{none_some, some_same}
 
 abbrev pub top : {P : Type 0} → Node P
 top = record { word = 0; node = record { form = N256; prefix = []; children = [] }; standing = is_linked }
@@ -36,9 +37,6 @@ covers_added (Some n) size = omega arith
 pub linked_private : is_linked ≡ is_private → ⊥
 linked_private e = cc
 
-pub linked_retired : (stamp : Option ℕ) → is_linked ≡ is_retired stamp → ⊥
-linked_retired stamp e = cc
-
 not_odd : let n : ℕ = 0 in n ≡ 1 → ⊥
 not_odd e = absurd (omega arith)
 
@@ -52,7 +50,7 @@ module _ {P : Type 0} (t : Table P) (root : ℕ) (here : t root ≡ Some top) (o
   only : (s : ℕ) (b : Node P) → t s ≡ Some b → (s ≡ root) × (b ≡ top)
   only s b h =
       elim (eqb_tells s root) [
-        | inl e ↦ (e.1, node_same b top (sym (subst (λ z. t z ≡ Some b) e.1 h) ∙ here))
+        | inl e ↦ (e.1, some_same b top (sym (subst (λ z. t z ≡ Some b) e.1 h) ∙ here))
         | inr off ↦ absurd (none_node b (sym (others s off.1) ∙ h))
       ]
 
@@ -97,14 +95,8 @@ not_same o r ne e = ne (omega (arith, e))
 
 -- the sizes of all nodes where there is none, or one
 module _ {P : Type 0} where
-  pub none_stored : (n : Stored P) → None ≡ Some n → ⊥
-  none_stored n e = cc
-
   some_stored : (n : Stored P) → Some n ≡ None → ⊥
   some_stored n e = cc
-
-  pub stored_same : (m n : Stored P) → Some m ≡ Some n → m ≡ n
-  stored_same m n e = cc
 
   sizes_none : (slots : List (Option (Stored P))) → ((o : ℕ) → slice_index_or slots o None ≡ None) → sizes_of slots ≡ 0
   sizes_none [] none = refl
@@ -113,11 +105,11 @@ module _ {P : Type 0} where
 
   sizes_one : (slots : List (Option (Stored P))) (root : ℕ) (n : Stored P) → slice_index_or slots root None ≡ Some n → ((o : ℕ) → o ≢ root → slice_index_or slots o None ≡ None)
       → sizes_of slots ≡ stated_size n.node.form
-  sizes_one [] root n here others = absurd (none_stored n here)
-  sizes_one (None ∷ slots) zero n here others = absurd (none_stored n here)
+  sizes_one [] root n here others = absurd (none_some n here)
+  sizes_one (None ∷ slots) zero n here others = absurd (none_some n here)
   sizes_one (Some m ∷ slots) zero n here others =
       let rest : sizes_of slots ≡ 0 = sizes_none slots (λ o. others (suc o) (λ e. absurd (omega (arith, e)))) in
-      let same : m ≡ n = stored_same m n here in
+      let same : m ≡ n = some_same m n here in
       ap (λ r. stated_size m.node.form + r) rest ∙ (plus_none (stated_size m.node.form) ∙ ap (λ (z : Stored P). stated_size z.node.form) same)
   sizes_one (None ∷ slots) (suc root) n here others = sizes_one slots root n here (λ o ne. others (suc o) (not_same o root ne))
   sizes_one (Some m ∷ slots) (suc root) n here others = absurd (some_stored m (others 0 (λ e. absurd (omega (arith, e)))))

@@ -4,14 +4,9 @@ use Rattle.std.proofs.lemmas.Bool.{eq-eqb, ne_eqb}
 use Rattle.congee_nodes.specs.Map.{Pairs, lookup, Rises}
 use Rattle.congee_olc.specs.Table.{View, IsContent}
 use Rattle.congee_olc.proofs.Reaching.{lookup-inside}
+use Rattle.congee_olc.proofs.Options.{none_some, some_same}
 
 module _ {V : Type 0} where
-  none_some : (v : V) → None ≡ Some v → ⊥
-  none_some v e = cc
-
-  some_same : (v w : V) → Some v ≡ Some w → v ≡ w
-  some_same v w e = cc
-
   entry_same : (a b : ℕ × V) → a.0 ≡ b.0 → a.1 ≡ b.1 → a ≡ b
   entry_same a b e f = λ i. (e i, f i)
 

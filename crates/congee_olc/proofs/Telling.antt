@@ -15,6 +15,7 @@ use Rattle.congee_olc.specs.Content.{nodes_on, AddsShares}
 use Rattle.congee_olc.specs.declared.olc.stage.Stored.{Stored}
 use Rattle.congee_olc.proofs.Ways.{longer-begins}
 use Rattle.congee_olc.proofs.Views.{first_is}
+use Rattle.congee_olc.proofs.Options.{none_some}
 
 module _ {P : Type 0} where
   -- the node of a slot, without its word and its place
@@ -31,9 +32,6 @@ module _ {P : Type 0} where
 
   pub stored_there : (slots : List (Option (Stored P))) (s : ℕ) (n : Stored P) → Some n ≡ slice_index_or slots s None → Some n.node ≡ node_at (nodes_on slots) s
   stored_there slots s n at = ap stored_node at ∙ sym (node_on slots s)
-
-  none_some : (n : TableNode P) → None ≡ Some n → ⊥
-  none_some n e = cc
 
   -- a slot that has a subtree isn't empty
   pub never_empty : (slots : List (Option (Stored P))) (levels s : ℕ) → IsSubtree (nodes_on slots) levels s → None ≡ slice_index_or slots s None → ⊥

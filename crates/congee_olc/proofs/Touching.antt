@@ -25,10 +25,11 @@ use Rattle.congee_olc.specs.declared.olc.stage.Stage.{Stage}
 use Rattle.congee_olc.specs.declared.olc.stage.Stage.TheVariants.{TakeRoot, Read, Check, TakeBelow, CheckAbove, Finish}
 use Rattle.congee_olc.specs.declared.olc.stage.Record.{Record}
 use Rattle.congee_olc.proofs.Ways.{check_below}
-use Rattle.congee_olc.proofs.Reading.{slot_alike_to, seen_same}
+use Rattle.congee_olc.proofs.Reading.{slot_alike_to}
 use Rattle.congee_olc.proofs.Alone.{table_same, in_flight}
 use Rattle.congee_olc.specs.Played.{Leaves, Plays}
 use Rattle.congee_olc.proofs.Playing.{sound_next}
+use Rattle.congee_olc.proofs.Options.{none_some, some_same}
 
 -- A slot that a stage names has a node.
 module _ (t : Table ℕ) (root pin : ℕ) (k : List ℕ) where
@@ -61,7 +62,7 @@ module _ (t : Table ℕ) (root pin : ℕ) (r : Record ℕ) (placed : IsPlaced t 
   follow_there (Read path) slot f h = absurd h
   follow_there (Check path) slot f h =
       let s : Saw IsCopy t path.here (key_of r.op) r.last r.spare = f.3 in
-      let one_seen : s.seen ≡ h.0.seen = seen_same s.seen h.0.seen (sym s.is ∙ h.0.is) in
+      let one_seen : s.seen ≡ h.0.seen = some_same s.seen h.0.seen (sym s.is ∙ h.0.is) in
       let child : s.seen.child ≡ Some (below_at slot) = ap (λ (z : Seen ℕ). z.child) one_seen ∙ h.0.child in
       let stands = h.1 in
       let k : List ℕ = bytes_of (key_of r.op) in
@@ -231,9 +232,6 @@ all_touch_on first w last past (x ∷ xs) sound at vouched plays =
     let more = vouched_next first.root w x.after past x.event x.line x.decided sound next at vouched plays.0.happens plays.0.leaves in
     (touches_next first w x.after past x.event x.line x.decided sound at vouched plays.0.happens plays.0.leaves, all_touch_on first x.after last (x ∷ past) xs next more.1 more.0 plays.1)
 
-no_call : (r : Record ℕ) → None ≡ Some r → ⊥
-no_call r e = cc
-
 -- of a machine without calls, all that its calls will touch is known
 pub all_touch : (first last : World ℕ) (xs : List Entry) → IsSound IsCopy first → ((id : ℕ) → call_of first id ≡ None) → Plays first xs last → AllTouchKnown first [] xs
-all_touch first last xs sound none plays = all_touch_on first first last [] xs sound refl (λ id r found. absurd (no_call r (sym (none id) ∙ found))) plays
+all_touch first last xs sound none plays = all_touch_on first first last [] xs sound refl (λ id r found. absurd (none_some r (sym (none id) ∙ found))) plays

@@ -9,6 +9,7 @@ use Rattle.congee_olc.specs.World.{Node, Table, Standing, entry}
 use Rattle.congee_olc.specs.Facts.{IsSafe, byte_at, IsLinked, IsBelow, LeadsOn, IsPlaced, Keeps, Known, IsThere, LedTo, OnPath, TestOf}
 use Rattle.congee_olc.specs.declared.olc.stage.Spot.{Spot}
 use Rattle.congee_olc.specs.declared.olc.stage.Path.{Path}
+use Rattle.congee_olc.proofs.Options.{none_some, some_same}
 
 -- a beginning is no longer
 pub length-begins : (p q : List ℕ) → Begins p q → length p ≤ length q
@@ -56,14 +57,8 @@ longer-begins p q b h =
     let l = length-begins (p ++ b ∷ []) q h in
     let e : length (p ++ b ∷ []) ≡ length p + 1 = length-append p (b ∷ []) in omega arith
 
-none_some : {X : Type 0} (x : X) → None ≡ Some x → ⊥
-none_some x e = cc
-
 module _ {P : Type 0} where
-  pub node_same : (x y : Node P) → Some x ≡ Some y → x ≡ y
-  node_same x y e = cc
-
-  slots_same : (s r : ℕ) → let c : Child P = below_at s in let d : Child P = below_at r in Some c ≡ Some d → s ≡ r
+  pub slots_same : (s r : ℕ) → let c : Child P = below_at s in let d : Child P = below_at r in Some c ≡ Some d → s ≡ r
   slots_same s r e = cc
 
   payload_below : (v : P) (r : ℕ) → let c : Child P = below_at r in Some c ≡ Some (Payload v) → ⊥
@@ -79,7 +74,7 @@ module _ {P : Type 0} where
           | inl e ↦ inl e
           | inr on ↦
               let below : IsBelow t a (byte_at a l.node.prefix) on.slot = placed.below s a ha (byte_at a l.node.prefix) on.slot on.entry_is in
-              let same : below.node ≡ on.node = node_same below.node on.node (sym below.linked.here ∙ on.linked.here) in
+              let same : below.node ≡ on.node = some_same below.node on.node (sym below.linked.here ∙ on.linked.here) in
               let shorter : length on.node.node.prefix ≤ length l.node.prefix = length-begins on.node.node.prefix l.node.prefix on.begins in
               let longer : length a.node.prefix < length on.node.node.prefix =
               subst (λ (z : Node P). length a.node.prefix < length z.node.prefix) same (longer-begins a.node.prefix below.node.node.prefix (byte_at a l.node.prefix) below.begins) in
@@ -97,7 +92,7 @@ module _ {P : Type 0} where
     pub leaf_entry : (s : ℕ) (a : Node P) (v : P) (h : Keeps t k v) → IsLinked t s a → s ≡ h.slot → entry a (byte_at a k) ≡ Some (Payload v)
     leaf_entry s a v h ha e =
         let at : t s ≡ Some h.leaf = subst (λ (z : ℕ). t z ≡ Some h.leaf) (sym e) h.linked.here in
-        let same : a ≡ h.leaf = node_same a h.leaf (sym ha.here ∙ at) in
+        let same : a ≡ h.leaf = some_same a h.leaf (sym ha.here ∙ at) in
         subst (λ (z : Node P). entry z (byte_at z k) ≡ Some (Payload v)) (sym same) h.payload
 
     -- nothing under the key's byte of a linked node on its way: the key is absent
@@ -117,7 +112,7 @@ module _ {P : Type 0} where
           | inr on ↦
               let slot : c ≡ on.slot = slots_same c on.slot (sym child ∙ on.entry_is) in
               let at : t c ≡ Some on.node = subst (λ (z : ℕ). t z ≡ Some on.node) (sym slot) on.linked.here in
-              let same : on.node ≡ b = node_same on.node b (sym at ∙ hb) in
+              let same : on.node ≡ b = some_same on.node b (sym at ∙ hb) in
               other (subst (λ (z : Node P). Begins z.node.prefix k) same on.begins)
         ]
 
@@ -128,7 +123,7 @@ module _ {P : Type 0} where
     -- a remembered node whose word is the remembered one is linked
     pub known_linked : (pin : ℕ) (spot : Spot) (a : Node P) → Known t pin spot → t spot.slot ≡ Some a → a.word ≡ spot.word → IsLinked t spot.slot a
     known_linked pin spot a kn at w =
-        let same : kn.node ≡ a = node_same kn.node a (sym kn.here ∙ at) in
+        let same : kn.node ≡ a = some_same kn.node a (sym kn.here ∙ at) in
         let safe : IsSafe pin a.standing = subst (λ (z : Node P). IsSafe pin z.standing) same kn.safe in
         let free : IsFree a.word = subst (λ (z : ℕ). IsFree z) (sym w) kn.free in
         elim (placed.free spot.slot a at free) [
