@@ -4,7 +4,7 @@ use Rattle.congee_nodes.specs.Map.{Pairs, lookup}
 use Rattle.congee_nodes.specs.Legal.{IsAsked, reply_of, after}
 use Rattle.congee_olc.specs.World.{World, Table, table_of, call_of}
 use Rattle.congee_olc.specs.Table.{view_on, view_of, IsContent}
-use Rattle.congee_olc.specs.Flight.{Flight, flight, key_of, map_call, asked_of, map_asked, AlikeOption, AlikeReply, AlikePairs}
+use Rattle.congee_olc.specs.Flight.{flight, key_of, map_call, asked_of, map_asked, AlikeOption, AlikeReply, AlikePairs}
 use Rattle.congee_olc.specs.Event.{SameNodes}
 use Rattle.congee_olc.specs.Run.{Leads, Carries, IsCarried}
 use Rattle.congee_olc.specs.Facts.{IsPlaced, IsAnswer, IsReplied, Says, IsSound}

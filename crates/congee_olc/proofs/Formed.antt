@@ -4,7 +4,6 @@ use Rattle.std.proofs.lemmas.Bool.{cases_lt}
 use Rattle.std.proofs.lemmas.Bool.Decides.{eqb_tells}
 use Rattle.congee_nodes.specs.Map.{lookup}
 use Rattle.congee_nodes.specs.Key.{Begins}
-use Rattle.congee_nodes.specs.declared.child.Child.{Child}
 use Rattle.congee_nodes.specs.declared.child.Child.TheVariants.{Node as below_at}
 use Rattle.congee_nodes.proofs.BeginLaws.{begins_append}
 use Rattle.congee_olc.specs.Lock.{IsLocked, IsObsolete, IsFree}

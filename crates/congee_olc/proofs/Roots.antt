@@ -8,7 +8,7 @@ use Rattle.congee_nodes.specs.declared.child.Child.{Child}
 use Rattle.congee_nodes.specs.declared.child.Child.TheVariants.{Payload, Node as below_at}
 use Rattle.congee_olc.specs.Epoch.{PinsView}
 use Rattle.congee_olc.specs.Lock.{IsLocked, IsObsolete}
-use Rattle.congee_olc.specs.World.{Node, Table, is_linked, is_private, is_retired, entry, node_of, table_on, bytes_of}
+use Rattle.congee_olc.specs.World.{Node, Table, is_linked, is_private, entry, node_of, table_on, bytes_of}
 use Rattle.congee_olc.specs.Facts.{byte_at, IsPlaced, NeedsHolder, IsSound}
 use Rattle.congee_olc.specs.Run.{IsFresh}
 use Rattle.congee_olc.specs.Table.{shown, view_on, Stands, sizes_of}
