@@ -1,4 +1,4 @@
-pub mod Calls
-pub mod Face
-pub mod U64Calls
-pub mod PayloadCalls
+pub use Rattle.congee_faces.specs.Face
+pub use Rattle.congee_runs.specs.Calls
+pub use Rattle.congee_runs.specs.PayloadCalls
+pub use Rattle.congee_runs.specs.U64Calls

@@ -1,23 +1,17 @@
-//! The typed faces of the tree: what users of the index call.
+//! The index for its users: the typed faces, calls as data, and all that they name.
 #![tactic(auto)]
 
-pub mod calls;
-mod congee_arc;
-mod fresh;
-pub mod payload_calls;
+pub use congee_base::base_node::NodeSize;
+pub use congee_faces::congee_arc::{CongeeArc, PayloadCongee};
+pub use congee_faces::typed_congee::Congee;
+pub use congee_faces::u64_congee::U64Congee;
+pub use congee_map::error::OOMError;
+pub use congee_map::payload::Payload;
+pub use congee_map::traits::{Drainer, FnDrain, NoDrain, Word};
+pub use congee_node_table::allocator::{Allocator, Budget, DefaultAllocator};
+pub use congee_runs::{calls, payload_calls, u64_calls};
+pub use congee_stats::NodeStats;
+pub use congee_stats::levels::{LevelStats, Levels};
+
 #[cfg(test)]
 mod tests;
-mod typed_congee;
-pub mod u64_calls;
-mod u64_congee;
-
-pub use congee_arc::{CongeeArc, PayloadCongee};
-pub use congee_nodes::allocator::{Allocator, Budget, DefaultAllocator};
-pub use congee_nodes::base_node::NodeSize;
-pub use congee_nodes::error::OOMError;
-pub use congee_nodes::payload::Payload;
-pub use congee_nodes::stats::NodeStats;
-pub use congee_nodes::stats::levels::{LevelStats, Levels};
-pub use congee_nodes::traits::{Drainer, FnDrain, NoDrain, Word};
-pub use typed_congee::Congee;
-pub use u64_congee::U64Congee;

@@ -1,22 +1,11 @@
 //! The program `congee`: reads commands on an ordered map, a line each, and writes the answers.
 #![tactic(auto)]
 
-mod command;
-mod laws;
-mod line;
-mod number;
-mod pending;
-mod reply;
-mod run;
-mod serve;
-mod session;
 #[cfg(test)]
 mod tests;
-mod watched;
-mod words;
 
-use crate::serve::{serve, tell_no_memory};
-use crate::watched::Watched;
+use congee_lines::watched::Watched;
+use congee_service::serve::{serve, tell_no_memory};
 use std::alloc::AllocError;
 use std::env;
 use std::io::ErrorKind;

@@ -1,7 +1,7 @@
 //! Whole runs over streams in memory.
 
-use crate::serve::serve;
-use crate::watched::Watched;
+use congee_lines::watched::Watched;
+use congee_service::serve::serve;
 use std::alloc::Global;
 use std::io;
 use std::io::{ErrorKind, Read, Write};

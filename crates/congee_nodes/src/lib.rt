@@ -1,25 +1,11 @@
-//! What stands under every tree: the error, what a key or value is, the definitions of the ordered map, and the nodes.
+//! What stands under every tree, each part named again: the map's definitions, the nodes, their table, and statistics.
 #![tactic(auto)]
 
-pub mod allocator;
-pub mod any_node;
-pub mod base_node;
-pub mod child;
-pub mod error;
-mod few;
-pub mod iter;
-pub mod lanes;
-pub mod laws;
-mod mask;
-pub mod node_16;
-pub mod node_256;
-pub mod node_4;
-pub mod node_48;
-pub mod payload;
-mod row;
-mod sorted;
-pub mod stats;
+pub use congee_base::{base_node, iter, lanes};
+pub use congee_forms::{any_node, node_4, node_16, node_48, node_256};
+pub use congee_map::{error, laws, payload, traits};
+pub use congee_node_table::{allocator, child, tree_node};
+pub use congee_stats as stats;
+
 #[cfg(test)]
 mod tests;
-pub mod traits;
-pub mod tree_node;

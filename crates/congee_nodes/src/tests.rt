@@ -1,12 +1,17 @@
 //! Worked rows of the node forms, each public call at each form, and growth through all of them.
 
+mod allocator;
+mod payload;
+mod stats;
+mod tree_node;
+
 use crate::any_node::AnyNode;
 use crate::base_node::{CopyTo, Node, NodeSize, NodeType, grown};
-use crate::few::Few;
 use crate::node_4::Node4;
 use crate::node_16::Node16;
 use crate::node_48::Node48;
 use crate::node_256::Node256;
+use congee_base::few::Few;
 use std::mem::size_of;
 use std::process::Abort;
 use std::test::Fail;

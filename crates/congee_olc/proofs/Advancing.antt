@@ -4,7 +4,7 @@ use Rattle.std.proofs.lemmas.Bool.Decides.{eqb_tells}
 use Rattle.std.proofs.lemmas.Grind.{common_steps}
 use Rattle.std.specs.BTreeMap.{is_at}
 use Rattle.std.specs.Ordering.{nat_cmp}
-use Rattle.congee_olc.specs.Epoch.{PinsView, ChangesSeat, entry_at, pin_of, is_seated}
+use Rattle.congee_sync.specs.Epoch.{PinsView, ChangesSeat, entry_at, pin_of, is_seated}
 use Rattle.congee_olc.specs.World.{World, Table, table_on, table_of, record_in, call_of}
 use Rattle.congee_olc.specs.Table.{view_on, shown}
 use Rattle.congee_olc.specs.Flight.{flight, flight_in, flight_of, key_of, AlikeOp}

@@ -1,6 +1,6 @@
 -- A call that is alone ends within the events that its work counts.
 use Rattle.std.proofs.Common.{◌≡◌, ℕ, zero, suc, ◌+◌, ◌<◌, ◌≤◌, List, [], ◌∷◌, Option, Some, None, IsSome, ◌⊎◌, inl, inr, refl, sym, subst, ap, ◌∙◌, arith}
-use Rattle.congee_olc.specs.Epoch.{pin_of}
+use Rattle.congee_sync.specs.Epoch.{pin_of}
 use Rattle.congee_olc.specs.World.{World, Table, table_on, table_of, call_of}
 use Rattle.congee_olc.specs.Flight.{Flight, flight, flight_in, flight_of}
 use Rattle.congee_olc.specs.Facts.{work, IsCurrent, NoneHeld, IsCourse, IsAdvance, IsSound, IsTurn}

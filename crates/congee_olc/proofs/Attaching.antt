@@ -1,12 +1,12 @@
 -- A linked node gets a child under a byte where nothing stood.
 use Rattle.std.proofs.Common.{◌≡◌, ◌≢◌, ℕ, ◌<◌, ◌≤◌, List, [], length, Some, None, ◌⊎◌, inl, inr, refl, sym, subst, ap, ◌∙◌, arith}
 use Rattle.std.proofs.lemmas.Bool.Decides.{eqb_tells}
-use Rattle.congee_nodes.specs.Map.{lookup, put, Rises}
-use Rattle.congee_nodes.specs.Key.{Begins, AreBytes, next_byte}
-use Rattle.congee_nodes.specs.declared.child.Child.{Child}
-use Rattle.congee_nodes.specs.declared.child.Child.TheVariants.{Payload, Node as below_at}
-use Rattle.congee_nodes.proofs.MapLaws.{lookup-put_same, lookup-put_other, Rises-put}
-use Rattle.congee_olc.specs.Lock.{IsFree, IsLocked, IsObsolete}
+use Rattle.congee_map.specs.Map.{lookup, put, Rises}
+use Rattle.congee_node_table.specs.Key.{Begins, AreBytes, next_byte}
+use Rattle.congee_node_table.specs.declared.child.Child.{Child}
+use Rattle.congee_node_table.specs.declared.child.Child.TheVariants.{Payload, Node as below_at}
+use Rattle.congee_map.proofs.MapLaws.{lookup-put_same, lookup-put_other, Rises-put}
+use Rattle.congee_sync.specs.Lock.{IsFree, IsLocked, IsObsolete}
 use Rattle.congee_olc.specs.World.{Node, Table, is_linked, is_private, entry}
 use Rattle.congee_olc.specs.Facts.{byte_at, IsLinked, IsBelow, LeadsOn, IsPlaced, Keeps, NeedsHolder}
 use Rattle.congee_olc.proofs.Growing.{Grown, AllGrow, below_grown, leads_grown}

@@ -1,7 +1,7 @@
 -- What becomes of the content where no node changes.
 use Rattle.std.proofs.Common.{◌≡◌, ℕ, Bool, Option, Some, None, [], ◌∷◌, refl, sym, subst, ap, ◌∙◌}
-use Rattle.congee_nodes.specs.Map.{Pairs, lookup}
-use Rattle.congee_nodes.specs.Legal.{IsAsked, reply_of, after}
+use Rattle.congee_map.specs.Map.{Pairs, lookup}
+use Rattle.congee_map.specs.Legal.{IsAsked, reply_of, after}
 use Rattle.congee_olc.specs.World.{World, Table, table_of, call_of}
 use Rattle.congee_olc.specs.Table.{view_on, view_of, IsContent}
 use Rattle.congee_olc.specs.Flight.{flight, key_of, map_call, asked_of, map_asked, AlikeOption, AlikeReply, AlikePairs}

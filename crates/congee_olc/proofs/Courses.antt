@@ -1,6 +1,6 @@
 -- What the events that only read make of a call's stage.
 use Rattle.std.proofs.Common.{◌≡◌, ◌≢◌, ℕ, ◌+◌, ◌-◌, ◌*◌, ◌/◌, ◌%◌, ◌<◌, ◌≤◌, List, [], ◌∷◌, length, Option, Some, ◌⊎◌, inl, inr, sym, subst, ap, ◌∙◌, arith}
-use Rattle.congee_olc.specs.Lock.{IsFree, IsLocked, IsObsolete}
+use Rattle.congee_sync.specs.Lock.{IsFree, IsLocked, IsObsolete}
 use Rattle.congee_olc.specs.World.{Node, Table, is_linked, is_retired}
 use Rattle.congee_olc.specs.Flight.{IsIn, Remembers, spots_of, path_spots}
 use Rattle.congee_olc.specs.Facts.{byte_at, IsLinked, IsBelow, IsPlaced, LedTo, OnPath, depth_in, work, slots_in, named_at, IsCurrent, NoneHeld, MayFollow, IsCourse}

@@ -1,20 +1,20 @@
 -- The linked nodes are a tree, and its pairs are the content.
 use Rattle.std.proofs.Common.{◌≡◌, ℕ, zero, suc, ◌+◌, ◌-◌, ◌≤◌, List, [], ◌∷◌, ◌++◌, length, slice_index_or, Option, Some, None, ◌⊎◌, inl, inr, refl, ap, sym, subst, ◌∙◌, arith}
 use Rattle.std.proofs.lemmas.Bool.{eq-eqb, ne_eqb, cases_eq}
-use Rattle.congee_nodes.specs.Map.{Pairs, lookup, Rises}
-use Rattle.congee_nodes.specs.Key.{Begins, AreBytes, low, key_number}
-use Rattle.congee_nodes.specs.TableNode.{TableNode}
-use Rattle.congee_nodes.specs.Table.{node_at, pairs_in, pairs_under, pairs_of, pairs_at, IsChild, AreChildren, IsTree, IsSubtree}
-use Rattle.congee_nodes.specs.declared.child.Child.{Child}
-use Rattle.congee_nodes.specs.declared.child.Child.TheVariants.{Payload, Node as below_at}
-use Rattle.congee_nodes.proofs.TableLaws.{tree_rises, open_subtree, IsChild-found, lookup-at_payload, lookup-at_node}
-use Rattle.congee_olc.specs.Epoch.{entry_at}
+use Rattle.congee_map.specs.Map.{Pairs, lookup, Rises}
+use Rattle.congee_node_table.specs.Key.{Begins, AreBytes, low, key_number}
+use Rattle.congee_node_table.specs.TableNode.{TableNode}
+use Rattle.congee_node_table.specs.Table.{node_at, pairs_in, pairs_under, pairs_of, pairs_at, IsChild, AreChildren, IsTree, IsSubtree}
+use Rattle.congee_node_table.specs.declared.child.Child.{Child}
+use Rattle.congee_node_table.specs.declared.child.Child.TheVariants.{Payload, Node as below_at}
+use Rattle.congee_node_table.proofs.TableLaws.{tree_rises, open_subtree, IsChild-found, lookup-at_payload, lookup-at_node}
+use Rattle.congee_sync.specs.Epoch.{entry_at}
 use Rattle.congee_olc.specs.World.{Node, Table, node_of, table_on, bytes_of}
 use Rattle.congee_olc.specs.Table.{view_on, Reaches, at_root, by_child, Stands, IsContent}
 use Rattle.congee_olc.specs.Content.{nodes_on, IsTold, AddsShares}
 use Rattle.congee_olc.specs.Flight.{AlikePairs}
 use Rattle.congee_olc.specs.Facts.{byte_at, IsLinked, IsBelow, IsPlaced, Keeps}
-use Rattle.congee_olc.specs.declared.epoch.Life.{Life}
+use Rattle.congee_sync.specs.declared.epoch.Life.{Life}
 use Rattle.congee_olc.specs.declared.olc.stage.Stored.{Stored}
 use Rattle.congee_olc.proofs.Ways.{longer-begins, toward_leaf, leaf_entry}
 use Rattle.congee_olc.proofs.Views.{first_is}

@@ -2,12 +2,12 @@
 use Rattle.std.proofs.Common.{◌≡◌, ℕ, ◌+◌, ◌<◌, ◌≤◌, List, [], ◌∷◌, ◌++◌, length, length-append, get_or, Option, Some, None, inl, inr, refl, sym, subst, ap, ◌∙◌, arith}
 use Rattle.std.proofs.lemmas.Bool.{cases_lt}
 use Rattle.std.proofs.lemmas.Bool.Decides.{eqb_tells}
-use Rattle.congee_nodes.specs.Map.{lookup}
-use Rattle.congee_nodes.specs.Key.{Begins}
-use Rattle.congee_nodes.specs.declared.child.Child.TheVariants.{Node as below_at}
-use Rattle.congee_nodes.proofs.BeginLaws.{begins_append}
-use Rattle.congee_olc.specs.Lock.{IsLocked, IsObsolete, IsFree}
-use Rattle.congee_olc.specs.Epoch.{pin_of}
+use Rattle.congee_map.specs.Map.{lookup}
+use Rattle.congee_node_table.specs.Key.{Begins}
+use Rattle.congee_node_table.specs.declared.child.Child.TheVariants.{Node as below_at}
+use Rattle.congee_node_table.proofs.BeginLaws.{begins_append}
+use Rattle.congee_sync.specs.Lock.{IsLocked, IsObsolete, IsFree}
+use Rattle.congee_sync.specs.Epoch.{pin_of}
 use Rattle.congee_olc.specs.World.{World, is_linked, is_retired, Node, Table, table_of, entry, call_of}
 use Rattle.congee_olc.specs.Table.{Shown, view_of, not_yet, published, publicity, Reaches, IsWellFormed, sizes_of}
 use Rattle.congee_olc.specs.Flight.{Flight, flight, flight_in, IsIn}

@@ -1,8 +1,8 @@
 -- Tables whose linked nodes gain children and lose none.
 use Rattle.std.proofs.Common.{◌≡◌, ℕ, List, [], ◌∷◌, ◌++◌, length, Some, sym, subst, ap, ◌∙◌}
-use Rattle.congee_nodes.specs.Key.{Begins, next_byte}
-use Rattle.congee_nodes.specs.declared.child.Child.{Child}
-use Rattle.congee_nodes.specs.declared.child.Child.TheVariants.{Payload, Node as below_at}
+use Rattle.congee_node_table.specs.Key.{Begins, next_byte}
+use Rattle.congee_node_table.specs.declared.child.Child.{Child}
+use Rattle.congee_node_table.specs.declared.child.Child.TheVariants.{Payload, Node as below_at}
 use Rattle.congee_olc.specs.World.{Node, Table, entry}
 use Rattle.congee_olc.specs.Facts.{byte_at, IsLinked, IsBelow, LeadsOn}
 use Rattle.congee_olc.proofs.Keeping.{KeepsOn}

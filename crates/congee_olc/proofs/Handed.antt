@@ -1,6 +1,6 @@
 -- When a call is in flight, and that an event says so.
 use Rattle.std.proofs.Common.{◌≡◌, ℕ, Bool, true, false, IsTrue, ◌↔◌, Option, Some, None, IsSome, inl, inr, refl, sym, subst, ap, ◌∙◌}
-use Rattle.congee_olc.specs.Epoch.{entry_at, pin_of, is_seated}
+use Rattle.congee_sync.specs.Epoch.{entry_at, pin_of, is_seated}
 use Rattle.congee_olc.specs.World.{World, call_of}
 use Rattle.congee_olc.specs.Table.{View, view_of}
 use Rattle.congee_olc.specs.Flight.{Flight, flight, flight_in, flight_of, IsSameCall}

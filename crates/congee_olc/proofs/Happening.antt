@@ -1,6 +1,6 @@
 -- What one event of a schedule adds to a run.
 use Rattle.std.proofs.Common.{◌≡◌, ℕ, List, [], Option, Some, None, IsSome, refl, sym, subst, ap, ◌∙◌}
-use Rattle.congee_nodes.specs.Map.{Pairs}
+use Rattle.congee_map.specs.Map.{Pairs}
 use Rattle.congee_olc.specs.World.{World, call_of}
 use Rattle.congee_olc.specs.Table.{view_of, IsContent}
 use Rattle.congee_olc.specs.Flight.{Flight, flight, flight_of, asked_of, AlikeOption, AlikeOp}

@@ -1,11 +1,11 @@
 -- From what events make of the content to the decided history.
 use Rattle.std.proofs.Common.{◌≡◌, ℕ, List, [], ◌∷◌, ◌++◌, map, Option, Some, None, Result, Ok, Err, refl, sym, subst, ap, ◌∙◌}
-use Rattle.congee_nodes.specs.Map.{Pairs}
-use Rattle.congee_nodes.specs.Call.{Deed}
-use Rattle.congee_nodes.specs.Call as map
-use Rattle.congee_nodes.specs.Refusal.{of_none}
-use Rattle.congee_nodes.specs.Legal.{reply_of, after, IsLegal}
-use Rattle.congee_nodes.proofs.Runs.{IsLegal-append}
+use Rattle.congee_map.specs.Map.{Pairs}
+use Rattle.congee_map.specs.Call.{Deed}
+use Rattle.congee_map.specs.Call as map
+use Rattle.congee_map.specs.Refusal.{of_none}
+use Rattle.congee_map.specs.Legal.{reply_of, after, IsLegal}
+use Rattle.congee_map.proofs.Runs.{IsLegal-append}
 use Rattle.congee_olc.specs.Flight.{Flight, map_call, map_reply, asked_of, map_asked, AlikeOption, AlikeComputed, AlikeExchanged, AlikeReply, AlikePairs}
 use Rattle.congee_olc.specs.Run.{IsCopy, same_number, Carries, decided_by, deed_of, IsHistory}
 use Rattle.congee_olc.specs.declared.olc.types.Reply.{Reply}

@@ -1,6 +1,6 @@
 -- Tables that keep the same pairs have the same content.
 use Rattle.std.proofs.Common.{ℕ, List, Option}
-use Rattle.congee_nodes.specs.Map.{Pairs}
+use Rattle.congee_map.specs.Map.{Pairs}
 use Rattle.congee_olc.specs.World.{Table, bytes_of}
 use Rattle.congee_olc.specs.Table.{view_on, Stands, IsContent}
 use Rattle.congee_olc.specs.Facts.{IsPlaced, Keeps}

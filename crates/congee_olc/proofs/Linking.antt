@@ -2,12 +2,12 @@
 use Rattle.std.proofs.Common.{◌≡◌, ◌≢◌, ℕ, ◌+◌, ◌<◌, ◌↔◌, [], ◌∷◌, ◌++◌, length, length-append, Option, Some, None, ◌⊎◌, inl, inr, sym, subst, ap, ◌∙◌, arith}
 use Rattle.std.proofs.lemmas.Bool.{cases_lt}
 use Rattle.std.proofs.lemmas.Bool.Decides.{eqb_tells}
-use Rattle.congee_nodes.specs.Map.{Pairs}
-use Rattle.congee_nodes.specs.Key.{Begins}
-use Rattle.congee_nodes.specs.declared.child.Child.{Child}
-use Rattle.congee_nodes.specs.declared.child.Child.TheVariants.{Payload, Node as below_at}
-use Rattle.congee_nodes.proofs.BeginLaws.{begins_append, begins_itself}
-use Rattle.congee_nodes.proofs.MapLaws.{lookup-put_same}
+use Rattle.congee_map.specs.Map.{Pairs}
+use Rattle.congee_node_table.specs.Key.{Begins}
+use Rattle.congee_node_table.specs.declared.child.Child.{Child}
+use Rattle.congee_node_table.specs.declared.child.Child.TheVariants.{Payload, Node as below_at}
+use Rattle.congee_node_table.proofs.BeginLaws.{begins_append, begins_itself}
+use Rattle.congee_map.proofs.MapLaws.{lookup-put_same}
 use Rattle.congee_olc.specs.World.{Node, Table, entry}
 use Rattle.congee_olc.specs.Table.{view_on, IsContent}
 use Rattle.congee_olc.specs.Facts.{byte_at, IsLinked, LeadsOn, IsPlaced}

@@ -1,8 +1,8 @@
 -- The byte under which a longer list goes on.
 use Rattle.std.proofs.Common.{◌≡◌, ℕ, ◌+◌, ◌<◌, List, [], ◌∷◌, ◌++◌, length, length-append, get_or, append-nil, sym, subst, ap, ◌∙◌, arith, refl}
-use Rattle.congee_nodes.specs.Key.{Begins, next_byte}
-use Rattle.congee_nodes.proofs.BeginLaws.{after}
-use Rattle.congee_nodes.proofs.KeyLaws.{Begins-snoc}
+use Rattle.congee_node_table.specs.Key.{Begins, next_byte}
+use Rattle.congee_node_table.proofs.BeginLaws.{after}
+use Rattle.congee_node_table.proofs.KeyLaws.{Begins-snoc}
 use Rattle.congee_olc.proofs.Reaching.{last-byte}
 use Rattle.congee_olc.proofs.Ways.{get_or-begins}
 

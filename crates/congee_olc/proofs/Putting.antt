@@ -1,13 +1,13 @@
 -- A payload is put into a linked leaf, under a byte where nothing stood: the content gains its pair.
 use Rattle.std.proofs.Common.{◌≡◌, ◌≢◌, ℕ, ◌+◌, ◌^◌, ◌<◌, [], ◌∷◌, ◌++◌, length, Option, Some, None, ◌⊎◌, inl, inr, refl, sym, subst, ap, ◌∙◌, arith}
 use Rattle.std.proofs.lemmas.Bool.Decides.{eqb_tells}
-use Rattle.congee_nodes.specs.Map.{Pairs, lookup, put, without}
-use Rattle.congee_nodes.specs.Key.{Begins, key_number}
-use Rattle.congee_nodes.specs.declared.child.Child.{Child}
-use Rattle.congee_nodes.specs.declared.child.Child.TheVariants.{Payload, Node as below_at}
-use Rattle.congee_nodes.proofs.ByteMapLaws.{length-put_new}
-use Rattle.congee_nodes.proofs.KeyLaws.{goes_on, key_number_at}
-use Rattle.congee_nodes.proofs.MapLaws.{lookup-put_same, lookup-put_other, lookup-without_same, lookup-without_other, Rises-put, Rises-without}
+use Rattle.congee_map.specs.Map.{Pairs, lookup, put, without}
+use Rattle.congee_node_table.specs.Key.{Begins, key_number}
+use Rattle.congee_node_table.specs.declared.child.Child.{Child}
+use Rattle.congee_node_table.specs.declared.child.Child.TheVariants.{Payload, Node as below_at}
+use Rattle.congee_map.proofs.ByteMapLaws.{length-put_new}
+use Rattle.congee_node_table.proofs.KeyLaws.{goes_on, key_number_at}
+use Rattle.congee_map.proofs.MapLaws.{lookup-put_same, lookup-put_other, lookup-without_same, lookup-without_other, Rises-put, Rises-without}
 use Rattle.congee_olc.specs.World.{Node, Table, entry, bytes_of}
 use Rattle.congee_olc.specs.Table.{view_on, Stands, IsContent}
 use Rattle.congee_olc.specs.Facts.{byte_at, IsLinked, IsPlaced, Keeps}

@@ -1,13 +1,13 @@
 -- A machine whose nodes change while no call is in flight.
 use Rattle.std.proofs.Common.{◌≡◌, ◌≢◌, ℕ, ◌+◌, ◌^◌, ◌<◌, ◌≤◌, List, [], ◌∷◌, ◌++◌, length, Option, Some, None, inl, inr, refl, sym, subst, ap, ◌∙◌, arith, slice_index_or}
 use Rattle.std.proofs.lemmas.Bool.Decides.{eqb_tells}
-use Rattle.congee_nodes.specs.Map.{Pairs, lookup, put}
-use Rattle.congee_nodes.specs.Key.{Begins, AreBytes, next_byte}
-use Rattle.congee_nodes.specs.Charge.{add_charge, Covers}
-use Rattle.congee_nodes.specs.Form.{stated_size}
-use Rattle.congee_nodes.specs.declared.child.Child.TheVariants.{Payload, Node as below_at}
-use Rattle.congee_olc.specs.Epoch.{life_of, entry_at}
-use Rattle.congee_olc.specs.Lock.{IsFree}
+use Rattle.congee_map.specs.Map.{Pairs, lookup, put}
+use Rattle.congee_node_table.specs.Key.{Begins, AreBytes, next_byte}
+use Rattle.congee_node_table.specs.Charge.{add_charge, Covers}
+use Rattle.congee_base.specs.Form.{stated_size}
+use Rattle.congee_node_table.specs.declared.child.Child.TheVariants.{Payload, Node as below_at}
+use Rattle.congee_sync.specs.Epoch.{life_of, entry_at}
+use Rattle.congee_sync.specs.Lock.{IsFree}
 use Rattle.congee_olc.specs.World.{World, Node, standing_of, node_of, table_on, table_of, record_in, call_of, bytes_of}
 use Rattle.congee_olc.specs.Table.{view_on, IsContent, sizes_of}
 use Rattle.congee_olc.specs.Facts.{IsPlaced, NeedsHolder, IsSound}

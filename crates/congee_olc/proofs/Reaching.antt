@@ -3,11 +3,11 @@ use Rattle.std.proofs.Common.{◌≡◌, ℕ, zero, suc, ◌+◌, ◌^◌, ◌<�
 use Rattle.std.proofs.lemmas.Nat.{be_bytes_8, from_be_bytes-to_be_bytes_8}
 use Rattle.std.proofs.lemmas.Bool.Decides.{eqb_tells}
 use Rattle.std.proofs.lemmas.Bool.{ne_eqb}
-use Rattle.congee_nodes.specs.Map.{lookup, Rises}
-use Rattle.congee_nodes.specs.Key.{Begins, AreBytes, low, key_number, span, room, least}
-use Rattle.congee_nodes.specs.declared.child.Child.TheVariants.{Payload, Node as below_at}
-use Rattle.congee_nodes.proofs.KeyLaws.{goes_on, key_number_at, key_number-be_bytes, least-bound, room-positive, AreBytes-append}
-use Rattle.congee_nodes.proofs.BeginLaws.{begins_append}
+use Rattle.congee_map.specs.Map.{lookup, Rises}
+use Rattle.congee_node_table.specs.Key.{Begins, AreBytes, low, key_number, span, room, least}
+use Rattle.congee_node_table.specs.declared.child.Child.TheVariants.{Payload, Node as below_at}
+use Rattle.congee_node_table.proofs.KeyLaws.{goes_on, key_number_at, key_number-be_bytes, least-bound, room-positive, AreBytes-append}
+use Rattle.congee_node_table.proofs.BeginLaws.{begins_append}
 use Rattle.congee_olc.specs.World.{Node, Table, entry, bytes_of}
 use Rattle.congee_olc.specs.Table.{Shown, shown, view_on, Reaches, at_root, by_child, Stands}
 use Rattle.congee_olc.specs.Facts.{byte_at, IsLinked, IsBelow, LeadsOn, IsPlaced, Keeps}

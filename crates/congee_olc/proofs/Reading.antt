@@ -1,9 +1,9 @@
 -- What each kind that only reads leaves of its call.
 use Rattle.std.proofs.Common.{◌≡◌, ◌≢◌, ℕ, Bool, true, false, IsTrue, ◌↔◌, ◌^◌, ◌<◌, [], Option, Some, None, ◌⊎◌, inl, inr, refl, sym, subst, ap, ◌∙◌, arith}
-use Rattle.congee_nodes.specs.Key.{Begins}
-use Rattle.congee_nodes.specs.declared.child.Child.{Child}
-use Rattle.congee_nodes.specs.declared.child.Child.TheVariants.{Payload, Node as below_at}
-use Rattle.congee_olc.specs.Lock.{IsFree}
+use Rattle.congee_node_table.specs.Key.{Begins}
+use Rattle.congee_node_table.specs.declared.child.Child.{Child}
+use Rattle.congee_node_table.specs.declared.child.Child.TheVariants.{Payload, Node as below_at}
+use Rattle.congee_sync.specs.Lock.{IsFree}
 use Rattle.congee_olc.specs.World.{Node, Table, Standing, is_linked, entry, bytes_of}
 use Rattle.congee_olc.specs.Table.{Shown, view_on, publicity}
 use Rattle.congee_olc.specs.Flight.{flight, IsIn, Remembers, spots_of, key_of, payload_in, seen_payload, AlikeOption, AlikeChildren}

@@ -1,11 +1,11 @@
 -- What a call knows outlives the events of others.
 use Rattle.std.proofs.Common.{◌≡◌, ℕ, Bool, List, Option, Some, None, IsTrue, ◌↔◌, refl, sym, subst, ap, ◌∙◌, arith}
-use Rattle.congee_nodes.specs.Key.{Begins}
-use Rattle.congee_nodes.specs.Map.{lookup}
-use Rattle.congee_nodes.specs.Key.{next_byte}
-use Rattle.congee_nodes.specs.TableNode.{TableNode}
-use Rattle.congee_nodes.specs.declared.child.Child.TheVariants.{Node as below_at}
-use Rattle.congee_olc.specs.Lock.{IsFree}
+use Rattle.congee_node_table.specs.Key.{Begins}
+use Rattle.congee_map.specs.Map.{lookup}
+use Rattle.congee_node_table.specs.Key.{next_byte}
+use Rattle.congee_node_table.specs.TableNode.{TableNode}
+use Rattle.congee_node_table.specs.declared.child.Child.TheVariants.{Node as below_at}
+use Rattle.congee_sync.specs.Lock.{IsFree}
 use Rattle.congee_olc.specs.World.{Node, Table, bytes_of}
 use Rattle.congee_olc.specs.Flight.{key_of, payload_in}
 use Rattle.congee_olc.specs.Event.{IsReading}

@@ -1,8 +1,8 @@
 -- From the events that were made one by one to the theorem on the whole run.
 use Rattle.std.proofs.Common.{◌≡◌, ℕ, List, [], ◌∷◌, Some, inl, inr, refl, sym, subst, ◌∙◌}
 use Rattle.std.proofs.lemmas.Bool.Decides.{eqb_tells}
-use Rattle.congee_nodes.specs.Map.{Pairs, lookup}
-use Rattle.congee_nodes.specs.declared.child.Child.TheVariants.{Payload}
+use Rattle.congee_map.specs.Map.{Pairs, lookup}
+use Rattle.congee_node_table.specs.declared.child.Child.TheVariants.{Payload}
 use Rattle.congee_olc.specs.World.{World}
 use Rattle.congee_olc.specs.Table.{Shown, view_of, Stands, IsContent}
 use Rattle.congee_olc.specs.Facts.{IsSound}

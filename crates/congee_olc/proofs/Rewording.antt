@@ -1,17 +1,17 @@
 -- The word of a node changes, and nothing else.
 use Rattle.std.proofs.Common.{◌≡◌, ◌≢◌, ℕ, ◌≤◌, ◌↔◌, List, length, Option, Some, None, ◌⊎◌, inl, inr, refl, sym, subst, ap, ◌∙◌, arith, slice_index_or}
 use Rattle.std.proofs.lemmas.Bool.Decides.{eqb_tells}
-use Rattle.congee_nodes.specs.Map.{lookup, Rises}
-use Rattle.congee_nodes.specs.Key.{Begins, AreBytes}
-use Rattle.congee_nodes.specs.TableNode.{TableNode}
-use Rattle.congee_nodes.specs.declared.child.Child.TheVariants.{Payload, Node as below_at}
-use Rattle.congee_nodes.specs.Charge.{Covers}
-use Rattle.congee_olc.specs.Epoch.{life_of}
-use Rattle.congee_olc.specs.Lock.{IsFree, IsLocked, IsObsolete}
+use Rattle.congee_map.specs.Map.{lookup, Rises}
+use Rattle.congee_node_table.specs.Key.{Begins, AreBytes}
+use Rattle.congee_node_table.specs.TableNode.{TableNode}
+use Rattle.congee_node_table.specs.declared.child.Child.TheVariants.{Payload, Node as below_at}
+use Rattle.congee_node_table.specs.Charge.{Covers}
+use Rattle.congee_sync.specs.Epoch.{life_of}
+use Rattle.congee_sync.specs.Lock.{IsFree, IsLocked, IsObsolete}
 use Rattle.congee_olc.specs.World.{World, Node, Table, is_linked, is_private, is_retired, standing_of, node_of, table_on, table_of}
 use Rattle.congee_olc.specs.Facts.{IsSafe, IsLinked, LeadsOn, IsPlaced, Guarantees, NeedsHolder, IsSound}
 use Rattle.congee_olc.specs.Table.{sizes_of}
-use Rattle.congee_olc.specs.declared.epoch.Life.{Life}
+use Rattle.congee_sync.specs.declared.epoch.Life.{Life}
 use Rattle.congee_olc.specs.declared.olc.stage.Stored.{Stored}
 use Rattle.congee_olc.proofs.Growing.{Grown, AllGrow, below_grown, leads_grown, keeps_grown}
 use Rattle.congee_olc.proofs.Keeping.{content_on}

@@ -1,20 +1,20 @@
 -- The machine of the root alone.
 use Rattle.std.proofs.Common.{◌≡◌, ◌≢◌, ℕ, zero, suc, ◌+◌, ◌≤◌, true, false, List, [], ◌∷◌, length, Option, Some, None, inl, inr, refl, sym, subst, ap, ◌∙◌, arith, slice_index_or}
 use Rattle.std.proofs.lemmas.Bool.Decides.{eqb_tells}
-use Rattle.congee_nodes.specs.Map.{Rises}
-use Rattle.congee_nodes.specs.Key.{AreBytes}
-use Rattle.congee_nodes.specs.declared.base_node.NodeType.TheVariants.{N256}
-use Rattle.congee_nodes.specs.declared.child.Child.{Child}
-use Rattle.congee_nodes.specs.declared.child.Child.TheVariants.{Payload, Node as below_at}
-use Rattle.congee_olc.specs.Epoch.{PinsView}
-use Rattle.congee_olc.specs.Lock.{IsLocked, IsObsolete}
+use Rattle.congee_map.specs.Map.{Rises}
+use Rattle.congee_node_table.specs.Key.{AreBytes}
+use Rattle.congee_base.specs.declared.base_node.NodeType.TheVariants.{N256}
+use Rattle.congee_node_table.specs.declared.child.Child.{Child}
+use Rattle.congee_node_table.specs.declared.child.Child.TheVariants.{Payload, Node as below_at}
+use Rattle.congee_sync.specs.Epoch.{PinsView}
+use Rattle.congee_sync.specs.Lock.{IsLocked, IsObsolete}
 use Rattle.congee_olc.specs.World.{Node, Table, is_linked, is_private, entry, node_of, table_on, bytes_of}
 use Rattle.congee_olc.specs.Facts.{byte_at, IsPlaced, NeedsHolder, IsSound}
 use Rattle.congee_olc.specs.Run.{IsFresh}
 use Rattle.congee_olc.specs.Table.{shown, view_on, Stands, sizes_of}
-use Rattle.congee_nodes.specs.Charge.{add_charge, Covers}
-use Rattle.congee_nodes.specs.Form.{stated_size}
-use Rattle.congee_nodes.specs.TableNode.{TableNode}
+use Rattle.congee_node_table.specs.Charge.{add_charge, Covers}
+use Rattle.congee_base.specs.Form.{stated_size}
+use Rattle.congee_node_table.specs.TableNode.{TableNode}
 use Rattle.congee_olc.proofs.Views.{nothing_stands}
 use Rattle.congee_olc.proofs.Reaching.{stands_keeps}
 use Rattle.congee_olc.specs.declared.olc.stage.Stored.{Stored}

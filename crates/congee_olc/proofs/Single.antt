@@ -1,7 +1,7 @@
 -- A tree has one content.
 use Rattle.std.proofs.Common.{◌≡◌, ◌≢◌, ℕ, ◌+◌, ◌<◌, ◌≤◌, List, [], ◌∷◌, Some, refl, sym, subst, ap, ◌∙◌, arith}
 use Rattle.std.proofs.lemmas.Bool.{eq-eqb, ne_eqb}
-use Rattle.congee_nodes.specs.Map.{Pairs, lookup, Rises}
+use Rattle.congee_map.specs.Map.{Pairs, lookup, Rises}
 use Rattle.congee_olc.specs.Table.{View, IsContent}
 use Rattle.congee_olc.proofs.Reaching.{lookup-inside}
 use Rattle.congee_olc.proofs.Options.{none_some, some_same}

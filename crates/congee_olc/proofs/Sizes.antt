@@ -1,6 +1,6 @@
 -- The sizes of all nodes, by what stands in each slot.
 use Rattle.std.proofs.Common.{◌≡◌, ◌≢◌, ℕ, zero, suc, ◌+◌, List, [], ◌∷◌, Option, Some, None, refl, sym, ap, ◌∙◌, arith, slice_index_or}
-use Rattle.congee_nodes.specs.Form.{stated_size}
+use Rattle.congee_base.specs.Form.{stated_size}
 use Rattle.congee_olc.specs.Table.{sizes_of}
 use Rattle.congee_olc.specs.declared.olc.stage.Stored.{Stored}
 use Rattle.congee_olc.proofs.Roots.{not_same}

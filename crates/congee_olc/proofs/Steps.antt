@@ -1,9 +1,9 @@
 -- How the events that only read are events of their kinds.
 use Rattle.std.proofs.Common.{◌≡◌, ◌≢◌, ℕ, Bool, true, false, IsTrue, ◌↔◌, Option, Some, None, inl, inr, refl, sym, subst, ap}
 use Rattle.std.proofs.lemmas.Bool.{eq-eqb}
-use Rattle.congee_nodes.specs.Map.{lookup}
-use Rattle.congee_nodes.specs.Legal.{IsAsked, reply_of}
-use Rattle.congee_olc.specs.Lock.{IsFree}
+use Rattle.congee_map.specs.Map.{lookup}
+use Rattle.congee_map.specs.Legal.{IsAsked, reply_of}
+use Rattle.congee_sync.specs.Lock.{IsFree}
 use Rattle.congee_olc.specs.Table.{Shown, View}
 use Rattle.congee_olc.specs.Flight.{Flight, Remembers, key_of, IsPoint, map_call, asked_of, map_asked, seen_payload, only_at, AlikeOption, AlikeReply}
 use Rattle.congee_olc.specs.Event.{report_of, IsReading, IsLocal, LearnsNothing, LearnsAtMost, StepsOn}

@@ -1,15 +1,15 @@
 -- What a walk over the tree adds for each child of a node, and at its end.
 use Rattle.std.proofs.Common.{◌≡◌, ℕ, zero, suc, ◌+◌, ◌-◌, ◌<◌, ◌≤◌, List, [], ◌∷◌, ◌++◌, length, slice_index_or, Option, Some, None, refl, ap, sym, subst, ◌∙◌, arith, append_assoc}
 use Rattle.std.proofs.lemmas.List.{append-nil}
-use Rattle.congee_nodes.specs.Map.{Pairs, lookup, between}
-use Rattle.congee_nodes.specs.Key.{low}
-use Rattle.congee_nodes.specs.TableNode.{TableNode}
-use Rattle.congee_nodes.specs.Table.{Table, node_at, pairs_in, pairs_under, pairs_of, pairs_at, IsChild, IsTree, IsSubtree}
-use Rattle.congee_nodes.specs.declared.child.Child.{Child}
-use Rattle.congee_nodes.specs.declared.child.Child.TheVariants.{Payload, Node}
-use Rattle.congee_nodes.proofs.MapLaws.{lookup-between_inside}
-use Rattle.congee_nodes.proofs.RangeLaws.{between-all}
-use Rattle.congee_nodes.proofs.TableLaws.{open_subtree, IsChild-found}
+use Rattle.congee_map.specs.Map.{Pairs, lookup, between}
+use Rattle.congee_node_table.specs.Key.{low}
+use Rattle.congee_node_table.specs.TableNode.{TableNode}
+use Rattle.congee_node_table.specs.Table.{Table, node_at, pairs_in, pairs_under, pairs_of, pairs_at, IsChild, IsTree, IsSubtree}
+use Rattle.congee_node_table.specs.declared.child.Child.{Child}
+use Rattle.congee_node_table.specs.declared.child.Child.TheVariants.{Payload, Node}
+use Rattle.congee_map.proofs.MapLaws.{lookup-between_inside}
+use Rattle.congee_map.proofs.RangeLaws.{between-all}
+use Rattle.congee_node_table.proofs.TableLaws.{open_subtree, IsChild-found}
 use Rattle.congee_olc.specs.Flight.{AlikePairs}
 use Rattle.congee_olc.specs.Content.{nodes_on, AddsShares}
 use Rattle.congee_olc.specs.declared.olc.stage.Stored.{Stored}

@@ -1,8 +1,8 @@
 -- What a call touches was named to it, and hasn't been free since.
 use Rattle.std.proofs.Common.{◌≡◌, ℕ, List, [], ◌∷◌, Option, Some, None, IsSome, ◌⊎◌, inl, inr, refl, sym, subst, ap, ◌∙◌}
 use Rattle.std.proofs.lemmas.Bool.Decides.{eqb_tells}
-use Rattle.congee_nodes.specs.declared.child.Child.{Child}
-use Rattle.congee_nodes.specs.declared.child.Child.TheVariants.{Node as below_at}
+use Rattle.congee_node_table.specs.declared.child.Child.{Child}
+use Rattle.congee_node_table.specs.declared.child.Child.TheVariants.{Node as below_at}
 use Rattle.congee_olc.specs.World.{World, Table, table_of, call_of, entry, bytes_of}
 use Rattle.congee_olc.specs.Table.{shown, view_of}
 use Rattle.congee_olc.specs.Flight.{IsIn, flight_of, path_spots, key_of, AlikeChildren}

@@ -1,7 +1,7 @@
 -- Views with the same nodes have the same content.
 use Rattle.std.proofs.Common.{◌≡◌, ℕ, Some, [], ◌∷◌, length, refl, sym, subst, ◌∙◌}
 use Rattle.std.proofs.lemmas.Bool.{eq-eqb}
-use Rattle.congee_nodes.specs.Map.{Pairs, lookup}
+use Rattle.congee_map.specs.Map.{Pairs, lookup}
 use Rattle.congee_olc.specs.Table.{View, Reaches, at_root, by_child, Stands, IsContent}
 use Rattle.congee_olc.specs.Event.{SameNodes}
 

@@ -1,10 +1,10 @@
 -- What a checked read says of the map.
 use Rattle.std.proofs.Common.{◌≡◌, ℕ, zero, suc, ◌+◌, ◌<◌, ◌≤◌, Bool, true, false, List, [], ◌∷◌, ◌++◌, length, get_or, Some, None, ◌⊎◌, inl, inr, sym, ap, refl, ◌∙◌, subst, arith, length-append, append_assoc}
-use Rattle.congee_nodes.specs.Key.{Begins}
-use Rattle.congee_nodes.proofs.BeginLaws.{after, begins_by}
-use Rattle.congee_nodes.specs.declared.child.Child.{Child}
-use Rattle.congee_nodes.specs.declared.child.Child.TheVariants.{Payload, Node as below_at}
-use Rattle.congee_olc.specs.Lock.{IsFree}
+use Rattle.congee_node_table.specs.Key.{Begins}
+use Rattle.congee_node_table.proofs.BeginLaws.{after, begins_by}
+use Rattle.congee_node_table.specs.declared.child.Child.{Child}
+use Rattle.congee_node_table.specs.declared.child.Child.TheVariants.{Payload, Node as below_at}
+use Rattle.congee_sync.specs.Lock.{IsFree}
 use Rattle.congee_olc.specs.World.{Node, Table, Standing, entry}
 use Rattle.congee_olc.specs.Facts.{IsSafe, byte_at, IsLinked, IsBelow, LeadsOn, IsPlaced, Keeps, Known, IsThere, LedTo, OnPath, TestOf}
 use Rattle.congee_olc.specs.declared.olc.stage.Spot.{Spot}

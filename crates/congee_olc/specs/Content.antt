@@ -1,7 +1,7 @@
 -- What the machine tells of its content.
 use Rattle.std.specs.Prelude.{◌≡◌, List, [], ◌∷◌, ◌++◌, Option, Some, None}
-use Rattle.congee_nodes.specs.Map.{Pairs}
-use Rattle.congee_nodes.specs.TableNode.{TableNode}
+use Rattle.congee_map.specs.Map.{Pairs}
+use Rattle.congee_node_table.specs.TableNode.{TableNode}
 use Rattle.congee_olc.specs.Table.{View, IsContent}
 use Rattle.congee_olc.specs.Flight.{AlikePairs}
 use Rattle.congee_olc.specs.declared.olc.stage.Stored.{Stored}

@@ -1,15 +1,15 @@
 -- THE KINDS OF EVENTS: what each does to the nodes and to its call, and what it reports. An event of any kind leaves what
 -- its record doesn't name.
 use Rattle.std.specs.Prelude.{◌≡◌, ◌≢◌, ℕ, ◌+◌, Bool, true, false, IsTrue, ◌↔◌, List, [], ◌∷◌, length, ◌<◌, Option, Some, None, IsSome, if◌then◌else◌, nat_lt, ◌⊎◌}
-use Rattle.congee_nodes.specs.Map.{lookup, put, without}
-use Rattle.congee_nodes.specs.Key.{next_byte, low}
-use Rattle.congee_nodes.specs.Form.{Fits, stated_size}
-use Rattle.congee_nodes.specs.Charge.{add_charge}
-use Rattle.congee_nodes.specs.Legal.{IsAsked, reply_of}
-use Rattle.congee_nodes.specs.TableNode.{TableNode}
-use Rattle.congee_nodes.specs.declared.child.Child.{Child}
-use Rattle.congee_olc.specs.Lock.{IsFree, version, last_version}
-use Rattle.congee_olc.specs.Epoch.{count_after, stamp_at, is_seated, MayReclaim}
+use Rattle.congee_map.specs.Map.{lookup, put, without}
+use Rattle.congee_node_table.specs.Key.{next_byte, low}
+use Rattle.congee_base.specs.Form.{Fits, stated_size}
+use Rattle.congee_node_table.specs.Charge.{add_charge}
+use Rattle.congee_map.specs.Legal.{IsAsked, reply_of}
+use Rattle.congee_node_table.specs.TableNode.{TableNode}
+use Rattle.congee_node_table.specs.declared.child.Child.{Child}
+use Rattle.congee_sync.specs.Lock.{IsFree, version, last_version}
+use Rattle.congee_sync.specs.Epoch.{count_after, stamp_at, is_seated, MayReclaim}
 use Rattle.congee_olc.specs.World.{World, bytes_of}
 use Rattle.congee_olc.specs.Table.{Shown, not_yet, retired, View, view_of, Reaches}
 use Rattle.congee_olc.specs.Flight.{Flight, flight_of, IsIn, Remembers, key_of, IsPoint, IsSameCall, map_call, asked_of, map_asked, seen_payload, only_at, AlikeOption, AlikeChildren, AlikeReply, AlikeOp}

@@ -1,14 +1,14 @@
 -- What holds of the machine after each event: the place facts of its nodes, what each call in flight knows, and what one
 -- event leaves for the others. Only proofs need these words.
 use Rattle.std.specs.Prelude.{◌≡◌, ◌≢◌, ℕ, ◌+◌, ◌-◌, ◌*◌, ◌^◌, ◌<◌, ◌≤◌, Bool, true, IsTrue, List, [], ◌∷◌, ◌++◌, length, Option, Some, None, IsSome, ◌⊎◌, ◌↔◌}
-use Rattle.congee_nodes.specs.Map.{Pairs, lookup, Rises}
-use Rattle.congee_nodes.specs.Charge.{Covers}
-use Rattle.congee_nodes.specs.Key.{Begins, AreBytes, next_byte}
-use Rattle.congee_nodes.specs.TableNode.{TableNode}
-use Rattle.congee_nodes.specs.declared.base_node.NodeType.TheVariants.{N256}
-use Rattle.congee_nodes.specs.declared.child.Child.TheVariants.{Payload, Node as below_at}
-use Rattle.congee_olc.specs.Lock.{IsFree, IsLocked, IsObsolete}
-use Rattle.congee_olc.specs.Epoch.{is_seated, pin_of, entry_at}
+use Rattle.congee_map.specs.Map.{Pairs, lookup, Rises}
+use Rattle.congee_node_table.specs.Charge.{Covers}
+use Rattle.congee_node_table.specs.Key.{Begins, AreBytes, next_byte}
+use Rattle.congee_node_table.specs.TableNode.{TableNode}
+use Rattle.congee_base.specs.declared.base_node.NodeType.TheVariants.{N256}
+use Rattle.congee_node_table.specs.declared.child.Child.TheVariants.{Payload, Node as below_at}
+use Rattle.congee_sync.specs.Lock.{IsFree, IsLocked, IsObsolete}
+use Rattle.congee_sync.specs.Epoch.{is_seated, pin_of, entry_at}
 use Rattle.congee_olc.specs.World.{World, Standing, is_private, is_linked, is_detached, is_retired, Node, Table, table_of, entry, call_of, bytes_of}
 use Rattle.congee_olc.specs.Flight.{IsIn, Remembers, path_spots, spots_of, held_at, made_at, flight, flight_in, key_of, payload_in}
 use Rattle.congee_olc.specs.Table.{view_on, view_of, IsContent, sizes_of}

@@ -1,12 +1,12 @@
 -- What a reader sees of a call in flight, and the call of the ordered map that it stands for.
 use Rattle.std.specs.Prelude.{◌≡◌, ℕ, List, [], ◌∷◌, Option, Some, None, Result, Ok, Err, ◌⊎◌}
-use Rattle.congee_nodes.specs.Map.{Pairs}
-use Rattle.congee_nodes.specs.Call.{Call, get, insert, remove, compare_exchange, compute_if_present, compute_or_insert, range}
-use Rattle.congee_nodes.specs.Call.{Asked}
-use Rattle.congee_nodes.specs.Call as map
-use Rattle.congee_nodes.specs.declared.child.Child.{Child}
-use Rattle.congee_nodes.specs.declared.child.Child.TheVariants.{Payload, Node}
-use Rattle.congee_olc.specs.Epoch.{pin_of}
+use Rattle.congee_map.specs.Map.{Pairs}
+use Rattle.congee_map.specs.Call.{Call, get, insert, remove, compare_exchange, compute_if_present, compute_or_insert, range}
+use Rattle.congee_map.specs.Call.{Asked}
+use Rattle.congee_map.specs.Call as map
+use Rattle.congee_node_table.specs.declared.child.Child.{Child}
+use Rattle.congee_node_table.specs.declared.child.Child.TheVariants.{Payload, Node}
+use Rattle.congee_sync.specs.Epoch.{pin_of}
 use Rattle.congee_olc.specs.World.{World, call_of}
 use Rattle.congee_olc.specs.declared.olc.types.Op.{Op}
 use Rattle.congee_olc.specs.declared.olc.types.Op.TheVariants.{Get, Insert, Remove, ComputeIfPresent, ComputeOrInsert, CompareExchange, Range}

@@ -1,6 +1,6 @@
 -- What a Read found, told without its payload.
 use Rattle.std.specs.Prelude.{◌≡◌, Option, Some, None}
-use Rattle.congee_nodes.specs.declared.child.Child.TheVariants as child
+use Rattle.congee_node_table.specs.declared.child.Child.TheVariants as child
 use Rattle.congee_olc.specs.declared.olc.types.Seen.{Seen}
 use Rattle.congee_olc.specs.declared.olc.reading.Found.{Found}
 use Rattle.congee_olc.specs.declared.olc.reading.Found.TheVariants.{Nothing, Payload, Node}

@@ -1,11 +1,11 @@
-pub mod Lock
-pub mod Epoch
-pub mod World
-pub mod Table
-pub mod Flight
 pub mod Content
 pub mod Event
-pub mod Run
 pub mod Facts
+pub mod Flight
 pub mod Found
 pub mod Played
+pub mod Run
+pub mod Table
+pub mod World
+pub use Rattle.congee_sync.specs.Epoch
+pub use Rattle.congee_sync.specs.Lock

@@ -1,6 +1,6 @@
 -- A run with what the machine's records are after each event. Only proofs need these words.
 use Rattle.std.specs.Prelude.{◌≡◌, ℕ, List, [], ◌∷◌, Option, Some, None}
-use Rattle.congee_nodes.specs.Map.{Pairs}
+use Rattle.congee_map.specs.Map.{Pairs}
 use Rattle.congee_olc.specs.World.{World}
 use Rattle.congee_olc.specs.Table.{view_of, IsContent}
 use Rattle.congee_olc.specs.Facts.{IsBegun, IsTurn}

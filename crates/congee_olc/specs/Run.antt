@@ -1,13 +1,13 @@
 -- SCHEDULES: which events are enabled, what a run of a schedule is, the history that it decides, and what each call touches.
 use Rattle.std.specs.Prelude.{◌≡◌, ◌≢◌, ℕ, zero, suc, Bool, false, ◌==◌, List, [], ◌∷◌, ◌++◌, map, Option, Some, None, IsSome, ◌⊎◌}
-use Rattle.congee_nodes.specs.Map.{Pairs}
-use Rattle.congee_nodes.specs.Call.{Deed, replied}
-use Rattle.congee_nodes.specs.Legal.{IsAsked, reply_of, after, IsLegal}
-use Rattle.congee_nodes.specs.Refusal.{of_none}
-use Rattle.congee_nodes.specs.declared.base_node.NodeType.TheVariants.{N256}
-use Rattle.congee_nodes.specs.declared.child.Child.TheVariants.{Node}
-use Rattle.congee_olc.specs.Lock.{version, last_version}
-use Rattle.congee_olc.specs.Epoch.{MayReclaim}
+use Rattle.congee_map.specs.Map.{Pairs}
+use Rattle.congee_map.specs.Call.{Deed, replied}
+use Rattle.congee_map.specs.Legal.{IsAsked, reply_of, after, IsLegal}
+use Rattle.congee_map.specs.Refusal.{of_none}
+use Rattle.congee_base.specs.declared.base_node.NodeType.TheVariants.{N256}
+use Rattle.congee_node_table.specs.declared.child.Child.TheVariants.{Node}
+use Rattle.congee_sync.specs.Lock.{version, last_version}
+use Rattle.congee_sync.specs.Epoch.{MayReclaim}
 use Rattle.congee_olc.specs.World.{World}
 use Rattle.congee_olc.specs.Table.{Shown, published, view_of, IsContent}
 use Rattle.congee_olc.specs.Flight.{Flight, flight_of, IsPoint, map_call, asked_of, map_asked, map_reply, AlikeReply, AlikePairs}

@@ -1,14 +1,14 @@
 -- What a reader sees of the machine's nodes, which of them are the tree, and when all is well formed.
 use Rattle.std.specs.Prelude.{◌≡◌, ◌≢◌, ℕ, ◌+◌, List, [], ◌∷◌, ◌++◌, length, Option, Some, None, ◌↔◌}
-use Rattle.congee_nodes.specs.TableNode.{TableNode}
-use Rattle.congee_nodes.specs.Map.{Pairs, lookup, IsMap}
-use Rattle.congee_nodes.specs.Key.{Begins, low}
-use Rattle.congee_nodes.specs.Charge.{Covers}
-use Rattle.congee_nodes.specs.Form.{stated_size}
+use Rattle.congee_node_table.specs.TableNode.{TableNode}
+use Rattle.congee_map.specs.Map.{Pairs, lookup, IsMap}
+use Rattle.congee_node_table.specs.Key.{Begins, low}
+use Rattle.congee_node_table.specs.Charge.{Covers}
+use Rattle.congee_base.specs.Form.{stated_size}
 use Rattle.congee_olc.specs.declared.olc.stage.Stored.{Stored}
-use Rattle.congee_nodes.specs.declared.base_node.NodeType.TheVariants.{N256}
-use Rattle.congee_nodes.specs.declared.child.Child.TheVariants.{Payload, Node as node}
-use Rattle.congee_olc.specs.Lock.{IsLocked, IsObsolete, IsFree}
+use Rattle.congee_base.specs.declared.base_node.NodeType.TheVariants.{N256}
+use Rattle.congee_node_table.specs.declared.child.Child.TheVariants.{Payload, Node as node}
+use Rattle.congee_sync.specs.Lock.{IsLocked, IsObsolete, IsFree}
 use Rattle.congee_olc.specs.World.{World, Standing, is_private, is_linked, is_detached, is_retired, Node, Table, table_of}
 
 -- A node is private from its making until it is linked, then published until it is retired.

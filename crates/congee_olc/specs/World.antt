@@ -1,12 +1,12 @@
 -- The state of the machine: the nodes in their slots, the calls in flight, the pins.
 use Rattle.std.specs.Prelude.{ℕ, List, Option, Some, None, slice_index_or}
 use Rattle.std.specs.Int.{to_be_bytes, w64}
-use Rattle.congee_nodes.specs.TableNode.{TableNode}
-use Rattle.congee_nodes.specs.Map.{lookup}
-use Rattle.congee_nodes.specs.declared.child.Child.{Child}
-use Rattle.congee_olc.specs.Epoch.{PinsView, entry_at}
-use Rattle.congee_olc.specs.declared.epoch.Life.{Life}
-use Rattle.congee_olc.specs.declared.epoch.Life.TheVariants.{InUse, Retired}
+use Rattle.congee_node_table.specs.TableNode.{TableNode}
+use Rattle.congee_map.specs.Map.{lookup}
+use Rattle.congee_node_table.specs.declared.child.Child.{Child}
+use Rattle.congee_sync.specs.Epoch.{PinsView, entry_at}
+use Rattle.congee_sync.specs.declared.epoch.Life.{Life}
+use Rattle.congee_sync.specs.declared.epoch.Life.TheVariants.{InUse, Retired}
 use Rattle.congee_olc.specs.declared.olc.stage.Stored.{Stored}
 use Rattle.congee_olc.specs.declared.olc.stage.Record.{Record}
 use Rattle.congee_olc.specs.declared.olc.stage.Place.{Place}

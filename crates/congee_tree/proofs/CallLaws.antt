@@ -2,11 +2,11 @@
 use Rattle.std.proofs.Common.{◌≡◌, ℕ, List, [], Option, Some, None, refl, subst}
 use Rattle.std.specs.Fn.{Mut, TakesAt, CalledAt}
 use denote.Ref.{Bor}
-use Rattle.congee_nodes.specs.Map.{lookup, with_answer}
-use Rattle.congee_nodes.specs.Reduce.{Recomputes}
-use Rattle.congee_nodes.specs.Table.{Table, pairs_at, nodes_at}
-use Rattle.congee_tree.specs.Tree.{Tree}
-use Rattle.congee_tree.specs.Way.{depth}
+use Rattle.congee_map.specs.Map.{lookup, with_answer}
+use Rattle.congee_changes.specs.Reduce.{Recomputes}
+use Rattle.congee_node_table.specs.Table.{Table, pairs_at, nodes_at}
+use Rattle.congee_changes.specs.Tree.{Tree}
+use Rattle.congee_paths.specs.Way.{depth}
 
 -- the same nodes are the same tree
 pub same_tree : {P A : Type 0} → (s t : Table P) (root : ℕ) (a b : A) → t ≡ s → b ≡ a

@@ -1,20 +1,2 @@
-mod InsertLaws
-mod NewLaws
-mod Places
-mod SlotLaws
-mod WayLaws
-mod RefusalLaws
-mod PathLaws
-mod ShapeLaws
-mod RootLaws
-mod WholeLaws
-mod RemoveLaws
-mod CountLaws
-mod CallLaws
-mod VisitedLaws
-mod WindowLaws
-mod FillLaws
-mod ScanLaws
-mod WalkLaws
-mod WeightLaws
-mod ChargeLaws
+pub mod CallLaws
+pub mod Places

@@ -6,8 +6,8 @@ use Rattle.std.specs.Ordering.{nat_cmp, ordering_index}
 use Rattle.std.proofs.lemmas.Cmp.{ranked}
 use Rattle.std.proofs.lemmas.Bool.{lt-ltb, le-ltb, eq-eqb, ne_eqb, cases_order}
 use Rattle.std.proofs.lemmas.Bool.Decides.{nat_tests}
-use Rattle.congee_nodes.specs.Map.{Pairs, lookup, put, without, Rises}
-use Rattle.congee_nodes.proofs.MapLaws.{lookup-below}
+use Rattle.congee_map.specs.Map.{Pairs, lookup, put, without, Rises}
+use Rattle.congee_map.proofs.MapLaws.{lookup-below}
 use Rattle.congee_tree.specs.Place.{IsAt, IsGapFor}
 
 module _ {P : Type 0} where

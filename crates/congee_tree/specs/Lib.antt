@@ -1,10 +1,1 @@
 pub mod Place
-pub mod Tree
-pub mod Way
-pub mod Writes
-pub mod Path
-pub mod Takes
-pub mod Count
-pub mod Scan
-pub mod Charge
-pub mod Supply

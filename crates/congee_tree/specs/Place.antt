@@ -1,6 +1,6 @@
 -- Places of keys among ascending pairs.
 use Rattle.std.specs.Prelude.{◌≡◌, ℕ, ◌<◌, ◌≤◌, length, slice_index_or}
-use Rattle.congee_nodes.specs.Map.{Pairs}
+use Rattle.congee_map.specs.Map.{Pairs}
 
 -- the pair at this place has the key
 pub record IsAt {P : Type 0} (m : Pairs P) (k at : ℕ) : Type 0 where

@@ -2,12 +2,12 @@
 
 ghost use Rattle.std.specs.Prelude.{◌≡◌, ℕ, ◌<◌};
 ghost use Rattle.std.specs.Iterator.{YieldsFirst, item_count};
-ghost use Rattle.congee_nodes.specs.Map.{lookup, without, IsMap};
+ghost use Rattle.congee_map.specs.Map.{lookup, without, IsMap};
 
-use crate::reads::Reads;
 use crate::tree::RawCongee;
-use congee_nodes::allocator::Allocator;
-use congee_nodes::payload::Payload;
+use congee_map::payload::Payload;
+use congee_node_table::allocator::Allocator;
+use congee_paths::reads::Reads;
 use std::marker::{Brand, Model};
 use std::sync::ledger::{Blank, Ledger};
 
@@ -25,7 +25,7 @@ pub struct IntoPairs<P: Payload, A: Allocator> {
 impl<P: Payload, A: Allocator> Model for IntoPairs<P, A> {
     ghost use Rattle.std.specs.Prelude.{◌^◌};
     ghost use Rattle.std.specs.Coded.{coded×, coded_list, coded_ℕ};
-    ghost use Rattle.congee_nodes.specs.Map.{Pairs, Rises};
+    ghost use Rattle.congee_map.specs.Map.{Pairs, Rises};
 
     ghost Value = { Pairs P };
 

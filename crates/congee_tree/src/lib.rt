@@ -1,15 +1,10 @@
 //! The tree under the faces: an ordered map from keys of eight bytes to payloads.
 #![tactic(auto)]
 
-mod computation;
-mod descent;
-mod insertion;
+pub mod fresh;
 pub mod into_pairs;
-pub mod range_scan;
-pub mod reads;
-mod removal;
 pub mod sorted_pairs;
-mod statistics;
-mod supply;
 pub mod tree;
-mod walk;
+
+pub use congee_paths::reads;
+pub use congee_walks::range_scan;

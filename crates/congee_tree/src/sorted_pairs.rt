@@ -3,11 +3,11 @@
 //! Its contract is the definition of the ordered map, call for call. So tests may compare any other body with it.
 
 ghost use Rattle.std.specs.Prelude.{◌≡◌, ℕ, [], length, IfOk, IfErr, OnOk, OnErr, option_copied};
-ghost use Rattle.congee_nodes.specs.Map.{lookup, put, without, IsMap};
-ghost use Rattle.congee_nodes.specs.Refusal.{IsNew};
+ghost use Rattle.congee_map.specs.Map.{lookup, put, without, IsMap};
+ghost use Rattle.congee_map.specs.Refusal.{IsNew};
 ghost use Rattle.congee_tree.specs.Place.{IsAt, IsGapFor};
 
-use congee_nodes::error::OOMError;
+use congee_map::error::OOMError;
 use std::alloc::Global;
 use std::marker::Model;
 use std::mem;
@@ -21,7 +21,7 @@ pub struct SortedPairs<P> {
 
 impl<P> Model for SortedPairs<P> {
     ghost use Rattle.std.specs.Coded.{coded×, coded_list, coded_ℕ};
-    ghost use Rattle.congee_nodes.specs.Map.{Pairs, IsMap};
+    ghost use Rattle.congee_map.specs.Map.{Pairs, IsMap};
 
     ghost Value = { Pairs P };
 

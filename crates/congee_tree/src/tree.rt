@@ -7,35 +7,35 @@
 ghost use Rattle.std.specs.Prelude.{◌≡◌, ℕ, ◌+◌, ◌≤◌, ◌<◌, ◌^◌, ◌↔◌, [], ◌∷◌, length, Option, Some, None, IfOk, OnOk, OnErr, IsTrue, option_copied};
 ghost use Rattle.std.specs.Fn.{TakesAt, CalledAt};
 ghost use Rattle.std.specs.Int.{from_be_bytes, w64};
-ghost use Rattle.congee_nodes.specs.Closure.{TakesOption, CalledAtOption};
-ghost use Rattle.congee_nodes.specs.Map.{lookup, put, without, with_answer, IsMap};
-ghost use Rattle.congee_nodes.specs.Refusal.{NeedsNode};
-ghost use Rattle.congee_nodes.specs.Shape.{Reshapes};
-ghost use Rattle.congee_nodes.specs.Reduce.{Reduces, Recomputes};
-ghost use Rattle.congee_nodes.specs.LevelCounts.{capped};
-ghost use Rattle.congee_nodes.specs.Stats.{IsTally};
-ghost use Rattle.congee_nodes.specs.StatsText.{all_nodes, all_entries};
-ghost use Rattle.congee_nodes.specs.Visits.{visits_below};
-ghost use Rattle.congee_nodes.specs.Charge.{add_charge};
-ghost use Rattle.congee_tree.specs.Charge.{charge_of, MovesAlike};
-ghost use Rattle.congee_tree.specs.Path.{on_path};
+ghost use Rattle.congee_changes.specs.Closure.{TakesOption, CalledAtOption};
+ghost use Rattle.congee_map.specs.Map.{lookup, put, without, with_answer, IsMap};
+ghost use Rattle.congee_map.specs.Refusal.{NeedsNode};
+ghost use Rattle.congee_node_table.specs.Shape.{Reshapes};
+ghost use Rattle.congee_changes.specs.Reduce.{Reduces, Recomputes};
+ghost use Rattle.congee_stats.specs.LevelCounts.{capped};
+ghost use Rattle.congee_stats.specs.Stats.{IsTally};
+ghost use Rattle.congee_stats.specs.StatsText.{all_nodes, all_entries};
+ghost use Rattle.congee_stats.specs.Visits.{visits_below};
+ghost use Rattle.congee_node_table.specs.Charge.{add_charge};
+ghost use Rattle.congee_supply.specs.Charge.{charge_of, MovesAlike};
+ghost use Rattle.congee_paths.specs.Path.{on_path};
 
-use crate::computation::{Computed, compute_if_present};
-use crate::descent::find;
-use crate::insertion::{compute_or_insert, insert};
 use crate::into_pairs::IntoPairs;
-use crate::range_scan::{RangeEntry, scan};
-use crate::reads::Reads;
-use crate::removal::remove;
-use crate::statistics::count_subtree;
-use crate::supply::Supply;
-use crate::walk::{key_from, push_keys};
-use congee_nodes::allocator::Allocator;
-use congee_nodes::error::OOMError;
-use congee_nodes::payload::Payload;
-use congee_nodes::stats::NodeStats;
-use congee_nodes::traits::Word;
-use congee_nodes::tree_node::TreeNode;
+use congee_changes::computation::{Computed, compute_if_present};
+use congee_changes::insertion::{compute_or_insert, insert};
+use congee_changes::removal::remove;
+use congee_map::error::OOMError;
+use congee_map::payload::Payload;
+use congee_map::traits::Word;
+use congee_node_table::allocator::Allocator;
+use congee_node_table::tree_node::TreeNode;
+use congee_paths::descent::find;
+use congee_paths::reads::Reads;
+use congee_stats::NodeStats;
+use congee_supply::supply::Supply;
+use congee_walks::range_scan::{RangeEntry, scan};
+use congee_walks::statistics::count_subtree;
+use congee_walks::walk::{key_from, push_keys};
 use slab::Slab;
 use std::alloc::Global;
 use std::marker::Model;
@@ -57,10 +57,10 @@ pub struct RawCongee<P: Payload, A: Allocator> {
 
 impl<P: Payload, A: Allocator> Model for RawCongee<P, A> {
     ghost use Rattle.std.specs.Prelude.{◌≡◌, [], length};
-    ghost use Rattle.congee_tree.specs.Tree.{Tree, tree_code};
-    ghost use Rattle.congee_nodes.specs.Table.{IsTree, pairs_at, nodes_at};
-    ghost use Rattle.congee_tree.specs.Supply.{IsCounted};
-    ghost use Rattle.congee_tree.specs.Way.{depth, HasRoot};
+    ghost use Rattle.congee_changes.specs.Tree.{Tree, tree_code};
+    ghost use Rattle.congee_node_table.specs.Table.{IsTree, pairs_at, nodes_at};
+    ghost use Rattle.congee_supply.specs.Supply.{IsCounted};
+    ghost use Rattle.congee_paths.specs.Way.{depth, HasRoot};
 
     ghost Value = { Tree P A };
 
@@ -72,8 +72,8 @@ impl<P: Payload, A: Allocator> Model for RawCongee<P, A> {
 }
 
 impl<P: Payload, A: Allocator> RawCongee<P, A> {
-    ghost use Rattle.congee_nodes.specs.Table.{NodeInfo};
-    ghost use Rattle.congee_nodes.specs.declared.base_node.NodeType.TheVariants.{N256};
+    ghost use Rattle.congee_node_table.specs.Table.{NodeInfo};
+    ghost use Rattle.congee_base.specs.declared.base_node.NodeType.TheVariants.{N256};
 
     /// An empty tree, or `OOMError` where the budget or the machine has no memory for its root.
     pub fn new(alloc: Global, budget: A) -> Result<Self, OOMError>
@@ -252,7 +252,7 @@ impl<P: Payload, A: Allocator> RawCongee<P, A> {
 impl<A: Allocator> RawCongee<u64, A> {
     ghost use Rattle.std.specs.Prelude.{◌≡◌, ◌++◌, length, map, min, take, drop};
     ghost use Rattle.std.specs.Int.{from_be_bytes, w64};
-    ghost use Rattle.congee_nodes.specs.Map.{between};
+    ghost use Rattle.congee_map.specs.Map.{between};
 
     /// Writes the first pairs with `start <= key < end`, keys ascending, and answers their number: all of them, or as many
     /// as the buffer has places for. The places after them stay as they were. Takes no memory.
@@ -269,7 +269,7 @@ impl<A: Allocator> RawCongee<u64, A> {
 impl<P: Payload, A: Allocator> RawCongee<P, A> {
     ghost use Rattle.std.specs.Prelude.{◌≡◌, IfOk, map};
     ghost use Rattle.std.specs.List.{FoldsTo};
-    ghost use Rattle.congee_tree.specs.Scan.{from_key, first_number};
+    ghost use Rattle.congee_walks.specs.Scan.{from_key, first_number};
 
     /// The keys, ascending, each read back from its number. The one vector is made with room for all of them; `OOMError`
     /// comes where there is no memory for it.

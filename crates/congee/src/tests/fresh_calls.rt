@@ -1,8 +1,8 @@
 //! The point calls of a tree of numbers, without a contract.
 
-use crate::fresh;
 use congee_nodes::allocator::DefaultAllocator;
 use congee_nodes::error::OOMError;
+use congee_tree::fresh;
 use congee_tree::tree::RawCongee;
 use std::marker::Brand;
 use std::sync::ledger::Blank;

@@ -5,11 +5,11 @@ ghost use Rattle.congee_olc.specs.World.{table_on};
 ghost use Rattle.congee_olc.specs.Facts.{IsPlaced, Facts, IsAdvance};
 ghost use Rattle.congee_olc.specs.Run.{IsServedOp};
 
-use crate::epoch::Pins;
 use crate::olc::reading::{Stepped, check, check_above, read, take_below, take_root};
 use crate::olc::stage::{Record, Stage, Stored};
 use crate::olc::types::{Env, Kind, Outcome, Report};
-use congee_nodes::payload::Payload;
+use congee_map::payload::Payload;
+use congee_sync::epoch::Pins;
 use slab::Slab;
 
 /// A call after an event, if it is still in flight, and what the event says.

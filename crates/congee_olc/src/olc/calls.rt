@@ -6,8 +6,8 @@ ghost use Rattle.congee_olc.specs.Flight.{IsSameCall, AlikeOp, AlikeOption};
 ghost use Rattle.congee_olc.specs.Run.{IsServedOp};
 
 use crate::olc::types::Op;
-use congee_nodes::error::OOMError;
-use congee_nodes::payload::Payload;
+use congee_map::error::OOMError;
+use congee_map::payload::Payload;
 
 /// Whether the machine serves calls of this kind. Others are refused at their first Read.
 pub fn is_served<P>(op: &Op<P>) -> bool

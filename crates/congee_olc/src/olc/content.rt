@@ -1,14 +1,14 @@
 //! The walk over all pairs of the machine's tree, keys ascending.
 
 ghost use Rattle.std.specs.Prelude.{◌≡◌, ℕ, suc, [], ◌∷◌, ◌++◌, length, OnOk};
-ghost use Rattle.congee_nodes.specs.Key.{low};
-ghost use Rattle.congee_nodes.specs.Table.{IsSubtree, pairs_at};
+ghost use Rattle.congee_node_table.specs.Key.{low};
+ghost use Rattle.congee_node_table.specs.Table.{IsSubtree, pairs_at};
 ghost use Rattle.congee_olc.specs.Content.{nodes_on, AddsShares};
 
 use crate::olc::stage::Stored;
-use congee_nodes::child::ChildRef;
-use congee_nodes::error::OOMError;
-use congee_nodes::payload::Payload;
+use congee_map::error::OOMError;
+use congee_map::payload::Payload;
+use congee_node_table::child::ChildRef;
 use slab::Slab;
 
 // The key of a payload: the seven bytes of its leaf, and the byte that it stands under.

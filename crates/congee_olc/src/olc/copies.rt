@@ -6,7 +6,7 @@ ghost use Rattle.congee_olc.specs.Run.{if_read};
 
 use crate::olc::stage::Asking;
 use crate::olc::types::{Env, Kind, Op, Reply, Seen};
-use congee_nodes::child::Child;
+use congee_node_table::child::Child;
 
 /// The same call.
 pub(crate) fn copy_op(op: &Op<u64>) -> Op<u64>

@@ -1,9 +1,9 @@
 //! The machine: nodes in a slab, calls in flight, pins and a budget.
 
 ghost use Rattle.std.specs.Prelude.{◌≡◌, ◌≢◌, ◌↔◌, ℕ, ◌<◌, true, false, Option, Some, None, IsSome, Err, IfSome, IfOk, IsOk, OnOk, OnErr, IsTrue, option_copied, length};
-ghost use Rattle.congee_nodes.specs.Charge.{add_charge};
-ghost use Rattle.congee_nodes.specs.Map.{Pairs};
-ghost use Rattle.congee_olc.specs.Epoch.{is_seated};
+ghost use Rattle.congee_node_table.specs.Charge.{add_charge};
+ghost use Rattle.congee_map.specs.Map.{Pairs};
+ghost use Rattle.congee_sync.specs.Epoch.{is_seated};
 ghost use Rattle.congee_olc.specs.World.{World, call_of};
 ghost use Rattle.congee_olc.specs.Flight.{Flight, flight_of, AlikeOp};
 ghost use Rattle.congee_olc.specs.Event.{Holds, IsStart, IsStep, IsHanded, IsTaken, IsReseated, IsSeating, IsUnchanged, report_of};
@@ -13,18 +13,18 @@ ghost use Rattle.congee_olc.specs.Table.{view_of, IsContent, IsWellFormed, sizes
 ghost use Rattle.congee_olc.specs.Content.{IsTold};
 ghost use Rattle.congee_olc.specs.declared.olc.types.Op.{Op};
 
-use crate::epoch::Pins;
-use crate::lock::Word64;
 use crate::olc::advance::{Advanced, advance};
 use crate::olc::calls::{is_same_call, share_op};
 use crate::olc::content::push_pairs;
 use crate::olc::stage::{Asking, Place, Progress, Record, Stage, Stored};
 use crate::olc::types::{Env, Kind, Op, Outcome, Report, Seen, StartError};
-use congee_nodes::allocator::Allocator;
-use congee_nodes::base_node::{NodeSize, NodeType};
-use congee_nodes::error::OOMError;
-use congee_nodes::payload::Payload;
-use congee_nodes::tree_node::TreeNode;
+use congee_base::base_node::{NodeSize, NodeType};
+use congee_map::error::OOMError;
+use congee_map::payload::Payload;
+use congee_node_table::allocator::Allocator;
+use congee_node_table::tree_node::TreeNode;
+use congee_sync::epoch::Pins;
+use congee_sync::lock::Word64;
 use slab::Slab;
 use std::alloc::Global;
 use std::collections::BTreeMap;

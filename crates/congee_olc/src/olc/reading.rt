@@ -2,12 +2,12 @@
 
 ghost use Rattle.std.specs.Prelude.{◌≡◌, ◌≢◌, ℕ, ◌^◌, ◌<◌, ◌↔◌, ◌⊎◌, Option, Some, None, IsTrue, IsOk, IfOk, IfErr, option_copied, length};
 ghost use Rattle.slab.specs.Slab.{get};
-ghost use Rattle.congee_nodes.specs.Key.{Begins, AreBytes, next_byte};
-ghost use Rattle.congee_nodes.specs.Map.{lookup};
-ghost use Rattle.congee_olc.specs.Lock.{IsFree};
+ghost use Rattle.congee_node_table.specs.Key.{Begins, AreBytes, next_byte};
+ghost use Rattle.congee_map.specs.Map.{lookup};
+ghost use Rattle.congee_sync.specs.Lock.{IsFree};
 ghost use Rattle.congee_olc.specs.World.{Table, table_on, bytes_of};
 ghost use Rattle.congee_olc.specs.Table.{View, view_on};
-ghost use Rattle.congee_nodes.specs.TableNode.{seen};
+ghost use Rattle.congee_node_table.specs.TableNode.{seen};
 ghost use Rattle.congee_olc.specs.Flight.{flight, key_of, payload_in, AlikeChildren};
 ghost use Rattle.congee_olc.specs.Event.{IsReading, StepsOn, Finishes, report_of};
 ghost use Rattle.congee_olc.specs.Facts.{IsPlaced, Facts, IsSpare, IsWholeRead, IsRead};
@@ -15,15 +15,15 @@ ghost use Rattle.congee_olc.specs.Found.{IsFound};
 ghost use Rattle.congee_olc.specs.Run.{IsServedOp};
 ghost use Rattle.congee_olc.specs.declared.olc.types.Env.{Env};
 
-use crate::epoch::Pins;
-use crate::lock::Word64;
 use crate::olc::calls::is_served;
 use crate::olc::stage::{Asking, Path, Progress, Record, Spot, Stage, Stored};
 use crate::olc::types::{Kind, Op, Outcome, Reply, Report, Seen};
-use congee_nodes::child::{Child, ChildRef};
-use congee_nodes::error::OOMError;
-use congee_nodes::payload::Payload;
-use congee_nodes::tree_node::TreeNode;
+use congee_map::error::OOMError;
+use congee_map::payload::Payload;
+use congee_node_table::child::{Child, ChildRef};
+use congee_node_table::tree_node::TreeNode;
+use congee_sync::epoch::Pins;
+use congee_sync::lock::Word64;
 use slab::Slab;
 
 /// A call after an event, and what the event says.

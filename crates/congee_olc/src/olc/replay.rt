@@ -11,8 +11,8 @@ use crate::olc::copies::{asked_of, copy_env, copy_op, copy_reply, if_read};
 use crate::olc::machine::{Machine, started};
 use crate::olc::trace::{Decision, Line, Trace};
 use crate::olc::types::{Env, Event, Op, Outcome};
-use congee_nodes::allocator::{Allocator, DefaultAllocator};
-use congee_nodes::error::OOMError;
+use congee_map::error::OOMError;
+use congee_node_table::allocator::{Allocator, DefaultAllocator};
 use std::alloc::{AllocError, Global};
 
 #[cfg(test)]

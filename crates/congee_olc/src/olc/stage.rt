@@ -1,8 +1,8 @@
 //! A call in flight: what it does next, and what it remembers.
 
-use crate::lock::Word64;
 use crate::olc::types::{Op, Seen};
-use congee_nodes::tree_node::TreeNode;
+use congee_node_table::tree_node::TreeNode;
+use congee_sync::lock::Word64;
 
 /// Where a node is in its life.
 #[derive(Clone, Copy)]

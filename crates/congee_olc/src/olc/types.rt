@@ -2,8 +2,8 @@
 
 ghost use Rattle.std.specs.Prelude.{◌↔◌, IsTrue};
 
-use congee_nodes::child::Child;
-use congee_nodes::error::OOMError;
+use congee_map::error::OOMError;
+use congee_node_table::child::Child;
 
 /// What a Read reports of a node: what stands under the key's byte, how many children the node has, and whether it has
 /// no room for one more.

@@ -4,9 +4,9 @@ use crate::olc::copies::copy_seen;
 use crate::olc::machine::Machine;
 use crate::olc::machine::tests::building::{flat, of_pairs};
 use crate::olc::types::{Env, Kind, Op, Outcome, Reply, Report, Seen, StartError};
-use congee_nodes::allocator::{Allocator, DefaultAllocator};
-use congee_nodes::child::Child;
-use congee_nodes::payload::Payload;
+use congee_map::payload::Payload;
+use congee_node_table::allocator::{Allocator, DefaultAllocator};
+use congee_node_table::child::Child;
 use std::alloc::Global;
 use std::test::Fail;
 

@@ -2,7 +2,7 @@
 
 use super::*;
 use crate::olc::types::{Kind, Reply, Report, Seen};
-use congee_nodes::allocator::Budget;
+use congee_node_table::allocator::Budget;
 use std::test::Fail;
 
 // The letter of what an event did; a dash where it was skipped.

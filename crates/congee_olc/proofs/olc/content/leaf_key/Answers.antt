@@ -1,6 +1,6 @@
 use Rattle.std.proofs.Common.{◌≡◌, ℕ, List, ◌++◌, ◌∷◌, [], ◌∙◌, sym, ap, length, length-append, arith, w64}
 use Rattle.std.specs.Int.{from_be_bytes}
-use Rattle.congee_nodes.proofs.KeyLaws.{key_number-be_bytes}
+use Rattle.congee_node_table.proofs.KeyLaws.{key_number-be_bytes}
 use Rattle.congee_olc.proofs.olc.content.leaf_key.Goals as goal
 
 pub returns : goal.returns

@@ -1,5 +1,5 @@
 use Rattle.std.proofs.Common.{rules, ◌≡◌, Some, None, slice_index_or, ap, subst}
-use Rattle.congee_olc.specs.Epoch.{entry_at}
+use Rattle.congee_sync.specs.Epoch.{entry_at}
 use Rattle.congee_olc.specs.World.{node_of}
 use Rattle.congee_olc.specs.Found.{IsFound}
 use Rattle.congee_olc.specs.declared.olc.reading.Found.{Found}

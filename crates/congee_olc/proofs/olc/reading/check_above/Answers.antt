@@ -1,5 +1,5 @@
 use Rattle.std.proofs.Common.{rules, ◌≡◌, Some, None, slice_index_or, ap, ◌∙◌, true, false}
-use Rattle.congee_olc.specs.Epoch.{entry_at}
+use Rattle.congee_sync.specs.Epoch.{entry_at}
 use Rattle.congee_olc.specs.World.{node_of}
 use Rattle.congee_olc.specs.declared.olc.stage.Stage.TheVariants.{CheckAbove}
 use Rattle.congee_olc.proofs.Reading.{check_restarts, above_goes, above_decides, above_known, above_remembers, test_false}

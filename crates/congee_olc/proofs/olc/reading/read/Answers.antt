@@ -1,5 +1,5 @@
 use Rattle.std.proofs.Common.{rules, ◌≡◌, Some, None, slice_index_or, ap, sym, ◌∙◌}
-use Rattle.congee_olc.specs.Epoch.{entry_at}
+use Rattle.congee_sync.specs.Epoch.{entry_at}
 use Rattle.congee_olc.specs.World.{node_of}
 use Rattle.congee_olc.proofs.Reading.{torn_read, whole_or_refused, test_false}
 use Rattle.congee_olc.proofs.olc.reading.read.Goals as goal

@@ -1,8 +1,8 @@
 use Rattle.std.proofs.Common.{rules, ◌≡◌, ℕ, Some, None, slice_index_or, IsTrue, ◌↔◌, ap, subst}
-use Rattle.congee_olc.specs.Epoch.{entry_at}
-use Rattle.congee_nodes.specs.Key.{Begins}
+use Rattle.congee_sync.specs.Epoch.{entry_at}
+use Rattle.congee_node_table.specs.Key.{Begins}
 use Rattle.congee_olc.specs.World.{node_of, bytes_of}
-use Rattle.congee_olc.specs.Lock.{IsFree}
+use Rattle.congee_sync.specs.Lock.{IsFree}
 use Rattle.congee_olc.proofs.Reading.{below_ok, below_restarts, test_false}
 use Rattle.congee_olc.proofs.olc.reading.take_below.Goals as goal
 

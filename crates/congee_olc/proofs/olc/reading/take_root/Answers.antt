@@ -1,7 +1,7 @@
 use Rattle.std.proofs.Common.{rules, ◌≡◌, Some, None, slice_index_or, ap}
-use Rattle.congee_olc.specs.Epoch.{entry_at}
+use Rattle.congee_sync.specs.Epoch.{entry_at}
 use Rattle.congee_olc.specs.World.{node_of}
-use Rattle.congee_olc.specs.Lock.{IsFree}
+use Rattle.congee_sync.specs.Lock.{IsFree}
 use Rattle.congee_olc.proofs.Reading.{root_ok, root_restarts, test_false}
 use Rattle.congee_olc.proofs.olc.reading.take_root.Goals as goal
 

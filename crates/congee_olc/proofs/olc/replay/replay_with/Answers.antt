@@ -1,6 +1,6 @@
 use Rattle.std.proofs.Common.{◌≡◌, ℕ, List, sym, subst, ◌<◌, length, take}
 use Rattle.std.proofs.lemmas.List.{take_more, take_all}
-use Rattle.congee_nodes.specs.Map.{Pairs}
+use Rattle.congee_map.specs.Map.{Pairs}
 use Rattle.congee_olc.specs.Table.{view_of, IsContent}
 use Rattle.congee_olc.specs.Content.{IsTold}
 use Rattle.congee_olc.specs.Run.{IsCopy}

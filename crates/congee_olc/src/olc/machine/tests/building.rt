@@ -1,19 +1,19 @@
 //! Machines that store many pairs.
 
 ghost use Rattle.std.specs.Prelude.{◌≡◌, ◌+◌, ◌≤◌, [], ◌∷◌, ◌++◌, length, IfOk, IfSome, None};
-ghost use Rattle.congee_nodes.specs.Form.{Fits};
-ghost use Rattle.congee_nodes.specs.Key.{Begins};
-ghost use Rattle.congee_nodes.specs.Map.{lookup};
+ghost use Rattle.congee_base.specs.Form.{Fits};
+ghost use Rattle.congee_node_table.specs.Key.{Begins};
+ghost use Rattle.congee_map.specs.Map.{lookup};
 
-use crate::lock::Word64;
 use crate::olc::machine::Machine;
 use crate::olc::stage::{Place, Stored};
-use congee_nodes::allocator::Allocator;
-use congee_nodes::base_node::NodeSize;
-use congee_nodes::child::{Child, ChildRef};
-use congee_nodes::error::OOMError;
-use congee_nodes::payload::Payload;
-use congee_nodes::tree_node::TreeNode;
+use congee_base::base_node::NodeSize;
+use congee_map::error::OOMError;
+use congee_map::payload::Payload;
+use congee_node_table::allocator::Allocator;
+use congee_node_table::child::{Child, ChildRef};
+use congee_node_table::tree_node::TreeNode;
+use congee_sync::lock::Word64;
 use std::alloc::Global;
 
 // Where the nodes of a machine stand.

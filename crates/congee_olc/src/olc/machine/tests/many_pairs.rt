@@ -4,7 +4,7 @@ use crate::olc::machine::Machine;
 use crate::olc::machine::tests::building::{BuildError, Layout, deep, flat, middle, of_pairs};
 use crate::olc::machine::tests::{Course, answer, plain};
 use crate::olc::types::{Op, StartError};
-use congee_nodes::allocator::{Budget, DefaultAllocator};
+use congee_node_table::allocator::{Budget, DefaultAllocator};
 use std::alloc::Global;
 use std::test::Fail;
 

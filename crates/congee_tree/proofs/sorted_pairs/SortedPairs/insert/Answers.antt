@@ -1,7 +1,7 @@
 use Rattle.std.proofs.Common.{◌^◌, sym, subst, arith}
 use Rattle.std.proofs.lemmas.Result.{err_from_is_err_and}
-use Rattle.congee_nodes.specs.Map.{IsMap}
-use Rattle.congee_nodes.proofs.MapLaws.{Rises-put}
+use Rattle.congee_map.specs.Map.{IsMap}
+use Rattle.congee_map.proofs.MapLaws.{Rises-put}
 use Rattle.congee_tree.proofs.Places.{lookup_found, put_found, lookup_in_gap, put_in_gap}
 use Rattle.congee_tree.proofs.sorted_pairs.SortedPairs.insert.Goals as goal
 use Rattle.congee_tree.proofs.sorted_pairs.SortedPairs.insert.Goals.{In-Err}

@@ -1,6 +1,6 @@
 use Rattle.std.proofs.Common.{◌^◌, sym, subst}
-use Rattle.congee_nodes.specs.Map.{IsMap}
-use Rattle.congee_nodes.proofs.MapLaws.{Rises-without, without-absent}
+use Rattle.congee_map.specs.Map.{IsMap}
+use Rattle.congee_map.proofs.MapLaws.{Rises-without, without-absent}
 use Rattle.congee_tree.proofs.Places.{lookup_found, lookup_in_gap, without_found}
 use Rattle.congee_tree.proofs.sorted_pairs.SortedPairs.remove.Goals as goal
 

@@ -1,13 +1,13 @@
 use Rattle.std.proofs.Common.{arith, ◌≡◌, refl, subst}
 use Rattle.std.specs.Int.{from_be_bytes, w64}
-use Rattle.congee_nodes.specs.Closure.{TakesOption}
-use Rattle.congee_nodes.specs.Key.{key_number}
-use Rattle.congee_nodes.specs.Map.{lookup}
-use Rattle.congee_nodes.specs.Table.{pairs_at}
-use Rattle.congee_nodes.proofs.KeyLaws.{key_number-be_bytes}
-use Rattle.congee_tree.specs.Way.{depth}
-use Rattle.congee_tree.proofs.ChargeLaws.{charge_seen}
-use Rattle.congee_tree.proofs.CountLaws.{few_pairs, count_new, count_same}
+use Rattle.congee_changes.specs.Closure.{TakesOption}
+use Rattle.congee_node_table.specs.Key.{key_number}
+use Rattle.congee_map.specs.Map.{lookup}
+use Rattle.congee_node_table.specs.Table.{pairs_at}
+use Rattle.congee_node_table.proofs.KeyLaws.{key_number-be_bytes}
+use Rattle.congee_paths.specs.Way.{depth}
+use Rattle.congee_changes.proofs.ChargeLaws.{charge_seen}
+use Rattle.congee_changes.proofs.CountLaws.{few_pairs, count_new, count_same}
 use Rattle.congee_tree.proofs.tree.RawCongee.compute_or_insert.Goals as goal
 use Rattle.congee_tree.proofs.tree.RawCongee.compute_or_insert.Goals.{then-is_none, else-is_none}
 

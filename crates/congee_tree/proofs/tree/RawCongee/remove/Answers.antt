@@ -1,6 +1,6 @@
 use Rattle.std.proofs.Common.{arith, sym}
-use Rattle.congee_tree.proofs.ChargeLaws.{charge_seen}
-use Rattle.congee_tree.proofs.CountLaws.{count_less, count_kept}
+use Rattle.congee_changes.proofs.ChargeLaws.{charge_seen}
+use Rattle.congee_changes.proofs.CountLaws.{count_less, count_kept}
 use Rattle.congee_tree.proofs.tree.RawCongee.remove.Goals as goal
 
 pub overflow_sub-self : goal.overflow_sub-self

@@ -1,5 +1,5 @@
 use Rattle.std.proofs.Common.{◌≡◌, true, None, sym, subst, refl}
-use Rattle.congee_olc.specs.Epoch.{is_seated}
+use Rattle.congee_sync.specs.Epoch.{is_seated}
 use Rattle.congee_olc.specs.World.{World, call_of}
 use Rattle.congee_olc.specs.Flight.{flight_of}
 use Rattle.congee_olc.specs.Event.{IsUnchanged, IsStart, report_of}

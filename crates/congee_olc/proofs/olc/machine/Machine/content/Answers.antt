@@ -1,5 +1,5 @@
 use Rattle.std.proofs.Common.{[], subst}
-use Rattle.congee_nodes.specs.Table.{IsSubtree}
+use Rattle.congee_node_table.specs.Table.{IsSubtree}
 use Rattle.congee_olc.specs.World.{World, table_on}
 use Rattle.congee_olc.specs.Table.{view_of}
 use Rattle.congee_olc.specs.Content.{nodes_on, IsTold}

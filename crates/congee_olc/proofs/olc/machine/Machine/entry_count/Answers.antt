@@ -1,6 +1,6 @@
 use Rattle.std.proofs.Common.{◌≡◌, length, subst}
-use Rattle.congee_nodes.specs.Map.{Pairs}
-use Rattle.congee_nodes.specs.Table.{pairs_at}
+use Rattle.congee_map.specs.Map.{Pairs}
+use Rattle.congee_node_table.specs.Table.{pairs_at}
 use Rattle.congee_olc.specs.World.{World, table_on}
 use Rattle.congee_olc.specs.Table.{view_of, IsContent}
 use Rattle.congee_olc.specs.Content.{nodes_on}

@@ -1,5 +1,5 @@
 use Rattle.std.proofs.Common.{rules, ◌≡◌, ◌↔◌, IsTrue, Some, subst, ap}
-use Rattle.congee_olc.specs.Epoch.{entry_at}
+use Rattle.congee_sync.specs.Epoch.{entry_at}
 use Rattle.congee_olc.specs.World.{World, record_in}
 use Rattle.congee_olc.specs.Event.{IsHanded}
 use Rattle.congee_olc.proofs.Handed.{handed}

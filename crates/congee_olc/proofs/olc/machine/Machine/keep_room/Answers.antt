@@ -1,5 +1,5 @@
 use Rattle.std.proofs.Common.{◌≡◌, ◌≢◌, ℕ, true, None, IsSome, inl, inr, sym, subst, ap, refl, ◌∙◌}
-use Rattle.congee_olc.specs.Epoch.{entry_at, is_seated}
+use Rattle.congee_sync.specs.Epoch.{entry_at, is_seated}
 use Rattle.congee_olc.specs.World.{World, record_in, call_of}
 use Rattle.congee_olc.specs.Flight.{flight_of}
 use Rattle.congee_olc.specs.Event.{IsReseated, IsUnchanged}

@@ -1,7 +1,7 @@
 use Rattle.std.proofs.Common.{rules, ◌≡◌, ◌≢◌, ℕ, Option, Some, None, IsSome, ap, sym, subst, refl, ◌∙◌}
-use Rattle.congee_olc.specs.Epoch.{entry_at, pin_of}
+use Rattle.congee_sync.specs.Epoch.{entry_at, pin_of}
 use Rattle.congee_olc.specs.World.{World, record_in, table_of, table_on}
-use Rattle.congee_nodes.specs.Map.{Pairs}
+use Rattle.congee_map.specs.Map.{Pairs}
 use Rattle.congee_olc.specs.Table.{shown, view_of, IsContent}
 use Rattle.congee_olc.specs.Flight.{flight_of}
 use Rattle.congee_olc.specs.Run.{IsCarried}

@@ -1,5 +1,5 @@
 use Rattle.std.proofs.Common.{rules, ◌≡◌, Some, sym, subst, ap, ◌∙◌, option_copied}
-use Rattle.congee_olc.specs.Epoch.{entry_at}
+use Rattle.congee_sync.specs.Epoch.{entry_at}
 use Rattle.congee_olc.specs.World.{World, record_in}
 use Rattle.congee_olc.specs.Flight.{flight_of}
 use Rattle.congee_olc.specs.Run.{seen_of}

@@ -1,7 +1,7 @@
 use Rattle.std.proofs.Common.{arith, ◌≡◌, ◌+◌, Some, IsSome, refl, sym, subst, ap, ◌∙◌}
 use Rattle.slab.proofs.SlabLemmas.{Updates-with_value}
 use Rattle.slab.specs.Slab.{get}
-use Rattle.congee_olc.specs.Lock.{MayUpgrade}
+use Rattle.congee_sync.specs.Lock.{MayUpgrade}
 use Rattle.congee_olc.specs.World.{World}
 use Rattle.congee_olc.proofs.Rewording.{reworded_sound}
 use Rattle.congee_olc.proofs.olc.machine.tests.renew.Goals as goal

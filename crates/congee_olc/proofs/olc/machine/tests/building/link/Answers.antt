@@ -1,12 +1,12 @@
 use Rattle.std.proofs.Common.{rules, arith, ◌≡◌, ◌<◌, ◌≤◌, ◌++◌, ◌∷◌, [], length, Some, None, IsSome, slice_index_or, refl, sym, subst, ap, ◌∙◌}
 use Rattle.slab.proofs.SlabLemmas.{Updates-with_value}
-use Rattle.congee_nodes.specs.Charge.{add_charge}
-use Rattle.congee_nodes.specs.Form.{stated_size}
-use Rattle.congee_nodes.specs.Key.{Begins, AreBytes}
-use Rattle.congee_nodes.specs.Map.{put}
-use Rattle.congee_nodes.specs.TableNode.{TableNode}
-use Rattle.congee_nodes.specs.declared.child.Child.TheVariants.{Node as below_at}
-use Rattle.congee_nodes.proofs.KeyLaws.{AreBytes-from_items}
+use Rattle.congee_node_table.specs.Charge.{add_charge}
+use Rattle.congee_base.specs.Form.{stated_size}
+use Rattle.congee_node_table.specs.Key.{Begins, AreBytes}
+use Rattle.congee_map.specs.Map.{put}
+use Rattle.congee_node_table.specs.TableNode.{TableNode}
+use Rattle.congee_node_table.specs.declared.child.Child.TheVariants.{Node as below_at}
+use Rattle.congee_node_table.proofs.KeyLaws.{AreBytes-from_items}
 use Rattle.congee_olc.specs.World.{World}
 use Rattle.congee_olc.specs.declared.olc.stage.Stored.{Stored}
 use Rattle.congee_olc.proofs.Quiet.{IsQuiet, empty_quiet, stays_there, linked_sound}

@@ -1,5 +1,5 @@
 use Rattle.std.proofs.Common.{rules, ◌≡◌, ◌<◌, ◌∙◌, ◌++◌, ◌∷◌, [], true, length, get_or, subst}
-use Rattle.congee_nodes.specs.Key.{Begins}
+use Rattle.congee_node_table.specs.Key.{Begins}
 use Rattle.congee_olc.proofs.Begun.{starts}
 use Rattle.congee_olc.proofs.Openings.{begins_on}
 use Rattle.congee_olc.proofs.olc.machine.tests.building.open_byte.Goals as goal

@@ -1,10 +1,10 @@
 use Rattle.std.proofs.Common.{rules, arith, ◌≡◌, ◌+◌, ◌++◌, ◌∷◌, [], length, Some, None, IsSome, slice_index_or, slice_set, refl, sym, subst, ap, ◌∙◌}
 use Rattle.slab.proofs.SlabLemmas.{Updates-with_value}
-use Rattle.congee_nodes.specs.Key.{Begins, next_byte}
-use Rattle.congee_nodes.specs.Map.{lookup, put}
-use Rattle.congee_nodes.specs.TableNode.{TableNode}
-use Rattle.congee_nodes.specs.declared.child.Child.TheVariants.{Payload}
-use Rattle.congee_nodes.proofs.BeginLaws.{begins_append}
+use Rattle.congee_node_table.specs.Key.{Begins, next_byte}
+use Rattle.congee_map.specs.Map.{lookup, put}
+use Rattle.congee_node_table.specs.TableNode.{TableNode}
+use Rattle.congee_node_table.specs.declared.child.Child.TheVariants.{Payload}
+use Rattle.congee_node_table.proofs.BeginLaws.{begins_append}
 use Rattle.congee_olc.specs.World.{World, bytes_of}
 use Rattle.congee_olc.specs.Facts.{IsSound}
 use Rattle.congee_olc.proofs.Openings.{byte_after}

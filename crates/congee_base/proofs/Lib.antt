@@ -1,0 +1,4 @@
+pub mod LaneLaws
+pub mod MarkLaws
+pub mod MoveLaws
+pub mod RowLaws

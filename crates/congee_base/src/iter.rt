@@ -1,0 +1,152 @@
+//! Iterators over the children of a node, each with its byte, ascending. They borrow the node and take no memory.
+
+ghost use Rattle.std.specs.Prelude.{◌≡◌, ℕ, ◌+◌, ◌≤◌, length};
+ghost use Rattle.std.specs.Iterator.{YieldsFirstBy, item_count};
+
+use crate::few::Few;
+use crate::mask::next_marked;
+
+/// What `get_children` of a `Node4` gives: bytes, and the children from a place on.
+#[derive(Drop)]
+pub struct Node4Iter<'a, C> {
+    pub keys: &'a [u8],
+    pub children: &'a Few<C>,
+    pub at: usize,
+}
+
+impl<'a, C> Iterator for Node4Iter<'a, C> {
+    type Item = (u8, &'a C);
+
+    ghost use Rattle.congee_base.specs.Rest.{rest_4};
+
+    ghost next_gives = { YieldsFirstBy (λ item. (item.0, item.1.now)) rest_4 };
+
+    ghost remaining = { item_count rest_4 };
+
+    fn next(&mut self) -> Option<(u8, &'a C)> {
+        let (byte, keys) = self.keys.split_first()?;
+        let child = self.children.get(self.at)?;
+        self.keys = keys;
+        self.at += 1;
+        Some((*byte, child))
+    }
+}
+
+/// What `get_children` of a `Node16` gives: bytes and the children beside them.
+#[derive(Drop)]
+pub struct Node16Iter<'a, C> {
+    pub keys: &'a [u8],
+    pub children: &'a [C],
+}
+
+impl<'a, C> Iterator for Node16Iter<'a, C> {
+    type Item = (u8, &'a C);
+
+    ghost use Rattle.congee_base.specs.Rest.{rest_16};
+
+    ghost next_gives = { YieldsFirstBy (λ item. (item.0, item.1.now)) rest_16 };
+
+    ghost remaining = { item_count rest_16 };
+
+    fn next(&mut self) -> Option<(u8, &'a C)> {
+        let (byte, keys) = self.keys.split_first()?;
+        let (child, children) = self.children.split_first()?;
+        self.keys = keys;
+        self.children = children;
+        Some((*byte, child))
+    }
+}
+
+/// What `get_children` of a `Node48` gives: the bytes from one on up to the last, by the index.
+#[derive(Drop)]
+pub struct Node48Iter<'a, C> {
+    pub at: usize,
+    pub last: u8,
+    pub index: &'a [u8; 256],
+    pub children: &'a [C],
+}
+
+impl<'a, C> Iterator for Node48Iter<'a, C> {
+    type Item = (u8, &'a C);
+
+    ghost use Rattle.congee_base.specs.Rest.{rest_48};
+
+    ghost next_gives = { YieldsFirstBy (λ item. (item.0, item.1.now)) rest_48 };
+
+    ghost remaining = { item_count rest_48 };
+
+    fn next(&mut self) -> Option<(u8, &'a C)> {
+        while self.at <= self.last as usize {
+            let byte = self.at as u8;
+            self.at += 1;
+            let i = self.index[byte as usize] as usize;
+            if i < self.children.len() {
+                return Some((byte, &self.children[i]));
+            }
+        }
+        None
+    }
+}
+
+/// What `get_children` of a `Node256` gives: the bytes from one on up to the last, of which the mask passes those without
+/// a child.
+#[derive(Drop)]
+pub struct Node256Iter<'a, C> {
+    pub at: usize,
+    pub last: u8,
+    pub mask: &'a [u64; 4],
+    pub index: &'a [u8; 256],
+    pub children: &'a [C],
+}
+
+impl<'a, C> Iterator for Node256Iter<'a, C> {
+    type Item = (u8, &'a C);
+
+    ghost use Rattle.congee_base.specs.Rest.{rest_256};
+
+    ghost next_gives = { YieldsFirstBy (λ item. (item.0, item.1.now)) rest_256 };
+
+    ghost remaining = { item_count rest_256 };
+
+    fn next(&mut self) -> Option<(u8, &'a C)> {
+        while let Some(byte) = next_marked(self.mask, self.at) {
+            if byte > self.last {
+                return None;
+            }
+            self.at = byte as usize + 1;
+            let i = self.index[byte as usize] as usize;
+            if i < self.children.len() {
+                return Some((byte, &self.children[i]));
+            }
+        }
+        None
+    }
+}
+
+/// What `get_children` of any form gives.
+#[derive(Drop)]
+pub enum NodeIter<'a, C> {
+    N4(Node4Iter<'a, C>),
+    N16(Node16Iter<'a, C>),
+    N48(Node48Iter<'a, C>),
+    N256(Node256Iter<'a, C>),
+}
+
+impl<'a, C> Iterator for NodeIter<'a, C> {
+    type Item = (u8, &'a C);
+
+    ghost use Rattle.congee_base.specs.Rest.{rest};
+
+    ghost next_gives = { YieldsFirstBy (λ item. (item.0, item.1.now)) rest };
+
+    ghost remaining = { item_count rest };
+
+    fn next(&mut self) -> Option<(u8, &'a C)> {
+        match self {
+            NodeIter::N4(children) => children.next(),
+            NodeIter::N16(children) => children.next(),
+            NodeIter::N48(children) => children.next(),
+            NodeIter::N256(children) => children.next(),
+        }
+    }
+}

@@ -1,0 +1,15 @@
+pub mod ChargeLaws
+pub mod CountLaws
+pub mod DetachLaws
+pub mod FormLaws
+pub mod InsertLaws
+pub mod NewLaws
+pub mod RefusalLaws
+pub mod RemoveLaws
+pub mod RootLaws
+pub mod ShapeLaws
+pub mod SlotLaws
+pub mod SplitLaws
+pub mod WeightLaws
+pub mod WholeLaws
+pub mod WithoutLaws

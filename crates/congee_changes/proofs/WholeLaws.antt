@@ -1,0 +1,89 @@
+-- What each end of an insertion leaves of the whole tree, and that what was found allows it.
+use Rattle.std.proofs.Common.{Bor, ◌≡◌, ℕ, ◌<◌, List, [], length, Option, Some, None, IsSome, refl, sym, subst, arith}
+use Rattle.congee_map.specs.Map.{lookup, put}
+use Rattle.congee_node_table.specs.Key.{AreBytes, key_number}
+use Rattle.congee_node_table.specs.Shape.{Reshapes}
+use Rattle.congee_node_table.specs.Table.{Table, node_at, pairs_at, nodes_at, IsTree}
+use Rattle.congee_node_table.specs.declared.child.Child.TheVariants.{Payload}
+use Rattle.congee_node_table.proofs.TableLaws.{open_subtree}
+use Rattle.congee_paths.specs.Way.{depth, HasRoot, IsEnd, Arrives}
+use Rattle.congee_changes.specs.Writes.{SameElsewhere, MakesRoom, WritesChild, WasChild, HasRoomUnder, PutsPair, IsParted, Splits}
+use Rattle.congee_paths.specs.declared.descent.End.TheVariants.{Differs, Absent, Present}
+use Rattle.congee_paths.specs.declared.descent.Place.{Place}
+use Rattle.congee_paths.proofs.WayLaws.{lookup_end, lookup_held}
+use Rattle.congee_changes.proofs.SlotLaws.{adds_after}
+use Rattle.congee_changes.proofs.InsertLaws.{add_whole, change_whole, split_whole}
+use Rattle.congee_changes.proofs.RootLaws.{change_root, add_root, split_root_at}
+use Rattle.congee_changes.proofs.ShapeLaws.{change_shape, add_shape, split_shape}
+
+module _ {P : Type 0} (s : Table P) (root : ℕ) (key : List ℕ) (bytes : AreBytes key) (full : length key ≡ 8) where
+  -- the payload stands at the key, where this one stood
+  pub record Inserts (t : Table P) (v : P) (before : Option P) : Type 0 where
+    pub tree : IsTree t depth [] root
+    pub root_stays : HasRoot t root
+    pub was : before ≡ lookup (pairs_at s depth root) (key_number key)
+    pub pairs : pairs_at t depth root ≡ put (pairs_at s depth root) (key_number key) v
+    pub shape : Reshapes before (nodes_at s depth [] root) key (nodes_at t depth [] root)
+
+  module _ (r : HasRoot s root) (place : Place P) (a : Arrives s root key place) where
+    -- nothing stands at the key, unless the way ends at a payload
+    pub none_absent : (b : ℕ) → place.end ≡ Absent b → lookup (pairs_at s depth root) (key_number key) ≡ None
+    none_absent b is = lookup_end s root key bytes full place a (Absent b) (sym is) (λ c v e. absurd (cc))
+
+    pub none_differs : (at : ℕ) → place.end ≡ Differs at → lookup (pairs_at s depth root) (key_number key) ≡ None
+    none_differs at is = lookup_end s root key bytes full place a (Differs at) (sym is) (λ c v e. absurd (cc))
+
+    pub change_inserts : (t : Table P) (v : P) (b : ℕ) (w : Bor P) → place.end ≡ Present b w → SameElsewhere place.slot s t → WritesChild s t place.slot b (Payload v)
+        → (u : P) → WasChild s place.slot b (Payload u) → Inserts t v (Some u)
+    change_inserts t v b w is keeps written u was =
+        let x = change_whole s t root key bytes full v place a b w is keeps written in
+        record {
+          tree = x.0;
+          root_stays = change_root s t root place.slot r b (Payload v) keeps written;
+          was = sym (lookup_held s root key bytes full place a b w is u (was a.node a.here));
+          pairs = x.1;
+          shape = change_shape s t root key bytes full v place a b w is keeps written;
+        }
+
+    pub add_inserts : (g t : Table P) (v : P) (b : ℕ) → place.end ≡ Absent b → SameElsewhere place.slot s g → MakesRoom s g place.slot → PutsPair g t place.slot key b v → Inserts t v None
+    add_inserts g t v b is kept room puts =
+        let adds = adds_after s t place.slot key b v g kept room puts in
+        let x = add_whole s t root key bytes full v place a b is adds in
+        record {
+          tree = x.0;
+          root_stays = add_root s t root place.slot r key b v adds;
+          was = sym (none_absent b is);
+          pairs = x.1;
+          shape = add_shape s t root key bytes full v place a b is adds;
+        }
+
+    pub split_inserts : (g t : Table P) (v : P) (at : ℕ) → place.end ≡ Differs at → g ≡ s → Splits g t place.slot key at v → Inserts t v None
+    split_inserts g t v at is same parts =
+        let splits = subst (λ x. Splits x t place.slot key at v) same parts in
+        let x = split_whole s t root key bytes full v place a at is splits in
+        record {
+          tree = x.0;
+          root_stays = split_root_at s t root key v r place a at is splits;
+          was = sym (none_differs at is);
+          pairs = x.1;
+          shape = split_shape s t root key bytes full v place a at is splits;
+        }
+
+module _ {P : Type 0} (s : Table P) (root : ℕ) (key : List ℕ) (place : Place P) (a : Arrives s root key place) where
+  -- once there is room, a child may be put
+  pub has_room : (g : Table P) (b : ℕ) → place.end ≡ Absent b → MakesRoom s g place.slot → HasRoomUnder g place.slot b
+  has_room g b is room =
+      let d : IsEnd key a.node (Absent b) = subst (λ e. IsEnd key a.node e) is a.end in
+      let y = room a.node a.here in
+      record { node = y.0; here = y.1; absent = subst (λ es. lookup es b ≡ None) (sym y.3) d.2; room = y.4 }
+
+  pub is_parted : (g : Table P) (at : ℕ) → place.end ≡ Differs at → g ≡ s → IsParted g place.slot key at
+  is_parted g at is same =
+      let d : IsEnd key a.node (Differs at) = subst (λ e. IsEnd key a.node e) is a.end in
+      record { node = a.node; here = subst (λ x. node_at x place.slot ≡ Some a.node) (sym same) a.here; differ = d }
+
+  pub parts_high : (at : ℕ) → place.end ≡ Differs at → at < 7
+  parts_high at is =
+      let d : IsEnd key a.node (Differs at) = subst (λ e. IsEnd key a.node e) is a.end in
+      let o = open_subtree s a.walk.levels place.slot a.node (record { above = a.walk.q; tree = a.walk.tree }) (sym a.here) in
+      omega (arith, d.inside, o.sound.short)

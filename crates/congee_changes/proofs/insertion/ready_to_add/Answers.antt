@@ -1,0 +1,8 @@
+use Rattle.std.proofs.Common.{refl, ◌∙◌, sym, ap, length}
+use Rattle.congee_changes.proofs.SlotLaws.{same_prefix}
+use Rattle.congee_changes.proofs.insertion.ready_to_add.Goals as goal
+
+pub returns-then-is_leaf-clause-leaf : goal.returns-then-is_leaf-clause-leaf
+returns-then-is_leaf-clause-leaf g c = λ n here.
+    let e = same_prefix c.args.nodes.now.slots c.make_room.new.nodes.slots c.args.slot c.in-Some.node.now n (sym c.in-Some.ensures) c.in_ok-make_room.ensures.ok here in
+    ap length e ∙ c.if-is_leaf.ensures.leaf refl

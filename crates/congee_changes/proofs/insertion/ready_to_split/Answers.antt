@@ -1,0 +1,7 @@
+use Rattle.std.proofs.Common.{arith, ap}
+use Rattle.congee_base.specs.declared.base_node.NodeType.TheVariants.{N4}
+use Rattle.congee_supply.specs.Supply.{count}
+use Rattle.congee_changes.proofs.insertion.ready_to_split.Goals as goal
+
+pub leaf-requires-clause-room : goal.leaf-requires-clause-room
+leaf-requires-clause-room g c = omega (arith, ap (count N4) c.in_ok-upper.ensures.ok.forms, c.requires.few N4)

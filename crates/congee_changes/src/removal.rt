@@ -1,0 +1,131 @@
+//! A removal from the table: a payload goes out of its leaf, and a leaf that is empty then goes out of the node above it.
+//!
+//! Takes no memory. An inner node that is empty then stays.
+
+ghost use Rattle.std.specs.Prelude.{◌≡◌, ℕ, ◌+◌, ◌≤◌, [], Some, None};
+ghost use Rattle.congee_map.specs.Map.{lookup, without};
+ghost use Rattle.congee_node_table.specs.Key.{key_number};
+ghost use Rattle.congee_changes.specs.Reduce.{Reduces};
+ghost use Rattle.congee_node_table.specs.Table.{node_at, pairs_at, nodes_at, IsTree};
+ghost use Rattle.congee_node_table.specs.declared.child.Child.TheVariants.{Payload};
+ghost use Rattle.congee_paths.specs.Path.{on_path};
+ghost use Rattle.congee_supply.specs.Supply.{IsCounted, Alike};
+ghost use Rattle.congee_paths.specs.Way.{depth, HasRoot};
+ghost use Rattle.congee_changes.specs.Writes.{SameElsewhere, WasChild};
+ghost use Rattle.congee_changes.specs.Takes.{IsPresentIn, TakesChild, TakesOnWay, KeepsBut, IsLinked, IsHeld, TakesOut};
+
+use congee_base::base_node::NodeType;
+use congee_node_table::allocator::Allocator;
+use congee_node_table::child::Child;
+use congee_node_table::tree_node::TreeNode;
+use congee_paths::descent::{End, Place, descend};
+use congee_paths::reads::Reads;
+use congee_supply::supply::Supply;
+use slab::Slab;
+use std::sync::ledger::Ledger;
+
+// Takes out the child under a byte of the node in a slot.
+fn take_child<P: Drop>(nodes: &mut Slab<TreeNode<P>>, slot: usize, byte: u8) -> Child<P>
+    requires { IsPresentIn nodes.old.slots slot byte }
+    ensures keeps { SameElsewhere slot nodes.old.slots nodes.new.slots }
+    ensures taken { TakesChild nodes.old.slots nodes.new.slots slot byte }
+    ensures before { WasChild nodes.old.slots slot byte result }
+{
+    let Some(node) = nodes.get_mut(slot) else {
+        unreachable!()
+    };
+    node.remove(byte)
+}
+
+// Takes the node in a slot out of the one above it on the key's way, and gives its slot back.
+fn detach<P: Drop>(nodes: &mut Slab<TreeNode<P>>, parent: usize, slot: usize, key: &[u8; 8])
+    requires { IsLinked nodes.old.slots parent slot key.now }
+    ensures keeps { KeepsBut parent slot nodes.old.slots nodes.new.slots }
+    ensures taken { TakesOnWay nodes.old.slots nodes.new.slots parent key.now }
+    ensures gives_back { node_at nodes.new.slots slot ≡ None }
+{
+    let Some(above) = nodes.get(parent) else {
+        unreachable!()
+    };
+    let byte = key[above.base().prefix().len()];
+    take_child(nodes, parent, byte);
+    nodes.remove(slot);
+}
+
+/// The payload that was taken out, and the form of the leaf that went with it, if one did.
+#[derive(Drop)]
+pub struct Taken<P> {
+    pub before: P,
+    pub detached: Option<NodeType>,
+}
+
+/// Takes a payload out of its leaf, and the leaf out of the node above it where it has no other.
+pub fn take_out<P: Drop>(
+    nodes: &mut Slab<TreeNode<P>>,
+    parent: usize,
+    slot: usize,
+    key: &[u8; 8],
+    byte: u8,
+) -> Taken<P>
+    requires { IsHeld nodes.old.slots parent slot key.now byte }
+    ensures taken { TakesOut nodes.old.slots nodes.new.slots slot parent key.now byte result.detached }
+    ensures before { WasChild nodes.old.slots slot byte (Payload result.before) }
+{
+    let before = match take_child(nodes, slot, byte) {
+        Child::Payload(before) => before,
+        Child::Node(_) => unreachable!(),
+    };
+    let Some(leaf) = nodes.get(slot) else {
+        unreachable!()
+    };
+    let base = leaf.base();
+    if base.value_count() != 0 {
+        return Taken {
+            before,
+            detached: None,
+        };
+    }
+    let form = base.get_type();
+    detach(nodes, parent, slot, key);
+    Taken {
+        before,
+        detached: Some(form),
+    }
+}
+
+/// Takes out the pair at the key, and answers its payload.
+pub fn remove<P: Drop, A: Allocator, L: Ledger>(
+    nodes: &mut Slab<TreeNode<P>>,
+    supply: &mut Supply<A>,
+    root: usize,
+    key: &[u8; 8],
+    reads: &mut Reads<L>,
+) -> Option<P>
+    requires tree { IsTree nodes.old.slots depth [] root }
+    requires root { HasRoot nodes.old.slots root }
+    requires counts { IsCounted supply.old.forms (nodes_at nodes.old.slots depth [] root) }
+    ensures tree { IsTree nodes.new.slots depth [] root }
+    ensures root { HasRoot nodes.new.slots root }
+    ensures before { result ≡ lookup (pairs_at nodes.old.slots depth root) (key_number key.now) }
+    ensures pairs { pairs_at nodes.new.slots depth root ≡ without (pairs_at nodes.old.slots depth root) (key_number key.now) }
+    ensures counts { IsCounted supply.new.forms (nodes_at nodes.new.slots depth [] root) }
+    ensures alike { Alike A.charge supply.old supply.new }
+    ensures shape { Reduces result (nodes_at nodes.old.slots depth [] root) key.now (nodes_at nodes.new.slots depth [] root) }
+    ensures reads { reads.new ≡ reads.old + on_path (nodes_at nodes.old.slots depth [] root) key.now }
+    ensures few { on_path (nodes_at nodes.old.slots depth [] root) key.now ≤ 8 }
+{
+    let Place {
+        slot,
+        parent,
+        end,
+        ..
+    } = descend(nodes, root, key, reads);
+    match end {
+        End::Present(byte, _) => {
+            let Taken { before, detached } = take_out(nodes, parent, slot, key, byte);
+            supply.give_back_if_some(detached);
+            Some(before)
+        }
+        _ => None,
+    }
+}

@@ -1,7 +1,0 @@
-use Rattle.congee_cli.specs.Command.{words_of_command, HasNumbers}
-use Rattle.congee_cli.proofs.GrammarLemmas.{none_long}
-use Rattle.congee_cli.proofs.CommandLemmas.{commands}
-use Rattle.congee_cli.proofs.laws.long_lines.Goals as goal
-
-pub returns : goal.returns
-returns c = none_long words_of_command HasNumbers commands

@@ -1,0 +1,4 @@
+pub mod CommandLemmas
+pub mod GrammarLemmas
+pub mod LawLemmas
+pub mod Replies

@@ -1,0 +1,87 @@
+-- The lines that are commands.
+use Rattle.std.specs.Prelude.{ℕ, ◌+◌, ◌-◌, ◌<◌, ◌≤◌, ◌^◌, List, [], ◌∷◌, codes, decimal, Option, Some, None, if◌then◌else◌, min, nat_lt}
+use Rattle.congee_map.specs.Call.{Call, get, insert, remove, compare_exchange, compute_if_present, compute_or_insert, is_empty, range, keys}
+use Rattle.congee_commands.specs.Grammar.{Spells, SpellsNone}
+use Rattle.congee_commands.specs.Value.{value_text, IsWide}
+use Rattle.congee_commands.specs.declared.command.Command.{Command}
+use Rattle.congee_commands.specs.declared.command.Command.TheVariants.{Get, Insert, Remove, Exchange, Add, Put, Range, Keys, Empty}
+
+-- the first word of a command, and the words behind it. A number is written in decimal, without a leading zero
+abbrev pub name_of : Command → List ℕ
+name_of (Get key) = codes "get"
+name_of (Insert key value) = codes "insert"
+name_of (Remove key) = codes "remove"
+name_of (Exchange key old new) = codes "cas"
+name_of (Add key more) = codes "add"
+name_of (Put key more) = codes "put"
+name_of (Range start end limit) = codes "range"
+name_of Keys = codes "keys"
+name_of Empty = codes "empty"
+
+abbrev pub arguments_of : Command → List (List ℕ)
+arguments_of (Get key) = decimal key ∷ []
+arguments_of (Insert key value) = decimal key ∷ decimal value ∷ []
+arguments_of (Remove key) = decimal key ∷ []
+arguments_of (Exchange key old new) = decimal key ∷ decimal old ∷ value_text new ∷ []
+arguments_of (Add key more) = decimal key ∷ decimal more ∷ []
+arguments_of (Put key more) = decimal key ∷ decimal more ∷ []
+arguments_of (Range start end limit) = decimal start ∷ decimal end ∷ decimal limit ∷ []
+arguments_of Keys = []
+arguments_of Empty = []
+
+abbrev pub words_of_command : Command → List (List ℕ)
+words_of_command command = name_of command ∷ arguments_of command
+
+-- its numbers have 64 bits, and at most 4096 pairs are asked for
+abbrev pub HasNumbers : Command → Type 0
+HasNumbers (Get key) = key < 2 ^ 64
+HasNumbers (Insert key value) = (key < 2 ^ 64) × (value < 2 ^ 64)
+HasNumbers (Remove key) = key < 2 ^ 64
+HasNumbers (Exchange key old new) = (key < 2 ^ 64) × (old < 2 ^ 64) × IsWide new
+HasNumbers (Add key more) = (key < 2 ^ 64) × (more < 2 ^ 64)
+HasNumbers (Put key more) = (key < 2 ^ 64) × (more < 2 ^ 64)
+HasNumbers (Range start end limit) = (start < 2 ^ 64) × (end < 2 ^ 64) × (limit ≤ 4096)
+HasNumbers Keys = Unit {0}
+HasNumbers Empty = Unit {0}
+
+-- the line is the command's words, with one space between each two
+abbrev pub Says : List ℕ → Command → Type 0
+Says line command = Spells words_of_command HasNumbers line command
+
+-- the line is no command
+abbrev pub IsBad : List ℕ → Type 0
+IsBad line = SpellsNone words_of_command HasNumbers line
+
+-- the call that a command asks for
+abbrev pub call_of : Command → Call ℕ ℕ
+call_of (Get key) = get key
+call_of (Insert key value) = insert key value
+call_of (Remove key) = remove key
+call_of (Exchange key old new) = compare_exchange key old new
+call_of (Add key more) = compute_if_present key
+call_of (Put key more) = compute_or_insert key
+call_of (Range start end limit) = range start end limit
+call_of Keys = keys
+call_of Empty = is_empty
+
+-- the sum, where it has 64 bits
+abbrev pub checked_sum : ℕ → ℕ → Option ℕ
+checked_sum value more = if nat_lt (value + more) (2 ^ 64) then Some (value + more) else None
+
+-- what `put` makes of a value, or of none: the sum, and the greatest number of 64 bits where it has more
+abbrev pub put_sum : Option ℕ → ℕ → ℕ
+put_sum None more = more
+put_sum (Some value) more = min (value + more) (2 ^ 64 - 1)
+
+-- what a command's closure answers to what it is handed: `add` the sum where it fits, and `put` its sum always
+abbrev pub closure_of : Command → Option ℕ → Option ℕ
+closure_of (Get key) handed = None
+closure_of (Insert key value) handed = None
+closure_of (Remove key) handed = None
+closure_of (Exchange key old new) handed = None
+closure_of (Add key more) None = None
+closure_of (Add key more) (Some value) = checked_sum value more
+closure_of (Put key more) handed = Some (put_sum handed more)
+closure_of (Range start end limit) handed = None
+closure_of Keys handed = None
+closure_of Empty handed = None

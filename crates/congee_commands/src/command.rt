@@ -1,0 +1,201 @@
+//! Commands, and the lines that say them.
+
+ghost use Rattle.std.specs.Prelude.{◌≡◌, ℕ, List, ◌∷◌, ◌<◌, ◌≤◌, ◌^◌, Option, IfSome, IfNone, codes, decimal};
+
+use congee_lines::number::number;
+use congee_lines::words::Words;
+
+/// What a line asks for. Keys and values are numbers of 64 bits.
+#[derive(Clone, Copy, Debug, PartialEq, Eq)]
+pub enum Command {
+    /// The value of a key.
+    Get(u64),
+    /// Sets the value of a key: first the key, then the value.
+    Insert(u64, u64),
+    /// Takes a key out.
+    Remove(u64),
+    /// Where the second number stands at the key, puts the third there, or takes the key out.
+    Exchange(u64, u64, Option<u64>),
+    /// Adds to the value of a key that is present; takes the key out where the sum doesn't fit 64 bits.
+    Add(u64, u64),
+    /// Adds to the value of a key, 0 for one that is absent, up to the greatest number.
+    Put(u64, u64),
+    /// The first pairs with keys from the first number on and below the second, at most so many.
+    Range(u64, u64, u64),
+    /// All keys.
+    Keys,
+    /// Whether there is no key.
+    Empty,
+}
+
+/// How many pairs a range may ask for.
+pub const MAX_PAIRS: u64 = 4096;
+
+ghost use Rattle.congee_lines.specs.Words.{words_left};
+ghost use Rattle.congee_commands.specs.Grammar.{ReadsWords};
+ghost use Rattle.congee_commands.specs.Value.{value_text, IsWide};
+ghost use Rattle.congee_commands.specs.Command.{words_of_command, HasNumbers, Says, IsBad};
+
+/// The command that a line says. The line feed behind it is no part of a line.
+pub fn command_of(line: &[u8]) -> Option<Command>
+    ensures said { IfSome result (Says line.now) }
+    ensures bad { IfNone result (IsBad line.now) }
+{
+    let mut words = Words::new(line);
+    let name = words.next_word()?;
+    named(name, words)
+}
+
+// The command with this first word and these behind it.
+fn named(name: &[u8], words: Words) -> Option<Command>
+    ensures { ReadsWords words_of_command HasNumbers (name.now ∷ words_left words.entry) result }
+{
+    if name == b"get".as_slice() {
+        return get_of(words);
+    }
+    if name == b"insert".as_slice() {
+        return insert_of(words);
+    }
+    if name == b"remove".as_slice() {
+        return remove_of(words);
+    }
+    if name == b"cas".as_slice() {
+        return exchange_of(words);
+    }
+    if name == b"add".as_slice() {
+        return add_of(words);
+    }
+    if name == b"put".as_slice() {
+        return put_of(words);
+    }
+    if name == b"range".as_slice() {
+        return range_of(words);
+    }
+    if name == b"keys".as_slice() {
+        return keys_of(words);
+    }
+    if name == b"empty".as_slice() {
+        return empty_of(words);
+    }
+    None
+}
+
+fn get_of(mut words: Words) -> Option<Command>
+    ensures { ReadsWords words_of_command HasNumbers (codes "get" ∷ words_left words.entry) result }
+{
+    let key = next_number(&mut words)?;
+    words.end()?;
+    Some(Command::Get(key))
+}
+
+fn insert_of(mut words: Words) -> Option<Command>
+    ensures { ReadsWords words_of_command HasNumbers (codes "insert" ∷ words_left words.entry) result }
+{
+    let key = next_number(&mut words)?;
+    let value = next_number(&mut words)?;
+    words.end()?;
+    Some(Command::Insert(key, value))
+}
+
+fn remove_of(mut words: Words) -> Option<Command>
+    ensures { ReadsWords words_of_command HasNumbers (codes "remove" ∷ words_left words.entry) result }
+{
+    let key = next_number(&mut words)?;
+    words.end()?;
+    Some(Command::Remove(key))
+}
+
+fn exchange_of(mut words: Words) -> Option<Command>
+    ensures { ReadsWords words_of_command HasNumbers (codes "cas" ∷ words_left words.entry) result }
+{
+    let key = next_number(&mut words)?;
+    let old = next_number(&mut words)?;
+    let new = next_value(&mut words)?;
+    words.end()?;
+    Some(Command::Exchange(key, old, new))
+}
+
+fn add_of(mut words: Words) -> Option<Command>
+    ensures { ReadsWords words_of_command HasNumbers (codes "add" ∷ words_left words.entry) result }
+{
+    let key = next_number(&mut words)?;
+    let more = next_number(&mut words)?;
+    words.end()?;
+    Some(Command::Add(key, more))
+}
+
+fn put_of(mut words: Words) -> Option<Command>
+    ensures { ReadsWords words_of_command HasNumbers (codes "put" ∷ words_left words.entry) result }
+{
+    let key = next_number(&mut words)?;
+    let more = next_number(&mut words)?;
+    words.end()?;
+    Some(Command::Put(key, more))
+}
+
+fn range_of(mut words: Words) -> Option<Command>
+    ensures { ReadsWords words_of_command HasNumbers (codes "range" ∷ words_left words.entry) result }
+{
+    let start = next_number(&mut words)?;
+    let end = next_number(&mut words)?;
+    let limit = next_limit(&mut words)?;
+    words.end()?;
+    Some(Command::Range(start, end, limit))
+}
+
+fn keys_of(words: Words) -> Option<Command>
+    ensures { ReadsWords words_of_command HasNumbers (codes "keys" ∷ words_left words.entry) result }
+{
+    words.end()?;
+    Some(Command::Keys)
+}
+
+fn empty_of(words: Words) -> Option<Command>
+    ensures { ReadsWords words_of_command HasNumbers (codes "empty" ∷ words_left words.entry) result }
+{
+    words.end()?;
+    Some(Command::Empty)
+}
+
+// The next word as a number.
+fn next_number(words: &mut Words) -> Option<u64>
+    ensures found { IfSome result (λ n. words_left words.old ≡ decimal n ∷ words_left words.new) }
+    ensures range { IfSome result (λ n. n < 2 ^ 64) }
+    ensures none { IfNone result ((n : ℕ) (rest : List (List ℕ)) → n < 2 ^ 64 → words_left words.old ≡ decimal n ∷ rest → ⊥) }
+{
+    number(words.next_word()?)
+}
+
+// The next word as a number of pairs that a range may ask for.
+fn next_limit(words: &mut Words) -> Option<u64>
+    ensures found { IfSome result (λ n. words_left words.old ≡ decimal n ∷ words_left words.new) }
+    ensures range { IfSome result (λ n. n ≤ 4096) }
+    ensures none { IfNone result ((n : ℕ) (rest : List (List ℕ)) → n ≤ 4096 → words_left words.old ≡ decimal n ∷ rest → ⊥) }
+{
+    let limit = next_number(words)?;
+    if limit > MAX_PAIRS {
+        return None;
+    }
+    Some(limit)
+}
+
+// The next word as a number, or `none`.
+fn next_value(words: &mut Words) -> Option<Option<u64>>
+    ensures found { IfSome result (λ value. words_left words.old ≡ value_text value ∷ words_left words.new) }
+    ensures range { IfSome result IsWide }
+    ensures none { IfNone result ((value : Option ℕ) (rest : List (List ℕ)) → IsWide value → words_left words.old ≡ value_text value ∷ rest → ⊥) }
+{
+    value(words.next_word()?)
+}
+
+// The word as a number, or `none`.
+fn value(word: &[u8]) -> Option<Option<u64>>
+    ensures found { IfSome result (λ value. word.now ≡ value_text value) }
+    ensures range { IfSome result IsWide }
+    ensures none { IfNone result ((value : Option ℕ) → IsWide value → word.now ≡ value_text value → ⊥) }
+{
+    if word == b"none".as_slice() {
+        return Some(None);
+    }
+    Some(Some(number(word)?))
+}

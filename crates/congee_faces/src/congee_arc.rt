@@ -1,0 +1,113 @@
+//! `CongeeArc`, the map from keys to shared values.
+
+ghost use Rattle.std.specs.Prelude.{◌≡◌, [], Option, Some, None, IfOk, OnOk, OnErr, IsTrue, ◌↔◌, map as each, option_copied};
+ghost use Rattle.std.specs.Fn.{TakesAt, CalledAt};
+ghost use Rattle.congee_map.specs.Map.{lookup, put, without, with_answer};
+ghost use Rattle.congee_map.specs.Refusal.{NeedsNode};
+
+use congee_map::error::OOMError;
+use congee_map::payload::Payload;
+use congee_map::traits::Word;
+use congee_node_table::allocator::DefaultAllocator;
+use congee_tree::fresh;
+use congee_tree::tree::RawCongee;
+use std::alloc::Global;
+use std::marker::{Brand, Model, PhantomData};
+use std::sync::Arc;
+use std::sync::ledger::Blank;
+
+/// An ordered map from keys to owners of shared values. Two keys with one number are one key.
+///
+/// An owner that is handed in is stored as it is, and the map makes no other. One that is replaced or taken out comes
+/// back to the caller, once.
+pub type CongeeArc<K, V> = PayloadCongee<K, Arc<V>>;
+
+/// An ordered map from keys that are written as 64-bit numbers to payloads, which are stored as they are handed in, and
+/// looked at in place.
+///
+/// Contracts see the pairs of the map, by the keys' numbers.
+#[derive(Drop)]
+pub struct PayloadCongee<K: Word, P: Payload> {
+    tree: RawCongee<P, DefaultAllocator>,
+    of: PhantomData<K>,
+}
+
+impl<K: Word, P: Payload> Model for PayloadCongee<K, P> {
+    ghost use Rattle.std.specs.Coded.{coded×, coded_list, coded_ℕ};
+    ghost use Rattle.congee_map.specs.Map.{Pairs};
+
+    ghost Value = { Pairs P };
+
+    ghost coded = { coded_list (coded× coded_ℕ P.code) };
+
+    ghost view = { λ m. m.tree.pairs };
+}
+
+impl<K: Word, P: Payload> PayloadCongee<K, P> {
+    /// An empty map, or `OOMError` where there is no memory for it.
+    pub fn new(alloc: Global) -> Result<Self, OOMError>
+        ensures { IfOk result (λ map. map ≡ []) }
+    {
+        Ok(PayloadCongee {
+            tree: RawCongee::new(alloc, DefaultAllocator {})?,
+            of: PhantomData,
+        })
+    }
+
+    /// Whether there is no pair. Takes no memory.
+    pub fn is_empty(&self) -> bool
+        ensures { IsTrue result ↔ (self.now ≡ []) }
+    {
+        self.tree.is_empty()
+    }
+
+    /// The keys, ascending by their numbers, each read back. `OOMError` comes where there is no memory for the list.
+    pub fn keys(&self) -> Result<Vec<K>, OOMError>
+        ensures { IfOk result (λ keys. keys.items ≡ each K.of_number (each (λ pair. pair.0) self.now)) }
+    {
+        self.tree.keys()
+    }
+
+    /// The payload at the key. Takes no memory.
+    pub fn get(&self, key: K) -> Option<&P>
+        ensures { option_copied result ≡ lookup self.now (K.number key) }
+    {
+        fresh::get::<Brand, P, DefaultAllocator>(&self.tree, key.into_u64(), Blank::new(1))
+    }
+
+    /// Sets the payload at the key, and gives back the one that stood there. `OOMError` comes only for a new key that
+    /// needs a node of its own or a larger one, where memory is missing for that. It leaves the map as it was, and the
+    /// handed payload is dropped.
+    pub fn insert(&mut self, key: K, payload: P) -> Result<Option<P>, OOMError>
+        ensures before { IfOk result (λ before. before ≡ lookup self.old (K.number key)) }
+        ensures ok { OnOk result (self.new ≡ put self.old (K.number key) payload) }
+        ensures err { OnErr result (self.new ≡ self.old) }
+        ensures refused { OnErr result (NeedsNode self.old (K.number key)) }
+    {
+        let blank = Blank::new(1);
+        fresh::insert::<Brand, P, DefaultAllocator>(&mut self.tree, key.into_u64(), payload, blank)
+    }
+
+    /// Takes the key out, and gives back the payload that stood there. Takes no memory.
+    pub fn remove(&mut self, key: K) -> Option<P>
+        ensures before { result ≡ lookup self.old (K.number key) }
+        ensures pairs { self.new ≡ without self.old (K.number key) }
+    {
+        let blank = Blank::new(1);
+        fresh::remove::<Brand, P, DefaultAllocator>(&mut self.tree, key.into_u64(), blank)
+    }
+
+    /// Where the key is present, calls the closure with its payload, once, and stores what it answers; its `None` takes
+    /// the key out. Gives back the payload that stood there. Takes no memory.
+    pub fn compute_if_present<F: FnMut(&P) -> Option<P>>(&mut self, key: K, f: &mut F) -> Option<P>
+        requires { (standing : P) → lookup self.old (K.number key) ≡ Some standing → TakesAt F.FnMut f.old standing }
+        ensures before { result ≡ lookup self.old (K.number key) }
+        ensures absent { lookup self.old (K.number key) ≡ None → (self.new ≡ self.old) × (f.new ≡ f.old) }
+        ensures present { (standing : P) → lookup self.old (K.number key) ≡ Some standing
+            → (answer : Option P) × CalledAt F.FnMut f.old standing answer f.new × (self.new ≡ with_answer self.old (K.number key) answer) }
+    {
+        let number = key.into_u64();
+        let blank = Blank::new(1);
+        fresh::compute_if_present::<Brand, P, DefaultAllocator, F>(&mut self.tree, number, f, blank)
+    }
+}

@@ -1,0 +1,330 @@
+//! `Congee`, the map from keys to values that numbers stand for.
+
+ghost use Rattle.std.specs.Prelude.{◌≡◌, ◌≢◌, ℕ, [], Option, Some, None, Ok, Err, IfOk, OnOk, OnErr, IsTrue, ◌↔◌, ◌+◌, ◌<◌, ◌^◌, ◌++◌, length, min, map, take, drop, option_copied};
+ghost use Rattle.std.specs.List.{FoldsTo};
+ghost use Rattle.std.specs.Option.{option_map};
+ghost use Rattle.congee_map.specs.Map.{lookup, put, without, with_answer, between, IsMap};
+ghost use Rattle.congee_node_table.specs.Charge.{add_charge};
+ghost use Rattle.congee_stats.specs.LevelCounts.{capped};
+ghost use Rattle.congee_map.specs.Refusal.{NeedsNode};
+ghost use Rattle.congee_stats.specs.Stats.{IsTally};
+ghost use Rattle.congee_stats.specs.StatsText.{all_nodes, all_entries};
+ghost use Rattle.congee_stats.specs.Visits.{visits_below};
+ghost use Rattle.congee_supply.specs.Charge.{charge_of, MovesAlike};
+
+use congee_map::error::OOMError;
+use congee_map::traits::{Drainer, NoDrain, Word};
+use congee_node_table::allocator::{Allocator, DefaultAllocator};
+use congee_stats::NodeStats;
+use congee_tree::fresh;
+use congee_tree::tree::RawCongee;
+use congee_walks::range_scan::RangeEntry;
+use std::alloc::Global;
+use std::marker::{Brand, Model, PhantomData};
+use std::sync::ledger::Blank;
+
+/// An ordered map from keys to values, both of types that are written as 64-bit numbers. Two keys with one number are
+/// one key.
+///
+/// Contracts see the pairs of the map by their numbers. A value that is answered is read back from its number; closures
+/// are handed numbers and answer numbers.
+///
+/// The allocator `A` is charged for each node of the map's tree. When the map is dropped, its drainer is told of each
+/// pair, keys ascending.
+pub struct Congee<K: Word, V: Word, A: Allocator = DefaultAllocator, D: Drainer<K, V> = NoDrain> {
+    tree: RawCongee<u64, A>,
+    drainer: D,
+    of: PhantomData<(K, V)>,
+}
+
+impl<K: Word, V: Word, A: Allocator, D: Drainer<K, V>> Model for Congee<K, V, A, D> {
+    ghost use Rattle.congee_faces.specs.Face.{Face, face_code};
+
+    ghost Value = { Face A };
+
+    ghost coded = { face_code A.code };
+
+    ghost view = { λ m. record { pairs = m.tree.pairs; nodes = m.tree.nodes; budget = m.tree.budget } };
+
+    ghost invariant = { λ m. D.can_drain m.drainer };
+}
+
+impl<K: Word, V: Word, A: Allocator> Congee<K, V, A> {
+    /// An empty map, or `OOMError` where the allocator or the machine has no memory for it. Nobody is told of its pairs
+    /// when it is dropped.
+    pub fn new(alloc: Global, allocator: A) -> Result<Self, OOMError>
+        ensures pairs { IfOk result (λ map. map.pairs ≡ []) }
+        ensures charge { IfOk result (λ map. A.charge map.budget ≡ add_charge (A.charge allocator) (charge_of map.nodes)) }
+    {
+        Congee::new_with_drainer(alloc, allocator, NoDrain {})
+    }
+}
+
+impl<K: Word, V: Word, A: Allocator, D: Drainer<K, V>> Congee<K, V, A, D> {
+    /// An empty map, or `OOMError` where the allocator or the machine has no memory for it. When the map is dropped, the
+    /// drainer is told of each pair that is left, keys ascending, each value read back from its number, and each key too.
+    pub fn new_with_drainer(alloc: Global, allocator: A, drainer: D) -> Result<Self, OOMError>
+        requires { D.can_drain drainer }
+        ensures pairs { IfOk result (λ map. map.pairs ≡ []) }
+        ensures charge { IfOk result (λ map. A.charge map.budget ≡ add_charge (A.charge allocator) (charge_of map.nodes)) }
+    {
+        Ok(Congee {
+            tree: RawCongee::new(alloc, allocator)?,
+            drainer,
+            of: PhantomData,
+        })
+    }
+
+    /// The value at the key, read back from its number. Takes no memory.
+    pub fn get(&self, key: &K) -> Option<V>
+        ensures { result ≡ option_map V.of_number (lookup self.now.pairs (K.number key.now)) }
+    {
+        let number = fresh::get::<Brand, u64, A>(&self.tree, key.into_u64(), Blank::new(1));
+        read_back(number.copied())
+    }
+
+    /// Sets the value at the key, and answers the one that stood there, read back from its number. `OOMError` comes
+    /// only for a new key that needs a node of its own or a larger one, where memory is missing for that, and leaves the
+    /// map as it was.
+    pub fn insert(&mut self, key: K, value: V) -> Result<Option<V>, OOMError>
+        ensures before { IfOk result (λ before. before ≡ option_map V.of_number (lookup self.old.pairs (K.number key))) }
+        ensures ok { OnOk result (self.new.pairs ≡ put self.old.pairs (K.number key) (V.number value)) }
+        ensures err { OnErr result ((self.new.pairs ≡ self.old.pairs) × (self.new.nodes ≡ self.old.nodes)) }
+        ensures charge { MovesAlike (A.charge self.old.budget) (charge_of self.old.nodes) (A.charge self.new.budget) (charge_of self.new.nodes) }
+        ensures refused { OnErr result (NeedsNode self.old.pairs (K.number key)) }
+    {
+        let before = fresh::insert::<Brand, u64, A>(
+            &mut self.tree,
+            key.into_u64(),
+            value.into_u64(),
+            Blank::new(1),
+        )?;
+        Ok(read_back(before))
+    }
+
+    /// Takes the key out, and answers the value that stood there, read back from its number. Takes no memory.
+    pub fn remove(&mut self, key: &K) -> Option<V>
+        ensures before { result ≡ option_map V.of_number (lookup self.old.pairs (K.number key.now)) }
+        ensures pairs { self.new.pairs ≡ without self.old.pairs (K.number key.now) }
+        ensures charge { MovesAlike (A.charge self.old.budget) (charge_of self.old.nodes) (A.charge self.new.budget) (charge_of self.new.nodes) }
+    {
+        let blank = Blank::new(1);
+        read_back(fresh::remove::<Brand, u64, A>(&mut self.tree, key.into_u64(), blank))
+    }
+
+    /// The counts of the tree's nodes by level and form, and of its pairs. Reads each node once. `OOMError` comes where
+    /// there is no memory for the levels, of which there are eight at most.
+    ///
+    /// Each entry of a node is a pair or leads to a node, and none leads to the root: where no count stays at the greatest
+    /// `u64`, the entries are the pairs plus the nodes minus 1.
+    pub fn stats(&self) -> Result<NodeStats, OOMError>
+        ensures levels { IfOk result (λ stats. IsTally (visits_below 0 self.now.nodes) stats.levels) }
+        ensures pairs { IfOk result (λ stats. stats.kv_pairs ≡ capped (length self.now.pairs)) }
+        ensures entries { length self.now.pairs + length self.now.nodes < 2 ^ 64 → IfOk result (λ stats. all_entries stats.levels + 1 ≡ stats.kv_pairs + all_nodes stats.levels) }
+    {
+        self.tree.stats()
+    }
+
+    /// The sum of the stated sizes of the nodes of the map's tree, which its allocator is charged for. Takes no memory.
+    pub fn charged(&self) -> u128
+        ensures { result ≡ charge_of self.now.nodes }
+    {
+        self.tree.charged()
+    }
+
+    /// Whether there is no pair. Takes no memory.
+    pub fn is_empty(&self) -> bool
+        ensures { IsTrue result ↔ (self.now.pairs ≡ []) }
+    {
+        self.tree.is_empty()
+    }
+
+    /// Writes the first pairs, by their numbers, with keys from `start` on and below `end` to the buffer, ascending, as many
+    /// as there are or as fit, and answers how many. The rest of the buffer stays. Takes no memory, and reads no more nodes
+    /// than those pairs are in and two ways through the tree.
+    pub fn range(&self, start: &K, end: &K, buffer: &mut [(u64, u64)]) -> usize
+        ensures count { result ≡ min (length buffer.old) (length (between self.now.pairs (K.number start.now) (K.number end.now))) }
+        ensures written { buffer.new ≡ take result (between self.now.pairs (K.number start.now) (K.number end.now)) ++ drop result buffer.old }
+    {
+        self.range_of(start.into_u64(), end.into_u64(), buffer)
+    }
+
+    /// The same for entries of another kind.
+    pub(crate) fn range_of<E: RangeEntry>(&self, start: u64, end: u64, buffer: &mut [E]) -> usize
+        ensures count { result ≡ min (length buffer.old) (length (between self.now.pairs start end)) }
+        ensures written { buffer.new ≡ take result (map (λ pair. E.entry pair.0 pair.1) (between self.now.pairs start end)) ++ drop result buffer.old }
+    {
+        self.tree
+            .range(&start.to_be_bytes(), &end.to_be_bytes(), buffer)
+    }
+
+    /// The keys, ascending, each read back from its number. `OOMError` comes where there is no memory for their list.
+    pub fn keys(&self) -> Result<Vec<K>, OOMError>
+        ensures { IfOk result (λ keys. keys.items ≡ map K.of_number (map (λ pair. pair.0) self.now.pairs)) }
+    {
+        self.tree.keys()
+    }
+
+    /// Calls the closure with each pair, keys ascending, each key and value read back from its number, and gives the map up.
+    /// The map's own drainer isn't told. Takes no memory.
+    pub fn drain<F: FnMut(K, V)>(self, f: &mut F)
+        requires { F.IsAlwaysCallable f.old }
+        ensures { FoldsTo (λ state pair next. F.step state (K.of_number pair.0) (V.of_number pair.1) tt next) f.old self.pairs f.new }
+    {
+        let Congee {
+            tree,
+            drainer: _,
+            of: _,
+        } = self;
+        let mut pairs = tree.into_pairs();
+        while let Some((key, number)) = pairs.next() {
+            f(K::from_u64(key), V::from_u64(number));
+        }
+    }
+
+    /// Where the key is present, calls the closure with its number, once, and stores what it answers; its `None` takes
+    /// the key out. Answers both numbers, the old and the new one. Takes no memory.
+    pub fn compute_if_present<F: FnMut(u64) -> Option<u64>>(
+        &mut self,
+        key: &K,
+        f: &mut F,
+    ) -> Option<(u64, Option<u64>)>
+        requires { (standing : ℕ) → lookup self.old.pairs (K.number key.now) ≡ Some standing → F.pre f.old standing }
+        ensures absent { lookup self.old.pairs (K.number key.now) ≡ None → (result ≡ None) × (self.new.pairs ≡ self.old.pairs) × (f.new ≡ f.old) }
+        ensures present { (standing : ℕ) → lookup self.old.pairs (K.number key.now) ≡ Some standing
+            → (answer : Option ℕ) × F.step f.old standing answer f.new × (result ≡ Some (standing, answer))
+            × (self.new.pairs ≡ with_answer self.old.pairs (K.number key.now) answer) }
+        ensures charge { MovesAlike (A.charge self.old.budget) (charge_of self.old.nodes) (A.charge self.new.budget) (charge_of self.new.nodes) }
+    {
+        let mut answered = None;
+        let mut keep = |standing: &u64| -> Option<u64>
+            requires { F.pre f.now standing.now }
+        {
+            answered = f(*standing);
+            answered
+        };
+        let number = key.into_u64();
+        let blank = Blank::new(1);
+        let old = fresh::compute_if_present::<Brand, u64, A, _>(
+            &mut self.tree,
+            number,
+            &mut keep,
+            blank,
+        )?;
+        Some((old, answered))
+    }
+
+    /// Calls the closure once, with the number at the key if there is one, and stores what it answers. Answers the
+    /// value that stood there, read back from its number. All memory is taken before the closure is called: `OOMError`
+    /// comes only for a new key that needs a node of its own or a larger one, where memory is missing for that; then the
+    /// closure wasn't called, and the map is as it was.
+    pub fn compute_or_insert<F: FnMut(Option<u64>) -> u64>(
+        &mut self,
+        key: K,
+        f: &mut F,
+    ) -> Result<Option<V>, OOMError>
+        requires { F.pre f.old (lookup self.old.pairs (K.number key)) }
+        ensures before { IfOk result (λ before. before ≡ option_map V.of_number (lookup self.old.pairs (K.number key))) }
+        ensures ok { OnOk result ((answer : ℕ) × F.step f.old (lookup self.old.pairs (K.number key)) answer f.new
+            × (self.new.pairs ≡ put self.old.pairs (K.number key) answer)) }
+        ensures err { OnErr result ((self.new.pairs ≡ self.old.pairs) × (self.new.nodes ≡ self.old.nodes)) }
+        ensures charge { MovesAlike (A.charge self.old.budget) (charge_of self.old.nodes) (A.charge self.new.budget) (charge_of self.new.nodes) }
+        ensures not_called { OnErr result (f.new ≡ f.old) }
+        ensures refused { OnErr result (NeedsNode self.old.pairs (K.number key)) }
+    {
+        let mut number = |standing: Option<&u64>| -> u64
+            requires { F.pre f.now (option_copied standing) }
+        { f(standing.copied()) };
+        let before = fresh::compute_or_insert::<Brand, u64, A, _>(
+            &mut self.tree,
+            key.into_u64(),
+            &mut number,
+            Blank::new(1),
+        )?;
+        Ok(read_back(before))
+    }
+
+    /// Where the number of `old` stands at the key, puts `new` there, or takes the key out for `None`, and answers `Ok`
+    /// with `new` itself. Otherwise changes nothing, and answers `Err` with the value that stands there, read back from
+    /// its number, or with `None` where the key is absent. One way through the tree. Takes no memory.
+    pub fn compare_exchange(
+        &mut self,
+        key: &K,
+        old: &V,
+        new: Option<V>,
+    ) -> Result<Option<V>, Option<V>>
+        ensures absent { lookup self.old.pairs (K.number key.now) ≡ None → (result ≡ Err None) × (self.new.pairs ≡ self.old.pairs) }
+        ensures same { lookup self.old.pairs (K.number key.now) ≡ Some (V.number old.now)
+            → (result ≡ Ok new) × (self.new.pairs ≡ with_answer self.old.pairs (K.number key.now) (option_map V.number new)) }
+        ensures other { (standing : ℕ) → lookup self.old.pairs (K.number key.now) ≡ Some standing → standing ≢ V.number old.now
+            → (result ≡ Err (Some (V.of_number standing))) × (self.new.pairs ≡ self.old.pairs) }
+        ensures charge { MovesAlike (A.charge self.old.budget) (charge_of self.old.nodes) (A.charge self.new.budget) (charge_of self.new.nodes) }
+    {
+        let expected = old.into_u64();
+        let wanted = numbered(&new);
+        let standing = self.exchange(key.into_u64(), expected, wanted);
+        match standing {
+            None => Err(None),
+            Some(number) if number == expected => Ok(new),
+            Some(number) => Err(Some(V::from_u64(number))),
+        }
+    }
+
+    // Puts what is wanted at a key where the expected number stands, and what stands there again where it is another.
+    // Answers what stood there.
+    fn exchange(&mut self, key: u64, expected: u64, wanted: Option<u64>) -> Option<u64>
+        ensures ordered { IsMap self.old.pairs }
+        ensures before { result ≡ lookup self.old.pairs key }
+        ensures absent { lookup self.old.pairs key ≡ None → self.new.pairs ≡ self.old.pairs }
+        ensures same { lookup self.old.pairs key ≡ Some expected → self.new.pairs ≡ with_answer self.old.pairs key wanted }
+        ensures other { (standing : ℕ) → lookup self.old.pairs key ≡ Some standing → standing ≢ expected
+            → self.new.pairs ≡ put self.old.pairs key standing }
+        ensures charge { MovesAlike (A.charge self.old.budget) (charge_of self.old.nodes) (A.charge self.new.budget) (charge_of self.new.nodes) }
+    {
+        let mut choose = |standing: &u64| -> Option<u64> {
+            if *standing == expected {
+                return wanted;
+            }
+            Some(*standing)
+        };
+        let blank = Blank::new(1);
+        fresh::compute_if_present::<Brand, u64, A, _>(&mut self.tree, key, &mut choose, blank)
+    }
+}
+
+impl<K: Word, V: Word, A: Allocator, D: Drainer<K, V>> Drop for Congee<K, V, A, D> {
+    fn drop(self) {
+        let Congee {
+            tree,
+            drainer,
+            of: _,
+        } = self;
+        if !drainer.wants_pairs() {
+            return;
+        }
+        let mut pairs = tree.into_pairs();
+        while let Some((key, number)) = pairs.next() {
+            drainer.drain(K::from_u64(key), V::from_u64(number));
+        }
+    }
+}
+
+// The value that a number is read back as, if there is one.
+fn read_back<V: Word>(number: Option<u64>) -> Option<V>
+    ensures { result ≡ option_map V.of_number number }
+{
+    match number {
+        Some(number) => Some(V::from_u64(number)),
+        None => None,
+    }
+}
+
+// The number of a value, if there is one.
+fn numbered<V: Word>(value: &Option<V>) -> Option<u64>
+    ensures { result ≡ option_map V.number value.now }
+{
+    match value {
+        Some(value) => Some(value.into_u64()),
+        None => None,
+    }
+}

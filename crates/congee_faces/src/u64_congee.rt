@@ -1,0 +1,103 @@
+//! `U64Congee`, the map from numbers to values that numbers stand for.
+
+ghost use Rattle.std.specs.Prelude.{◌≡◌, ℕ, [], ◌++◌, length, min, map, take, drop, IfOk, OnOk, OnErr};
+ghost use Rattle.std.specs.Int.{to_be_bytes, w64};
+ghost use Rattle.std.specs.Option.{option_map};
+ghost use Rattle.congee_map.specs.Map.{lookup, put, without, between};
+ghost use Rattle.congee_node_table.specs.Charge.{add_charge};
+ghost use Rattle.congee_map.specs.Refusal.{NeedsNode};
+ghost use Rattle.congee_supply.specs.Charge.{charge_of, MovesAlike};
+
+use crate::typed_congee::Congee;
+use congee_map::error::OOMError;
+use congee_map::traits::Word;
+use congee_node_table::allocator::{Allocator, DefaultAllocator};
+use std::alloc::Global;
+use std::marker::Model;
+
+/// An ordered map from 64-bit numbers to values of a type that is written as a number.
+///
+/// Contracts see the pairs of the map by their numbers. A value that is answered is read back from its number.
+/// The allocator `A` is charged for each node of the map's tree.
+#[derive(Drop)]
+pub struct U64Congee<V: Word, A: Allocator = DefaultAllocator> {
+    map: Congee<u64, V, A>,
+}
+
+impl<V: Word, A: Allocator> Model for U64Congee<V, A> {
+    ghost use Rattle.congee_faces.specs.Face.{Face, face_code};
+
+    ghost Value = { Face A };
+
+    ghost coded = { face_code A.code };
+
+    ghost view = { λ m. m.map };
+}
+
+impl<V: Word> U64Congee<V> {
+    /// An empty map, or `OOMError` where there is no memory for it.
+    pub fn new(alloc: Global) -> Result<Self, OOMError>
+        ensures { IfOk result (λ map. map.pairs ≡ []) }
+    {
+        U64Congee::new_in(alloc, DefaultAllocator {})
+    }
+}
+
+impl<V: Word, A: Allocator> U64Congee<V, A> {
+    /// An empty map, or `OOMError` where the allocator or the machine has no memory for it.
+    pub fn new_in(alloc: Global, allocator: A) -> Result<Self, OOMError>
+        ensures pairs { IfOk result (λ map. map.pairs ≡ []) }
+        ensures charge { IfOk result (λ map. A.charge map.budget ≡ add_charge (A.charge allocator) (charge_of map.nodes)) }
+    {
+        Ok(U64Congee {
+            map: Congee::new(alloc, allocator)?,
+        })
+    }
+
+    /// The value at the key, read back from its number. Takes no memory.
+    pub fn get(&self, key: u64) -> Option<V>
+        ensures { result ≡ option_map V.of_number (lookup self.now.pairs key) }
+    {
+        self.map.get(&key)
+    }
+
+    /// Sets the value at the key, and answers the one that stood there, read back from its number. `OOMError` comes
+    /// only for a new key that needs a node of its own or a larger one, where memory is missing for that, and leaves the
+    /// map as it was.
+    pub fn insert(&mut self, key: u64, val: V) -> Result<Option<V>, OOMError>
+        ensures before { IfOk result (λ before. before ≡ option_map V.of_number (lookup self.old.pairs key)) }
+        ensures ok { OnOk result (self.new.pairs ≡ put self.old.pairs key (V.number val)) }
+        ensures err { OnErr result ((self.new.pairs ≡ self.old.pairs) × (self.new.nodes ≡ self.old.nodes)) }
+        ensures charge { MovesAlike (A.charge self.old.budget) (charge_of self.old.nodes) (A.charge self.new.budget) (charge_of self.new.nodes) }
+        ensures refused { OnErr result (NeedsNode self.old.pairs key) }
+    {
+        self.map.insert(key, val)
+    }
+
+    /// Takes the key out, and answers the value that stood there, read back from its number. Takes no memory.
+    pub fn remove(&mut self, key: u64) -> Option<V>
+        ensures before { result ≡ option_map V.of_number (lookup self.old.pairs key) }
+        ensures pairs { self.new.pairs ≡ without self.old.pairs key }
+        ensures charge { MovesAlike (A.charge self.old.budget) (charge_of self.old.nodes) (A.charge self.new.budget) (charge_of self.new.nodes) }
+    {
+        self.map.remove(&key)
+    }
+
+    /// The sum of the stated sizes of the nodes of the map's tree, which its allocator is charged for. Takes no memory.
+    pub fn charged(&self) -> u128
+        ensures { result ≡ charge_of self.now.nodes }
+    {
+        self.map.charged()
+    }
+
+    /// Writes the first pairs with keys from `start` on and below `end` to the buffer, ascending, as many as there are or as
+    /// fit, and answers how many: each key as its eight bytes, most significant first, and each value as its number. The
+    /// rest of the buffer stays. Takes no memory, and reads no more nodes than those pairs are in and two ways through the
+    /// tree.
+    pub fn range(&self, start: u64, end: u64, buffer: &mut [([u8; 8], u64)]) -> usize
+        ensures count { result ≡ min (length buffer.old) (length (between self.now.pairs start end)) }
+        ensures written { buffer.new ≡ take result (map (λ pair. (to_be_bytes w64 pair.0, pair.1)) (between self.now.pairs start end)) ++ drop result buffer.old }
+    {
+        self.map.range_of(start, end, buffer)
+    }
+}

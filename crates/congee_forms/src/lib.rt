@@ -1,0 +1,8 @@
+//! The four forms of a node, and a node of any of them.
+#![tactic(auto)]
+
+pub mod any_node;
+pub mod node_16;
+pub mod node_256;
+pub mod node_4;
+pub mod node_48;

@@ -1,0 +1,129 @@
+//! A node with up to sixteen bytes, ascending, and the children beside them
+//! (*The Adaptive Radix Tree*, Leis et al., section III).
+
+ghost use Rattle.std.specs.Prelude.{◌≡◌, ℕ, ◌≤◌, [], length, IfOk};
+ghost use Rattle.congee_base.specs.NodeView.{NodeView};
+
+use congee_base::base_node::{BaseNode, Node, NodeType};
+use congee_base::iter::{Node16Iter, NodeIter};
+use congee_base::lanes::{find, rank};
+use congee_base::sorted::{insert_byte, remove_byte};
+use congee_map::error::OOMError;
+use std::alloc::Global;
+use std::marker::Model;
+use std::mem;
+
+/// A node with up to sixteen bytes, ascending, and the children beside them.
+///
+/// The children are on the heap; the value itself takes 56 bytes.
+#[derive(Drop)]
+pub struct Node16<C> {
+    children: Vec<C>,
+    base: BaseNode,
+    keys: [u8; 16],
+}
+
+impl<C> Model for Node16<C> {
+    ghost use Rattle.std.specs.Prelude.{◌≡◌, ◌≤◌, length, vec_capacity};
+    ghost use Rattle.congee_base.specs.NodeView.{NodeView, node_view_code};
+    ghost use Rattle.congee_base.specs.Sorted.{pairs, IsSorted};
+    ghost use Rattle.congee_base.specs.declared.base_node.NodeType.TheVariants.{N16};
+
+    ghost Value = { NodeView C };
+
+    ghost coded = { node_view_code C.code };
+
+    ghost view = { λ n. record { prefix = n.base.prefix; children = pairs n.keys n.children.items } };
+
+    ghost invariant = { λ n. IsSorted 16 n.keys n.children.items n.base.count × (n.base.form ≡ N16) × (16 ≤ vec_capacity n.children) };
+}
+
+impl<C: Drop> Node16<C> {
+    /// An empty node with room for all its sixteen children; a refusal only for want of memory.
+    pub fn new(alloc: Global, prefix: &[u8]) -> Result<Self, OOMError>
+        requires { length prefix.now ≤ 7 }
+        ensures prefix { IfOk result (λ n. n.prefix ≡ prefix.now) }
+        ensures empty { IfOk result (λ n. n.children ≡ []) }
+    {
+        let base = BaseNode::new(prefix, NodeType::N16);
+        let children = Vec::with_capacity(alloc, 16)?;
+        Ok(Node16 {
+            children,
+            base,
+            keys: [0; 16],
+        })
+    }
+}
+
+impl<C: Drop> Node<C> for Node16<C> {
+    ghost use Rattle.congee_base.specs.declared.base_node.NodeType.TheVariants.{N16};
+
+    ghost form = { λ _. N16 };
+
+    ghost prefix = { λ n. n.prefix };
+
+    ghost children = { λ n. n.children };
+
+    fn base(&self) -> &BaseNode {
+        &self.base
+    }
+
+    fn is_full(&self) -> bool {
+        self.children.len() == 16
+    }
+
+    fn get_child(&self, byte: u8) -> Option<&C> {
+        let count = self.children.len();
+        let i = find(&self.keys, count, byte);
+        if i < count {
+            Some(&self.children[i])
+        } else {
+            None
+        }
+    }
+
+    fn get_children(&self, start: u8, end: u8) -> NodeIter<'_, C> {
+        let count = self.children.len();
+        let low = rank(&self.keys, count, start);
+        let high = if end == 255 {
+            count
+        } else {
+            rank(&self.keys, count, end + 1)
+        };
+        if low < high {
+            return NodeIter::N16(Node16Iter {
+                keys: &self.keys[low..high],
+                children: &self.children[low..high],
+            });
+        }
+        NodeIter::N16(Node16Iter {
+            keys: &[],
+            children: &[],
+        })
+    }
+
+    fn insert(&mut self, byte: u8, child: C) {
+        let count = self.children.len();
+        let i = rank(&self.keys, count, byte);
+        insert_byte(&mut self.keys, count, i, byte);
+        match self.children.insert(i, child) {
+            Ok(()) => {}
+            Err(_) => unreachable!(),
+        }
+        self.base.count_up();
+    }
+
+    fn change(&mut self, byte: u8, child: C) -> C {
+        let count = self.children.len();
+        let i = find(&self.keys, count, byte);
+        mem::replace(&mut self.children[i], child)
+    }
+
+    fn remove(&mut self, byte: u8) -> C {
+        let count = self.children.len();
+        let i = find(&self.keys, count, byte);
+        remove_byte(&mut self.keys, count, i);
+        self.base.count_down();
+        self.children.remove(i)
+    }
+}

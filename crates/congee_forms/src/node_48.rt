@@ -1,0 +1,117 @@
+//! A node with up to forty-eight children in a row, and an index of all bytes
+//! (*The Adaptive Radix Tree*, Leis et al., section III).
+
+ghost use Rattle.std.specs.Prelude.{◌≡◌, ℕ, ◌≤◌, [], length, IfOk};
+ghost use Rattle.congee_base.specs.NodeView.{NodeView};
+
+use congee_base::base_node::{BaseNode, Node, NodeType};
+use congee_base::iter::{Node48Iter, NodeIter};
+use congee_base::row::redirect;
+use congee_map::error::OOMError;
+use std::alloc::Global;
+use std::marker::Model;
+use std::mem;
+
+/// A node with up to forty-eight children in a row, and an index of all bytes.
+///
+/// The row has no gaps and no order. The index has the place of each byte's child, or the mark 48. On the heap are 8 bytes
+/// for each of forty-eight children of 8 bytes and the index of 256 bytes; the value itself takes 48 bytes.
+#[derive(Drop)]
+pub struct Node48<C> {
+    children: Vec<C>,
+    index: Box<[u8; 256]>,
+    base: BaseNode,
+}
+
+impl<C> Model for Node48<C> {
+    ghost use Rattle.std.specs.Prelude.{◌≡◌, ◌≤◌, slice_index, vec_capacity};
+    ghost use Rattle.congee_base.specs.NodeView.{NodeView, node_view_code};
+    ghost use Rattle.congee_base.specs.Row.{in_row, IsRow};
+    ghost use Rattle.congee_base.specs.declared.base_node.NodeType.TheVariants.{N48};
+
+    ghost Value = { NodeView C };
+
+    ghost coded = { node_view_code C.code };
+
+    ghost view = { λ n. record { prefix = n.base.prefix; children = in_row (slice_index n.index.value) n.children.items } };
+
+    ghost invariant = { λ n. IsRow 48 (slice_index n.index.value) n.children.items n.base.count × (n.base.form ≡ N48) × (48 ≤ vec_capacity n.children) };
+}
+
+impl<C: Drop> Node48<C> {
+    /// An empty node with room for all its forty-eight children; a refusal only for want of memory.
+    pub fn new(alloc: Global, prefix: &[u8]) -> Result<Self, OOMError>
+        requires { length prefix.now ≤ 7 }
+        ensures prefix { IfOk result (λ n. n.prefix ≡ prefix.now) }
+        ensures empty { IfOk result (λ n. n.children ≡ []) }
+    {
+        let base = BaseNode::new(prefix, NodeType::N48);
+        let marks = [48u8; 256];
+        let index = Box::new(alloc, marks)?;
+        let children = Vec::with_capacity(alloc, 48)?;
+        Ok(Node48 {
+            children,
+            index,
+            base,
+        })
+    }
+}
+
+impl<C: Drop> Node<C> for Node48<C> {
+    ghost use Rattle.congee_base.specs.declared.base_node.NodeType.TheVariants.{N48};
+
+    ghost form = { λ _. N48 };
+
+    ghost prefix = { λ n. n.prefix };
+
+    ghost children = { λ n. n.children };
+
+    fn base(&self) -> &BaseNode {
+        &self.base
+    }
+
+    fn is_full(&self) -> bool {
+        self.base.value_count() >= 48
+    }
+
+    fn get_child(&self, byte: u8) -> Option<&C> {
+        let i = self.index[byte as usize] as usize;
+        if i < self.children.len() {
+            Some(&self.children[i])
+        } else {
+            None
+        }
+    }
+
+    fn get_children(&self, start: u8, end: u8) -> NodeIter<'_, C> {
+        NodeIter::N48(Node48Iter {
+            at: start as usize,
+            last: end,
+            index: &self.index,
+            children: &self.children,
+        })
+    }
+
+    fn insert(&mut self, byte: u8, child: C) {
+        self.index[byte as usize] = self.children.len() as u8;
+        match self.children.push(child) {
+            Ok(()) => {}
+            Err(_) => unreachable!(),
+        }
+        self.base.count_up();
+    }
+
+    fn change(&mut self, byte: u8, child: C) -> C {
+        let i = self.index[byte as usize] as usize;
+        mem::replace(&mut self.children[i], child)
+    }
+
+    fn remove(&mut self, byte: u8) -> C {
+        let i = self.index[byte as usize];
+        let last = self.children.len() - 1;
+        self.index[byte as usize] = 48;
+        redirect(&mut self.index, last as u8, i);
+        self.base.count_down();
+        self.children.swap_remove(i as usize)
+    }
+}

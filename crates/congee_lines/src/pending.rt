@@ -1,0 +1,108 @@
+//! Bytes that have still to be written.
+
+ghost use Rattle.std.specs.Prelude.{◌≡◌, ℕ, ◌+◌, ◌-◌, ◌≤◌, List, [], ◌++◌, length, take, decimal, OnOk, OnErr};
+ghost use Rattle.congee_lines.specs.Bytes.{Sends};
+ghost use Rattle.congee_lines.specs.Watched.{HasFailed, inner_of};
+
+use crate::watched::{Failed, Watched};
+use std::io::Write;
+use std::marker::Model;
+
+/// How many bytes are kept at most.
+pub const CAPACITY: usize = 8192;
+
+/// The bytes, at most 8192, in place. Nothing is allocated for them.
+#[derive(Drop)]
+pub struct Pending {
+    bytes: [u8; CAPACITY],
+    len: usize,
+}
+
+impl Model for Pending {
+    ghost Value = { List ℕ };
+
+    ghost view = { λ p. take p.len p.bytes };
+
+    ghost invariant = { λ p. p.len ≤ 8192 };
+}
+
+impl Pending {
+    /// No bytes.
+    pub fn new() -> Self
+        ensures { result ≡ [] }
+    {
+        Pending {
+            bytes: [0; CAPACITY],
+            len: 0,
+        }
+    }
+
+    /// How many more bytes there is room for.
+    pub fn room(&self) -> usize
+        ensures { result + length self.now ≡ 8192 }
+    {
+        CAPACITY - self.len
+    }
+
+    /// The bytes, in the order in which they were added.
+    pub fn as_slice(&self) -> &[u8]
+        ensures { result.now ≡ self.now }
+    {
+        &self.bytes[..self.len]
+    }
+
+    /// Lets go of all bytes.
+    pub fn clear(&mut self)
+        ensures { self.new ≡ [] }
+    {
+        self.len = 0;
+    }
+
+    /// Adds bytes behind the others.
+    pub fn add(&mut self, bytes: &[u8])
+        requires { length self.old + length bytes.now ≤ 8192 }
+        ensures { self.new ≡ self.old ++ bytes.now }
+    {
+        let end = self.len + bytes.len();
+        self.bytes[self.len..end].copy_from_slice(bytes);
+        self.len = end;
+    }
+
+    /// Adds the decimal text of a number, which is at most 20 bytes.
+    pub fn add_number(&mut self, number: u64)
+        requires { length self.old + 20 ≤ 8192 }
+        ensures text { self.new ≡ self.old ++ decimal number }
+        ensures short { length self.new ≤ length self.old + 20 }
+    {
+        let mut buffer = itoa::Buffer::new();
+        self.add(buffer.format(number).as_bytes());
+    }
+
+    /// Writes all that is kept. At an `Err` a first part of it was written.
+    pub fn send_to<W: Write>(&mut self, output: &mut Watched<W>) -> Result<(), Failed>
+        ensures sent { OnOk result (Sends (W.contents (inner_of output.old)) (W.contents (inner_of output.new)) self.old []) }
+        ensures empty { OnOk result (self.new ≡ []) }
+        ensures broken { OnErr result ((rest : List ℕ) × Sends (W.contents (inner_of output.old)) (W.contents (inner_of output.new)) self.old rest) }
+        ensures kept { OnOk result (output.new.failed ≡ output.old.failed) }
+        ensures failed { OnErr result (HasFailed output.new) }
+    {
+        output.send(self.as_slice())?;
+        self.clear();
+        Ok(())
+    }
+
+    /// Makes room for 64 bytes, which a short answer never fills: writes all that is kept where
+    /// there is less. At an `Err` a first part of it was written.
+    pub fn make_room<W: Write>(&mut self, output: &mut Watched<W>) -> Result<(), Failed>
+        ensures sent { OnOk result (Sends (W.contents (inner_of output.old)) (W.contents (inner_of output.new)) self.old self.new) }
+        ensures room { OnOk result (length self.new + 64 ≤ 8192) }
+        ensures broken { OnErr result ((rest : List ℕ) × Sends (W.contents (inner_of output.old)) (W.contents (inner_of output.new)) self.old rest) }
+        ensures kept { OnOk result (output.new.failed ≡ output.old.failed) }
+        ensures failed { OnErr result (HasFailed output.new) }
+    {
+        if self.room() < 64 {
+            return self.send_to(output);
+        }
+        Ok(())
+    }
+}

@@ -1,0 +1,59 @@
+//! The words of a line.
+
+ghost use Rattle.std.specs.Prelude.{◌≡◌, ◌≢◌, ℕ, ◌∷◌, [], List, ◌<◌, ◌≤◌, ◌^◌, length, slice_index, MatchOption, IfSome, IfNone, decimal};
+ghost use Rattle.congee_lines.specs.Words.{words_of, words_left};
+
+use crate::number::number;
+
+/// What is left of a line, word by word.
+#[derive(Drop)]
+pub struct Words<'a> {
+    rest: Option<&'a [u8]>,
+}
+
+impl<'a> Words<'a> {
+    /// All words of the line.
+    pub fn new(line: &'a [u8]) -> Self
+        ensures { words_left result ≡ words_of line.entry.now }
+    {
+        Words { rest: Some(line) }
+    }
+
+    /// The next word, up to a space or the end. Two spaces have an empty word between them.
+    pub fn next_word(&mut self) -> Option<&'a [u8]>
+        ensures { MatchOption result (words_left self.old ≡ []) (λ word. words_left self.old ≡ word.now ∷ words_left self.new) }
+    {
+        let text = self.rest?;
+        let at = space_or_end(text);
+        if at == text.len() {
+            self.rest = None;
+            return Some(text);
+        }
+        self.rest = Some(&text[at + 1..]);
+        Some(&text[..at])
+    }
+
+    /// `Some` if there is no word left.
+    pub fn end(&self) -> Option<()>
+        ensures { MatchOption result (words_left self.now ≡ [] → ⊥) (λ _. words_left self.now ≡ []) }
+    {
+        match self.rest {
+            None => Some(()),
+            Some(_) => None,
+        }
+    }
+}
+
+// Where the first space is, or else the length.
+fn space_or_end(text: &[u8]) -> usize
+    ensures within { result ≤ length text.now }
+    ensures before { (k : ℕ) → k < result → slice_index text.now k ≢ 32 }
+    ensures found { result < length text.now → slice_index text.now result ≡ 32 }
+{
+    for (i, byte) in text.iter().enumerate() {
+        if *byte == b' ' {
+            return i;
+        }
+    }
+    text.len()
+}

@@ -1,0 +1,47 @@
+-- What it is that a list begins with another.
+use Rattle.std.proofs.Common.{◌≡◌, ◌≢◌, ℕ, true, false, List, [], ◌∷◌, ◌++◌, eqb, refl, ap, sym, subst, ◌∙◌, inl, inr, append-nil}
+use Rattle.std.proofs.lemmas.Bool.{eq-eqb, ne_eqb, cases_eq, and_parts, eqb-true}
+use Rattle.congee_node_table.specs.Key.{begins, Begins}
+
+-- what q goes on with after p
+pub record After (p q : List ℕ) : Type 0 where
+  pub rest : List ℕ
+  pub is : q ≡ p ++ rest
+
+append_begins : (p r : List ℕ) → begins p (p ++ r) ≡ true
+append_begins [] r = refl
+append_begins (b ∷ p) r = rw (eq-eqb b b refl) (append_begins p r)
+
+pub begins_append : (p r : List ℕ) → Begins p (p ++ r)
+begins_append p r = record { holds = append_begins p r }
+
+pub begins_by : (p r q : List ℕ) → q ≡ p ++ r → Begins p q
+begins_by p r q e = subst (λ x. Begins p x) (sym e) (begins_append p r)
+
+pub begins_itself : (p : List ℕ) → Begins p p
+begins_itself p = begins_by p [] p (sym (append-nil p))
+
+after_true : (p q : List ℕ) → begins p q ≡ true → After p q
+after_true [] q h = record { rest = q; is = refl }
+after_true (b ∷ p) [] h = absurd (cc)
+after_true (b ∷ p) (c ∷ q) h =
+    let parts = and_parts (eqb b c) (begins p q) h in
+    let same = eqb-true b c parts.0 in
+    let k = after_true p q parts.1 in
+    record { rest = k.rest; is = ap (λ t. c ∷ t) k.is ∙ ap (λ x. x ∷ (p ++ k.rest)) (sym same) }
+
+pub after : {p q : List ℕ} → Begins p q → After p q
+after {p} {q} h = after_true p q h.holds
+
+pub begins_other : (p : List ℕ) (b c : ℕ) (r k : List ℕ) → b ≢ c → begins (p ++ b ∷ r) (p ++ c ∷ k) ≡ false
+begins_other [] b c r k d = rw (ne_eqb b c d) refl
+begins_other (x ∷ p) b c r k d = rw (eq-eqb x x refl) (begins_other p b c r k d)
+
+pub begins_longer : (p r q : List ℕ) → begins p q ≡ false → begins (p ++ r) q ≡ false
+begins_longer [] r q h = absurd (cc)
+begins_longer (b ∷ p) r [] h = refl
+begins_longer (b ∷ p) r (c ∷ q) h =
+    elim (cases_eq b c) [
+      | inl same ↦ let h' = rw (eq-eqb b c same) at h in rw (eq-eqb b c same) (begins_longer p r q h')
+      | inr other ↦ rw (ne_eqb b c other) refl
+    ]

@@ -1,0 +1,9 @@
+pub mod BeginLaws
+pub mod ChildrenLaws
+pub mod DownLaws
+pub mod KeyLaws
+pub mod KindLaws
+pub mod NodesLaws
+pub mod SoundLaws
+pub mod TableLaws
+pub mod WriteLaws

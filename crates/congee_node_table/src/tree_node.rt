@@ -1,0 +1,213 @@
+//! A node of a tree in one table: a leaf, whose children are payloads, or an inner node, whose children are slots.
+
+ghost use Rattle.std.specs.Prelude.{◌≡◌, ℕ, ◌+◌, ◌<◌, ◌≤◌, [], ◌∷◌, length, IfOk, OnOk, OnErr, IfSome, IfNone, IsTrue, false, IsSome, Some, None};
+ghost use Rattle.congee_map.specs.Map.{lookup, put, without, between, Rises};
+ghost use Rattle.congee_base.specs.Form.{Fits, next_form};
+ghost use Rattle.congee_node_table.specs.TableNode.{MayHave, seen, looked_at};
+
+use crate::child::{Child, ChildRef};
+use congee_base::base_node::{BaseNode, Node};
+use congee_forms::any_node::AnyNode;
+use congee_forms::node_4::Node4;
+use congee_forms::node_256::Node256;
+use congee_map::error::OOMError;
+use std::alloc::Global;
+use std::marker::Model;
+
+/// A node of a tree in one table. Below seven bytes it is a leaf, whose children are payloads, and below fewer an inner
+/// node, whose children are the slots of other nodes. So no child takes more than a payload or a slot does.
+#[derive(Drop)]
+pub struct TreeNode<P> {
+    kind: Kind<P>,
+}
+
+#[derive(Drop)]
+enum Kind<P> {
+    Inner(AnyNode<usize>),
+    Leaf(AnyNode<P>),
+}
+
+impl<P> Model for TreeNode<P> {
+    ghost use Rattle.congee_node_table.specs.TableNode.{TableNode, table_node_code, table_node, IsOfKind};
+
+    ghost Value = { TableNode P };
+
+    ghost coded = { table_node_code P.code };
+
+    ghost view = { λ n. table_node n.kind };
+
+    ghost invariant = { λ n. IsOfKind n.kind };
+}
+
+impl<P: Drop> TreeNode<P> {
+    ghost use Rattle.congee_base.specs.declared.base_node.NodeType.TheVariants.{N4, N256};
+
+    /// The root of an empty tree, which has room for a child under each byte; a refusal only for want of memory.
+    pub fn root(alloc: Global) -> Result<Self, OOMError>
+        ensures { IfOk result (λ n. n ≡ record { form = N256; prefix = []; children = [] }) }
+    {
+        let node = Node256::new(alloc, &[])?;
+        Ok(TreeNode {
+            kind: Kind::Inner(AnyNode::N256(node)),
+        })
+    }
+
+    /// An inner node of the smallest form, without children; a refusal only for want of memory.
+    pub fn inner(alloc: Global, prefix: &[u8]) -> Result<Self, OOMError>
+        requires { length prefix.now < 7 }
+        ensures { IfOk result (λ n. n ≡ record { form = N4; prefix = prefix.now; children = [] }) }
+    {
+        let node = Node4::new(alloc, prefix)?;
+        Ok(TreeNode {
+            kind: Kind::Inner(AnyNode::N4(node)),
+        })
+    }
+
+    /// A leaf of the smallest form, without payloads; a refusal only for want of memory.
+    pub fn leaf(alloc: Global, prefix: &[u8]) -> Result<Self, OOMError>
+        requires { length prefix.now ≡ 7 }
+        ensures { IfOk result (λ n. n ≡ record { form = N4; prefix = prefix.now; children = [] }) }
+    {
+        let node = Node4::new(alloc, prefix)?;
+        Ok(TreeNode {
+            kind: Kind::Leaf(AnyNode::N4(node)),
+        })
+    }
+
+    /// What all forms have.
+    pub fn base(&self) -> &BaseNode
+        ensures prefix { result.now.prefix ≡ self.now.prefix }
+        ensures count { result.now.count ≡ length self.now.children }
+        ensures form { result.now.form ≡ self.now.form }
+        ensures within { Fits self.now.form (length self.now.children) }
+        ensures ascending { Rises 0 256 self.now.children }
+    {
+        match &self.kind {
+            Kind::Inner(node) => node.base(),
+            Kind::Leaf(node) => node.base(),
+        }
+    }
+
+    /// Whether the node's children are payloads.
+    pub fn is_leaf(&self) -> bool
+        ensures leaf { IsTrue result → length self.now.prefix ≡ 7 }
+        ensures inner { result ≡ false → length self.now.prefix < 7 }
+    {
+        match &self.kind {
+            Kind::Inner(_) => false,
+            Kind::Leaf(_) => true,
+        }
+    }
+
+    /// Whether there is no room for one child more.
+    pub fn is_full(&self) -> bool
+        ensures full { IsTrue result → Fits self.now.form (length self.now.children + 1) → ⊥ }
+        ensures room { result ≡ false → Fits self.now.form (length self.now.children + 1) }
+    {
+        match &self.kind {
+            Kind::Inner(node) => node.is_full(),
+            Kind::Leaf(node) => node.is_full(),
+        }
+    }
+
+    /// What is under a byte, or `None`.
+    pub fn get_child(&self, byte: u8) -> Option<ChildRef<'_, P>>
+        ensures { seen result ≡ lookup self.now.children byte }
+    {
+        match &self.kind {
+            Kind::Inner(node) => match node.get_child(byte) {
+                Some(slot) => Some(ChildRef::Node(*slot)),
+                None => None,
+            },
+            Kind::Leaf(node) => match node.get_child(byte) {
+                Some(payload) => Some(ChildRef::Payload(payload)),
+                None => None,
+            },
+        }
+    }
+
+    /// The first child whose byte isn't below `from`, and its byte; `None` from 256 on.
+    ///
+    /// So a scan of all children takes constant work a child in each form: the bytes of a small node are searched at once,
+    /// the index of a `Node48` is passed once in the whole scan, and the mask of a `Node256` 64 bytes a step.
+    pub fn first_from(&self, from: usize) -> Option<(u8, ChildRef<'_, P>)>
+        ensures none { IfNone result (between self.now.children from 256 ≡ []) }
+        ensures some { IfSome result (λ found. between self.now.children from 256 ≡ (found.0, looked_at found.1) ∷ between self.now.children (found.0 + 1) 256) }
+        ensures order { IfSome result (λ found. from ≤ found.0) }
+    {
+        if from > 255 {
+            return None;
+        }
+        let start = from as u8;
+        match &self.kind {
+            Kind::Inner(node) => {
+                let Some((byte, slot)) = node.get_children(start, 255).next() else {
+                    return None;
+                };
+                Some((byte, ChildRef::Node(*slot)))
+            }
+            Kind::Leaf(node) => {
+                let Some((byte, payload)) = node.get_children(start, 255).next() else {
+                    return None;
+                };
+                Some((byte, ChildRef::Payload(payload)))
+            }
+        }
+    }
+
+    /// Adds a child of the node's kind under a byte that has none, in a node that is not full.
+    pub fn insert(&mut self, byte: u8, child: Child<P>)
+        requires absent { lookup self.old.children byte ≡ None }
+        requires room { Fits self.old.form (length self.old.children + 1) }
+        requires kind { MayHave self.old.prefix child }
+        ensures { self.new ≡ record self.old { children = put self.old.children byte child } }
+    {
+        match (&mut self.kind, child) {
+            (Kind::Inner(node), Child::Node(slot)) => node.insert(byte, slot),
+            (Kind::Leaf(node), Child::Payload(payload)) => node.insert(byte, payload),
+            _ => unreachable!(),
+        }
+    }
+
+    /// Puts another child of the node's kind in the place of one, which it gives back.
+    pub fn change(&mut self, byte: u8, child: Child<P>) -> Child<P>
+        requires present { IsSome (lookup self.old.children byte) }
+        requires kind { MayHave self.old.prefix child }
+        ensures before { lookup self.old.children byte ≡ Some result }
+        ensures after { self.new ≡ record self.old { children = put self.old.children byte child } }
+    {
+        match (&mut self.kind, child) {
+            (Kind::Inner(node), Child::Node(slot)) => Child::Node(node.change(byte, slot)),
+            (Kind::Leaf(node), Child::Payload(payload)) => {
+                Child::Payload(node.change(byte, payload))
+            }
+            _ => unreachable!(),
+        }
+    }
+
+    /// Takes out the child under a byte.
+    pub fn remove(&mut self, byte: u8) -> Child<P>
+        requires { IsSome (lookup self.old.children byte) }
+        ensures before { lookup self.old.children byte ≡ Some result }
+        ensures after { self.new ≡ record self.old { children = without self.old.children byte } }
+    {
+        match &mut self.kind {
+            Kind::Inner(node) => Child::Node(node.remove(byte)),
+            Kind::Leaf(node) => Child::Payload(node.remove(byte)),
+        }
+    }
+
+    /// Becomes the next form with the same prefix and children; the largest stays.
+    ///
+    /// All memory is taken before the first change, and refused only for want of it.
+    pub fn grow(&mut self, alloc: Global) -> Result<(), OOMError>
+        ensures ok { OnOk result (self.new ≡ record self.old { form = next_form self.old.form }) }
+        ensures room { OnOk result (Fits self.new.form (length self.new.children + 1)) }
+        ensures err { OnErr result (self.new ≡ self.old) }
+    {
+        match &mut self.kind {
+            Kind::Inner(node) => node.grow(alloc),
+            Kind::Leaf(node) => node.grow(alloc),
+        }
+    }
+}

@@ -1,0 +1,4 @@
+//! Lock words and pins, call by call.
+
+mod epoch;
+mod lock;

@@ -1,0 +1,131 @@
+//! The way of a key from the root down, which all point calls take.
+
+ghost use Rattle.std.specs.Prelude.{◌≡◌, ℕ, ◌+◌, [], ◌≤◌, length, IfSome, IfNone, option_copied};
+ghost use Rattle.congee_map.specs.Map.{lookup};
+ghost use Rattle.congee_node_table.specs.Key.{key_number, Begins, IsFirstDifference};
+ghost use Rattle.congee_node_table.specs.Table.{pairs_at, nodes_at, IsTree};
+ghost use Rattle.congee_paths.specs.Path.{on_path};
+ghost use Rattle.congee_paths.specs.Way.{depth, Meets, Arrives};
+
+use crate::reads::Reads;
+use congee_node_table::child::ChildRef;
+use congee_node_table::tree_node::TreeNode;
+use slab::Slab;
+use std::sync::ledger::Ledger;
+
+/// How the way of a key ends at a node.
+#[derive(Drop)]
+pub enum End<'a, P> {
+    /// The node's prefix differs from the key at this place.
+    Differs(usize),
+    /// The node has nothing under the key's byte.
+    Absent(u8),
+    /// The node has this payload under the key's byte.
+    Present(u8, &'a P),
+}
+
+/// The node where the way of a key ends.
+#[derive(Drop)]
+pub struct Place<'a, P> {
+    pub slot: usize,
+    /// The slot of the node above it, if there is one.
+    pub parent: usize,
+    /// How many nodes were read above it.
+    pub above: usize,
+    pub end: End<'a, P>,
+}
+
+// The first place at which the prefix and the key differ.
+fn first_difference(prefix: &[u8], key: &[u8; 8]) -> Option<usize>
+    requires { length prefix.now ≤ 7 }
+    ensures some { IfSome result (λ i. IsFirstDifference prefix.now key.now i) }
+    ensures none { IfNone result (Begins prefix.now key.now) }
+{
+    for i in 0..prefix.len() {
+        if prefix[i] != key[i] {
+            return Some(i);
+        }
+    }
+    None
+}
+
+/// What a key meets at a node.
+#[derive(Drop)]
+enum Step<'a, P> {
+    /// The slot of the node below.
+    Down(usize),
+    /// The end of its way.
+    Stop(End<'a, P>),
+}
+
+// What the key meets at this node.
+fn look<'a, P: Drop>(node: &'a TreeNode<P>, key: &[u8; 8]) -> Step<'a, P>
+    ensures { Meets key.now node.now result }
+{
+    let prefix = node.base().prefix();
+    let level = prefix.len();
+    if let Some(at) = first_difference(prefix, key) {
+        return Step::Stop(End::Differs(at));
+    }
+    let byte = key[level];
+    match node.get_child(byte) {
+        None => Step::Stop(End::Absent(byte)),
+        Some(ChildRef::Payload(payload)) => Step::Stop(End::Present(byte, payload)),
+        Some(ChildRef::Node(child)) => Step::Down(child),
+    }
+}
+
+/// Goes down along the key as far as there are nodes. Reads each of them once, and copies and moves none.
+pub fn descend<'a, P: Drop, L: Ledger>(
+    nodes: &'a Slab<TreeNode<P>>,
+    root: usize,
+    key: &[u8; 8],
+    reads: &mut Reads<L>,
+) -> Place<'a, P>
+    requires { IsTree nodes.now.slots depth [] root }
+    ensures arrives { Arrives nodes.now.slots root key.now result }
+    ensures reads { reads.new ≡ reads.old + result.above + 1 }
+{
+    let mut slot = root;
+    let mut parent = root;
+    let mut above = 0;
+    'down: loop {
+        let Some(node) = nodes.get(slot) else {
+            unreachable!()
+        };
+        reads.tick();
+        match look(node, key) {
+            Step::Stop(end) => {
+                return Place {
+                    slot,
+                    parent,
+                    above,
+                    end,
+                };
+            }
+            Step::Down(child) => {
+                parent = slot;
+                slot = child;
+                above += 1;
+            }
+        }
+    }
+}
+
+/// The payload at the key.
+pub fn find<'a, P: Drop, L: Ledger>(
+    nodes: &'a Slab<TreeNode<P>>,
+    root: usize,
+    key: &[u8; 8],
+    reads: &mut Reads<L>,
+) -> Option<&'a P>
+    requires { IsTree nodes.now.slots depth [] root }
+    ensures value { option_copied result ≡ lookup (pairs_at nodes.now.slots depth root) (key_number key.now) }
+    ensures reads { reads.new ≡ reads.old + on_path (nodes_at nodes.now.slots depth [] root) key.now }
+    ensures few { on_path (nodes_at nodes.now.slots depth [] root) key.now ≤ 8 }
+{
+    match descend(nodes, root, key, reads).end {
+        End::Present(_, payload) => Some(payload),
+        _ => None,
+    }
+}

@@ -1,0 +1,2 @@
+pub mod PayloadSteps
+pub mod Steps

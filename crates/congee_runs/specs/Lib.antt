@@ -1,0 +1,3 @@
+pub mod Calls
+pub mod PayloadCalls
+pub mod U64Calls

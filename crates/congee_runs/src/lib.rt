@@ -1,0 +1,6 @@
+//! Calls of the faces and their replies as data, and whole runs of them: each is a legal run of one map.
+#![tactic(auto)]
+
+pub mod calls;
+pub mod payload_calls;
+pub mod u64_calls;

@@ -1,0 +1,106 @@
+//! Calls of `CongeeArc` as data, and whole runs of them.
+
+ghost use Rattle.std.specs.Prelude.{◌≡◌, Some, None, IfOk, OnErr};
+ghost use Rattle.congee_map.specs.Map.{lookup, with_answer};
+ghost use Rattle.congee_map.specs.Refusal.{of_new_nodes};
+ghost use Rattle.congee_runs.specs.PayloadCalls.{IsPayloadStep, IsPayloadRun};
+
+use congee_faces::congee_arc::PayloadCongee;
+use congee_map::error::OOMError;
+use congee_map::payload::Payload;
+use congee_map::traits::Word;
+use std::alloc::Global;
+
+/// A call with keys of type `K` and payloads of type `P`, which it hands over.
+#[derive(Drop)]
+pub enum PayloadCall<K: Copy, P> {
+    /// The payload at a key.
+    Get(K),
+    /// Sets the payload at a key.
+    Insert(K, P),
+    /// Takes a key out.
+    Remove(K),
+    /// Puts the closure's answer at a key that is present, or takes it out. This is the answer, whatever it is handed.
+    ComputeIfPresent(K, Option<P>),
+    /// Whether there is no pair.
+    IsEmpty,
+    /// All keys.
+    Keys,
+}
+
+/// What a call answers.
+#[derive(Drop)]
+pub enum PayloadReply<K: Copy, P> {
+    /// One more of what stands at the key.
+    Seen(Option<P>),
+    /// Something stands at the key, but there was no memory for one more of it.
+    Unseen,
+    /// What stood at the key.
+    Old(Option<P>),
+    /// Yes or no.
+    Tested(bool),
+    /// The keys, ascending.
+    Listed(Vec<K>),
+    /// There was no memory for it, and nothing was changed.
+    Refused,
+}
+
+/// Makes one call.
+pub fn make_payload_call<K: Word, P: Payload>(
+    map: &mut PayloadCongee<K, P>,
+    call: PayloadCall<K, P>,
+) -> PayloadReply<K, P>
+    ensures { IsPayloadStep K.number K.of_number P.alike P.tells_same of_new_nodes map.old call result map.new }
+{
+    match call {
+        PayloadCall::Get(key) => match map.get(key) {
+            None => PayloadReply::Seen(None),
+            Some(standing) => match standing.share() {
+                Ok(copy) => PayloadReply::Seen(Some(copy)),
+                Err(_) => PayloadReply::Unseen,
+            },
+        },
+        PayloadCall::Insert(key, payload) => match map.insert(key, payload) {
+            Ok(before) => PayloadReply::Old(before),
+            Err(_) => PayloadReply::Refused,
+        },
+        PayloadCall::Remove(key) => PayloadReply::Old(map.remove(key)),
+        PayloadCall::ComputeIfPresent(key, answer) => PayloadReply::Old(change(map, key, answer)),
+        PayloadCall::IsEmpty => PayloadReply::Tested(map.is_empty()),
+        PayloadCall::Keys => match map.keys() {
+            Ok(keys) => PayloadReply::Listed(keys),
+            Err(_) => PayloadReply::Refused,
+        },
+    }
+}
+
+// Makes the call whose closure answers this at a key that is present.
+fn change<K: Word, P: Payload>(
+    map: &mut PayloadCongee<K, P>,
+    key: K,
+    answer: Option<P>,
+) -> Option<P>
+    ensures before { result ≡ lookup map.old (K.number key) }
+    ensures absent { lookup map.old (K.number key) ≡ None → map.new ≡ map.old }
+    ensures present { (standing : P) → lookup map.old (K.number key) ≡ Some standing → map.new ≡ with_answer map.old (K.number key) answer }
+{
+    let mut given = answer;
+    map.compute_if_present(key, &mut |_standing: &P| given.take())
+}
+
+/// Makes the calls, one after another, and answers their replies. `OOMError` comes where there is no memory for the
+/// list of replies; then no call was made.
+pub fn run_payload_calls<K: Word, P: Payload>(
+    alloc: Global,
+    map: &mut PayloadCongee<K, P>,
+    calls: Vec<PayloadCall<K, P>>,
+) -> Result<Vec<PayloadReply<K, P>>, OOMError>
+    ensures run { IfOk result (λ replies. IsPayloadRun K.number K.of_number P.alike P.tells_same of_new_nodes map.old calls.items replies.items map.new) }
+    ensures err { OnErr result (map.new ≡ map.old) }
+{
+    let mut replies = Vec::with_capacity(alloc, calls.len())?;
+    for call in calls {
+        replies.push(make_payload_call(map, call)).unwrap();
+    }
+    Ok(replies)
+}

@@ -1,0 +1,5 @@
+pub mod Fractions
+pub mod LevelCounts
+pub mod Stats
+pub mod StatsText
+pub mod Visits

@@ -1,0 +1,144 @@
+//! The counts of one level, and the list of the levels.
+
+ghost use Rattle.std.specs.Prelude.{◌≡◌, ◌+◌, ◌-◌, ◌<◌, ◌++◌, length, replicate, OnOk, OnErr, slice_set};
+ghost use Rattle.congee_base.specs.Form.{form_place};
+ghost use Rattle.congee_stats.specs.LevelCounts.{nodes_of, entries_of, empty_level, with_node};
+ghost use Rattle.congee_stats.specs.Stats.{counts_at};
+
+use congee_base::base_node::NodeType;
+use congee_map::error::OOMError;
+use serde::{Described, Serialize, Serializer};
+use std::fmt;
+use std::marker::Model;
+
+// Where a form's counts stand.
+fn place(form: NodeType) -> usize
+    ensures { result ≡ form_place form }
+{
+    match form {
+        NodeType::N4 => 0,
+        NodeType::N16 => 1,
+        NodeType::N48 => 2,
+        NodeType::N256 => 3,
+    }
+}
+
+/// How many nodes of each form a level has, and how many entries are in them: 64 bytes.
+///
+/// The forms stand in the order of their sizes. An entry is a payload or a node below.
+#[derive(Clone, Copy, Debug, Serialize)]
+pub struct LevelStats {
+    pub nodes: [u64; 4],
+    pub entries: [u64; 4],
+}
+
+impl LevelStats {
+    // A level without nodes.
+    fn empty() -> Self
+        ensures { result ≡ empty_level }
+    {
+        LevelStats {
+            nodes: [0; 4],
+            entries: [0; 4],
+        }
+    }
+
+    // Counts one node of the form, with its entries.
+    fn add(&mut self, form: NodeType, entries: u64)
+        ensures { self.new ≡ with_node form entries self.old }
+    {
+        let place = place(form);
+        self.nodes[place] = self.nodes[place].saturating_add(1);
+        self.entries[place] = self.entries[place].saturating_add(entries);
+    }
+
+    // How many nodes of the form there are.
+    pub(crate) fn nodes_of(&self, form: NodeType) -> u64
+        ensures { result ≡ nodes_of form self.now }
+    {
+        self.nodes[place(form)]
+    }
+
+    // How many entries are in the nodes of the form.
+    pub(crate) fn entries_of(&self, form: NodeType) -> u64
+        ensures { result ≡ entries_of form self.now }
+    {
+        self.entries[place(form)]
+    }
+}
+
+/// A list of levels, which contracts see as a list. It is made from a `Vec` and gives it back without taking memory.
+#[derive(Drop)]
+pub struct Levels {
+    items: Vec<LevelStats>,
+}
+
+impl Model for Levels {
+    ghost use Rattle.std.specs.Prelude.{List};
+    ghost use Rattle.congee_stats.specs.declared.levels.LevelStats.{LevelStats};
+
+    ghost Value = { List LevelStats };
+
+    ghost view = { λ a. a.items.items };
+}
+
+impl Levels {
+    /// These levels.
+    pub fn from_vec(levels: Vec<LevelStats>) -> Self
+        ensures { result ≡ levels.items }
+    {
+        Levels { items: levels }
+    }
+
+    /// The levels as a `Vec`.
+    pub fn into_vec(self) -> Vec<LevelStats>
+        ensures { result.items ≡ self }
+    {
+        let Levels { items } = self;
+        items
+    }
+
+    /// The levels, the root's first.
+    pub fn as_slice(&self) -> &[LevelStats]
+        ensures { result.now ≡ self.now }
+    {
+        self.items.as_slice()
+    }
+
+    // Adds levels without nodes until this one is there.
+    pub(crate) fn reach(&mut self, level: usize) -> Result<(), OOMError>
+        ensures ok { OnOk result (self.new ≡ self.old ++ replicate (level + 1 - length self.old) empty_level) }
+        ensures err { OnErr result (self.new ≡ self.old) }
+    {
+        if level < self.items.len() {
+            return Ok(());
+        }
+        let Some(wanted) = level.checked_add(1) else {
+            return Err(OOMError::new());
+        };
+        self.items.resize(wanted, LevelStats::empty())?;
+        Ok(())
+    }
+
+    // Counts one node on a level of the list.
+    pub(crate) fn add_at(&mut self, level: usize, form: NodeType, entries: u64)
+        requires { level < length self.old }
+        ensures { self.new ≡ slice_set self.old level (with_node form entries (counts_at level self.old)) }
+    {
+        self.items[level].add(form, entries);
+    }
+}
+
+impl fmt::Debug for Levels {
+    fn fmt<W: fmt::Write>(&self, f: &mut fmt::Formatter<W>) -> fmt::Result {
+        self.items.fmt(f)
+    }
+}
+
+impl Described for Levels {}
+
+impl Serialize for Levels {
+    fn serialize<S: Serializer>(&self, out: &mut S) -> Result<(), S::Error> {
+        self.items.serialize(out)
+    }
+}

@@ -1,0 +1,5 @@
+//! What calls of the protocol meet by: the lock word of a node, and the pins that keep retired nodes.
+#![tactic(auto)]
+
+pub mod epoch;
+pub mod lock;

@@ -1,7 +1,0 @@
-use Rattle.std.proofs.Common.{arith, ap}
-use Rattle.congee_nodes.specs.declared.base_node.NodeType.TheVariants.{N4}
-use Rattle.congee_tree.specs.Supply.{count}
-use Rattle.congee_tree.proofs.insertion.ready_to_split.Goals as goal
-
-pub leaf-requires-clause-room : goal.leaf-requires-clause-room
-leaf-requires-clause-room g c = omega (arith, ap (count N4) c.in_ok-upper.ensures.ok.forms, c.requires.few N4)

@@ -1,9 +1,0 @@
-use Rattle.std.proofs.Common.{◌≡◌, ◌*◌, ◌-◌}
-use Rattle.congee_nodes.specs.Charge.{add_charge, Covers}
-use Rattle.congee_nodes.specs.Form.{stated_size}
-use Rattle.congee_tree.proofs.supply.give_back_all.Given as goal
-
-abbrev pub invariant-loop : goal.invariant-loop
-invariant-loop g l =
-    Covers (g.A.Allocator.charge l.budget) ((l.nodes - l.counter) * stated_size l.form)
-    × (g.A.Allocator.charge l.fn.budget ≡ add_charge (g.A.Allocator.charge l.budget) (l.counter * stated_size l.form))

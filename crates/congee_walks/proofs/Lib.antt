@@ -1,0 +1,5 @@
+pub mod FillLaws
+pub mod ScanLaws
+pub mod VisitedLaws
+pub mod WalkLaws
+pub mod WindowLaws

@@ -1,0 +1,6 @@
+//! The calls that go through many nodes of a tree in a table, and change none.
+#![tactic(auto)]
+
+pub mod range_scan;
+pub mod statistics;
+pub mod walk;
