@@ -1,0 +1,10 @@
+pub mod Steps
+pub mod Written
+pub mod Standing
+pub mod Short
+pub mod Same
+pub mod Lines
+pub mod Obsolete
+pub mod Leaves
+pub mod Seated
+pub mod Lasting

@@ -1,0 +1,10 @@
+pub mod Events
+pub mod Pieces
+pub mod Inserting
+pub mod Growing
+pub mod Splitting
+pub mod Removing
+pub mod Changing
+pub mod Answering
+pub mod Reclaimed
+pub mod Exchanges
