@@ -1,4 +1,4 @@
-//! The public relation of the machine: what events do to what a reader sees, and what a run of a schedule is.
+//! What the events of the protocol do to what a reader sees of a machine, and what a run of a schedule is.
 #![tactic(auto)]
 
 pub mod laws;

@@ -1,5 +1,5 @@
 -- Each kind of event as a step over a concrete state: what is to be shown of it is found by computing.
-use Rattle.std.proofs.Common.{◌≡◌, ◌≢◌, ℕ, ◌+◌, Bool, true, false, IsTrue, List, [], ◌∷◌, length, Option, Some, None, IsSome, refl, sym, subst, inl, inr, arith, ◌^◌, ◌-◌}
+use Rattle.std.proofs.Common.{◌≡◌, ◌≢◌, ℕ, Bool, true, false, IsTrue, List, [], ◌∷◌, length, Option, Some, None, refl, subst, inl, inr}
 use Rattle.congee_base.specs.Form.{Fits}
 use Rattle.congee_map.specs.Map.{lookup, put, without}
 use Rattle.congee_node_table.specs.TableNode.{TableNode, MayHave}
@@ -7,16 +7,15 @@ use Rattle.congee_node_table.specs.declared.child.Child.{Child}
 use Rattle.congee_protocol.specs.Kinds.{IsStep, IsAtWork, GivesBack, SharesAnswer, refused, refusal, Finds, Settles, MayEnd, begun, report_of, with_word, with_made, with_retired, not_locked, unlocked}
 use Rattle.congee_protocol.specs.Lists.{is_in, off, without_all}
 use Rattle.congee_protocol.specs.Local.{SeesPayloads}
-use Rattle.congee_sync.specs.Lock.{IsFree, MayUpgrade, version, last_version}
+use Rattle.congee_sync.specs.Lock.{IsFree, version, last_version}
 use Rattle.congee_protocol.specs.Reading.{IsReading}
 use Rattle.congee_protocol.specs.Runs.{bare_root}
 use Rattle.congee_protocol.specs.State.{State, Flight, Node, with_call, back, settled}
-use Rattle.congee_protocol.specs.Writing.{IsNew, IsOwn, TakesOut, changed, entry_below, written}
+use Rattle.congee_protocol.specs.Writing.{IsNew, IsOwn, TakesOut, changed, entry_below, emptied, linked}
 use Rattle.congee_protocol.specs.declared.types.Asking.TheVariants.{Wants, Given}
-use Rattle.congee_protocol.specs.declared.types.Env.{Env}
 use Rattle.congee_protocol.specs.declared.types.Kind.TheVariants as kind
 use Rattle.congee_protocol.specs.declared.types.Op.TheVariants.{Get}
-use Rattle.congee_protocol.specs.declared.types.Outcome.TheVariants.{Going, Decided, Refused, Done}
+use Rattle.congee_protocol.specs.declared.types.Outcome.TheVariants.{Going, Refused, Done}
 use Rattle.congee_protocol.specs.declared.types.Outcome.{Outcome}
 use Rattle.congee_protocol.specs.declared.types.Progress.TheVariants as progress
 use Rattle.congee_protocol.specs.declared.types.Seen.{Seen}
@@ -66,7 +65,7 @@ module _ {M : Type 0} where
 
   abbrev pub after_write : State M → ℕ → Option (Child M) → Option (ℕ × Node M) → ℕ → State M
   after_write s slot child gone entries =
-      with_call (record (written s (call_in s) slot (node_in s slot) child gone) { entries = entries }) 5 (settled progress.Decided (record (call_in s) { made = [] }))
+      with_call (record s { nodes = emptied gone (linked (call_in s).made (put s.nodes slot (changed (call_in s) (node_in s slot) child))); entries = entries }) 5 (settled progress.Decided (record (call_in s) { made = [] }))
 
   abbrev pub after_unlock : State M → ℕ → State M
   after_unlock s slot = with_call (with_word s slot (node_in s slot) 2) 5 (unlocked (call_in s).progress (record (call_in s) { held = off slot (call_in s).held }))
@@ -108,11 +107,8 @@ module _ {M : Type 0} where
       event = (
         work,
         record {
-          slot = slot;
-          node = node_in s slot;
-          word = (node_in s slot).word;
+          knows = record { slot = slot; node = node_in s slot; word = (node_in s slot).word; here = here; word_is = known };
           whole = true;
-          knows = record { here = here; word_is = known };
           is = refl;
           whole_is = ((λ t. refl), (λ t. refl));
           sees = (seen, reading, record { next = record (call_in s) { seen = Some seen }; is = refl; spots = λ p w e. e; after = refl });
@@ -130,11 +126,8 @@ module _ {M : Type 0} where
       event = (
         work,
         record {
-          slot = slot;
-          node = node_in s slot;
-          word = (node_in s slot).word;
+          knows = record { slot = slot; node = node_in s slot; word = (node_in s slot).word; here = here; word_is = known };
           planned = next;
-          knows = record { here = here; word_is = known };
           is = refl;
           ok = ((λ t. refl), (λ t. refl));
           passes = λ t. finds;
@@ -153,10 +146,7 @@ module _ {M : Type 0} where
       event = (
         work,
         record {
-          slot = slot;
-          node = node_in s slot;
-          word = (node_in s slot).word;
-          knows = record { here = here; word_is = known };
+          knows = record { slot = slot; node = node_in s slot; word = (node_in s slot).word; here = here; word_is = known };
           says = (refl, refl);
           ok = ((λ t. (record { same = refl; free = free; room = room }, refl)), (λ t. refl));
           locks = λ t. record { next = record (call_in s) { held = slot ∷ (call_in s).held }; is = refl; spots = λ p w e. e; after = refl };
@@ -175,10 +165,7 @@ module _ {M : Type 0} where
       event = (
         work,
         record {
-          slot = slot;
-          node = node_in s slot;
-          word = (node_in s slot).word;
-          knows = record { here = here; word_is = known };
+          knows = record { slot = slot; node = node_in s slot; word = (node_in s slot).word; here = here; word_is = known };
           says = (refl, refl);
           ok = ((λ t. absurd (false_true t)), (λ t. absurd (true_false t.1)));
           locks = λ t. absurd (false_true t);
@@ -275,12 +262,10 @@ module _ {M : Type 0} where
       event = (
         work,
         record {
-          slot = slot;
-          before = node_in s slot;
+          held = record { slot = slot; node = node_in s slot; mine = mine; here = here };
           child = child;
           gone = gone;
           entries = entries;
-          held = record { mine = mine; here = here };
           is = refl;
           own = own;
           shape = λ c e. shape_of _ child may c e;
@@ -298,9 +283,7 @@ module _ {M : Type 0} where
       call = call_in s;
       in_flight = in_flight;
       event = record {
-        slot = slot;
-        node = node_in s slot;
-        held = record { mine = mine; here = here };
+        held = record { slot = slot; node = node_in s slot; mine = mine; here = here };
         says = (refl, refl);
         becomes = record { next = unlocked (call_in s).progress (record (call_in s) { held = off slot (call_in s).held }); is = refl; spots = λ p w e. e; after = refl };
       };
@@ -312,9 +295,7 @@ module _ {M : Type 0} where
       call = call_in s;
       in_flight = in_flight;
       event = record {
-        slot = slot;
-        node = node_in s slot;
-        held = record { mine = mine; here = here };
+        held = record { slot = slot; node = node_in s slot; mine = mine; here = here };
         says = (refl, refl);
         becomes = record { next = record (call_in s) { held = off slot (call_in s).held }; is = refl; spots = λ p w e. e; after = refl };
       };

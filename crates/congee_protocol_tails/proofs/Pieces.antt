@@ -1,5 +1,5 @@
 -- Small facts that many events need.
-use Rattle.std.proofs.Common.{◌≡◌, ◌≢◌, ℕ, ◌+◌, ◌<◌, ◌≤◌, Bool, true, false, IsTrue, ◌↔◌, List, [], ◌∷◌, length, Option, Some, None, ◌⊎◌, inl, inr, refl, sym, subst, ap, ◌∙◌, if◌then◌else◌, ◌^◌, ◌-◌, arith}
+use Rattle.std.proofs.Common.{◌≡◌, ℕ, ◌+◌, ◌≤◌, true, false, IsTrue, ◌↔◌, List, [], ◌∷◌, length, Option, Some, None, ◌⊎◌, inl, inr, refl, sym, subst, ap, ◌∙◌, if◌then◌else◌, ◌^◌, ◌-◌, arith}
 use Rattle.std.proofs.lemmas.Bool.Decides.{eqb_tells}
 use Rattle.std.proofs.lemmas.Bool.{cases_eq}
 use Rattle.congee_map.proofs.MapLaws.{lookup-put_same, lookup-put_other}
@@ -7,7 +7,7 @@ use Rattle.congee_node_table.specs.Charge.{add_charge}
 use Rattle.congee_base.specs.Form.{Fits}
 use Rattle.congee_node_table.specs.Key.{Begins}
 use Rattle.congee_map.specs.Map.{lookup, put, Rises}
-use Rattle.congee_node_table.specs.TableNode.{TableNode, MayHave}
+use Rattle.congee_node_table.specs.TableNode.{MayHave}
 use Rattle.congee_base.specs.declared.base_node.NodeType.{NodeType}
 use Rattle.congee_node_table.specs.declared.child.Child.{Child}
 use Rattle.congee_protocol.specs.Calls.{bytes_of}
@@ -88,15 +88,16 @@ module _ {M : Type 0} where
     way = way;
     ascending = ascending;
     fits = fits;
-    shape = λ b c e.
-        elim (cases_eq b byte) [
-          | inl same ↦ subst (λ (x : Child M). MayHave prefix x) (entered b c e same) may
-          | inr far ↦ (of_one _ old b c all (sym (lookup-put_other old byte child b far) ∙ e)).0
-        ];
     entries = λ b c e.
         elim (cases_eq b byte) [
-          | inl same ↦ inl (same ∙ at, subst (λ (x : Child M). IsOwn call (Some x)) (entered b c e same) own)
-          | inr far ↦ inr (of_one _ old b c all (sym (lookup-put_other old byte child b far) ∙ e)).1
+          | inl same ↦ (
+            subst (λ (x : Child M). MayHave prefix x) (entered b c e same) may,
+            inl (same ∙ at, subst (λ (x : Child M). IsOwn call (Some x)) (entered b c e same) own),
+          )
+          | inr far ↦ (
+            (of_one _ old b c all (sym (lookup-put_other old byte child b far) ∙ e)).0,
+            inr (of_one _ old b c all (sym (lookup-put_other old byte child b far) ∙ e)).1,
+          )
         ];
   }
     where

@@ -2,7 +2,7 @@
 use Rattle.std.proofs.Common.{◌≡◌, ℕ, true, Option, Some, None, refl, subst, sym}
 use Rattle.congee_node_table.specs.Charge.{add_charge}
 use Rattle.congee_protocol.specs.Kinds.{IsReclaim, report_of}
-use Rattle.congee_protocol.specs.State.{State, Flight}
+use Rattle.congee_protocol.specs.State.{State}
 use Rattle.congee_protocol.specs.declared.types.Kind.TheVariants as kind
 use Rattle.congee_protocol_tails.specs.Removals.{emptied_tree, reclaimed_tree}
 

@@ -1,5 +1,5 @@
 -- Removals.
-use Rattle.std.proofs.Common.{◌≡◌, ◌≢◌, ℕ, ◌+◌, ◌<◌, ◌≤◌, Bool, false, [], ◌∷◌, Option, Some, None, refl, inl, ◌^◌, ◌-◌}
+use Rattle.std.proofs.Common.{ℕ, Bool, false, [], ◌∷◌, Option, Some, None, refl, inl}
 use Rattle.std.proofs.lemmas.Bool.{ltb-false}
 use Rattle.congee_base.specs.declared.base_node.NodeType.TheVariants.{N4}
 use Rattle.congee_node_table.specs.declared.child.Child.TheVariants.{Payload, Node as node}
@@ -15,63 +15,210 @@ use Rattle.congee_protocol_tails.specs.Removals as course
 
 module _ {M : Type 0} (Granted : Type 0) (same : M → M → Bool) (v w : M) (charge : Option ℕ) where
   pub one_of_several : IsCourse Granted same (with_leaf 0 ((1, Payload v) ∷ (2, Payload w) ∷ []) 2 charge) (Remove 1) (course.one_of_several v) (with_leaf 4 ((2, Payload w) ∷ []) 1 charge)
-  one_of_several =
-      (_, record { is = refl; free = refl; after = refl },
-      (_, takes Granted same 0 refl refl (inl refl) refl (λ e. refl) refl,
-      (_, reads Granted same 0 (record { child = Some (node 1); count = 1; full = false }) refl refl (inl refl) refl (record { child = refl; count = refl; full = with_room tt }),
-      (_, checks Granted same 0 _ Going refl refl (inl refl) refl refl,
-      (_, takes Granted same 1 refl refl (inl refl) refl (λ e. below_root 0 e) refl,
-      (_, checks Granted same 0 _ Going refl refl (inl refl) refl refl,
-      (_, reads Granted same 1 (record { child = Some (Payload v); count = 2; full = false }) refl refl (inl refl) refl (record { child = λ g. refl; count = refl; full = with_room (ltb-false _ _ refl) }),
-      (_, checks Granted same 1 _ Going refl refl (inl refl) refl refl,
-      (_, upgrades Granted same 1 refl refl (inl refl) refl refl not_last_0,
-      (_, writes Granted same 1 None None 1 (Decided (Old (Some v))) refl (inl refl) refl refl refl tt (ltb-false _ _ refl) refl (record { op = Remove 1; op_is = refl; undecided = refl; point = tt; asked = λ g. refl; reply = λ g. refl }),
-      (_, unlocks Granted same 1 refl refl refl,
-      (_, ends Granted same refl (inl not_open) refl refl,
-      refl))))))))))))
+  one_of_several = (
+    _,
+    record { is = refl; free = refl; after = refl },
+    (
+      _,
+      takes Granted same 0 refl refl (inl refl) refl (λ e. refl) refl,
+      (
+        _,
+        reads Granted same 0 (record { child = Some (node 1); count = 1; full = false }) refl refl (inl refl) refl (record { child = refl; count = refl; full = with_room tt }),
+        (
+          _,
+          checks Granted same 0 _ Going refl refl (inl refl) refl refl,
+          (
+            _,
+            takes Granted same 1 refl refl (inl refl) refl (λ e. below_root 0 e) refl,
+            (
+              _,
+              checks Granted same 0 _ Going refl refl (inl refl) refl refl,
+              (
+                _,
+                reads Granted same 1 (record { child = Some (Payload v); count = 2; full = false }) refl refl (inl refl) refl (record { child = λ g. refl; count = refl; full = with_room (ltb-false _ _ refl) }),
+                (
+                  _,
+                  checks Granted same 1 _ Going refl refl (inl refl) refl refl,
+                  (
+                    _,
+                    upgrades Granted same 1 refl refl (inl refl) refl refl not_last_0,
+                    (
+                      _,
+                      writes Granted same 1 None None 1 (Decided (Old (Some v))) refl (inl refl) refl refl refl tt (ltb-false _ _ refl) refl (record { op = Remove 1; op_is = refl; undecided = refl; point = tt; asked = λ g. refl; reply = λ g. refl }),
+                      (
+                        _,
+                        unlocks Granted same 1 refl refl refl,
+                        (
+                          _,
+                          ends Granted same refl (inl not_open) refl refl,
+                          refl,
+                        ),
+                      ),
+                    ),
+                  ),
+                ),
+              ),
+            ),
+          ),
+        ),
+      ),
+    ),
+  )
 
   pub last_one : IsCourse Granted same (with_leaf 0 ((1, Payload v) ∷ []) 1 charge) (Remove 1) (course.last_one v) (emptied_tree 8 3 charge)
-  last_one =
-      (_, record { is = refl; free = refl; after = refl },
-      (_, takes Granted same 0 refl refl (inl refl) refl (λ e. refl) refl,
-      (_, reads Granted same 0 (record { child = Some (node 1); count = 1; full = false }) refl refl (inl refl) refl (record { child = refl; count = refl; full = with_room tt }),
-      (_, checks Granted same 0 _ Going refl refl (inl refl) refl refl,
-      (_, takes Granted same 1 refl refl (inl refl) refl (λ e. below_root 0 e) refl,
-      (_, checks Granted same 0 _ Going refl refl (inl refl) refl refl,
-      (_, reads Granted same 1 (record { child = Some (Payload v); count = 1; full = false }) refl refl (inl refl) refl (record { child = λ g. refl; count = refl; full = with_room (ltb-false _ _ refl) }),
-      (_, checks Granted same 1 _ Going refl refl (inl refl) refl refl,
-      (_, upgrades Granted same 0 refl refl (inl refl) refl refl not_last_1,
-      (_, upgrades Granted same 1 refl refl (inl refl) refl refl not_last_0,
-      (_, writes Granted same 0 None (Some (1, node_at 2 N4 seven ((1, Payload v) ∷ []))) 0 (Decided (Old (Some v))) refl (inl refl) refl refl refl tt tt (_, record { mine = refl; here = refl }, refl) (record { op = Remove 1; op_is = refl; undecided = refl; point = tt; asked = λ g. refl; reply = λ g. refl }),
-      (_, retires Granted same 1 refl refl refl,
-      (_, unlocks Granted same 0 refl refl refl,
-      (_, ends Granted same refl (inl not_open) refl refl,
-      refl))))))))))))))
+  last_one = (
+    _,
+    record { is = refl; free = refl; after = refl },
+    (
+      _,
+      takes Granted same 0 refl refl (inl refl) refl (λ e. refl) refl,
+      (
+        _,
+        reads Granted same 0 (record { child = Some (node 1); count = 1; full = false }) refl refl (inl refl) refl (record { child = refl; count = refl; full = with_room tt }),
+        (
+          _,
+          checks Granted same 0 _ Going refl refl (inl refl) refl refl,
+          (
+            _,
+            takes Granted same 1 refl refl (inl refl) refl (λ e. below_root 0 e) refl,
+            (
+              _,
+              checks Granted same 0 _ Going refl refl (inl refl) refl refl,
+              (
+                _,
+                reads Granted same 1 (record { child = Some (Payload v); count = 1; full = false }) refl refl (inl refl) refl (record { child = λ g. refl; count = refl; full = with_room (ltb-false _ _ refl) }),
+                (
+                  _,
+                  checks Granted same 1 _ Going refl refl (inl refl) refl refl,
+                  (
+                    _,
+                    upgrades Granted same 0 refl refl (inl refl) refl refl not_last_1,
+                    (
+                      _,
+                      upgrades Granted same 1 refl refl (inl refl) refl refl not_last_0,
+                      (
+                        _,
+                        writes Granted same 0 None (Some (1, node_at 2 N4 seven ((1, Payload v) ∷ []))) 0 (Decided (Old (Some v))) refl (inl refl) refl refl refl tt tt (record { slot = 1; node = _; mine = refl; here = refl }, refl, refl) (record { op = Remove 1; op_is = refl; undecided = refl; point = tt; asked = λ g. refl; reply = λ g. refl }),
+                        (
+                          _,
+                          retires Granted same 1 refl refl refl,
+                          (
+                            _,
+                            unlocks Granted same 0 refl refl refl,
+                            (
+                              _,
+                              ends Granted same refl (inl not_open) refl refl,
+                              refl,
+                            ),
+                          ),
+                        ),
+                      ),
+                    ),
+                  ),
+                ),
+              ),
+            ),
+          ),
+        ),
+      ),
+    ),
+  )
 
   pub second_upgrade_failed : IsCourse Granted same (with_leaf 0 ((1, Payload v) ∷ []) 1 charge) (Remove 1) (course.second_upgrade_failed v) (emptied_tree 12 3 charge)
-  second_upgrade_failed =
-      (_, record { is = refl; free = refl; after = refl },
-      (_, takes Granted same 0 refl refl (inl refl) refl (λ e. refl) refl,
-      (_, reads Granted same 0 (record { child = Some (node 1); count = 1; full = false }) refl refl (inl refl) refl (record { child = refl; count = refl; full = with_room tt }),
-      (_, checks Granted same 0 _ Going refl refl (inl refl) refl refl,
-      (_, takes Granted same 1 refl refl (inl refl) refl (λ e. below_root 0 e) refl,
-      (_, checks Granted same 0 _ Going refl refl (inl refl) refl refl,
-      (_, reads Granted same 1 (record { child = Some (Payload v); count = 1; full = false }) refl refl (inl refl) refl (record { child = λ g. refl; count = refl; full = with_room (ltb-false _ _ refl) }),
-      (_, checks Granted same 1 _ Going refl refl (inl refl) refl refl,
-      (_, upgrades Granted same 0 refl refl (inl refl) refl refl not_last_1,
-      (_, upgrade_fails Granted same 1 refl refl (inl refl) refl,
-      (_, unlocks Granted same 0 refl refl refl,
-      (_, takes Granted same 0 refl refl (inl refl) refl (λ e. refl) refl,
-      (_, reads Granted same 0 (record { child = Some (node 1); count = 1; full = false }) refl refl (inl refl) refl (record { child = refl; count = refl; full = with_room tt }),
-      (_, checks Granted same 0 _ Going refl refl (inl refl) refl refl,
-      (_, takes Granted same 1 refl refl (inl refl) refl (λ e. below_root 0 e) refl,
-      (_, checks Granted same 0 _ Going refl refl (inl refl) refl refl,
-      (_, reads Granted same 1 (record { child = Some (Payload v); count = 1; full = false }) refl refl (inl refl) refl (record { child = λ g. refl; count = refl; full = with_room (ltb-false _ _ refl) }),
-      (_, checks Granted same 1 _ Going refl refl (inl refl) refl refl,
-      (_, upgrades Granted same 0 refl refl (inl refl) refl refl not_last_2,
-      (_, upgrades Granted same 1 refl refl (inl refl) refl refl not_last_0,
-      (_, writes Granted same 0 None (Some (1, node_at 2 N4 seven ((1, Payload v) ∷ []))) 0 (Decided (Old (Some v))) refl (inl refl) refl refl refl tt tt (_, record { mine = refl; here = refl }, refl) (record { op = Remove 1; op_is = refl; undecided = refl; point = tt; asked = λ g. refl; reply = λ g. refl }),
-      (_, retires Granted same 1 refl refl refl,
-      (_, unlocks Granted same 0 refl refl refl,
-      (_, ends Granted same refl (inl not_open) refl refl,
-      refl))))))))))))))))))))))))
+  second_upgrade_failed = (
+    _,
+    record { is = refl; free = refl; after = refl },
+    (
+      _,
+      takes Granted same 0 refl refl (inl refl) refl (λ e. refl) refl,
+      (
+        _,
+        reads Granted same 0 (record { child = Some (node 1); count = 1; full = false }) refl refl (inl refl) refl (record { child = refl; count = refl; full = with_room tt }),
+        (
+          _,
+          checks Granted same 0 _ Going refl refl (inl refl) refl refl,
+          (
+            _,
+            takes Granted same 1 refl refl (inl refl) refl (λ e. below_root 0 e) refl,
+            (
+              _,
+              checks Granted same 0 _ Going refl refl (inl refl) refl refl,
+              (
+                _,
+                reads Granted same 1 (record { child = Some (Payload v); count = 1; full = false }) refl refl (inl refl) refl (record { child = λ g. refl; count = refl; full = with_room (ltb-false _ _ refl) }),
+                (
+                  _,
+                  checks Granted same 1 _ Going refl refl (inl refl) refl refl,
+                  (
+                    _,
+                    upgrades Granted same 0 refl refl (inl refl) refl refl not_last_1,
+                    (
+                      _,
+                      upgrade_fails Granted same 1 refl refl (inl refl) refl,
+                      (
+                        _,
+                        unlocks Granted same 0 refl refl refl,
+                        (
+                          _,
+                          takes Granted same 0 refl refl (inl refl) refl (λ e. refl) refl,
+                          (
+                            _,
+                            reads Granted same 0 (record { child = Some (node 1); count = 1; full = false }) refl refl (inl refl) refl (record { child = refl; count = refl; full = with_room tt }),
+                            (
+                              _,
+                              checks Granted same 0 _ Going refl refl (inl refl) refl refl,
+                              (
+                                _,
+                                takes Granted same 1 refl refl (inl refl) refl (λ e. below_root 0 e) refl,
+                                (
+                                  _,
+                                  checks Granted same 0 _ Going refl refl (inl refl) refl refl,
+                                  (
+                                    _,
+                                    reads Granted same 1 (record { child = Some (Payload v); count = 1; full = false }) refl refl (inl refl) refl (record { child = λ g. refl; count = refl; full = with_room (ltb-false _ _ refl) }),
+                                    (
+                                      _,
+                                      checks Granted same 1 _ Going refl refl (inl refl) refl refl,
+                                      (
+                                        _,
+                                        upgrades Granted same 0 refl refl (inl refl) refl refl not_last_2,
+                                        (
+                                          _,
+                                          upgrades Granted same 1 refl refl (inl refl) refl refl not_last_0,
+                                          (
+                                            _,
+                                            writes Granted same 0 None (Some (1, node_at 2 N4 seven ((1, Payload v) ∷ []))) 0 (Decided (Old (Some v))) refl (inl refl) refl refl refl tt tt (record { slot = 1; node = _; mine = refl; here = refl }, refl, refl) (record { op = Remove 1; op_is = refl; undecided = refl; point = tt; asked = λ g. refl; reply = λ g. refl }),
+                                            (
+                                              _,
+                                              retires Granted same 1 refl refl refl,
+                                              (
+                                                _,
+                                                unlocks Granted same 0 refl refl refl,
+                                                (
+                                                  _,
+                                                  ends Granted same refl (inl not_open) refl refl,
+                                                  refl,
+                                                ),
+                                              ),
+                                            ),
+                                          ),
+                                        ),
+                                      ),
+                                    ),
+                                  ),
+                                ),
+                              ),
+                            ),
+                          ),
+                        ),
+                      ),
+                    ),
+                  ),
+                ),
+              ),
+            ),
+          ),
+        ),
+      ),
+    ),
+  )

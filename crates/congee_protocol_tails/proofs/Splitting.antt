@@ -1,5 +1,5 @@
 -- Insertions where another prefix stands.
-use Rattle.std.proofs.Common.{◌≡◌, ◌≢◌, ℕ, ◌+◌, ◌<◌, ◌≤◌, Bool, false, [], ◌∷◌, Option, Some, None, refl, inl, inr, ◌^◌, ◌-◌}
+use Rattle.std.proofs.Common.{ℕ, Bool, false, [], ◌∷◌, Option, Some, None, refl, inl, inr}
 use Rattle.std.proofs.lemmas.Bool.{ltb-true, ltb-false}
 use Rattle.congee_map.specs.Map.{put}
 use Rattle.congee_base.specs.declared.base_node.NodeType.TheVariants.{N4}
@@ -16,36 +16,115 @@ use Rattle.congee_protocol_tails.specs.Splits as course
 
 module _ {M : Type 0} (Granted : Type 0) (same : M → M → Bool) (v w : M) (charge : Option ℕ) where
   pub split : IsCourse Granted same (with_leaf 0 ((1, Payload v) ∷ []) 1 charge) (Insert 256 w) course.split (with_middle v w charge)
-  split =
-      (_, record { is = refl; free = refl; after = refl },
-      (_, takes Granted same 0 refl refl (inl refl) refl (λ e. refl) refl,
-      (_, reads Granted same 0 (record { child = Some (node 1); count = 1; full = false }) refl refl (inl refl) refl (record { child = refl; count = refl; full = with_room tt }),
-      (_, checks Granted same 0 _ Going refl refl (inl refl) refl refl,
-      (_, takes Granted same 1 refl refl (inl refl) refl (λ e. below_root 0 e) refl,
-      (_, checks Granted same 0 _ Going refl refl (inl refl) refl refl,
-      (_, upgrades Granted same 0 refl refl (inl refl) refl refl not_last_1,
-      (_, upgrades Granted same 1 refl refl (inl refl) refl refl not_last_0,
-      (_, makes Granted same 2 (record { form = N4; prefix = 0 ∷ 0 ∷ 0 ∷ 0 ∷ 0 ∷ 0 ∷ 1 ∷ []; children = put ([]) 0 (Payload w) }) refl (inl refl) refl (cons_nil _ _) (new_with ([]) 0 (Payload w) (record { holds = refl }) refl refl refl (ltb-false _ _ refl, ltb-true _ _ refl, tt) (ltb-false _ _ refl) tt),
-      (_, makes Granted same 3 (record { form = N4; prefix = six; children = put ((0, node 1) ∷ []) 1 (node 2) }) refl (inl refl) refl (cons_nil _ _) (new_with ((0, node 1) ∷ []) 1 (node 2) (record { holds = refl }) refl refl (ltb-true _ _ refl) (ltb-false _ _ refl, ltb-true _ _ refl, (ltb-false _ _ refl, ltb-true _ _ refl, tt)) (ltb-false _ _ refl) (((ltb-true _ _ refl), inr (record { slot = 1; moved = _; held = record { mine = refl; here = refl }; is = refl; begins = record { holds = refl } })), tt)),
-      (_, writes Granted same 0 (Some (node 3)) None 2 (Decided (Old None)) refl (inl refl) refl refl refl (ltb-true _ _ refl) tt refl (record { op = Insert 256 w; op_is = refl; undecided = refl; point = tt; asked = λ g. refl; reply = λ g. refl }),
-      (_, unlocks Granted same 1 refl refl refl,
-      (_, unlocks Granted same 0 refl refl refl,
-      (_, ends Granted same refl (inl not_open) refl refl,
-      refl))))))))))))))
+  split = (
+    _,
+    record { is = refl; free = refl; after = refl },
+    (
+      _,
+      takes Granted same 0 refl refl (inl refl) refl (λ e. refl) refl,
+      (
+        _,
+        reads Granted same 0 (record { child = Some (node 1); count = 1; full = false }) refl refl (inl refl) refl (record { child = refl; count = refl; full = with_room tt }),
+        (
+          _,
+          checks Granted same 0 _ Going refl refl (inl refl) refl refl,
+          (
+            _,
+            takes Granted same 1 refl refl (inl refl) refl (λ e. below_root 0 e) refl,
+            (
+              _,
+              checks Granted same 0 _ Going refl refl (inl refl) refl refl,
+              (
+                _,
+                upgrades Granted same 0 refl refl (inl refl) refl refl not_last_1,
+                (
+                  _,
+                  upgrades Granted same 1 refl refl (inl refl) refl refl not_last_0,
+                  (
+                    _,
+                    makes Granted same 2 (record { form = N4; prefix = 0 ∷ 0 ∷ 0 ∷ 0 ∷ 0 ∷ 0 ∷ 1 ∷ []; children = put ([]) 0 (Payload w) }) refl (inl refl) refl (cons_nil _ _) (new_with ([]) 0 (Payload w) (record { holds = refl }) refl refl refl (ltb-false _ _ refl, ltb-true _ _ refl, tt) (ltb-false _ _ refl) tt),
+                    (
+                      _,
+                      makes Granted same 3 (record { form = N4; prefix = six; children = put ((0, node 1) ∷ []) 1 (node 2) }) refl (inl refl) refl (cons_nil _ _) (new_with ((0, node 1) ∷ []) 1 (node 2) (record { holds = refl }) refl refl (ltb-true _ _ refl) (ltb-false _ _ refl, ltb-true _ _ refl, (ltb-false _ _ refl, ltb-true _ _ refl, tt)) (ltb-false _ _ refl) (((ltb-true _ _ refl), inr (record { moved = record { slot = 1; node = _; mine = refl; here = refl }; is = refl; begins = record { holds = refl } })), tt)),
+                      (
+                        _,
+                        writes Granted same 0 (Some (node 3)) None 2 (Decided (Old None)) refl (inl refl) refl refl refl (ltb-true _ _ refl) tt refl (record { op = Insert 256 w; op_is = refl; undecided = refl; point = tt; asked = λ g. refl; reply = λ g. refl }),
+                        (
+                          _,
+                          unlocks Granted same 1 refl refl refl,
+                          (
+                            _,
+                            unlocks Granted same 0 refl refl refl,
+                            (
+                              _,
+                              ends Granted same refl (inl not_open) refl refl,
+                              refl,
+                            ),
+                          ),
+                        ),
+                      ),
+                    ),
+                  ),
+                ),
+              ),
+            ),
+          ),
+        ),
+      ),
+    ),
+  )
 
   pub second_make_refused : IsCourse Granted same (with_leaf 0 ((1, Payload v) ∷ []) 1 charge) (Insert 256 w) course.second_make_refused (as_before v charge)
-  second_make_refused =
-      (_, record { is = refl; free = refl; after = refl },
-      (_, takes Granted same 0 refl refl (inl refl) refl (λ e. refl) refl,
-      (_, reads Granted same 0 (record { child = Some (node 1); count = 1; full = false }) refl refl (inl refl) refl (record { child = refl; count = refl; full = with_room tt }),
-      (_, checks Granted same 0 _ Going refl refl (inl refl) refl refl,
-      (_, takes Granted same 1 refl refl (inl refl) refl (λ e. below_root 0 e) refl,
-      (_, checks Granted same 0 _ Going refl refl (inl refl) refl refl,
-      (_, upgrades Granted same 0 refl refl (inl refl) refl refl not_last_1,
-      (_, upgrades Granted same 1 refl refl (inl refl) refl refl not_last_0,
-      (_, makes Granted same 2 (record { form = N4; prefix = 0 ∷ 0 ∷ 0 ∷ 0 ∷ 0 ∷ 0 ∷ 1 ∷ []; children = put ([]) 0 (Payload w) }) refl (inl refl) refl (cons_nil _ _) (new_with ([]) 0 (Payload w) (record { holds = refl }) refl refl refl (ltb-false _ _ refl, ltb-true _ _ refl, tt) (ltb-false _ _ refl) tt),
-      (_, make_refused Granted same charge refl (inl refl) (cons_nil _ _) (record { size = 64; sizes = refl; charged = refl }),
-      (_, unlocks Granted same 1 refl refl refl,
-      (_, unlocks Granted same 0 refl refl refl,
-      (_, ends Granted same refl (inl refused_not_open) refl refl,
-      refl)))))))))))))
+  second_make_refused = (
+    _,
+    record { is = refl; free = refl; after = refl },
+    (
+      _,
+      takes Granted same 0 refl refl (inl refl) refl (λ e. refl) refl,
+      (
+        _,
+        reads Granted same 0 (record { child = Some (node 1); count = 1; full = false }) refl refl (inl refl) refl (record { child = refl; count = refl; full = with_room tt }),
+        (
+          _,
+          checks Granted same 0 _ Going refl refl (inl refl) refl refl,
+          (
+            _,
+            takes Granted same 1 refl refl (inl refl) refl (λ e. below_root 0 e) refl,
+            (
+              _,
+              checks Granted same 0 _ Going refl refl (inl refl) refl refl,
+              (
+                _,
+                upgrades Granted same 0 refl refl (inl refl) refl refl not_last_1,
+                (
+                  _,
+                  upgrades Granted same 1 refl refl (inl refl) refl refl not_last_0,
+                  (
+                    _,
+                    makes Granted same 2 (record { form = N4; prefix = 0 ∷ 0 ∷ 0 ∷ 0 ∷ 0 ∷ 0 ∷ 1 ∷ []; children = put ([]) 0 (Payload w) }) refl (inl refl) refl (cons_nil _ _) (new_with ([]) 0 (Payload w) (record { holds = refl }) refl refl refl (ltb-false _ _ refl, ltb-true _ _ refl, tt) (ltb-false _ _ refl) tt),
+                    (
+                      _,
+                      make_refused Granted same charge refl (inl refl) (cons_nil _ _) (record { size = 64; sizes = refl; charged = refl }),
+                      (
+                        _,
+                        unlocks Granted same 1 refl refl refl,
+                        (
+                          _,
+                          unlocks Granted same 0 refl refl refl,
+                          (
+                            _,
+                            ends Granted same refl (inl refused_not_open) refl refl,
+                            refl,
+                          ),
+                        ),
+                      ),
+                    ),
+                  ),
+                ),
+              ),
+            ),
+          ),
+        ),
+      ),
+    ),
+  )

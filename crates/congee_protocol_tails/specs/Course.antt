@@ -6,7 +6,7 @@ use Rattle.congee_protocol.specs.State.{State}
 use Rattle.congee_protocol.specs.declared.types.Env.{Env}
 use Rattle.congee_protocol.specs.declared.types.Kind.TheVariants as kind
 use Rattle.congee_protocol.specs.declared.types.Op.{Op}
-use Rattle.congee_protocol.specs.declared.types.Outcome.TheVariants.{Going, Ask, Decided, Refused, Done}
+use Rattle.congee_protocol.specs.declared.types.Outcome.TheVariants.{Going, Decided, Refused, Done}
 use Rattle.congee_protocol.specs.declared.types.Outcome.{Outcome}
 use Rattle.congee_protocol.specs.declared.types.Reply.{Reply}
 use Rattle.congee_protocol.specs.declared.types.Report.{Report}

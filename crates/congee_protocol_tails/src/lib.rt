@@ -1,4 +1,4 @@
-//! What the protocol's definitions allow: each course of a call that writes, built by hand from its Start to its Finish.
+//! What the protocol's definitions allow: the courses of calls that write, each built from its Start to its Finish.
 #![tactic(auto)]
 
 pub mod changes;
