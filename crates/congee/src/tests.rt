@@ -1,11 +1,10 @@
 //! Worked examples, and comparisons that cross crates.
 
 mod asserts;
+mod both;
 mod budgets;
 mod computation;
 mod faces;
-mod fresh_calls;
-mod removal;
 mod rows;
 mod scans;
 mod shared_values;

@@ -3,7 +3,7 @@ use Rattle.std.proofs.Common.{◌≡◌, ◌≢◌, ◌⊎◌, ℕ, zero, suc, �
 use Rattle.std.proofs.lemmas.Bool.{eq-eqb, ne_eqb, cases_eq, cases_lt, false≢true}
 use Rattle.std.proofs.lemmas.Option.{slice_get_cases, slice_get_past, slice_get-get_or}
 use Rattle.congee_map.specs.Map.{lookup, put, without, between, Rises}
-use Rattle.congee_base.specs.Row.{joined, under, at_place, in_row, IsRow}
+use Rattle.congee_base.specs.inner.Row.{joined, under, at_place, in_row, IsRow}
 use Rattle.congee_map.proofs.MapLaws.{Rises-wider, Rises-put, Rises-without, Rises-between, lookup-below, lookup-put_same, lookup-put_other, lookup-without_same, lookup-without_other, lookup-between_inside, lookup-between_outside, same_from_lookups}
 use Rattle.congee_map.proofs.ByteMapLaws.{length-put_new, length-put_some, length-without_present}
 

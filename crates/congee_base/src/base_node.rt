@@ -79,7 +79,7 @@ impl Model for BaseNode {
 }
 
 impl BaseNode {
-    // The base of an empty node.
+    /// The base of an empty node of a form.
     pub fn new(prefix: &[u8], form: NodeType) -> Self
         requires { length prefix.now ≤ 7 }
         ensures { result ≡ record { prefix = prefix.now; count = 0; form = form } }
@@ -117,15 +117,15 @@ impl BaseNode {
         self.form
     }
 
-    // Counts one child more.
+    /// Counts one child more.
     pub fn count_up(&mut self)
         requires { self.old.count < 256 }
-        ensures { self.new ≡ record { prefix = self.old.prefix; count = self.old.count + 1; form = self.old.form } }
+        ensures { self.new ≡ record self.old { count = self.old.count + 1 } }
     {
         self.count += 1;
     }
 
-    // Counts one child less.
+    /// Counts one child less.
     pub fn count_down(&mut self)
         requires { 0 < self.old.count }
         ensures prefix { self.new.prefix ≡ self.old.prefix }
@@ -180,7 +180,7 @@ pub trait Node<C>: Drop + Sized {
         ensures prefix { prefix self.new ≡ prefix self.old }
         ensures form { form self.new ≡ form self.old };
 
-    /// Puts another child in the place of one, which it gives back.
+    /// Puts another child in the place of one, which it returns.
     fn change(&mut self, byte: u8, child: C) -> C
         requires present { IsSome (lookup (children self.old) byte) }
         ensures before { lookup (children self.old) byte ≡ Some result }
@@ -188,7 +188,7 @@ pub trait Node<C>: Drop + Sized {
         ensures prefix { prefix self.new ≡ prefix self.old }
         ensures form { form self.new ≡ form self.old };
 
-    /// Takes out the child under a byte.
+    /// Takes out the child under a byte, and returns it.
     fn remove(&mut self, byte: u8) -> C
         requires present { IsSome (lookup (children self.old) byte) }
         ensures before { lookup (children self.old) byte ≡ Some result }

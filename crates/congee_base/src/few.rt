@@ -2,7 +2,7 @@
 
 ghost use Rattle.std.specs.Prelude.{◌≡◌, ℕ, ◌+◌, ◌<◌, ◌≤◌, length, option_copied, slice_get, slice_index_or, slice_set};
 ghost use Rattle.std.specs.List.{insert, remove};
-ghost use Rattle.congee_base.specs.Few.{listed};
+ghost use Rattle.congee_base.specs.inner.Few.{listed};
 
 use std::mem;
 
@@ -17,7 +17,7 @@ pub enum Few<C> {
 }
 
 impl<C> Few<C> {
-    // The child at a place, or `None`.
+    /// The child at a place, or `None` past the last.
     pub fn get(&self, at: usize) -> Option<&C>
         ensures { option_copied result ≡ slice_get (listed self.now) at }
     {
@@ -38,7 +38,7 @@ impl<C> Few<C> {
 }
 
 impl<C: Drop> Few<C> {
-    // Puts a child at a place, and moves those after it up.
+    /// Puts a child at a place, and moves those after it up.
     pub fn insert(&mut self, at: usize, child: C)
         requires place { at ≤ length (listed self.old) }
         requires room { length (listed self.old) < 4 }
@@ -59,7 +59,7 @@ impl<C: Drop> Few<C> {
         };
     }
 
-    // Puts another child at a place, and gives back the one that was there.
+    /// Puts another child at a place, and returns the one that was there.
     pub fn replace(&mut self, at: usize, child: C) -> C
         requires place { at < length (listed self.old) }
         ensures value { result ≡ slice_index_or (listed self.old) at result }
@@ -80,7 +80,7 @@ impl<C: Drop> Few<C> {
         }
     }
 
-    // Takes a child out, and moves those after it down.
+    /// Takes out the child at a place, and moves those after it down.
     pub fn remove(&mut self, at: usize) -> C
         requires place { at < length (listed self.old) }
         ensures value { result ≡ slice_index_or (listed self.old) at result }

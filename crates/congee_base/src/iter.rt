@@ -6,11 +6,16 @@ ghost use Rattle.std.specs.Iterator.{YieldsFirstBy, item_count};
 use crate::few::Few;
 use crate::mask::next_marked;
 
-/// What `get_children` of a `Node4` gives: bytes, and the children from a place on.
+/// What `get_children` of a `Node4` returns: bytes, and the children from a place on.
+///
+/// As in the other iterators here, any values of the fields are an iterator: it ends where the shorter part ends.
 #[derive(Drop)]
 pub struct Node4Iter<'a, C> {
+    /// The bytes that are left, ascending.
     pub keys: &'a [u8],
+    /// All children of the node.
     pub children: &'a Few<C>,
+    /// The place of the child that belongs to the first byte.
     pub at: usize,
 }
 
@@ -32,10 +37,12 @@ impl<'a, C> Iterator for Node4Iter<'a, C> {
     }
 }
 
-/// What `get_children` of a `Node16` gives: bytes and the children beside them.
+/// What `get_children` of a `Node16` returns: bytes and the children beside them.
 #[derive(Drop)]
 pub struct Node16Iter<'a, C> {
+    /// The bytes that are left, ascending.
     pub keys: &'a [u8],
+    /// Their children, in the same order.
     pub children: &'a [C],
 }
 
@@ -57,12 +64,16 @@ impl<'a, C> Iterator for Node16Iter<'a, C> {
     }
 }
 
-/// What `get_children` of a `Node48` gives: the bytes from one on up to the last, by the index.
+/// What `get_children` of a `Node48` returns: the children of the bytes from one on up to the last, by the index.
 #[derive(Drop)]
 pub struct Node48Iter<'a, C> {
+    /// The next byte to look at; past `last`, none.
     pub at: usize,
+    /// The last byte of the scan, which belongs to it.
     pub last: u8,
+    /// The place of each byte's child; a place past the children means that the byte has none.
     pub index: &'a [u8; 256],
+    /// The children, in any order.
     pub children: &'a [C],
 }
 
@@ -88,14 +99,19 @@ impl<'a, C> Iterator for Node48Iter<'a, C> {
     }
 }
 
-/// What `get_children` of a `Node256` gives: the bytes from one on up to the last, of which the mask passes those without
-/// a child.
+/// What `get_children` of a `Node256` returns: the children of the bytes from one on up to the last. By the mask it passes
+/// the bytes without a child, 64 in a step.
 #[derive(Drop)]
 pub struct Node256Iter<'a, C> {
+    /// The next byte to look at; past `last`, none.
     pub at: usize,
+    /// The last byte of the scan, which belongs to it.
     pub last: u8,
+    /// A bit for each byte, set where the byte has a child: byte `b` is bit `b % 64` of word `b / 64`.
     pub mask: &'a [u64; 4],
+    /// The place of each marked byte's child; a place past the children means that the byte has none.
     pub index: &'a [u8; 256],
+    /// The children, in any order.
     pub children: &'a [C],
 }
 
@@ -123,7 +139,7 @@ impl<'a, C> Iterator for Node256Iter<'a, C> {
     }
 }
 
-/// What `get_children` of any form gives.
+/// What `get_children` of any form returns.
 #[derive(Drop)]
 pub enum NodeIter<'a, C> {
     N4(Node4Iter<'a, C>),

@@ -1,4 +1,4 @@
-//! The search of a node with sixteen bytes, all lanes at once (*The Adaptive Radix Tree*, Leis et al., section III).
+//! The search among sixteen bytes, all lanes at once (*The Adaptive Radix Tree*, Leis et al., section III).
 //!
 //! Bytes past the count never match, whatever stands there.
 

@@ -1,9 +1,9 @@
 //! A mask of 256 bits, one for each byte: which bytes of a node have a child, in 32 bytes.
 
 ghost use Rattle.std.specs.Prelude.{IsTrue, false, ◌≡◌, ◌≢◌, ℕ, ◌+◌, ◌<◌, ◌≤◌, IfSome, IfNone};
-ghost use Rattle.congee_base.specs.Marked.{mark_at};
+ghost use Rattle.congee_base.specs.inner.Marked.{mark_at};
 
-// Whether the bit of a byte is set.
+/// Whether the bit of a byte is set.
 pub fn is_marked(words: &[u64; 4], byte: u8) -> bool
     ensures set { IsTrue result → mark_at words.now byte ≡ 1 }
     ensures clear { result ≡ false → mark_at words.now byte ≡ 0 }
@@ -11,7 +11,7 @@ pub fn is_marked(words: &[u64; 4], byte: u8) -> bool
     (words[byte as usize / 64] >> (byte as usize % 64)) & 1 == 1
 }
 
-// Sets the bit of a byte.
+/// Sets the bit of a byte; the others stay.
 pub fn mark(words: &mut [u64; 4], byte: u8)
     ensures here { mark_at words.new byte ≡ 1 }
     ensures others { (i : ℕ) → i < 256 → i ≢ byte → mark_at words.new i ≡ mark_at words.old i }
@@ -19,7 +19,7 @@ pub fn mark(words: &mut [u64; 4], byte: u8)
     words[byte as usize / 64] |= 1 << (byte as usize % 64);
 }
 
-// Clears the bit of a byte.
+/// Clears the bit of a byte; the others stay.
 pub fn unmark(words: &mut [u64; 4], byte: u8)
     ensures here { mark_at words.new byte ≡ 0 }
     ensures others { (i : ℕ) → i < 256 → i ≢ byte → mark_at words.new i ≡ mark_at words.old i }
@@ -27,7 +27,7 @@ pub fn unmark(words: &mut [u64; 4], byte: u8)
     words[byte as usize / 64] &= !(1 << (byte as usize % 64));
 }
 
-// The first byte from this number on whose bit is set. A word without bits is passed in one step.
+/// The first byte from this number on whose bit is set, or `None`. A word without set bits is passed in one step.
 pub fn next_marked(words: &[u64; 4], from: usize) -> Option<u8>
     ensures order { IfSome result (λ byte. from ≤ byte) }
     ensures here { IfSome result (λ byte. mark_at words.now byte ≡ 1) }

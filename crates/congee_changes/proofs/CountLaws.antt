@@ -5,7 +5,7 @@ use Rattle.congee_node_table.specs.Table.{Table, pairs_at, IsTree}
 use Rattle.congee_map.proofs.ByteMapLaws.{length-from_Rises, length-put_new, length-put_some, length-without_present}
 use Rattle.congee_map.proofs.MapLaws.{without-absent}
 use Rattle.congee_node_table.proofs.TableLaws.{tree_rises}
-use Rattle.congee_paths.specs.Way.{depth}
+use Rattle.congee_paths.specs.inner.Root.{depth}
 
 none_is : {P : Type 0} → (o : Option P) → is_some o ≡ false → o ≡ None
 none_is None e = refl

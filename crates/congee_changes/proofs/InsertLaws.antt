@@ -13,8 +13,9 @@ use Rattle.congee_node_table.specs.Table.{IsSound}
 use Rattle.congee_node_table.specs.TableNode.{TableNode}
 use Rattle.congee_node_table.specs.Table.{Table, node_at, pairs_at, IsTree, IsChild}
 use Rattle.congee_node_table.specs.Key.{next_byte}
-use Rattle.congee_paths.specs.Way.{depth, Way, IsEnd, Arrives}
-use Rattle.congee_changes.specs.Writes.{SameElsewhere, WritesChild, IsLeafOf, StandsFor, Adds, Splits, HasChildUnder}
+use Rattle.congee_paths.specs.inner.Descent.{PathTo, Finds, EndsAt}
+use Rattle.congee_paths.specs.inner.Root.{depth}
+use Rattle.congee_changes.specs.inner.Writes.{SameElsewhere, WritesChild, IsLeafOf, StandsFor, Adds, Splits, HasChildUnder}
 use Rattle.congee_node_table.specs.declared.child.Child.{Child}
 use Rattle.congee_node_table.specs.declared.child.Child.TheVariants.{Payload, Node}
 use Rattle.congee_paths.specs.declared.descent.End.TheVariants.{Differs, Absent, Present}
@@ -24,7 +25,7 @@ use Rattle.congee_node_table.proofs.DownLaws.{KeepsOthers}
 use Rattle.congee_node_table.proofs.WriteLaws.{KeepsSlots, Are-same, pairs-same, write}
 use Rattle.congee_changes.proofs.SplitLaws.{relevel, split}
 use Rattle.congee_map.proofs.LocalLaws.{put_local}
-use Rattle.congee_paths.proofs.WayLaws.{along}
+use Rattle.congee_paths.proofs.PathEndLaws.{along}
 
 module _ {P : Type 0} (s t : Table P) (root : ℕ) (key : List ℕ) (bytes : AreBytes key) (full : length key ≡ 8) (v : P) where
   pub keeps_others : (levels : ℕ) (q : List ℕ) (slot : ℕ) (h : IsTree s (suc levels) q slot) → KeepsSlots slot s t → KeepsOthers q s t
@@ -70,9 +71,9 @@ module _ {P : Type 0} (s t : Table P) (root : ℕ) (key : List ℕ) (bytes : Are
         rw there (pairs-same (λ j. pairs_at t zero j) l.prefix (take 7 key) l.children ((get_or key 7 0, Payload v) ∷ []) is_leaf.prefix is_leaf.children ∙ ap (λ x. (low x, v) ∷ []) whole),
       )
 
-  module _ (above levels slot : ℕ) (q : List ℕ) (way : Way s root key above (suc levels) q slot) (h : IsTree s (suc levels) q slot) (deep : above ≤ length q) (sum : above + suc levels ≡ 8) (keeps : KeepsSlots slot s t) where
+  module _ (above levels slot : ℕ) (q : List ℕ) (path : PathTo s root key above (suc levels) q slot) (h : IsTree s (suc levels) q slot) (deep : above ≤ length q) (sum : above + suc levels ≡ 8) (keeps : KeepsSlots slot s t) where
     finish : IsTree t (suc levels) q slot × (pairs_at t (suc levels) slot ≡ put (pairs_at s (suc levels) slot) (key_number key) v) → Whole
-    finish x = along s root key bytes full t (λ es. put es (key_number key) v) (put_local (key_number key) v) above (suc levels) slot q way x.0 x.1 (keeps_others levels q slot h keeps)
+    finish x = along s root key bytes full t (λ es. put es (key_number key) v) (put_local (key_number key) v) above (suc levels) slot q path x.0 x.1 (keeps_others levels q slot h keeps)
 
     -- a child that stands for the pair
     stands_for : Begins h.node.prefix key → (c : Child P) → StandsFor t h.node.prefix key v c
@@ -124,53 +125,53 @@ module _ {P : Type 0} (s t : Table P) (root : ℕ) (key : List ℕ) (bytes : Are
         children_are
         (leaf_sound x.leaf x.is_leaf) x.is_leaf.prefix x.is_leaf.children)
 
-  -- the same from the place where the key's way ends
-  add_from : (above levels slot : ℕ) (q : List ℕ) (n : TableNode P) (b : ℕ) → node_at s slot ≡ Some n → Way s root key above levels q slot → IsTree s levels q slot → above ≤ length q → above + levels ≡ 8
-      → IsEnd key n (Absent b) → Adds s t slot key b v → Whole
-  add_from above zero slot q n b here way h deep sum e adds = absurd h
-  add_from above (suc levels) slot q n b here way h deep sum e adds =
+  -- the same from the place where the key's path ends
+  add_from : (above levels slot : ℕ) (q : List ℕ) (n : TableNode P) (b : ℕ) → node_at s slot ≡ Some n → PathTo s root key above levels q slot → IsTree s levels q slot → above ≤ length q → above + levels ≡ 8
+      → Finds key n (Absent b) → Adds s t slot key b v → Whole
+  add_from above zero slot q n b here path h deep sum e adds = absurd h
+  add_from above (suc levels) slot q n b here path h deep sum e adds =
       let both : Some n ≡ Some h.node = sym here ∙ h.here in
       let is : n ≡ h.node = cc in
-      let d : IsEnd key h.node (Absent b) = subst (λ m. IsEnd key m (Absent b)) is e in
-      add_at above levels slot q way h deep sum adds.0 b d.0 d.1 d.2 adds
+      let d : Finds key h.node (Absent b) = subst (λ m. Finds key m (Absent b)) is e in
+      add_at above levels slot q path h deep sum adds.0 b d.0 d.1 d.2 adds
 
-  pub add_whole : (place : Place P) → Arrives s root key place → (b : ℕ) → place.end ≡ Absent b → Adds s t place.slot key b v → Whole
+  pub add_whole : (place : Place P) → EndsAt s root key place → (b : ℕ) → place.end ≡ Absent b → Adds s t place.slot key b v → Whole
   add_whole place a b is adds =
-      let w = a.walk in
-      add_from place.above w.levels place.slot w.q a.node b a.here w.way w.tree w.deep w.sum (subst (λ e. IsEnd key a.node e) is a.end) adds
+      let w = a.leads in
+      add_from place.above w.levels place.slot w.q a.node b a.here w.path w.tree w.deep w.sum (subst (λ e. Finds key a.node e) is a.end) adds
 
-  change_from : (above levels slot : ℕ) (q : List ℕ) (n : TableNode P) (b : ℕ) (w : Bor P) → node_at s slot ≡ Some n → Way s root key above levels q slot → IsTree s levels q slot → above ≤ length q → above + levels ≡ 8
-      → IsEnd key n (Present b w) → SameElsewhere slot s t → WritesChild s t slot b (Payload v) → Whole
-  change_from above zero slot q n b w here way h deep sum e keeps writes = absurd h
-  change_from above (suc levels) slot q n b w here way h deep sum e keeps writes =
+  change_from : (above levels slot : ℕ) (q : List ℕ) (n : TableNode P) (b : ℕ) (w : Bor P) → node_at s slot ≡ Some n → PathTo s root key above levels q slot → IsTree s levels q slot → above ≤ length q → above + levels ≡ 8
+      → Finds key n (Present b w) → SameElsewhere slot s t → WritesChild s t slot b (Payload v) → Whole
+  change_from above zero slot q n b w here path h deep sum e keeps writes = absurd h
+  change_from above (suc levels) slot q n b w here path h deep sum e keeps writes =
       let both : Some n ≡ Some h.node = sym here ∙ h.here in
       let is : n ≡ h.node = cc in
-      let d : IsEnd key h.node (Present b w) = subst (λ m. IsEnd key m (Present b w)) is e in
-      change_at above levels slot q way h deep sum (λ i m o there. keeps i o ∙ there) b w.now d.0 d.1 d.2 writes
+      let d : Finds key h.node (Present b w) = subst (λ m. Finds key m (Present b w)) is e in
+      change_at above levels slot q path h deep sum (λ i m o there. keeps i o ∙ there) b w.now d.0 d.1 d.2 writes
 
-  pub change_whole : (place : Place P) → Arrives s root key place → (b : ℕ) (w : Bor P) → place.end ≡ Present b w → SameElsewhere place.slot s t → WritesChild s t place.slot b (Payload v) → Whole
+  pub change_whole : (place : Place P) → EndsAt s root key place → (b : ℕ) (w : Bor P) → place.end ≡ Present b w → SameElsewhere place.slot s t → WritesChild s t place.slot b (Payload v) → Whole
   change_whole place a b w is keeps writes =
-      let k = a.walk in
-      change_from place.above k.levels place.slot k.q a.node b w a.here k.way k.tree k.deep k.sum (subst (λ e. IsEnd key a.node e) is a.end) keeps writes
+      let k = a.leads in
+      change_from place.above k.levels place.slot k.q a.node b w a.here k.path k.tree k.deep k.sum (subst (λ e. Finds key a.node e) is a.end) keeps writes
 
-  split_from : (above levels slot : ℕ) (q : List ℕ) (n : TableNode P) (at : ℕ) → node_at s slot ≡ Some n → Way s root key above levels q slot → IsTree s levels q slot → Begins q key → above ≤ length q → above + levels ≡ 8
-      → IsEnd key n (Differs at) → Splits s t slot key at v → Whole
-  split_from above zero slot q n at here way h begins deep sum e x = absurd h
-  split_from above (suc levels) slot q n at here way h begins deep sum e x =
+  split_from : (above levels slot : ℕ) (q : List ℕ) (n : TableNode P) (at : ℕ) → node_at s slot ≡ Some n → PathTo s root key above levels q slot → IsTree s levels q slot → Begins q key → above ≤ length q → above + levels ≡ 8
+      → Finds key n (Differs at) → Splits s t slot key at v → Whole
+  split_from above zero slot q n at here path h begins deep sum e x = absurd h
+  split_from above (suc levels) slot q n at here path h begins deep sum e x =
       let both : Some n ≡ Some h.node = sym here ∙ h.here in
       let is : n ≡ h.node = cc in
-      let d : IsEnd key h.node (Differs at) = subst (λ m. IsEnd key m (Differs at)) is e in
-      split_at_node above levels slot q way h deep sum x.keeps at d begins x
+      let d : Finds key h.node (Differs at) = subst (λ m. Finds key m (Differs at)) is e in
+      split_at_node above levels slot q path h deep sum x.keeps at d begins x
 
-  pub split_whole : (place : Place P) → Arrives s root key place → (at : ℕ) → place.end ≡ Differs at → Splits s t place.slot key at v → Whole
+  pub split_whole : (place : Place P) → EndsAt s root key place → (at : ℕ) → place.end ≡ Differs at → Splits s t place.slot key at v → Whole
   split_whole place a at is x =
-      let w = a.walk in
-      split_from place.above w.levels place.slot w.q a.node at a.here w.way w.tree w.begins w.deep w.sum (subst (λ e. IsEnd key a.node e) is a.end) x
+      let w = a.leads in
+      split_from place.above w.levels place.slot w.q a.node at a.here w.path w.tree w.begins w.deep w.sum (subst (λ e. Finds key a.node e) is a.end) x
 
-module _ {P : Type 0} (s : Table P) (root : ℕ) (key : List ℕ) (place : Place P) (a : Arrives s root key place) where
+module _ {P : Type 0} (s : Table P) (root : ℕ) (key : List ℕ) (place : Place P) (a : EndsAt s root key place) where
   pub ready_change : (b : ℕ) (w : Bor P) (v : P) → place.end ≡ Present b w → HasChildUnder s place.slot b (Payload v)
   ready_change b w v is =
-      let d : IsEnd key a.node (Present b w) = subst (λ e. IsEnd key a.node e) is a.end in
-      let o = open_subtree s a.walk.levels place.slot a.node (record { above = a.walk.q; tree = a.walk.tree }) (sym a.here) in
+      let d : Finds key a.node (Present b w) = subst (λ e. Finds key a.node e) is a.end in
+      let o = open_subtree s a.leads.levels place.slot a.node (record { above = a.leads.q; tree = a.leads.tree }) (sym a.here) in
       let seven : length a.node.prefix ≡ 7 = IsChild-found s o.less a.node.prefix a.node.children b (Payload w.now) o.children d.2 in
       record { node = a.node; here = a.here; present = rw d.2 refl; kind = seven }

@@ -3,7 +3,6 @@ pub mod CountLaws
 pub mod DetachLaws
 pub mod FormLaws
 pub mod InsertLaws
-pub mod NewLaws
 pub mod RefusalLaws
 pub mod RemoveLaws
 pub mod RootLaws

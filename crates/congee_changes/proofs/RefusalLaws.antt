@@ -16,11 +16,12 @@ use Rattle.congee_node_table.proofs.ChildrenLaws as laws
 use Rattle.congee_node_table.proofs.TableLaws.{under, tree_rises, open_subtree}
 use Rattle.congee_node_table.proofs.DownLaws.{Begins-trans}
 use Rattle.congee_node_table.specs.Key.{next_byte}
-use Rattle.congee_paths.specs.Way.{depth, Way, IsEnd, Arrives}
-use Rattle.congee_changes.specs.Writes.{RefusesAt}
+use Rattle.congee_paths.specs.inner.Descent.{PathTo, Finds, EndsAt}
+use Rattle.congee_paths.specs.inner.Root.{depth}
+use Rattle.congee_changes.specs.inner.Writes.{RefusesAt}
 use Rattle.congee_paths.specs.declared.descent.End.TheVariants.{Differs, Absent}
 use Rattle.congee_paths.specs.declared.descent.Place.{Place}
-use Rattle.congee_paths.proofs.WayLaws.{lookup_end}
+use Rattle.congee_paths.proofs.PathEndLaws.{lookup_end}
 
 module _ {P : Type 0} (s : Table P) (root : ℕ) (key : List ℕ) (bytes : AreBytes key) (full : length key ≡ 8) where
   abbrev first : List ℕ
@@ -35,44 +36,44 @@ module _ {P : Type 0} (s : Table P) (root : ℕ) (key : List ℕ) (bytes : AreBy
       let b = Begins-take key q 7 begins short in
       (low-begins q first b (AreBytes-take 7 key bytes) (omega (arith, length_first)), high-begins q first b (AreBytes-take 7 key bytes) (omega (arith, length_first)))
 
-  -- what lies there in the whole lies at the end of the way
-  between_along : (above levels slot : ℕ) (q : List ℕ) → Way s root key above levels q slot → Begins q key → length q ≤ 7
+  -- what lies there in the whole lies at the end of the path
+  between_along : (above levels slot : ℕ) (q : List ℕ) → PathTo s root key above levels q slot → Begins q key → length q ≤ 7
       → between (pairs_at s depth root) (low first) (high first) ≡ between (pairs_at s levels slot) (low first) (high first)
-  between_along zero levels slot q way begins short = rw (way.0, way.2) refl
-  between_along (suc above) levels slot q way begins short =
-      let h = way.tree in
-      let o = open_subtree s (suc levels) way.parent h.node (record { above = way.parent_q; tree = h }) (sym h.here) in
+  between_along zero levels slot q path begins short = rw (path.0, path.2) refl
+  between_along (suc above) levels slot q path begins short =
+      let h = path.tree in
+      let o = open_subtree s (suc levels) path.parent h.node (record { above = path.parent_q; tree = h }) (sym h.here) in
       let p = h.node.prefix in
       let b = next_byte p key in
       let long = simp length-append at (ap length (after h.begins).is) in
       let less : o.less ≡ levels = omega (arith, o.is) in
-      let inside = within (p ++ b ∷ []) (subst (λ r. Begins r key) way.is begins) (subst (λ r. length r ≤ 7) way.is short) in
+      let inside = within (p ++ b ∷ []) (subst (λ r. Begins r key) path.is begins) (subst (λ r. length r ≤ 7) path.is short) in
       let one = between-pairs_of (under s o.less p) p 0 h.node.children b (low first) (high first) o.sound.short o.sound.ordered o.rise inside.0 inside.1 in
-      let found : between (pairs_at s (suc levels) way.parent) (low first) (high first) ≡ between (pairs_at s levels slot) (low first) (high first) =
+      let found : between (pairs_at s (suc levels) path.parent) (low first) (high first) ≡ between (pairs_at s levels slot) (low first) (high first) =
       rw o.pairs (subst (λ l. between (laws.pairs_of (under s o.less p) p h.node.children) (low first) (high first) ≡ between (pairs_at s l slot) (low first) (high first)) less
-      (subst (λ c. between (laws.pairs_of (under s o.less p) p h.node.children) (low first) (high first) ≡ between (laws.pairs_at (under s o.less p) p b c) (low first) (high first)) way.found one)) in
-      between_along above (suc levels) way.parent way.parent_q way.way (Begins-trans way.parent_q p key h.begins way.begins) (omega (arith, long, h.sound.short)) ∙ found
+      (subst (λ c. between (laws.pairs_of (under s o.less p) p h.node.children) (low first) (high first) ≡ between (laws.pairs_at (under s o.less p) p b c) (low first) (high first)) path.found one)) in
+      between_along above (suc levels) path.parent path.parent_q path.path (Begins-trans path.parent_q p key h.begins path.begins) (omega (arith, long, h.sound.short)) ∙ found
 
-  module _ (place : Place P) (a : Arrives s root key place) where
-    there : between (pairs_at s depth root) (low first) (high first) ≡ between (pairs_at s a.walk.levels place.slot) (low first) (high first)
+  module _ (place : Place P) (a : EndsAt s root key place) where
+    there : between (pairs_at s depth root) (low first) (high first) ≡ between (pairs_at s a.leads.levels place.slot) (low first) (high first)
     there =
-        let w = a.walk in
+        let w = a.leads in
         let o = open_subtree s w.levels place.slot a.node (record { above = w.q; tree = w.tree }) (sym a.here) in
-        between_along place.above w.levels place.slot w.q w.way w.begins (short w.levels w.tree)
+        between_along place.above w.levels place.slot w.q w.path w.begins (short w.levels w.tree)
       where
-        short : (levels : ℕ) → IsTree s levels a.walk.q place.slot → length a.walk.q ≤ 7
+        short : (levels : ℕ) → IsTree s levels a.leads.q place.slot → length a.leads.q ≤ 7
         short zero h = absurd h
         short (suc levels) h = let long = simp length-append at (ap length (after h.begins).is) in omega (arith, long, h.sound.short)
 
-    shared : sharing (pairs_at s depth root) (key_number key) ≡ between (pairs_at s a.walk.levels place.slot) (low first) (high first)
+    shared : sharing (pairs_at s depth root) (key_number key) ≡ between (pairs_at s a.leads.levels place.slot) (low first) (high first)
     shared = sharing_is (pairs_at s depth root) key bytes full ∙ there
 
     pub needs_node-absent : (b : ℕ) → place.end ≡ Absent b → RefusesAt s place.slot → NeedsNode (pairs_at s depth root) (key_number key)
     needs_node-absent b is refuses =
-        let w = a.walk in
+        let w = a.leads in
         let o = open_subtree s w.levels place.slot a.node (record { above = w.q; tree = w.tree }) (sym a.here) in
         let p = a.node.prefix in
-        let d : IsEnd key a.node (Absent b) = subst (λ e. IsEnd key a.node e) is a.end in
+        let d : Finds key a.node (Absent b) = subst (λ e. Finds key a.node e) is a.end in
         let none = lookup_end s root key bytes full place a (Absent b) (sym is) (λ c v e. absurd (cc)) in
         record {
           absent = none;
@@ -84,10 +85,10 @@ module _ {P : Type 0} (s : Table P) (root : ℕ) (key : List ℕ) (bytes : AreBy
       where
         inner : length a.node.prefix ≢ 7 → length (sharing (pairs_at s depth root) (key_number key)) ≡ 0
         inner other =
-            let w = a.walk in
+            let w = a.leads in
             let o = open_subtree s w.levels place.slot a.node (record { above = w.q; tree = w.tree }) (sym a.here) in
             let p = a.node.prefix in
-            let d : IsEnd key a.node (Absent b) = subst (λ e. IsEnd key a.node e) is a.end in
+            let d : Finds key a.node (Absent b) = subst (λ e. Finds key a.node e) is a.end in
             let on = goes_on p key d.1 bytes o.sound.short full in
             let one = length-append p (next_byte p key ∷ []) in
             let inside = within (p ++ next_byte p key ∷ []) on.begins (omega (arith, one, other, o.sound.short)) in
@@ -98,8 +99,8 @@ module _ {P : Type 0} (s : Table P) (root : ℕ) (key : List ℕ) (bytes : AreBy
 
         leaf : length a.node.prefix ≡ 7 → IsEdge (length (sharing (pairs_at s depth root) (key_number key)))
         leaf seven =
-            let w = a.walk in
-            let d : IsEnd key a.node (Absent b) = subst (λ e. IsEnd key a.node e) is a.end in
+            let w = a.leads in
+            let d : Finds key a.node (Absent b) = subst (λ e. Finds key a.node e) is a.end in
             let count = all_of w.levels place.slot w.q a.node w.tree a.here seven d.1 in
             subst IsEdge (sym (ap length shared ∙ count)) (refuses a.node a.here seven)
           where
@@ -132,9 +133,9 @@ module _ {P : Type 0} (s : Table P) (root : ℕ) (key : List ℕ) (bytes : AreBy
 
     pub needs_node-differs : (at : ℕ) → place.end ≡ Differs at → NeedsNode (pairs_at s depth root) (key_number key)
     needs_node-differs at is =
-        let w = a.walk in
+        let w = a.leads in
         let none = lookup_end s root key bytes full place a (Differs at) (sym is) (λ c v e. absurd (cc)) in
-        let d : IsEnd key a.node (Differs at) = subst (λ e. IsEnd key a.node e) is a.end in
+        let d : Finds key a.node (Differs at) = subst (λ e. Finds key a.node e) is a.end in
         record { absent = none; edge = inl (ap length (shared ∙ off w.levels place.slot w.q a.node w.tree a.here d)) }
       where
         off : (levels slot : ℕ) (q : List ℕ) (n : TableNode P) → IsTree s levels q slot → node_at s slot ≡ Some n → IsFirstDifference n.prefix key at

@@ -9,8 +9,9 @@ use Rattle.congee_base.specs.declared.base_node.NodeType.{NodeType}
 use Rattle.congee_base.specs.declared.base_node.NodeType.TheVariants.{N256}
 use Rattle.congee_node_table.specs.declared.child.Child.{Child}
 use Rattle.congee_node_table.proofs.WriteLaws.{KeepsSlots}
-use Rattle.congee_paths.specs.Way.{HasRoot, IsEnd, Arrives}
-use Rattle.congee_changes.specs.Writes.{SameElsewhere, WritesChild, Adds, Splits}
+use Rattle.congee_paths.specs.inner.Descent.{Finds, EndsAt}
+use Rattle.congee_paths.specs.inner.Root.{HasRoot}
+use Rattle.congee_changes.specs.inner.Writes.{SameElsewhere, WritesChild, Adds, Splits}
 use Rattle.congee_paths.specs.declared.descent.End.TheVariants.{Differs}
 use Rattle.congee_paths.specs.declared.descent.Place.{Place}
 
@@ -51,6 +52,6 @@ module _ {P : Type 0} (s t : Table P) (root slot : ℕ) (r : HasRoot s root) whe
       let none : length n.prefix ≡ 0 = ap (λ (y : TableNode P). length y.prefix) is ∙ ap (λ (p : List ℕ). length p) prefix in
       omega (arith, none, d.inside)))
 
-module _ {P : Type 0} (s t : Table P) (root : ℕ) (key : List ℕ) (v : P) (r : HasRoot s root) (place : Place P) (a : Arrives s root key place) where
+module _ {P : Type 0} (s t : Table P) (root : ℕ) (key : List ℕ) (v : P) (r : HasRoot s root) (place : Place P) (a : EndsAt s root key place) where
   pub split_root_at : (at : ℕ) → place.end ≡ Differs at → Splits s t place.slot key at v → HasRoot t root
-  split_root_at at is x = split_root s t root place.slot r key at v x a.node a.here (subst (λ e. IsEnd key a.node e) is a.end)
+  split_root_at at is x = split_root s t root place.slot r key at v x a.node a.here (subst (λ e. Finds key a.node e) is a.end)

@@ -20,8 +20,9 @@ use Rattle.congee_node_table.proofs.DownLaws.{KeepsOthers}
 use Rattle.congee_node_table.proofs.WriteLaws.{KeepsSlots, kept_children, AreChildren-put}
 use Rattle.congee_node_table.proofs.NodesLaws.{below, all_below, Replaces-trans, Replaces-all, down_nodes, kept_nodes, relevel_nodes, leaf_nodes, leaf_alone, put_among}
 use Rattle.congee_node_table.specs.Key.{next_byte}
-use Rattle.congee_paths.specs.Way.{depth, Way, IsEnd, Arrives}
-use Rattle.congee_changes.specs.Writes.{SameElsewhere, WritesChild, IsLeafOf, StandsFor, Adds, Splits}
+use Rattle.congee_paths.specs.inner.Descent.{PathTo, Finds, EndsAt}
+use Rattle.congee_paths.specs.inner.Root.{depth}
+use Rattle.congee_changes.specs.inner.Writes.{SameElsewhere, WritesChild, IsLeafOf, StandsFor, Adds, Splits}
 use Rattle.congee_paths.specs.declared.descent.End.TheVariants.{Differs, Absent, Present}
 use Rattle.congee_paths.specs.declared.descent.Place.{Place}
 use Rattle.congee_changes.proofs.DetachLaws.{nodes-same}
@@ -45,15 +46,15 @@ module _ {P : Type 0} (s t : Table P) (root : ℕ) (key : List ℕ) where
   abbrev all_new : List NodeInfo
   all_new = nodes_at t depth [] root
 
-  pub along_nodes : (above levels slot : ℕ) (q : List ℕ) → Way s root key above levels q slot → KeepsOthers q s t → Replaces all_old all_new (nodes_at s levels q slot) (nodes_at t levels q slot)
-  along_nodes zero levels slot q way others = rw (way.0, way.1, way.2) (Replaces-all (nodes_at s depth [] root) (nodes_at t depth [] root))
-  along_nodes (suc above) levels slot q way others =
-      let h = way.tree in
+  pub along_nodes : (above levels slot : ℕ) (q : List ℕ) → PathTo s root key above levels q slot → KeepsOthers q s t → Replaces all_old all_new (nodes_at s levels q slot) (nodes_at t levels q slot)
+  along_nodes zero levels slot q path others = rw (path.0, path.1, path.2) (Replaces-all (nodes_at s depth [] root) (nodes_at t depth [] root))
+  along_nodes (suc above) levels slot q path others =
+      let h = path.tree in
       let p = h.node.prefix in
-      let d = down_nodes s t levels way.parent_q way.parent (next_byte p key) slot h way.found (subst (λ r. KeepsOthers r s t) way.is others) in
-      let up = along_nodes above (suc levels) way.parent way.parent_q way.way d.1 in
-      Replaces-trans all_old all_new (nodes_at s (suc levels) way.parent_q way.parent) (nodes_at t (suc levels) way.parent_q way.parent) (nodes_at s levels q slot) (nodes_at t levels q slot) up
-      (subst (λ r. Replaces (nodes_at s (suc levels) way.parent_q way.parent) (nodes_at t (suc levels) way.parent_q way.parent) (nodes_at s levels r slot) (nodes_at t levels r slot)) (sym way.is) d.0)
+      let d = down_nodes s t levels path.parent_q path.parent (next_byte p key) slot h path.found (subst (λ r. KeepsOthers r s t) path.is others) in
+      let up = along_nodes above (suc levels) path.parent path.parent_q path.path d.1 in
+      Replaces-trans all_old all_new (nodes_at s (suc levels) path.parent_q path.parent) (nodes_at t (suc levels) path.parent_q path.parent) (nodes_at s levels q slot) (nodes_at t levels q slot) up
+      (subst (λ r. Replaces (nodes_at s (suc levels) path.parent_q path.parent) (nodes_at t (suc levels) path.parent_q path.parent) (nodes_at s levels r slot) (nodes_at t levels r slot)) (sym path.is) d.0)
 
 module _ {P : Type 0} (s t : Table P) (root : ℕ) (key : List ℕ) (bytes : AreBytes key) (full : length key ≡ 8) (v : P) where
   abbrev old : List NodeInfo
@@ -86,7 +87,7 @@ module _ {P : Type 0} (s t : Table P) (root : ℕ) (key : List ℕ) (bytes : Are
       let seven : length l.prefix ≡ 7 = ap length is_leaf.prefix ∙ length-take 7 key ∙ omega (arith, full) in
       relevel_nodes t (suc zero) levels r j x.0 enough ∙ leaf_alone t (suc zero) r j l x.0 there seven ∙ ap (λ i. i ∷ []) (leaf_info r l is_leaf)
 
-  module _ (above levels slot : ℕ) (q : List ℕ) (way : Way s root key above (suc levels) q slot) (h : IsTree s (suc levels) q slot) (deep : above ≤ length q) (sum : above + suc levels ≡ 8) (keeps : KeepsSlots slot s t) where
+  module _ (above levels slot : ℕ) (q : List ℕ) (path : PathTo s root key above (suc levels) q slot) (h : IsTree s (suc levels) q slot) (deep : above ≤ length q) (sum : above + suc levels ≡ 8) (keeps : KeepsSlots slot s t) where
     abbrev p : List ℕ
     p = h.node.prefix
 
@@ -94,7 +95,7 @@ module _ {P : Type 0} (s t : Table P) (root : ℕ) (key : List ℕ) (bytes : Are
     es = h.node.children
 
     lift : Replaces old new (nodes_at s (suc levels) q slot) (nodes_at t (suc levels) q slot)
-    lift = along_nodes s t root key above (suc levels) slot q way (keeps_others s t root key bytes full v levels q slot h keeps)
+    lift = along_nodes s t root key above (suc levels) slot q path (keeps_others s t root key bytes full v levels q slot h keeps)
 
     longer : length q ≤ length p
     longer = let long = simp length-append at (ap length (after h.begins).is) in omega (arith, long)
@@ -193,13 +194,13 @@ module _ {P : Type 0} (s t : Table P) (root : ℕ) (key : List ℕ) (bytes : Are
             ]
 
   -- a payload in place of one: the nodes stay
-  change_from : (above levels slot : ℕ) (q : List ℕ) (n : TableNode P) (b : ℕ) (w : Bor P) → node_at s slot ≡ Some n → Way s root key above levels q slot → IsTree s levels q slot → IsEnd key n (Present b w)
+  change_from : (above levels slot : ℕ) (q : List ℕ) (n : TableNode P) (b : ℕ) (w : Bor P) → node_at s slot ≡ Some n → PathTo s root key above levels q slot → IsTree s levels q slot → Finds key n (Present b w)
       → SameElsewhere slot s t → WritesChild s t slot b (Payload v) → new ≡ old
-  change_from above zero slot q n b w here way h e keeps writes = absurd h
-  change_from above (suc levels) slot q n b w here way h e keeps writes =
+  change_from above zero slot q n b w here path h e keeps writes = absurd h
+  change_from above (suc levels) slot q n b w here path h e keeps writes =
       let both : Some n ≡ Some h.node = sym here ∙ h.here in
       let is : n ≡ h.node = cc in
-      let d : IsEnd key h.node (Present b w) = subst (λ m. IsEnd key m (Present b w)) is e in
+      let d : Finds key h.node (Present b w) = subst (λ m. Finds key m (Present b w)) is e in
       let p = h.node.prefix in
       let es = h.node.children in
       let x = writes h.node h.here in
@@ -214,50 +215,50 @@ module _ {P : Type 0} (s t : Table P) (root : ℕ) (key : List ℕ) (bytes : Are
       let now : nodes_at t (suc levels) q slot ≡ node_info q h.node ∷ [] =
       rw x.1 (ap (λ z. node_info q x.0 ∷ z) (nodes-same (below t levels) x.0.prefix p x.0.children (put es b (Payload v)) x.2 x.3 ∙ empty)) ∙ ap (λ i. i ∷ []) info in
       let was = leaf_alone s (suc levels) q slot h.node h h.here seven in
-      let r = along_nodes s t root key above (suc levels) slot q way (keeps_others s t root key bytes full v levels q slot h keeps') in
+      let r = along_nodes s t root key above (suc levels) slot q path (keeps_others s t root key bytes full v levels q slot h keeps') in
       r.is ∙ ap (λ z. r.before ++ (z ++ r.after)) (now ∙ sym was) ∙ sym r.was
 
-  pub change_shape : (place : Place P) → Arrives s root key place → (b : ℕ) (w : Bor P) → place.end ≡ Present b w → SameElsewhere place.slot s t → WritesChild s t place.slot b (Payload v) → new ≡ old
+  pub change_shape : (place : Place P) → EndsAt s root key place → (b : ℕ) (w : Bor P) → place.end ≡ Present b w → SameElsewhere place.slot s t → WritesChild s t place.slot b (Payload v) → new ≡ old
   change_shape place a b w is keeps writes =
-      let k = a.walk in
-      change_from place.above k.levels place.slot k.q a.node b w a.here k.way k.tree (subst (λ e. IsEnd key a.node e) is a.end) keeps writes
+      let k = a.leads in
+      change_from place.above k.levels place.slot k.q a.node b w a.here k.path k.tree (subst (λ e. Finds key a.node e) is a.end) keeps writes
 
-  add_from : (above levels slot : ℕ) (q : List ℕ) (n : TableNode P) (b : ℕ) → node_at s slot ≡ Some n → Way s root key above levels q slot → IsTree s levels q slot → above ≤ length q → above + levels ≡ 8
-      → IsEnd key n (Absent b) → Adds s t slot key b v → FillsAt n ⊎ AddsAt n
-  add_from above zero slot q n b here way h deep sum e adds = absurd h
-  add_from above (suc levels) slot q n b here way h deep sum e adds =
+  add_from : (above levels slot : ℕ) (q : List ℕ) (n : TableNode P) (b : ℕ) → node_at s slot ≡ Some n → PathTo s root key above levels q slot → IsTree s levels q slot → above ≤ length q → above + levels ≡ 8
+      → Finds key n (Absent b) → Adds s t slot key b v → FillsAt n ⊎ AddsAt n
+  add_from above zero slot q n b here path h deep sum e adds = absurd h
+  add_from above (suc levels) slot q n b here path h deep sum e adds =
       let both : Some n ≡ Some h.node = sym here ∙ h.here in
       let is : n ≡ h.node = cc in
-      let d : IsEnd key h.node (Absent b) = subst (λ m. IsEnd key m (Absent b)) is e in
+      let d : Finds key h.node (Absent b) = subst (λ m. Finds key m (Absent b)) is e in
       let x = adds.1 h.node h.here in
       subst (λ m. FillsAt m ⊎ AddsAt m) (sym is)
-      (add_here above levels slot q way h deep sum adds.0 x.0 x.1 d.1 (subst (λ y. lookup h.node.children y ≡ None) d.0 d.2) x.2 x.3 (subst (λ y. x.1.children ≡ put h.node.children y x.0) d.0 x.4) x.5 x.6)
+      (add_here above levels slot q path h deep sum adds.0 x.0 x.1 d.1 (subst (λ y. lookup h.node.children y ≡ None) d.0 d.2) x.2 x.3 (subst (λ y. x.1.children ≡ put h.node.children y x.0) d.0 x.4) x.5 x.6)
 
-  pub add_at : (place : Place P) (a : Arrives s root key place) (b : ℕ) → place.end ≡ Absent b → Adds s t place.slot key b v → FillsAt a.node ⊎ AddsAt a.node
+  pub add_at : (place : Place P) (a : EndsAt s root key place) (b : ℕ) → place.end ≡ Absent b → Adds s t place.slot key b v → FillsAt a.node ⊎ AddsAt a.node
   add_at place a b is adds =
-      let w = a.walk in
-      add_from place.above w.levels place.slot w.q a.node b a.here w.way w.tree w.deep w.sum (subst (λ e. IsEnd key a.node e) is a.end) adds
+      let w = a.leads in
+      add_from place.above w.levels place.slot w.q a.node b a.here w.path w.tree w.deep w.sum (subst (λ e. Finds key a.node e) is a.end) adds
 
-  pub add_shape : (place : Place P) → Arrives s root key place → (b : ℕ) → place.end ≡ Absent b → Adds s t place.slot key b v → FillsLeaf old key new ⊎ (AddsLeaf old key new ⊎ SplitsNode old key new)
+  pub add_shape : (place : Place P) → EndsAt s root key place → (b : ℕ) → place.end ≡ Absent b → Adds s t place.slot key b v → FillsLeaf old key new ⊎ (AddsLeaf old key new ⊎ SplitsNode old key new)
   add_shape place a b is adds =
       elim (add_at place a b is adds) [
         | inl x ↦ inl x.shape
         | inr x ↦ inr (inl x.shape)
       ]
 
-  split_from : (above levels slot : ℕ) (q : List ℕ) (n : TableNode P) (at : ℕ) → node_at s slot ≡ Some n → Way s root key above levels q slot → IsTree s levels q slot → Begins q key → above ≤ length q → above + levels ≡ 8
-      → IsEnd key n (Differs at) → Splits s t slot key at v → SplitsNode old key new
-  split_from above zero slot q n at here way h begins deep sum e x = absurd h
-  split_from above (suc levels) slot q n at here way h begins deep sum e x =
+  split_from : (above levels slot : ℕ) (q : List ℕ) (n : TableNode P) (at : ℕ) → node_at s slot ≡ Some n → PathTo s root key above levels q slot → IsTree s levels q slot → Begins q key → above ≤ length q → above + levels ≡ 8
+      → Finds key n (Differs at) → Splits s t slot key at v → SplitsNode old key new
+  split_from above zero slot q n at here path h begins deep sum e x = absurd h
+  split_from above (suc levels) slot q n at here path h begins deep sum e x =
       let both : Some n ≡ Some h.node = sym here ∙ h.here in
       let is : n ≡ h.node = cc in
-      let d : IsEnd key h.node (Differs at) = subst (λ m. IsEnd key m (Differs at)) is e in
-      split_here above levels slot q way h deep sum x.keeps at d begins x
+      let d : Finds key h.node (Differs at) = subst (λ m. Finds key m (Differs at)) is e in
+      split_here above levels slot q path h deep sum x.keeps at d begins x
 
-  pub split_at : (place : Place P) → Arrives s root key place → (at : ℕ) → place.end ≡ Differs at → Splits s t place.slot key at v → SplitsNode old key new
+  pub split_at : (place : Place P) → EndsAt s root key place → (at : ℕ) → place.end ≡ Differs at → Splits s t place.slot key at v → SplitsNode old key new
   split_at place a at is x =
-      let w = a.walk in
-      split_from place.above w.levels place.slot w.q a.node at a.here w.way w.tree w.begins w.deep w.sum (subst (λ e. IsEnd key a.node e) is a.end) x
+      let w = a.leads in
+      split_from place.above w.levels place.slot w.q a.node at a.here w.path w.tree w.begins w.deep w.sum (subst (λ e. Finds key a.node e) is a.end) x
 
-  pub split_shape : (place : Place P) → Arrives s root key place → (at : ℕ) → place.end ≡ Differs at → Splits s t place.slot key at v → FillsLeaf old key new ⊎ (AddsLeaf old key new ⊎ SplitsNode old key new)
+  pub split_shape : (place : Place P) → EndsAt s root key place → (at : ℕ) → place.end ≡ Differs at → Splits s t place.slot key at v → FillsLeaf old key new ⊎ (AddsLeaf old key new ⊎ SplitsNode old key new)
   split_shape place a at is x = inr (inr (split_at place a at is x))

@@ -3,7 +3,7 @@ use Rattle.std.proofs.Common.{◌≡◌, ◌≢◌, Some, get_or, None, length, 
 use Rattle.congee_map.specs.Map.{put}
 use Rattle.congee_node_table.specs.TableNode.{TableNode}
 use Rattle.congee_node_table.specs.Table.{Table, node_at}
-use Rattle.congee_changes.specs.Writes.{SameElsewhere, MakesRoom, WritesChild, IsLeafOf, IsLeafBelow, empty_leaf, HasRoomUnder, StandsFor, PutsPair, Adds}
+use Rattle.congee_changes.specs.inner.Writes.{SameElsewhere, MakesRoom, WritesChild, IsLeafOf, IsLeafBelow, empty_leaf, HasRoomUnder, StandsFor, PutsPair, Adds}
 use Rattle.congee_node_table.specs.declared.child.Child.TheVariants.{Payload, Node}
 
 -- a slot that has a node is within the table

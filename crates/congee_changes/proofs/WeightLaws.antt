@@ -14,10 +14,10 @@ use Rattle.congee_node_table.specs.declared.child.Child.TheVariants.{Payload, No
 use Rattle.congee_map.proofs.ByteMapLaws.{length-from_Rises}
 use Rattle.congee_node_table.proofs.NodesLaws.{below}
 use Rattle.congee_supply.specs.Charge.{total, charge_of}
-use Rattle.congee_supply.specs.Supply.{count, with_form, one, size_of, IsCounted, AreFew, Trades}
-use Rattle.congee_paths.specs.Way.{depth}
+use Rattle.congee_supply.specs.inner.Supply.{count, with_form, one, size_of, IsCounted, AreFew, Trades}
+use Rattle.congee_paths.specs.inner.Root.{depth}
 use Rattle.congee_supply.specs.declared.supply.FormCounts.{FormCounts}
-use Rattle.congee_paths.proofs.WayLaws.{depth_is}
+use Rattle.congee_paths.proofs.PathEndLaws.{depth_is}
 
 module _ (w : NodeType → ℕ) where
   pub total-append : (xs ys : List NodeInfo) → total w (xs ++ ys) ≡ total w xs + total w ys

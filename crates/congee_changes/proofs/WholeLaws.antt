@@ -1,16 +1,17 @@
 -- What each end of an insertion leaves of the whole tree, and that what was found allows it.
-use Rattle.std.proofs.Common.{Bor, ◌≡◌, ℕ, ◌<◌, List, [], length, Option, Some, None, IsSome, refl, sym, subst, arith}
+use Rattle.std.proofs.Common.{Bor, ◌≡◌, ℕ, ◌<◌, List, [], length, Option, Some, None, sym, subst, arith}
 use Rattle.congee_map.specs.Map.{lookup, put}
 use Rattle.congee_node_table.specs.Key.{AreBytes, key_number}
 use Rattle.congee_node_table.specs.Shape.{Reshapes}
 use Rattle.congee_node_table.specs.Table.{Table, node_at, pairs_at, nodes_at, IsTree}
 use Rattle.congee_node_table.specs.declared.child.Child.TheVariants.{Payload}
 use Rattle.congee_node_table.proofs.TableLaws.{open_subtree}
-use Rattle.congee_paths.specs.Way.{depth, HasRoot, IsEnd, Arrives}
-use Rattle.congee_changes.specs.Writes.{SameElsewhere, MakesRoom, WritesChild, WasChild, HasRoomUnder, PutsPair, IsParted, Splits}
+use Rattle.congee_paths.specs.inner.Descent.{Finds, EndsAt}
+use Rattle.congee_paths.specs.inner.Root.{depth, HasRoot}
+use Rattle.congee_changes.specs.inner.Writes.{SameElsewhere, MakesRoom, WritesChild, WasChild, HasRoomUnder, PutsPair, IsParted, Splits}
 use Rattle.congee_paths.specs.declared.descent.End.TheVariants.{Differs, Absent, Present}
 use Rattle.congee_paths.specs.declared.descent.Place.{Place}
-use Rattle.congee_paths.proofs.WayLaws.{lookup_end, lookup_held}
+use Rattle.congee_paths.proofs.PathEndLaws.{lookup_end, lookup_held}
 use Rattle.congee_changes.proofs.SlotLaws.{adds_after}
 use Rattle.congee_changes.proofs.InsertLaws.{add_whole, change_whole, split_whole}
 use Rattle.congee_changes.proofs.RootLaws.{change_root, add_root, split_root_at}
@@ -25,8 +26,8 @@ module _ {P : Type 0} (s : Table P) (root : ℕ) (key : List ℕ) (bytes : AreBy
     pub pairs : pairs_at t depth root ≡ put (pairs_at s depth root) (key_number key) v
     pub shape : Reshapes before (nodes_at s depth [] root) key (nodes_at t depth [] root)
 
-  module _ (r : HasRoot s root) (place : Place P) (a : Arrives s root key place) where
-    -- nothing stands at the key, unless the way ends at a payload
+  module _ (r : HasRoot s root) (place : Place P) (a : EndsAt s root key place) where
+    -- nothing stands at the key, unless the path ends at a payload
     pub none_absent : (b : ℕ) → place.end ≡ Absent b → lookup (pairs_at s depth root) (key_number key) ≡ None
     none_absent b is = lookup_end s root key bytes full place a (Absent b) (sym is) (λ c v e. absurd (cc))
 
@@ -69,21 +70,21 @@ module _ {P : Type 0} (s : Table P) (root : ℕ) (key : List ℕ) (bytes : AreBy
           shape = split_shape s t root key bytes full v place a at is splits;
         }
 
-module _ {P : Type 0} (s : Table P) (root : ℕ) (key : List ℕ) (place : Place P) (a : Arrives s root key place) where
+module _ {P : Type 0} (s : Table P) (root : ℕ) (key : List ℕ) (place : Place P) (a : EndsAt s root key place) where
   -- once there is room, a child may be put
   pub has_room : (g : Table P) (b : ℕ) → place.end ≡ Absent b → MakesRoom s g place.slot → HasRoomUnder g place.slot b
   has_room g b is room =
-      let d : IsEnd key a.node (Absent b) = subst (λ e. IsEnd key a.node e) is a.end in
+      let d : Finds key a.node (Absent b) = subst (λ e. Finds key a.node e) is a.end in
       let y = room a.node a.here in
       record { node = y.0; here = y.1; absent = subst (λ es. lookup es b ≡ None) (sym y.3) d.2; room = y.4 }
 
   pub is_parted : (g : Table P) (at : ℕ) → place.end ≡ Differs at → g ≡ s → IsParted g place.slot key at
   is_parted g at is same =
-      let d : IsEnd key a.node (Differs at) = subst (λ e. IsEnd key a.node e) is a.end in
+      let d : Finds key a.node (Differs at) = subst (λ e. Finds key a.node e) is a.end in
       record { node = a.node; here = subst (λ x. node_at x place.slot ≡ Some a.node) (sym same) a.here; differ = d }
 
   pub parts_high : (at : ℕ) → place.end ≡ Differs at → at < 7
   parts_high at is =
-      let d : IsEnd key a.node (Differs at) = subst (λ e. IsEnd key a.node e) is a.end in
-      let o = open_subtree s a.walk.levels place.slot a.node (record { above = a.walk.q; tree = a.walk.tree }) (sym a.here) in
+      let d : Finds key a.node (Differs at) = subst (λ e. Finds key a.node e) is a.end in
+      let o = open_subtree s a.leads.levels place.slot a.node (record { above = a.leads.q; tree = a.leads.tree }) (sym a.here) in
       omega (arith, d.inside, o.sound.short)

@@ -1,5 +1,3 @@
 pub mod Closure
 pub mod Reduce
-pub mod Takes
-pub mod Tree
-pub mod Writes
+pub mod inner

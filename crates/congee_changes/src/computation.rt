@@ -1,16 +1,16 @@
-//! A computation at a key that is present: a closure's answer takes the place of the payload, or the payload goes.
+//! A computation at a key that is present: what a closure returns takes the place of the payload, or the payload goes.
 //!
 //! Takes no memory.
 
-ghost use Rattle.std.specs.Prelude.{◌≡◌, ℕ, ◌+◌, ◌≤◌, [], length, Option, Some, None, if◌then◌else◌};
+ghost use Rattle.std.specs.Prelude.{◌≡◌, ◌+◌, ◌≤◌, length, Option, Some, None, if◌then◌else◌};
 ghost use Rattle.std.specs.Fn.{TakesAt, CalledAt};
-ghost use Rattle.congee_map.specs.Map.{lookup, with_answer};
+ghost use Rattle.std.specs.Option.{ForSome};
+ghost use Rattle.congee_map.specs.Map.{with_answer};
 ghost use Rattle.congee_node_table.specs.Key.{key_number};
 ghost use Rattle.congee_changes.specs.Reduce.{Recomputes};
-ghost use Rattle.congee_node_table.specs.Table.{pairs_at, nodes_at, IsTree};
 ghost use Rattle.congee_paths.specs.Path.{on_path};
-ghost use Rattle.congee_supply.specs.Supply.{IsCounted, Alike};
-ghost use Rattle.congee_paths.specs.Way.{depth, HasRoot};
+ghost use Rattle.congee_supply.specs.inner.Supply.{IsCounted, Alike};
+ghost use Rattle.congee_paths.specs.inner.Root.{HasRoot, HasTree, tree_pairs, tree_nodes, tree_payload};
 
 use crate::insertion::change_child;
 use crate::removal::{Taken, take_out};
@@ -30,8 +30,8 @@ pub struct Computed<P> {
     pub removed: bool,
 }
 
-/// Calls the closure at the payload at the key, where there is one, and puts its answer in the place of it, or takes the
-/// pair out.
+/// Calls the closure at the payload at the key, where there is one, and puts what it returns in its place: its `None`
+/// takes the pair out.
 pub fn compute_if_present<P: Drop, A: Allocator, F: FnMut(&P) -> Option<P>, L: Ledger>(
     nodes: &mut Slab<TreeNode<P>>,
     supply: &mut Supply<A>,
@@ -40,20 +40,28 @@ pub fn compute_if_present<P: Drop, A: Allocator, F: FnMut(&P) -> Option<P>, L: L
     f: &mut F,
     reads: &mut Reads<L>,
 ) -> Computed<P>
-    requires tree { IsTree nodes.old.slots depth [] root }
+    requires tree { HasTree nodes.old.slots root }
     requires root { HasRoot nodes.old.slots root }
-    requires counts { IsCounted supply.old.forms (nodes_at nodes.old.slots depth [] root) }
-    requires takes { (standing : P) → lookup (pairs_at nodes.old.slots depth root) (key_number key.now) ≡ Some standing → TakesAt F.FnMut f.old standing }
-    ensures tree { IsTree nodes.new.slots depth [] root }
+    requires counts { IsCounted supply.old.forms (tree_nodes nodes.old.slots root) }
+    requires takes { ForSome (tree_payload nodes.old.slots root key.now) (TakesAt F.FnMut f.old) }
+    ensures tree { HasTree nodes.new.slots root }
     ensures root { HasRoot nodes.new.slots root }
-    ensures before { result.before ≡ lookup (pairs_at nodes.old.slots depth root) (key_number key.now) }
-    ensures absent { lookup (pairs_at nodes.old.slots depth root) (key_number key.now) ≡ None → (nodes.new.slots ≡ nodes.old.slots) × (supply.new ≡ supply.old) × (f.new ≡ f.old) }
-    ensures present { (standing : P) → lookup (pairs_at nodes.old.slots depth root) (key_number key.now) ≡ Some standing → (answer : Option P) × CalledAt F.FnMut f.old standing answer f.new × (pairs_at nodes.new.slots depth root ≡ with_answer (pairs_at nodes.old.slots depth root) (key_number key.now) answer) × Recomputes answer (nodes_at nodes.old.slots depth [] root) key.now (nodes_at nodes.new.slots depth [] root) }
-    ensures counts { IsCounted supply.new.forms (nodes_at nodes.new.slots depth [] root) }
+    ensures before { result.before ≡ tree_payload nodes.old.slots root key.now }
+    ensures absent { tree_payload nodes.old.slots root key.now ≡ None
+        → (nodes.new.slots ≡ nodes.old.slots) × (supply.new ≡ supply.old) × (f.new ≡ f.old) }
+    ensures present { ForSome (tree_payload nodes.old.slots root key.now) (λ standing.
+        (answer : Option P)
+        × CalledAt F.FnMut f.old standing answer f.new
+        × (tree_pairs nodes.new.slots root
+        ≡ with_answer (tree_pairs nodes.old.slots root) (key_number key.now) answer)
+        × Recomputes answer (tree_nodes nodes.old.slots root) key.now
+        (tree_nodes nodes.new.slots root)) }
+    ensures counts { IsCounted supply.new.forms (tree_nodes nodes.new.slots root) }
     ensures alike { Alike A.charge supply.old supply.new }
-    ensures count { length (pairs_at nodes.new.slots depth root) + (if result.removed then 1 else 0) ≡ length (pairs_at nodes.old.slots depth root) }
-    ensures reads { reads.new ≡ reads.old + on_path (nodes_at nodes.old.slots depth [] root) key.now }
-    ensures few { on_path (nodes_at nodes.old.slots depth [] root) key.now ≤ 8 }
+    ensures count { length (tree_pairs nodes.new.slots root) + (if result.removed then 1 else 0)
+        ≡ length (tree_pairs nodes.old.slots root) }
+    ensures reads { reads.new ≡ reads.old + on_path (tree_nodes nodes.old.slots root) key.now }
+    ensures few { on_path (tree_nodes nodes.old.slots root) key.now ≤ 8 }
 {
     let Place {
         slot,

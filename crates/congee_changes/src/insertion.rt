@@ -1,21 +1,21 @@
-//! An insertion into the table: at the end of the key's way, one node is changed, grown or put below a new one.
+//! An insertion into the table: at the end of the key's path, one node is changed, grown or put below a new one.
 //!
 //! All memory is taken before the first change of what the tree stores, and before a closure is called.
 
-ghost use Rattle.std.specs.Prelude.{◌≡◌, ℕ, ◌+◌, ◌≤◌, ◌<◌, ◌^◌, [], IfOk, OnOk, OnErr, IsSome, Some, None, option_copied};
+ghost use Rattle.std.specs.Prelude.{◌≡◌, ◌+◌, ◌≤◌, ◌<◌, ◌^◌, IfOk, OnOk, OnErr, IsSome, Some, None, option_copied};
 ghost use Rattle.slab.specs.Slab.{slab_len, HasRoomFor};
 ghost use Rattle.congee_changes.specs.Closure.{TakesOption, CalledAtOption};
-ghost use Rattle.congee_map.specs.Map.{lookup, put};
+ghost use Rattle.congee_map.specs.Map.{put};
 ghost use Rattle.congee_node_table.specs.Key.{key_number};
 ghost use Rattle.congee_map.specs.Refusal.{NeedsNode};
 ghost use Rattle.congee_node_table.specs.Shape.{Reshapes};
-ghost use Rattle.congee_node_table.specs.Table.{node_at, pairs_at, nodes_at, IsTree};
+ghost use Rattle.congee_node_table.specs.Table.{node_at};
 ghost use Rattle.congee_paths.specs.Path.{on_path};
 ghost use Rattle.congee_base.specs.declared.base_node.NodeType.{NodeType};
 ghost use Rattle.congee_base.specs.declared.base_node.NodeType.TheVariants.{N4};
-ghost use Rattle.congee_supply.specs.Supply.{count, with_form, with_leaf, IsCounted, IsCountedAt, CountsGrown, AreFew, Alike};
-ghost use Rattle.congee_paths.specs.Way.{depth, HasRoot};
-ghost use Rattle.congee_changes.specs.Writes.{SameElsewhere, MakesRoom, IsFullAt, RefusesAt, IsReadyFor, WritesChild, HasChildUnder, WasChild, IsLeafBelow, empty_leaf, HasRoomUnder, PutsPair, AreParts, IsParted, Splits};
+ghost use Rattle.congee_supply.specs.inner.Supply.{count, with_form, with_leaf, IsCounted, IsCountedAt, CountsGrown, AreFew, Alike};
+ghost use Rattle.congee_paths.specs.inner.Root.{HasRoot, HasTree, tree_pairs, tree_nodes, tree_payload};
+ghost use Rattle.congee_changes.specs.inner.Writes.{SameElsewhere, MakesRoom, IsFullAt, RefusesAt, IsReadyFor, WritesChild, HasChildUnder, WasChild, IsLeafBelow, HasRoomUnder, PutsPair, AreParts, IsParted, Splits};
 
 use congee_base::base_node::NodeType;
 use congee_map::error::OOMError;
@@ -43,15 +43,18 @@ fn make_room<P: Drop, A: Allocator>(
     ensures refused { OnErr result (IsFullAt nodes.old.slots slot) }
     ensures len { slab_len nodes.new ≡ slab_len nodes.old }
     ensures capacity { nodes.new.capacity ≡ nodes.old.capacity }
-    ensures grown { OnOk result (CountsGrown nodes.old.slots slot supply.old.forms supply.new.forms) }
+    ensures grown { OnOk result
+        (CountsGrown nodes.old.slots slot supply.old.forms supply.new.forms) }
     ensures same { OnErr result (supply.new.forms ≡ supply.old.forms) }
     ensures alike { Alike A.charge supply.old supply.new }
 {
     let Some(node) = nodes.get_mut(slot) else {
         unreachable!()
     };
+    // (a look at the node tells the proof that its children are in order)
     let _ = node.base();
-    if node.is_full() {
+    let full = node.is_full();
+    if full {
         supply.grow(node)?;
     }
     Ok(())
@@ -119,7 +122,8 @@ fn ready_to_add<P: Drop, A: Allocator>(
     ensures reserved { IfOk result (λ leaf. IsSome leaf → HasRoomFor nodes.new 1) }
     ensures err { OnErr result (nodes.new.slots ≡ nodes.old.slots) }
     ensures refused { OnErr result (RefusesAt nodes.old.slots slot) }
-    ensures grown { IfOk result (λ leaf. CountsGrown nodes.old.slots slot (with_leaf leaf supply.old.forms) supply.new.forms) }
+    ensures grown { IfOk result (λ leaf.
+        CountsGrown nodes.old.slots slot (with_leaf leaf supply.old.forms) supply.new.forms) }
     ensures same { OnErr result (supply.new.forms ≡ supply.old.forms) }
     ensures alike { Alike A.charge supply.old supply.new }
 {
@@ -228,7 +232,7 @@ fn split<P: Drop>(
     nodes.insert_reserved(old);
 }
 
-/// Sets the payload at the key, and answers the one that stood there.
+/// Sets the payload at the key, and returns the one that stood there.
 pub fn insert<P: Drop, A: Allocator, L: Ledger>(
     nodes: &mut Slab<TreeNode<P>>,
     supply: &mut Supply<A>,
@@ -237,20 +241,24 @@ pub fn insert<P: Drop, A: Allocator, L: Ledger>(
     payload: P,
     reads: &mut Reads<L>,
 ) -> Result<Option<P>, OOMError>
-    requires tree { IsTree nodes.old.slots depth [] root }
+    requires tree { HasTree nodes.old.slots root }
     requires root { HasRoot nodes.old.slots root }
-    requires counts { IsCounted supply.old.forms (nodes_at nodes.old.slots depth [] root) }
-    ensures tree { IsTree nodes.new.slots depth [] root }
+    requires counts { IsCounted supply.old.forms (tree_nodes nodes.old.slots root) }
+    ensures tree { HasTree nodes.new.slots root }
     ensures root { HasRoot nodes.new.slots root }
-    ensures before { IfOk result (λ before. before ≡ lookup (pairs_at nodes.old.slots depth root) (key_number key.now)) }
-    ensures ok { OnOk result (pairs_at nodes.new.slots depth root ≡ put (pairs_at nodes.old.slots depth root) (key_number key.now) payload) }
+    ensures before { IfOk result (λ before. before ≡ tree_payload nodes.old.slots root key.now) }
+    ensures ok { OnOk result (tree_pairs nodes.new.slots root
+        ≡ put (tree_pairs nodes.old.slots root) (key_number key.now) payload) }
     ensures err { OnErr result (nodes.new.slots ≡ nodes.old.slots) }
-    ensures counts { IsCounted supply.new.forms (nodes_at nodes.new.slots depth [] root) }
+    ensures counts { IsCounted supply.new.forms (tree_nodes nodes.new.slots root) }
     ensures alike { Alike A.charge supply.old supply.new }
-    ensures shape { IfOk result (λ before. Reshapes before (nodes_at nodes.old.slots depth [] root) key.now (nodes_at nodes.new.slots depth [] root)) }
-    ensures reads { reads.new ≡ reads.old + on_path (nodes_at nodes.old.slots depth [] root) key.now }
-    ensures few { on_path (nodes_at nodes.old.slots depth [] root) key.now ≤ 8 }
-    ensures refused { OnErr result (NeedsNode (pairs_at nodes.old.slots depth root) (key_number key.now)) }
+    ensures shape { IfOk result (λ before.
+        Reshapes before (tree_nodes nodes.old.slots root) key.now
+        (tree_nodes nodes.new.slots root)) }
+    ensures reads { reads.new ≡ reads.old + on_path (tree_nodes nodes.old.slots root) key.now }
+    ensures few { on_path (tree_nodes nodes.old.slots root) key.now ≤ 8 }
+    ensures refused { OnErr result
+        (NeedsNode (tree_pairs nodes.old.slots root) (key_number key.now)) }
 {
     let Place { slot, end, .. } = descend(nodes, root, key, reads);
     match end {
@@ -285,7 +293,7 @@ fn nothing<P>(_nodes: &Slab<TreeNode<P>>) -> Option<&P>
     None
 }
 
-/// Sets what the closure makes of the payload at the key, or of its absence, and answers the one that stood there. The
+/// Sets what the closure makes of the payload at the key, or of its absence, and returns the payload that stood there. The
 /// closure is called once all memory is there.
 pub fn compute_or_insert<P: Drop, A: Allocator, F: FnMut(Option<&P>) -> P, L: Ledger>(
     nodes: &mut Slab<TreeNode<P>>,
@@ -295,22 +303,28 @@ pub fn compute_or_insert<P: Drop, A: Allocator, F: FnMut(Option<&P>) -> P, L: Le
     f: &mut F,
     reads: &mut Reads<L>,
 ) -> Result<Option<P>, OOMError>
-    requires tree { IsTree nodes.old.slots depth [] root }
+    requires tree { HasTree nodes.old.slots root }
     requires root { HasRoot nodes.old.slots root }
-    requires counts { IsCounted supply.old.forms (nodes_at nodes.old.slots depth [] root) }
-    requires call { TakesOption F.FnMut f.old (lookup (pairs_at nodes.old.slots depth root) (key_number key.now)) }
-    ensures tree { IsTree nodes.new.slots depth [] root }
+    requires counts { IsCounted supply.old.forms (tree_nodes nodes.old.slots root) }
+    requires call { TakesOption F.FnMut f.old (tree_payload nodes.old.slots root key.now) }
+    ensures tree { HasTree nodes.new.slots root }
     ensures root { HasRoot nodes.new.slots root }
-    ensures before { IfOk result (λ before. before ≡ lookup (pairs_at nodes.old.slots depth root) (key_number key.now)) }
-    ensures ok { OnOk result ((answer : P) × CalledAtOption F.FnMut f.old (lookup (pairs_at nodes.old.slots depth root) (key_number key.now)) answer f.new × (pairs_at nodes.new.slots depth root ≡ put (pairs_at nodes.old.slots depth root) (key_number key.now) answer)) }
+    ensures before { IfOk result (λ before. before ≡ tree_payload nodes.old.slots root key.now) }
+    ensures ok { OnOk result ((answer : P)
+        × CalledAtOption F.FnMut f.old (tree_payload nodes.old.slots root key.now) answer f.new
+        × (tree_pairs nodes.new.slots root
+        ≡ put (tree_pairs nodes.old.slots root) (key_number key.now) answer)) }
     ensures err { OnErr result (nodes.new.slots ≡ nodes.old.slots) }
     ensures not_called { OnErr result (f.new ≡ f.old) }
-    ensures counts { IsCounted supply.new.forms (nodes_at nodes.new.slots depth [] root) }
+    ensures counts { IsCounted supply.new.forms (tree_nodes nodes.new.slots root) }
     ensures alike { Alike A.charge supply.old supply.new }
-    ensures shape { IfOk result (λ before. Reshapes before (nodes_at nodes.old.slots depth [] root) key.now (nodes_at nodes.new.slots depth [] root)) }
-    ensures reads { reads.new ≡ reads.old + on_path (nodes_at nodes.old.slots depth [] root) key.now }
-    ensures few { on_path (nodes_at nodes.old.slots depth [] root) key.now ≤ 8 }
-    ensures refused { OnErr result (NeedsNode (pairs_at nodes.old.slots depth root) (key_number key.now)) }
+    ensures shape { IfOk result (λ before.
+        Reshapes before (tree_nodes nodes.old.slots root) key.now
+        (tree_nodes nodes.new.slots root)) }
+    ensures reads { reads.new ≡ reads.old + on_path (tree_nodes nodes.old.slots root) key.now }
+    ensures few { on_path (tree_nodes nodes.old.slots root) key.now ≤ 8 }
+    ensures refused { OnErr result
+        (NeedsNode (tree_pairs nodes.old.slots root) (key_number key.now)) }
 {
     let Place { slot, end, .. } = descend(nodes, root, key, reads);
     match end {

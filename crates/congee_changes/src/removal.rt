@@ -2,17 +2,17 @@
 //!
 //! Takes no memory. An inner node that is empty then stays.
 
-ghost use Rattle.std.specs.Prelude.{◌≡◌, ℕ, ◌+◌, ◌≤◌, [], Some, None};
-ghost use Rattle.congee_map.specs.Map.{lookup, without};
+ghost use Rattle.std.specs.Prelude.{◌≡◌, ◌+◌, ◌≤◌, Some, None};
+ghost use Rattle.congee_map.specs.Map.{without};
 ghost use Rattle.congee_node_table.specs.Key.{key_number};
 ghost use Rattle.congee_changes.specs.Reduce.{Reduces};
-ghost use Rattle.congee_node_table.specs.Table.{node_at, pairs_at, nodes_at, IsTree};
+ghost use Rattle.congee_node_table.specs.Table.{node_at};
 ghost use Rattle.congee_node_table.specs.declared.child.Child.TheVariants.{Payload};
 ghost use Rattle.congee_paths.specs.Path.{on_path};
-ghost use Rattle.congee_supply.specs.Supply.{IsCounted, Alike};
-ghost use Rattle.congee_paths.specs.Way.{depth, HasRoot};
-ghost use Rattle.congee_changes.specs.Writes.{SameElsewhere, WasChild};
-ghost use Rattle.congee_changes.specs.Takes.{IsPresentIn, TakesChild, TakesOnWay, KeepsBut, IsLinked, IsHeld, TakesOut};
+ghost use Rattle.congee_supply.specs.inner.Supply.{IsCounted, Alike};
+ghost use Rattle.congee_paths.specs.inner.Root.{HasRoot, HasTree, tree_pairs, tree_nodes, tree_payload};
+ghost use Rattle.congee_changes.specs.inner.Writes.{SameElsewhere, WasChild};
+ghost use Rattle.congee_changes.specs.inner.Takes.{IsPresentIn, TakesChild, TakesOnPath, KeepsBut, IsChildOnPath, IsHeld, TakesOut};
 
 use congee_base::base_node::NodeType;
 use congee_node_table::allocator::Allocator;
@@ -37,11 +37,11 @@ fn take_child<P: Drop>(nodes: &mut Slab<TreeNode<P>>, slot: usize, byte: u8) -> 
     node.remove(byte)
 }
 
-// Takes the node in a slot out of the one above it on the key's way, and gives its slot back.
+// Takes the node in a slot out of the one above it on the key's path, and gives its slot back.
 fn detach<P: Drop>(nodes: &mut Slab<TreeNode<P>>, parent: usize, slot: usize, key: &[u8; 8])
-    requires { IsLinked nodes.old.slots parent slot key.now }
+    requires { IsChildOnPath nodes.old.slots parent slot key.now }
     ensures keeps { KeepsBut parent slot nodes.old.slots nodes.new.slots }
-    ensures taken { TakesOnWay nodes.old.slots nodes.new.slots parent key.now }
+    ensures taken { TakesOnPath nodes.old.slots nodes.new.slots parent key.now }
     ensures gives_back { node_at nodes.new.slots slot ≡ None }
 {
     let Some(above) = nodes.get(parent) else {
@@ -93,7 +93,7 @@ pub fn take_out<P: Drop>(
     }
 }
 
-/// Takes out the pair at the key, and answers its payload.
+/// Takes out the pair at the key, and returns its payload.
 pub fn remove<P: Drop, A: Allocator, L: Ledger>(
     nodes: &mut Slab<TreeNode<P>>,
     supply: &mut Supply<A>,
@@ -101,18 +101,20 @@ pub fn remove<P: Drop, A: Allocator, L: Ledger>(
     key: &[u8; 8],
     reads: &mut Reads<L>,
 ) -> Option<P>
-    requires tree { IsTree nodes.old.slots depth [] root }
+    requires tree { HasTree nodes.old.slots root }
     requires root { HasRoot nodes.old.slots root }
-    requires counts { IsCounted supply.old.forms (nodes_at nodes.old.slots depth [] root) }
-    ensures tree { IsTree nodes.new.slots depth [] root }
+    requires counts { IsCounted supply.old.forms (tree_nodes nodes.old.slots root) }
+    ensures tree { HasTree nodes.new.slots root }
     ensures root { HasRoot nodes.new.slots root }
-    ensures before { result ≡ lookup (pairs_at nodes.old.slots depth root) (key_number key.now) }
-    ensures pairs { pairs_at nodes.new.slots depth root ≡ without (pairs_at nodes.old.slots depth root) (key_number key.now) }
-    ensures counts { IsCounted supply.new.forms (nodes_at nodes.new.slots depth [] root) }
+    ensures before { result ≡ tree_payload nodes.old.slots root key.now }
+    ensures pairs { tree_pairs nodes.new.slots root
+        ≡ without (tree_pairs nodes.old.slots root) (key_number key.now) }
+    ensures counts { IsCounted supply.new.forms (tree_nodes nodes.new.slots root) }
     ensures alike { Alike A.charge supply.old supply.new }
-    ensures shape { Reduces result (nodes_at nodes.old.slots depth [] root) key.now (nodes_at nodes.new.slots depth [] root) }
-    ensures reads { reads.new ≡ reads.old + on_path (nodes_at nodes.old.slots depth [] root) key.now }
-    ensures few { on_path (nodes_at nodes.old.slots depth [] root) key.now ≤ 8 }
+    ensures shape { Reduces result (tree_nodes nodes.old.slots root) key.now
+        (tree_nodes nodes.new.slots root) }
+    ensures reads { reads.new ≡ reads.old + on_path (tree_nodes nodes.old.slots root) key.now }
+    ensures few { on_path (tree_nodes nodes.old.slots root) key.now ≤ 8 }
 {
     let Place {
         slot,

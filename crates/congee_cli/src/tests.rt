@@ -2,7 +2,7 @@
 
 use congee_lines::watched::Watched;
 use congee_service::serve::serve;
-use std::alloc::Global;
+use std::alloc::{AllocError, Global};
 use std::io;
 use std::io::{ErrorKind, Read, Write};
 use std::test::Fail;
@@ -11,36 +11,67 @@ const USAGE: &str = "usage: congee run [LIMIT] | congee schedule\n";
 
 const BROKEN: &str = "congee: input or output failed\n";
 
-// How a run ended.
-#[derive(Drop)]
-struct Ending {
+/// What a run gives. It is `Copy`: what a run owns stays in helpers that return it or a `bool`, since each assertion
+/// beside an owned value makes a test dearer to prove.
+#[derive(Clone, Copy)]
+struct Outcome<'a> {
     status: u8,
-    told: String,
+    written: &'a [u8],
+    told: &'a str,
     reader_failed: bool,
     writer_failed: bool,
 }
 
-// What a run of the words writes and tells, and its status.
-fn outcome<R: Read + Drop, W: Write>(
-    alloc: Global,
-    words: &[&str],
-    reader: R,
-    writer: &mut W,
-) -> Result<Ending, Fail> {
+impl<'a> Outcome<'a> {
+    // No stream failed.
+    fn of(status: u8, written: &'a str, told: &'a str) -> Outcome<'a> {
+        Outcome {
+            status,
+            written: written.as_bytes(),
+            told,
+            reader_failed: false,
+            writer_failed: false,
+        }
+    }
+}
+
+fn words_of(alloc: Global, words: &[&str]) -> Result<Vec<String>, AllocError> {
     let mut list = Vec::new(alloc);
     for word in words {
         list.push(String::from_str(alloc, word)?)?;
     }
+    Ok(list)
+}
+
+// Whether a run of the words has this status, tells this, and its streams failed or not.
+fn ends<R: Read + Drop, W: Write>(
+    alloc: Global,
+    words: &[String],
+    reader: R,
+    writer: &mut W,
+    wanted: Outcome<'_>,
+) -> bool {
     let mut input = Watched::new(reader);
     let mut output = Watched::new(writer);
     let mut errors = Vec::new(alloc);
-    let status = serve(alloc, &list, &mut input, &mut output, &mut errors);
-    Ok(Ending {
-        status,
-        told: String::from_utf8(errors).map_err(|_| "no text")?,
-        reader_failed: input.failed(),
-        writer_failed: output.failed(),
-    })
+    let status = serve(alloc, words, &mut input, &mut output, &mut errors);
+    status == wanted.status
+        && errors.as_slice() == wanted.told.as_bytes()
+        && input.failed() == wanted.reader_failed
+        && output.failed() == wanted.writer_failed
+}
+
+// Whether a run of the words gives this.
+fn gives<R: Read + Drop>(
+    alloc: Global,
+    words: &[&str],
+    reader: R,
+    wanted: Outcome<'_>,
+) -> Result<bool, AllocError> {
+    let list = words_of(alloc, words)?;
+    let mut written = Vec::new(alloc);
+    let ends = ends(alloc, &list, reader, &mut written, wanted);
+    Ok(ends && written.as_slice() == wanted.written)
 }
 
 #[test]
@@ -108,30 +139,34 @@ fn answers(rt: HostRuntime) -> Result<(), Fail> {
         ),
     ];
     for (input, wanted) in cases {
-        let mut written = Vec::new(rt.alloc());
-        let run = outcome(rt.alloc(), &["run"], input.as_bytes(), &mut written)?;
-        assert_eq!(rt; run.status, 0, "at {input:?}");
-        assert_eq!(rt; written.as_slice(), wanted.as_bytes(), "at {input:?}");
-        assert_eq!(rt; run.told.as_str(), "");
-        assert_eq!(rt; (run.reader_failed, run.writer_failed), (false, false));
+        let wanted = Outcome::of(0, wanted, "");
+        let is_so = gives(rt.alloc(), &["run"], input.as_bytes(), wanted)?;
+        assert!(rt; is_so, "at {input:?}");
     }
     Ok(())
+}
+
+// A line of this length between two commands.
+fn long_line(alloc: Global, len: usize) -> Result<Vec<u8>, AllocError> {
+    let mut input = Vec::new(alloc);
+    input.extend_from_slice(b"insert 1 42\n")?;
+    for _ in 0..len {
+        input.push(b'1')?;
+    }
+    input.extend_from_slice(b"\nget 1\n")?;
+    Ok(input)
+}
+
+fn serves_long_line(alloc: Global, len: usize) -> Result<bool, AllocError> {
+    let input = long_line(alloc, len)?;
+    let wanted = Outcome::of(0, "ok none\nbad line\n42\n", "");
+    gives(alloc, &["run"], input.as_slice(), wanted)
 }
 
 #[test]
 fn long_lines(rt: HostRuntime) -> Result<(), Fail> {
     for len in [256, 257, 5000] {
-        let mut input = Vec::new(rt.alloc());
-        input.extend_from_slice(b"insert 1 42\n")?;
-        for _ in 0..len {
-            input.push(b'1')?;
-        }
-        input.extend_from_slice(b"\nget 1\n")?;
-        let mut written = Vec::new(rt.alloc());
-        let run = outcome(rt.alloc(), &["run"], input.as_slice(), &mut written)?;
-        assert_eq!(rt; run.status, 0);
-        let wanted = b"ok none\nbad line\n42\n".as_slice();
-        assert_eq!(rt; written.as_slice(), wanted, "at {len}");
+        assert!(rt; serves_long_line(rt.alloc(), len)?, "at {len}");
     }
     Ok(())
 }
@@ -151,13 +186,9 @@ fn usage(rt: HostRuntime) -> Result<(), Fail> {
         &["run\n"],
     ];
     for words in cases {
-        let mut written = Vec::new(rt.alloc());
         let input = "insert 1 1\n".as_bytes();
-        let run = outcome(rt.alloc(), words, input, &mut written)?;
-        assert_eq!(rt; run.status, 2, "at {words:?}");
-        assert_eq!(rt; written.len(), 0, "at {words:?}");
-        assert_eq!(rt; run.told.as_str(), USAGE, "at {words:?}");
-        assert_eq!(rt; (run.reader_failed, run.writer_failed), (false, false));
+        let is_so = gives(rt.alloc(), words, input, Outcome::of(2, "", USAGE))?;
+        assert!(rt; is_so, "at {words:?}");
     }
     Ok(())
 }
@@ -179,30 +210,33 @@ fn limits(rt: HostRuntime) -> Result<(), Fail> {
         ),
     ];
     for (limit, status, wanted, told) in cases {
-        let mut written = Vec::new(rt.alloc());
-        let words = ["run", limit];
-        let run = outcome(rt.alloc(), &words, lines.as_bytes(), &mut written)?;
-        assert_eq!(rt; run.status, status, "at {limit}");
-        assert_eq!(rt; written.as_slice(), wanted.as_bytes(), "at {limit}");
-        assert_eq!(rt; run.told.as_str(), told, "at {limit}");
-        assert_eq!(rt; (run.reader_failed, run.writer_failed), (false, false));
+        let wanted = Outcome::of(status, wanted, told);
+        let is_so = gives(rt.alloc(), &["run", limit], lines.as_bytes(), wanted)?;
+        assert!(rt; is_so, "at {limit}");
     }
     Ok(())
 }
 
 // Lines that insert the keys below a number, each with itself as its value, and then this one.
-fn inserted(alloc: Global, count: u64, last: &str) -> Result<String, Fail> {
-    let mut input = String::new(alloc);
+fn add_inserted(
+    alloc: Global,
+    input: &mut String,
+    count: u64,
+    last: &str,
+) -> Result<(), AllocError> {
     for key in 0..count {
         input.push_str(format!(in alloc; "insert {key} {key}\n")?.as_str())?;
     }
-    input.push_str(last)?;
-    Ok(input)
+    input.push_str(last)
 }
 
 // What those lines are answered: all keys, or all pairs.
-fn listed(alloc: Global, count: u64, with_values: bool) -> Result<String, Fail> {
-    let mut text = String::new(alloc);
+fn add_listed(
+    alloc: Global,
+    text: &mut String,
+    count: u64,
+    with_values: bool,
+) -> Result<(), AllocError> {
     for _ in 0..count {
         text.push_str("ok none\n")?;
     }
@@ -213,31 +247,41 @@ fn listed(alloc: Global, count: u64, with_values: bool) -> Result<String, Fail> 
             text.push_str(format!(in alloc; "={key}")?.as_str())?;
         }
     }
-    text.push_str("\n")?;
-    Ok(text)
+    text.push_str("\n")
+}
+
+// What such lines give a writer with room for all of it, and one that is full after so many bytes.
+fn gives_list(
+    alloc: Global,
+    line: &str,
+    with_values: bool,
+    room: Option<usize>,
+) -> Result<bool, AllocError> {
+    let mut input = String::new(alloc);
+    let mut wanted = String::new(alloc);
+    add_inserted(alloc, &mut input, 4000, line)?;
+    add_listed(alloc, &mut wanted, 4000, with_values)?;
+    match room {
+        None => gives(
+            alloc,
+            &["run"],
+            input.as_bytes(),
+            Outcome::of(0, wanted.as_str(), ""),
+        ),
+        Some(room) => fills(alloc, input.as_bytes(), wanted.as_bytes(), room),
+    }
 }
 
 #[test]
 fn answers_longer_than_the_buffer(rt: HostRuntime) -> Result<(), Fail> {
     let cases = [("keys\n", false), ("range 0 5000 4096\n", true)];
+    // the writer has room, or it is full in the middle of the list
     for (line, with_values) in cases {
-        let input = inserted(rt.alloc(), 4000, line)?;
-        let wanted = listed(rt.alloc(), 4000, with_values)?;
-        let mut written = Vec::new(rt.alloc());
-        let run = outcome(rt.alloc(), &["run"], input.as_bytes(), &mut written)?;
-        assert_eq!(rt; run.status, 0, "at {line}");
-        assert_eq!(rt; written.as_slice(), wanted.as_bytes(), "at {line}");
-        // the writer is full in the middle of the list
-        for room in [33_000, 40_000, 50_000] {
-            let mut output = Full {
-                taken: Vec::new(rt.alloc()),
-                room,
-            };
-            let run = outcome(rt.alloc(), &["run"], input.as_bytes(), &mut output)?;
-            assert_eq!(rt; run.status, 1, "at {line}");
-            let count = output.taken.len().min(wanted.len());
-            assert_eq!(rt; output.taken.as_slice(), &wanted.as_bytes()[..count]);
-            assert_eq!(rt; count, room);
+        for room in [None, Some(33_000), Some(40_000), Some(50_000)] {
+            assert!(rt;
+                gives_list(rt.alloc(), line, with_values, room)?,
+                "at {line}"
+            );
         }
     }
     Ok(())
@@ -262,17 +306,19 @@ impl Read for Torn<'_> {
 
 #[test]
 fn torn_input(rt: HostRuntime) -> Result<(), Fail> {
+    let wanted = Outcome {
+        reader_failed: true,
+        ..Outcome::of(1, "ok none\n", BROKEN)
+    };
     for at_once in 1..8 {
-        let mut written = Vec::new(rt.alloc());
         let input = Torn {
             rest: b"insert 1 42\nget 1",
             at_once,
         };
-        let run = outcome(rt.alloc(), &["run"], input, &mut written)?;
-        assert_eq!(rt; run.status, 1);
-        assert_eq!(rt; written.as_slice(), b"ok none\n".as_slice());
-        assert_eq!(rt; run.told.as_str(), BROKEN);
-        assert_eq!(rt; (run.reader_failed, run.writer_failed), (true, false));
+        assert!(rt;
+            gives(rt.alloc(), &["run"], input, wanted)?,
+            "{at_once} at once"
+        );
     }
     Ok(())
 }
@@ -297,20 +343,27 @@ impl Write for Full {
     }
 }
 
+// Whether a run at a writer with room for so many bytes breaks off, and has written the first ones of these.
+fn fills(alloc: Global, input: &[u8], wanted: &[u8], room: usize) -> Result<bool, AllocError> {
+    let list = words_of(alloc, &["run"])?;
+    let mut output = Full {
+        taken: Vec::new(alloc),
+        room,
+    };
+    let ending = Outcome {
+        writer_failed: true,
+        ..Outcome::of(1, "", BROKEN)
+    };
+    let ends = ends(alloc, &list, input, &mut output, ending);
+    Ok(ends && output.taken.len() == room && wanted.starts_with(output.taken.as_slice()))
+}
+
 #[test]
 fn full_output(rt: HostRuntime) -> Result<(), Fail> {
     let wanted = b"ok none\n42\n".as_slice();
     for room in 0..wanted.len() {
-        let mut output = Full {
-            taken: Vec::new(rt.alloc()),
-            room,
-        };
-        let input = "insert 1 42\nget 1\n".as_bytes();
-        let run = outcome(rt.alloc(), &["run"], input, &mut output)?;
-        assert_eq!(rt; run.status, 1);
-        assert_eq!(rt; output.taken.as_slice(), &wanted[..room]);
-        assert_eq!(rt; run.told.as_str(), BROKEN);
-        assert_eq!(rt; (run.reader_failed, run.writer_failed), (false, true));
+        let is_so = fills(rt.alloc(), b"insert 1 42\nget 1\n", wanted, room)?;
+        assert!(rt; is_so, "room for {room}");
     }
     Ok(())
 }

@@ -1,8 +1,9 @@
 -- From the words of a line to the value that it says, for any grammar by words.
 use Rattle.std.proofs.Common.{◌≡◌, ℕ, ◌<◌, ◌≤◌, List, [], ◌∷◌, length, Option, Some, None, IfSome, IfNone, sym, ap, ◌∙◌, arith}
 use Rattle.std.specs.List.{join_with_byte, AllByRecursion}
-use Rattle.congee_lines.specs.Words.{words_of}
-use Rattle.congee_commands.specs.Grammar.{Spells, SpellsNone, ReadsWords}
+use Rattle.congee_lines.specs.inner.Words.{words_of}
+use Rattle.congee_commands.specs.Grammar.{Spells, SpellsNone}
+use Rattle.congee_commands.specs.inner.Reading.{ReadsWords}
 use Rattle.congee_lines.proofs.WordLemmas.{IsWord, words_joined, joined_words, length_joined}
 
 -- Each value has words, at most twelve, and they tell the value.

@@ -7,8 +7,8 @@ use Rattle.congee_runs.specs.Calls.{AnswersBy, deeds_of}
 use Rattle.congee_commands.specs.declared.command.Command.{Command}
 use Rattle.congee_commands.specs.declared.reply.Reply.{Reply}
 use Rattle.congee_commands.specs.declared.reply.Reply.TheVariants.{Value, Before, Exchanged, Computed, Tested, Ranged, Listed, Refused, NoMemory, BadLine}
-use Rattle.congee_commands.specs.Command.{Says, closure_of}
-use Rattle.congee_commands.specs.Replied.{reply_text, head_text, items_text, asked_of, deed_of, done_of, IsServed, AnswersLine}
+use Rattle.congee_commands.specs.Command.{SpellsCommand, command_closure}
+use Rattle.congee_commands.specs.inner.Replied.{reply_text, head_text, items_text, reply_asked, reply_deed, reply_done, IsServed, AnswersLine}
 
 -- the two parts of a text
 pub head_items : (reply : Reply) → head_text reply ++ items_text reply ≡ reply_text reply
@@ -23,20 +23,20 @@ head_items Refused = append-nil _
 head_items NoMemory = append-nil _
 head_items BadLine = append-nil _
 
-module _ (m n : Pairs ℕ) (line : List ℕ) (command : Command) (says : Says line command) where
+module _ (m n : Pairs ℕ) (line : List ℕ) (command : Command) (says : SpellsCommand line command) where
   -- a command that was done
-  obeyed : (reply : Reply) → done_of command reply ≡ Some (deed_of command reply) → IsServed command (done_of command reply) (reply_text reply)
-      → AnswersBy (closure_of command) (asked_of command reply)
-      → IsLegal nat_eq of_new_nodes m (deeds_of (done_of command reply ∷ [])) n → AnswersLine m line (reply_text reply) n
+  obeyed : (reply : Reply) → reply_done command reply ≡ Some (reply_deed command reply) → IsServed command (reply_done command reply) (reply_text reply)
+      → AnswersBy (command_closure command) (reply_asked command reply)
+      → IsLegal nat_eq of_new_nodes m (deeds_of (reply_done command reply ∷ [])) n → AnswersLine m line (reply_text reply) n
   obeyed reply is served closure legal = record {
-    done = Some (deed_of command reply);
+    done = Some (reply_deed command reply);
     answered = record { command = command; says = says; asks = refl; closure = closure; answers = rw is at served };
     legal = rw is at legal;
   }
 
   -- and one that was done or not
-  pub answers_line : (reply : Reply) → IsServed command (done_of command reply) (reply_text reply) → AnswersBy (closure_of command) (asked_of command reply)
-      → IsLegal nat_eq of_new_nodes m (deeds_of (done_of command reply ∷ [])) n → AnswersLine m line (reply_text reply) n
+  pub answers_line : (reply : Reply) → IsServed command (reply_done command reply) (reply_text reply) → AnswersBy (command_closure command) (reply_asked command reply)
+      → IsLegal nat_eq of_new_nodes m (deeds_of (reply_done command reply ∷ [])) n → AnswersLine m line (reply_text reply) n
   answers_line (Value value) served closure legal = obeyed (Value value) refl served closure legal
   answers_line (Before before) served closure legal = obeyed (Before before) refl served closure legal
   answers_line (Exchanged r) served closure legal = obeyed (Exchanged r) refl served closure legal

@@ -5,7 +5,7 @@ use Rattle.congee_map.specs.Call.{old_value, exchanged, computed, tested, listed
 use Rattle.congee_runs.specs.Calls.{AnswersBy}
 use Rattle.congee_commands.specs.declared.command.Command.{Command}
 use Rattle.congee_commands.specs.declared.command.Command.TheVariants.{Get, Insert, Remove, Exchange, Add, Put, Range, Keys, Empty}
-use Rattle.congee_commands.specs.Command.{Says, IsBad, call_of, closure_of}
+use Rattle.congee_commands.specs.Command.{SpellsCommand, IsBad, command_call, command_closure}
 use Rattle.congee_commands.specs.Value.{value_text}
 
 abbrev pub test_text : Bool → List ℕ
@@ -29,13 +29,17 @@ pairs_text pairs = decimal (length pairs) ++ flat_map pair_text pairs
 -- the text of what a command is answered, if it can be answered so
 abbrev pub IsText : Command → Answer ℕ ℕ ℕ → List ℕ → Type 0
 IsText (Get key) (replied (old_value value)) text = text ≡ value_text value
-IsText (Insert key value) (replied (old_value before)) text = text ≡ codes "ok " ++ value_text before
+IsText (Insert key value) (replied (old_value before)) text =
+    text ≡ codes "ok " ++ value_text before
 IsText (Insert key value) refused text = text ≡ codes "oom"
 IsText (Remove key) (replied (old_value before)) text = text ≡ value_text before
-IsText (Exchange key old new) (replied (exchanged (Ok put))) text = text ≡ codes "ok " ++ value_text put
-IsText (Exchange key old new) (replied (exchanged (Err standing))) text = text ≡ codes "err " ++ value_text standing
+IsText (Exchange key old new) (replied (exchanged (Ok put))) text =
+    text ≡ codes "ok " ++ value_text put
+IsText (Exchange key old new) (replied (exchanged (Err standing))) text =
+    text ≡ codes "err " ++ value_text standing
 IsText (Add key more) (replied (computed None)) text = text ≡ codes "none"
-IsText (Add key more) (replied (computed (Some (old, new)))) text = text ≡ decimal old ++ codes " " ++ value_text new
+IsText (Add key more) (replied (computed (Some (old, new)))) text =
+    text ≡ decimal old ++ codes " " ++ value_text new
 IsText (Put key more) (replied (old_value before)) text = text ≡ codes "ok " ++ value_text before
 IsText (Put key more) refused text = text ≡ codes "oom"
 IsText (Range start end limit) (replied (ranged pairs)) text = text ≡ pairs_text pairs
@@ -48,9 +52,9 @@ IsText command answer text = ⊥
 -- answer
 pub record Obeys (line text : List ℕ) (deed : Deed ℕ ℕ ℕ) : Type 0 where
   pub command : Command
-  pub says : Says line command
-  pub asks : deed.call ≡ call_of command
-  pub closure : AnswersBy (closure_of command) deed.asked
+  pub says : SpellsCommand line command
+  pub asks : deed.call ≡ command_call command
+  pub closure : AnswersBy (command_closure command) deed.asked
   pub answers : IsText command deed.answer text
 
 -- the text of a command that wasn't done: there was no memory for the pairs that a range is written into
@@ -61,7 +65,7 @@ IsUndone command text = ⊥
 -- the line is such a command
 pub record FindsNoMemory (line text : List ℕ) : Type 0 where
   pub command : Command
-  pub says : Says line command
+  pub says : SpellsCommand line command
   pub undone : IsUndone command text
 
 -- The line is answered by the text: for what was done, if it is a command that was done, and for nothing otherwise.
@@ -72,5 +76,6 @@ IsAnswered line text None = (IsBad line × (text ≡ codes "bad line")) ⊎ Find
 -- the lines are answered by the texts, one after another
 abbrev pub AreAnswered : List (List ℕ) → List (List ℕ) → List (Option (Deed ℕ ℕ ℕ)) → Type 0
 AreAnswered [] [] [] = Unit {0}
-AreAnswered (line ∷ lines) (text ∷ texts) (done ∷ dones) = IsAnswered line text done × AreAnswered lines texts dones
+AreAnswered (line ∷ lines) (text ∷ texts) (done ∷ dones) =
+    IsAnswered line text done × AreAnswered lines texts dones
 AreAnswered lines texts dones = ⊥

@@ -45,24 +45,24 @@ HasNumbers Keys = Unit {0}
 HasNumbers Empty = Unit {0}
 
 -- the line is the command's words, with one space between each two
-abbrev pub Says : List ℕ → Command → Type 0
-Says line command = Spells words_of_command HasNumbers line command
+abbrev pub SpellsCommand : List ℕ → Command → Type 0
+SpellsCommand line command = Spells words_of_command HasNumbers line command
 
 -- the line is no command
 abbrev pub IsBad : List ℕ → Type 0
 IsBad line = SpellsNone words_of_command HasNumbers line
 
 -- the call that a command asks for
-abbrev pub call_of : Command → Call ℕ ℕ
-call_of (Get key) = get key
-call_of (Insert key value) = insert key value
-call_of (Remove key) = remove key
-call_of (Exchange key old new) = compare_exchange key old new
-call_of (Add key more) = compute_if_present key
-call_of (Put key more) = compute_or_insert key
-call_of (Range start end limit) = range start end limit
-call_of Keys = keys
-call_of Empty = is_empty
+abbrev pub command_call : Command → Call ℕ ℕ
+command_call (Get key) = get key
+command_call (Insert key value) = insert key value
+command_call (Remove key) = remove key
+command_call (Exchange key old new) = compare_exchange key old new
+command_call (Add key more) = compute_if_present key
+command_call (Put key more) = compute_or_insert key
+command_call (Range start end limit) = range start end limit
+command_call Keys = keys
+command_call Empty = is_empty
 
 -- the sum, where it has 64 bits
 abbrev pub checked_sum : ℕ → ℕ → Option ℕ
@@ -74,14 +74,14 @@ put_sum None more = more
 put_sum (Some value) more = min (value + more) (2 ^ 64 - 1)
 
 -- what a command's closure answers to what it is handed: `add` the sum where it fits, and `put` its sum always
-abbrev pub closure_of : Command → Option ℕ → Option ℕ
-closure_of (Get key) handed = None
-closure_of (Insert key value) handed = None
-closure_of (Remove key) handed = None
-closure_of (Exchange key old new) handed = None
-closure_of (Add key more) None = None
-closure_of (Add key more) (Some value) = checked_sum value more
-closure_of (Put key more) handed = Some (put_sum handed more)
-closure_of (Range start end limit) handed = None
-closure_of Keys handed = None
-closure_of Empty handed = None
+abbrev pub command_closure : Command → Option ℕ → Option ℕ
+command_closure (Get key) handed = None
+command_closure (Insert key value) handed = None
+command_closure (Remove key) handed = None
+command_closure (Exchange key old new) handed = None
+command_closure (Add key more) None = None
+command_closure (Add key more) (Some value) = checked_sum value more
+command_closure (Put key more) handed = Some (put_sum handed more)
+command_closure (Range start end limit) handed = None
+command_closure Keys handed = None
+command_closure Empty handed = None

@@ -2,5 +2,5 @@ pub mod Answer
 pub mod Command
 pub mod Grammar
 pub mod Number
-pub mod Replied
 pub mod Value
+pub mod inner

@@ -31,14 +31,14 @@ pub enum Command {
 /// How many pairs a range may ask for.
 pub const MAX_PAIRS: u64 = 4096;
 
-ghost use Rattle.congee_lines.specs.Words.{words_left};
-ghost use Rattle.congee_commands.specs.Grammar.{ReadsWords};
+ghost use Rattle.congee_lines.specs.inner.Words.{words_left};
+ghost use Rattle.congee_commands.specs.inner.Reading.{ReadsCommand};
 ghost use Rattle.congee_commands.specs.Value.{value_text, IsWide};
-ghost use Rattle.congee_commands.specs.Command.{words_of_command, HasNumbers, Says, IsBad};
+ghost use Rattle.congee_commands.specs.Command.{SpellsCommand, IsBad};
 
 /// The command that a line says. The line feed behind it is no part of a line.
 pub fn command_of(line: &[u8]) -> Option<Command>
-    ensures said { IfSome result (Says line.now) }
+    ensures said { IfSome result (SpellsCommand line.now) }
     ensures bad { IfNone result (IsBad line.now) }
 {
     let mut words = Words::new(line);
@@ -48,7 +48,7 @@ pub fn command_of(line: &[u8]) -> Option<Command>
 
 // The command with this first word and these behind it.
 fn named(name: &[u8], words: Words) -> Option<Command>
-    ensures { ReadsWords words_of_command HasNumbers (name.now ∷ words_left words.entry) result }
+    ensures { ReadsCommand name.now words.entry result }
 {
     if name == b"get".as_slice() {
         return get_of(words);
@@ -81,7 +81,7 @@ fn named(name: &[u8], words: Words) -> Option<Command>
 }
 
 fn get_of(mut words: Words) -> Option<Command>
-    ensures { ReadsWords words_of_command HasNumbers (codes "get" ∷ words_left words.entry) result }
+    ensures { ReadsCommand (codes "get") words.entry result }
 {
     let key = next_number(&mut words)?;
     words.end()?;
@@ -89,7 +89,7 @@ fn get_of(mut words: Words) -> Option<Command>
 }
 
 fn insert_of(mut words: Words) -> Option<Command>
-    ensures { ReadsWords words_of_command HasNumbers (codes "insert" ∷ words_left words.entry) result }
+    ensures { ReadsCommand (codes "insert") words.entry result }
 {
     let key = next_number(&mut words)?;
     let value = next_number(&mut words)?;
@@ -98,7 +98,7 @@ fn insert_of(mut words: Words) -> Option<Command>
 }
 
 fn remove_of(mut words: Words) -> Option<Command>
-    ensures { ReadsWords words_of_command HasNumbers (codes "remove" ∷ words_left words.entry) result }
+    ensures { ReadsCommand (codes "remove") words.entry result }
 {
     let key = next_number(&mut words)?;
     words.end()?;
@@ -106,7 +106,7 @@ fn remove_of(mut words: Words) -> Option<Command>
 }
 
 fn exchange_of(mut words: Words) -> Option<Command>
-    ensures { ReadsWords words_of_command HasNumbers (codes "cas" ∷ words_left words.entry) result }
+    ensures { ReadsCommand (codes "cas") words.entry result }
 {
     let key = next_number(&mut words)?;
     let old = next_number(&mut words)?;
@@ -116,7 +116,7 @@ fn exchange_of(mut words: Words) -> Option<Command>
 }
 
 fn add_of(mut words: Words) -> Option<Command>
-    ensures { ReadsWords words_of_command HasNumbers (codes "add" ∷ words_left words.entry) result }
+    ensures { ReadsCommand (codes "add") words.entry result }
 {
     let key = next_number(&mut words)?;
     let more = next_number(&mut words)?;
@@ -125,7 +125,7 @@ fn add_of(mut words: Words) -> Option<Command>
 }
 
 fn put_of(mut words: Words) -> Option<Command>
-    ensures { ReadsWords words_of_command HasNumbers (codes "put" ∷ words_left words.entry) result }
+    ensures { ReadsCommand (codes "put") words.entry result }
 {
     let key = next_number(&mut words)?;
     let more = next_number(&mut words)?;
@@ -134,7 +134,7 @@ fn put_of(mut words: Words) -> Option<Command>
 }
 
 fn range_of(mut words: Words) -> Option<Command>
-    ensures { ReadsWords words_of_command HasNumbers (codes "range" ∷ words_left words.entry) result }
+    ensures { ReadsCommand (codes "range") words.entry result }
 {
     let start = next_number(&mut words)?;
     let end = next_number(&mut words)?;
@@ -144,14 +144,14 @@ fn range_of(mut words: Words) -> Option<Command>
 }
 
 fn keys_of(words: Words) -> Option<Command>
-    ensures { ReadsWords words_of_command HasNumbers (codes "keys" ∷ words_left words.entry) result }
+    ensures { ReadsCommand (codes "keys") words.entry result }
 {
     words.end()?;
     Some(Command::Keys)
 }
 
 fn empty_of(words: Words) -> Option<Command>
-    ensures { ReadsWords words_of_command HasNumbers (codes "empty" ∷ words_left words.entry) result }
+    ensures { ReadsCommand (codes "empty") words.entry result }
 {
     words.end()?;
     Some(Command::Empty)
@@ -161,7 +161,8 @@ fn empty_of(words: Words) -> Option<Command>
 fn next_number(words: &mut Words) -> Option<u64>
     ensures found { IfSome result (λ n. words_left words.old ≡ decimal n ∷ words_left words.new) }
     ensures range { IfSome result (λ n. n < 2 ^ 64) }
-    ensures none { IfNone result ((n : ℕ) (rest : List (List ℕ)) → n < 2 ^ 64 → words_left words.old ≡ decimal n ∷ rest → ⊥) }
+    ensures none { IfNone result ((n : ℕ) (rest : List (List ℕ))
+        → n < 2 ^ 64 → words_left words.old ≡ decimal n ∷ rest → ⊥) }
 {
     number(words.next_word()?)
 }
@@ -170,7 +171,8 @@ fn next_number(words: &mut Words) -> Option<u64>
 fn next_limit(words: &mut Words) -> Option<u64>
     ensures found { IfSome result (λ n. words_left words.old ≡ decimal n ∷ words_left words.new) }
     ensures range { IfSome result (λ n. n ≤ 4096) }
-    ensures none { IfNone result ((n : ℕ) (rest : List (List ℕ)) → n ≤ 4096 → words_left words.old ≡ decimal n ∷ rest → ⊥) }
+    ensures none { IfNone result ((n : ℕ) (rest : List (List ℕ))
+        → n ≤ 4096 → words_left words.old ≡ decimal n ∷ rest → ⊥) }
 {
     let limit = next_number(words)?;
     if limit > MAX_PAIRS {
@@ -181,9 +183,11 @@ fn next_limit(words: &mut Words) -> Option<u64>
 
 // The next word as a number, or `none`.
 fn next_value(words: &mut Words) -> Option<Option<u64>>
-    ensures found { IfSome result (λ value. words_left words.old ≡ value_text value ∷ words_left words.new) }
+    ensures found { IfSome result
+        (λ value. words_left words.old ≡ value_text value ∷ words_left words.new) }
     ensures range { IfSome result IsWide }
-    ensures none { IfNone result ((value : Option ℕ) (rest : List (List ℕ)) → IsWide value → words_left words.old ≡ value_text value ∷ rest → ⊥) }
+    ensures none { IfNone result ((value : Option ℕ) (rest : List (List ℕ))
+        → IsWide value → words_left words.old ≡ value_text value ∷ rest → ⊥) }
 {
     value(words.next_word()?)
 }
@@ -192,7 +196,8 @@ fn next_value(words: &mut Words) -> Option<Option<u64>>
 fn value(word: &[u8]) -> Option<Option<u64>>
     ensures found { IfSome result (λ value. word.now ≡ value_text value) }
     ensures range { IfSome result IsWide }
-    ensures none { IfNone result ((value : Option ℕ) → IsWide value → word.now ≡ value_text value → ⊥) }
+    ensures none { IfNone result ((value : Option ℕ)
+        → IsWide value → word.now ≡ value_text value → ⊥) }
 {
     if word == b"none".as_slice() {
         return Some(None);

@@ -1,19 +1,21 @@
-//! What the lines are replied, and the texts of the replies.
+//! Replies to lines, and the texts of the replies.
 
 ghost use Rattle.std.specs.Prelude.{◌≡◌, ℕ, ◌+◌, ◌≤◌, ◌++◌, ◌∷◌, List, [], length, Some, None, IfOk, OnOk, OnErr, nat_eq};
 ghost use Rattle.std.specs.List.{flat_map};
 ghost use Rattle.congee_map.specs.Map.{lookup, put as put_pair, with_answer};
 
 use crate::command::{Command, command_of};
-use congee::{Allocator, Congee, OOMError};
+use congee_faces::typed_congee::Congee;
 use congee_lines::line::Line;
 use congee_lines::pending::Pending;
 use congee_lines::watched::{Failed, Watched};
+use congee_map::error::OOMError;
+use congee_node_table::allocator::Allocator;
 use congee_runs::calls::pairs_between;
 use std::alloc::Global;
 use std::io::Write;
 
-/// What a line is replied.
+/// The reply to a line.
 #[derive(Debug, PartialEq, Eq, Drop)]
 pub enum Reply {
     /// The value of a key.
@@ -41,18 +43,19 @@ pub enum Reply {
 ghost use Rattle.congee_map.specs.Legal.{IsLegal};
 ghost use Rattle.congee_map.specs.Refusal.{NeedsNode, of_new_nodes};
 ghost use Rattle.congee_runs.specs.Calls.{AnswersBy, deeds_of};
-ghost use Rattle.congee_lines.specs.Bytes.{Sends};
-ghost use Rattle.congee_commands.specs.Command.{checked_sum, put_sum, closure_of};
-ghost use Rattle.congee_lines.specs.Lines.{Holds, ended};
-ghost use Rattle.congee_lines.specs.Watched.{HasFailed, inner_of};
+ghost use Rattle.congee_commands.specs.Command.{checked_sum, put_sum, command_closure};
+ghost use Rattle.congee_lines.specs.Lines.{ended};
+ghost use Rattle.congee_lines.specs.inner.Kept.{IsKeptOf};
+ghost use Rattle.congee_lines.specs.Watched.{HasFailed, SendsTo, SendsPart};
 ghost use Rattle.congee_commands.specs.Value.{value_text};
 ghost use Rattle.congee_commands.specs.Answer.{test_text, key_text, pair_text};
-ghost use Rattle.congee_commands.specs.Replied.{reply_text, head_text, items_text, asked_of, done_of, IsServed, AnswersLine};
+ghost use Rattle.congee_commands.specs.inner.Replied.{reply_text, head_text, items_text, reply_asked, reply_done, IsServed, AnswersLine};
 
 /// Does what the line says. Memory is wanted by the map, where it takes in a new key, and for what a reply
 /// lists; where there is none, the reply is `Refused` or `NoMemory` and the map is as before.
 pub fn reply_to<A: Allocator>(alloc: Global, map: &mut Congee<u64, u64, A>, line: &Line) -> Reply
-    ensures { (l : List ℕ) → Holds line.now l → AnswersLine map.old.pairs l (reply_text result) map.new.pairs }
+    ensures { (l : List ℕ) → IsKeptOf line.now l
+        → AnswersLine map.old.pairs l (reply_text result) map.new.pairs }
 {
     match line.text() {
         Some(text) => reply_to_text(alloc, map, text),
@@ -70,9 +73,10 @@ fn reply_to_text<A: Allocator>(alloc: Global, map: &mut Congee<u64, u64, A>, tex
 }
 
 fn execute<A: Allocator>(alloc: Global, map: &mut Congee<u64, u64, A>, command: Command) -> Reply
-    ensures text { IsServed command (done_of command result) (reply_text result) }
-    ensures closure { AnswersBy (closure_of command) (asked_of command result) }
-    ensures legal { IsLegal nat_eq of_new_nodes map.old.pairs (deeds_of (done_of command result ∷ [])) map.new.pairs }
+    ensures text { IsServed command (reply_done command result) (reply_text result) }
+    ensures closure { AnswersBy (command_closure command) (reply_asked command result) }
+    ensures legal { IsLegal nat_eq of_new_nodes map.old.pairs
+        (deeds_of (reply_done command result ∷ [])) map.new.pairs }
 {
     match command {
         Command::Get(key) => Reply::Value(map.get(&key)),
@@ -103,15 +107,17 @@ fn execute<A: Allocator>(alloc: Global, map: &mut Congee<u64, u64, A>, command: 
     }
 }
 
-// Adds to the value of a key that is present, and answers it and the sum. Takes the key out where the sum doesn't fit.
+// Adds to the value of a key that is present, and returns it and the sum. Takes the key out where the sum doesn't fit.
 fn add<A: Allocator>(
     map: &mut Congee<u64, u64, A>,
     key: u64,
     more: u64,
 ) -> Option<(u64, Option<u64>)>
-    ensures absent { lookup map.old.pairs key ≡ None → (result ≡ None) × (map.new.pairs ≡ map.old.pairs) }
+    ensures absent { lookup map.old.pairs key ≡ None
+        → (result ≡ None) × (map.new.pairs ≡ map.old.pairs) }
     ensures present { (standing : ℕ) → lookup map.old.pairs key ≡ Some standing
-        → (result ≡ Some (standing, checked_sum standing more)) × (map.new.pairs ≡ with_answer map.old.pairs key (checked_sum standing more)) }
+        → (result ≡ Some (standing, checked_sum standing more))
+        × (map.new.pairs ≡ with_answer map.old.pairs key (checked_sum standing more)) }
 {
     map.compute_if_present(&key, &mut |value: u64| sum(value, more))
 }
@@ -123,14 +129,15 @@ fn sum(value: u64, more: u64) -> Option<u64>
     value.checked_add(more)
 }
 
-// Adds to the value of a key, 0 for one that is absent, up to the greatest number. Answers what stood there.
+// Adds to the value of a key, 0 for one that is absent, up to the greatest number. Returns what stood there.
 fn put<A: Allocator>(
     map: &mut Congee<u64, u64, A>,
     key: u64,
     more: u64,
 ) -> Result<Option<u64>, OOMError>
     ensures before { IfOk result (λ before. before ≡ lookup map.old.pairs key) }
-    ensures ok { OnOk result (map.new.pairs ≡ put_pair map.old.pairs key (put_sum (lookup map.old.pairs key) more)) }
+    ensures ok { OnOk result (map.new.pairs
+        ≡ put_pair map.old.pairs key (put_sum (lookup map.old.pairs key) more)) }
     ensures err { OnErr result (map.new.pairs ≡ map.old.pairs) }
     ensures refused { OnErr result (NeedsNode map.old.pairs key) }
 {
@@ -156,8 +163,10 @@ pub fn put_reply<W: Write>(
     output: &mut Watched<W>,
     reply: &Reply,
 ) -> Result<(), Failed>
-    ensures ok { OnOk result (Sends (W.contents (inner_of output.old)) (W.contents (inner_of output.new)) (pending.old ++ ended (reply_text reply.now)) pending.new) }
-    ensures err { OnErr result ((rest : List ℕ) × Sends (W.contents (inner_of output.old)) (W.contents (inner_of output.new)) (pending.old ++ ended (reply_text reply.now)) rest) }
+    ensures ok { OnOk result (SendsTo W.contents output.old output.new
+        (pending.old ++ ended (reply_text reply.now)) pending.new) }
+    ensures err { OnErr result (SendsPart W.contents output.old output.new
+        (pending.old ++ ended (reply_text reply.now))) }
     ensures kept { OnOk result (output.new.failed ≡ output.old.failed) }
     ensures failed { OnErr result (HasFailed output.new) }
 {
@@ -211,9 +220,11 @@ fn put_items<W: Write>(
     reply: &Reply,
 ) -> Result<(), Failed>
     requires { length pending.old + 16 ≤ 8192 }
-    ensures ok { OnOk result (Sends (W.contents (inner_of output.old)) (W.contents (inner_of output.new)) (pending.old ++ items_text reply.now) pending.new) }
+    ensures ok { OnOk result (SendsTo W.contents output.old output.new
+        (pending.old ++ items_text reply.now) pending.new) }
     ensures room { OnOk result (length pending.new + 16 ≤ 8192) }
-    ensures err { OnErr result ((rest : List ℕ) × Sends (W.contents (inner_of output.old)) (W.contents (inner_of output.new)) (pending.old ++ items_text reply.now) rest) }
+    ensures err { OnErr result (SendsPart W.contents output.old output.new
+        (pending.old ++ items_text reply.now)) }
     ensures kept { OnOk result (output.new.failed ≡ output.old.failed) }
     ensures failed { OnErr result (HasFailed output.new) }
 {
@@ -230,9 +241,11 @@ fn put_pairs<W: Write>(
     pairs: &[(u64, u64)],
 ) -> Result<(), Failed>
     requires { length pending.old + 16 ≤ 8192 }
-    ensures ok { OnOk result (Sends (W.contents (inner_of output.old)) (W.contents (inner_of output.new)) (pending.old ++ flat_map pair_text pairs.now) pending.new) }
+    ensures ok { OnOk result (SendsTo W.contents output.old output.new
+        (pending.old ++ flat_map pair_text pairs.now) pending.new) }
     ensures room { OnOk result (length pending.new + 16 ≤ 8192) }
-    ensures err { OnErr result ((rest : List ℕ) × Sends (W.contents (inner_of output.old)) (W.contents (inner_of output.new)) (pending.old ++ flat_map pair_text pairs.now) rest) }
+    ensures err { OnErr result (SendsPart W.contents output.old output.new
+        (pending.old ++ flat_map pair_text pairs.now)) }
     ensures kept { OnOk result (output.new.failed ≡ output.old.failed) }
     ensures failed { OnErr result (HasFailed output.new) }
 {
@@ -249,9 +262,11 @@ fn put_keys<W: Write>(
     keys: &[u64],
 ) -> Result<(), Failed>
     requires { length pending.old + 16 ≤ 8192 }
-    ensures ok { OnOk result (Sends (W.contents (inner_of output.old)) (W.contents (inner_of output.new)) (pending.old ++ flat_map key_text keys.now) pending.new) }
+    ensures ok { OnOk result (SendsTo W.contents output.old output.new
+        (pending.old ++ flat_map key_text keys.now) pending.new) }
     ensures room { OnOk result (length pending.new + 16 ≤ 8192) }
-    ensures err { OnErr result ((rest : List ℕ) × Sends (W.contents (inner_of output.old)) (W.contents (inner_of output.new)) (pending.old ++ flat_map key_text keys.now) rest) }
+    ensures err { OnErr result (SendsPart W.contents output.old output.new
+        (pending.old ++ flat_map key_text keys.now)) }
     ensures kept { OnOk result (output.new.failed ≡ output.old.failed) }
     ensures failed { OnErr result (HasFailed output.new) }
 {

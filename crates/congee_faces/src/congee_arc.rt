@@ -63,7 +63,8 @@ impl<K: Word, P: Payload> PayloadCongee<K, P> {
 
     /// The keys, ascending by their numbers, each read back. `OOMError` comes where there is no memory for the list.
     pub fn keys(&self) -> Result<Vec<K>, OOMError>
-        ensures { IfOk result (λ keys. keys.items ≡ each K.of_number (each (λ pair. pair.0) self.now)) }
+        ensures { IfOk result
+            (λ keys. keys.items ≡ each K.of_number (each (λ pair. pair.0) self.now)) }
     {
         self.tree.keys()
     }
@@ -75,7 +76,7 @@ impl<K: Word, P: Payload> PayloadCongee<K, P> {
         fresh::get::<Brand, P, DefaultAllocator>(&self.tree, key.into_u64(), Blank::new(1))
     }
 
-    /// Sets the payload at the key, and gives back the one that stood there. `OOMError` comes only for a new key that
+    /// Sets the payload at the key, and returns the one that stood there. `OOMError` comes only for a new key that
     /// needs a node of its own or a larger one, where memory is missing for that. It leaves the map as it was, and the
     /// handed payload is dropped.
     pub fn insert(&mut self, key: K, payload: P) -> Result<Option<P>, OOMError>
@@ -88,7 +89,7 @@ impl<K: Word, P: Payload> PayloadCongee<K, P> {
         fresh::insert::<Brand, P, DefaultAllocator>(&mut self.tree, key.into_u64(), payload, blank)
     }
 
-    /// Takes the key out, and gives back the payload that stood there. Takes no memory.
+    /// Takes the key out, and returns the payload that stood there. Takes no memory.
     pub fn remove(&mut self, key: K) -> Option<P>
         ensures before { result ≡ lookup self.old (K.number key) }
         ensures pairs { self.new ≡ without self.old (K.number key) }
@@ -97,14 +98,17 @@ impl<K: Word, P: Payload> PayloadCongee<K, P> {
         fresh::remove::<Brand, P, DefaultAllocator>(&mut self.tree, key.into_u64(), blank)
     }
 
-    /// Where the key is present, calls the closure with its payload, once, and stores what it answers; its `None` takes
-    /// the key out. Gives back the payload that stood there. Takes no memory.
+    /// Where the key is present, calls the closure with its payload, once, and stores what it returns; its `None` takes
+    /// the key out. Returns the payload that stood there. Takes no memory.
     pub fn compute_if_present<F: FnMut(&P) -> Option<P>>(&mut self, key: K, f: &mut F) -> Option<P>
-        requires { (standing : P) → lookup self.old (K.number key) ≡ Some standing → TakesAt F.FnMut f.old standing }
+        requires { (standing : P) → lookup self.old (K.number key) ≡ Some standing
+            → TakesAt F.FnMut f.old standing }
         ensures before { result ≡ lookup self.old (K.number key) }
-        ensures absent { lookup self.old (K.number key) ≡ None → (self.new ≡ self.old) × (f.new ≡ f.old) }
+        ensures absent { lookup self.old (K.number key) ≡ None
+            → (self.new ≡ self.old) × (f.new ≡ f.old) }
         ensures present { (standing : P) → lookup self.old (K.number key) ≡ Some standing
-            → (answer : Option P) × CalledAt F.FnMut f.old standing answer f.new × (self.new ≡ with_answer self.old (K.number key) answer) }
+            → (answer : Option P) × CalledAt F.FnMut f.old standing answer f.new
+            × (self.new ≡ with_answer self.old (K.number key) answer) }
     {
         let number = key.into_u64();
         let blank = Blank::new(1);

@@ -4,13 +4,13 @@ ghost use Rattle.std.specs.Prelude.{◌≡◌, ◌≢◌, ℕ, [], Option, Some,
 ghost use Rattle.std.specs.List.{FoldsTo};
 ghost use Rattle.std.specs.Option.{option_map};
 ghost use Rattle.congee_map.specs.Map.{lookup, put, without, with_answer, between, IsMap};
-ghost use Rattle.congee_node_table.specs.Charge.{add_charge};
+ghost use Rattle.congee_faces.specs.Face.{ChargedAlike, ChargedFor, FaceUnchanged};
 ghost use Rattle.congee_stats.specs.LevelCounts.{capped};
 ghost use Rattle.congee_map.specs.Refusal.{NeedsNode};
 ghost use Rattle.congee_stats.specs.Stats.{IsTally};
 ghost use Rattle.congee_stats.specs.StatsText.{all_nodes, all_entries};
 ghost use Rattle.congee_stats.specs.Visits.{visits_below};
-ghost use Rattle.congee_supply.specs.Charge.{charge_of, MovesAlike};
+ghost use Rattle.congee_supply.specs.Charge.{charge_of};
 
 use congee_map::error::OOMError;
 use congee_map::traits::{Drainer, NoDrain, Word};
@@ -26,8 +26,8 @@ use std::sync::ledger::Blank;
 /// An ordered map from keys to values, both of types that are written as 64-bit numbers. Two keys with one number are
 /// one key.
 ///
-/// Contracts see the pairs of the map by their numbers. A value that is answered is read back from its number; closures
-/// are handed numbers and answer numbers.
+/// Contracts see the pairs of the map by their numbers. A value that is returned is read back from its number; closures
+/// are handed numbers and return numbers.
 ///
 /// The allocator `A` is charged for each node of the map's tree. When the map is dropped, its drainer is told of each
 /// pair, keys ascending.
@@ -44,7 +44,8 @@ impl<K: Word, V: Word, A: Allocator, D: Drainer<K, V>> Model for Congee<K, V, A,
 
     ghost coded = { face_code A.code };
 
-    ghost view = { λ m. record { pairs = m.tree.pairs; nodes = m.tree.nodes; budget = m.tree.budget } };
+    ghost view = { λ m.
+        record { pairs = m.tree.pairs; nodes = m.tree.nodes; budget = m.tree.budget } };
 
     ghost invariant = { λ m. D.can_drain m.drainer };
 }
@@ -54,7 +55,7 @@ impl<K: Word, V: Word, A: Allocator> Congee<K, V, A> {
     /// when it is dropped.
     pub fn new(alloc: Global, allocator: A) -> Result<Self, OOMError>
         ensures pairs { IfOk result (λ map. map.pairs ≡ []) }
-        ensures charge { IfOk result (λ map. A.charge map.budget ≡ add_charge (A.charge allocator) (charge_of map.nodes)) }
+        ensures charge { IfOk result (λ map. ChargedFor A.charge allocator map) }
     {
         Congee::new_with_drainer(alloc, allocator, NoDrain {})
     }
@@ -66,7 +67,7 @@ impl<K: Word, V: Word, A: Allocator, D: Drainer<K, V>> Congee<K, V, A, D> {
     pub fn new_with_drainer(alloc: Global, allocator: A, drainer: D) -> Result<Self, OOMError>
         requires { D.can_drain drainer }
         ensures pairs { IfOk result (λ map. map.pairs ≡ []) }
-        ensures charge { IfOk result (λ map. A.charge map.budget ≡ add_charge (A.charge allocator) (charge_of map.nodes)) }
+        ensures charge { IfOk result (λ map. ChargedFor A.charge allocator map) }
     {
         Ok(Congee {
             tree: RawCongee::new(alloc, allocator)?,
@@ -83,14 +84,16 @@ impl<K: Word, V: Word, A: Allocator, D: Drainer<K, V>> Congee<K, V, A, D> {
         read_back(number.copied())
     }
 
-    /// Sets the value at the key, and answers the one that stood there, read back from its number. `OOMError` comes
+    /// Sets the value at the key, and returns the one that stood there, read back from its number. `OOMError` comes
     /// only for a new key that needs a node of its own or a larger one, where memory is missing for that, and leaves the
     /// map as it was.
     pub fn insert(&mut self, key: K, value: V) -> Result<Option<V>, OOMError>
-        ensures before { IfOk result (λ before. before ≡ option_map V.of_number (lookup self.old.pairs (K.number key))) }
-        ensures ok { OnOk result (self.new.pairs ≡ put self.old.pairs (K.number key) (V.number value)) }
-        ensures err { OnErr result ((self.new.pairs ≡ self.old.pairs) × (self.new.nodes ≡ self.old.nodes)) }
-        ensures charge { MovesAlike (A.charge self.old.budget) (charge_of self.old.nodes) (A.charge self.new.budget) (charge_of self.new.nodes) }
+        ensures before { IfOk result
+            (λ before. before ≡ option_map V.of_number (lookup self.old.pairs (K.number key))) }
+        ensures ok { OnOk result
+            (self.new.pairs ≡ put self.old.pairs (K.number key) (V.number value)) }
+        ensures err { OnErr result (FaceUnchanged self.old self.new) }
+        ensures charge { ChargedAlike A.charge self.old self.new }
         ensures refused { OnErr result (NeedsNode self.old.pairs (K.number key)) }
     {
         let before = fresh::insert::<Brand, u64, A>(
@@ -102,11 +105,12 @@ impl<K: Word, V: Word, A: Allocator, D: Drainer<K, V>> Congee<K, V, A, D> {
         Ok(read_back(before))
     }
 
-    /// Takes the key out, and answers the value that stood there, read back from its number. Takes no memory.
+    /// Takes the key out, and returns the value that stood there, read back from its number. Takes no memory.
     pub fn remove(&mut self, key: &K) -> Option<V>
-        ensures before { result ≡ option_map V.of_number (lookup self.old.pairs (K.number key.now)) }
+        ensures before { result
+            ≡ option_map V.of_number (lookup self.old.pairs (K.number key.now)) }
         ensures pairs { self.new.pairs ≡ without self.old.pairs (K.number key.now) }
-        ensures charge { MovesAlike (A.charge self.old.budget) (charge_of self.old.nodes) (A.charge self.new.budget) (charge_of self.new.nodes) }
+        ensures charge { ChargedAlike A.charge self.old self.new }
     {
         let blank = Blank::new(1);
         read_back(fresh::remove::<Brand, u64, A>(&mut self.tree, key.into_u64(), blank))
@@ -118,9 +122,11 @@ impl<K: Word, V: Word, A: Allocator, D: Drainer<K, V>> Congee<K, V, A, D> {
     /// Each entry of a node is a pair or leads to a node, and none leads to the root: where no count stays at the greatest
     /// `u64`, the entries are the pairs plus the nodes minus 1.
     pub fn stats(&self) -> Result<NodeStats, OOMError>
-        ensures levels { IfOk result (λ stats. IsTally (visits_below 0 self.now.nodes) stats.levels) }
+        ensures levels { IfOk result
+            (λ stats. IsTally (visits_below 0 self.now.nodes) stats.levels) }
         ensures pairs { IfOk result (λ stats. stats.kv_pairs ≡ capped (length self.now.pairs)) }
-        ensures entries { length self.now.pairs + length self.now.nodes < 2 ^ 64 → IfOk result (λ stats. all_entries stats.levels + 1 ≡ stats.kv_pairs + all_nodes stats.levels) }
+        ensures entries { length self.now.pairs + length self.now.nodes < 2 ^ 64 → IfOk result
+            (λ stats. all_entries stats.levels + 1 ≡ stats.kv_pairs + all_nodes stats.levels) }
     {
         self.tree.stats()
     }
@@ -140,19 +146,25 @@ impl<K: Word, V: Word, A: Allocator, D: Drainer<K, V>> Congee<K, V, A, D> {
     }
 
     /// Writes the first pairs, by their numbers, with keys from `start` on and below `end` to the buffer, ascending, as many
-    /// as there are or as fit, and answers how many. The rest of the buffer stays. Takes no memory, and reads no more nodes
-    /// than those pairs are in and two ways through the tree.
+    /// as there are or as fit, and returns how many. The rest of the buffer stays. Takes no memory, and reads no more nodes
+    /// than those pairs are in and two paths through the tree.
     pub fn range(&self, start: &K, end: &K, buffer: &mut [(u64, u64)]) -> usize
-        ensures count { result ≡ min (length buffer.old) (length (between self.now.pairs (K.number start.now) (K.number end.now))) }
-        ensures written { buffer.new ≡ take result (between self.now.pairs (K.number start.now) (K.number end.now)) ++ drop result buffer.old }
+        ensures count { result ≡ min (length buffer.old)
+            (length (between self.now.pairs (K.number start.now) (K.number end.now))) }
+        ensures written { buffer.new
+            ≡ take result (between self.now.pairs (K.number start.now) (K.number end.now))
+            ++ drop result buffer.old }
     {
         self.range_of(start.into_u64(), end.into_u64(), buffer)
     }
 
     /// The same for entries of another kind.
     pub(crate) fn range_of<E: RangeEntry>(&self, start: u64, end: u64, buffer: &mut [E]) -> usize
-        ensures count { result ≡ min (length buffer.old) (length (between self.now.pairs start end)) }
-        ensures written { buffer.new ≡ take result (map (λ pair. E.entry pair.0 pair.1) (between self.now.pairs start end)) ++ drop result buffer.old }
+        ensures count { result
+            ≡ min (length buffer.old) (length (between self.now.pairs start end)) }
+        ensures written { buffer.new
+            ≡ take result (map (λ pair. E.entry pair.0 pair.1) (between self.now.pairs start end))
+            ++ drop result buffer.old }
     {
         self.tree
             .range(&start.to_be_bytes(), &end.to_be_bytes(), buffer)
@@ -160,7 +172,8 @@ impl<K: Word, V: Word, A: Allocator, D: Drainer<K, V>> Congee<K, V, A, D> {
 
     /// The keys, ascending, each read back from its number. `OOMError` comes where there is no memory for their list.
     pub fn keys(&self) -> Result<Vec<K>, OOMError>
-        ensures { IfOk result (λ keys. keys.items ≡ map K.of_number (map (λ pair. pair.0) self.now.pairs)) }
+        ensures { IfOk result
+            (λ keys. keys.items ≡ map K.of_number (map (λ pair. pair.0) self.now.pairs)) }
     {
         self.tree.keys()
     }
@@ -169,7 +182,9 @@ impl<K: Word, V: Word, A: Allocator, D: Drainer<K, V>> Congee<K, V, A, D> {
     /// The map's own drainer isn't told. Takes no memory.
     pub fn drain<F: FnMut(K, V)>(self, f: &mut F)
         requires { F.IsAlwaysCallable f.old }
-        ensures { FoldsTo (λ state pair next. F.step state (K.of_number pair.0) (V.of_number pair.1) tt next) f.old self.pairs f.new }
+        ensures { FoldsTo
+            (λ state pair next. F.step state (K.of_number pair.0) (V.of_number pair.1) tt next)
+            f.old self.pairs f.new }
     {
         let Congee {
             tree,
@@ -182,19 +197,22 @@ impl<K: Word, V: Word, A: Allocator, D: Drainer<K, V>> Congee<K, V, A, D> {
         }
     }
 
-    /// Where the key is present, calls the closure with its number, once, and stores what it answers; its `None` takes
-    /// the key out. Answers both numbers, the old and the new one. Takes no memory.
+    /// Where the key is present, calls the closure with its number, once, and stores what it returns; its `None` takes
+    /// the key out. Returns both numbers, the old and the new one. Takes no memory.
     pub fn compute_if_present<F: FnMut(u64) -> Option<u64>>(
         &mut self,
         key: &K,
         f: &mut F,
     ) -> Option<(u64, Option<u64>)>
-        requires { (standing : ℕ) → lookup self.old.pairs (K.number key.now) ≡ Some standing → F.pre f.old standing }
-        ensures absent { lookup self.old.pairs (K.number key.now) ≡ None → (result ≡ None) × (self.new.pairs ≡ self.old.pairs) × (f.new ≡ f.old) }
+        requires { (standing : ℕ) → lookup self.old.pairs (K.number key.now) ≡ Some standing
+            → F.pre f.old standing }
+        ensures absent { lookup self.old.pairs (K.number key.now) ≡ None
+            → (result ≡ None) × (self.new.pairs ≡ self.old.pairs) × (f.new ≡ f.old) }
         ensures present { (standing : ℕ) → lookup self.old.pairs (K.number key.now) ≡ Some standing
-            → (answer : Option ℕ) × F.step f.old standing answer f.new × (result ≡ Some (standing, answer))
+            → (answer : Option ℕ) × F.step f.old standing answer f.new
+            × (result ≡ Some (standing, answer))
             × (self.new.pairs ≡ with_answer self.old.pairs (K.number key.now) answer) }
-        ensures charge { MovesAlike (A.charge self.old.budget) (charge_of self.old.nodes) (A.charge self.new.budget) (charge_of self.new.nodes) }
+        ensures charge { ChargedAlike A.charge self.old self.new }
     {
         let mut answered = None;
         let mut keep = |standing: &u64| -> Option<u64>
@@ -214,7 +232,7 @@ impl<K: Word, V: Word, A: Allocator, D: Drainer<K, V>> Congee<K, V, A, D> {
         Some((old, answered))
     }
 
-    /// Calls the closure once, with the number at the key if there is one, and stores what it answers. Answers the
+    /// Calls the closure once, with the number at the key if there is one, and stores what it returns. Returns the
     /// value that stood there, read back from its number. All memory is taken before the closure is called: `OOMError`
     /// comes only for a new key that needs a node of its own or a larger one, where memory is missing for that; then the
     /// closure wasn't called, and the map is as it was.
@@ -224,11 +242,13 @@ impl<K: Word, V: Word, A: Allocator, D: Drainer<K, V>> Congee<K, V, A, D> {
         f: &mut F,
     ) -> Result<Option<V>, OOMError>
         requires { F.pre f.old (lookup self.old.pairs (K.number key)) }
-        ensures before { IfOk result (λ before. before ≡ option_map V.of_number (lookup self.old.pairs (K.number key))) }
-        ensures ok { OnOk result ((answer : ℕ) × F.step f.old (lookup self.old.pairs (K.number key)) answer f.new
+        ensures before { IfOk result
+            (λ before. before ≡ option_map V.of_number (lookup self.old.pairs (K.number key))) }
+        ensures ok { OnOk result ((answer : ℕ)
+            × F.step f.old (lookup self.old.pairs (K.number key)) answer f.new
             × (self.new.pairs ≡ put self.old.pairs (K.number key) answer)) }
-        ensures err { OnErr result ((self.new.pairs ≡ self.old.pairs) × (self.new.nodes ≡ self.old.nodes)) }
-        ensures charge { MovesAlike (A.charge self.old.budget) (charge_of self.old.nodes) (A.charge self.new.budget) (charge_of self.new.nodes) }
+        ensures err { OnErr result (FaceUnchanged self.old self.new) }
+        ensures charge { ChargedAlike A.charge self.old self.new }
         ensures not_called { OnErr result (f.new ≡ f.old) }
         ensures refused { OnErr result (NeedsNode self.old.pairs (K.number key)) }
     {
@@ -244,21 +264,25 @@ impl<K: Word, V: Word, A: Allocator, D: Drainer<K, V>> Congee<K, V, A, D> {
         Ok(read_back(before))
     }
 
-    /// Where the number of `old` stands at the key, puts `new` there, or takes the key out for `None`, and answers `Ok`
-    /// with `new` itself. Otherwise changes nothing, and answers `Err` with the value that stands there, read back from
-    /// its number, or with `None` where the key is absent. One way through the tree. Takes no memory.
+    /// Where the number of `old` stands at the key, puts `new` there, or takes the key out for `None`, and returns `Ok`
+    /// with `new` itself. Otherwise changes nothing, and returns `Err` with the value that stands there, read back from
+    /// its number, or with `None` where the key is absent. One path through the tree. Takes no memory.
     pub fn compare_exchange(
         &mut self,
         key: &K,
         old: &V,
         new: Option<V>,
     ) -> Result<Option<V>, Option<V>>
-        ensures absent { lookup self.old.pairs (K.number key.now) ≡ None → (result ≡ Err None) × (self.new.pairs ≡ self.old.pairs) }
+        ensures absent { lookup self.old.pairs (K.number key.now) ≡ None
+            → (result ≡ Err None) × (self.new.pairs ≡ self.old.pairs) }
         ensures same { lookup self.old.pairs (K.number key.now) ≡ Some (V.number old.now)
-            → (result ≡ Ok new) × (self.new.pairs ≡ with_answer self.old.pairs (K.number key.now) (option_map V.number new)) }
-        ensures other { (standing : ℕ) → lookup self.old.pairs (K.number key.now) ≡ Some standing → standing ≢ V.number old.now
+            → (result ≡ Ok new)
+            × (self.new.pairs
+            ≡ with_answer self.old.pairs (K.number key.now) (option_map V.number new)) }
+        ensures other { (standing : ℕ) → lookup self.old.pairs (K.number key.now) ≡ Some standing
+            → standing ≢ V.number old.now
             → (result ≡ Err (Some (V.of_number standing))) × (self.new.pairs ≡ self.old.pairs) }
-        ensures charge { MovesAlike (A.charge self.old.budget) (charge_of self.old.nodes) (A.charge self.new.budget) (charge_of self.new.nodes) }
+        ensures charge { ChargedAlike A.charge self.old self.new }
     {
         let expected = old.into_u64();
         let wanted = numbered(&new);
@@ -271,15 +295,16 @@ impl<K: Word, V: Word, A: Allocator, D: Drainer<K, V>> Congee<K, V, A, D> {
     }
 
     // Puts what is wanted at a key where the expected number stands, and what stands there again where it is another.
-    // Answers what stood there.
+    // Returns what stood there.
     fn exchange(&mut self, key: u64, expected: u64, wanted: Option<u64>) -> Option<u64>
         ensures ordered { IsMap self.old.pairs }
         ensures before { result ≡ lookup self.old.pairs key }
         ensures absent { lookup self.old.pairs key ≡ None → self.new.pairs ≡ self.old.pairs }
-        ensures same { lookup self.old.pairs key ≡ Some expected → self.new.pairs ≡ with_answer self.old.pairs key wanted }
-        ensures other { (standing : ℕ) → lookup self.old.pairs key ≡ Some standing → standing ≢ expected
-            → self.new.pairs ≡ put self.old.pairs key standing }
-        ensures charge { MovesAlike (A.charge self.old.budget) (charge_of self.old.nodes) (A.charge self.new.budget) (charge_of self.new.nodes) }
+        ensures same { lookup self.old.pairs key ≡ Some expected
+            → self.new.pairs ≡ with_answer self.old.pairs key wanted }
+        ensures other { (standing : ℕ) → lookup self.old.pairs key ≡ Some standing
+            → standing ≢ expected → self.new.pairs ≡ put self.old.pairs key standing }
+        ensures charge { ChargedAlike A.charge self.old self.new }
     {
         let mut choose = |standing: &u64| -> Option<u64> {
             if *standing == expected {

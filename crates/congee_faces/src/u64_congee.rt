@@ -4,9 +4,9 @@ ghost use Rattle.std.specs.Prelude.{◌≡◌, ℕ, [], ◌++◌, length, min, m
 ghost use Rattle.std.specs.Int.{to_be_bytes, w64};
 ghost use Rattle.std.specs.Option.{option_map};
 ghost use Rattle.congee_map.specs.Map.{lookup, put, without, between};
-ghost use Rattle.congee_node_table.specs.Charge.{add_charge};
+ghost use Rattle.congee_faces.specs.Face.{ChargedAlike, ChargedFor, FaceUnchanged};
 ghost use Rattle.congee_map.specs.Refusal.{NeedsNode};
-ghost use Rattle.congee_supply.specs.Charge.{charge_of, MovesAlike};
+ghost use Rattle.congee_supply.specs.Charge.{charge_of};
 
 use crate::typed_congee::Congee;
 use congee_map::error::OOMError;
@@ -17,7 +17,7 @@ use std::marker::Model;
 
 /// An ordered map from 64-bit numbers to values of a type that is written as a number.
 ///
-/// Contracts see the pairs of the map by their numbers. A value that is answered is read back from its number.
+/// Contracts see the pairs of the map by their numbers. A value that is returned is read back from its number.
 /// The allocator `A` is charged for each node of the map's tree.
 #[derive(Drop)]
 pub struct U64Congee<V: Word, A: Allocator = DefaultAllocator> {
@@ -47,7 +47,7 @@ impl<V: Word, A: Allocator> U64Congee<V, A> {
     /// An empty map, or `OOMError` where the allocator or the machine has no memory for it.
     pub fn new_in(alloc: Global, allocator: A) -> Result<Self, OOMError>
         ensures pairs { IfOk result (λ map. map.pairs ≡ []) }
-        ensures charge { IfOk result (λ map. A.charge map.budget ≡ add_charge (A.charge allocator) (charge_of map.nodes)) }
+        ensures charge { IfOk result (λ map. ChargedFor A.charge allocator map) }
     {
         Ok(U64Congee {
             map: Congee::new(alloc, allocator)?,
@@ -61,24 +61,25 @@ impl<V: Word, A: Allocator> U64Congee<V, A> {
         self.map.get(&key)
     }
 
-    /// Sets the value at the key, and answers the one that stood there, read back from its number. `OOMError` comes
+    /// Sets the value at the key, and returns the one that stood there, read back from its number. `OOMError` comes
     /// only for a new key that needs a node of its own or a larger one, where memory is missing for that, and leaves the
     /// map as it was.
     pub fn insert(&mut self, key: u64, val: V) -> Result<Option<V>, OOMError>
-        ensures before { IfOk result (λ before. before ≡ option_map V.of_number (lookup self.old.pairs key)) }
+        ensures before { IfOk result
+            (λ before. before ≡ option_map V.of_number (lookup self.old.pairs key)) }
         ensures ok { OnOk result (self.new.pairs ≡ put self.old.pairs key (V.number val)) }
-        ensures err { OnErr result ((self.new.pairs ≡ self.old.pairs) × (self.new.nodes ≡ self.old.nodes)) }
-        ensures charge { MovesAlike (A.charge self.old.budget) (charge_of self.old.nodes) (A.charge self.new.budget) (charge_of self.new.nodes) }
+        ensures err { OnErr result (FaceUnchanged self.old self.new) }
+        ensures charge { ChargedAlike A.charge self.old self.new }
         ensures refused { OnErr result (NeedsNode self.old.pairs key) }
     {
         self.map.insert(key, val)
     }
 
-    /// Takes the key out, and answers the value that stood there, read back from its number. Takes no memory.
+    /// Takes the key out, and returns the value that stood there, read back from its number. Takes no memory.
     pub fn remove(&mut self, key: u64) -> Option<V>
         ensures before { result ≡ option_map V.of_number (lookup self.old.pairs key) }
         ensures pairs { self.new.pairs ≡ without self.old.pairs key }
-        ensures charge { MovesAlike (A.charge self.old.budget) (charge_of self.old.nodes) (A.charge self.new.budget) (charge_of self.new.nodes) }
+        ensures charge { ChargedAlike A.charge self.old self.new }
     {
         self.map.remove(&key)
     }
@@ -91,12 +92,16 @@ impl<V: Word, A: Allocator> U64Congee<V, A> {
     }
 
     /// Writes the first pairs with keys from `start` on and below `end` to the buffer, ascending, as many as there are or as
-    /// fit, and answers how many: each key as its eight bytes, most significant first, and each value as its number. The
-    /// rest of the buffer stays. Takes no memory, and reads no more nodes than those pairs are in and two ways through the
+    /// fit, and returns how many: each key as its eight bytes, most significant first, and each value as its number. The
+    /// rest of the buffer stays. Takes no memory, and reads no more nodes than those pairs are in and two paths through the
     /// tree.
     pub fn range(&self, start: u64, end: u64, buffer: &mut [([u8; 8], u64)]) -> usize
-        ensures count { result ≡ min (length buffer.old) (length (between self.now.pairs start end)) }
-        ensures written { buffer.new ≡ take result (map (λ pair. (to_be_bytes w64 pair.0, pair.1)) (between self.now.pairs start end)) ++ drop result buffer.old }
+        ensures count { result
+            ≡ min (length buffer.old) (length (between self.now.pairs start end)) }
+        ensures written { buffer.new
+            ≡ take result (map (λ pair. (to_be_bytes w64 pair.0, pair.1))
+            (between self.now.pairs start end))
+            ++ drop result buffer.old }
     {
         self.map.range_of(start, end, buffer)
     }

@@ -1,2 +1,3 @@
+pub mod MarkedLaws
 pub mod SearchLaws
 pub mod SortedLaws

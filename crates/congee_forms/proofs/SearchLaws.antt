@@ -4,7 +4,8 @@ use Rattle.std.specs.List.{prefix_len, count_by}
 use Rattle.std.proofs.lemmas.List.Sums.{sum_by-cons}
 use Rattle.std.proofs.lemmas.Bool.{lt-ltb, le-ltb, eq-eqb, ne_eqb, cases_lt, cases_eq, cases_order, false≢true}
 use Rattle.congee_map.specs.Map.{lookup, Rises}
-use Rattle.congee_base.specs.Sorted.{below, pairs}
+use Rattle.congee_base.specs.inner.Sorted.{below, pairs, IsSorted}
+use Rattle.congee_forms.proofs.SortedLaws.{enough_bytes}
 use Rattle.congee_map.proofs.MapLaws.{lookup-below}
 
 count-cons : (b k : ℕ) (ks : List ℕ) → count_by (λ x. nat_lt x b) (k ∷ ks) ≡ cond (nat_lt k b) 1 0 + count_by (λ x. nat_lt x b) ks
@@ -80,13 +81,14 @@ module _ {C : Type 0} where
             let s' = rw (ne_eqb k b (omega arith), lookup-below (k + 1) 256 (pairs ks cs) b h.2 (omega arith)) at s in absurd (false≢true s')
       ]
 
--- what was found among the first n bytes, where n children stand beside them
-module _ {C : Type 0} (ks : List ℕ) (cs : List C) (h : Rises 0 256 (pairs ks cs)) (l : length cs ≤ length ks) (n : ℕ) (e : n ≡ length cs) where
-  pub rank-at : (b i : ℕ) → i ≡ count_by (λ x. nat_lt x b) (take n ks) → i ≡ below (take n ks) b
-  rank-at b i is = is ∙ ap (λ m. count_by (λ x. nat_lt x b) (take m ks)) e ∙ rank-place 0 ks cs b h l ∙ ap (λ m. below (take m ks) b) (sym e)
+-- what was found among the first n bytes of a sorted node, where n children stand beside them
+module _ {C : Type 0} {most : ℕ} {ks : List ℕ} {cs : List C} {count : ℕ} (r : IsSorted most ks cs count)
+    {n : ℕ} (e : n ≡ length cs) (b : ℕ) {i : ℕ} where
+  pub rank-at : i ≡ count_by (λ x. nat_lt x b) (take n ks) → i ≡ below (take n ks) b
+  rank-at is = is ∙ ap (λ m. count_by (λ x. nat_lt x b) (take m ks)) e ∙ rank-place 0 ks cs b r.ascending (enough_bytes r) ∙ ap (λ m. below (take m ks) b) (sym e)
 
-  pub find-at : (b i : ℕ) → i ≡ prefix_len (λ x. not (x == b)) (take n ks) → IsSome (lookup (pairs ks cs) b) → i ≡ below (take n ks) b
-  find-at b i is some = is ∙ ap (λ m. prefix_len (λ x. not (x == b)) (take m ks)) e ∙ find-place 0 ks cs b h l some ∙ ap (λ m. below (take m ks) b) (sym e)
+  pub find-at : i ≡ prefix_len (λ x. not (x == b)) (take n ks) → IsSome (lookup (pairs ks cs) b) → i ≡ below (take n ks) b
+  find-at is some = is ∙ ap (λ m. prefix_len (λ x. not (x == b)) (take m ks)) e ∙ find-place 0 ks cs b r.ascending (enough_bytes r) some ∙ ap (λ m. below (take m ks) b) (sym e)
 
-  pub end-at : (b i : ℕ) → b ≡ 256 → i ≡ n → i ≡ below (take n ks) b
-  end-at b i whole is = is ∙ e ∙ place-above 0 ks cs h l ∙ ap (λ m. below (take m ks) 256) (sym e) ∙ ap (below (take n ks)) (sym whole)
+  pub end-at : b ≡ 256 → i ≡ n → i ≡ below (take n ks) b
+  end-at whole is = is ∙ e ∙ place-above 0 ks cs r.ascending (enough_bytes r) ∙ ap (λ m. below (take m ks) 256) (sym e) ∙ ap (below (take n ks)) (sym whole)

@@ -1,15 +1,16 @@
 -- Bytes beside children, as a map.
-use Rattle.std.proofs.Common.{◌≡◌, ◌≢◌, ℕ, zero, suc, ◌+◌, ◌-◌, ◌<◌, ◌≤◌, List, [], ◌∷◌, length, get_or, slice_get, take, drop, set, Some, None, refl, ap, sym, ◌∙◌, arith, add-one, IsSome, subst, inl, inr}
+use Rattle.std.proofs.Common.{◌≡◌, ◌≢◌, ℕ, zero, suc, ◌+◌, ◌-◌, ◌<◌, ◌≤◌, List, [], ◌∷◌, length, get_or, slice_get, take, drop, set, Some, None, refl, ap, sym, ◌∙◌, arith, add-one, length-set, IsSome, subst, inl, inr}
 use Rattle.std.specs.List.{insert, remove}
 use Rattle.std.proofs.lemmas.Bool.{lt-ltb, le-ltb, eq-eqb, ne_eqb, cases_lt, cases_order, lt-leb, le-leb, false≢true}
 use Rattle.congee_map.specs.Map.{lookup, put, without, between, Rises}
 use Rattle.congee_map.proofs.ByteMapLaws.{count_below}
-use Rattle.congee_map.proofs.MapLaws.{lookup-below}
+use Rattle.congee_map.proofs.MapLaws.{lookup-below, Rises-put, Rises-without}
 use Rattle.congee_map.proofs.ByteMapLaws.{put-absent, without-at_present, place_present, lookup-at_index, lookup-at_present}
 use Rattle.std.proofs.lemmas.List.{get_or_default}
+use Rattle.std.proofs.lemmas.List.Edits.{length-insert, length-remove}
 use Rattle.std.proofs.lemmas.Option.{slice_get_cases}
 use Rattle.congee_map.proofs.RangeLaws.{between-above, between-crossed}
-use Rattle.congee_base.specs.Sorted.{below, pairs}
+use Rattle.congee_base.specs.inner.Sorted.{below, pairs, IsSorted}
 
 module _ {C : Type 0} where
   pub length-pairs : (ks : List ℕ) (cs : List C) → length cs ≤ length ks → length (pairs ks cs) ≡ length cs
@@ -156,47 +157,8 @@ module _ {C : Type 0} where
         | inr more ↦ between-part 0 s e es h more
       ]
 
--- what a place in a sorted node says, where n children stand beside the bytes
 pair_is : {C : Type 0} (x y : ℕ) (u v : C) → x ≡ y → u ≡ v → ◌≡◌ {A = ℕ × C} (x, u) (y, v)
 pair_is x y u v p q = rw (p, q) refl
-
-module _ {C : Type 0} (ks : List ℕ) (cs : List C) (h : Rises 0 256 (pairs ks cs)) (l : length cs ≤ length ks) (b i n : ℕ) (e : n ≡ length cs) (at : i ≡ below (take n ks) b) where
-  pub place_is : i ≡ count_below (pairs ks cs) b
-  place_is = at ∙ ap (λ m. below (take m ks) b) e ∙ below-pairs ks cs b l
-
-  child_at : (c : C) → i < length cs → get_or ks i 0 ≡ b → c ≡ get_or cs i c → Some c ≡ lookup (pairs ks cs) b
-  child_at c inside same is =
-      let d : get_or ks i b ≡ b = get_or_default ks i b 0 (omega arith) ∙ same in
-      let r : get_or (pairs ks cs) i (b, c) ≡ (b, c) = get_or-pairs ks cs i b c l inside ∙ pair_is (get_or ks i b) b (get_or cs i c) c d (sym is) in
-      let m = length-pairs ks cs l in
-      sym (lookup-at_index 0 256 (pairs ks cs) b i (b, c) h place_is (omega (arith, m)) (sym r) refl)
-
-  pub found_at : i < length cs → get_or ks i 0 ≡ b → slice_get cs i ≡ lookup (pairs ks cs) b
-  found_at inside same = elim (slice_get_cases cs i).1 [ inl there ↦ there.2 ∙ child_at there.0 inside same (sym there.3) | inr past ↦ absurd (omega (arith, past.0, inside)) ]
-
-  pub not_at : (i < length cs → get_or ks i 0 ≢ b) → lookup (pairs ks cs) b ≡ None
-  not_at other = lookup-not_at 0 ks cs b h l (subst (λ j. j < length cs → get_or ks j 0 ≢ b) place_is other)
-
-  pub inserted : (ls : List ℕ) (ds : List C) (c : C) → lookup (pairs ks cs) b ≡ None → length cs < length ks → length ls ≡ length ks → i ≤ length cs → ds ≡ insert cs i c
-      → ((k : ℕ) → k < i → get_or ls k 0 ≡ get_or ks k 0) → get_or ls i 0 ≡ b → ((k : ℕ) → i ≤ k → k < length cs → get_or ls (k + 1) 0 ≡ get_or ks k 0)
-      → pairs ls ds ≡ put (pairs ks cs) b c
-  inserted ls ds c none room same inside is before here after =
-      ap (λ x. pairs ls x) is ∙ pairs-insert ks ls cs i b c room same inside before here after
-      ∙ ap (λ j. insert (pairs ks cs) j (b, c)) place_is ∙ sym (put-absent 0 256 (pairs ks cs) b c h none)
-
-  pub present_inside : IsSome (lookup (pairs ks cs) b) → i < length cs
-  present_inside s = let p = (place_present 0 256 (pairs ks cs) b h s).0 in let m = length-pairs ks cs l in let q = place_is in omega (arith, p, m, q)
-
-  pub removed : (ls : List ℕ) (ds : List C) → IsSome (lookup (pairs ks cs) b) → length ls ≡ length ks → ds ≡ remove cs i
-      → ((k : ℕ) → k < i → get_or ls k 0 ≡ get_or ks k 0) → ((k : ℕ) → i ≤ k → k + 1 < length cs → get_or ls k 0 ≡ get_or ks (k + 1) 0)
-      → pairs ls ds ≡ without (pairs ks cs) b
-  removed ls ds some same is before after =
-      ap (λ x. pairs ls x) is ∙ pairs-remove ks ls cs i l same (present_inside some) before after ∙ sym (without-at_present 0 256 (pairs ks cs) b i h some place_is)
-
-  pub value_at : (c : C) → IsSome (lookup (pairs ks cs) b) → c ≡ get_or cs i c → lookup (pairs ks cs) b ≡ Some c
-  value_at c some is =
-      lookup-at_present 0 256 (pairs ks cs) b i (get_or ks i b, c) h some place_is
-      (sym (get_or-pairs ks cs i (get_or ks i b) c l (present_inside some) ∙ pair_is _ _ _ _ (sym (get_or_default ks i b (get_or ks i b) (let p = present_inside some in omega (arith, p)))) (sym is)))
 
 module _ {C : Type 0} where
   -- a change writes the child at the byte's place
@@ -213,22 +175,103 @@ module _ {C : Type 0} where
             let s' = rw (ne_eqb k b (omega arith), lookup-below (k + 1) 256 (pairs ks cs) b h.2 (omega arith)) at s in absurd (false≢true s')
       ]
 
-module _ {C : Type 0} (ks : List ℕ) (cs : List C) (h : Rises 0 256 (pairs ks cs)) (l : length cs ≤ length ks) where
-  pub changed : (b i n : ℕ) (e : n ≡ length cs) (at : i ≡ below (take n ks) b) (c : C) → IsSome (lookup (pairs ks cs) b) → pairs ks (set cs i c) ≡ put (pairs ks cs) b c
-  changed b i n e at c some = ap (λ j. pairs ks (set cs j c)) (place_is ks cs h l b i n e at) ∙ put-at_place 0 ks cs b c h l some
+-- a sorted node
+module _ {C : Type 0} {most : ℕ} {ks : List ℕ} {cs : List C} {count : ℕ} (r : IsSorted most ks cs count) where
+  pub enough_bytes : length cs ≤ length ks
+  enough_bytes = omega (arith, r.long, r.within)
 
-  pub part_between : (s e i j n : ℕ) → n ≡ length cs → i ≡ below (take n ks) s → j ≡ below (take n ks) e → pairs (take (j - i) (drop i ks)) (take (j - i) (drop i cs)) ≡ between (pairs ks cs) s e
-  part_between s e i j n m p q =
-      let p' = place_is ks cs h l s i n m p in
-      let q' = place_is ks cs h l e j n m q in
-      pairs-take (drop i ks) (drop i cs) (j - i) ∙ ap (take (j - i)) (pairs-drop ks cs i) ∙ rw (p', q') (between-places s e (pairs ks cs) h)
+  pub length-sorted : length (pairs ks cs) ≡ length cs
+  length-sorted = length-pairs ks cs enough_bytes
 
-  pub bytes_between : (s e i j n : ℕ) → n ≡ length cs → i ≡ below (take n ks) s → j ≡ below (take n ks) e → pairs (take (j - i) (drop i ks)) (drop i cs) ≡ between (pairs ks cs) s e
-  bytes_between s e i j n m p q = pairs-short (drop i ks) (drop i cs) (j - i) ∙ part_between s e i j n m p q
+-- a byte's place in a sorted node, where n children stand beside the first of its bytes
+module _ {C : Type 0} {most : ℕ} {ks : List ℕ} {cs : List C} {count : ℕ} (r : IsSorted most ks cs count)
+    (b : ℕ) {i n : ℕ} (e : n ≡ length cs) (at : i ≡ below (take n ks) b) where
+  pub place_is : i ≡ count_below (pairs ks cs) b
+  place_is = at ∙ ap (λ m. below (take m ks) b) e ∙ below-pairs ks cs b (enough_bytes r)
 
-  pub part_none : (s e i j n : ℕ) → n ≡ length cs → i ≡ below (take n ks) s → j ≡ below (take n ks) e → j ≤ i → [] ≡ between (pairs ks cs) s e
-  part_none s e i j n m p q o =
-      let p' = place_is ks cs h l s i n m p in
-      let q' = place_is ks cs h l e j n m q in
-      let z : count_below (pairs ks cs) e - count_below (pairs ks cs) s ≡ 0 = omega (arith, p', q') in
-      ap (λ k. take k (drop (count_below (pairs ks cs) s) (pairs ks cs))) (sym z) ∙ between-places s e (pairs ks cs) h
+  child_at : (c : C) → i < length cs → get_or ks i 0 ≡ b → c ≡ get_or cs i c → Some c ≡ lookup (pairs ks cs) b
+  child_at c inside same is =
+      let d : get_or ks i b ≡ b = get_or_default ks i b 0 (omega (arith, enough_bytes r)) ∙ same in
+      let p : get_or (pairs ks cs) i (b, c) ≡ (b, c) = get_or-pairs ks cs i b c (enough_bytes r) inside ∙ pair_is (get_or ks i b) b (get_or cs i c) c d (sym is) in
+      sym (lookup-at_index 0 256 (pairs ks cs) b i (b, c) r.ascending place_is (omega (arith, length-sorted r)) (sym p) refl)
+
+  pub found_at : i < length cs → get_or ks i 0 ≡ b → slice_get cs i ≡ lookup (pairs ks cs) b
+  found_at inside same = elim (slice_get_cases cs i).1 [ inl there ↦ there.2 ∙ child_at there.0 inside same (sym there.3) | inr past ↦ absurd (omega (arith, past.0, inside)) ]
+
+  pub not_at : (i < length cs → get_or ks i 0 ≢ b) → lookup (pairs ks cs) b ≡ None
+  not_at other = lookup-not_at 0 ks cs b r.ascending (enough_bytes r) (subst (λ j. j < length cs → get_or ks j 0 ≢ b) place_is other)
+
+  pub present_inside : IsSome (lookup (pairs ks cs) b) → i < length cs
+  present_inside some = omega (arith, (place_present 0 256 (pairs ks cs) b r.ascending some).0, length-sorted r, place_is)
+
+  pub value_at : (c : C) → IsSome (lookup (pairs ks cs) b) → c ≡ get_or cs i c → lookup (pairs ks cs) b ≡ Some c
+  value_at c some is =
+      let inside = present_inside some in
+      lookup-at_present 0 256 (pairs ks cs) b i (get_or ks i b, c) r.ascending some place_is
+      (sym (get_or-pairs ks cs i (get_or ks i b) c (enough_bytes r) inside ∙ pair_is _ _ _ _ (sym (get_or_default ks i b (get_or ks i b) (omega (arith, inside, enough_bytes r)))) (sym is)))
+
+  -- an insertion of a byte that is absent
+  pub inserted : {ls : List ℕ} {ds : List C} (c : C) → b < 256 → lookup (pairs ks cs) b ≡ None → length cs < most → length ls ≡ length ks → i ≤ n → ds ≡ insert cs i c
+      → ((k : ℕ) → k < i → get_or ls k 0 ≡ get_or ks k 0) → get_or ls i 0 ≡ b → ((k : ℕ) → i ≤ k → k < n → get_or ls (k + 1) 0 ≡ get_or ks k 0)
+      → IsSorted most ls ds (count + 1) × (pairs ls ds ≡ put (pairs ks cs) b c)
+  inserted {ls} {ds} c byte none room same inside is before here after =
+      let children : pairs ls ds ≡ put (pairs ks cs) b c
+      = ap (λ x. pairs ls x) is ∙ pairs-insert ks ls cs i b c (omega (arith, room, r.long)) same (omega (arith, inside, e)) before here (rw e at after)
+      ∙ ap (λ j. insert (pairs ks cs) j (b, c)) place_is ∙ sym (put-absent 0 256 (pairs ks cs) b c r.ascending none) in
+      let longer : length ds ≡ length cs + 1 = ap length is ∙ length-insert cs i c (omega (arith, inside, e)) in (
+        record {
+          ascending = subst (Rises 0 256) (sym children) (Rises-put 0 256 (pairs ks cs) b c r.ascending (omega arith) byte);
+          long = same ∙ r.long;
+          within = omega (arith, longer, room);
+          counted = omega (arith, longer, r.counted);
+        },
+        children,
+      )
+
+  -- a removal of a byte that is present
+  pub removed : {ls : List ℕ} {ds : List C} {fewer : ℕ} → IsSome (lookup (pairs ks cs) b) → length ls ≡ length ks → ds ≡ remove cs i
+      → ((k : ℕ) → k < i → get_or ls k 0 ≡ get_or ks k 0) → ((k : ℕ) → i ≤ k → k + 1 < n → get_or ls k 0 ≡ get_or ks (k + 1) 0) → fewer + 1 ≡ count
+      → IsSorted most ls ds fewer × (pairs ls ds ≡ without (pairs ks cs) b)
+  removed {ls} {ds} {fewer} some same is before after less =
+      let inside = present_inside some in
+      let children : pairs ls ds ≡ without (pairs ks cs) b
+      = ap (λ x. pairs ls x) is ∙ pairs-remove ks ls cs i (enough_bytes r) same inside before (rw e at after) ∙ sym (without-at_present 0 256 (pairs ks cs) b i r.ascending some place_is) in
+      let shorter : length ds + 1 ≡ length cs = ap (λ (x : List C). length x + 1) is ∙ length-remove cs i inside in (
+        record {
+          ascending = subst (Rises 0 256) (sym children) (Rises-without 0 256 (pairs ks cs) b r.ascending);
+          long = same ∙ r.long;
+          within = omega (arith, shorter, r.within);
+          counted = omega (arith, shorter, r.counted, less);
+        },
+        children,
+      )
+
+  -- another child under a byte that is present
+  pub changed : (c : C) → b < 256 → IsSome (lookup (pairs ks cs) b) → IsSorted most ks (set cs i c) count × (pairs ks (set cs i c) ≡ put (pairs ks cs) b c)
+  changed c byte some =
+      let children : pairs ks (set cs i c) ≡ put (pairs ks cs) b c
+      = ap (λ j. pairs ks (set cs j c)) place_is ∙ put-at_place 0 ks cs b c r.ascending (enough_bytes r) some in
+      let long : length (set cs i c) ≡ length cs = length-set cs i c in (
+        record {
+          ascending = subst (Rises 0 256) (sym children) (Rises-put 0 256 (pairs ks cs) b c r.ascending (omega arith) byte);
+          long = r.long;
+          within = omega (arith, long, r.within);
+          counted = omega (arith, long, r.counted);
+        },
+        children,
+      )
+
+-- the children between two bytes, by their places
+module _ {C : Type 0} {most : ℕ} {ks : List ℕ} {cs : List C} {count : ℕ} (r : IsSorted most ks cs count)
+    (s e : ℕ) {i j n : ℕ} (m : n ≡ length cs) (p : i ≡ below (take n ks) s) (q : j ≡ below (take n ks) e) where
+  pub part_between : pairs (take (j - i) (drop i ks)) (take (j - i) (drop i cs)) ≡ between (pairs ks cs) s e
+  part_between =
+      pairs-take (drop i ks) (drop i cs) (j - i) ∙ ap (take (j - i)) (pairs-drop ks cs i) ∙ rw (place_is r s m p, place_is r e m q) (between-places s e (pairs ks cs) r.ascending)
+
+  pub bytes_between : pairs (take (j - i) (drop i ks)) (drop i cs) ≡ between (pairs ks cs) s e
+  bytes_between = pairs-short (drop i ks) (drop i cs) (j - i) ∙ part_between
+
+  pub part_none : j ≤ i → [] ≡ between (pairs ks cs) s e
+  part_none o =
+      let z : count_below (pairs ks cs) e - count_below (pairs ks cs) s ≡ 0 = omega (arith, place_is r s m p, place_is r e m q) in
+      ap (λ k. take k (drop (count_below (pairs ks cs) s) (pairs ks cs))) (sym z) ∙ between-places s e (pairs ks cs) r.ascending

@@ -25,17 +25,23 @@ pub struct Node16<C> {
 
 impl<C> Model for Node16<C> {
     ghost use Rattle.std.specs.Prelude.{◌≡◌, ◌≤◌, length, vec_capacity};
-    ghost use Rattle.congee_base.specs.NodeView.{NodeView, node_view_code};
-    ghost use Rattle.congee_base.specs.Sorted.{pairs, IsSorted};
+    ghost use Rattle.congee_base.specs.NodeView.{NodeView};
+    ghost use Rattle.congee_base.specs.inner.NodeCode.{node_view_code};
+    ghost use Rattle.congee_base.specs.inner.Sorted.{pairs, IsSorted};
     ghost use Rattle.congee_base.specs.declared.base_node.NodeType.TheVariants.{N16};
 
     ghost Value = { NodeView C };
 
     ghost coded = { node_view_code C.code };
 
-    ghost view = { λ n. record { prefix = n.base.prefix; children = pairs n.keys n.children.items } };
+    ghost view = { λ n. record {
+      prefix = n.base.prefix;
+      children = pairs n.keys n.children.items;
+    } };
 
-    ghost invariant = { λ n. IsSorted 16 n.keys n.children.items n.base.count × (n.base.form ≡ N16) × (16 ≤ vec_capacity n.children) };
+    ghost invariant = { λ n. IsSorted 16 n.keys n.children.items n.base.count
+        × (n.base.form ≡ N16)
+        × (16 ≤ vec_capacity n.children) };
 }
 
 impl<C: Drop> Node16<C> {

@@ -33,18 +33,26 @@ pub struct Node256<C> {
 
 impl<C> Model for Node256<C> {
     ghost use Rattle.std.specs.Prelude.{◌≡◌, ◌≤◌, vec_capacity};
-    ghost use Rattle.congee_base.specs.NodeView.{NodeView, node_view_code};
-    ghost use Rattle.congee_base.specs.Marked.{marked_place};
-    ghost use Rattle.congee_base.specs.Row.{in_row, IsRow};
+    ghost use Rattle.congee_base.specs.NodeView.{NodeView};
+    ghost use Rattle.congee_base.specs.inner.NodeCode.{node_view_code};
+    ghost use Rattle.congee_base.specs.inner.Marked.{marked_place};
+    ghost use Rattle.congee_base.specs.inner.Row.{in_row, IsRow};
     ghost use Rattle.congee_base.specs.declared.base_node.NodeType.TheVariants.{N256};
 
     ghost Value = { NodeView C };
 
     ghost coded = { node_view_code C.code };
 
-    ghost view = { λ n. record { prefix = n.base.prefix; children = in_row (marked_place n.marks.value.mask n.marks.value.index) n.children.items } };
+    ghost view = { λ n. record {
+      prefix = n.base.prefix;
+      children = in_row (marked_place n.marks.value.mask n.marks.value.index)
+          n.children.items;
+    } };
 
-    ghost invariant = { λ n. IsRow 256 (marked_place n.marks.value.mask n.marks.value.index) n.children.items n.base.count × (n.base.form ≡ N256) × (256 ≤ vec_capacity n.children) };
+    ghost invariant = { λ n. IsRow 256 (marked_place n.marks.value.mask n.marks.value.index)
+        n.children.items n.base.count
+        × (n.base.form ≡ N256)
+        × (256 ≤ vec_capacity n.children) };
 }
 
 impl<C: Drop> Node256<C> {

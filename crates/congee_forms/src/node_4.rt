@@ -24,18 +24,23 @@ pub struct Node4<C> {
 
 impl<C> Model for Node4<C> {
     ghost use Rattle.std.specs.Prelude.{◌≡◌, length};
-    ghost use Rattle.congee_base.specs.NodeView.{NodeView, node_view_code};
-    ghost use Rattle.congee_base.specs.Sorted.{pairs, IsSorted};
-    ghost use Rattle.congee_base.specs.Few.{listed};
+    ghost use Rattle.congee_base.specs.NodeView.{NodeView};
+    ghost use Rattle.congee_base.specs.inner.NodeCode.{node_view_code};
+    ghost use Rattle.congee_base.specs.inner.Sorted.{pairs, IsSorted};
+    ghost use Rattle.congee_base.specs.inner.Few.{listed};
     ghost use Rattle.congee_base.specs.declared.base_node.NodeType.TheVariants.{N4};
 
     ghost Value = { NodeView C };
 
     ghost coded = { node_view_code C.code };
 
-    ghost view = { λ n. record { prefix = n.base.prefix; children = pairs n.keys (listed n.children) } };
+    ghost view = { λ n. record {
+      prefix = n.base.prefix;
+      children = pairs n.keys (listed n.children);
+    } };
 
-    ghost invariant = { λ n. IsSorted 4 n.keys (listed n.children) n.base.count × (n.base.form ≡ N4) };
+    ghost invariant = { λ n. IsSorted 4 n.keys (listed n.children) n.base.count
+        × (n.base.form ≡ N4) };
 }
 
 impl<C: Drop> Node4<C> {

@@ -25,17 +25,23 @@ pub struct Node48<C> {
 
 impl<C> Model for Node48<C> {
     ghost use Rattle.std.specs.Prelude.{◌≡◌, ◌≤◌, slice_index, vec_capacity};
-    ghost use Rattle.congee_base.specs.NodeView.{NodeView, node_view_code};
-    ghost use Rattle.congee_base.specs.Row.{in_row, IsRow};
+    ghost use Rattle.congee_base.specs.NodeView.{NodeView};
+    ghost use Rattle.congee_base.specs.inner.NodeCode.{node_view_code};
+    ghost use Rattle.congee_base.specs.inner.Row.{in_row, IsRow};
     ghost use Rattle.congee_base.specs.declared.base_node.NodeType.TheVariants.{N48};
 
     ghost Value = { NodeView C };
 
     ghost coded = { node_view_code C.code };
 
-    ghost view = { λ n. record { prefix = n.base.prefix; children = in_row (slice_index n.index.value) n.children.items } };
+    ghost view = { λ n. record {
+      prefix = n.base.prefix;
+      children = in_row (slice_index n.index.value) n.children.items;
+    } };
 
-    ghost invariant = { λ n. IsRow 48 (slice_index n.index.value) n.children.items n.base.count × (n.base.form ≡ N48) × (48 ≤ vec_capacity n.children) };
+    ghost invariant = { λ n. IsRow 48 (slice_index n.index.value) n.children.items n.base.count
+        × (n.base.form ≡ N48)
+        × (48 ≤ vec_capacity n.children) };
 }
 
 impl<C: Drop> Node48<C> {

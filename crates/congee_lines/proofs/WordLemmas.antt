@@ -5,7 +5,7 @@ use Rattle.std.proofs.lemmas.Fmt.{length-decimal-le}
 use Rattle.std.proofs.lemmas.Bool.{ne_eqb, eq-eqb}
 use Rattle.std.proofs.lemmas.List.Splits.{length-slice_split, join_with_byte-slice_split}
 use Rattle.congee_lines.specs.Lines.{Lacks}
-use Rattle.congee_lines.specs.Words.{words_of}
+use Rattle.congee_lines.specs.inner.Words.{words_of}
 use Rattle.congee_lines.proofs.Numbers.{number_digit}
 
 -- a line without a space is one word

@@ -1,4 +1,4 @@
 pub mod Bytes
 pub mod Lines
 pub mod Watched
-pub mod Words
+pub mod inner

@@ -1,7 +1,7 @@
 //! The line that has begun.
 
 ghost use Rattle.std.specs.Prelude.{◌≡◌, ℕ, ◌≤◌, List, [], take, Option, Some, None, MatchOption, IsTrue, ◌↔◌, if◌then◌else◌, nat_le};
-ghost use Rattle.congee_lines.specs.Lines.{kept_with};
+ghost use Rattle.congee_lines.specs.inner.Kept.{kept_with};
 
 use std::marker::Model;
 

@@ -1,8 +1,7 @@
 //! Bytes that have still to be written.
 
 ghost use Rattle.std.specs.Prelude.{◌≡◌, ℕ, ◌+◌, ◌-◌, ◌≤◌, List, [], ◌++◌, length, take, decimal, OnOk, OnErr};
-ghost use Rattle.congee_lines.specs.Bytes.{Sends};
-ghost use Rattle.congee_lines.specs.Watched.{HasFailed, inner_of};
+ghost use Rattle.congee_lines.specs.Watched.{HasFailed, SendsTo, SendsPart};
 
 use crate::watched::{Failed, Watched};
 use std::io::Write;
@@ -80,9 +79,9 @@ impl Pending {
 
     /// Writes all that is kept. At an `Err` a first part of it was written.
     pub fn send_to<W: Write>(&mut self, output: &mut Watched<W>) -> Result<(), Failed>
-        ensures sent { OnOk result (Sends (W.contents (inner_of output.old)) (W.contents (inner_of output.new)) self.old []) }
+        ensures sent { OnOk result (SendsTo W.contents output.old output.new self.old []) }
         ensures empty { OnOk result (self.new ≡ []) }
-        ensures broken { OnErr result ((rest : List ℕ) × Sends (W.contents (inner_of output.old)) (W.contents (inner_of output.new)) self.old rest) }
+        ensures broken { OnErr result (SendsPart W.contents output.old output.new self.old) }
         ensures kept { OnOk result (output.new.failed ≡ output.old.failed) }
         ensures failed { OnErr result (HasFailed output.new) }
     {
@@ -94,9 +93,9 @@ impl Pending {
     /// Makes room for 64 bytes, which a short answer never fills: writes all that is kept where
     /// there is less. At an `Err` a first part of it was written.
     pub fn make_room<W: Write>(&mut self, output: &mut Watched<W>) -> Result<(), Failed>
-        ensures sent { OnOk result (Sends (W.contents (inner_of output.old)) (W.contents (inner_of output.new)) self.old self.new) }
+        ensures sent { OnOk result (SendsTo W.contents output.old output.new self.old self.new) }
         ensures room { OnOk result (length self.new + 64 ≤ 8192) }
-        ensures broken { OnErr result ((rest : List ℕ) × Sends (W.contents (inner_of output.old)) (W.contents (inner_of output.new)) self.old rest) }
+        ensures broken { OnErr result (SendsPart W.contents output.old output.new self.old) }
         ensures kept { OnOk result (output.new.failed ≡ output.old.failed) }
         ensures failed { OnErr result (HasFailed output.new) }
     {

@@ -72,10 +72,12 @@ impl<T> Watched<T> {
 impl<R: Read> Watched<R> {
     ghost use Rattle.congee_lines.specs.Watched.{HasFailed, inner_of, calls_left};
 
-    /// Reads some bytes into the buffer, and answers how many: none only at the end.
+    /// Reads some bytes into the buffer, and returns how many: none only at the end.
     pub fn read(&mut self, buf: &mut [u8]) -> Result<usize, Failed>
         ensures bound { ReadsAtMost result buf.new }
-        ensures bytes { ReadConsumes (R.remaining (inner_of self.old)) (R.remaining (inner_of self.new)) result buf.new }
+        ensures bytes { ReadConsumes
+            (R.remaining (inner_of self.old)) (R.remaining (inner_of self.new))
+            result buf.new }
         ensures kept { OnOk result (self.new.failed ≡ self.old.failed) }
         ensures failed { OnErr result (HasFailed self.new) }
         ensures fewer { OnOk result (calls_left self.new < calls_left self.old) }
@@ -92,13 +94,14 @@ impl<R: Read> Watched<R> {
 }
 
 impl<W: Write> Watched<W> {
-    ghost use Rattle.congee_lines.specs.Watched.{HasFailed, inner_of, calls_left};
-    ghost use Rattle.congee_lines.specs.Bytes.{Sends};
+    ghost use Rattle.congee_lines.specs.Watched.{HasFailed, inner_of, SendsTo, SendsPart};
 
-    /// Writes some of the bytes, and answers how many. To take none of some bytes is a failure.
+    /// Writes some of the bytes, and returns how many. To take none of some bytes is a failure.
     pub fn write(&mut self, buf: &[u8]) -> Result<usize, Failed>
         ensures bound { WritesAtMost result buf.now }
-        ensures bytes { WriteAppends (W.contents (inner_of self.old)) (W.contents (inner_of self.new)) result buf.now }
+        ensures bytes { WriteAppends
+            (W.contents (inner_of self.old)) (W.contents (inner_of self.new))
+            result buf.now }
         ensures some { IfOk result (λ n. 0 < length buf.now → 0 < n) }
         ensures kept { OnOk result (self.new.failed ≡ self.old.failed) }
         ensures failed { OnErr result (HasFailed self.new) }
@@ -131,8 +134,8 @@ impl<W: Write> Watched<W> {
 
     /// Writes all of the bytes. At an `Err` a first part of them was written.
     pub fn send(&mut self, bytes: &[u8]) -> Result<(), Failed>
-        ensures ok { OnOk result (Sends (W.contents (inner_of self.old)) (W.contents (inner_of self.new)) bytes.now []) }
-        ensures err { OnErr result ((rest : List ℕ) × Sends (W.contents (inner_of self.old)) (W.contents (inner_of self.new)) bytes.now rest) }
+        ensures ok { OnOk result (SendsTo W.contents self.old self.new bytes.now []) }
+        ensures err { OnErr result (SendsPart W.contents self.old self.new bytes.now) }
         ensures kept { OnOk result (self.new.failed ≡ self.old.failed) }
         ensures failed { OnErr result (HasFailed self.new) }
     {

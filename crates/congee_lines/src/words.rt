@@ -1,7 +1,7 @@
 //! The words of a line.
 
 ghost use Rattle.std.specs.Prelude.{◌≡◌, ◌≢◌, ℕ, ◌∷◌, [], List, ◌<◌, ◌≤◌, ◌^◌, length, slice_index, MatchOption, IfSome, IfNone, decimal};
-ghost use Rattle.congee_lines.specs.Words.{words_of, words_left};
+ghost use Rattle.congee_lines.specs.inner.Words.{words_of, words_left};
 
 use crate::number::number;
 
@@ -21,7 +21,8 @@ impl<'a> Words<'a> {
 
     /// The next word, up to a space or the end. Two spaces have an empty word between them.
     pub fn next_word(&mut self) -> Option<&'a [u8]>
-        ensures { MatchOption result (words_left self.old ≡ []) (λ word. words_left self.old ≡ word.now ∷ words_left self.new) }
+        ensures { MatchOption result (words_left self.old ≡ [])
+            (λ word. words_left self.old ≡ word.now ∷ words_left self.new) }
     {
         let text = self.rest?;
         let at = space_or_end(text);
@@ -35,7 +36,8 @@ impl<'a> Words<'a> {
 
     /// `Some` if there is no word left.
     pub fn end(&self) -> Option<()>
-        ensures { MatchOption result (words_left self.now ≡ [] → ⊥) (λ _. words_left self.now ≡ []) }
+        ensures { MatchOption result (words_left self.now ≡ [] → ⊥)
+            (λ _. words_left self.now ≡ []) }
     {
         match self.rest {
             None => Some(()),

@@ -1,5 +1,5 @@
 -- Where a key stands in an ordered map, and how many keys there are.
-use Rattle.std.proofs.Common.{◌≡◌, ℕ, ◌+◌, ◌<◌, ◌≤◌, ◌≢◌, true, false, cond, ltb, nat_lt, if◌then◌else◌, List, [], ◌∷◌, length, get_or, Some, None, IsSome, suc, set, add-one, refl, ap, sym, ◌∙◌, arith, inl, inr}
+use Rattle.std.proofs.Common.{◌≡◌, ℕ, ◌+◌, ◌<◌, ◌≤◌, nat_lt, if◌then◌else◌, List, [], ◌∷◌, length, get_or, Some, None, IsSome, suc, add-one, refl, ap, sym, ◌∙◌, arith, inl, inr}
 use Rattle.std.proofs.lemmas.Bool.{lt-ltb, le-ltb, eq-eqb, ne_eqb, cases_order, cases_eq, cases_lt, false≢true}
 use Rattle.std.specs.List.{insert, remove}
 use Rattle.congee_map.specs.Map.{lookup, put, without, Rises}

@@ -8,7 +8,7 @@ module _ {V : Type 0} where
   lookup-first : (e : ℕ × V) (es : List (ℕ × V)) → lookup (e ∷ es) e.0 ≡ Some e.1
   lookup-first e es = rw (eq-eqb e.0 e.0 refl)
 
-  lookup-next : (e : ℕ × V) (es : List (ℕ × V)) (k : ℕ) → e.0 ≢ k → lookup (e ∷ es) k ≡ lookup es k
+  pub lookup-next : (e : ℕ × V) (es : List (ℕ × V)) (k : ℕ) → e.0 ≢ k → lookup (e ∷ es) k ≡ lookup es k
   lookup-next e es k other = rw (ne_eqb e.0 k other)
 
   -- a wider range holds too

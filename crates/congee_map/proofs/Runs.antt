@@ -5,8 +5,6 @@ use Rattle.congee_map.specs.Call.{Call, get, insert, remove, compare_exchange, c
 use Rattle.congee_map.specs.Call.{Asked, Answer, replied, refused, Deed}
 use Rattle.congee_map.specs.Refusal.{Refusals, of_new_keys, of_new_nodes, MayRefuse}
 use Rattle.congee_map.specs.Legal.{IsLegal, MayAnswer, after_deed, after_answer, after, after_asking, after_exchange, exchange, HasWideKey, HasWideKeys}
-use Rattle.std.specs.List.{AllZip}
-use Rattle.congee_map.specs.Conversion.{Conversion, IsReadAs, IsLegalFor}
 use Rattle.congee_map.specs.Request.{Request, request_of, is_refusal}
 use Rattle.congee_map.proofs.MapLaws.{Rises-put, Rises-without}
 
@@ -103,18 +101,3 @@ module _ {P : Type 0} where
   pub run_of_tree : (same : P → P → Bool) (m n : Pairs P) (ds : List (Deed ℕ P P)) → IsLegal same of_new_nodes m ds n → IsLegal same of_new_keys m ds n
   run_of_tree same m n [] h = h
   run_of_tree same m n (d ∷ ds) h = (answers_more same m d.call d.asked d.answer h.0, run_of_tree same (after_deed same m d) n ds h.1)
-
--- a run of a face after another
-module _ {K V P : Type 0} (c : Conversion K V P) (same : P → P → Bool) (r : Refusals) where
-  read-append : (ps qs : List (Deed ℕ P P)) (ds es : List (Deed K V P)) → AllZip (IsReadAs c) ps ds → AllZip (IsReadAs c) qs es → AllZip (IsReadAs c) (ps ++ qs) (ds ++ es)
-  read-append [] qs [] es h k = k
-  read-append [] qs (d ∷ ds) es h k = absurd h
-  read-append (p ∷ ps) qs [] es h k = absurd h
-  read-append (p ∷ ps) qs (d ∷ ds) es h k = (h.0, read-append ps qs ds es h.1 k)
-
-  pub IsLegalFor-append : (m k n : Pairs P) (ds es : List (Deed K V P)) → IsLegalFor c same r m ds k → IsLegalFor c same r k es n → IsLegalFor c same r m (ds ++ es) n
-  IsLegalFor-append m k n ds es first then = record {
-    plain = first.plain ++ then.plain;
-    legal = IsLegal-append same r m k n first.plain then.plain first.legal then.legal;
-    read = read-append first.plain then.plain ds es first.read then.read;
-  }

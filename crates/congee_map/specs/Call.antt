@@ -1,4 +1,4 @@
--- Calls on an ordered map, and what they are answered.
+-- Calls on an ordered map, and what they return.
 use Rattle.std.specs.Prelude.{ℕ, Bool, List, Option, Result}
 
 -- A call with keys of type K and values of type V. The two compute calls have a closure besides.
@@ -17,8 +17,8 @@ pub data Call (K V : Type 0) : Type 0 where
   range : K → K → ℕ → Call K V
   drain : Call K V
 
--- What the closure of a call was asked with and what it answered, if it was called. It is handed what is stored, of
--- type P, and answers such a value, or nothing.
+-- What the closure of a call was called with and what it returned, if it was called. It is passed what is stored, of
+-- type P, and returns such a value, or nothing.
 abbrev pub Asked : Type 0 → Type 0
 Asked P = Option (Option P × Option P)
 
@@ -28,7 +28,7 @@ pub data Reply (K V P : Type 0) : Type 0 where
   old_value : Option V → Reply K V P
   -- the new value, or what stands in its place
   exchanged : Result (Option V) (Option V) → Reply K V P
-  -- what stood at the key, and what the closure answered
+  -- what stood at the key, and what the closure returned
   computed : Option (P × Option P) → Reply K V P
   tested : Bool → Reply K V P
   counted : ℕ → Reply K V P
@@ -41,7 +41,7 @@ pub data Answer (K V P : Type 0) : Type 0 where
   replied : Reply K V P → Answer K V P
   refused : Answer K V P
 
--- a call, what its closure was asked and answered, and what came back
+-- a call, what its closure was passed and returned, and what came back
 pub record Deed (K V P : Type 0) : Type 0 where
   pub call : Call K V
   pub asked : Asked P

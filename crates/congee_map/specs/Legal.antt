@@ -1,4 +1,4 @@
--- What a map answers, what a call leaves of it, and the legal runs of calls.
+-- What a call on a map returns, what it leaves of the map, and the legal runs of calls.
 use Rattle.std.specs.Prelude.{◌≡◌, ℕ, ◌<◌, ◌^◌, Bool, List, [], ◌∷◌, Option, Some, None, Result, Ok, Err, if◌then◌else◌, ◌==◌, length, map, take}
 use Rattle.std.specs.List.{AllByRecursion}
 use Rattle.congee_map.specs.Map.{Pairs, lookup, put, without, with_answer, between}
@@ -8,16 +8,16 @@ use Rattle.congee_map.specs.Call.{Asked, Answer, replied, refused, Deed}
 use Rattle.congee_map.specs.Refusal.{Refusals, MayRefuse}
 
 module _ {P : Type 0} where
-  -- the closure was asked with what stands at the key, if anything does
+  -- the closure was called with what stands at the key, if anything does
   abbrev pub AsksPresent : Option P → Asked P → Type 0
   AsksPresent None asked = asked ≡ None
   AsksPresent (Some old) asked = (new : Option P) × (asked ≡ Some (Some old, new))
 
-  -- the closure was asked with what stands at the key or that nothing does, and it answered a value
+  -- the closure was called with what stands at the key or that nothing does, and it returned a value
   abbrev pub AsksAlways : Option P → Asked P → Type 0
   AsksAlways old asked = (new : P) × (asked ≡ Some (old, Some new))
 
-  -- the closure of a call was asked as it has to be
+  -- the closure of a call was called as it has to be
   abbrev pub IsAsked : Pairs P → Call ℕ P → Asked P → Type 0
   IsAsked m (get k) asked = asked ≡ None
   IsAsked m (insert k v) asked = asked ≡ None
@@ -37,12 +37,12 @@ module _ {P : Type 0} where
   computed_by (Some (None, new)) = None
   computed_by (Some (Some old, new)) = Some (old, new)
 
-  -- the map with what a closure answered, if it was called
+  -- the map with what a closure returned, if it was called
   abbrev pub after_asking : Pairs P → ℕ → Asked P → Pairs P
   after_asking m k None = m
   after_asking m k (Some (old, new)) = with_answer m k new
 
-  -- the map after a compare_exchange that was answered so
+  -- the map after a compare_exchange that returned this
   abbrev pub after_exchange : Pairs P → ℕ → Result (Option P) (Option P) → Pairs P
   after_exchange m k (Ok new) = with_answer m k new
   after_exchange m k (Err standing) = m
@@ -54,7 +54,7 @@ module _ {P : Type 0} (same : P → P → Bool) where
   exchange None old new = Err None
   exchange (Some standing) old new = if same standing old then Ok new else Err (Some standing)
 
-  -- the reply to a call whose closure was asked so
+  -- the reply to a call whose closure was called so
   abbrev pub reply_of : Pairs P → Call ℕ P → Asked P → Reply ℕ P P
   reply_of m (get k) asked = old_value (lookup m k)
   reply_of m (insert k v) asked = old_value (lookup m k)

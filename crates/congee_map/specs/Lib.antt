@@ -1,5 +1,4 @@
 pub mod Call
-pub mod Conversion
 pub mod Legal
 pub mod Map
 pub mod Refusal

@@ -12,4 +12,5 @@ is_refusal (replied r) = false
 is_refusal refused = true
 
 abbrev pub request_of : {P : Type 0} → Deed ℕ P P → Request P
-request_of deed = record { call = deed.call; asked = deed.asked; is_refused = is_refusal deed.answer }
+request_of deed =
+    record { call = deed.call; asked = deed.asked; is_refused = is_refusal deed.answer }

@@ -9,9 +9,10 @@ ghost use Rattle.congee_map.specs.Refusal.{Refusals, of_new_keys, of_new_nodes};
 ghost use Rattle.congee_map.specs.Legal.{IsLegal, HasWideKeys};
 ghost use Rattle.congee_map.specs.Request.{Request, request_of};
 
-/// A map is known by its look-ups: two maps that answer alike at every key are one list of pairs.
+/// A map is known by its look-ups: two maps with the same value at every key are one list of pairs.
 pub fn known_by_lookups<P>()
-    ensures { (m n : Pairs P) → IsMap m → IsMap n → ((k : ℕ) → lookup m k ≡ lookup n k) → m ≡ n }
+    ensures { (m n : Pairs P) → IsMap m → IsMap n
+        → ((k : ℕ) → lookup m k ≡ lookup n k) → m ≡ n }
 {}
 
 /// What is found after a `put`: the new value at its key, and what stood there at every other.
@@ -28,7 +29,8 @@ pub fn lookup_after_without<P>()
 
 /// What is found between two keys: what stands there, and nothing outside of them.
 pub fn lookup_between<P>()
-    ensures inside { (m : Pairs P) (a b k : ℕ) → a ≤ k → k < b → lookup (between m a b) k ≡ lookup m k }
+    ensures inside { (m : Pairs P) (a b k : ℕ) → a ≤ k → k < b
+        → lookup (between m a b) k ≡ lookup m k }
     ensures below { (m : Pairs P) (a b k : ℕ) → k < a → lookup (between m a b) k ≡ None }
     ensures above { (m : Pairs P) (a b k : ℕ) → b ≤ k → lookup (between m a b) k ≡ None }
 {}
@@ -46,10 +48,12 @@ pub fn run_stays_a_map<P>()
         → IsMap m → HasWideKeys deeds → IsLegal same r m deeds n → IsMap n }
 {}
 
-/// The calls, what their closures answered, and which of them were refused determine the replies and the end of a run.
+/// The calls, what their closures returned, and which of them were refused determine the replies and the end of a run.
 pub fn run_is_determined<P>()
-    ensures { (same : P → P → Bool) (r : Refusals) (m n n' : Pairs P) (deeds deeds' : List (Deed ℕ P P))
-        → IsLegal same r m deeds n → IsLegal same r m deeds' n' → map request_of deeds ≡ map request_of deeds'
+    ensures { (same : P → P → Bool) (r : Refusals) (m n n' : Pairs P)
+        (deeds deeds' : List (Deed ℕ P P))
+        → IsLegal same r m deeds n → IsLegal same r m deeds' n'
+        → map request_of deeds ≡ map request_of deeds'
         → (deeds ≡ deeds') × (n ≡ n') }
 {}
 

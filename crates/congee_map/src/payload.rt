@@ -10,12 +10,12 @@ use std::sync::Arc;
 /// A stored value, which a call may hand out again and compare with another.
 ///
 /// `share` gives a value that is alike: the same number, or one more owner of what an `Arc` holds. `same` is a function
-/// of its two values, and true means that they are equal; false may be answered for equal ones.
+/// of its two values, and true means that they are equal; it may return false for equal ones.
 pub trait Payload: Drop {
     /// The second stands for the same as the first.
     ghost alike: { Self → Self → Type 0 };
 
-    /// What `same` answers.
+    /// What `same` returns.
     ghost tells_same: { Self → Self → Bool };
 
     /// Sharing takes nothing that could be missing.

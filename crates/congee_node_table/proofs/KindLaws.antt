@@ -5,7 +5,8 @@ use Rattle.congee_map.specs.Map.{lookup, put, without, between, Rises}
 use Rattle.congee_map.proofs.RangeLaws.{between-next}
 use Rattle.congee_forms.specs.Any.{any_form, any_prefix, any_children}
 use Rattle.congee_base.specs.Form.{Fits}
-use Rattle.congee_node_table.specs.TableNode.{TableNode, mapped}
+use Rattle.congee_node_table.specs.TableNode.{TableNode}
+use Rattle.congee_node_table.specs.inner.Kinds.{mapped}
 use Rattle.congee_base.specs.declared.base_node.NodeType.{NodeType}
 use Rattle.congee_forms.specs.declared.any_node.AnyNode.{AnyNode}
 use Rattle.congee_node_table.specs.declared.child.Child.{Child}

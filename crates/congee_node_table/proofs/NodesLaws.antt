@@ -12,6 +12,7 @@ use Rattle.congee_node_table.specs.declared.child.Child.TheVariants.{Payload, No
 use Rattle.congee_map.proofs.MapLaws.{lookup-below}
 use Rattle.congee_node_table.proofs.DownLaws.{Begins-trans, KeepsBelow, KeepsOthers, keeps_longer, keeps_sibling}
 use Rattle.congee_node_table.proofs.WriteLaws.{KeepsSlots, keeps_children}
+use Rattle.congee_node_table.proofs.EachLaws.{each, each_from, nodes_of-each}
 
 pub AllBegin-shorter : (p q : List ℕ) (ns : List NodeInfo) → Begins p q → AllBegin q ns → AllBegin p ns
 AllBegin-shorter p q [] b h = tt
@@ -78,43 +79,34 @@ module _ {P : Type 0} where
   pub all_below : (s : Table P) (levels : ℕ) (p : List ℕ) (es : List (ℕ × Child P)) → AreChildren (λ r j. IsTree s levels r j) p es → AllBegin p (nodes_of (below s levels) p es)
   all_below s levels p es h = children_begin s levels (nodes_begin s levels) p es h
 
-  frame_children : (s t : Table P) (levels : ℕ) → ((q : List ℕ) (slot : ℕ) → IsTree s levels q slot → KeepsBelow q s t → nodes_at t levels q slot ≡ nodes_at s levels q slot)
-      → (p : List ℕ) (es : List (ℕ × Child P)) → AreChildren (λ r j. IsTree s levels r j) p es → KeepsBelow p s t → nodes_of (below t levels) p es ≡ nodes_of (below s levels) p es
-  frame_children s t levels ih p [] h k = refl
-  frame_children s t levels ih p ((b, Payload v) ∷ es) h k = frame_children s t levels ih p es h.1 k
-  frame_children s t levels ih p ((b, Node j) ∷ es) h k =
-      let r = frame_children s t levels ih p es h.1 k in
-      let f = ih (p ++ b ∷ []) j h.0 (keeps_longer p (p ++ b ∷ []) s t (begins_append p (b ∷ [])) k) in
-      ap (λ x. x ++ nodes_of (below t levels) p es) f ∙ ap (λ x. nodes_at s levels (p ++ b ∷ []) j ++ x) r
+  -- the nodes of the subtree are the same in both tables
+  abbrev SameNodes : Table P → Table P → ℕ → List ℕ → ℕ → Type 0
+  SameNodes s t levels q slot = nodes_at t levels q slot ≡ nodes_at s levels q slot
 
   -- a subtree whose nodes stand
   pub frame_nodes : (s t : Table P) (levels : ℕ) (q : List ℕ) (slot : ℕ) → IsTree s levels q slot → KeepsBelow q s t → nodes_at t levels q slot ≡ nodes_at s levels q slot
   frame_nodes s t zero q slot h k = absurd h
   frame_nodes s t (suc levels) q slot h k =
       let there = k slot h.node h.here h.begins in
-      let c = frame_children s t levels (frame_nodes s t levels) h.node.prefix h.node.children h.children (keeps_longer q h.node.prefix s t h.begins k) in
+      let longer : (b : ℕ) → KeepsBelow (h.node.prefix ++ b ∷ []) s t
+      = λ b. keeps_longer h.node.prefix (h.node.prefix ++ b ∷ []) s t (begins_append h.node.prefix (b ∷ [])) (keeps_longer q h.node.prefix s t h.begins k) in
+      let c = nodes_of-each (below t levels) (below s levels) h.node.prefix h.node.children
+      (each (λ r j. IsTree s levels r j) (λ r j. SameNodes s t levels r j) h.node.prefix h.node.children (λ b j tree. frame_nodes s t levels (h.node.prefix ++ b ∷ []) j tree (longer b)) h.children) in
       rw (there, h.here) (ap (λ x. node_info q h.node ∷ x) c)
 
   -- the children of the one node that changed
   pub kept_nodes : (s t : Table P) (levels slot : ℕ) (n : TableNode P) → node_at s slot ≡ Some n → KeepsSlots slot s t → (es : List (ℕ × Child P)) → AreChildren (λ r j. IsTree s levels r j) n.prefix es
       → nodes_of (below t levels) n.prefix es ≡ nodes_of (below s levels) n.prefix es
-  kept_nodes s t levels slot n here k [] h = refl
-  kept_nodes s t levels slot n here k ((b, Payload v) ∷ es) h = kept_nodes s t levels slot n here k es h.1
-  kept_nodes s t levels slot n here k ((b, Node j) ∷ es) h =
-      let r = kept_nodes s t levels slot n here k es h.1 in
-      let f = frame_nodes s t levels (n.prefix ++ b ∷ []) j h.0 (keeps_children s t slot b n here k) in
-      ap (λ x. x ++ nodes_of (below t levels) n.prefix es) f ∙ ap (λ x. nodes_at s levels (n.prefix ++ b ∷ []) j ++ x) r
+  kept_nodes s t levels slot n here k es h =
+      nodes_of-each (below t levels) (below s levels) n.prefix es (each (λ r j. IsTree s levels r j) (λ r j. SameNodes s t levels r j) n.prefix es
+      (λ b j tree. frame_nodes s t levels (n.prefix ++ b ∷ []) j tree (keeps_children s t slot b n here k)) h)
 
   -- the children beside the one whose subtree changed
   sibling_nodes : (s t : Table P) (levels : ℕ) (p : List ℕ) (b : ℕ) → KeepsOthers (p ++ b ∷ []) s t → (d : ℕ) (es : List (ℕ × Child P)) → b < d → Rises d 256 es → AreChildren (λ r j. IsTree s levels r j) p es
       → nodes_of (below t levels) p es ≡ nodes_of (below s levels) p es
-  sibling_nodes s t levels p b k d [] l o h = refl
-  sibling_nodes s t levels p b k d ((c, Payload v) ∷ es) l o h = sibling_nodes s t levels p b k (c + 1) es (omega (arith, o.0)) o.2 h.1
-  sibling_nodes s t levels p b k d ((c, Node j) ∷ es) l o h =
-      let r = sibling_nodes s t levels p b k (c + 1) es (omega (arith, o.0)) o.2 h.1 in
-      let differ : b ≢ c = omega (arith, o.0) in
-      let f = frame_nodes s t levels (p ++ c ∷ []) j h.0 (keeps_sibling s t p b c differ k) in
-      ap (λ x. x ++ nodes_of (below t levels) p es) f ∙ ap (λ x. nodes_at s levels (p ++ c ∷ []) j ++ x) r
+  sibling_nodes s t levels p b k d es l o h =
+      nodes_of-each (below t levels) (below s levels) p es (each_from (λ r j. IsTree s levels r j) (λ r j. SameNodes s t levels r j) p d es o
+      (λ c j from tree. frame_nodes s t levels (p ++ c ∷ []) j tree (keeps_sibling s t p b c (omega arith) k)) h)
 
   one_child : (s t : Table P) (levels : ℕ) (p : List ℕ) (b c : ℕ) (x : Child P) → KeepsOthers (p ++ b ∷ []) s t → b ≢ c → IsChild (λ r i. IsTree s levels r i) p c x
       → nodes_under (below t levels) p c x ≡ nodes_under (below s levels) p c x

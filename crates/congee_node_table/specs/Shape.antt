@@ -14,7 +14,12 @@ grown_form N256 count = N256
 
 -- a node with one child more
 abbrev pub with_one_more : NodeInfo → NodeInfo
-with_one_more n = record { edge = n.edge; prefix = n.prefix; form = grown_form n.form n.count; count = n.count + 1 }
+with_one_more n = record {
+  edge = n.edge;
+  prefix = n.prefix;
+  form = grown_form n.form n.count;
+  count = n.count + 1;
+}
 
 -- the leaf that is made for a key, to which these bytes lead
 abbrev pub new_leaf : List ℕ → List ℕ → NodeInfo
@@ -57,13 +62,16 @@ pub record AddsLeaf (old : List NodeInfo) (key : List ℕ) (new : List NodeInfo)
   pub right : List NodeInfo
   pub smaller : AreUnder (λ c. c < next_byte node.prefix key) node.prefix left
   pub greater : AreUnder (λ c. next_byte node.prefix key < c) node.prefix right
-  pub replaces : Replaces old new (node ∷ (left ++ right)) (with_one_more node ∷ (left ++ new_leaf (node.prefix ++ next_byte node.prefix key ∷ []) key ∷ right))
+  pub replaces : Replaces old new (node ∷ (left ++ right))
+      (with_one_more node
+      ∷ (left ++ new_leaf (node.prefix ++ next_byte node.prefix key ∷ []) key ∷ right))
 
 -- the two children of a split, in the order of their bytes
 abbrev pub in_order : ℕ → List NodeInfo → ℕ → List NodeInfo → List NodeInfo
 in_order a xs b ys = if nat_lt a b then xs ++ ys else ys ++ xs
 
--- A node of two children takes the place of one whose prefix the key leaves: that node, with all below it, and a new leaf.
+-- A node of two children takes the place of one whose prefix the key leaves: that node, with all below it, and a new
+-- leaf.
 pub record SplitsNode (old : List NodeInfo) (key : List ℕ) (new : List NodeInfo) : Type 0 where
   pub node : NodeInfo
   pub below : List NodeInfo
@@ -74,10 +82,17 @@ pub record SplitsNode (old : List NodeInfo) (key : List ℕ) (new : List NodeInf
   pub replaces : Replaces old new (node ∷ below)
       ((record { edge = node.edge; prefix = take at key; form = N4; count = 2 })
       ∷ in_order
-      (slice_index_or node.prefix at 0) ((record { edge = take at key ++ slice_index_or node.prefix at 0 ∷ []; prefix = node.prefix; form = node.form; count = node.count }) ∷ below)
-      (slice_index_or key at 0) (new_leaf (take at key ++ slice_index_or key at 0 ∷ []) key ∷ []))
+      (slice_index_or node.prefix at 0)
+      ((record {
+        edge = take at key ++ slice_index_or node.prefix at 0 ∷ [];
+        prefix = node.prefix;
+        form = node.form;
+        count = node.count;
+      }) ∷ below)
+      (slice_index_or key at 0)
+      (new_leaf (take at key ++ slice_index_or key at 0 ∷ []) key ∷ []))
 
--- what an insertion does to the nodes, by what it answers
+-- what an insertion does to the nodes, by what stood at the key before
 abbrev pub Reshapes : {P : Type 0} → Option P → List NodeInfo → List ℕ → List NodeInfo → Type 0
 Reshapes (Some before) old key new = new ≡ old
 Reshapes None old key new = FillsLeaf old key new ⊎ (AddsLeaf old key new ⊎ SplitsNode old key new)

@@ -28,7 +28,9 @@ enum Kind<P> {
 }
 
 impl<P> Model for TreeNode<P> {
-    ghost use Rattle.congee_node_table.specs.TableNode.{TableNode, table_node_code, table_node, IsOfKind};
+    ghost use Rattle.congee_node_table.specs.TableNode.{TableNode};
+    ghost use Rattle.congee_node_table.specs.inner.Codes.{table_node_code};
+    ghost use Rattle.congee_node_table.specs.inner.Kinds.{table_node, IsOfKind};
 
     ghost Value = { TableNode P };
 
@@ -132,7 +134,8 @@ impl<P: Drop> TreeNode<P> {
     /// the index of a `Node48` is passed once in the whole scan, and the mask of a `Node256` 64 bytes a step.
     pub fn first_from(&self, from: usize) -> Option<(u8, ChildRef<'_, P>)>
         ensures none { IfNone result (between self.now.children from 256 ≡ []) }
-        ensures some { IfSome result (λ found. between self.now.children from 256 ≡ (found.0, looked_at found.1) ∷ between self.now.children (found.0 + 1) 256) }
+        ensures some { IfSome result (λ found. between self.now.children from 256
+            ≡ (found.0, looked_at found.1) ∷ between self.now.children (found.0 + 1) 256) }
         ensures order { IfSome result (λ found. from ≤ found.0) }
     {
         if from > 255 {
@@ -169,7 +172,7 @@ impl<P: Drop> TreeNode<P> {
         }
     }
 
-    /// Puts another child of the node's kind in the place of one, which it gives back.
+    /// Puts another child of the node's kind in the place of one, which it returns.
     pub fn change(&mut self, byte: u8, child: Child<P>) -> Child<P>
         requires present { IsSome (lookup self.old.children byte) }
         requires kind { MayHave self.old.prefix child }
@@ -185,7 +188,7 @@ impl<P: Drop> TreeNode<P> {
         }
     }
 
-    /// Takes out the child under a byte.
+    /// Takes out the child under a byte, and returns it.
     pub fn remove(&mut self, byte: u8) -> Child<P>
         requires { IsSome (lookup self.old.children byte) }
         ensures before { lookup self.old.children byte ≡ Some result }

@@ -1,9 +1,6 @@
 -- From a call's event to the machine's.
 use Rattle.std.proofs.Common.{◌≡◌, ◌≢◌, ℕ, ◌≤◌, Bool, true, false, List, [], Option, Some, None, IsSome, inl, inr, refl, sym, subst, ap, ◌∙◌, arith}
 use Rattle.std.proofs.lemmas.Bool.Decides.{eqb_tells}
-use Rattle.std.proofs.lemmas.Grind.{common_steps}
-use Rattle.std.specs.BTreeMap.{is_at}
-use Rattle.std.specs.Ordering.{nat_cmp}
 use Rattle.congee_sync.specs.Epoch.{PinsView, ChangesSeat, entry_at, pin_of, is_seated}
 use Rattle.congee_olc.specs.World.{World, Table, table_on, table_of, record_in, call_of}
 use Rattle.congee_olc.specs.Table.{view_on, shown}
@@ -15,7 +12,7 @@ use Rattle.congee_olc.specs.declared.olc.types.Op.TheVariants.{Get, Insert, Remo
 use Rattle.congee_olc.specs.declared.olc.types.Kind.TheVariants.{Start}
 use Rattle.congee_olc.specs.declared.olc.stage.Asking.TheVariants.{Fresh}
 use Rattle.congee_olc.specs.declared.olc.stage.Progress.TheVariants.{Open}
-use Rattle.congee_olc.specs.Facts.{Holding, NeedsHolder, IsPlaced, Facts, IsCourse, IsRead, IsAdvance, IsSound}
+use Rattle.congee_olc.specs.inner.Facts.{Holding, NeedsHolder, IsPlaced, Facts, IsCourse, IsRead, IsAdvance, IsSound}
 use Rattle.congee_olc.specs.declared.olc.types.Env.{Env}
 use Rattle.congee_olc.specs.declared.olc.types.Report.{Report}
 use Rattle.congee_olc.specs.declared.olc.types.Outcome.{Outcome}
@@ -170,10 +167,6 @@ module _ {P : Type 0} (alike : P → P → Type 0) (w : World P) (pins : PinsVie
 
 pub unseated : (b : Bool) → b ≡ false → b ≡ true → ⊥
 unseated b e f = cc
-
--- another number isn't the one that is looked for
-pub off_at : (id o : ℕ) → o ≢ id → is_at (nat_cmp id) o ≡ false
-off_at id o ne = grind (arith, common_steps, ne)
 
 -- a number that isn't in flight has no pin
 free_pin_at : {P : Type 0} (alike : P → P → Type 0) (w : World P) (id : ℕ) (p : Option ℕ) → IsSound alike w → call_of w id ≡ None → pin_of w.pins id ≡ p → pin_of w.pins id ≡ None

@@ -3,7 +3,7 @@ use Rattle.std.proofs.Common.{◌≡◌, ℕ, zero, suc, ◌+◌, ◌<◌, ◌�
 use Rattle.congee_sync.specs.Epoch.{pin_of}
 use Rattle.congee_olc.specs.World.{World, Table, table_on, table_of, call_of}
 use Rattle.congee_olc.specs.Flight.{Flight, flight, flight_in, flight_of}
-use Rattle.congee_olc.specs.Facts.{work, IsCurrent, NoneHeld, IsCourse, IsAdvance, IsSound, IsTurn}
+use Rattle.congee_olc.specs.inner.Facts.{work, IsCurrent, NoneHeld, IsCourse, IsAdvance, IsSound, IsTurn}
 use Rattle.congee_olc.specs.Run.{IsCopy, same_number, Entry, Happens, IsStepOf, IsEnd, EndsWithin, BeginsPoint, AllEndAlone, AllEndSoon}
 use Rattle.congee_olc.specs.declared.olc.types.Env.{Env}
 use Rattle.congee_olc.specs.declared.olc.types.Report.{Report}
@@ -18,7 +18,7 @@ use Rattle.congee_olc.specs.declared.olc.stage.Stage.{Stage}
 use Rattle.congee_olc.specs.declared.olc.stage.Stage.TheVariants.{TakeRoot, Read, Check, TakeBelow, CheckAbove, Finish}
 use Rattle.congee_olc.specs.declared.olc.stage.Record.{Record}
 use Rattle.congee_olc.proofs.Advancing.{holds_none}
-use Rattle.congee_olc.specs.Played.{Leaves, Plays}
+use Rattle.congee_olc.specs.inner.Played.{Leaves, Plays}
 use Rattle.congee_olc.proofs.Playing.{sound_next}
 use Rattle.congee_olc.proofs.Options.{none_some, some_same}
 

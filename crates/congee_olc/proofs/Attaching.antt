@@ -8,7 +8,7 @@ use Rattle.congee_node_table.specs.declared.child.Child.TheVariants.{Payload, No
 use Rattle.congee_map.proofs.MapLaws.{lookup-put_same, lookup-put_other, Rises-put}
 use Rattle.congee_sync.specs.Lock.{IsFree, IsLocked, IsObsolete}
 use Rattle.congee_olc.specs.World.{Node, Table, is_linked, is_private, entry}
-use Rattle.congee_olc.specs.Facts.{byte_at, IsLinked, IsBelow, LeadsOn, IsPlaced, Keeps, NeedsHolder}
+use Rattle.congee_olc.specs.inner.Facts.{byte_at, IsLinked, IsBelow, LeadsOn, IsPlaced, Keeps, NeedsHolder}
 use Rattle.congee_olc.proofs.Growing.{Grown, AllGrow, below_grown, leads_grown}
 use Rattle.congee_olc.proofs.Rewording.{free_kept, free_unlocked}
 use Rattle.congee_olc.proofs.Courses.{linked_retired}

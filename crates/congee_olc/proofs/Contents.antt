@@ -7,7 +7,7 @@ use Rattle.congee_olc.specs.Table.{view_on, view_of, IsContent}
 use Rattle.congee_olc.specs.Flight.{flight, key_of, map_call, asked_of, map_asked, AlikeOption, AlikeReply, AlikePairs}
 use Rattle.congee_olc.specs.Event.{SameNodes}
 use Rattle.congee_olc.specs.Run.{Leads, Carries, IsCarried}
-use Rattle.congee_olc.specs.Facts.{IsPlaced, IsAnswer, IsReplied, Says, IsSound}
+use Rattle.congee_olc.specs.inner.Facts.{IsPlaced, IsAnswer, IsReplied, Says, IsSound}
 use Rattle.congee_olc.specs.declared.olc.types.Op.{Op}
 use Rattle.congee_olc.specs.declared.olc.types.Op.TheVariants.{Get}
 use Rattle.congee_olc.specs.declared.olc.types.Reply.{Reply}

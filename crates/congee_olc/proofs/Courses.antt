@@ -3,7 +3,7 @@ use Rattle.std.proofs.Common.{◌≡◌, ◌≢◌, ℕ, ◌+◌, ◌-◌, ◌*�
 use Rattle.congee_sync.specs.Lock.{IsFree, IsLocked, IsObsolete}
 use Rattle.congee_olc.specs.World.{Node, Table, is_linked, is_retired}
 use Rattle.congee_olc.specs.Flight.{IsIn, Remembers, spots_of, path_spots}
-use Rattle.congee_olc.specs.Facts.{byte_at, IsLinked, IsBelow, IsPlaced, LedTo, OnPath, depth_in, work, slots_in, named_at, IsCurrent, NoneHeld, MayFollow, IsCourse}
+use Rattle.congee_olc.specs.inner.Facts.{byte_at, IsLinked, IsBelow, IsPlaced, LedTo, OnPath, depth_in, work, slots_in, named_at, IsCurrent, NoneHeld, MayFollow, IsCourse}
 use Rattle.congee_olc.specs.declared.olc.types.Kind.TheVariants as kind
 use Rattle.congee_olc.specs.declared.olc.types.Report.{Report}
 use Rattle.congee_olc.specs.declared.olc.types.Outcome.{Outcome}

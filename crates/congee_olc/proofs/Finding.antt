@@ -11,9 +11,10 @@ use Rattle.congee_node_table.proofs.TableLaws.{tree_rises, open_subtree, IsChild
 use Rattle.congee_sync.specs.Epoch.{entry_at}
 use Rattle.congee_olc.specs.World.{Node, Table, node_of, table_on, bytes_of}
 use Rattle.congee_olc.specs.Table.{view_on, Reaches, at_root, by_child, Stands, IsContent}
-use Rattle.congee_olc.specs.Content.{nodes_on, IsTold, AddsShares}
+use Rattle.congee_olc.specs.Content.{IsTold}
+use Rattle.congee_olc.specs.inner.Walks.{nodes_on, AddsShares}
 use Rattle.congee_olc.specs.Flight.{AlikePairs}
-use Rattle.congee_olc.specs.Facts.{byte_at, IsLinked, IsBelow, IsPlaced, Keeps}
+use Rattle.congee_olc.specs.inner.Facts.{byte_at, IsLinked, IsBelow, IsPlaced, Keeps}
 use Rattle.congee_sync.specs.declared.epoch.Life.{Life}
 use Rattle.congee_olc.specs.declared.olc.stage.Stored.{Stored}
 use Rattle.congee_olc.proofs.Ways.{longer-begins, toward_leaf, leaf_entry}

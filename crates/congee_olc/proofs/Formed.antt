@@ -12,7 +12,7 @@ use Rattle.congee_olc.specs.World.{World, is_linked, is_retired, Node, Table, ta
 use Rattle.congee_olc.specs.Table.{Shown, view_of, not_yet, published, publicity, Reaches, IsWellFormed, sizes_of}
 use Rattle.congee_olc.specs.Flight.{Flight, flight, flight_in, IsIn}
 use Rattle.congee_olc.specs.Event.{Holds}
-use Rattle.congee_olc.specs.Facts.{byte_at, IsLinked, IsBelow, IsPlaced, Holding, NeedsHolder, IsSound}
+use Rattle.congee_olc.specs.inner.Facts.{byte_at, IsLinked, IsBelow, IsPlaced, Holding, NeedsHolder, IsSound}
 use Rattle.congee_olc.specs.declared.olc.stage.Record.{Record}
 use Rattle.congee_olc.proofs.Ways.{Begins-trans, Begins-both, get_or-begins, longer-begins, slots_same}
 use Rattle.congee_olc.proofs.Reading.{one}

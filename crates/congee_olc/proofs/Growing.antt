@@ -4,7 +4,7 @@ use Rattle.congee_node_table.specs.Key.{Begins, next_byte}
 use Rattle.congee_node_table.specs.declared.child.Child.{Child}
 use Rattle.congee_node_table.specs.declared.child.Child.TheVariants.{Payload, Node as below_at}
 use Rattle.congee_olc.specs.World.{Node, Table, entry}
-use Rattle.congee_olc.specs.Facts.{byte_at, IsLinked, IsBelow, LeadsOn}
+use Rattle.congee_olc.specs.inner.Facts.{byte_at, IsLinked, IsBelow, LeadsOn}
 use Rattle.congee_olc.proofs.Keeping.{KeepsOn}
 use Rattle.congee_olc.proofs.Options.{some_same}
 

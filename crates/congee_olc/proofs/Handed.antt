@@ -1,12 +1,12 @@
 -- When a call is in flight, and that an event says so.
 use Rattle.std.proofs.Common.{◌≡◌, ℕ, Bool, true, false, IsTrue, ◌↔◌, Option, Some, None, IsSome, inl, inr, refl, sym, subst, ap, ◌∙◌}
-use Rattle.congee_sync.specs.Epoch.{entry_at, pin_of, is_seated}
+use Rattle.congee_sync.specs.Epoch.{pin_of}
 use Rattle.congee_olc.specs.World.{World, call_of}
 use Rattle.congee_olc.specs.Table.{View, view_of}
 use Rattle.congee_olc.specs.Flight.{Flight, flight, flight_in, flight_of, IsSameCall}
 use Rattle.congee_olc.specs.Event.{IsHanded, MaySay, CheckSays, DoesAs, Advances, IsStep}
 use Rattle.congee_olc.specs.Run.{IsServedOp, seen_of}
-use Rattle.congee_olc.specs.Facts.{IsSound}
+use Rattle.congee_olc.specs.inner.Facts.{IsSound}
 use Rattle.congee_olc.specs.declared.olc.types.Op.{Op}
 use Rattle.congee_olc.specs.declared.olc.types.Op.TheVariants.{Get, Insert, Remove, ComputeIfPresent, ComputeOrInsert, CompareExchange, Range}
 use Rattle.congee_olc.specs.declared.olc.types.Env.{Env}
@@ -22,8 +22,8 @@ use Rattle.congee_olc.proofs.Options.{some_same}
 no_flight : (P : Type 0) → let n : Option (Flight P) = None in IsSome n → ⊥
 no_flight P h = cc
 
-no_entry : (P : Type 0) → let n : Option (Option (Record P)) = None in IsSome n → ⊥
-no_entry P h = cc
+no_record : (P : Type 0) → let n : Option (Record P) = None in IsSome n → ⊥
+no_record P h = cc
 
 pub never_both : false ≡ true → ⊥
 never_both e = cc
@@ -80,10 +80,6 @@ module _ {P : Type 0} (alike : P → P → Type 0) (w : World P) (id : ℕ) (sou
   pub unflown : flight_of w id ≡ None → call_of w id ≡ None
   unflown f = unflown_at (call_of w id) refl f
 
-  -- a seated number has room for its record
-  pub has_room : is_seated w.pins id ≡ true → entry_at w.calls id ≡ None → ⊥
-  has_room seat none = no_entry P (subst (λ (x : Option (Option (Record P))). IsSome x) none (sound.seated id seat))
-
   -- and one with a call in flight has one
   recorded_at : (x : Option (Record P)) → call_of w id ≡ x → IsSome (flight_of w id) → IsSome x
   recorded_at None e h = absurd (no_flight P (subst (λ (f : Option (Flight P)). IsSome f) (ap (λ x. flight_in x (pin_of w.pins id)) e) h))
@@ -93,7 +89,7 @@ module _ {P : Type 0} (alike : P → P → Type 0) (w : World P) (id : ℕ) (sou
   recorded h = recorded_at (call_of w id) refl h
 
   module _ (r : Record P) (found : call_of w id ≡ Some r) where
-    pub in_flight : IsSome (flight_of w id)
+    in_flight : IsSome (flight_of w id)
     in_flight = subst (λ (x : Option (Flight P)). IsSome x) (sym (flown alike w id r sound found).1) refl
 
     pub last_seen : seen_of (flight_of w id) ≡ r.last
@@ -105,6 +101,15 @@ module _ {P : Type 0} (alike : P → P → Type 0) (w : World P) (id : ℕ) (sou
           (λ (t : IsTrue b). record { call = flight f.0 r; in_flight = f.1; same = h.0 t }),
           (λ (x : IsHanded w id op). h.1 (subst (λ (call : Flight P). IsSameCall call.op op) (some_same x.call (flight f.0 r) (sym x.in_flight ∙ f.1)) x.same)),
         )
+
+flies_at : {P : Type 0} (alike : P → P → Type 0) (w : World P) (id : ℕ) → IsSound alike w → (x : Option (Record P)) → call_of w id ≡ x → IsSome x → IsSome (flight_of w id)
+flies_at {P} alike w id sound None e h = absurd (no_record P h)
+flies_at alike w id sound (Some r) e h = in_flight alike w id sound r e
+
+-- a number has a call in flight where it has a record
+pub flies : {P : Type 0} (alike : P → P → Type 0) (w : World P) (id : ℕ) → IsSound alike w → (b : Bool) → (IsTrue b ↔ IsSome (call_of w id)) → (IsTrue b ↔ IsSome (flight_of w id))
+flies alike w id sound b there =
+    ((λ t. flies_at alike w id sound (call_of w id) refl (there.0 t)), (λ h. there.1 (recorded alike w id sound h)))
 
 -- the record of a Get in flight is one of a served call
 pub get_record : {P : Type 0} (alike : P → P → Type 0) (w : World P) (id : ℕ) (r : Record P) → IsSound alike w → call_of w id ≡ Some r → (call : Flight P) (key : ℕ) → flight_of w id ≡ Some call

@@ -5,9 +5,9 @@ use Rattle.congee_olc.specs.World.{World, call_of}
 use Rattle.congee_olc.specs.Table.{view_of, IsContent}
 use Rattle.congee_olc.specs.Flight.{Flight, flight, flight_of, asked_of, AlikeOption, AlikeOp}
 use Rattle.congee_olc.specs.Event.{IsStart, IsStep}
-use Rattle.congee_olc.specs.Facts.{IsSound, IsBegun, IsTurn}
+use Rattle.congee_olc.specs.inner.Facts.{IsSound, IsBegun, IsTurn}
 use Rattle.congee_olc.specs.Run.{IsCopy, same_number, IsServedOp, if_read, seen_of, decided_by, IsHistory, IsCarried}
-use Rattle.congee_olc.specs.Played.{Played, Told}
+use Rattle.congee_olc.specs.inner.Played.{Played, Told}
 use Rattle.congee_olc.specs.declared.olc.types.Op.{Op}
 use Rattle.congee_olc.specs.declared.olc.types.Op.TheVariants.{Get, Insert, Remove, ComputeIfPresent, ComputeOrInsert, CompareExchange, Range}
 use Rattle.congee_olc.specs.declared.olc.types.Env.{Env}

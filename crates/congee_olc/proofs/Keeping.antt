@@ -3,7 +3,7 @@ use Rattle.std.proofs.Common.{ℕ, List, Option}
 use Rattle.congee_map.specs.Map.{Pairs}
 use Rattle.congee_olc.specs.World.{Table, bytes_of}
 use Rattle.congee_olc.specs.Table.{view_on, Stands, IsContent}
-use Rattle.congee_olc.specs.Facts.{IsPlaced, Keeps}
+use Rattle.congee_olc.specs.inner.Facts.{IsPlaced, Keeps}
 use Rattle.congee_olc.proofs.Reaching.{keeps_stands, stands_keeps}
 
 module _ {P : Type 0} where

@@ -10,7 +10,7 @@ use Rattle.congee_node_table.proofs.BeginLaws.{begins_append, begins_itself}
 use Rattle.congee_map.proofs.MapLaws.{lookup-put_same}
 use Rattle.congee_olc.specs.World.{Node, Table, entry}
 use Rattle.congee_olc.specs.Table.{view_on, IsContent}
-use Rattle.congee_olc.specs.Facts.{byte_at, IsLinked, LeadsOn, IsPlaced}
+use Rattle.congee_olc.specs.inner.Facts.{byte_at, IsLinked, LeadsOn, IsPlaced}
 use Rattle.congee_olc.proofs.Attaching.{with_child, IsBare, Attaches, IsOld, attached_grows, origin, linked_before, attached_placed, attached_keeps}
 use Rattle.congee_olc.proofs.Growing.{leads_grown, keeps_grown}
 use Rattle.congee_olc.proofs.Keeping.{KeepsOn, content_on}

@@ -4,7 +4,7 @@ use Rattle.congee_olc.specs.World.{World, table_of, call_of}
 use Rattle.congee_olc.specs.Table.{View, view_of}
 use Rattle.congee_olc.specs.Flight.{Flight, flight, flight_of, IsPoint, AlikeOp}
 use Rattle.congee_olc.specs.Event.{progress_after, MaySay, CheckSays, IsLocal, DoesAs, Advances, IsStart, IsStep}
-use Rattle.congee_olc.specs.Facts.{IsAdvance, IsTurn}
+use Rattle.congee_olc.specs.inner.Facts.{IsAdvance, IsTurn}
 use Rattle.congee_olc.specs.Run.{IsCopy, same_number, IsServedOp, Entry, Happens, events_of, lines_of, Fate, idle, begun, decided_once, refused_once, Begins, Ends, Lasts, DecidesOnce, RefusesOnce, TurnsBy, Turns, IsOrderly}
 use Rattle.congee_olc.specs.declared.olc.types.Op.{Op}
 use Rattle.congee_olc.specs.declared.olc.types.Op.TheVariants.{Get, Insert, Remove, ComputeIfPresent, ComputeOrInsert, CompareExchange, Range}
@@ -24,7 +24,7 @@ use Rattle.congee_olc.specs.declared.olc.stage.Progress.{Progress}
 use Rattle.congee_olc.specs.declared.olc.stage.Progress.TheVariants as progress
 use Rattle.congee_olc.specs.declared.olc.stage.Record.{Record}
 use Rattle.congee_olc.proofs.Alone.{flight_at}
-use Rattle.congee_olc.specs.Played.{Leaves, Plays}
+use Rattle.congee_olc.specs.inner.Played.{Leaves, Plays}
 use Rattle.congee_olc.proofs.Options.{some_same}
 
 -- how far a call in flight is

@@ -1,9 +1,9 @@
 -- Runs of the machine with what its records are after each event.
 use Rattle.std.proofs.Common.{◌≡◌, ℕ, List, [], ◌∷◌, ◌++◌, refl, sym, subst, ap, ◌∙◌, append_assoc}
 use Rattle.congee_olc.specs.World.{World}
-use Rattle.congee_olc.specs.Facts.{IsSound}
+use Rattle.congee_olc.specs.inner.Facts.{IsSound}
 use Rattle.congee_olc.specs.Run.{IsCopy, Entry, IsRun, events_of, lines_of, decided_in}
-use Rattle.congee_olc.specs.Played.{Leaves, Played, Plays, SoFar}
+use Rattle.congee_olc.specs.inner.Played.{Leaves, Played, Plays, SoFar}
 use Rattle.congee_olc.specs.declared.olc.types.Event.{Event}
 use Rattle.congee_olc.specs.declared.olc.types.Event.TheVariants.{Start, Step, Reclaim}
 use Rattle.congee_olc.specs.declared.olc.trace.Line.{Line}

@@ -10,7 +10,7 @@ use Rattle.congee_node_table.proofs.KeyLaws.{goes_on, key_number_at}
 use Rattle.congee_map.proofs.MapLaws.{lookup-put_same, lookup-put_other, lookup-without_same, lookup-without_other, Rises-put, Rises-without}
 use Rattle.congee_olc.specs.World.{Node, Table, entry, bytes_of}
 use Rattle.congee_olc.specs.Table.{view_on, Stands, IsContent}
-use Rattle.congee_olc.specs.Facts.{byte_at, IsLinked, IsPlaced, Keeps}
+use Rattle.congee_olc.specs.inner.Facts.{byte_at, IsLinked, IsPlaced, Keeps}
 use Rattle.congee_olc.proofs.Attaching.{with_child, IsBare, Attaches, attached_grows, attached_placed, attached_keeps}
 use Rattle.congee_olc.proofs.Growing.{keeps_grown}
 use Rattle.congee_olc.proofs.Keeping.{stands_on}

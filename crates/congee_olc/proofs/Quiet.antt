@@ -10,7 +10,7 @@ use Rattle.congee_sync.specs.Epoch.{life_of, entry_at}
 use Rattle.congee_sync.specs.Lock.{IsFree}
 use Rattle.congee_olc.specs.World.{World, Node, standing_of, node_of, table_on, table_of, record_in, call_of, bytes_of}
 use Rattle.congee_olc.specs.Table.{view_on, IsContent, sizes_of}
-use Rattle.congee_olc.specs.Facts.{IsPlaced, NeedsHolder, IsSound}
+use Rattle.congee_olc.specs.inner.Facts.{IsPlaced, NeedsHolder, IsSound}
 use Rattle.congee_olc.specs.declared.olc.stage.Stored.{Stored}
 use Rattle.congee_olc.specs.declared.olc.stage.Place.TheVariants.{Linked}
 use Rattle.congee_olc.specs.declared.olc.stage.Record.{Record}
@@ -19,10 +19,6 @@ use Rattle.congee_olc.proofs.Linking.{Links, link_attaches, made_bare, link_plac
 use Rattle.congee_olc.proofs.Putting.{Puts, put_attaches, none_bare, put_placed, content_grows}
 use Rattle.congee_olc.proofs.Sizes.{size_at, size_in, sizes_same, sizes_more}
 use Rattle.congee_olc.proofs.Options.{none_some, some_same}
-
-nothing_in : {X : Type 0} (xs : List X) → length xs ≡ 0 → xs ≡ []
-nothing_in [] h = refl
-nothing_in (x ∷ xs) h = absurd (omega (arith, h))
 
 module _ {P : Type 0} where
   none_node : (x : Node P) → None ≡ Some x → ⊥
@@ -35,8 +31,8 @@ module _ {P : Type 0} where
   abbrev pub IsQuiet : World P → Type 0
   IsQuiet w = (id : ℕ) → call_of w id ≡ None
 
-  pub empty_quiet : (w : World P) → length w.calls ≡ 0 → IsQuiet w
-  empty_quiet w h id = ap (λ calls. record_in (entry_at calls id)) (nothing_in w.calls h)
+  pub empty_quiet : (w : World P) → w.calls ≡ [] → IsQuiet w
+  empty_quiet w h id = ap (λ calls. record_in (entry_at calls id)) h
 
   -- a node stays where it is while another comes to a vacant slot
   pub stays_there : (before kept after : List (Option (Stored P))) (slot fresh : ℕ) (n m : Stored P) → kept ≡ before → slice_index_or before slot None ≡ Some n → slice_index_or kept fresh None ≡ None

@@ -10,7 +10,7 @@ use Rattle.congee_node_table.proofs.KeyLaws.{goes_on, key_number_at, key_number-
 use Rattle.congee_node_table.proofs.BeginLaws.{begins_append}
 use Rattle.congee_olc.specs.World.{Node, Table, entry, bytes_of}
 use Rattle.congee_olc.specs.Table.{Shown, shown, view_on, Reaches, at_root, by_child, Stands}
-use Rattle.congee_olc.specs.Facts.{byte_at, IsLinked, IsBelow, LeadsOn, IsPlaced, Keeps}
+use Rattle.congee_olc.specs.inner.Facts.{byte_at, IsLinked, IsBelow, LeadsOn, IsPlaced, Keeps}
 use Rattle.congee_olc.proofs.Ways.{longer-begins, length-begins}
 use Rattle.congee_olc.proofs.Reading.{one}
 use Rattle.congee_olc.proofs.Options.{none_some, some_same}

@@ -8,7 +8,7 @@ use Rattle.congee_olc.specs.World.{Node, Table, Standing, is_linked, entry, byte
 use Rattle.congee_olc.specs.Table.{Shown, view_on, publicity}
 use Rattle.congee_olc.specs.Flight.{flight, IsIn, Remembers, spots_of, key_of, payload_in, seen_payload, AlikeOption, AlikeChildren}
 use Rattle.congee_olc.specs.Event.{report_of}
-use Rattle.congee_olc.specs.Facts.{IsSafe, byte_at, IsPlaced, Keeps, IsThere, LedTo, OnPath, SawNode, IsSpare, Agrees, Saw, Facts, FactsAt, IsServedAt, IsAnswer, IsRead, Looks, IsWholeRead, named_at, IsCurrent, NoneHeld}
+use Rattle.congee_olc.specs.inner.Facts.{IsSafe, byte_at, IsPlaced, Keeps, IsThere, LedTo, OnPath, SawNode, IsSpare, Agrees, Saw, Facts, FactsAt, IsServedAt, IsAnswer, IsRead, Looks, IsWholeRead, named_at, IsCurrent, NoneHeld}
 use Rattle.congee_olc.specs.Run.{IsServedOp}
 use Rattle.congee_olc.specs.declared.olc.types.Env.{Env}
 use Rattle.congee_olc.specs.declared.olc.types.Seen.{Seen}

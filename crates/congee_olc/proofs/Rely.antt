@@ -10,7 +10,7 @@ use Rattle.congee_olc.specs.World.{Node, Table, bytes_of}
 use Rattle.congee_olc.specs.Flight.{key_of, payload_in}
 use Rattle.congee_olc.specs.Event.{IsReading}
 use Rattle.congee_olc.specs.Run.{IsServedOp}
-use Rattle.congee_olc.specs.Facts.{IsSafe, Known, IsThere, OnWay, While, LedTo, CameFrom, OnPath, TestOf, Guarantees, Remains, IsSpare, Agrees, Saw, FactsAt, Facts, IsServedAt}
+use Rattle.congee_olc.specs.inner.Facts.{IsSafe, Known, IsThere, OnWay, While, LedTo, CameFrom, OnPath, TestOf, Guarantees, Remains, IsSpare, Agrees, Saw, FactsAt, Facts, IsServedAt}
 use Rattle.congee_olc.specs.declared.olc.types.Op.{Op}
 use Rattle.congee_olc.specs.declared.olc.types.Seen.{Seen}
 use Rattle.congee_olc.specs.declared.olc.stage.Spot.{Spot}

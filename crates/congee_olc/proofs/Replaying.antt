@@ -5,9 +5,9 @@ use Rattle.congee_map.specs.Map.{Pairs, lookup}
 use Rattle.congee_node_table.specs.declared.child.Child.TheVariants.{Payload}
 use Rattle.congee_olc.specs.World.{World}
 use Rattle.congee_olc.specs.Table.{Shown, view_of, Stands, IsContent}
-use Rattle.congee_olc.specs.Facts.{IsSound}
+use Rattle.congee_olc.specs.inner.Facts.{IsSound}
 use Rattle.congee_olc.specs.Run.{IsCopy, IsFresh, Entry, lines_of, decided_in, IsOrderly, idle, Runs, IsReplayed, IsHistory}
-use Rattle.congee_olc.specs.Played.{Plays, SoFar, Told}
+use Rattle.congee_olc.specs.inner.Played.{Plays, SoFar, Told}
 use Rattle.congee_olc.specs.declared.olc.types.Event.{Event}
 use Rattle.congee_olc.specs.declared.olc.trace.Line.{Line}
 use Rattle.congee_olc.specs.declared.olc.trace.Decision.{Decision}

@@ -9,7 +9,7 @@ use Rattle.congee_node_table.specs.Charge.{Covers}
 use Rattle.congee_sync.specs.Epoch.{life_of}
 use Rattle.congee_sync.specs.Lock.{IsFree, IsLocked, IsObsolete}
 use Rattle.congee_olc.specs.World.{World, Node, Table, is_linked, is_private, is_retired, standing_of, node_of, table_on, table_of}
-use Rattle.congee_olc.specs.Facts.{IsSafe, IsLinked, LeadsOn, IsPlaced, Guarantees, NeedsHolder, IsSound}
+use Rattle.congee_olc.specs.inner.Facts.{IsSafe, IsLinked, LeadsOn, IsPlaced, Guarantees, NeedsHolder, IsSound}
 use Rattle.congee_olc.specs.Table.{sizes_of}
 use Rattle.congee_sync.specs.declared.epoch.Life.{Life}
 use Rattle.congee_olc.specs.declared.olc.stage.Stored.{Stored}

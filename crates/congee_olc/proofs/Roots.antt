@@ -9,7 +9,7 @@ use Rattle.congee_node_table.specs.declared.child.Child.TheVariants.{Payload, No
 use Rattle.congee_sync.specs.Epoch.{PinsView}
 use Rattle.congee_sync.specs.Lock.{IsLocked, IsObsolete}
 use Rattle.congee_olc.specs.World.{Node, Table, is_linked, is_private, entry, node_of, table_on, bytes_of}
-use Rattle.congee_olc.specs.Facts.{byte_at, IsPlaced, NeedsHolder, IsSound}
+use Rattle.congee_olc.specs.inner.Facts.{byte_at, IsPlaced, NeedsHolder, IsSound}
 use Rattle.congee_olc.specs.Run.{IsFresh}
 use Rattle.congee_olc.specs.Table.{shown, view_on, Stands, sizes_of}
 use Rattle.congee_node_table.specs.Charge.{add_charge, Covers}

@@ -11,7 +11,7 @@ use Rattle.congee_map.proofs.MapLaws.{lookup-between_inside}
 use Rattle.congee_map.proofs.RangeLaws.{between-all}
 use Rattle.congee_node_table.proofs.TableLaws.{open_subtree, IsChild-found}
 use Rattle.congee_olc.specs.Flight.{AlikePairs}
-use Rattle.congee_olc.specs.Content.{nodes_on, AddsShares}
+use Rattle.congee_olc.specs.inner.Walks.{nodes_on, AddsShares}
 use Rattle.congee_olc.specs.declared.olc.stage.Stored.{Stored}
 use Rattle.congee_olc.proofs.Ways.{longer-begins}
 use Rattle.congee_olc.proofs.Views.{first_is}

@@ -6,7 +6,7 @@ use Rattle.congee_node_table.specs.declared.child.Child.TheVariants.{Node as bel
 use Rattle.congee_olc.specs.World.{World, Table, table_of, call_of, entry, bytes_of}
 use Rattle.congee_olc.specs.Table.{shown, view_of}
 use Rattle.congee_olc.specs.Flight.{IsIn, flight_of, path_spots, key_of, AlikeChildren}
-use Rattle.congee_olc.specs.Facts.{byte_at, IsPlaced, Known, IsThere, CameFrom, OnPath, SawNode, Saw, Facts, FactsAt, slots_in, named_at, MayFollow, IsCourse, IsAdvance, IsSound, IsTurn}
+use Rattle.congee_olc.specs.inner.Facts.{byte_at, IsPlaced, Known, IsThere, CameFrom, OnPath, SawNode, Saw, Facts, FactsAt, slots_in, named_at, MayFollow, IsCourse, IsAdvance, IsSound, IsTurn}
 use Rattle.congee_olc.specs.Run.{IsCopy, same_number, Entry, Happens, if_read, seen_of, IsSeenNode, Vouches, MayTouch, TouchesKnown, AllTouchKnown}
 use Rattle.congee_olc.specs.declared.olc.types.Env.{Env}
 use Rattle.congee_olc.specs.declared.olc.types.Seen.{Seen}
@@ -27,7 +27,7 @@ use Rattle.congee_olc.specs.declared.olc.stage.Record.{Record}
 use Rattle.congee_olc.proofs.Ways.{check_below}
 use Rattle.congee_olc.proofs.Reading.{slot_alike_to}
 use Rattle.congee_olc.proofs.Alone.{table_same, in_flight}
-use Rattle.congee_olc.specs.Played.{Leaves, Plays}
+use Rattle.congee_olc.specs.inner.Played.{Leaves, Plays}
 use Rattle.congee_olc.proofs.Playing.{sound_next}
 use Rattle.congee_olc.proofs.Options.{none_some, some_same}
 

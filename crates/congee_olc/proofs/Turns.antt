@@ -2,7 +2,7 @@
 use Rattle.std.proofs.Common.{◌≡◌, ◌≢◌, ℕ, Bool, true, List, Option, Some, None, IsSome, refl, sym, subst, ap, ◌∙◌}
 use Rattle.congee_sync.specs.Epoch.{PinsView, ChangesSeat, entry_at, pin_of, is_seated}
 use Rattle.congee_olc.specs.World.{World, table_of, record_in, call_of}
-use Rattle.congee_olc.specs.Facts.{IsAdvance, IsSound, IsBegun, IsTurn, Facts}
+use Rattle.congee_olc.specs.inner.Facts.{IsAdvance, IsSound, IsBegun, IsTurn, Facts}
 use Rattle.congee_olc.specs.declared.olc.types.Env.{Env}
 use Rattle.congee_olc.specs.declared.olc.types.Report.{Report}
 use Rattle.congee_olc.specs.declared.olc.types.Outcome.{Outcome}

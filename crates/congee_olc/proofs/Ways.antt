@@ -6,7 +6,7 @@ use Rattle.congee_node_table.specs.declared.child.Child.{Child}
 use Rattle.congee_node_table.specs.declared.child.Child.TheVariants.{Payload, Node as below_at}
 use Rattle.congee_sync.specs.Lock.{IsFree}
 use Rattle.congee_olc.specs.World.{Node, Table, Standing, entry}
-use Rattle.congee_olc.specs.Facts.{IsSafe, byte_at, IsLinked, IsBelow, LeadsOn, IsPlaced, Keeps, Known, IsThere, LedTo, OnPath, TestOf}
+use Rattle.congee_olc.specs.inner.Facts.{IsSafe, byte_at, IsLinked, IsBelow, LeadsOn, IsPlaced, Keeps, Known, IsThere, LedTo, OnPath, TestOf}
 use Rattle.congee_olc.specs.declared.olc.stage.Spot.{Spot}
 use Rattle.congee_olc.specs.declared.olc.stage.Path.{Path}
 use Rattle.congee_olc.proofs.Options.{none_some, some_same}

@@ -1,11 +1,9 @@
 pub mod Content
 pub mod Event
-pub mod Facts
 pub mod Flight
-pub mod Found
-pub mod Played
 pub mod Run
 pub mod Table
 pub mod World
+pub mod inner
 pub use Rattle.congee_sync.specs.Epoch
 pub use Rattle.congee_sync.specs.Lock

@@ -1,10 +1,11 @@
 //! The machine.
 
 mod advance;
-pub mod calls;
+mod calls;
 mod content;
 mod copies;
 pub mod machine;
+mod op;
 mod reading;
 pub mod replay;
 pub mod stage;

@@ -1,3 +1,3 @@
 pub mod PathLaws
 pub mod ShareLaws
-pub mod WayLaws
+pub mod PathEndLaws

@@ -16,11 +16,12 @@ use Rattle.congee_node_table.specs.Key.{begins}
 use Rattle.congee_node_table.proofs.BeginLaws.{after, begins_itself, begins_other, begins_longer}
 use Rattle.congee_paths.specs.Path.{on_path}
 use Rattle.congee_node_table.specs.Key.{next_byte}
-use Rattle.congee_paths.specs.Way.{depth, Way, IsEnd, Arrives}
+use Rattle.congee_paths.specs.inner.Descent.{PathTo, Finds, EndsAt}
+use Rattle.congee_paths.specs.inner.Root.{depth}
 use Rattle.congee_paths.specs.declared.descent.End.{End}
 use Rattle.congee_paths.specs.declared.descent.End.TheVariants.{Differs, Absent, Present}
 use Rattle.congee_paths.specs.declared.descent.Place.{Place}
-use Rattle.congee_paths.proofs.WayLaws.{walk_short}
+use Rattle.congee_paths.proofs.PathEndLaws.{leads_short}
 
 -- no node below bytes that the key leaves is on its path
 on_path-off : (q : List ℕ) (ns : List NodeInfo) (key : List ℕ) → AllBegin q ns → begins q key ≡ false → on_path ns key ≡ 0
@@ -79,21 +80,21 @@ module _ {P : Type 0} (s : Table P) where
         let here = Begins-trans q p key h.begins goes in
         rw (h.here, here.holds) (ap (λ x. 1 + x) rest)
 
-    along : (above levels slot : ℕ) (q : List ℕ) → Way s root key above levels q slot → on_path (nodes_at s depth [] root) key ≡ above + on_path (nodes_at s levels q slot) key
-    along zero levels slot q way =
-        let e : on_path (nodes_at s depth [] root) key ≡ on_path (nodes_at s levels q slot) key = rw (way.0, way.1, way.2) refl in
+    along : (above levels slot : ℕ) (q : List ℕ) → PathTo s root key above levels q slot → on_path (nodes_at s depth [] root) key ≡ above + on_path (nodes_at s levels q slot) key
+    along zero levels slot q path =
+        let e : on_path (nodes_at s depth [] root) key ≡ on_path (nodes_at s levels q slot) key = rw (path.0, path.1, path.2) refl in
         omega (arith, e)
-    along (suc above) levels slot q way =
-        let h = way.tree in
+    along (suc above) levels slot q path =
+        let h = path.tree in
         let p = h.node.prefix in
         let b = next_byte p key in
-        let ih = along above (suc levels) way.parent way.parent_q way.way in
-        let one = at_node levels way.parent_q way.parent h way.begins in
-        let one' = rw way.found at one in
-        let same : on_path (nodes_at s levels (p ++ b ∷ []) slot) key ≡ on_path (nodes_at s levels q slot) key = ap (λ r. on_path (nodes_at s levels r slot) key) (sym way.is) in
+        let ih = along above (suc levels) path.parent path.parent_q path.path in
+        let one = at_node levels path.parent_q path.parent h path.begins in
+        let one' = rw path.found at one in
+        let same : on_path (nodes_at s levels (p ++ b ∷ []) slot) key ≡ on_path (nodes_at s levels q slot) key = ap (λ r. on_path (nodes_at s levels r slot) key) (sym path.is) in
         omega (arith, ih, one', same)
 
-    last : (levels slot : ℕ) (q : List ℕ) (n : TableNode P) (e : End P) → Begins q key → IsTree s levels q slot → node_at s slot ≡ Some n → IsEnd key n e → on_path (nodes_at s levels q slot) key ≡ 1
+    last : (levels slot : ℕ) (q : List ℕ) (n : TableNode P) (e : End P) → Begins q key → IsTree s levels q slot → node_at s slot ≡ Some n → Finds key n e → on_path (nodes_at s levels q slot) key ≡ 1
     last zero slot q n e begins h here end = absurd h
     last (suc levels) slot q n (Differs at) goes h here d =
         let both : Some n ≡ Some h.node = sym here ∙ h.here in
@@ -104,7 +105,7 @@ module _ {P : Type 0} (s : Table P) where
     last (suc levels) slot q n (Absent b) goes h here d =
         let both : Some n ≡ Some h.node = sym here ∙ h.here in
         let is : n ≡ h.node = cc in
-        let d' : IsEnd key h.node (Absent b) = subst (λ m. IsEnd key m (Absent b)) is d in
+        let d' : Finds key h.node (Absent b) = subst (λ m. Finds key m (Absent b)) is d in
         let none : lookup h.node.children (next_byte h.node.prefix key) ≡ None = subst (λ x. lookup h.node.children x ≡ None) d'.0 d'.2 in
         let one = at_node levels q slot h d'.1 in
         let one' = rw none at one in
@@ -112,19 +113,19 @@ module _ {P : Type 0} (s : Table P) where
     last (suc levels) slot q n (Present b w) goes h here d =
         let both : Some n ≡ Some h.node = sym here ∙ h.here in
         let is : n ≡ h.node = cc in
-        let d' : IsEnd key h.node (Present b w) = subst (λ m. IsEnd key m (Present b w)) is d in
+        let d' : Finds key h.node (Present b w) = subst (λ m. Finds key m (Present b w)) is d in
         let found : lookup h.node.children (next_byte h.node.prefix key) ≡ Some (Payload w.now) = subst (λ x. lookup h.node.children x ≡ Some (Payload w.now)) d'.0 d'.2 in
         let one = at_node levels q slot h d'.1 in
         let one' = rw found at one in
         omega (arith, one')
 
     -- the nodes on the key's path are the last one and those above it
-    pub path_length : (place : Place P) → Arrives s root key place → on_path (nodes_at s depth [] root) key ≡ place.above + 1
+    pub path_length : (place : Place P) → EndsAt s root key place → on_path (nodes_at s depth [] root) key ≡ place.above + 1
     path_length place a =
-        let w = a.walk in
-        let x = along place.above w.levels place.slot w.q w.way in
+        let w = a.leads in
+        let x = along place.above w.levels place.slot w.q w.path in
         let y = last w.levels place.slot w.q a.node place.end w.begins w.tree a.here a.end in
         omega (arith, x, y)
 
-    pub path_short : (place : Place P) → Arrives s root key place → on_path (nodes_at s depth [] root) key ≤ 8
-    path_short place a = let l = path_length place a in let m = walk_short s root key place.above place.slot place.parent a.walk in omega (arith, l, m)
+    pub path_short : (place : Place P) → EndsAt s root key place → on_path (nodes_at s depth [] root) key ≤ 8
+    path_short place a = let l = path_length place a in let m = leads_short s root key place.above place.slot place.parent a.leads in omega (arith, l, m)

@@ -1,11 +1,10 @@
-//! The way of a key from the root down, which all point calls take.
+//! The path of a key from the root down, which all point calls take.
 
-ghost use Rattle.std.specs.Prelude.{◌≡◌, ℕ, ◌+◌, [], ◌≤◌, length, IfSome, IfNone, option_copied};
-ghost use Rattle.congee_map.specs.Map.{lookup};
-ghost use Rattle.congee_node_table.specs.Key.{key_number, Begins, IsFirstDifference};
-ghost use Rattle.congee_node_table.specs.Table.{pairs_at, nodes_at, IsTree};
+ghost use Rattle.std.specs.Prelude.{◌≡◌, ◌+◌, ◌≤◌, length, IfSome, IfNone, option_copied};
+ghost use Rattle.congee_node_table.specs.Key.{Begins, IsFirstDifference};
 ghost use Rattle.congee_paths.specs.Path.{on_path};
-ghost use Rattle.congee_paths.specs.Way.{depth, Meets, Arrives};
+ghost use Rattle.congee_paths.specs.inner.Descent.{Meets, EndsAt};
+ghost use Rattle.congee_paths.specs.inner.Root.{HasTree, tree_nodes, tree_payload};
 
 use crate::reads::Reads;
 use congee_node_table::child::ChildRef;
@@ -13,7 +12,7 @@ use congee_node_table::tree_node::TreeNode;
 use slab::Slab;
 use std::sync::ledger::Ledger;
 
-/// How the way of a key ends at a node.
+/// How the path of a key ends at a node.
 #[derive(Drop)]
 pub enum End<'a, P> {
     /// The node's prefix differs from the key at this place.
@@ -24,7 +23,7 @@ pub enum End<'a, P> {
     Present(u8, &'a P),
 }
 
-/// The node where the way of a key ends.
+/// The node where the path of a key ends.
 #[derive(Drop)]
 pub struct Place<'a, P> {
     pub slot: usize,
@@ -54,7 +53,7 @@ fn first_difference(prefix: &[u8], key: &[u8; 8]) -> Option<usize>
 enum Step<'a, P> {
     /// The slot of the node below.
     Down(usize),
-    /// The end of its way.
+    /// The end of its path.
     Stop(End<'a, P>),
 }
 
@@ -82,9 +81,10 @@ pub fn descend<'a, P: Drop, L: Ledger>(
     key: &[u8; 8],
     reads: &mut Reads<L>,
 ) -> Place<'a, P>
-    requires { IsTree nodes.now.slots depth [] root }
-    ensures arrives { Arrives nodes.now.slots root key.now result }
-    ensures reads { reads.new ≡ reads.old + result.above + 1 }
+    requires { HasTree nodes.now.slots root }
+    ensures ends { EndsAt nodes.now.slots root key.now result }
+    ensures reads { reads.new ≡ reads.old + on_path (tree_nodes nodes.now.slots root) key.now }
+    ensures few { on_path (tree_nodes nodes.now.slots root) key.now ≤ 8 }
 {
     let mut slot = root;
     let mut parent = root;
@@ -119,10 +119,10 @@ pub fn find<'a, P: Drop, L: Ledger>(
     key: &[u8; 8],
     reads: &mut Reads<L>,
 ) -> Option<&'a P>
-    requires { IsTree nodes.now.slots depth [] root }
-    ensures value { option_copied result ≡ lookup (pairs_at nodes.now.slots depth root) (key_number key.now) }
-    ensures reads { reads.new ≡ reads.old + on_path (nodes_at nodes.now.slots depth [] root) key.now }
-    ensures few { on_path (nodes_at nodes.now.slots depth [] root) key.now ≤ 8 }
+    requires { HasTree nodes.now.slots root }
+    ensures value { option_copied result ≡ tree_payload nodes.now.slots root key.now }
+    ensures reads { reads.new ≡ reads.old + on_path (tree_nodes nodes.now.slots root) key.now }
+    ensures few { on_path (tree_nodes nodes.now.slots root) key.now ≤ 8 }
 {
     match descend(nodes, root, key, reads).end {
         End::Present(_, payload) => Some(payload),

@@ -1,6 +1,6 @@
 -- The meaning of a number is the number, so the meaning of a state over numbers is the state.
 use Rattle.std.proofs.Common.{◌≡◌, ℕ, List, [], ◌∷◌, Option, Some, None, refl, ap, ◌∙◌}
-use Rattle.congee_node_table.specs.TableNode.{mapped}
+use Rattle.congee_node_table.specs.inner.Kinds.{mapped}
 use Rattle.congee_node_table.specs.declared.child.Child.{Child}
 use Rattle.congee_node_table.specs.declared.child.Child.TheVariants.{Payload, Node as node}
 use Rattle.congee_protocol.specs.Meaning.{in_some, child_of, seen_of, op_of, asking_of, node_of, flight_of, meant}

@@ -1,2 +1,3 @@
 pub mod PayloadSteps
+pub mod ReadRuns
 pub mod Steps

@@ -9,28 +9,28 @@ use Rattle.congee_runs.specs.declared.payload_calls.PayloadCall.{PayloadCall}
 use Rattle.congee_runs.specs.declared.payload_calls.PayloadCall.TheVariants.{Get, Insert, Remove, ComputeIfPresent, IsEmpty, Keys}
 use Rattle.congee_runs.specs.declared.payload_calls.PayloadReply.{PayloadReply}
 use Rattle.congee_runs.specs.declared.payload_calls.PayloadReply.TheVariants.{Seen, Unseen, Old, Tested, Refused}
-use Rattle.congee_runs.specs.PayloadCalls.{Shows, Tells, IsPayloadStep, IsPayloadRun}
+use Rattle.congee_runs.specs.PayloadCalls.{Shows, Reports, IsLegalPayloadReply, AreLegalPayloadReplies}
 
 module _ {K P : Type 0} (number : K → ℕ) (read : ℕ → K) (alike : P → P → Type 0) (same : P → P → Bool) where
-  abbrev Steps : Pairs P → PayloadCall K P → PayloadReply K P → Pairs P → Type 0
-  Steps m call reply n = IsPayloadStep number read alike same of_new_nodes m call reply n
+  abbrev IsLegalOne : Pairs P → PayloadCall K P → PayloadReply K P → Pairs P → Type 0
+  IsLegalOne m call reply n = IsLegalPayloadReply number read alike same of_new_nodes m call reply n
 
-  abbrev Runs : Pairs P → List (PayloadCall K P) → List (PayloadReply K P) → Pairs P → Type 0
-  Runs m calls replies n = IsPayloadRun number read alike same of_new_nodes m calls replies n
+  abbrev AreLegal : Pairs P → List (PayloadCall K P) → List (PayloadReply K P) → Pairs P → Type 0
+  AreLegal m calls replies n = AreLegalPayloadReplies number read alike same of_new_nodes m calls replies n
 
   -- a run begins by one call
-  pub run_first : (m k n : Pairs P) (call : PayloadCall K P) (calls : List (PayloadCall K P)) (reply : PayloadReply K P) (replies : List (PayloadReply K P)) → Steps m call reply k → Runs k calls replies n → Runs m (call ∷ calls) (reply ∷ replies) n
+  pub run_first : (m k n : Pairs P) (call : PayloadCall K P) (calls : List (PayloadCall K P)) (reply : PayloadReply K P) (replies : List (PayloadReply K P)) → IsLegalOne m call reply k → AreLegal k calls replies n → AreLegal m (call ∷ calls) (reply ∷ replies) n
   run_first m k n call calls reply replies step run = record {
     deeds = step.deed ∷ run.deeds;
     made = (step.made, run.made);
     legal = (step.allowed, subst (λ x. IsLegal same of_new_nodes x run.deeds n) step.leads run.legal);
   }
 
-  pub run_of_none : (m : Pairs P) → Runs m [] [] m
+  pub run_of_none : (m : Pairs P) → AreLegal m [] [] m
   run_of_none m = record { deeds = []; made = tt; legal = refl }
 
   module _ (m n : Pairs P) (key : K) where
-    pub seen_step : (shown : Option P) → Shows number read alike shown (lookup m (number key)) → Steps m (Get key) (Seen shown) m
+    pub seen_step : (shown : Option P) → Shows number read alike shown (lookup m (number key)) → IsLegalOne m (Get key) (Seen shown) m
     seen_step shown shows = record {
       deed = record { call = get (number key); asked = None; answer = replied (old_value (lookup m (number key))) };
       made = record { called = refl; asked = tt; told = (lookup m (number key), refl, shows) };
@@ -38,7 +38,7 @@ module _ {K P : Type 0} (number : K → ℕ) (read : ℕ → K) (alike : P → P
       leads = refl;
     }
 
-    pub unseen_step : (standing : P) → lookup m (number key) ≡ Some standing → Steps m (Get key) Unseen m
+    pub unseen_step : (standing : P) → lookup m (number key) ≡ Some standing → IsLegalOne m (Get key) Unseen m
     unseen_step standing is = record {
       deed = record { call = get (number key); asked = None; answer = replied (old_value (lookup m (number key))) };
       made = record { called = refl; asked = tt; told = (standing, ap (λ x. replied (old_value x)) is) };
@@ -46,7 +46,7 @@ module _ {K P : Type 0} (number : K → ℕ) (read : ℕ → K) (alike : P → P
       leads = refl;
     }
 
-    pub insert_step : (payload : P) (before : Option P) → before ≡ lookup m (number key) → n ≡ put m (number key) payload → Steps m (Insert key payload) (Old before) n
+    pub insert_step : (payload : P) (before : Option P) → before ≡ lookup m (number key) → n ≡ put m (number key) payload → IsLegalOne m (Insert key payload) (Old before) n
     insert_step payload before was puts = record {
       deed = record { call = insert (number key) payload; asked = None; answer = replied (old_value (lookup m (number key))) };
       made = record { called = refl; asked = tt; told = ap (λ x. replied (old_value x)) (sym was) };
@@ -54,7 +54,7 @@ module _ {K P : Type 0} (number : K → ℕ) (read : ℕ → K) (alike : P → P
       leads = puts;
     }
 
-    pub insert_refused : (payload : P) → NeedsNode m (number key) → n ≡ m → Steps m (Insert key payload) Refused n
+    pub insert_refused : (payload : P) → NeedsNode m (number key) → n ≡ m → IsLegalOne m (Insert key payload) Refused n
     insert_refused payload new kept = record {
       deed = record { call = insert (number key) payload; asked = None; answer = refused };
       made = record { called = refl; asked = tt; told = refl };
@@ -62,7 +62,7 @@ module _ {K P : Type 0} (number : K → ℕ) (read : ℕ → K) (alike : P → P
       leads = kept;
     }
 
-    pub remove_step : (before : Option P) → before ≡ lookup m (number key) → n ≡ without m (number key) → Steps m (Remove key) (Old before) n
+    pub remove_step : (before : Option P) → before ≡ lookup m (number key) → n ≡ without m (number key) → IsLegalOne m (Remove key) (Old before) n
     remove_step before was takes = record {
       deed = record { call = remove (number key); asked = None; answer = replied (old_value (lookup m (number key))) };
       made = record { called = refl; asked = tt; told = ap (λ x. replied (old_value x)) (sym was) };
@@ -70,7 +70,7 @@ module _ {K P : Type 0} (number : K → ℕ) (read : ℕ → K) (alike : P → P
       leads = takes;
     }
 
-    computed_at : (answer found : Option P) → lookup m (number key) ≡ found → (found ≡ None → n ≡ m) → ((standing : P) → found ≡ Some standing → n ≡ with_answer m (number key) answer) → Steps m (ComputeIfPresent key answer) (Old found) n
+    computed_at : (answer found : Option P) → lookup m (number key) ≡ found → (found ≡ None → n ≡ m) → ((standing : P) → found ≡ Some standing → n ≡ with_answer m (number key) answer) → IsLegalOne m (ComputeIfPresent key answer) (Old found) n
     computed_at answer None is absent present = record {
       deed = record { call = compute_if_present (number key); asked = None; answer = replied (computed None) };
       made = record { called = refl; asked = tt; told = refl };
@@ -84,10 +84,10 @@ module _ {K P : Type 0} (number : K → ℕ) (read : ℕ → K) (alike : P → P
       leads = present standing refl;
     }
 
-    pub compute_step : (answer before : Option P) → before ≡ lookup m (number key) → (lookup m (number key) ≡ None → n ≡ m) → ((standing : P) → lookup m (number key) ≡ Some standing → n ≡ with_answer m (number key) answer) → Steps m (ComputeIfPresent key answer) (Old before) n
+    pub compute_step : (answer before : Option P) → before ≡ lookup m (number key) → (lookup m (number key) ≡ None → n ≡ m) → ((standing : P) → lookup m (number key) ≡ Some standing → n ≡ with_answer m (number key) answer) → IsLegalOne m (ComputeIfPresent key answer) (Old before) n
     compute_step answer before was absent present = computed_at answer before (sym was) (λ none. absent (sym was ∙ none)) (λ standing is. present standing (sym was ∙ is))
 
-  pub empty_step : (m : Pairs P) (b : Bool) → (IsTrue b ↔ (m ≡ [])) → Steps m IsEmpty (Tested b) m
+  pub empty_step : (m : Pairs P) (b : Bool) → (IsTrue b ↔ (m ≡ [])) → IsLegalOne m IsEmpty (Tested b) m
   empty_step [] true told = record {
     deed = record { call = is_empty; asked = None; answer = replied (tested true) };
     made = record { called = refl; asked = tt; told = refl };
@@ -105,7 +105,7 @@ module _ {K P : Type 0} (number : K → ℕ) (read : ℕ → K) (alike : P → P
         leads = refl;
       }
 
-  pub keys_step : (m : Pairs P) (reply : PayloadReply K P) → Tells number read alike Keys reply (replied (listed (map (λ (e : ℕ × P). e.0) m))) → Steps m Keys reply m
+  pub keys_step : (m : Pairs P) (reply : PayloadReply K P) → Reports number read alike Keys reply (replied (listed (map (λ (e : ℕ × P). e.0) m))) → IsLegalOne m Keys reply m
   keys_step m reply told = record {
     deed = record { call = keys; asked = None; answer = replied (listed (map (λ (e : ℕ × P). e.0) m)) };
     made = record { called = refl; asked = tt; told = told };
@@ -113,7 +113,7 @@ module _ {K P : Type 0} (number : K → ℕ) (read : ℕ → K) (alike : P → P
     leads = refl;
   }
 
-  pub keys_refused : (m : Pairs P) → Steps m Keys Refused m
+  pub keys_refused : (m : Pairs P) → IsLegalOne m Keys Refused m
   keys_refused m = record {
     deed = record { call = keys; asked = None; answer = refused };
     made = record { called = refl; asked = tt; told = refl };

@@ -7,13 +7,13 @@ use Rattle.congee_map.specs.Map.{Pairs, lookup, put, without, with_answer, betwe
 use Rattle.congee_map.specs.Call.{compare_exchange, Asked, Answer, old_value, exchanged, computed, tested, listed, ranged, replied, refused, Deed}
 use Rattle.congee_map.specs.Refusal.{Refusals, of_new_nodes, NeedsNode}
 use Rattle.congee_map.specs.Legal.{MayAnswer, after_answer, after_exchange, exchange}
-use Rattle.congee_map.specs.Conversion.{Conversion, converted, exchange_read, answer_read}
-use Rattle.congee_map.proofs.Runs.{IsLegalFor-append}
+use Rattle.congee_runs.specs.Conversion.{Conversion, converted, exchange_read, answer_read}
+use Rattle.congee_runs.proofs.ReadRuns.{IsLegalRead-append}
 use Rattle.congee_runs.specs.declared.calls.Call.{Call as FaceCall}
 use Rattle.congee_runs.specs.declared.calls.Call.TheVariants.{Get, Insert, Remove, CompareExchange, ComputeIfPresent, ComputeOrInsert, IsEmpty, Keys, Range}
 use Rattle.congee_runs.specs.declared.calls.Reply.{Reply}
 use Rattle.congee_runs.specs.declared.calls.Reply.TheVariants.{Old, Exchanged, Computed, Tested, Refused}
-use Rattle.congee_runs.specs.Calls.{AnswersBy, call_of, closure_of, answer_of, deeds_of, AreMade, AnswersRun, IsRun, IsStep}
+use Rattle.congee_runs.specs.Calls.{AnswersBy, call_of, closure_of, answer_of, deeds_of, AreMade, AreLegalAnswers, AreLegalReplies, IsLegalReply}
 
 -- what was done by two lists of calls
 deeds_of-append : {K V P : Type 0} (ds es : List (Option (Deed K V P))) → deeds_of (ds ++ es) ≡ deeds_of ds ++ deeds_of es
@@ -33,23 +33,23 @@ module _ {K V : Type 0} where
 
   -- one run after another
   pub answers_more : (c : Conversion K V ℕ) (r : Refusals) (m k n : Pairs ℕ) (calls calls' : List (FaceCall K V)) (answers answers' : List (Answer K V ℕ))
-      → AnswersRun c r m calls answers k → AnswersRun c r k calls' answers' n → AnswersRun c r m (calls ++ calls') (answers ++ answers') n
+      → AreLegalAnswers c r m calls answers k → AreLegalAnswers c r k calls' answers' n → AreLegalAnswers c r m (calls ++ calls') (answers ++ answers') n
   answers_more c r m k n calls calls' answers answers' run step = record {
     dones = run.dones ++ step.dones;
     made = made-append calls calls' answers answers' run.dones step.dones run.made step.made;
-    legal = rw (deeds_of-append run.dones step.dones) (IsLegalFor-append c nat_eq r m k n (deeds_of run.dones) (deeds_of step.dones) run.legal step.legal);
+    legal = rw (deeds_of-append run.dones step.dones) (IsLegalRead-append c nat_eq r m k n (deeds_of run.dones) (deeds_of step.dones) run.legal step.legal);
   }
 
   -- a run goes on by one call
   pub run_more : (c : Conversion K V ℕ) (r : Refusals) (m k n : Pairs ℕ) (calls : List (FaceCall K V)) (replies : List (Reply K V)) (call : FaceCall K V) (reply : Reply K V)
-      → IsRun c r m calls replies k → IsStep c r k call reply n → IsRun c r m (calls ++ call ∷ []) (replies ++ reply ∷ []) n
+      → AreLegalReplies c r m calls replies k → IsLegalReply c r k call reply n → AreLegalReplies c r m (calls ++ call ∷ []) (replies ++ reply ∷ []) n
   run_more c r m k n calls replies call reply run step =
       rw (map-append) (answers_more c r m k n calls (call ∷ []) (map answer_of replies) (answer_of reply ∷ []) run step)
 
   -- a call on the numbers, read back
   answers_of : (c : Conversion K V ℕ) (m n : Pairs ℕ) (call : FaceCall K V) (answer : Answer K V ℕ) (asked : Asked ℕ) (plain : Answer ℕ ℕ ℕ)
       → AnswersBy (closure_of call) asked → MayAnswer nat_eq of_new_nodes m (converted c (call_of call)) asked plain
-      → n ≡ after_answer nat_eq m (converted c (call_of call)) asked plain → answer ≡ answer_read c (call_of call) plain → AnswersRun c of_new_nodes m (call ∷ []) (answer ∷ []) n
+      → n ≡ after_answer nat_eq m (converted c (call_of call)) asked plain → answer ≡ answer_read c (call_of call) plain → AreLegalAnswers c of_new_nodes m (call ∷ []) (answer ∷ []) n
   answers_of c m n call answer asked plain answers may leaves reads = record {
     dones = Some (record { call = call_of call; asked = asked; answer = answer }) ∷ [];
     made = (record { called = refl; asked = answers; answered = refl }, tt);
@@ -62,42 +62,42 @@ module _ {K V : Type 0} where
 
   step_of : (c : Conversion K V ℕ) (m n : Pairs ℕ) (call : FaceCall K V) (reply : Reply K V) (asked : Asked ℕ) (plain : Answer ℕ ℕ ℕ)
       → AnswersBy (closure_of call) asked → MayAnswer nat_eq of_new_nodes m (converted c (call_of call)) asked plain
-      → n ≡ after_answer nat_eq m (converted c (call_of call)) asked plain → answer_of reply ≡ answer_read c (call_of call) plain → IsStep c of_new_nodes m call reply n
+      → n ≡ after_answer nat_eq m (converted c (call_of call)) asked plain → answer_of reply ≡ answer_read c (call_of call) plain → IsLegalReply c of_new_nodes m call reply n
   step_of c m n call reply asked plain answers may leaves reads = answers_of c m n call (answer_of reply) asked plain answers may leaves reads
 
 module _ {K V : Type 0} (c : Conversion K V ℕ) (m n : Pairs ℕ) (key : K) where
   old_read : (value : Option V) → value ≡ option_map c.read (lookup m (c.key_number key)) → answer_of {K = K} (Old value) ≡ replied (old_value (option_map c.read (lookup m (c.key_number key))))
   old_read value is = ap (λ v. replied (old_value v)) is
 
-  pub get_step : (value : Option V) → value ≡ option_map c.read (lookup m (c.key_number key)) → IsStep c of_new_nodes m (Get key) (Old value) m
+  pub get_step : (value : Option V) → value ≡ option_map c.read (lookup m (c.key_number key)) → IsLegalReply c of_new_nodes m (Get key) (Old value) m
   get_step value is = step_of c m m (Get key) (Old value) None (replied (old_value (lookup m (c.key_number key)))) tt (refl, refl) refl (old_read value is)
 
   pub insert_step : (value : V) (before : Option V) → before ≡ option_map c.read (lookup m (c.key_number key)) → n ≡ put m (c.key_number key) (c.stored value)
-      → IsStep c of_new_nodes m (Insert key value) (Old before) n
+      → IsLegalReply c of_new_nodes m (Insert key value) (Old before) n
   insert_step value before is puts =
       step_of c m n (Insert key value) (Old before) None (replied (old_value (lookup m (c.key_number key)))) tt (refl, refl) puts (old_read before is)
 
-  pub insert_refused : (value : V) → NeedsNode m (c.key_number key) → n ≡ m → IsStep c of_new_nodes m (Insert key value) Refused n
+  pub insert_refused : (value : V) → NeedsNode m (c.key_number key) → n ≡ m → IsLegalReply c of_new_nodes m (Insert key value) Refused n
   insert_refused value new same = step_of c m n (Insert key value) Refused None refused tt (refl, new) same refl
 
   pub remove_step : (before : Option V) → before ≡ option_map c.read (lookup m (c.key_number key)) → n ≡ without m (c.key_number key)
-      → IsStep c of_new_nodes m (Remove key) (Old before) n
+      → IsLegalReply c of_new_nodes m (Remove key) (Old before) n
   remove_step before is takes =
       step_of c m n (Remove key) (Old before) None (replied (old_value (lookup m (c.key_number key)))) tt (refl, refl) takes (old_read before is)
 
   pub compute_or_insert_step : (answer : ℕ) (before : Option V) → before ≡ option_map c.read (lookup m (c.key_number key)) → n ≡ put m (c.key_number key) answer
-      → IsStep c of_new_nodes m (ComputeOrInsert key answer) (Old before) n
+      → IsLegalReply c of_new_nodes m (ComputeOrInsert key answer) (Old before) n
   compute_or_insert_step answer before is puts =
       let found = lookup m (c.key_number key) in
       step_of c m n (ComputeOrInsert key answer) (Old before) (Some (found, Some answer)) (replied (old_value found)) refl ((answer, refl), refl) puts (old_read before is)
 
-  pub compute_or_insert_refused : (answer : ℕ) → NeedsNode m (c.key_number key) → n ≡ m → IsStep c of_new_nodes m (ComputeOrInsert key answer) Refused n
+  pub compute_or_insert_refused : (answer : ℕ) → NeedsNode m (c.key_number key) → n ≡ m → IsLegalReply c of_new_nodes m (ComputeOrInsert key answer) Refused n
   compute_or_insert_refused answer new same = step_of c m n (ComputeOrInsert key answer) Refused None refused tt (refl, new) same refl
 
   computed_at : (answer : Option ℕ) (r : Option (ℕ × Option ℕ)) (found : Option ℕ) → lookup m (c.key_number key) ≡ found
       → (lookup m (c.key_number key) ≡ None → (r ≡ None) × (n ≡ m))
       → ((standing : ℕ) → lookup m (c.key_number key) ≡ Some standing → (r ≡ Some (standing, answer)) × (n ≡ with_answer m (c.key_number key) answer))
-      → IsStep c of_new_nodes m (ComputeIfPresent key answer) (Computed r) n
+      → IsLegalReply c of_new_nodes m (ComputeIfPresent key answer) (Computed r) n
   computed_at answer r None is absent present =
       let a = absent is in
       step_of c m n (ComputeIfPresent key answer) (Computed r) None (replied (computed None)) tt (rw is refl, refl) a.1 (ap (λ x. replied (computed x)) a.0)
@@ -109,7 +109,7 @@ module _ {K V : Type 0} (c : Conversion K V ℕ) (m n : Pairs ℕ) (key : K) whe
   pub compute_if_present_step : (answer : Option ℕ) (r : Option (ℕ × Option ℕ))
       → (lookup m (c.key_number key) ≡ None → (r ≡ None) × (n ≡ m))
       → ((standing : ℕ) → lookup m (c.key_number key) ≡ Some standing → (r ≡ Some (standing, answer)) × (n ≡ with_answer m (c.key_number key) answer))
-      → IsStep c of_new_nodes m (ComputeIfPresent key answer) (Computed r) n
+      → IsLegalReply c of_new_nodes m (ComputeIfPresent key answer) (Computed r) n
   compute_if_present_step answer r absent present = computed_at answer r (lookup m (c.key_number key)) refl absent present
 
   exchanged_at : (old : V) (new : Option V) (r : Result (Option V) (Option V)) (found : Option ℕ) → lookup m (c.key_number key) ≡ found
@@ -129,7 +129,7 @@ module _ {K V : Type 0} (c : Conversion K V ℕ) (m n : Pairs ℕ) (key : K) whe
       → (lookup m (c.key_number key) ≡ None → (r ≡ Err None) × (n ≡ m))
       → (lookup m (c.key_number key) ≡ Some (c.stored old) → (r ≡ Ok new) × (n ≡ with_answer m (c.key_number key) (option_map c.stored new)))
       → ((standing : ℕ) → lookup m (c.key_number key) ≡ Some standing → standing ≢ c.stored old → (r ≡ Err (Some (c.read standing))) × (n ≡ m))
-      → IsStep c of_new_nodes m (CompareExchange key old new) (Exchanged r) n
+      → IsLegalReply c of_new_nodes m (CompareExchange key old new) (Exchanged r) n
   exchange_step old new r absent same other =
       let found = lookup m (c.key_number key) in
       let at = exchanged_at old new r found refl absent same other in
@@ -138,7 +138,7 @@ module _ {K V : Type 0} (c : Conversion K V ℕ) (m n : Pairs ℕ) (key : K) whe
 
 -- a test of emptiness
 module _ {K V : Type 0} (c : Conversion K V ℕ) where
-  pub is_empty_step : (m : Pairs ℕ) (b : Bool) → (IsTrue b ↔ (m ≡ [])) → IsStep c of_new_nodes m IsEmpty (Tested b) m
+  pub is_empty_step : (m : Pairs ℕ) (b : Bool) → (IsTrue b ↔ (m ≡ [])) → IsLegalReply c of_new_nodes m IsEmpty (Tested b) m
   is_empty_step [] true told = step_of c [] [] IsEmpty (Tested true) None (replied (tested true)) tt (refl, refl) refl refl
   is_empty_step [] false told = absurd (let t = told.1 refl in cc)
   is_empty_step (x ∷ xs) true told = absurd (let e = told.0 refl in cc)
@@ -148,19 +148,19 @@ module _ {K V : Type 0} (c : Conversion K V ℕ) where
 
 -- what lists keys or pairs
 module _ {K V : Type 0} (c : Conversion K V ℕ) (m n : Pairs ℕ) where
-  pub keys_step : (reply : Reply K V) → answer_of reply ≡ replied (listed (map c.key_read (map (λ (e : ℕ × ℕ). e.0) m))) → n ≡ m → IsStep c of_new_nodes m Keys reply n
+  pub keys_step : (reply : Reply K V) → answer_of reply ≡ replied (listed (map c.key_read (map (λ (e : ℕ × ℕ). e.0) m))) → n ≡ m → IsLegalReply c of_new_nodes m Keys reply n
   keys_step reply is same = step_of c m n Keys reply None (replied (listed (map (λ (e : ℕ × ℕ). e.0) m))) tt (refl, refl) same is
 
-  pub keys_refused : n ≡ m → IsStep c of_new_nodes m Keys Refused n
+  pub keys_refused : n ≡ m → IsLegalReply c of_new_nodes m Keys Refused n
   keys_refused same = step_of c m n Keys Refused None refused tt (refl, tt) same refl
 
   pub range_answers : (start end : K) (limit : ℕ) (answer : Answer K V ℕ) → answer ≡ replied (ranged (take limit (between m (c.key_number start) (c.key_number end)))) → n ≡ m
-      → AnswersRun c of_new_nodes m (Range start end limit ∷ []) (answer ∷ []) n
+      → AreLegalAnswers c of_new_nodes m (Range start end limit ∷ []) (answer ∷ []) n
   range_answers start end limit answer is same =
       answers_of c m n (Range start end limit) answer None (replied (ranged (take limit (between m (c.key_number start) (c.key_number end))))) tt (refl, refl) same is
 
   -- a range that finds no memory for its pairs isn't made
-  pub range_unmade : (start end : K) (limit : ℕ) → n ≡ m → IsStep c of_new_nodes m (Range start end limit) Refused n
+  pub range_unmade : (start end : K) (limit : ℕ) → n ≡ m → IsLegalReply c of_new_nodes m (Range start end limit) Refused n
   range_unmade start end limit same = record {
     dones = None ∷ [];
     made = (tt, tt);

@@ -4,7 +4,7 @@ use Rattle.congee_map.specs.Map.{Pairs}
 use Rattle.congee_map.specs.Call.{Call, get, insert, remove, compare_exchange, compute_if_present, compute_or_insert, is_empty, keys, range}
 use Rattle.congee_map.specs.Call.{Asked, Answer, old_value, exchanged, computed, tested, listed, ranged, replied, refused, Deed}
 use Rattle.congee_map.specs.Refusal.{Refusals}
-use Rattle.congee_map.specs.Conversion.{Conversion, IsLegalFor}
+use Rattle.congee_runs.specs.Conversion.{Conversion, IsLegalRead}
 use Rattle.congee_runs.specs.declared.calls.Call.{Call as FaceCall}
 use Rattle.congee_runs.specs.declared.calls.Call.TheVariants.{Get, Insert, Remove, CompareExchange, ComputeIfPresent, ComputeOrInsert, IsEmpty, Keys, Range}
 use Rattle.congee_runs.specs.declared.calls.Reply.{Reply}
@@ -75,21 +75,27 @@ module _ {K V : Type 0} where
   IsMade call answer (Some deed) = IsDeed call answer deed
   IsMade call answer None = IsUnmade call answer
 
-  abbrev pub AreMade : List (FaceCall K V) → List (Answer K V ℕ) → List (Option (Deed K V ℕ)) → Type 0
+  abbrev pub AreMade
+      : List (FaceCall K V) → List (Answer K V ℕ) → List (Option (Deed K V ℕ)) → Type 0
   AreMade [] [] [] = Unit {0}
-  AreMade (call ∷ calls) (answer ∷ answers) (done ∷ dones) = IsMade call answer done × AreMade calls answers dones
+  AreMade (call ∷ calls) (answer ∷ answers) (done ∷ dones) =
+      IsMade call answer done × AreMade calls answers dones
   AreMade calls answers dones = ⊥
 
   -- The calls with their answers are a legal run from the one map to the other.
-  pub record AnswersRun (c : Conversion K V ℕ) (r : Refusals) (m : Pairs ℕ) (calls : List (FaceCall K V)) (answers : List (Answer K V ℕ)) (n : Pairs ℕ) : Type 0 where
+  pub record AreLegalAnswers (c : Conversion K V ℕ) (r : Refusals)
+      (m : Pairs ℕ) (calls : List (FaceCall K V)) (answers : List (Answer K V ℕ)) (n : Pairs ℕ)
+      : Type 0 where
     pub dones : List (Option (Deed K V ℕ))
     pub made : AreMade calls answers dones
-    pub legal : IsLegalFor c nat_eq r m (deeds_of dones) n
+    pub legal : IsLegalRead c nat_eq r m (deeds_of dones) n
 
   -- The same with their replies.
-  abbrev pub IsRun : Conversion K V ℕ → Refusals → Pairs ℕ → List (FaceCall K V) → List (Reply K V) → Pairs ℕ → Type 0
-  IsRun c r m calls replies n = AnswersRun c r m calls (map answer_of replies) n
+  abbrev pub AreLegalReplies : Conversion K V ℕ → Refusals
+      → Pairs ℕ → List (FaceCall K V) → List (Reply K V) → Pairs ℕ → Type 0
+  AreLegalReplies c r m calls replies n = AreLegalAnswers c r m calls (map answer_of replies) n
 
   -- a run of one call
-  abbrev pub IsStep : Conversion K V ℕ → Refusals → Pairs ℕ → FaceCall K V → Reply K V → Pairs ℕ → Type 0
-  IsStep c r m call reply n = IsRun c r m (call ∷ []) (reply ∷ []) n
+  abbrev pub IsLegalReply : Conversion K V ℕ → Refusals
+      → Pairs ℕ → FaceCall K V → Reply K V → Pairs ℕ → Type 0
+  IsLegalReply c r m call reply n = AreLegalReplies c r m (call ∷ []) (reply ∷ []) n

@@ -1,3 +1,4 @@
 pub mod Calls
+pub mod Conversion
 pub mod PayloadCalls
 pub mod U64Calls

@@ -30,38 +30,47 @@ module _ {K P : Type 0} (number : K → ℕ) (read : ℕ → K) (alike : P → P
   Shows (Some copy) found = (standing : P) × (found ≡ Some standing) × alike standing copy
 
   -- the reply tells what came back of the call
-  abbrev pub Tells : PayloadCall K P → PayloadReply K P → Answer ℕ P P → Type 0
-  Tells (Get key) (Seen shown) answer = (found : Option P) × (answer ≡ replied (old_value found)) × Shows shown found
-  Tells (Get key) Unseen answer = (standing : P) × (answer ≡ replied (old_value (Some standing)))
-  Tells (Insert key payload) (Old before) answer = answer ≡ replied (old_value before)
-  Tells (Insert key payload) Refused answer = answer ≡ refused
-  Tells (Remove key) (Old before) answer = answer ≡ replied (old_value before)
-  Tells (ComputeIfPresent key given) (Old None) answer = answer ≡ replied (computed None)
-  Tells (ComputeIfPresent key given) (Old (Some before)) answer = answer ≡ replied (computed (Some (before, given)))
-  Tells IsEmpty (Tested b) answer = answer ≡ replied (tested b)
-  Tells Keys (Listed found) answer = (numbers : List ℕ) × (answer ≡ replied (listed numbers)) × (found.items ≡ map read numbers)
-  Tells Keys Refused answer = answer ≡ refused
-  Tells call reply answer = ⊥
+  abbrev pub Reports : PayloadCall K P → PayloadReply K P → Answer ℕ P P → Type 0
+  Reports (Get key) (Seen shown) answer =
+      (found : Option P) × (answer ≡ replied (old_value found)) × Shows shown found
+  Reports (Get key) Unseen answer = (standing : P) × (answer ≡ replied (old_value (Some standing)))
+  Reports (Insert key payload) (Old before) answer = answer ≡ replied (old_value before)
+  Reports (Insert key payload) Refused answer = answer ≡ refused
+  Reports (Remove key) (Old before) answer = answer ≡ replied (old_value before)
+  Reports (ComputeIfPresent key given) (Old None) answer = answer ≡ replied (computed None)
+  Reports (ComputeIfPresent key given) (Old (Some before)) answer =
+      answer ≡ replied (computed (Some (before, given)))
+  Reports IsEmpty (Tested b) answer = answer ≡ replied (tested b)
+  Reports Keys (Listed found) answer =
+      (numbers : List ℕ) × (answer ≡ replied (listed numbers)) × (found.items ≡ map read numbers)
+  Reports Keys Refused answer = answer ≡ refused
+  Reports call reply answer = ⊥
 
   -- the deed is this call with this reply
-  pub record IsPayloadDeed (call : PayloadCall K P) (reply : PayloadReply K P) (deed : Deed ℕ P P) : Type 0 where
+  pub record IsPayloadDeed (call : PayloadCall K P) (reply : PayloadReply K P)
+      (deed : Deed ℕ P P) : Type 0 where
     pub called : deed.call ≡ payload_call call
     pub asked : AnswersAs call deed.asked
-    pub told : Tells call reply deed.answer
+    pub told : Reports call reply deed.answer
 
-  abbrev pub ArePayloadDeeds : List (PayloadCall K P) → List (PayloadReply K P) → List (Deed ℕ P P) → Type 0
+  abbrev pub ArePayloadDeeds
+      : List (PayloadCall K P) → List (PayloadReply K P) → List (Deed ℕ P P) → Type 0
   ArePayloadDeeds [] [] [] = Unit {0}
-  ArePayloadDeeds (call ∷ calls) (reply ∷ replies) (deed ∷ deeds) = IsPayloadDeed call reply deed × ArePayloadDeeds calls replies deeds
+  ArePayloadDeeds (call ∷ calls) (reply ∷ replies) (deed ∷ deeds) =
+      IsPayloadDeed call reply deed × ArePayloadDeeds calls replies deeds
   ArePayloadDeeds calls replies deeds = ⊥
 
   -- The calls with their replies are a legal run from the one map to the other.
-  pub record IsPayloadRun (same : P → P → Bool) (r : Refusals) (m : Pairs P) (calls : List (PayloadCall K P)) (replies : List (PayloadReply K P)) (n : Pairs P) : Type 0 where
+  pub record AreLegalPayloadReplies (same : P → P → Bool) (r : Refusals) (m : Pairs P)
+      (calls : List (PayloadCall K P)) (replies : List (PayloadReply K P)) (n : Pairs P)
+      : Type 0 where
     pub deeds : List (Deed ℕ P P)
     pub made : ArePayloadDeeds calls replies deeds
     pub legal : IsLegal same r m deeds n
 
   -- the call with its reply is one that the map allows, and it leads to the other map
-  pub record IsPayloadStep (same : P → P → Bool) (r : Refusals) (m : Pairs P) (call : PayloadCall K P) (reply : PayloadReply K P) (n : Pairs P) : Type 0 where
+  pub record IsLegalPayloadReply (same : P → P → Bool) (r : Refusals) (m : Pairs P)
+      (call : PayloadCall K P) (reply : PayloadReply K P) (n : Pairs P) : Type 0 where
     pub deed : Deed ℕ P P
     pub made : IsPayloadDeed call reply deed
     pub allowed : Allows same r m deed

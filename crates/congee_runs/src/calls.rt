@@ -4,7 +4,7 @@ ghost use Rattle.std.specs.Prelude.{◌≡◌, ℕ, Some, None, take, IfOk, OnOk
 ghost use Rattle.std.specs.Option.{option_map};
 ghost use Rattle.congee_map.specs.Map.{lookup, put, with_answer, between};
 ghost use Rattle.congee_map.specs.Refusal.{NeedsNode, of_new_nodes};
-ghost use Rattle.congee_runs.specs.Calls.{by_numbers, IsStep, IsRun};
+ghost use Rattle.congee_runs.specs.Calls.{by_numbers, IsLegalReply, AreLegalReplies};
 
 use congee_faces::typed_congee::Congee;
 use congee_map::error::OOMError;
@@ -12,7 +12,7 @@ use congee_map::traits::{Drainer, Word};
 use congee_node_table::allocator::Allocator;
 use std::alloc::Global;
 
-/// A call with keys of type `K` and values of type `V`. The two compute calls carry what their closure answers when it
+/// A call with keys of type `K` and values of type `V`. The two compute calls carry what their closure returns when it
 /// is called, whatever it is handed.
 #[derive(Clone, Copy, Debug, PartialEq, Eq)]
 pub enum Call<K: Copy, V: Copy> {
@@ -24,9 +24,9 @@ pub enum Call<K: Copy, V: Copy> {
     Remove(K),
     /// Where the first value stands at a key, puts the other there, or takes the key out.
     CompareExchange(K, V, Option<V>),
-    /// Puts the closure's answer at a key that is present, or takes it out.
+    /// Puts what the closure returns at a key that is present, or takes it out.
     ComputeIfPresent(K, Option<u64>),
-    /// Puts the closure's answer at a key.
+    /// Puts what the closure returns at a key.
     ComputeOrInsert(K, u64),
     /// Whether there is no pair.
     IsEmpty,
@@ -36,14 +36,14 @@ pub enum Call<K: Copy, V: Copy> {
     Range(K, K, usize),
 }
 
-/// What a call answers.
+/// What a call returns.
 #[derive(Debug, PartialEq, Eq, Drop)]
 pub enum Reply<K: Copy, V: Copy> {
     /// What stood at the key.
     Old(Option<V>),
     /// What an exchange put there, or what stands there in its place.
     Exchanged(Result<Option<V>, Option<V>>),
-    /// The old number, and the closure's answer to it.
+    /// The old number, and what the closure returned for it.
     Computed(Option<(u64, Option<u64>)>),
     /// Yes or no.
     Tested(bool),
@@ -61,7 +61,8 @@ pub fn make_call<K: Word, V: Word, A: Allocator, D: Drainer<K, V>>(
     map: &mut Congee<K, V, A, D>,
     call: &Call<K, V>,
 ) -> Reply<K, V>
-    ensures { IsStep (by_numbers K.number K.of_number V.number V.of_number) of_new_nodes map.old.pairs call.now result map.new.pairs }
+    ensures { IsLegalReply (by_numbers K.number K.of_number V.number V.of_number) of_new_nodes
+        map.old.pairs call.now result map.new.pairs }
 {
     match call {
         Call::Get(key) => Reply::Old(map.get(key)),
@@ -90,26 +91,29 @@ pub fn make_call<K: Word, V: Word, A: Allocator, D: Drainer<K, V>>(
     }
 }
 
-// Makes the call whose closure answers this at a key that is present.
+// Makes the call whose closure returns this at a key that is present.
 fn change<K: Word, V: Word, A: Allocator, D: Drainer<K, V>>(
     map: &mut Congee<K, V, A, D>,
     key: &K,
     answer: Option<u64>,
 ) -> Option<(u64, Option<u64>)>
-    ensures absent { lookup map.old.pairs (K.number key.now) ≡ None → (result ≡ None) × (map.new.pairs ≡ map.old.pairs) }
+    ensures absent { lookup map.old.pairs (K.number key.now) ≡ None
+        → (result ≡ None) × (map.new.pairs ≡ map.old.pairs) }
     ensures present { (standing : ℕ) → lookup map.old.pairs (K.number key.now) ≡ Some standing
-        → (result ≡ Some (standing, answer)) × (map.new.pairs ≡ with_answer map.old.pairs (K.number key.now) answer) }
+        → (result ≡ Some (standing, answer))
+        × (map.new.pairs ≡ with_answer map.old.pairs (K.number key.now) answer) }
 {
     map.compute_if_present(key, &mut |_standing: u64| answer)
 }
 
-// Makes the call whose closure answers this.
+// Makes the call whose closure returns this.
 fn set<K: Word, V: Word, A: Allocator, D: Drainer<K, V>>(
     map: &mut Congee<K, V, A, D>,
     key: K,
     answer: u64,
 ) -> Result<Option<V>, OOMError>
-    ensures before { IfOk result (λ before. before ≡ option_map V.of_number (lookup map.old.pairs (K.number key))) }
+    ensures before { IfOk result
+        (λ before. before ≡ option_map V.of_number (lookup map.old.pairs (K.number key))) }
     ensures ok { OnOk result (map.new.pairs ≡ put map.old.pairs (K.number key) answer) }
     ensures err { OnErr result (map.new.pairs ≡ map.old.pairs) }
     ensures refused { OnErr result (NeedsNode map.old.pairs (K.number key)) }
@@ -126,7 +130,8 @@ pub fn pairs_between<K: Word, V: Word, A: Allocator, D: Drainer<K, V>>(
     end: &K,
     limit: usize,
 ) -> Result<Vec<(u64, u64)>, OOMError>
-    ensures { IfOk result (λ pairs. pairs.items ≡ take limit (between map.now.pairs (K.number start.now) (K.number end.now))) }
+    ensures { IfOk result (λ pairs.
+        pairs.items ≡ take limit (between map.now.pairs (K.number start.now) (K.number end.now))) }
 {
     let mut pairs = vec![in alloc; (0, 0); limit]?;
     let count = map.range(start, end, &mut pairs);
@@ -134,14 +139,16 @@ pub fn pairs_between<K: Word, V: Word, A: Allocator, D: Drainer<K, V>>(
     Ok(pairs)
 }
 
-/// Makes the calls, one after another, and answers their replies. `OOMError` comes where there is no memory for the
+/// Makes the calls, one after another, and returns their replies. `OOMError` comes where there is no memory for the
 /// list of replies; then no call was made.
 pub fn run_calls<K: Word, V: Word, A: Allocator, D: Drainer<K, V>>(
     alloc: Global,
     map: &mut Congee<K, V, A, D>,
     calls: &[Call<K, V>],
 ) -> Result<Vec<Reply<K, V>>, OOMError>
-    ensures run { IfOk result (λ replies. IsRun (by_numbers K.number K.of_number V.number V.of_number) of_new_nodes map.old.pairs calls.now replies.items map.new.pairs) }
+    ensures run { IfOk result (λ replies.
+        AreLegalReplies (by_numbers K.number K.of_number V.number V.of_number) of_new_nodes
+        map.old.pairs calls.now replies.items map.new.pairs) }
     ensures err { OnErr result (map.new.pairs ≡ map.old.pairs) }
 {
     let mut replies = Vec::with_capacity(alloc, calls.len())?;

@@ -3,7 +3,7 @@
 ghost use Rattle.std.specs.Prelude.{◌≡◌, Some, None, IfOk, OnErr};
 ghost use Rattle.congee_map.specs.Map.{lookup, with_answer};
 ghost use Rattle.congee_map.specs.Refusal.{of_new_nodes};
-ghost use Rattle.congee_runs.specs.PayloadCalls.{IsPayloadStep, IsPayloadRun};
+ghost use Rattle.congee_runs.specs.PayloadCalls.{IsLegalPayloadReply, AreLegalPayloadReplies};
 
 use congee_faces::congee_arc::PayloadCongee;
 use congee_map::error::OOMError;
@@ -20,7 +20,7 @@ pub enum PayloadCall<K: Copy, P> {
     Insert(K, P),
     /// Takes a key out.
     Remove(K),
-    /// Puts the closure's answer at a key that is present, or takes it out. This is the answer, whatever it is handed.
+    /// Puts what the closure returns at a key that is present, or takes it out. It returns this, whatever it is handed.
     ComputeIfPresent(K, Option<P>),
     /// Whether there is no pair.
     IsEmpty,
@@ -28,7 +28,7 @@ pub enum PayloadCall<K: Copy, P> {
     Keys,
 }
 
-/// What a call answers.
+/// What a call returns.
 #[derive(Drop)]
 pub enum PayloadReply<K: Copy, P> {
     /// One more of what stands at the key.
@@ -50,7 +50,8 @@ pub fn make_payload_call<K: Word, P: Payload>(
     map: &mut PayloadCongee<K, P>,
     call: PayloadCall<K, P>,
 ) -> PayloadReply<K, P>
-    ensures { IsPayloadStep K.number K.of_number P.alike P.tells_same of_new_nodes map.old call result map.new }
+    ensures { IsLegalPayloadReply K.number K.of_number P.alike P.tells_same of_new_nodes
+        map.old call result map.new }
 {
     match call {
         PayloadCall::Get(key) => match map.get(key) {
@@ -74,7 +75,7 @@ pub fn make_payload_call<K: Word, P: Payload>(
     }
 }
 
-// Makes the call whose closure answers this at a key that is present.
+// Makes the call whose closure returns this at a key that is present.
 fn change<K: Word, P: Payload>(
     map: &mut PayloadCongee<K, P>,
     key: K,
@@ -82,20 +83,23 @@ fn change<K: Word, P: Payload>(
 ) -> Option<P>
     ensures before { result ≡ lookup map.old (K.number key) }
     ensures absent { lookup map.old (K.number key) ≡ None → map.new ≡ map.old }
-    ensures present { (standing : P) → lookup map.old (K.number key) ≡ Some standing → map.new ≡ with_answer map.old (K.number key) answer }
+    ensures present { (standing : P) → lookup map.old (K.number key) ≡ Some standing
+        → map.new ≡ with_answer map.old (K.number key) answer }
 {
     let mut given = answer;
     map.compute_if_present(key, &mut |_standing: &P| given.take())
 }
 
-/// Makes the calls, one after another, and answers their replies. `OOMError` comes where there is no memory for the
+/// Makes the calls, one after another, and returns their replies. `OOMError` comes where there is no memory for the
 /// list of replies; then no call was made.
 pub fn run_payload_calls<K: Word, P: Payload>(
     alloc: Global,
     map: &mut PayloadCongee<K, P>,
     calls: Vec<PayloadCall<K, P>>,
 ) -> Result<Vec<PayloadReply<K, P>>, OOMError>
-    ensures run { IfOk result (λ replies. IsPayloadRun K.number K.of_number P.alike P.tells_same of_new_nodes map.old calls.items replies.items map.new) }
+    ensures run { IfOk result (λ replies.
+        AreLegalPayloadReplies K.number K.of_number P.alike P.tells_same of_new_nodes
+        map.old calls.items replies.items map.new) }
     ensures err { OnErr result (map.new ≡ map.old) }
 {
     let mut replies = Vec::with_capacity(alloc, calls.len())?;

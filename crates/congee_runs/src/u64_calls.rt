@@ -1,11 +1,10 @@
 //! Calls of `U64Congee` as data, and whole runs of them.
 
-ghost use Rattle.std.specs.Prelude.{◌≡◌, ◌∷◌, [], take, IfOk, OnErr, map as each};
+ghost use Rattle.std.specs.Prelude.{◌≡◌, take, IfOk, OnErr, map as each};
 ghost use Rattle.std.specs.Int.{to_be_bytes, w64};
 ghost use Rattle.congee_map.specs.Map.{between};
 ghost use Rattle.congee_map.specs.Refusal.{of_new_nodes};
-ghost use Rattle.congee_runs.specs.Calls.{by_numbers, AnswersRun};
-ghost use Rattle.congee_runs.specs.U64Calls.{face_call, number_answer};
+ghost use Rattle.congee_runs.specs.U64Calls.{AreLegalU64Replies, IsLegalU64Reply};
 
 use congee_faces::u64_congee::U64Congee;
 use congee_map::error::OOMError;
@@ -26,7 +25,7 @@ pub enum U64Call<V: Copy> {
     Range(u64, u64, usize),
 }
 
-/// What a call answers.
+/// What a call returns.
 #[derive(Debug, PartialEq, Eq, Drop)]
 pub enum U64Reply<V: Copy> {
     /// What stood at the key.
@@ -43,7 +42,8 @@ pub fn make_u64_call<V: Word, A: Allocator>(
     map: &mut U64Congee<V, A>,
     call: &U64Call<V>,
 ) -> U64Reply<V>
-    ensures { AnswersRun (by_numbers (λ key. key) (λ number. number) V.number V.of_number) of_new_nodes map.old.pairs (face_call call.now ∷ []) (number_answer result ∷ []) map.new.pairs }
+    ensures { IsLegalU64Reply V.number V.of_number of_new_nodes
+        map.old.pairs call.now result map.new.pairs }
 {
     match call {
         U64Call::Get(key) => U64Reply::Old(map.get(*key)),
@@ -67,7 +67,8 @@ fn bytes_between<V: Word, A: Allocator>(
     end: u64,
     limit: usize,
 ) -> Result<Vec<([u8; 8], u64)>, OOMError>
-    ensures { IfOk result (λ pairs. pairs.items ≡ take limit (each (λ e. (to_be_bytes w64 e.0, e.1)) (between map.now.pairs start end))) }
+    ensures { IfOk result (λ pairs. pairs.items
+        ≡ take limit (each (λ e. (to_be_bytes w64 e.0, e.1)) (between map.now.pairs start end))) }
 {
     let mut pairs = vec![in alloc; ([0; 8], 0); limit]?;
     let count = map.range(start, end, &mut pairs);
@@ -75,14 +76,16 @@ fn bytes_between<V: Word, A: Allocator>(
     Ok(pairs)
 }
 
-/// Makes the calls, one after another, and answers their replies. `OOMError` comes where there is no memory for the
+/// Makes the calls, one after another, and returns their replies. `OOMError` comes where there is no memory for the
 /// list of replies; then no call was made.
 pub fn run_u64_calls<V: Word, A: Allocator>(
     alloc: Global,
     map: &mut U64Congee<V, A>,
     calls: &[U64Call<V>],
 ) -> Result<Vec<U64Reply<V>>, OOMError>
-    ensures run { IfOk result (λ replies. AnswersRun (by_numbers (λ key. key) (λ number. number) V.number V.of_number) of_new_nodes map.old.pairs (each face_call calls.now) (each number_answer replies.items) map.new.pairs) }
+    ensures run { IfOk result (λ replies.
+        AreLegalU64Replies V.number V.of_number of_new_nodes
+        map.old.pairs calls.now replies.items map.new.pairs) }
     ensures err { OnErr result (map.new.pairs ≡ map.old.pairs) }
 {
     let mut replies = Vec::with_capacity(alloc, calls.len())?;

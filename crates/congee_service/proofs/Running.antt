@@ -11,11 +11,12 @@ use Rattle.congee_map.specs.Refusal.{of_new_nodes}
 use Rattle.congee_map.proofs.Runs.{IsLegal-append}
 use Rattle.congee_runs.specs.Calls.{deeds_of}
 use Rattle.congee_lines.specs.Bytes.{Sends}
-use Rattle.congee_lines.specs.Lines.{Lacks, Cuts, Holds, kept_with, lines_of, ended}
+use Rattle.congee_lines.specs.Lines.{Lacks, Cuts, lines_of, ended}
+use Rattle.congee_lines.specs.inner.Kept.{IsKeptOf, kept_with}
 use Rattle.congee_commands.specs.Answer.{IsAnswered, AreAnswered}
 use Rattle.congee_service.specs.Run.{Tells, TellsAll, TellsWhole, TellsPart}
-use Rattle.congee_commands.specs.Replied.{AnswersLine}
-use Rattle.congee_service.specs.Session.{Serves, ServesAll, TakesLine, StopsAnswer, Breaks, BreaksWithin}
+use Rattle.congee_commands.specs.inner.Replied.{AnswersLine}
+use Rattle.congee_service.specs.inner.Session.{Serves, ServesAll, TakesLine, StopsAnswer, Breaks, BreaksWithin}
 use Rattle.congee_lines.proofs.Sending.{sends_more, sends_on, sends_kept, sends_nothing}
 
 -- one more at the end of a list with a property
@@ -84,7 +85,7 @@ lines_go_on whole [] = record { later = []; first = sym (append-nil whole) }
 lines_go_on whole (b ∷ bs) = record { later = (b ∷ bs) ∷ []; first = refl }
 
 -- what is held of a line after a byte more
-pub holds_byte : (kept : Option (List ℕ)) (line : List ℕ) (byte : ℕ) → Holds kept line → Holds (kept_with kept byte) (line ++ byte ∷ [])
+pub holds_byte : (kept : Option (List ℕ)) (line : List ℕ) (byte : ℕ) → IsKeptOf kept line → IsKeptOf (kept_with kept byte) (line ++ byte ∷ [])
 holds_byte None line byte held = omega (arith, held, length-append line (byte ∷ []))
 holds_byte (Some bytes) line byte held = elim (cases_lt (length bytes) 256) [
   | inl below ↦ rw (lt-ltb (length bytes) 256 below) (ap (λ ws. ws ++ byte ∷ []) held)
@@ -191,7 +192,7 @@ breaks_line {m} {kept} {left} {bytes} byte ten s a = record {
 }
 
 -- the line that has begun is the last one
-last_line : (whole : List (List ℕ)) (rest : List ℕ) (kept : Option (List ℕ)) → (kept ≡ Some [] → ⊥) → Holds kept rest → lines_of whole rest ≡ whole ++ rest ∷ []
+last_line : (whole : List (List ℕ)) (rest : List ℕ) (kept : Option (List ℕ)) → (kept ≡ Some [] → ⊥) → IsKeptOf kept rest → lines_of whole rest ≡ whole ++ rest ∷ []
 last_line whole [] None some held = absurd (omega (arith, held))
 last_line whole [] (Some bytes) some held = absurd (some (ap Some (sym held)))
 last_line whole (b ∷ bs) kept some held = refl

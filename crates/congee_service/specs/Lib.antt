@@ -1,3 +1,3 @@
 pub mod Run
 pub mod Serve
-pub mod Session
+pub mod inner

@@ -1,14 +1,14 @@
 //! The engine of `congee run`: command lines in, answer lines out.
 
-ghost use Rattle.std.specs.Prelude.{◌≡◌, ℕ, ◌<◌, false, List, Option, Err, OnOk};
-ghost use Rattle.congee_lines.specs.Watched.{HasFailed, inner_of, calls_left};
-ghost use Rattle.congee_service.specs.Run.{Finished, StopsReading, StopsWriting};
-ghost use Rattle.congee_service.specs.Session.{Runs, TurnsTo};
-ghost use Rattle.congee_service.specs.declared.run.RunError.TheVariants.{Read as ReadFailed, Write as WriteFailed, Oom};
+ghost use Rattle.std.specs.Prelude.{◌≡◌, ℕ, ◌<◌, List, Option, Err, OnOk};
+ghost use Rattle.congee_lines.specs.Watched.{HasFailed, calls_left};
+ghost use Rattle.congee_service.specs.Run.{EndsRun};
+ghost use Rattle.congee_service.specs.inner.Session.{HasServedInput, TurnsTo};
+ghost use Rattle.congee_service.specs.declared.run.RunError.TheVariants.{Read as ReadFailed, Write as WriteFailed};
 
 use crate::session::Session;
-use congee::{Allocator, Budget, DefaultAllocator};
 use congee_lines::watched::Watched;
+use congee_node_table::allocator::{Allocator, Budget, DefaultAllocator};
 use std::alloc::Global;
 use std::io::{Read, Write};
 
@@ -42,26 +42,7 @@ pub fn run<R: Read, W: Write>(
 ) -> Result<(), RunError>
     requires input { HasFailed input.old → ⊥ }
     requires output { HasFailed output.old → ⊥ }
-
-    // All of the input was read, and the texts of its lines were written, and nothing else.
-    ensures ok { OnOk result (Finished (R.remaining (inner_of input.old)) (R.remaining (inner_of input.new))
-        (W.contents (inner_of output.old)) (W.contents (inner_of output.new))) }
-
-    ensures ok_input { OnOk result (HasFailed input.new → ⊥) }
-    ensures ok_output { OnOk result (HasFailed output.new → ⊥) }
-
-    // The texts of the whole lines before the fault were written, and nothing else.
-    ensures read { result ≡ Err ReadFailed → StopsReading (R.remaining (inner_of input.old)) (R.remaining (inner_of input.new))
-        (W.contents (inner_of output.old)) (W.contents (inner_of output.new)) }
-    ensures read_failed { result ≡ Err ReadFailed → HasFailed input.new }
-
-    // A beginning of the texts was written.
-    ensures write { result ≡ Err WriteFailed → StopsWriting (R.remaining (inner_of input.old)) (R.remaining (inner_of input.new))
-        (W.contents (inner_of output.old)) (W.contents (inner_of output.new)) }
-    ensures write_failed { result ≡ Err WriteFailed → HasFailed output.new }
-
-    // Nothing was read or written.
-    ensures oom { result ≡ Err Oom → (input.new ≡ input.old) × (output.new ≡ output.old) }
+    ensures { EndsRun R.remaining W.contents input.old input.new output.old output.new result }
 {
     match limit {
         None => run_within(alloc, DefaultAllocator {}, input, output),
@@ -78,17 +59,7 @@ fn run_within<R: Read, W: Write, A: Allocator>(
 ) -> Result<(), RunError>
     requires input { HasFailed input.old → ⊥ }
     requires output { HasFailed output.old → ⊥ }
-    ensures ok { OnOk result (Finished (R.remaining (inner_of input.old)) (R.remaining (inner_of input.new))
-        (W.contents (inner_of output.old)) (W.contents (inner_of output.new))) }
-    ensures ok_input { OnOk result (HasFailed input.new → ⊥) }
-    ensures ok_output { OnOk result (HasFailed output.new → ⊥) }
-    ensures read { result ≡ Err ReadFailed → StopsReading (R.remaining (inner_of input.old)) (R.remaining (inner_of input.new))
-        (W.contents (inner_of output.old)) (W.contents (inner_of output.new)) }
-    ensures read_failed { result ≡ Err ReadFailed → HasFailed input.new }
-    ensures write { result ≡ Err WriteFailed → StopsWriting (R.remaining (inner_of input.old)) (R.remaining (inner_of input.new))
-        (W.contents (inner_of output.old)) (W.contents (inner_of output.new)) }
-    ensures write_failed { result ≡ Err WriteFailed → HasFailed output.new }
-    ensures oom { result ≡ Err Oom → (input.new ≡ input.old) × (output.new ≡ output.old) }
+    ensures { EndsRun R.remaining W.contents input.old input.new output.old output.new result }
 {
     let Ok(mut session) = Session::new(alloc, allocator) else {
         return Err(RunError::Oom);
@@ -106,15 +77,15 @@ fn run_within<R: Read, W: Write, A: Allocator>(
     Ok(())
 }
 
-// Writes the answers so far, reads once, and serves what was read. Answers whether the input goes on.
+// Writes the answers so far, reads once, and serves what was read. Returns whether the input goes on.
 fn turn<R: Read, W: Write, A: Allocator>(
     session: &mut Session<A>,
     input: &mut Watched<R>,
     output: &mut Watched<W>,
 ) -> Result<bool, RunError>
     ensures turns { (old_in old_out : Option (List ℕ))
-        → Runs session.old.map.pairs session.old.line session.old.pending old_in (R.remaining (inner_of input.old)) old_out (W.contents (inner_of output.old))
-        → TurnsTo session.new.map.pairs session.new.line session.new.pending old_in (R.remaining (inner_of input.new)) old_out (W.contents (inner_of output.new)) result }
+        → HasServedInput R.remaining W.contents session.old input.old output.old old_in old_out
+        → TurnsTo R.remaining W.contents session.new input.new output.new old_in old_out result }
     ensures fewer { OnOk result (calls_left input.new < calls_left input.old) }
     ensures input { OnOk result (input.new.failed ≡ input.old.failed) }
     ensures output { OnOk result (output.new.failed ≡ output.old.failed) }

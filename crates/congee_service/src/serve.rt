@@ -1,8 +1,9 @@
 //! The program, but for its streams.
 
-ghost use Rattle.std.specs.Prelude.{◌≡◌, ℕ, ◌≤◌, ◌↔◌, ◌⊎◌, Option, IfSome, IfNone, map, string_bytes};
-ghost use Rattle.congee_lines.specs.Watched.{HasFailed, inner_of};
-ghost use Rattle.congee_service.specs.Run.{Finished, StopsReading, StopsWriting};
+ghost use Rattle.std.specs.Prelude.{◌≡◌, ℕ, ◌≤◌, ◌↔◌, ◌⊎◌, Option, Ok, Err, IfSome, IfNone, map, string_bytes};
+ghost use Rattle.congee_lines.specs.Watched.{HasFailed};
+ghost use Rattle.congee_service.specs.Run.{EndsRun};
+ghost use Rattle.congee_service.specs.declared.run.RunError.TheVariants.{Read as ReadError, Write as WriteError};
 ghost use Rattle.congee_service.specs.Serve.{AsksRun};
 
 use crate::run::{RunError, run};
@@ -11,7 +12,7 @@ use congee_lines::watched::Watched;
 use std::alloc::Global;
 use std::io::{Read, Write};
 
-/// Does what the words after the program's name ask for, and answers the exit status. The words are
+/// Does what the words after the program's name ask for, and returns the exit status. The words are
 /// judged before anything is read. What went wrong is told on `errors` in one line; whether that
 /// works changes nothing.
 ///
@@ -29,18 +30,18 @@ pub fn serve<R: Read, W: Write, E: Write>(
     ensures statuses { result ≤ 3 }
 
     // The input was served whole.
-    ensures done { result ≡ 0 → Finished (R.remaining (inner_of input.old)) (R.remaining (inner_of input.new))
-        (W.contents (inner_of output.old)) (W.contents (inner_of output.new)) }
+    ensures done { result ≡ 0
+        → EndsRun R.remaining W.contents input.old input.new output.old output.new (Ok tt) }
 
     // A read failed, and the answers to the whole lines before were written. Or a write failed.
     ensures streams { result ≡ 1
-        → (HasFailed input.new × StopsReading (R.remaining (inner_of input.old)) (R.remaining (inner_of input.new))
-        (W.contents (inner_of output.old)) (W.contents (inner_of output.new)))
-        ⊎ (HasFailed output.new × StopsWriting (R.remaining (inner_of input.old)) (R.remaining (inner_of input.new))
-        (W.contents (inner_of output.old)) (W.contents (inner_of output.new))) }
+        → EndsRun R.remaining W.contents input.old input.new output.old output.new (Err ReadError)
+        ⊎ EndsRun R.remaining W.contents input.old input.new output.old output.new
+        (Err WriteError) }
 
     // The words are others.
-    ensures usage { (result ≡ 2) ↔ ((limit : Option ℕ) → AsksRun (map string_bytes words.now) limit → ⊥) }
+    ensures usage { (result ≡ 2)
+        ↔ ((limit : Option ℕ) → AsksRun (map string_bytes words.now) limit → ⊥) }
     ensures usage_untouched { result ≡ 2 → (input.new ≡ input.old) × (output.new ≡ output.old) }
 
     // There was no memory to begin.
@@ -57,14 +58,14 @@ pub fn serve<R: Read, W: Write, E: Write>(
     }
 }
 
-/// Tells on `errors` that memory was missing, and answers the exit status for it.
+/// Tells on `errors` that memory was missing, and returns the exit status for it.
 pub fn tell_no_memory<E: Write>(errors: &mut E) -> u8
     ensures { result ≡ 3 }
 {
     tell(errors, 3, b"congee: Allocator is out of memory!\n")
 }
 
-// Writes the text, if that works, and answers the status.
+// Writes the text, if that works, and returns the status.
 fn tell<E: Write>(errors: &mut E, status: u8, text: &[u8]) -> u8
     ensures { result ≡ status }
 {
@@ -75,7 +76,8 @@ fn tell<E: Write>(errors: &mut E, status: u8, text: &[u8]) -> u8
 // The limit of the run that the words ask for, or no limit. `None` where they ask for something else.
 fn limit_of(words: &[String]) -> Option<Option<u64>>
     ensures some { IfSome result (AsksRun (map string_bytes words.now)) }
-    ensures none { IfNone result ((limit : Option ℕ) → AsksRun (map string_bytes words.now) limit → ⊥) }
+    ensures none { IfNone result ((limit : Option ℕ)
+        → AsksRun (map string_bytes words.now) limit → ⊥) }
 {
     match words {
         [name] if name.as_str() == "run" => Some(None),

@@ -3,13 +3,15 @@
 ghost use Rattle.std.specs.Prelude.{◌≡◌, ℕ, ◌++◌, ◌∷◌, List, [], Option, Some, IfOk, OnOk, OnErr};
 ghost use Rattle.congee_lines.specs.Watched.{HasFailed, inner_of};
 ghost use Rattle.congee_service.specs.Run.{TellsAll, TellsPart};
-ghost use Rattle.congee_service.specs.Session.{Serves, ServesAll, TakesLine, StopsAnswer, BreaksWithin, Breaks};
+ghost use Rattle.congee_service.specs.inner.Session.{Serves, HasServed, ServesAll, TakesLine, StopsAnswer, BreaksWithin, Breaks};
 
-use congee::{Allocator, Congee, OOMError};
 use congee_commands::reply::{put_reply, reply_to};
+use congee_faces::typed_congee::Congee;
 use congee_lines::line::Line;
 use congee_lines::pending::Pending;
 use congee_lines::watched::{Failed, Watched};
+use congee_map::error::OOMError;
+use congee_node_table::allocator::Allocator;
 use std::alloc::Global;
 use std::io::Write;
 
@@ -26,7 +28,8 @@ impl<A: Allocator> Session<A> {
     /// Takes the memory of the empty map. A line takes none but what the map takes for it, and for what its
     /// answer lists.
     pub fn new(alloc: Global, allocator: A) -> Result<Self, OOMError>
-        ensures { IfOk result (λ s. (o : Option (List ℕ)) → Serves s.map.pairs s.line s.pending o o []) }
+        ensures { IfOk result (λ s. (o : Option (List ℕ))
+            → Serves s.map.pairs s.line s.pending o o []) }
     {
         Ok(Session {
             alloc,
@@ -38,9 +41,12 @@ impl<A: Allocator> Session<A> {
 
     /// Writes the answers so far.
     pub fn send_to<W: Write>(&mut self, output: &mut Watched<W>) -> Result<(), Failed>
-        ensures ok { (old : Option (List ℕ)) (bytes : List ℕ) → Serves self.old.map.pairs self.old.line self.old.pending old (W.contents (inner_of output.old)) bytes
-            → OnOk result (Serves self.new.map.pairs self.new.line [] old (W.contents (inner_of output.new)) bytes × (self.new.pending ≡ [])) }
-        ensures err { (old : Option (List ℕ)) (bytes : List ℕ) → Serves self.old.map.pairs self.old.line self.old.pending old (W.contents (inner_of output.old)) bytes
+        ensures ok { (old : Option (List ℕ)) (bytes : List ℕ)
+            → HasServed W.contents self.old output.old old bytes
+            → OnOk result (Serves self.new.map.pairs self.new.line []
+            old (W.contents (inner_of output.new)) bytes × (self.new.pending ≡ [])) }
+        ensures err { (old : Option (List ℕ)) (bytes : List ℕ)
+            → HasServed W.contents self.old output.old old bytes
             → OnErr result (Breaks bytes old (W.contents (inner_of output.new))) }
         ensures kept { OnOk result (output.new.failed ≡ output.old.failed) }
         ensures failed { OnErr result (HasFailed output.new) }
@@ -54,9 +60,11 @@ impl<A: Allocator> Session<A> {
         bytes: &[u8],
         output: &mut Watched<W>,
     ) -> Result<(), Failed>
-        ensures ok { (old : Option (List ℕ)) (before : List ℕ) → Serves self.old.map.pairs self.old.line self.old.pending old (W.contents (inner_of output.old)) before
-            → OnOk result (Serves self.new.map.pairs self.new.line self.new.pending old (W.contents (inner_of output.new)) (before ++ bytes.now)) }
-        ensures err { (old : Option (List ℕ)) (before : List ℕ) → Serves self.old.map.pairs self.old.line self.old.pending old (W.contents (inner_of output.old)) before
+        ensures ok { (old : Option (List ℕ)) (before : List ℕ)
+            → HasServed W.contents self.old output.old old before
+            → OnOk result (HasServed W.contents self.new output.new old (before ++ bytes.now)) }
+        ensures err { (old : Option (List ℕ)) (before : List ℕ)
+            → HasServed W.contents self.old output.old old before
             → OnErr result (BreaksWithin before bytes.now old (W.contents (inner_of output.new))) }
         ensures kept { OnOk result (output.new.failed ≡ output.old.failed) }
         ensures failed { OnErr result (HasFailed output.new) }
@@ -68,9 +76,11 @@ impl<A: Allocator> Session<A> {
     }
 
     fn take<W: Write>(&mut self, byte: u8, output: &mut Watched<W>) -> Result<(), Failed>
-        ensures ok { (old : Option (List ℕ)) (before : List ℕ) → Serves self.old.map.pairs self.old.line self.old.pending old (W.contents (inner_of output.old)) before
-            → OnOk result (Serves self.new.map.pairs self.new.line self.new.pending old (W.contents (inner_of output.new)) (before ++ byte ∷ [])) }
-        ensures err { (old : Option (List ℕ)) (before : List ℕ) → Serves self.old.map.pairs self.old.line self.old.pending old (W.contents (inner_of output.old)) before
+        ensures ok { (old : Option (List ℕ)) (before : List ℕ)
+            → HasServed W.contents self.old output.old old before
+            → OnOk result (HasServed W.contents self.new output.new old (before ++ byte ∷ [])) }
+        ensures err { (old : Option (List ℕ)) (before : List ℕ)
+            → HasServed W.contents self.old output.old old before
             → OnErr result (Breaks (before ++ byte ∷ []) old (W.contents (inner_of output.new))) }
         ensures kept { OnOk result (output.new.failed ≡ output.old.failed) }
         ensures failed { OnErr result (HasFailed output.new) }
@@ -84,10 +94,12 @@ impl<A: Allocator> Session<A> {
 
     // Answers the line that has begun.
     fn answer<W: Write>(&mut self, output: &mut Watched<W>) -> Result<(), Failed>
-        ensures ok { OnOk result (TakesLine self.old.map.pairs self.new.map.pairs self.old.line self.old.pending self.new.pending
+        ensures ok { OnOk result (TakesLine self.old.map.pairs self.new.map.pairs
+            self.old.line self.old.pending self.new.pending
             (W.contents (inner_of output.old)) (W.contents (inner_of output.new))) }
         ensures line { OnOk result (self.new.line ≡ Some []) }
-        ensures err { OnErr result (StopsAnswer self.old.map.pairs self.old.line self.old.pending (W.contents (inner_of output.old)) (W.contents (inner_of output.new))) }
+        ensures err { OnErr result (StopsAnswer self.old.map.pairs self.old.line self.old.pending
+            (W.contents (inner_of output.old)) (W.contents (inner_of output.new))) }
         ensures kept { OnOk result (output.new.failed ≡ output.old.failed) }
         ensures failed { OnErr result (HasFailed output.new) }
     {
@@ -99,9 +111,12 @@ impl<A: Allocator> Session<A> {
 
     // Answers the last line, if it has no line feed.
     fn answer_last<W: Write>(&mut self, output: &mut Watched<W>) -> Result<(), Failed>
-        ensures ok { (old : Option (List ℕ)) (bytes : List ℕ) → Serves self.old.map.pairs self.old.line self.old.pending old (W.contents (inner_of output.old)) bytes
-            → OnOk result (ServesAll self.new.pending old (W.contents (inner_of output.new)) bytes) }
-        ensures err { (old : Option (List ℕ)) (bytes : List ℕ) → Serves self.old.map.pairs self.old.line self.old.pending old (W.contents (inner_of output.old)) bytes
+        ensures ok { (old : Option (List ℕ)) (bytes : List ℕ)
+            → HasServed W.contents self.old output.old old bytes
+            → OnOk result
+            (ServesAll self.new.pending old (W.contents (inner_of output.new)) bytes) }
+        ensures err { (old : Option (List ℕ)) (bytes : List ℕ)
+            → HasServed W.contents self.old output.old old bytes
             → OnErr result (TellsPart bytes old (W.contents (inner_of output.new))) }
         ensures kept { OnOk result (output.new.failed ≡ output.old.failed) }
         ensures failed { OnErr result (HasFailed output.new) }
@@ -114,9 +129,11 @@ impl<A: Allocator> Session<A> {
 
     /// Answers the last line, if it has no line feed, and writes all that is left.
     pub fn finish<W: Write>(&mut self, output: &mut Watched<W>) -> Result<(), Failed>
-        ensures ok { (old : Option (List ℕ)) (bytes : List ℕ) → Serves self.old.map.pairs self.old.line self.old.pending old (W.contents (inner_of output.old)) bytes
+        ensures ok { (old : Option (List ℕ)) (bytes : List ℕ)
+            → HasServed W.contents self.old output.old old bytes
             → OnOk result (TellsAll bytes old (W.contents (inner_of output.new))) }
-        ensures err { (old : Option (List ℕ)) (bytes : List ℕ) → Serves self.old.map.pairs self.old.line self.old.pending old (W.contents (inner_of output.old)) bytes
+        ensures err { (old : Option (List ℕ)) (bytes : List ℕ)
+            → HasServed W.contents self.old output.old old bytes
             → OnErr result (TellsPart bytes old (W.contents (inner_of output.new))) }
         ensures kept { OnOk result (output.new.failed ≡ output.old.failed) }
         ensures failed { OnErr result (HasFailed output.new) }

@@ -7,12 +7,12 @@ use Rattle.congee_base.specs.declared.base_node.NodeType.{NodeType}
 use Rattle.congee_stats.specs.declared.levels.LevelStats.{LevelStats}
 use Rattle.congee_stats.specs.declared.NodeStats.{NodeStats}
 use Rattle.congee_stats.specs.Fractions.{hundredths, with_two_decimals, right_aligned}
-use Rattle.congee_stats.specs.LevelCounts.{nodes_of, entries_of}
-use Rattle.congee_stats.specs.StatsText.{form_text, form_name, form_room, level_lines_from, level_line, four_lines, stats_text, shown, all_nodes, all_entries, all_bytes, filled, room}
+use Rattle.congee_stats.specs.LevelCounts.{node_count, entry_count}
+use Rattle.congee_stats.specs.StatsText.{form_text, form_name, form_capacity, level_lines_from, level_line, four_lines, stats_text, shown_levels, all_nodes, all_entries, all_bytes, load, full_load}
 use Rattle.congee_stats.proofs.NumberTextLaws.{spaces_eight}
 
 pub form_text_is : (form : NodeType) (level : LevelStats) (name : List ℕ) (nodes room entries h : ℕ)
-    → name ≡ form_name form → nodes ≡ nodes_of form level → room ≡ form_room form → entries ≡ entries_of form level
+    → name ≡ form_name form → nodes ≡ node_count form level → room ≡ form_capacity form → entries ≡ entry_count form level
     → h ≡ hundredths entries (room * nodes)
     → name ++ (codes ": " ++ (styled_decimal (format_spec 32 0 0 8 18446744073709551615) nodes ++ (codes ", " ++ right_aligned 8 (with_two_decimals h))))
     ≡ form_text form level
@@ -39,8 +39,8 @@ level_lines_take_more xs k d inside =
 
 -- the level lines and the last four
 pub stats_text_is : (stats : NodeStats) (levels : List LevelStats) (k nodes entries full all bytes pairs : ℕ)
-    → levels ≡ shown stats.levels → length levels ≤ k
-    → nodes ≡ all_nodes levels → entries ≡ all_entries levels → full ≡ filled levels → all ≡ room levels
+    → levels ≡ shown_levels stats.levels → length levels ≤ k
+    → nodes ≡ all_nodes levels → entries ≡ all_entries levels → full ≡ load levels → all ≡ full_load levels
     → bytes ≡ all_bytes levels → pairs ≡ stats.kv_pairs
     → level_lines_from 0 (take k levels) ++ four_lines nodes entries full all bytes pairs ≡ stats_text stats
 stats_text_is stats levels k nodes entries full all bytes pairs are done n e f r b p =

@@ -9,17 +9,18 @@ use mathlib.Core.Logic.{⊎_elim}
 use Rattle.congee_base.specs.declared.base_node.NodeType.{NodeType}
 use Rattle.congee_base.specs.declared.base_node.NodeType.TheVariants.{N4, N16, N48, N256}
 use Rattle.congee_stats.specs.declared.levels.LevelStats.{LevelStats}
-use Rattle.congee_stats.specs.LevelCounts.{empty_level, with_node, capped}
-use Rattle.congee_stats.specs.Stats.{Visit, visit, is_at, count_at, entries_at, level_of, depth, counts_at, IsTally}
+use Rattle.congee_stats.specs.LevelCounts.{empty_level, capped}
+use Rattle.congee_stats.specs.inner.OneMore.{with_node}
+use Rattle.congee_stats.specs.Stats.{Visit, visit, is_at, count_at, entries_at, level_of, height, counts_at, IsTally}
 
 -- a cap on a part of a sum
 capped-capped : (a n : ℕ) → capped (capped a + n) ≡ capped (a + n)
 capped-capped a n = omega arith
 
-depth-more : (nodes : List Visit) (level : ℕ) (form : NodeType) (entries : ℕ)
-    → depth (nodes ++ visit level form entries ∷ []) ≡ max (level + 1) (depth nodes)
-depth-more [] level form entries = refl
-depth-more (node ∷ nodes) level form entries = omega (arith, depth-more nodes level form entries)
+height-more : (nodes : List Visit) (level : ℕ) (form : NodeType) (entries : ℕ)
+    → height (nodes ++ visit level form entries ∷ []) ≡ max (level + 1) (height nodes)
+height-more [] level form entries = refl
+height-more (node ∷ nodes) level form entries = omega (arith, height-more nodes level form entries)
 
 count_at-more : (level : ℕ) (form : NodeType) (nodes : List Visit) (node : Visit)
     → count_at level (nodes ++ node ∷ []) form ≡ count_at level nodes form + cond (is_at level form node) 1 0
@@ -78,7 +79,7 @@ tally_more nodes old new level form e tally is =
     record {
       as_deep =
           let set : length new ≡ length reached = ap length is ∙ length-set reached level row in
-          let more = depth-more nodes level form e in
+          let more = height-more nodes level form e in
           let as_deep = tally.as_deep in
           omega arith;
       sums = λ k. ⊎_elim

@@ -9,8 +9,8 @@ use Rattle.congee_base.specs.declared.base_node.NodeType.{NodeType}
 use Rattle.congee_base.specs.declared.base_node.NodeType.TheVariants.{N4, N16, N48, N256}
 use Rattle.congee_stats.specs.declared.levels.LevelStats.{LevelStats}
 use Rattle.congee_base.specs.Form.{form_place}
-use Rattle.congee_stats.specs.LevelCounts.{nodes_of, entries_of, empty_level, capped}
-use Rattle.congee_stats.specs.Stats.{Visit, is_at, count_at, entries_at, level_of, depth, IsTally}
+use Rattle.congee_stats.specs.LevelCounts.{node_count, entry_count, empty_level, capped}
+use Rattle.congee_stats.specs.Stats.{Visit, is_at, count_at, entries_at, level_of, height, IsTally}
 use Rattle.congee_stats.specs.StatsText.{all_nodes, all_entries}
 use Rattle.congee_stats.proofs.TallyLaws.{counts_at-is}
 
@@ -82,7 +82,7 @@ parts-cons w level n nodes =
     omega arith
 
 -- every node is on one level and of one form
-all_parts : (w : Visit → ℕ) (nodes : List Visit) (deep : ℕ) → depth nodes ≤ deep → sum_from 0 deep (λ k. parts w k nodes) ≡ sum_by w nodes
+all_parts : (w : Visit → ℕ) (nodes : List Visit) (deep : ℕ) → height nodes ≤ deep → sum_from 0 deep (λ k. parts w k nodes) ≡ sum_by w nodes
 all_parts w [] deep fits = sum_from-zero 0 deep
 all_parts w (n ∷ nodes) deep fits =
     sum_from-same 0 deep (λ k. parts w k (n ∷ nodes)) (λ k. (if n.level == k then w n else 0) + parts w k nodes) (λ k. parts-cons w k n nodes)
@@ -115,7 +115,7 @@ sums-of-parts w f nodes levels tally is =
     let one : (form : NodeType) → sum_by (f form) levels ≡ sum_from 0 deep (λ k. part w k nodes form)
     = λ form. levels-sum (f form) (λ j. level_of j nodes) 0 levels (λ j. here j ∙ ap (λ (k : ℕ). level_of k nodes) (sym (zero-add j)))
     ∙ sum_from-same 0 deep (λ k. f form (level_of k nodes)) (λ k. part w k nodes form) (λ k. is form k) in
-    let fits : depth nodes ≤ deep = let as_deep = tally.as_deep in omega arith in
+    let fits : height nodes ≤ deep = let as_deep = tally.as_deep in omega arith in
     let a = one N4 in
     let b = one N16 in
     let c = one N48 in
@@ -142,9 +142,9 @@ entries-is nodes form level few = let most = part-le (λ n. n.entries) level nod
 pub nodes_complete : (nodes : List Visit) (levels : List LevelStats) → IsTally nodes levels → length nodes < 2 ^ 64
     → all_nodes levels ≡ length nodes
 nodes_complete nodes levels tally few =
-    sums-of-parts (λ n. 1) nodes_of nodes levels tally nodes_at ∙ sum_by-ones nodes
+    sums-of-parts (λ n. 1) node_count nodes levels tally nodes_at ∙ sum_by-ones nodes
   where
-    nodes_at : (form : NodeType) (level : ℕ) → nodes_of form (level_of level nodes) ≡ part (λ n. 1) level nodes form
+    nodes_at : (form : NodeType) (level : ℕ) → node_count form (level_of level nodes) ≡ part (λ n. 1) level nodes form
     nodes_at N4 level = count-is nodes N4 level few
     nodes_at N16 level = count-is nodes N16 level few
     nodes_at N48 level = count-is nodes N48 level few
@@ -153,9 +153,9 @@ nodes_complete nodes levels tally few =
 pub entries_complete : (nodes : List Visit) (levels : List LevelStats) → IsTally nodes levels → sum_by (λ n. n.entries) nodes < 2 ^ 64
     → all_entries levels ≡ sum_by (λ n. n.entries) nodes
 entries_complete nodes levels tally few =
-    sums-of-parts (λ n. n.entries) entries_of nodes levels tally entries_here
+    sums-of-parts (λ n. n.entries) entry_count nodes levels tally entries_here
   where
-    entries_here : (form : NodeType) (level : ℕ) → entries_of form (level_of level nodes) ≡ part (λ n. n.entries) level nodes form
+    entries_here : (form : NodeType) (level : ℕ) → entry_count form (level_of level nodes) ≡ part (λ n. n.entries) level nodes form
     entries_here N4 level = entries-is nodes N4 level few
     entries_here N16 level = entries-is nodes N16 level few
     entries_here N48 level = entries-is nodes N48 level few

@@ -1,15 +1,15 @@
 -- The counts of one level.
-use Rattle.std.specs.Prelude.{ℕ, ◌+◌, min, [], ◌∷◌, slice_index, slice_set}
+use Rattle.std.specs.Prelude.{ℕ, min, [], ◌∷◌, slice_index}
 use Rattle.congee_base.specs.Form.{form_place}
 use Rattle.congee_base.specs.declared.base_node.NodeType.{NodeType}
 use Rattle.congee_stats.specs.declared.levels.LevelStats.{LevelStats}
 
 -- how many nodes of a form a level has, and how many entries are in them: the forms in the order of their sizes
-abbrev pub nodes_of : NodeType → LevelStats → ℕ
-nodes_of form level = slice_index level.nodes (form_place form)
+abbrev pub node_count : NodeType → LevelStats → ℕ
+node_count form level = slice_index level.nodes (form_place form)
 
-abbrev pub entries_of : NodeType → LevelStats → ℕ
-entries_of form level = slice_index level.entries (form_place form)
+abbrev pub entry_count : NodeType → LevelStats → ℕ
+entry_count form level = slice_index level.entries (form_place form)
 
 -- a level without nodes
 abbrev pub empty_level : LevelStats
@@ -18,10 +18,3 @@ empty_level = record { nodes = 0 ∷ 0 ∷ 0 ∷ 0 ∷ []; entries = 0 ∷ 0 ∷
 -- a count stays at the greatest `u64` where more would stand
 abbrev pub capped : ℕ → ℕ
 capped n = min n 18446744073709551615
-
--- one more node on a level
-abbrev pub with_node : NodeType → ℕ → LevelStats → LevelStats
-with_node form entries level = record {
-  nodes = slice_set level.nodes (form_place form) (capped (nodes_of form level + 1));
-  entries = slice_set level.entries (form_place form) (capped (entries_of form level + entries));
-}

@@ -3,3 +3,4 @@ pub mod LevelCounts
 pub mod Stats
 pub mod StatsText
 pub mod Visits
+pub mod inner

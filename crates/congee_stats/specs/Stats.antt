@@ -24,7 +24,8 @@ unfoldable pub count_at : ℕ → List Visit → NodeType → ℕ
 count_at level nodes form = count_by (is_at level form) nodes
 
 unfoldable pub entries_at : ℕ → List Visit → NodeType → ℕ
-entries_at level nodes form = sum_by (λ node. if is_at level form node then node.entries else 0) nodes
+entries_at level nodes form =
+    sum_by (λ node. if is_at level form node then node.entries else 0) nodes
 
 -- the forms in the order in which a level has their counts
 abbrev pub forms : List NodeType
@@ -38,9 +39,9 @@ level_of level nodes = record {
 }
 
 -- how many levels the nodes take up
-abbrev pub depth : List Visit → ℕ
-depth [] = 0
-depth (node ∷ nodes) = max (node.level + 1) (depth nodes)
+abbrev pub height : List Visit → ℕ
+height [] = 0
+height (node ∷ nodes) = max (node.level + 1) (height nodes)
 
 -- the counts at a level; those of a level past the end are 0
 abbrev pub counts_at : ℕ → List LevelStats → LevelStats
@@ -48,5 +49,5 @@ counts_at level levels = unwrap_or (slice_get levels level) empty_level
 
 -- the levels are those of the nodes, with their sums
 pub record IsTally (nodes : List Visit) (levels : List LevelStats) : Type 0 where
-  pub as_deep : length levels ≡ depth nodes
+  pub as_deep : length levels ≡ height nodes
   pub sums : (level : ℕ) → counts_at level levels ≡ level_of level nodes

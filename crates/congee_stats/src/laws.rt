@@ -22,19 +22,23 @@ pub fn tally_is_complete()
     ensures nodes { (nodes : List Visit) (levels : List LevelStats) → IsTally nodes levels
         → length nodes < 2 ^ 64 → all_nodes levels ≡ length nodes }
     ensures entries { (nodes : List Visit) (levels : List LevelStats) → IsTally nodes levels
-        → sum_by (λ n. n.entries) nodes < 2 ^ 64 → all_entries levels ≡ sum_by (λ n. n.entries) nodes }
+        → sum_by (λ n. n.entries) nodes < 2 ^ 64
+        → all_entries levels ≡ sum_by (λ n. n.entries) nodes }
 {}
 
 /// A node whose bytes go on to all others of a list is on the first level of that part of a tree, and they are a level
 /// deeper.
 pub fn levels_below_a_node()
-    ensures { (above : ℕ) (n : NodeInfo) (nodes : List NodeInfo) → Begins n.edge n.prefix → AreUnder (λ _. Unit {0}) n.prefix nodes
-        → visits_below above (n ∷ nodes) ≡ visit above n.form n.count ∷ visits_below (above + 1) nodes }
+    ensures { (above : ℕ) (n : NodeInfo) (nodes : List NodeInfo)
+        → Begins n.edge n.prefix → AreUnder (λ _. Unit {0}) n.prefix nodes
+        → visits_below above (n ∷ nodes)
+        ≡ visit above n.form n.count ∷ visits_below (above + 1) nodes }
 {}
 
 /// The nodes under a byte and those under greater bytes have their levels apart from each other.
 pub fn levels_side_by_side()
-    ensures { (above : ℕ) (p : List ℕ) (b : ℕ) (xs ys : List NodeInfo) → AllBegin (p ++ b ∷ []) xs → AreUnder (λ c. b < c) p ys
+    ensures { (above : ℕ) (p : List ℕ) (b : ℕ) (xs ys : List NodeInfo)
+        → AllBegin (p ++ b ∷ []) xs → AreUnder (λ c. b < c) p ys
         → visits_below above (xs ++ ys) ≡ visits_below above xs ++ visits_below above ys }
 {}
 
@@ -42,5 +46,6 @@ pub fn levels_side_by_side()
 /// are the pairs plus the nodes minus 1.
 pub fn entries_of_a_tree<P>()
     ensures { (s : Table P) (levels slot : ℕ) (q : List ℕ) → IsTree s levels q slot
-        → sum_by (λ n. n.count) (nodes_at s levels q slot) + 1 ≡ length (pairs_at s levels slot) + length (nodes_at s levels q slot) }
+        → sum_by (λ n. n.count) (nodes_at s levels q slot) + 1
+        ≡ length (pairs_at s levels slot) + length (nodes_at s levels q slot) }
 {}

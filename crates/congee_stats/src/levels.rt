@@ -2,7 +2,8 @@
 
 ghost use Rattle.std.specs.Prelude.{◌≡◌, ◌+◌, ◌-◌, ◌<◌, ◌++◌, length, replicate, OnOk, OnErr, slice_set};
 ghost use Rattle.congee_base.specs.Form.{form_place};
-ghost use Rattle.congee_stats.specs.LevelCounts.{nodes_of, entries_of, empty_level, with_node};
+ghost use Rattle.congee_stats.specs.LevelCounts.{node_count, entry_count, empty_level};
+ghost use Rattle.congee_stats.specs.inner.OneMore.{with_node};
 ghost use Rattle.congee_stats.specs.Stats.{counts_at};
 
 use congee_base::base_node::NodeType;
@@ -53,15 +54,15 @@ impl LevelStats {
     }
 
     // How many nodes of the form there are.
-    pub(crate) fn nodes_of(&self, form: NodeType) -> u64
-        ensures { result ≡ nodes_of form self.now }
+    pub(crate) fn node_count(&self, form: NodeType) -> u64
+        ensures { result ≡ node_count form self.now }
     {
         self.nodes[place(form)]
     }
 
     // How many entries are in the nodes of the form.
-    pub(crate) fn entries_of(&self, form: NodeType) -> u64
-        ensures { result ≡ entries_of form self.now }
+    pub(crate) fn entry_count(&self, form: NodeType) -> u64
+        ensures { result ≡ entry_count form self.now }
     {
         self.entries[place(form)]
     }
@@ -107,7 +108,8 @@ impl Levels {
 
     // Adds levels without nodes until this one is there.
     pub(crate) fn reach(&mut self, level: usize) -> Result<(), OOMError>
-        ensures ok { OnOk result (self.new ≡ self.old ++ replicate (level + 1 - length self.old) empty_level) }
+        ensures ok { OnOk result
+            (self.new ≡ self.old ++ replicate (level + 1 - length self.old) empty_level) }
         ensures err { OnErr result (self.new ≡ self.old) }
     {
         if level < self.items.len() {
@@ -123,7 +125,8 @@ impl Levels {
     // Counts one node on a level of the list.
     pub(crate) fn add_at(&mut self, level: usize, form: NodeType, entries: u64)
         requires { level < length self.old }
-        ensures { self.new ≡ slice_set self.old level (with_node form entries (counts_at level self.old)) }
+        ensures { self.new
+            ≡ slice_set self.old level (with_node form entries (counts_at level self.old)) }
     {
         self.items[level].add(form, entries);
     }

@@ -2,7 +2,7 @@
 
 ghost use Rattle.std.specs.Prelude.{◌≡◌, ◌≤◌, ◌<◌, ◌^◌, ◌*◌, length, Some};
 ghost use Rattle.congee_base.specs.Form.{stated_size};
-ghost use Rattle.congee_stats.specs.StatsText.{form_name, form_room, form_text, level_line, stats_text, nodes_in, entries_in, all_nodes, all_entries, all_bytes, filled, room, four_lines, too_low, shown as shown_levels};
+ghost use Rattle.congee_stats.specs.StatsText.{form_name, form_capacity, form_text, level_line, stats_text, node_sum, entry_sum, all_nodes, all_entries, all_bytes, load, full_load, four_lines, too_low, shown_levels};
 
 use crate::NodeStats;
 use crate::fraction::{AlignedDecimals, Decimals, hundredths};
@@ -24,8 +24,8 @@ fn name(form: NodeType) -> &'static str
 }
 
 // How many children a node of the form has room for.
-fn room(form: NodeType) -> u128
-    ensures { result ≡ form_room form }
+fn capacity(form: NodeType) -> u128
+    ensures { result ≡ form_capacity form }
 {
     match form {
         NodeType::N4 => 4,
@@ -47,10 +47,10 @@ impl fmt::Display for FormText<'_> {
 
     fn fmt<W: fmt::Write>(&self, f: &mut fmt::Formatter<W>) -> fmt::Result {
         let name = name(self.form);
-        let nodes = self.level.nodes_of(self.form);
-        let room = room(self.form) * nodes as u128;
+        let nodes = self.level.node_count(self.form);
+        let capacity = capacity(self.form) * nodes as u128;
         let factor = AlignedDecimals {
-            hundredths: hundredths(self.level.entries_of(self.form) as u128, room),
+            hundredths: hundredths(self.level.entry_count(self.form) as u128, capacity),
         };
         write!(f, "{name}: {nodes:8}, {factor}")
     }
@@ -93,28 +93,28 @@ impl fmt::Display for LevelLine<'_> {
     }
 }
 
-// How many nodes of a form the levels have.
-fn nodes_in(levels: &[LevelStats], form: NodeType) -> u128
+// How many nodes of a form are on these levels.
+fn node_sum(levels: &[LevelStats], form: NodeType) -> u128
     requires few { length levels.now ≤ 8 }
-    ensures value { result ≡ nodes_in form levels.now }
+    ensures value { result ≡ node_sum form levels.now }
     ensures bound { result < 2 ^ 67 }
 {
     let mut total: u128 = 0;
     for level in levels {
-        total += level.nodes_of(form) as u128;
+        total += level.node_count(form) as u128;
     }
     total
 }
 
-// How many entries are in them.
-fn entries_in(levels: &[LevelStats], form: NodeType) -> u128
+// How many entries are in those nodes.
+fn entry_sum(levels: &[LevelStats], form: NodeType) -> u128
     requires few { length levels.now ≤ 8 }
-    ensures value { result ≡ entries_in form levels.now }
+    ensures value { result ≡ entry_sum form levels.now }
     ensures bound { result < 2 ^ 67 }
 {
     let mut total: u128 = 0;
     for level in levels {
-        total += level.entries_of(form) as u128;
+        total += level.entry_count(form) as u128;
     }
     total
 }
@@ -124,12 +124,12 @@ fn entries_in(levels: &[LevelStats], form: NodeType) -> u128
 struct Totals {
     nodes: u128,
     entries: u128,
-    filled: u128,
-    room: u128,
+    load: u128,
+    full_load: u128,
     bytes: u128,
     pairs: u64,
-    ghost filled_small: { filled < 2 ^ 100 },
-    ghost room_small: { room < 2 ^ 100 },
+    ghost load_small: { load < 2 ^ 100 },
+    ghost full_load_small: { full_load < 2 ^ 100 },
 }
 
 impl Totals {
@@ -138,25 +138,25 @@ impl Totals {
         requires few { length levels.now ≤ 8 }
         ensures nodes { result.nodes ≡ all_nodes levels.now }
         ensures entries { result.entries ≡ all_entries levels.now }
-        ensures filled { result.filled ≡ filled levels.now }
-        ensures room { result.room ≡ room levels.now }
+        ensures load { result.load ≡ load levels.now }
+        ensures full_load { result.full_load ≡ full_load levels.now }
         ensures bytes { result.bytes ≡ all_bytes levels.now }
         ensures pairs { result.pairs ≡ pairs }
     {
-        let n4 = nodes_in(levels, NodeType::N4);
-        let n16 = nodes_in(levels, NodeType::N16);
-        let n48 = nodes_in(levels, NodeType::N48);
-        let n256 = nodes_in(levels, NodeType::N256);
-        let e4 = entries_in(levels, NodeType::N4);
-        let e16 = entries_in(levels, NodeType::N16);
-        let e48 = entries_in(levels, NodeType::N48);
-        let e256 = entries_in(levels, NodeType::N256);
+        let n4 = node_sum(levels, NodeType::N4);
+        let n16 = node_sum(levels, NodeType::N16);
+        let n48 = node_sum(levels, NodeType::N48);
+        let n256 = node_sum(levels, NodeType::N256);
+        let e4 = entry_sum(levels, NodeType::N4);
+        let e16 = entry_sum(levels, NodeType::N16);
+        let e48 = entry_sum(levels, NodeType::N48);
+        let e256 = entry_sum(levels, NodeType::N256);
         let nodes = n4 + n16 + n48 + n256;
         Totals {
             nodes,
             entries: e4 + e16 + e48 + e256,
-            filled: 192 * e4 + 48 * e16 + 16 * e48 + 3 * e256,
-            room: 768 * nodes,
+            load: 192 * e4 + 48 * e16 + 16 * e48 + 3 * e256,
+            full_load: 768 * nodes,
             bytes: size(NodeType::N4) * n4
                 + size(NodeType::N16) * n16
                 + size(NodeType::N48) * n48
@@ -173,23 +173,27 @@ fn size(form: NodeType) -> u128
 }
 
 // What follows a load factor below one half.
-fn remark(filled: u128, room: u128) -> &'static str
-    requires { filled < 2 ^ 100 }
-    ensures { result.now ≡ too_low filled room }
+fn remark(load: u128, full_load: u128) -> &'static str
+    requires { load < 2 ^ 100 }
+    ensures { result.now ≡ too_low load full_load }
 {
-    if 2 * filled < room { " (too low)" } else { "" }
+    if 2 * load < full_load {
+        " (too low)"
+    } else {
+        ""
+    }
 }
 
 impl fmt::Display for Totals {
-    ghost output = { λ x. Some (four_lines x.nodes x.entries x.filled x.room x.bytes x.pairs) };
+    ghost output = { λ x. Some (four_lines x.nodes x.entries x.load x.full_load x.bytes x.pairs) };
 
     fn fmt<W: fmt::Write>(&self, f: &mut fmt::Formatter<W>) -> fmt::Result {
         let nodes = self.nodes;
         let entries = self.entries;
         let factor = Decimals {
-            hundredths: hundredths(self.filled, self.room),
+            hundredths: hundredths(self.load, self.full_load),
         };
-        let remark = remark(self.filled, self.room);
+        let remark = remark(self.load, self.full_load);
         let megabytes = self.bytes / MEGABYTE;
         let pairs = self.pairs;
         write!(f, "Overall node count: {nodes}, entry count: {entries}\n")?;
@@ -199,8 +203,8 @@ impl fmt::Display for Totals {
     }
 }
 
-// The levels that are shown: eight at most.
-fn shown(levels: &[LevelStats]) -> &[LevelStats]
+// The levels that the text shows: eight at most.
+fn shown_levels(levels: &[LevelStats]) -> &[LevelStats]
     ensures value { result.now ≡ shown_levels levels.now }
     ensures few { length result.now ≤ 8 }
 {
@@ -215,7 +219,7 @@ impl fmt::Display for NodeStats {
     ghost output = { λ x. Some (stats_text x) };
 
     fn fmt<W: fmt::Write>(&self, f: &mut fmt::Formatter<W>) -> fmt::Result {
-        let levels = shown(self.levels.as_slice());
+        let levels = shown_levels(self.levels.as_slice());
         for (number, level) in levels.iter().enumerate() {
             let line = LevelLine { number, level };
             write!(f, "{line}")?;

@@ -4,7 +4,7 @@ ghost use Rattle.std.specs.Prelude.{◌≡◌, ◌+◌, ◌*◌, ◌<◌, ◌^�
 ghost use Rattle.congee_node_table.specs.Charge.{add_charge, Covers};
 ghost use Rattle.congee_base.specs.Form.{Fits, next_form, stated_size};
 ghost use Rattle.congee_base.specs.declared.base_node.NodeType.{NodeType};
-ghost use Rattle.congee_supply.specs.Supply.{count, with_form, with_gone, no_forms, size_of, Alike, Charges, Stays, Trades};
+ghost use Rattle.congee_supply.specs.inner.Supply.{count, with_form, with_gone, no_forms, size_of, Alike, Charges, ChargesNothing, Trades};
 
 use congee_base::base_node::{NodeSize, NodeType};
 use congee_map::error::OOMError;
@@ -71,7 +71,7 @@ pub struct Supply<A: Allocator> {
 
 impl<A: Allocator> Model for Supply<A> {
     ghost use Rattle.congee_node_table.specs.Charge.{Covers};
-    ghost use Rattle.congee_supply.specs.Supply.{SupplyView, supply_code, size_of};
+    ghost use Rattle.congee_supply.specs.inner.Supply.{SupplyView, supply_code, size_of};
 
     ghost Value = { SupplyView A };
 
@@ -152,7 +152,7 @@ impl<A: Allocator> Supply<A> {
         requires { count N256 self.old.forms < 2 ^ 63 }
         ensures node { IfOk result (λ n. n ≡ record { form = N256; prefix = []; children = [] }) }
         ensures ok { OnOk result (Charges A.charge self.old N256 self.new) }
-        ensures err { OnErr result (Stays A.charge self.old self.new) }
+        ensures err { OnErr result (ChargesNothing A.charge self.old self.new) }
     {
         self.charge(NodeType::N256)?;
         let root = TreeNode::root(self.alloc);
@@ -166,9 +166,10 @@ impl<A: Allocator> Supply<A> {
     pub fn inner<P: Drop>(&mut self, prefix: &[u8]) -> Result<TreeNode<P>, OOMError>
         requires prefix { length prefix.now < 7 }
         requires room { count N4 self.old.forms < 2 ^ 63 }
-        ensures node { IfOk result (λ n. n ≡ record { form = N4; prefix = prefix.now; children = [] }) }
+        ensures node { IfOk result (λ n.
+            n ≡ record { form = N4; prefix = prefix.now; children = [] }) }
         ensures ok { OnOk result (Charges A.charge self.old N4 self.new) }
-        ensures err { OnErr result (Stays A.charge self.old self.new) }
+        ensures err { OnErr result (ChargesNothing A.charge self.old self.new) }
     {
         self.charge(NodeType::N4)?;
         let node = TreeNode::inner(self.alloc, prefix);
@@ -182,9 +183,10 @@ impl<A: Allocator> Supply<A> {
     pub fn leaf<P: Drop>(&mut self, prefix: &[u8]) -> Result<TreeNode<P>, OOMError>
         requires prefix { length prefix.now ≡ 7 }
         requires room { count N4 self.old.forms < 2 ^ 63 }
-        ensures node { IfOk result (λ n. n ≡ record { form = N4; prefix = prefix.now; children = [] }) }
+        ensures node { IfOk result (λ n.
+            n ≡ record { form = N4; prefix = prefix.now; children = [] }) }
         ensures ok { OnOk result (Charges A.charge self.old N4 self.new) }
-        ensures err { OnErr result (Stays A.charge self.old self.new) }
+        ensures err { OnErr result (ChargesNothing A.charge self.old self.new) }
     {
         self.charge(NodeType::N4)?;
         let leaf = TreeNode::leaf(self.alloc, prefix);
@@ -201,7 +203,8 @@ impl<A: Allocator> Supply<A> {
         ensures ok { OnOk result (node.new ≡ record node.old { form = next_form node.old.form }) }
         ensures fits { OnOk result (Fits node.new.form (length node.new.children + 1)) }
         ensures err { OnErr result (node.new ≡ node.old) }
-        ensures forms { OnOk result (Trades self.old.forms node.old.form (next_form node.old.form) self.new.forms) }
+        ensures forms { OnOk result
+            (Trades self.old.forms node.old.form (next_form node.old.form) self.new.forms) }
         ensures same { OnErr result (self.new.forms ≡ self.old.forms) }
         ensures alike { Alike A.charge self.old self.new }
     {

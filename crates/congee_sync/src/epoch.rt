@@ -39,7 +39,11 @@ impl Model for Pins {
 
     ghost Value = { PinsView };
 
-    ghost view = { λ p. record { seats = p.seats.entries; slots = p.slots.entries; count = p.count } };
+    ghost view = { λ p. record {
+      seats = p.seats.entries;
+      slots = p.slots.entries;
+      count = p.count;
+    } };
 }
 
 // Whether the call of a seat, if one is in flight, started after the retirement with this stamp.
@@ -82,7 +86,8 @@ impl Pins {
     fn put_seat(&mut self, id: u64, seat: Seat) -> Result<(), OOMError>
         ensures ok { OnOk result (ChangesSeat self.old self.new id seat.seated seat.pin) }
         ensures err { OnErr result (self.new ≡ self.old) }
-        ensures granted { (is_seated self.old id ≡ true) ⊎ IsSome (pin_of self.old id) → IsOk result }
+        ensures granted { (is_seated self.old id ≡ true) ⊎ IsSome (pin_of self.old id)
+            → IsOk result }
     {
         if seat.seated || seat.pin.is_some() {
             self.seats.insert(id, seat)?;
@@ -149,7 +154,8 @@ impl Pins {
     /// changes.
     pub fn enter(&mut self, id: u64) -> Result<(), OOMError>
         requires { pin_of self.old id ≡ None }
-        ensures ok { OnOk result (ChangesSeat self.old self.new id (is_seated self.old id) (Some self.old.count)) }
+        ensures ok { OnOk result
+            (ChangesSeat self.old self.new id (is_seated self.old id) (Some self.old.count)) }
         ensures err { OnErr result (self.new ≡ self.old) }
         ensures granted { is_seated self.old id ≡ true → IsOk result }
     {
@@ -180,7 +186,8 @@ impl Pins {
 
     /// Keeps room for a slot, so that its node can be retired. A refusal changes nothing.
     pub fn admit(&mut self, slot: usize) -> Result<(), OOMError>
-        ensures ok { OnOk result (ChangesLife self.old self.new slot (Some (admitted (life_of self.old slot)))) }
+        ensures ok { OnOk result
+            (ChangesLife self.old self.new slot (Some (admitted (life_of self.old slot)))) }
         ensures count { self.new.count ≡ self.old.count }
         ensures err { OnErr result (self.new ≡ self.old) }
     {
@@ -195,7 +202,8 @@ impl Pins {
     /// Marks the node of an admitted slot as retired, with the count of now, and counts it. Takes no memory.
     pub fn retire(&mut self, slot: usize)
         requires { life_of self.old slot ≡ Some Life.InUse }
-        ensures life { ChangesLife self.old self.new slot (Some (Life.Retired (stamp_at self.old.count))) }
+        ensures life { ChangesLife self.old self.new slot
+            (Some (Life.Retired (stamp_at self.old.count))) }
         ensures count { self.new.count ≡ count_after self.old.count }
     {
         let stamp = if self.count < u64::MAX {

@@ -1,4 +1,4 @@
-//! What calls of the protocol meet by: the lock word of a node, and the pins that keep retired nodes.
+//! What calls of the protocol share: the lock word of a node, and the pins that keep retired nodes.
 #![tactic(auto)]
 
 pub mod epoch;

@@ -8,7 +8,7 @@ use Rattle.std.proofs.lemmas.Bool.{lt-ltb, le-ltb, eq-eqb, ne_eqb, cases_order}
 use Rattle.std.proofs.lemmas.Bool.Decides.{nat_tests}
 use Rattle.congee_map.specs.Map.{Pairs, lookup, put, without, Rises}
 use Rattle.congee_map.proofs.MapLaws.{lookup-below}
-use Rattle.congee_tree.specs.Place.{IsAt, IsGapFor}
+use Rattle.congee_tree.specs.inner.Place.{IsAt, IsGapFor}
 
 module _ {P : Type 0} where
   -- a key at a place is in the range

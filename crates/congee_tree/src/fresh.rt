@@ -1,11 +1,12 @@
 //! The point calls of the tree by numbers, each with a fresh count of the nodes that it reads.
 
-ghost use Rattle.std.specs.Prelude.{◌≡◌, ℕ, ◌<◌, Option, Some, None, IfOk, OnOk, OnErr, option_copied};
+ghost use Rattle.std.specs.Prelude.{◌≡◌, ◌<◌, Option, None, IfOk, OnOk, OnErr, option_copied};
 ghost use Rattle.std.specs.Fn.{TakesAt, CalledAt};
+ghost use Rattle.std.specs.Option.{ForSome};
 ghost use Rattle.congee_changes.specs.Closure.{TakesOption, CalledAtOption};
 ghost use Rattle.congee_map.specs.Map.{lookup, put, without, with_answer, IsMap};
 ghost use Rattle.congee_map.specs.Refusal.{NeedsNode};
-ghost use Rattle.congee_supply.specs.Charge.{charge_of, MovesAlike};
+ghost use Rattle.congee_tree.specs.Tree.{ChargesForNodes, StoresSame};
 
 use crate::tree::RawCongee;
 use congee_map::error::OOMError;
@@ -29,7 +30,7 @@ pub fn get<'a, L: Ledger, P: Payload, A: Allocator>(
     tree.get(&key.to_be_bytes(), &mut reads)
 }
 
-/// Sets the payload at the key, and answers the one that stood there.
+/// Sets the payload at the key, and returns the one that stood there.
 pub fn insert<L: Ledger, P: Payload, A: Allocator>(
     tree: &mut RawCongee<P, A>,
     key: u64,
@@ -41,15 +42,15 @@ pub fn insert<L: Ledger, P: Payload, A: Allocator>(
     requires some { 0 < blank.parts }
     ensures before { IfOk result (λ before. before ≡ lookup tree.old.pairs key) }
     ensures ok { OnOk result (tree.new.pairs ≡ put tree.old.pairs key payload) }
-    ensures err { OnErr result ((tree.new.pairs ≡ tree.old.pairs) × (tree.new.nodes ≡ tree.old.nodes)) }
-    ensures charge { MovesAlike (A.charge tree.old.budget) (charge_of tree.old.nodes) (A.charge tree.new.budget) (charge_of tree.new.nodes) }
+    ensures err { OnErr result (StoresSame tree.old tree.new) }
+    ensures charge { ChargesForNodes A.charge tree.old tree.new }
     ensures refused { OnErr result (NeedsNode tree.old.pairs key) }
 {
     let mut reads = Reads::<L>::new(blank);
     tree.insert(&key.to_be_bytes(), payload, &mut reads)
 }
 
-/// Takes the key out, and answers the payload that stood there.
+/// Takes the key out, and returns the payload that stood there.
 pub fn remove<L: Ledger, P: Payload, A: Allocator>(
     tree: &mut RawCongee<P, A>,
     key: u64,
@@ -60,13 +61,13 @@ pub fn remove<L: Ledger, P: Payload, A: Allocator>(
     requires some { 0 < blank.parts }
     ensures before { result ≡ lookup tree.old.pairs key }
     ensures pairs { tree.new.pairs ≡ without tree.old.pairs key }
-    ensures charge { MovesAlike (A.charge tree.old.budget) (charge_of tree.old.nodes) (A.charge tree.new.budget) (charge_of tree.new.nodes) }
+    ensures charge { ChargesForNodes A.charge tree.old tree.new }
 {
     let mut reads = Reads::<L>::new(blank);
     tree.remove(&key.to_be_bytes(), &mut reads)
 }
 
-/// Where the key is present, calls the closure, once, and stores what it answers; its `None` takes the key out. Answers
+/// Where the key is present, calls the closure, once, and stores what it returns; its `None` takes the key out. Returns
 /// the payload that stood there.
 pub fn compute_if_present<L: Ledger, P: Payload, A: Allocator, F: FnMut(&P) -> Option<P>>(
     tree: &mut RawCongee<P, A>,
@@ -77,19 +78,20 @@ pub fn compute_if_present<L: Ledger, P: Payload, A: Allocator, F: FnMut(&P) -> O
     requires name { blank.name ≡ L.name }
     requires parts { blank.parts ≡ L.parts }
     requires some { 0 < blank.parts }
-    requires call { (standing : P) → lookup tree.old.pairs key ≡ Some standing → TakesAt F.FnMut f.old standing }
+    requires call { ForSome (lookup tree.old.pairs key) (TakesAt F.FnMut f.old) }
     ensures ordered { IsMap tree.old.pairs }
     ensures before { result ≡ lookup tree.old.pairs key }
     ensures absent { lookup tree.old.pairs key ≡ None → (tree.new ≡ tree.old) × (f.new ≡ f.old) }
-    ensures present { (standing : P) → lookup tree.old.pairs key ≡ Some standing
-        → (answer : Option P) × CalledAt F.FnMut f.old standing answer f.new × (tree.new.pairs ≡ with_answer tree.old.pairs key answer) }
-    ensures charge { MovesAlike (A.charge tree.old.budget) (charge_of tree.old.nodes) (A.charge tree.new.budget) (charge_of tree.new.nodes) }
+    ensures present { ForSome (lookup tree.old.pairs key) (λ standing. (answer : Option P)
+        × CalledAt F.FnMut f.old standing answer f.new
+        × (tree.new.pairs ≡ with_answer tree.old.pairs key answer)) }
+    ensures charge { ChargesForNodes A.charge tree.old tree.new }
 {
     let mut reads = Reads::<L>::new(blank);
     tree.compute_if_present(&key.to_be_bytes(), f, &mut reads)
 }
 
-/// Calls the closure once, with the payload at the key if there is one, and stores what it answers. Answers the payload
+/// Calls the closure once, with the payload at the key if there is one, and stores what it returns. Returns the payload
 /// that stood there.
 pub fn compute_or_insert<L: Ledger, P: Payload, A: Allocator, F: FnMut(Option<&P>) -> P>(
     tree: &mut RawCongee<P, A>,
@@ -102,10 +104,11 @@ pub fn compute_or_insert<L: Ledger, P: Payload, A: Allocator, F: FnMut(Option<&P
     requires some { 0 < blank.parts }
     requires call { TakesOption F.FnMut f.old (lookup tree.old.pairs key) }
     ensures before { IfOk result (λ before. before ≡ lookup tree.old.pairs key) }
-    ensures ok { OnOk result ((answer : P) × CalledAtOption F.FnMut f.old (lookup tree.old.pairs key) answer f.new
+    ensures ok { OnOk result ((answer : P)
+        × CalledAtOption F.FnMut f.old (lookup tree.old.pairs key) answer f.new
         × (tree.new.pairs ≡ put tree.old.pairs key answer)) }
-    ensures err { OnErr result ((tree.new.pairs ≡ tree.old.pairs) × (tree.new.nodes ≡ tree.old.nodes)) }
-    ensures charge { MovesAlike (A.charge tree.old.budget) (charge_of tree.old.nodes) (A.charge tree.new.budget) (charge_of tree.new.nodes) }
+    ensures err { OnErr result (StoresSame tree.old tree.new) }
+    ensures charge { ChargesForNodes A.charge tree.old tree.new }
     ensures not_called { OnErr result (f.new ≡ f.old) }
     ensures refused { OnErr result (NeedsNode tree.old.pairs key) }
 {

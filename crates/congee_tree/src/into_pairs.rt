@@ -1,15 +1,15 @@
 //! The pairs of a tree, taken out of it one by one.
 
-ghost use Rattle.std.specs.Prelude.{◌≡◌, ℕ, ◌<◌};
+ghost use Rattle.std.specs.Prelude.{◌≡◌, ◌<◌};
 ghost use Rattle.std.specs.Iterator.{YieldsFirst, item_count};
-ghost use Rattle.congee_map.specs.Map.{lookup, without, IsMap};
+ghost use Rattle.congee_map.specs.Map.{IsMap};
 
+use crate::fresh::remove;
 use crate::tree::RawCongee;
 use congee_map::payload::Payload;
 use congee_node_table::allocator::Allocator;
-use congee_paths::reads::Reads;
 use std::marker::{Brand, Model};
-use std::sync::ledger::{Blank, Ledger};
+use std::sync::ledger::Blank;
 
 /// The pairs of a tree by value, keys ascending, as numbers. Contracts see the list of those that are left.
 ///
@@ -57,26 +57,10 @@ impl<P: Payload, A: Allocator> Iterator for IntoPairs<P, A> {
         let Some(key) = self.tree.key_from(self.from) else {
             return None;
         };
-        let Some(payload) = take::<P, A, Brand>(&mut self.tree, key, Blank::new(1)) else {
+        let Some(payload) = remove::<Brand, P, A>(&mut self.tree, key, Blank::new(1)) else {
             unreachable!()
         };
         self.from = key.saturating_add(1);
         Some((key, payload))
     }
-}
-
-// Takes the pair at the key out, with a count of reads that nobody looks at.
-fn take<P: Payload, A: Allocator, L: Ledger>(
-    tree: &mut RawCongee<P, A>,
-    key: u64,
-    blank: Blank,
-) -> Option<P>
-    requires name { blank.name ≡ L.name }
-    requires parts { blank.parts ≡ L.parts }
-    requires some { 0 < blank.parts }
-    ensures before { result ≡ lookup tree.old.pairs key }
-    ensures pairs { tree.new.pairs ≡ without tree.old.pairs key }
-{
-    let mut reads = Reads::<L>::new(blank);
-    tree.remove(&key.to_be_bytes(), &mut reads)
 }

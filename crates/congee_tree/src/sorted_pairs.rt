@@ -5,7 +5,7 @@
 ghost use Rattle.std.specs.Prelude.{◌≡◌, ℕ, [], length, IfOk, IfErr, OnOk, OnErr, option_copied};
 ghost use Rattle.congee_map.specs.Map.{lookup, put, without, IsMap};
 ghost use Rattle.congee_map.specs.Refusal.{IsNew};
-ghost use Rattle.congee_tree.specs.Place.{IsAt, IsGapFor};
+ghost use Rattle.congee_tree.specs.inner.Place.{IsAt, IsGapFor};
 
 use congee_map::error::OOMError;
 use std::alloc::Global;
@@ -59,7 +59,7 @@ impl<P: Drop> SortedPairs<P> {
         &self.pairs
     }
 
-    /// Sets the value at the key, and answers the one that stood there. A refusal changes nothing, and only a new key
+    /// Sets the value at the key, and returns the one that stood there. A refusal changes nothing, and only a new key
     /// is refused, where the vector finds no memory to grow.
     pub fn insert(&mut self, key: u64, value: P) -> Result<Option<P>, OOMError>
         ensures before { IfOk result (λ before. before ≡ lookup self.old key) }
@@ -79,7 +79,7 @@ impl<P: Drop> SortedPairs<P> {
         }
     }
 
-    /// Takes out the pair at the key, and answers its value. Takes no memory.
+    /// Takes out the pair at the key, and returns its value. Takes no memory.
     pub fn remove(&mut self, key: u64) -> Option<P>
         ensures before { result ≡ lookup self.old key }
         ensures pairs { self.new ≡ without self.old key }

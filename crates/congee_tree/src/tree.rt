@@ -4,11 +4,12 @@
 //! from the root down to it. Under seven bytes stand payloads, under fewer nodes. The root has no prefix, and the form that
 //! never grows.
 
-ghost use Rattle.std.specs.Prelude.{◌≡◌, ℕ, ◌+◌, ◌≤◌, ◌<◌, ◌^◌, ◌↔◌, [], ◌∷◌, length, Option, Some, None, IfOk, OnOk, OnErr, IsTrue, option_copied};
+ghost use Rattle.std.specs.Prelude.{◌≡◌, ◌+◌, ◌≤◌, ◌<◌, ◌^◌, ◌↔◌, [], ◌∷◌, length, Option, Some, None, IfOk, OnOk, OnErr, IsTrue, option_copied};
 ghost use Rattle.std.specs.Fn.{TakesAt, CalledAt};
+ghost use Rattle.std.specs.Option.{ForSome};
 ghost use Rattle.std.specs.Int.{from_be_bytes, w64};
 ghost use Rattle.congee_changes.specs.Closure.{TakesOption, CalledAtOption};
-ghost use Rattle.congee_map.specs.Map.{lookup, put, without, with_answer, IsMap};
+ghost use Rattle.congee_map.specs.Map.{put, without, with_answer, IsMap};
 ghost use Rattle.congee_map.specs.Refusal.{NeedsNode};
 ghost use Rattle.congee_node_table.specs.Shape.{Reshapes};
 ghost use Rattle.congee_changes.specs.Reduce.{Reduces, Recomputes};
@@ -17,8 +18,9 @@ ghost use Rattle.congee_stats.specs.Stats.{IsTally};
 ghost use Rattle.congee_stats.specs.StatsText.{all_nodes, all_entries};
 ghost use Rattle.congee_stats.specs.Visits.{visits_below};
 ghost use Rattle.congee_node_table.specs.Charge.{add_charge};
-ghost use Rattle.congee_supply.specs.Charge.{charge_of, MovesAlike};
+ghost use Rattle.congee_supply.specs.Charge.{charge_of};
 ghost use Rattle.congee_paths.specs.Path.{on_path};
+ghost use Rattle.congee_tree.specs.Tree.{payload_at, ChargesForNodes, StoresSame};
 
 use crate::into_pairs::IntoPairs;
 use congee_changes::computation::{Computed, compute_if_present};
@@ -56,19 +58,25 @@ pub struct RawCongee<P: Payload, A: Allocator> {
 }
 
 impl<P: Payload, A: Allocator> Model for RawCongee<P, A> {
-    ghost use Rattle.std.specs.Prelude.{◌≡◌, [], length};
-    ghost use Rattle.congee_changes.specs.Tree.{Tree, tree_code};
-    ghost use Rattle.congee_node_table.specs.Table.{IsTree, pairs_at, nodes_at};
-    ghost use Rattle.congee_supply.specs.Supply.{IsCounted};
-    ghost use Rattle.congee_paths.specs.Way.{depth, HasRoot};
+    ghost use Rattle.std.specs.Prelude.{◌≡◌, length};
+    ghost use Rattle.congee_tree.specs.Tree.{Tree, tree_code};
+    ghost use Rattle.congee_supply.specs.inner.Supply.{IsCounted};
+    ghost use Rattle.congee_paths.specs.inner.Root.{HasRoot, HasTree, tree_pairs, tree_nodes};
 
     ghost Value = { Tree P A };
 
     ghost coded = { tree_code P.code A.code };
 
-    ghost view = { λ t. record { pairs = pairs_at t.nodes.slots depth t.root; nodes = nodes_at t.nodes.slots depth [] t.root; budget = t.supply.budget } };
+    ghost view = { λ t. record {
+      pairs = tree_pairs t.nodes.slots t.root;
+      nodes = tree_nodes t.nodes.slots t.root;
+      budget = t.supply.budget;
+    } };
 
-    ghost invariant = { λ t. IsTree t.nodes.slots depth [] t.root × HasRoot t.nodes.slots t.root × (t.count ≡ length (pairs_at t.nodes.slots depth t.root)) × IsCounted t.supply.forms (nodes_at t.nodes.slots depth [] t.root) };
+    ghost invariant = { λ t. HasTree t.nodes.slots t.root
+        × HasRoot t.nodes.slots t.root
+        × (t.count ≡ length (tree_pairs t.nodes.slots t.root))
+        × IsCounted t.supply.forms (tree_nodes t.nodes.slots t.root) };
 }
 
 impl<P: Payload, A: Allocator> RawCongee<P, A> {
@@ -78,8 +86,10 @@ impl<P: Payload, A: Allocator> RawCongee<P, A> {
     /// An empty tree, or `OOMError` where the budget or the machine has no memory for its root.
     pub fn new(alloc: Global, budget: A) -> Result<Self, OOMError>
         ensures pairs { IfOk result (λ tree. tree.pairs ≡ []) }
-        ensures nodes { IfOk result (λ tree. tree.nodes ≡ record { edge = []; prefix = []; form = N256; count = 0 } ∷ []) }
-        ensures charge { IfOk result (λ tree. A.charge tree.budget ≡ add_charge (A.charge budget) (charge_of tree.nodes)) }
+        ensures nodes { IfOk result (λ tree.
+            tree.nodes ≡ record { edge = []; prefix = []; form = N256; count = 0 } ∷ []) }
+        ensures charge { IfOk result (λ tree.
+            A.charge tree.budget ≡ add_charge (A.charge budget) (charge_of tree.nodes)) }
     {
         let mut nodes = Slab::new(alloc);
         nodes.reserve(1)?;
@@ -93,29 +103,31 @@ impl<P: Payload, A: Allocator> RawCongee<P, A> {
         })
     }
 
-    /// The payload at the key. Takes no memory. `reads` goes up by one for each node on the key's way.
+    /// The payload at the key. Takes no memory. `reads` goes up by one for each node on the key's path.
     pub fn get<L: Ledger>(&self, key: &[u8; 8], reads: &mut Reads<L>) -> Option<&P>
-        ensures value { option_copied result ≡ lookup self.now.pairs (from_be_bytes w64 key.now) }
+        ensures value { option_copied result ≡ payload_at self.now key.now }
         ensures reads { reads.new ≡ reads.old + on_path self.now.nodes key.now }
         ensures few { on_path self.now.nodes key.now ≤ 8 }
     {
         find(&self.nodes, self.root, key, reads)
     }
 
-    /// Sets the payload at the key, and answers the one that stood there. `OOMError` comes only for a new
+    /// Sets the payload at the key, and returns the one that stood there. `OOMError` comes only for a new
     /// key that needs a node of its own or a larger one, where memory is missing for that, and leaves the tree as it was;
-    /// the handed payload is dropped then. `reads` goes up by one for each node on the key's way.
+    /// the handed payload is dropped then. `reads` goes up by one for each node on the key's path.
     pub fn insert<L: Ledger>(
         &mut self,
         key: &[u8; 8],
         payload: P,
         reads: &mut Reads<L>,
     ) -> Result<Option<P>, OOMError>
-        ensures before { IfOk result (λ before. before ≡ lookup self.old.pairs (from_be_bytes w64 key.now)) }
-        ensures ok { OnOk result (self.new.pairs ≡ put self.old.pairs (from_be_bytes w64 key.now) payload) }
-        ensures shape { IfOk result (λ before. Reshapes before self.old.nodes key.now self.new.nodes) }
-        ensures err { OnErr result ((self.new.pairs ≡ self.old.pairs) × (self.new.nodes ≡ self.old.nodes)) }
-        ensures charge { MovesAlike (A.charge self.old.budget) (charge_of self.old.nodes) (A.charge self.new.budget) (charge_of self.new.nodes) }
+        ensures before { IfOk result (λ before. before ≡ payload_at self.old key.now) }
+        ensures ok { OnOk result
+            (self.new.pairs ≡ put self.old.pairs (from_be_bytes w64 key.now) payload) }
+        ensures shape { IfOk result (λ before.
+            Reshapes before self.old.nodes key.now self.new.nodes) }
+        ensures err { OnErr result (StoresSame self.old self.new) }
+        ensures charge { ChargesForNodes A.charge self.old self.new }
         ensures reads { reads.new ≡ reads.old + on_path self.old.nodes key.now }
         ensures few { on_path self.old.nodes key.now ≤ 8 }
         ensures refused { OnErr result (NeedsNode self.old.pairs (from_be_bytes w64 key.now)) }
@@ -134,22 +146,25 @@ impl<P: Payload, A: Allocator> RawCongee<P, A> {
         Ok(before)
     }
 
-    /// Sets what the closure makes of the payload at the key, or of `None`, and answers the payload that stood there. The
+    /// Sets what the closure makes of the payload at the key, or of `None`, and returns the payload that stood there. The
     /// closure is called once, after all memory is taken. `OOMError` comes only for a new key that needs a node of its own
     /// or a larger one, where memory is missing for that; it leaves the tree as it was, and the closure isn't called then.
-    /// `reads` goes up by one for each node on the key's way.
+    /// `reads` goes up by one for each node on the key's path.
     pub fn compute_or_insert<F: FnMut(Option<&P>) -> P, L: Ledger>(
         &mut self,
         key: &[u8; 8],
         f: &mut F,
         reads: &mut Reads<L>,
     ) -> Result<Option<P>, OOMError>
-        requires { TakesOption F.FnMut f.old (lookup self.old.pairs (from_be_bytes w64 key.now)) }
-        ensures before { IfOk result (λ before. before ≡ lookup self.old.pairs (from_be_bytes w64 key.now)) }
-        ensures ok { OnOk result ((answer : P) × CalledAtOption F.FnMut f.old (lookup self.old.pairs (from_be_bytes w64 key.now)) answer f.new × (self.new.pairs ≡ put self.old.pairs (from_be_bytes w64 key.now) answer)) }
-        ensures shape { IfOk result (λ before. Reshapes before self.old.nodes key.now self.new.nodes) }
-        ensures err { OnErr result ((self.new.pairs ≡ self.old.pairs) × (self.new.nodes ≡ self.old.nodes)) }
-        ensures charge { MovesAlike (A.charge self.old.budget) (charge_of self.old.nodes) (A.charge self.new.budget) (charge_of self.new.nodes) }
+        requires { TakesOption F.FnMut f.old (payload_at self.old key.now) }
+        ensures before { IfOk result (λ before. before ≡ payload_at self.old key.now) }
+        ensures ok { OnOk result ((answer : P)
+            × CalledAtOption F.FnMut f.old (payload_at self.old key.now) answer f.new
+            × (self.new.pairs ≡ put self.old.pairs (from_be_bytes w64 key.now) answer)) }
+        ensures shape { IfOk result (λ before.
+            Reshapes before self.old.nodes key.now self.new.nodes) }
+        ensures err { OnErr result (StoresSame self.old self.new) }
+        ensures charge { ChargesForNodes A.charge self.old self.new }
         ensures not_called { OnErr result (f.new ≡ f.old) }
         ensures refused { OnErr result (NeedsNode self.old.pairs (from_be_bytes w64 key.now)) }
         ensures reads { reads.new ≡ reads.old + on_path self.old.nodes key.now }
@@ -162,13 +177,13 @@ impl<P: Payload, A: Allocator> RawCongee<P, A> {
         Ok(old)
     }
 
-    /// Takes out the pair at the key, and answers its payload. Takes no memory. `reads` goes up by one for each node on
-    /// the key's way.
+    /// Takes out the pair at the key, and returns its payload. Takes no memory. `reads` goes up by one for each node on
+    /// the key's path.
     pub fn remove<L: Ledger>(&mut self, key: &[u8; 8], reads: &mut Reads<L>) -> Option<P>
-        ensures before { result ≡ lookup self.old.pairs (from_be_bytes w64 key.now) }
+        ensures before { result ≡ payload_at self.old key.now }
         ensures pairs { self.new.pairs ≡ without self.old.pairs (from_be_bytes w64 key.now) }
         ensures shape { Reduces result self.old.nodes key.now self.new.nodes }
-        ensures charge { MovesAlike (A.charge self.old.budget) (charge_of self.old.nodes) (A.charge self.new.budget) (charge_of self.new.nodes) }
+        ensures charge { ChargesForNodes A.charge self.old self.new }
         ensures reads { reads.new ≡ reads.old + on_path self.old.nodes key.now }
         ensures few { on_path self.old.nodes key.now ≤ 8 }
     {
@@ -179,21 +194,25 @@ impl<P: Payload, A: Allocator> RawCongee<P, A> {
         before
     }
 
-    /// Calls the closure at the payload at the key, where there is one: the payload that it answers takes the place of that
-    /// one, and no payload takes the pair out. Answers the payload that stood there. Takes no memory. `reads` goes up by one
-    /// for each node on the key's way.
+    /// Calls the closure at the payload at the key, where there is one: the payload that it returns takes the place of that
+    /// one, and its `None` takes the pair out. Returns the payload that stood there. Takes no memory. `reads` goes up by one
+    /// for each node on the key's path.
     pub fn compute_if_present<F: FnMut(&P) -> Option<P>, L: Ledger>(
         &mut self,
         key: &[u8; 8],
         f: &mut F,
         reads: &mut Reads<L>,
     ) -> Option<P>
-        requires { (standing : P) → lookup self.old.pairs (from_be_bytes w64 key.now) ≡ Some standing → TakesAt F.FnMut f.old standing }
+        requires { ForSome (payload_at self.old key.now) (TakesAt F.FnMut f.old) }
         ensures ordered { IsMap self.old.pairs }
-        ensures before { result ≡ lookup self.old.pairs (from_be_bytes w64 key.now) }
-        ensures absent { lookup self.old.pairs (from_be_bytes w64 key.now) ≡ None → (self.new ≡ self.old) × (f.new ≡ f.old) }
-        ensures present { (standing : P) → lookup self.old.pairs (from_be_bytes w64 key.now) ≡ Some standing → (answer : Option P) × CalledAt F.FnMut f.old standing answer f.new × (self.new.pairs ≡ with_answer self.old.pairs (from_be_bytes w64 key.now) answer) × Recomputes answer self.old.nodes key.now self.new.nodes }
-        ensures charge { MovesAlike (A.charge self.old.budget) (charge_of self.old.nodes) (A.charge self.new.budget) (charge_of self.new.nodes) }
+        ensures before { result ≡ payload_at self.old key.now }
+        ensures absent { payload_at self.old key.now ≡ None
+            → (self.new ≡ self.old) × (f.new ≡ f.old) }
+        ensures present { ForSome (payload_at self.old key.now) (λ standing. (answer : Option P)
+            × CalledAt F.FnMut f.old standing answer f.new
+            × (self.new.pairs ≡ with_answer self.old.pairs (from_be_bytes w64 key.now) answer)
+            × Recomputes answer self.old.nodes key.now self.new.nodes) }
+        ensures charge { ChargesForNodes A.charge self.old self.new }
         ensures reads { reads.new ≡ reads.old + on_path self.old.nodes key.now }
         ensures few { on_path self.old.nodes key.now ≤ 8 }
     {
@@ -238,9 +257,12 @@ impl<P: Payload, A: Allocator> RawCongee<P, A> {
     /// Each entry of a node is a pair or leads to a node, and none leads to the root: where no count stays at the greatest
     /// `u64`, the entries are the pairs plus the nodes minus 1.
     pub fn stats(&self) -> Result<NodeStats, OOMError>
-        ensures levels { IfOk result (λ stats. IsTally (visits_below 0 self.now.nodes) stats.levels) }
+        ensures levels { IfOk result (λ stats.
+            IsTally (visits_below 0 self.now.nodes) stats.levels) }
         ensures pairs { IfOk result (λ stats. stats.kv_pairs ≡ capped (length self.now.pairs)) }
-        ensures entries { length self.now.pairs + length self.now.nodes < 2 ^ 64 → IfOk result (λ stats. all_entries stats.levels + 1 ≡ stats.kv_pairs + all_nodes stats.levels) }
+        ensures entries { length self.now.pairs + length self.now.nodes < 2 ^ 64
+            → IfOk result (λ stats.
+            all_entries stats.levels + 1 ≡ stats.kv_pairs + all_nodes stats.levels) }
     {
         let mut stats = NodeStats::empty(self.supply.memory());
         count_subtree(&self.nodes, self.root, 0, &mut stats)?;
@@ -254,11 +276,16 @@ impl<A: Allocator> RawCongee<u64, A> {
     ghost use Rattle.std.specs.Int.{from_be_bytes, w64};
     ghost use Rattle.congee_map.specs.Map.{between};
 
-    /// Writes the first pairs with `start <= key < end`, keys ascending, and answers their number: all of them, or as many
+    /// Writes the first pairs with `start <= key < end`, keys ascending, and returns their number: all of them, or as many
     /// as the buffer has places for. The places after them stay as they were. Takes no memory.
     pub fn range<E: RangeEntry>(&self, start: &[u8; 8], end: &[u8; 8], buffer: &mut [E]) -> usize
-        ensures count { result ≡ min (length buffer.old) (length (between self.now.pairs (from_be_bytes w64 start.now) (from_be_bytes w64 end.now))) }
-        ensures written { buffer.new ≡ take result (map (λ pair. E.entry pair.0 pair.1) (between self.now.pairs (from_be_bytes w64 start.now) (from_be_bytes w64 end.now))) ++ drop result buffer.old }
+        ensures count { let first = from_be_bytes w64 start.now in
+            let past = from_be_bytes w64 end.now in
+            result ≡ min (length buffer.old) (length (between self.now.pairs first past)) }
+        ensures written { let first = from_be_bytes w64 start.now in
+            let past = from_be_bytes w64 end.now in
+            let entries = map (λ pair. E.entry pair.0 pair.1) (between self.now.pairs first past) in
+            buffer.new ≡ take result entries ++ drop result buffer.old }
     {
         let first = u64::from_be_bytes(*start);
         let past = u64::from_be_bytes(*end);
@@ -274,7 +301,8 @@ impl<P: Payload, A: Allocator> RawCongee<P, A> {
     /// The keys, ascending, each read back from its number. The one vector is made with room for all of them; `OOMError`
     /// comes where there is no memory for it.
     pub fn keys<K: Word>(&self) -> Result<Vec<K>, OOMError>
-        ensures { IfOk result (λ keys. keys.items ≡ map K.of_number (map (λ pair. pair.0) self.now.pairs)) }
+        ensures { IfOk result (λ keys.
+            keys.items ≡ map K.of_number (map (λ pair. pair.0) self.now.pairs)) }
     {
         let Ok(count) = usize::try_from(self.count) else {
             return Err(OOMError::new());

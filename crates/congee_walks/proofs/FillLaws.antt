@@ -2,7 +2,7 @@
 use Rattle.std.proofs.Common.{◌≡◌, ℕ, suc, ◌+◌, ◌<◌, ◌≤◌, List, [], ◌∷◌, ◌++◌, length, drop, set, get_or, refl, ap, sym, subst, ◌∙◌, arith, append_assoc, length-append, length-take, length-drop, length-set, add-one}
 use Rattle.std.proofs.lemmas.List.{append-nil, take_all, take-append-le}
 use Rattle.std.proofs.Math.Seq.{drop-cons, set-append_seam}
-use Rattle.congee_walks.specs.Scan.{Fills, AddsEntries}
+use Rattle.congee_walks.specs.inner.Scan.{Fills, AddsEntries}
 
 module _ {E : Type 0} where
   same_length : (whole done : List E) (n : ℕ) (b : List E) → Fills whole done n b → length b ≡ length whole

@@ -1,3 +1,4 @@
+pub mod BytesLeft
 pub mod FillLaws
 pub mod ScanLaws
 pub mod VisitedLaws

@@ -1,5 +1,5 @@
 -- A scan of the pairs of a range below a node.
-use Rattle.std.proofs.Common.{◌≡◌, ℕ, zero, suc, ◌+◌, ◌<◌, ◌≤◌, List, [], ◌∷◌, ◌++◌, length, min, map, set, take, drop, Some, None, refl, ap, sym, subst, ◌∙◌, arith, inl, inr, append_assoc, length-append}
+use Rattle.std.proofs.Common.{◌≡◌, ℕ, zero, suc, ◌+◌, ◌<◌, ◌≤◌, List, [], ◌∷◌, ◌++◌, length, min, map, set, take, drop, Some, refl, ap, sym, subst, ◌∙◌, arith, inl, inr, append_assoc, length-append}
 use Rattle.std.proofs.lemmas.List.{map-append, length-map}
 use Rattle.std.proofs.lemmas.List.Elements.{filter-append}
 use Rattle.std.proofs.lemmas.Bool.{lt-ltb, le-ltb, le-leb, lt-leb, cases_lt}
@@ -15,9 +15,10 @@ use Rattle.congee_node_table.proofs.BeginLaws.{after}
 use Rattle.congee_paths.proofs.ShareLaws.{between-below}
 use Rattle.congee_node_table.proofs.ChildrenLaws as laws
 use Rattle.congee_node_table.proofs.TableLaws.{under, same_pairs, all_rise, tree_rises}
-use Rattle.congee_walks.specs.Scan.{IsWindow, Stands, bytes_left, Fills, AddsEntries, found}
-use Rattle.congee_paths.specs.Way.{depth}
-use Rattle.congee_paths.proofs.WayLaws.{depth_is}
+use Rattle.congee_walks.specs.inner.Scan.{IsWindow, HasSubtree, Fills, AddsEntries, entries_of}
+use Rattle.congee_walks.proofs.BytesLeft.{bytes_left}
+use Rattle.congee_paths.specs.inner.Root.{depth}
+use Rattle.congee_paths.proofs.PathEndLaws.{depth_is}
 use Rattle.congee_walks.specs.declared.range_scan.Window.{Window}
 use Rattle.congee_walks.proofs.WindowLaws.{low-leaf}
 use Rattle.congee_walks.proofs.FillLaws.{fills-none, adds-none, adds-join, adds-one, adds-full}
@@ -87,21 +88,21 @@ module _ {P : Type 0} (s : Table P) where
       ]
 
 module _ {P E : Type 0} (entry : ℕ → P → E) (start end : ℕ) where
-  found-append : (xs ys : Pairs P) → found entry start end (xs ++ ys) ≡ found entry start end xs ++ found entry start end ys
-  found-append xs ys = ap (λ es. map (λ e. entry e.0 e.1) es) (filter-append _ xs ys) ∙ map-append (λ e. entry e.0 e.1) (between xs start end) (between ys start end)
+  entries_of-append : (xs ys : Pairs P) → entries_of entry start end (xs ++ ys) ≡ entries_of entry start end xs ++ entries_of entry start end ys
+  entries_of-append xs ys = ap (λ es. map (λ e. entry e.0 e.1) es) (filter-append _ xs ys) ∙ map-append (λ e. entry e.0 e.1) (between xs start end) (between ys start end)
 
-  found-one : (k : ℕ) (v : P) → start ≤ k → k < end → found entry start end ((k, v) ∷ []) ≡ entry k v ∷ []
-  found-one k v from to = rw (le-leb start k from, lt-ltb k end to) refl
+  entries_of-one : (k : ℕ) (v : P) → start ≤ k → k < end → entries_of entry start end ((k, v) ∷ []) ≡ entry k v ∷ []
+  entries_of-one k v from to = rw (le-leb start k from, lt-ltb k end to) refl
 
   module _ (s : Table P) where
     -- what was done of a node, and what is left of it
     pub record Part (less slot : ℕ) (n : TableNode P) (from : ℕ) (old : List E) (first : ℕ) (new : List E) (count : ℕ) : Type 0 where
       pub seen : List E
       pub adds : AddsEntries seen old first new count
-      pub whole : found entry start end (pairs_at s (suc less) slot) ≡ seen ++ found entry start end (pairs_from s less n from)
+      pub whole : entries_of entry start end (pairs_at s (suc less) slot) ≡ seen ++ entries_of entry start end (pairs_from s less n from)
 
     abbrev pub Whole : ℕ → ℕ → List E → ℕ → List E → ℕ → Type 0
-    Whole less slot old first new count = AddsEntries (found entry start end (pairs_at s (suc less) slot)) old first new count
+    Whole less slot old first new count = AddsEntries (entries_of entry start end (pairs_at s (suc less) slot)) old first new count
 
     module _ (less slot : ℕ) (n : TableNode P) (tree : IsSubtree s (suc less) slot) (here : Some n ≡ node_at s slot) where
       pub part_start : (w : Window) (b : List E) (count : ℕ) → IsWindow n.prefix start end w → count ≤ length b → Part less slot n w.from b count b count
@@ -110,11 +111,11 @@ module _ {P E : Type 0} (entry : ℕ → P → E) (start end : ℕ) where
           record {
             seen = [];
             adds = adds-none b count inside;
-            whole = ap (λ es. found entry start end es) a.pairs ∙ ap (λ es. map (λ e. entry e.0 e.1) es) (skip s less n.prefix n.children 0 w.from start end a.sound.ordered a.children is.before);
+            whole = ap (λ es. entries_of entry start end es) a.pairs ∙ ap (λ es. map (λ e. entry e.0 e.1) es) (skip s less n.prefix n.children 0 w.from start end a.sound.ordered a.children is.before);
           }
 
       module _ (from first count : ℕ) (old new : List E) (part : Part less slot n from old first new count) where
-        whole_from : (more : List E) → found entry start end (pairs_from s less n from) ≡ more → AddsEntries more new count new count → Whole less slot old first new count
+        whole_from : (more : List E) → entries_of entry start end (pairs_from s less n from) ≡ more → AddsEntries more new count new count → Whole less slot old first new count
         whole_from more is adds =
             subst (λ t. AddsEntries t old first new count) (sym (part.whole ∙ ap (λ t. part.seen ++ t) is)) (adds-join part.seen more old new new first count count part.adds adds)
 
@@ -141,17 +142,17 @@ module _ {P E : Type 0} (entry : ℕ → P → E) (start end : ℕ) where
               let a = at_node s less slot n tree here in
               (subst (λ t. AreChildren (λ q j. IsTree s less q j) n.prefix t) next (AreChildren-between (λ q j. IsTree s less q j) n.prefix n.children from 256 a.children)).0
 
-          go_on : (b : List E) (k : ℕ) (more : List E) → found entry start end (pairs_under (λ j. pairs_at s less j) n.prefix byte c) ≡ more → AddsEntries more new count b k → Part less slot n (byte + 1) old first b k
+          go_on : (b : List E) (k : ℕ) (more : List E) → entries_of entry start end (pairs_under (λ j. pairs_at s less j) n.prefix byte c) ≡ more → AddsEntries more new count b k → Part less slot n (byte + 1) old first b k
           go_on b k more is adds =
               record {
                 seen = part.seen ++ more;
                 adds = adds-join part.seen more old new b first count k part.adds adds;
                 whole =
                     part.whole ∙ ap (λ t. part.seen ++ t)
-                    (ap (λ es. found entry start end (pairs_of (λ j. pairs_at s less j) n.prefix es)) next
-                    ∙ found-append (pairs_under (λ j. pairs_at s less j) n.prefix byte c) (pairs_from s less n (byte + 1))
-                    ∙ ap (λ t. t ++ found entry start end (pairs_from s less n (byte + 1))) is)
-                    ∙ sym (append_assoc part.seen more (found entry start end (pairs_from s less n (byte + 1))));
+                    (ap (λ es. entries_of entry start end (pairs_of (λ j. pairs_at s less j) n.prefix es)) next
+                    ∙ entries_of-append (pairs_under (λ j. pairs_at s less j) n.prefix byte c) (pairs_from s less n (byte + 1))
+                    ∙ ap (λ t. t ++ entries_of entry start end (pairs_from s less n (byte + 1))) is)
+                    ∙ sym (append_assoc part.seen more (entries_of entry start end (pairs_from s less n (byte + 1))));
               }
 
         pub part_payload : (w : Window) → IsWindow n.prefix start end w → (byte : ℕ) (v : P) → between n.children from 256 ≡ (byte, Payload v) ∷ between n.children (byte + 1) 256
@@ -160,7 +161,7 @@ module _ {P E : Type 0} (entry : ℕ → P → E) (start end : ℕ) where
             let seven : length n.prefix ≡ 7 = is_child byte (Payload v) next in
             let key : low (n.prefix ++ byte ∷ []) ≡ w.first + byte = low-leaf n.prefix byte seven ∙ ap (λ x. x + byte) (sym is.first) in
             go_on byte (Payload v) next _ _ (entry (w.first + byte) v ∷ [])
-            (found-one _ v (is.not_before seven byte not_before) (is.not_past seven byte not_past) ∙ ap (λ k. entry k v ∷ []) key)
+            (entries_of-one _ v (is.not_before seven byte not_before) (is.not_past seven byte not_past) ∙ ap (λ k. entry k v ∷ []) key)
             (adds-one new count (entry (w.first + byte) v) room)
 
         pub part_node : (byte j : ℕ) → between n.children from 256 ≡ (byte, Node j) ∷ between n.children (byte + 1) 256 → (b : List E) (k : ℕ)
@@ -169,7 +170,7 @@ module _ {P E : Type 0} (entry : ℕ → P → E) (start end : ℕ) where
             let child : IsTree s less (n.prefix ++ byte ∷ []) j = is_child byte (Node j) next in
             go_on byte (Node j) next b k _ refl (go less child)
           where
-            go : (l : ℕ) → IsTree s l (n.prefix ++ byte ∷ []) j → AddsEntries (found entry start end (pairs_at s l j)) new count b k
+            go : (l : ℕ) → IsTree s l (n.prefix ++ byte ∷ []) j → AddsEntries (entries_of entry start end (pairs_at s l j)) new count b k
             go zero h = absurd h
             go (suc l) h = adds l (record { above = n.prefix ++ byte ∷ []; tree = h })
 
@@ -188,7 +189,7 @@ module _ {P : Type 0} (s : Table P) where
       let a = at_node s less slot n t here in
       (subst (λ x. AreChildren (λ q j. IsTree s less q j) n.prefix x) next (AreChildren-between (λ q j. IsTree s less q j) n.prefix n.children from 256 a.children)).0
 
-  pub next_inside : (slot : ℕ) (n : TableNode P) (from byte : ℕ) (c : Child P) (rest : List (ℕ × Child P)) → Stands s slot → Some n ≡ node_at s slot → between n.children from 256 ≡ (byte, c) ∷ rest → NextInside n byte c
+  pub next_inside : (slot : ℕ) (n : TableNode P) (from byte : ℕ) (c : Child P) (rest : List (ℕ × Child P)) → HasSubtree s slot → Some n ≡ node_at s slot → between n.children from 256 ≡ (byte, c) ∷ rest → NextInside n byte c
   next_inside slot n from byte c rest h here next = go h.levels h.tree
     where
       go : (levels : ℕ) → IsSubtree s levels slot → NextInside n byte c
@@ -200,7 +201,7 @@ module _ {P : Type 0} (s : Table P) where
 
   -- the node below stands, and its prefix is longer
   pub record GoesDown (slot j : ℕ) : Type 0 where
-    pub stands : Stands s j
+    pub stands : HasSubtree s j
     pub shorter : bytes_left s j < bytes_left s slot
 
   child_left : (levels slot : ℕ) (p : List ℕ) (b : ℕ) → IsTree s levels (p ++ b ∷ []) slot → bytes_left s slot + length p < 8
@@ -209,7 +210,7 @@ module _ {P : Type 0} (s : Table P) where
       let long = simp length-append at (ap length (after h.begins).is) in
       rw h.here (omega (arith, long, h.sound.short))
 
-  pub goes_down : (slot : ℕ) (n : TableNode P) (from byte j : ℕ) (rest : List (ℕ × Child P)) → Stands s slot → Some n ≡ node_at s slot → between n.children from 256 ≡ (byte, Node j) ∷ rest → GoesDown slot j
+  pub goes_down : (slot : ℕ) (n : TableNode P) (from byte j : ℕ) (rest : List (ℕ × Child P)) → HasSubtree s slot → Some n ≡ node_at s slot → between n.children from 256 ≡ (byte, Node j) ∷ rest → GoesDown slot j
   goes_down slot n from byte j rest h here next =
       let a = next_inside slot n from byte (Node j) rest h here next in
       let l = child_left a.levels j n.prefix byte a.child in
@@ -219,31 +220,31 @@ module _ {P : Type 0} (s : Table P) where
       }
 
   -- payloads stand in leaves
-  pub in_leaf : (slot : ℕ) (n : TableNode P) (from byte : ℕ) (v : P) (rest : List (ℕ × Child P)) → Stands s slot → Some n ≡ node_at s slot → between n.children from 256 ≡ (byte, Payload v) ∷ rest → length n.prefix ≡ 7
+  pub in_leaf : (slot : ℕ) (n : TableNode P) (from byte : ℕ) (v : P) (rest : List (ℕ × Child P)) → HasSubtree s slot → Some n ≡ node_at s slot → between n.children from 256 ≡ (byte, Payload v) ∷ rest → length n.prefix ≡ 7
   in_leaf slot n from byte v rest h here next = (next_inside slot n from byte (Payload v) rest h here next).child
 
   -- the whole tree, as a subtree of one level and those below
   pub root_tree : (root : ℕ) → IsTree s depth [] root → IsSubtree s (suc 7) root
   root_tree root h = record { above = []; tree = subst (λ d. IsTree s d [] root) depth_is h }
 
-  pub root_stands : (root : ℕ) → IsTree s depth [] root → Stands s root
+  pub root_stands : (root : ℕ) → IsTree s depth [] root → HasSubtree s root
   root_stands root h = record { levels = 8; tree = root_tree root h }
 
 module _ {P E : Type 0} (entry : ℕ → P → E) (start end : ℕ) (s : Table P) (root : ℕ) (tree : IsTree s depth [] root) where
-  pub range_fills : (old new : List E) (count : ℕ) → ((levels : ℕ) → IsSubtree s (suc levels) root → AddsEntries (found entry start end (pairs_at s (suc levels) root)) old 0 new count) → Fills old (found entry start end (pairs_at s depth root)) count new
-  range_fills old new count adds = subst (λ d. Fills old (found entry start end (pairs_at s d root)) count new) (sym depth_is) ((adds 7 (root_tree s root tree)).fills old [] (fills-none old))
+  pub range_fills : (old new : List E) (count : ℕ) → ((levels : ℕ) → IsSubtree s (suc levels) root → AddsEntries (entries_of entry start end (pairs_at s (suc levels) root)) old 0 new count) → Fills old (entries_of entry start end (pairs_at s depth root)) count new
+  range_fills old new count adds = subst (λ d. Fills old (entries_of entry start end (pairs_at s d root)) count new) (sym depth_is) ((adds 7 (root_tree s root tree)).fills old [] (fills-none old))
 
-  module _ (old new : List E) (count : ℕ) (adds : (levels : ℕ) → IsSubtree s (suc levels) root → AddsEntries (found entry start end (pairs_at s (suc levels) root)) old 0 new count)
+  module _ (old new : List E) (count : ℕ) (adds : (levels : ℕ) → IsSubtree s (suc levels) root → AddsEntries (entries_of entry start end (pairs_at s (suc levels) root)) old 0 new count)
       (m : Pairs P) (is : pairs_at s depth root ≡ m) (first past : ℕ) (from : start ≡ first) (to : end ≡ past) where
-    found_is : found entry start end (pairs_at s depth root) ≡ map (λ pair. entry pair.0 pair.1) (between m first past)
-    found_is = rw (is, from, to) refl
+    entries_are : entries_of entry start end (pairs_at s depth root) ≡ map (λ pair. entry pair.0 pair.1) (between m first past)
+    entries_are = rw (is, from, to) refl
 
     pub range_count : count ≡ min (length old) (length (between m first past))
     range_count =
         let h = range_fills old new count adds in
-        h.counted ∙ ap (λ t. min (length old) (length t)) found_is ∙ ap (λ n. min (length old) n) (length-map (between m first past) (λ pair. entry pair.0 pair.1))
+        h.counted ∙ ap (λ t. min (length old) (length t)) entries_are ∙ ap (λ n. min (length old) n) (length-map (between m first past) (λ pair. entry pair.0 pair.1))
 
     pub range_written : new ≡ take count (map (λ pair. entry pair.0 pair.1) (between m first past)) ++ drop count old
     range_written =
         let h = range_fills old new count adds in
-        h.filled ∙ ap (λ t. take count t ++ drop count old) found_is
+        h.filled ∙ ap (λ t. take count t ++ drop count old) entries_are

@@ -21,9 +21,9 @@ use Rattle.congee_node_table.proofs.NodesLaws.{below, under_begin, all_greater, 
 use Rattle.congee_node_table.proofs.TableLaws.{open_subtree}
 use Rattle.congee_stats.proofs.TallySums.{nodes_complete, entries_complete}
 use Rattle.congee_stats.proofs.VisitLaws.{visits-node, visits-append}
-use Rattle.congee_walks.specs.Count.{AddsVisits, AddsSubtree, visits_under, Counting}
-use Rattle.congee_paths.specs.Way.{depth}
-use Rattle.congee_paths.proofs.WayLaws.{depth_is}
+use Rattle.congee_walks.specs.inner.Count.{AddsVisits, AddsSubtree}
+use Rattle.congee_paths.specs.inner.Root.{depth}
+use Rattle.congee_paths.proofs.PathEndLaws.{depth_is}
 
 adds-more : (xs ys : List Visit) (old mid new : List LevelStats) → AddsVisits xs old mid → AddsVisits ys mid new → AddsVisits (xs ++ ys) old new
 adds-more xs ys old mid new first second nodes tally = subst (λ vs. IsTally vs new) (append_assoc nodes xs ys) (second (nodes ++ xs) (first nodes tally))
@@ -34,6 +34,16 @@ counted_node above n form entries old now same as_many adds = subst (λ k. AddsV
 
 pub byte_fits : {P : Type 0} (n : TableNode P) (from b : ℕ) (c : Child P) (rest : List (ℕ × Child P)) → Rises 0 256 n.children → between n.children from 256 ≡ (b, c) ∷ rest → b < 256
 byte_fits n from b c rest rises found = let r = subst (λ es. Rises 0 256 es) found (Rises-between 0 256 from 256 n.children rises) in r.1
+
+module _ {P : Type 0} (s : Table P) where
+  abbrev pub visits_under : ℕ → List ℕ → List (ℕ × Child P) → List Visit
+  visits_under above p es = visits_below above (nodes_of (λ e j. nodes_at s (depth - above) e j) p es)
+
+  -- a node is counted, and all under its children below a byte
+  pub record Counting (above : ℕ) (n : TableNode P) (from : ℕ) (old now : List LevelStats) : Type 0 where
+    pub done : List Visit
+    pub adds : AddsVisits done old now
+    pub left : done ++ visits_under (above + 1) n.prefix (between n.children from 256) ≡ visit above n.form (length n.children) ∷ visits_under (above + 1) n.prefix n.children
 
 module _ {P : Type 0} (s : Table P) where
   all_under : (levels : ℕ) (p : List ℕ) (es : List (ℕ × Child P)) → AreChildren (λ r j. IsTree s levels r j) p es → AreUnder (λ _. Unit {0}) p (nodes_of (below s levels) p es)

@@ -1,6 +1,6 @@
 -- Walks over all pairs below a node.
 use Rattle.std.proofs.Common.{◌≡◌, ℕ, zero, suc, ◌+◌, ◌^◌, ◌<◌, ◌≤◌, ◌≢◌, List, [], ◌∷◌, ◌++◌, length, map, Option, Some, None, refl, ap, sym, subst, ◌∙◌, arith, append_assoc, length-append}
-use Rattle.std.proofs.lemmas.List.{append-nil, map-append, length-map}
+use Rattle.std.proofs.lemmas.List.{map-append, length-map}
 use Rattle.std.proofs.lemmas.List.Elements.{filter-append}
 use Rattle.std.proofs.lemmas.Bool.{lt-ltb, le-leb, eq-eqb}
 use Rattle.std.proofs.Common.{true, false}
@@ -13,12 +13,13 @@ use Rattle.congee_node_table.specs.declared.child.Child.{Child}
 use Rattle.congee_node_table.specs.declared.child.Child.TheVariants.{Payload, Node}
 use Rattle.congee_map.proofs.RangeLaws.{between-all}
 use Rattle.congee_node_table.proofs.KeyLaws.{least-bound, room-positive, AreBytes-append}
-use Rattle.congee_walks.specs.Scan.{IsWindow, Stands, HasRoomFor, from_key, first_number}
+use Rattle.congee_walks.specs.Scan.{from_key, first_number}
+use Rattle.congee_walks.specs.inner.Scan.{IsWindow, HasSubtree, KeysFit}
 use Rattle.congee_walks.specs.declared.range_scan.Window.{Window}
 use Rattle.congee_walks.proofs.WindowLaws.{low-leaf}
 use Rattle.congee_walks.proofs.ScanLaws.{at_node, pairs_from, skip, in_leaf, child_at, next_inside, root_tree}
-use Rattle.congee_paths.specs.Way.{depth}
-use Rattle.congee_paths.proofs.WayLaws.{depth_is}
+use Rattle.congee_paths.specs.inner.Root.{depth}
+use Rattle.congee_paths.proofs.PathEndLaws.{depth_is}
 
 module _ {P : Type 0} (s : Table P) where
   -- a child's pairs, and those after it
@@ -32,7 +33,7 @@ module _ {P : Type 0} (s : Table P) where
       a.pairs ∙ ap (λ es. pairs_of (λ j. pairs_at s less j) n.prefix es) (sym (between-all 0 256 0 256 n.children a.sound.ordered (omega arith) (omega arith)))
 
   -- a leaf's key
-  pub key_fits : (slot : ℕ) (n : TableNode P) (from byte : ℕ) (v : P) (rest : List (ℕ × Child P)) → Stands s slot → Some n ≡ node_at s slot → between n.children from 256 ≡ (byte, Payload v) ∷ rest → low n.prefix + byte < 2 ^ 64
+  pub key_fits : (slot : ℕ) (n : TableNode P) (from byte : ℕ) (v : P) (rest : List (ℕ × Child P)) → HasSubtree s slot → Some n ≡ node_at s slot → between n.children from 256 ≡ (byte, Payload v) ∷ rest → low n.prefix + byte < 2 ^ 64
   key_fits slot n from byte v rest h here next =
       let seven = in_leaf s slot n from byte v rest h here next in
       let a = next_inside s slot n from byte (Payload v) rest h here next in
@@ -98,12 +99,12 @@ module _ {P K : Type 0} (key : ℕ → K) (s : Table P) where
       keys_room_payload byte v next taken capacity fits is = let r = keys_room byte (Payload v) next taken capacity fits is in omega arith
 
       pub keys_room_node : (byte j : ℕ) → between n.children from 256 ≡ (byte, Node j) ∷ between n.children (byte + 1) 256 → (taken capacity : ℕ)
-          → taken + length (pairs_at s (suc less) slot) ≤ capacity → taken ≡ length old → HasRoomFor s j (length new) capacity
+          → taken + length (pairs_at s (suc less) slot) ≤ capacity → taken ≡ length old → KeysFit s j (length new) capacity
       keys_room_node byte j next taken capacity fits is =
           let child : IsTree s less (n.prefix ++ byte ∷ []) j = child_at s less slot n from byte (Node j) _ tree here next in
           go less child (keys_room byte (Node j) next taken capacity fits is)
         where
-          go : (l : ℕ) → IsTree s l (n.prefix ++ byte ∷ []) j → length new + length (pairs_at s l j) ≤ capacity → HasRoomFor s j (length new) capacity
+          go : (l : ℕ) → IsTree s l (n.prefix ++ byte ∷ []) j → length new + length (pairs_at s l j) ≤ capacity → KeysFit s j (length new) capacity
           go zero h r = absurd h
           go (suc l) h r = record { levels = l; tree = record { above = n.prefix ++ byte ∷ []; tree = h }; fits = r }
 
@@ -166,14 +167,14 @@ is_none None is = refl
 is_none (Some k) is = absurd (cc)
 
 module _ {P : Type 0} (s : Table P) where
-  pub stands_with_room : (slot taken capacity : ℕ) → HasRoomFor s slot taken capacity → Stands s slot
+  pub stands_with_room : (slot taken capacity : ℕ) → KeysFit s slot taken capacity → HasSubtree s slot
   stands_with_room slot taken capacity h = record { levels = suc h.levels; tree = h.tree }
 
 module _ {P : Type 0} (s : Table P) (root : ℕ) (tree : IsTree s depth [] root) where
   pub root_key : (start : ℕ) (o : Option ℕ) → ((levels : ℕ) → IsSubtree s (suc levels) root → o ≡ first_number (from_key start (pairs_at s (suc levels) root))) → o ≡ first_number (from_key start (pairs_at s depth root))
   root_key start o found = subst (λ d. o ≡ first_number (from_key start (pairs_at s d root))) (sym depth_is) (found 7 (root_tree s root tree))
 
-  pub root_room : (count capacity : ℕ) → count ≡ length (pairs_at s depth root) → count ≤ capacity → HasRoomFor s root 0 capacity
+  pub root_room : (count capacity : ℕ) → count ≡ length (pairs_at s depth root) → count ≤ capacity → KeysFit s root 0 capacity
   root_room count capacity is fits =
       let all : count ≡ length (pairs_at s 8 root) = subst (λ d. count ≡ length (pairs_at s d root)) depth_is is in
       record { levels = 7; tree = root_tree s root tree; fits = omega arith }

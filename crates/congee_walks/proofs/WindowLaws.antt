@@ -2,12 +2,12 @@
 use Rattle.std.proofs.Common.{◌≡◌, ℕ, zero, suc, ◌+◌, ◌-◌, ◌*◌, ◌/◌, ◌^◌, ◌<◌, ◌≤◌, List, [], ◌∷◌, ◌++◌, length, replicate, drop, refl, ap, sym, subst, ◌∙◌, arith, length-append}
 use Rattle.std.proofs.lemmas.List.{length-replicate}
 use Rattle.std.proofs.lemmas.Nat.{shr_split, pow_pos, pow-add}
-use Rattle.std.proofs.Math.Nat.{mul-le-mul_right, mod-lt}
+use Rattle.std.proofs.Math.Nat.{mod-lt}
 use Rattle.std.proofs.Common.{w64}
 use Rattle.std.specs.Int.{from_be_bytes}
 use Rattle.congee_node_table.specs.Key.{span, least, room, low, high}
 use Rattle.congee_node_table.proofs.KeyLaws.{between_spans, room-positive, key_number-be_bytes}
-use Rattle.congee_walks.specs.Scan.{IsWindow}
+use Rattle.congee_walks.specs.inner.Scan.{IsWindow}
 use Rattle.congee_walks.specs.declared.range_scan.Window.{Window}
 
 -- bytes of 0 after a prefix add nothing

@@ -1,2 +1,2 @@
-pub mod Count
 pub mod Scan
+pub mod inner

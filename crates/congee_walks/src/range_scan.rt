@@ -5,10 +5,9 @@
 //! nodes above the pairs that it gives, and besides at most one path at each end of the range, however large the tree is; at
 //! the buffer's end it reads nothing more. A node without children is passed: a removal may leave an inner one.
 
-ghost use Rattle.std.specs.Prelude.{◌≡◌, ℕ, suc, ◌≤◌, length};
-ghost use Rattle.congee_node_table.specs.Table.{IsSubtree, pairs_at};
+ghost use Rattle.std.specs.Prelude.{◌≡◌, ℕ, ◌≤◌, length};
 ghost use Rattle.congee_node_table.specs.Key.{low};
-ghost use Rattle.congee_walks.specs.Scan.{IsWindow, Stands, AddsEntries, found};
+ghost use Rattle.congee_walks.specs.inner.Scan.{IsWindow, HasSubtree, EachSubtree, AddsEntries, entries_of};
 
 use congee_node_table::child::ChildRef;
 use congee_node_table::tree_node::TreeNode;
@@ -86,7 +85,7 @@ pub(crate) fn window_of(prefix: &[u8], start: u64, end: u64) -> Window
 }
 
 /// Writes the entries of the subtree's pairs from `start` on and below `end` to the buffer, from place `count` on, and
-/// answers the place after the last. It ends at the buffer's end.
+/// returns the place after the last. It ends at the buffer's end.
 pub fn scan<E: RangeEntry>(
     nodes: &Slab<TreeNode<u64>>,
     slot: usize,
@@ -95,9 +94,10 @@ pub fn scan<E: RangeEntry>(
     buffer: &mut [E],
     mut count: usize,
 ) -> usize
-    requires tree { Stands nodes.now.slots slot }
+    requires tree { HasSubtree nodes.now.slots slot }
     requires room { count ≤ length buffer.old }
-    ensures { (levels : ℕ) → IsSubtree nodes.now.slots (suc levels) slot → AddsEntries (found E.entry start end (pairs_at nodes.now.slots (suc levels) slot)) buffer.old count buffer.new result }
+    ensures { EachSubtree nodes.now.slots slot (λ pairs.
+        AddsEntries (entries_of E.entry start end pairs) buffer.old count buffer.new result) }
 {
     let Some(node) = nodes.get(slot) else {
         unreachable!()

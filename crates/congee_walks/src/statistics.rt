@@ -2,8 +2,8 @@
 
 ghost use Rattle.std.specs.Prelude.{OnOk, ◌≡◌, ◌-◌};
 ghost use Rattle.congee_node_table.specs.Table.{IsSubtree};
-ghost use Rattle.congee_paths.specs.Way.{depth};
-ghost use Rattle.congee_walks.specs.Count.{AddsSubtree};
+ghost use Rattle.congee_paths.specs.inner.Root.{depth};
+ghost use Rattle.congee_walks.specs.inner.Count.{AddsSubtree};
 
 use congee_base::base_node::Node;
 use congee_map::error::OOMError;
@@ -21,7 +21,8 @@ pub fn count_subtree<P: Drop>(
     stats: &mut NodeStats,
 ) -> Result<(), OOMError>
     requires { IsSubtree nodes.now.slots (depth - above) slot }
-    ensures counted { OnOk result (AddsSubtree nodes.now.slots above slot stats.old.levels stats.new.levels) }
+    ensures counted { OnOk result
+        (AddsSubtree nodes.now.slots above slot stats.old.levels stats.new.levels) }
     ensures pairs { stats.new.kv_pairs ≡ stats.old.kv_pairs }
 {
     let Some(node) = nodes.get(slot) else {

@@ -1,8 +1,8 @@
 //! Walks over all pairs of a subtree, keys ascending.
 
-ghost use Rattle.std.specs.Prelude.{◌≡◌, ℕ, suc, ◌++◌, map, vec_len, vec_capacity};
-ghost use Rattle.congee_node_table.specs.Table.{IsSubtree, pairs_at};
-ghost use Rattle.congee_walks.specs.Scan.{Stands, HasRoomFor, first_number, from_key};
+ghost use Rattle.std.specs.Prelude.{◌≡◌, ◌++◌, map, vec_len, vec_capacity};
+ghost use Rattle.congee_walks.specs.Scan.{first_number, from_key};
+ghost use Rattle.congee_walks.specs.inner.Scan.{HasSubtree, EachSubtree, KeysFit};
 
 use crate::range_scan::{first_key, window_of};
 use congee_map::traits::Word;
@@ -12,8 +12,9 @@ use slab::Slab;
 
 /// Adds the keys of the subtree, read back from their numbers, to the end of a vector that has room for them.
 pub fn push_keys<P: Drop, K: Word>(nodes: &Slab<TreeNode<P>>, slot: usize, keys: &mut Vec<K>)
-    requires { HasRoomFor nodes.now.slots slot (vec_len keys.old) (vec_capacity keys.old) }
-    ensures keys { (levels : ℕ) → IsSubtree nodes.now.slots (suc levels) slot → keys.new.items ≡ keys.old.items ++ map (λ pair. K.of_number pair.0) (pairs_at nodes.now.slots (suc levels) slot) }
+    requires { KeysFit nodes.now.slots slot (vec_len keys.old) (vec_capacity keys.old) }
+    ensures keys { EachSubtree nodes.now.slots slot (λ pairs.
+        keys.new.items ≡ keys.old.items ++ map (λ pair. K.of_number pair.0) pairs) }
     ensures capacity { vec_capacity keys.new ≡ vec_capacity keys.old }
 {
     let Some(node) = nodes.get(slot) else {
@@ -32,8 +33,9 @@ pub fn push_keys<P: Drop, K: Word>(nodes: &Slab<TreeNode<P>>, slot: usize, keys:
 
 /// The least key of the subtree that isn't below `start`.
 pub fn key_from<P: Drop>(nodes: &Slab<TreeNode<P>>, slot: usize, start: u64) -> Option<u64>
-    requires { Stands nodes.now.slots slot }
-    ensures { (levels : ℕ) → IsSubtree nodes.now.slots (suc levels) slot → result ≡ first_number (from_key start (pairs_at nodes.now.slots (suc levels) slot)) }
+    requires { HasSubtree nodes.now.slots slot }
+    ensures { EachSubtree nodes.now.slots slot (λ pairs.
+        result ≡ first_number (from_key start pairs)) }
 {
     let Some(node) = nodes.get(slot) else {
         unreachable!()

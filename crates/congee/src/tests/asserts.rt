@@ -1,4 +1,4 @@
-//! Comparisons of one answer. A test calls these, so that its own proof has no comparison and no text in it.
+//! Comparisons of one result. A test calls these, so that its own proof has no comparison and no text in it.
 
 use crate::OOMError;
 use std::process::Abort;

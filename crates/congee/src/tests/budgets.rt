@@ -3,8 +3,8 @@
 ghost use Rattle.std.specs.Prelude.{None};
 
 use super::asserts::{assert_number, assert_old, assert_put, assert_test};
-use super::rows::assert_rows;
-use crate::calls::{Call, Reply};
+use super::rows::{Wanted, assert_rows};
+use crate::calls::Call;
 use crate::{Allocator, Budget, Congee, NodeSize, OOMError};
 use std::alloc::Global;
 use std::process::Abort;
@@ -25,14 +25,13 @@ struct Least {
     after: u128,
 }
 
-// A map with the row's keys, each its own value.
-fn filled(alloc: Global, limit: u64, row: &Least) -> Result<Congee<u64, u64, Budget>, OOMError> {
-    let mut map = Congee::new(alloc, Budget::new(limit))?;
+// Puts the row's keys into a map, each its own value.
+fn fill(map: &mut Congee<u64, u64, Budget>, row: &Least) -> Result<(), OOMError> {
     for i in 0..row.count {
         let key = i.wrapping_mul(row.step);
         map.insert(key, key)?;
     }
-    Ok(map)
+    Ok(())
 }
 
 // The limit is enough.
@@ -54,11 +53,21 @@ fn assert_refused(rt: &impl Abort, map: &mut Congee<u64, u64, Budget>, row: &Lea
     }
 }
 
-fn assert_least(rt: &impl Abort, alloc: Global, row: &Least) -> Result<(), OOMError> {
-    let mut map = filled(alloc, row.limit, row)?;
-    assert_enough(rt, &mut map, row);
-    let mut map = filled(alloc, row.limit.wrapping_sub(1), row)?;
-    assert_refused(rt, &mut map, row);
+// The limit is enough, or it isn't.
+fn assert_at(
+    rt: &impl Abort,
+    alloc: Global,
+    row: &Least,
+    limit: u64,
+    is_enough: bool,
+) -> Result<(), OOMError> {
+    let mut map = Congee::new(alloc, Budget::new(limit))?;
+    fill(&mut map, row)?;
+    if is_enough {
+        assert_enough(rt, &mut map, row);
+    } else {
+        assert_refused(rt, &mut map, row);
+    }
     Ok(())
 }
 
@@ -84,21 +93,33 @@ fn least_limits(rt: HostRuntime) -> Result<(), Fail> {
         least_limit(48, 1, 48, 4880, 2776, 4208),
     ];
     for row in &rows {
-        assert_least(&rt, rt.alloc(), row)?;
+        assert_at(&rt, rt.alloc(), row, row.limit, true)?;
+        assert_at(&rt, rt.alloc(), row, row.limit.wrapping_sub(1), false)?;
     }
     Ok(())
+}
+
+// The calls of the rows return what is wanted, and then this is charged.
+fn assert_charged(
+    rt: &impl Abort,
+    alloc: Global,
+    map: &mut Congee<u64, u64, Budget>,
+    rows: &[(Call<u64, u64>, Wanted<'_, u64, u64>)],
+    charged: u128,
+) {
+    assert_rows(rt, alloc, map, rows);
+    assert_number(rt, map.charged(), charged);
 }
 
 #[test]
 fn no_memory_for_a_second_path(rt: HostRuntime) -> Result<(), Fail> {
     let mut map = Congee::new(rt.alloc(), Budget::new(2168))?;
     let rows = [
-        (Call::Insert(0, 100), Reply::Old(None)),
-        (Call::Insert(u64::MAX, 100), Reply::Refused),
-        (Call::Get(0), Reply::Old(Some(100))),
+        (Call::Insert(0, 100), Wanted::Old(None)),
+        (Call::Insert(u64::MAX, 100), Wanted::Refused),
+        (Call::Get(0), Wanted::Old(Some(100))),
     ];
-    assert_rows(&rt, rt.alloc(), &mut map, &rows);
-    assert_number(&rt, map.charged(), 2168);
+    assert_charged(&rt, rt.alloc(), &mut map, &rows, 2168);
     Ok(())
 }
 
@@ -114,10 +135,10 @@ fn no_memory_for_a_leaf(rt: HostRuntime) -> Result<(), Fail> {
     assert_put(&rt, 100, answer, Err(OOMError::new()));
     assert_test(&rt, called, false);
     let rows = [
-        (Call::Insert(100, 100), Reply::Refused),
-        (Call::IsEmpty, Reply::Tested(true)),
+        (Call::Insert(100, 100), Wanted::Refused),
+        (Call::IsEmpty, Wanted::Tested(true)),
     ];
-    assert_rows(&rt, rt.alloc(), &mut map, &rows);
+    assert_charged(&rt, rt.alloc(), &mut map, &rows, 2104);
     Ok(())
 }
 
@@ -134,18 +155,16 @@ fn no_memory_for_the_root(rt: HostRuntime) {
 fn a_split_needs_two_nodes(rt: HostRuntime) -> Result<(), Fail> {
     let mut map = Congee::new(rt.alloc(), Budget::new(2232))?;
     let rows = [
-        (Call::Insert(1, 1), Reply::Old(None)),
-        (Call::Insert(256, 2), Reply::Refused),
+        (Call::Insert(1, 1), Wanted::Old(None)),
+        (Call::Insert(256, 2), Wanted::Refused),
     ];
-    assert_rows(&rt, rt.alloc(), &mut map, &rows);
-    assert_number(&rt, map.charged(), 2168);
+    assert_charged(&rt, rt.alloc(), &mut map, &rows, 2168);
     let rows = [
-        (Call::Get(256), Reply::Old(None)),
-        (Call::Insert(2, 2), Reply::Old(None)),
-        (Call::Insert(72057594037927936, 3), Reply::Old(None)),
+        (Call::Get(256), Wanted::Old(None)),
+        (Call::Insert(2, 2), Wanted::Old(None)),
+        (Call::Insert(72057594037927936, 3), Wanted::Old(None)),
     ];
-    assert_rows(&rt, rt.alloc(), &mut map, &rows);
-    assert_number(&rt, map.charged(), 2232);
+    assert_charged(&rt, rt.alloc(), &mut map, &rows, 2232);
     Ok(())
 }
 
@@ -153,20 +172,18 @@ fn a_split_needs_two_nodes(rt: HostRuntime) -> Result<(), Fail> {
 fn removal_gives_a_leaf_back(rt: HostRuntime) -> Result<(), Fail> {
     let mut map = Congee::new(rt.alloc(), Budget::new(2168))?;
     let rows = [
-        (Call::Insert(0, 1), Reply::Old(None)),
-        (Call::Insert(1, 2), Reply::Old(None)),
-        (Call::Remove(0), Reply::Old(Some(1))),
+        (Call::Insert(0, 1), Wanted::Old(None)),
+        (Call::Insert(1, 2), Wanted::Old(None)),
+        (Call::Remove(0), Wanted::Old(Some(1))),
     ];
-    assert_rows(&rt, rt.alloc(), &mut map, &rows);
-    assert_number(&rt, map.charged(), 2168);
+    assert_charged(&rt, rt.alloc(), &mut map, &rows, 2168);
     let rows = [(
         Call::ComputeIfPresent(1, None),
-        Reply::Computed(Some((2, None))),
+        Wanted::Computed(Some((2, None))),
     )];
-    assert_rows(&rt, rt.alloc(), &mut map, &rows);
-    assert_number(&rt, map.charged(), 2104);
-    let rows = [(Call::Insert(u64::MAX, 3), Reply::Old(None))];
-    assert_rows(&rt, rt.alloc(), &mut map, &rows);
+    assert_charged(&rt, rt.alloc(), &mut map, &rows, 2104);
+    let rows = [(Call::Insert(u64::MAX, 3), Wanted::Old(None))];
+    assert_charged(&rt, rt.alloc(), &mut map, &rows, 2168);
     Ok(())
 }
 
@@ -222,7 +239,7 @@ impl Allocator for Counted<'_> {
 
 type CountedMap<'a> = Congee<u64, u64, Counted<'a>>;
 
-// Inserts the key as its own value, by a computation or not. Answers also how often the closure was called.
+// Inserts the key as its own value, by a computation or not. Returns also how often the closure was called.
 fn insert_by(
     map: &mut CountedMap<'_>,
     key: u64,
@@ -240,7 +257,7 @@ fn insert_by(
     (result, calls)
 }
 
-// Makes the insertion of a new key with so many requests granted, and answers whether they were enough.
+// Makes the insertion of a new key with so many requests granted, and returns whether they were enough.
 fn is_enough(
     rt: &impl Abort,
     map: &mut CountedMap<'_>,
@@ -268,7 +285,7 @@ fn is_enough(
 }
 
 // Makes the insertion of a new key again and again, its first request refused, then its second and so on, until one is
-// granted all. Answers how many it asked for.
+// granted all. Returns how many it asked for.
 fn requests_of(
     rt: &impl Abort,
     map: &mut CountedMap<'_>,
@@ -308,37 +325,48 @@ fn assert_requests(rt: &impl Abort, map: &mut CountedMap<'_>, counts: &Counts, c
 fn assert_never_refused(rt: &impl Abort, alloc: Global, map: &mut CountedMap<'_>, counts: &Counts) {
     counts.grant(0);
     let rows = [
-        (Call::Insert(2, 9), Reply::Old(Some(2))),
+        (Call::Insert(2, 9), Wanted::Old(Some(2))),
         (
             Call::CompareExchange(2, 9, Some(2)),
-            Reply::Exchanged(Ok(Some(2))),
+            Wanted::Exchanged(Ok(Some(2))),
         ),
         (
             Call::ComputeIfPresent(2, None),
-            Reply::Computed(Some((2, None))),
+            Wanted::Computed(Some((2, None))),
         ),
-        (Call::Remove(1024), Reply::Old(Some(1024))),
+        (Call::Remove(1024), Wanted::Old(Some(1024))),
     ];
     assert_rows(rt, alloc, map, &rows);
     assert_number(rt, map.charged(), u128::from(counts.charged()));
+}
+
+// Each request of a map is refused once, and what is charged goes back when it is dropped.
+fn assert_each(
+    rt: &impl Abort,
+    alloc: Global,
+    counts: &Counts,
+    computes: bool,
+) -> Result<(), OOMError> {
+    counts.grant(1);
+    let mut map = Congee::new(alloc, Counted { counts })?;
+    assert_requests(rt, &mut map, counts, computes);
+    assert_never_refused(rt, alloc, &mut map, counts);
+    Ok(())
+}
+
+fn is_refused(alloc: Global, counts: &Counts) -> bool {
+    counts.grant(0);
+    let refused: Result<CountedMap<'_>, OOMError> = Congee::new(alloc, Counted { counts });
+    refused.is_err()
 }
 
 #[test]
 fn each_request_refused(rt: HostRuntime) -> Result<(), Fail> {
     let counts = Counts::new();
     for computes in [false, true] {
-        counts.grant(0);
-        let refused: Result<CountedMap<'_>, OOMError> = Congee::new(
-            rt.alloc(),
-            Counted { counts: &counts },
-        );
-        assert_test(&rt, refused.is_err(), true);
+        assert_test(&rt, is_refused(rt.alloc(), &counts), true);
         assert_number(&rt, u128::from(counts.charged()), 0);
-        counts.grant(1);
-        let mut map = Congee::new(rt.alloc(), Counted { counts: &counts })?;
-        assert_requests(&rt, &mut map, &counts, computes);
-        assert_never_refused(&rt, rt.alloc(), &mut map, &counts);
-        drop(map);
+        assert_each(&rt, rt.alloc(), &counts, computes)?;
         assert_number(&rt, u128::from(counts.charged()), 0);
     }
     Ok(())

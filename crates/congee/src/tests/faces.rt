@@ -2,11 +2,15 @@
 
 ghost use Rattle.std.specs.Prelude.{◌*◌, ◌/◌, ◌%◌, ◌^◌};
 
-use super::asserts::{assert_number, assert_old};
-use super::rows::{assert_number_run, assert_rows, assert_run};
-use crate::calls::{Call, Reply, run_calls};
-use crate::u64_calls::{U64Call, U64Reply, run_u64_calls};
-use crate::{Congee, DefaultAllocator, OOMError, U64Congee, Word};
+use super::asserts::{assert_number, assert_old, assert_put, assert_test};
+use super::rows::{
+    NumberWanted, Wanted, assert_list, assert_number_list, assert_number_run, assert_rows,
+    assert_run,
+};
+use crate::calls::Call;
+use crate::u64_calls::U64Call;
+use crate::{Congee, DefaultAllocator, OOMError, Word};
+use std::alloc::Global;
 use std::process::Abort;
 use std::test::Fail;
 
@@ -47,7 +51,7 @@ impl Word for Tens {
 }
 
 #[test]
-fn answers_the_value_before(rt: HostRuntime) -> Result<(), Fail> {
+fn calls_by_numbers(rt: HostRuntime) -> Result<(), Fail> {
     let rows = [
         (U64Call::Insert(1, 42), None),
         (U64Call::Get(1), Some(42)),
@@ -58,24 +62,7 @@ fn answers_the_value_before(rt: HostRuntime) -> Result<(), Fail> {
         (U64Call::Insert(0, 8), None),
         (U64Call::Get(u64::MAX), Some(7)),
         (U64Call::Get(0), Some(8)),
-    ];
-    assert_number_run::<u64>(&rt, rt.alloc(), &rows)
-}
-
-#[test]
-fn reads_values_back_from_their_numbers(rt: HostRuntime) -> Result<(), Fail> {
-    let rows = [
-        (U64Call::Insert(1, Half(7)), None),
-        (U64Call::Get(1), Some(Half(6))),
-        (U64Call::Insert(1, Half(9)), Some(Half(6))),
-        (U64Call::Get(1), Some(Half(8))),
-    ];
-    assert_number_run::<Half>(&rt, rt.alloc(), &rows)
-}
-
-#[test]
-fn sets_overwrites_and_takes_out(rt: HostRuntime) -> Result<(), Fail> {
-    let rows = [
+        // another key is set, overwritten and taken out
         (U64Call::Remove(7), None),
         (U64Call::Insert(7, 70), None),
         (U64Call::Get(7), Some(70)),
@@ -86,55 +73,75 @@ fn sets_overwrites_and_takes_out(rt: HostRuntime) -> Result<(), Fail> {
         (U64Call::Insert(7, 72), Some(71)),
         (U64Call::Get(7), Some(72)),
     ];
-    assert_number_run::<u64>(&rt, rt.alloc(), &rows)
+    assert_number_run::<u64>(&rt, rt.alloc(), &rows)?;
+    Ok(())
+}
+
+#[test]
+fn reads_values_back_from_their_numbers(rt: HostRuntime) -> Result<(), Fail> {
+    let rows = [
+        (U64Call::Insert(1, Half(7)), None),
+        (U64Call::Get(1), Some(Half(6))),
+        (U64Call::Insert(1, Half(9)), Some(Half(6))),
+        (U64Call::Get(1), Some(Half(8))),
+    ];
+    assert_number_run::<Half>(&rt, rt.alloc(), &rows)?;
+    Ok(())
 }
 
 #[test]
 fn several_keys_stand_beside_each_other(rt: HostRuntime) -> Result<(), Fail> {
     let rows = [
-        (Call::Insert(1, 4), Reply::Old(None)),
-        (Call::Insert(2, 7), Reply::Old(None)),
-        (Call::Insert(300, 300 ^ 5), Reply::Old(None)),
-        (Call::Insert(70_000, 70_000 ^ 5), Reply::Old(None)),
-        (Call::Insert(u64::MAX, u64::MAX ^ 5), Reply::Old(None)),
-        (Call::Remove(300), Reply::Old(Some(300 ^ 5))),
-        (Call::Remove(301), Reply::Old(None)),
-        (Call::Get(1), Reply::Old(Some(4))),
-        (Call::Get(2), Reply::Old(Some(7))),
-        (Call::Get(3), Reply::Old(None)),
-        (Call::Get(300), Reply::Old(None)),
-        (Call::Get(70_000), Reply::Old(Some(70_000 ^ 5))),
-        (Call::Get(u64::MAX), Reply::Old(Some(u64::MAX ^ 5))),
+        (Call::Insert(1, 4), Wanted::Old(None)),
+        (Call::Insert(2, 7), Wanted::Old(None)),
+        (Call::Insert(300, 300 ^ 5), Wanted::Old(None)),
+        (Call::Insert(70_000, 70_000 ^ 5), Wanted::Old(None)),
+        (Call::Insert(u64::MAX, u64::MAX ^ 5), Wanted::Old(None)),
+        (Call::Remove(300), Wanted::Old(Some(300 ^ 5))),
+        (Call::Remove(301), Wanted::Old(None)),
+        (Call::Get(1), Wanted::Old(Some(4))),
+        (Call::Get(2), Wanted::Old(Some(7))),
+        (Call::Get(3), Wanted::Old(None)),
+        (Call::Get(300), Wanted::Old(None)),
+        (Call::Get(70_000), Wanted::Old(Some(70_000 ^ 5))),
+        (Call::Get(u64::MAX), Wanted::Old(Some(u64::MAX ^ 5))),
     ];
-    assert_run::<u64, u64>(&rt, rt.alloc(), &rows)
+    assert_run::<u64, u64>(&rt, rt.alloc(), &rows)?;
+    Ok(())
 }
 
 #[test]
 fn keys_with_one_number_are_one_key(rt: HostRuntime) -> Result<(), Fail> {
     let rows = [
-        (Call::Insert(Tens(12), 1), Reply::Old(None)),
-        (Call::Insert(Tens(17), 2), Reply::Old(Some(1))),
-        (Call::Get(Tens(19)), Reply::Old(Some(2))),
-        (Call::Get(Tens(20)), Reply::Old(None)),
-        (Call::Remove(Tens(10)), Reply::Old(Some(2))),
-        (Call::IsEmpty, Reply::Tested(true)),
+        (Call::Insert(Tens(12), 1), Wanted::Old(None)),
+        (Call::Insert(Tens(17), 2), Wanted::Old(Some(1))),
+        (Call::Keys, Wanted::Listed(&[Tens(10)])),
+        (Call::Get(Tens(19)), Wanted::Old(Some(2))),
+        (Call::Get(Tens(20)), Wanted::Old(None)),
+        (Call::Remove(Tens(10)), Wanted::Old(Some(2))),
+        (Call::IsEmpty, Wanted::Tested(true)),
     ];
-    assert_run::<Tens, u64>(&rt, rt.alloc(), &rows)
+    assert_run::<Tens, u64>(&rt, rt.alloc(), &rows)?;
+    Ok(())
 }
 
 #[test]
 fn empty_where_an_emptied_node_stays(rt: HostRuntime) -> Result<(), Fail> {
     let rows = [
-        (Call::IsEmpty, Reply::Tested(true)),
-        (Call::Insert(1, 1), Reply::Old(None)),
-        (Call::Insert(256, 2), Reply::Old(None)),
-        (Call::IsEmpty, Reply::Tested(false)),
-        (Call::Remove(1), Reply::Old(Some(1))),
-        (Call::IsEmpty, Reply::Tested(false)),
-        (Call::Remove(256), Reply::Old(Some(2))),
-        (Call::IsEmpty, Reply::Tested(true)),
+        (Call::IsEmpty, Wanted::Tested(true)),
+        (Call::Insert(1, 1), Wanted::Old(None)),
+        (Call::Insert(256, 2), Wanted::Old(None)),
+        (Call::IsEmpty, Wanted::Tested(false)),
+        (Call::Keys, Wanted::Listed(&[1, 256])),
+        (Call::Remove(1), Wanted::Old(Some(1))),
+        (Call::Remove(1), Wanted::Old(None)),
+        (Call::IsEmpty, Wanted::Tested(false)),
+        (Call::Remove(256), Wanted::Old(Some(2))),
+        (Call::IsEmpty, Wanted::Tested(true)),
+        (Call::Keys, Wanted::Listed(&[])),
     ];
-    assert_run::<u64, u64>(&rt, rt.alloc(), &rows)
+    assert_run::<u64, u64>(&rt, rt.alloc(), &rows)?;
+    Ok(())
 }
 
 #[test]
@@ -142,43 +149,45 @@ fn exchanges_where_the_value_stands(rt: HostRuntime) -> Result<(), Fail> {
     let rows = [
         (
             Call::CompareExchange(1, 42, Some(43)),
-            Reply::Exchanged(Err(None)),
+            Wanted::Exchanged(Err(None)),
         ),
-        (Call::Insert(1, 42), Reply::Old(None)),
+        (Call::Insert(1, 42), Wanted::Old(None)),
         (
             Call::CompareExchange(1, 41, Some(43)),
-            Reply::Exchanged(Err(Some(42))),
+            Wanted::Exchanged(Err(Some(42))),
         ),
-        (Call::Get(1), Reply::Old(Some(42))),
+        (Call::Get(1), Wanted::Old(Some(42))),
         (
             Call::CompareExchange(1, 42, Some(43)),
-            Reply::Exchanged(Ok(Some(43))),
+            Wanted::Exchanged(Ok(Some(43))),
         ),
-        (Call::Get(1), Reply::Old(Some(43))),
+        (Call::Get(1), Wanted::Old(Some(43))),
         (
             Call::CompareExchange(1, 43, None),
-            Reply::Exchanged(Ok(None)),
+            Wanted::Exchanged(Ok(None)),
         ),
-        (Call::Get(1), Reply::Old(None)),
+        (Call::Get(1), Wanted::Old(None)),
     ];
-    assert_run::<u64, u64>(&rt, rt.alloc(), &rows)
+    assert_run::<u64, u64>(&rt, rt.alloc(), &rows)?;
+    Ok(())
 }
 
 #[test]
-fn exchange_answers_the_handed_value(rt: HostRuntime) -> Result<(), Fail> {
+fn exchange_returns_the_handed_value(rt: HostRuntime) -> Result<(), Fail> {
     let (old, new) = (Half(6), Some(Half(9)));
     let rows = [
-        (Call::Insert(1, Half(7)), Reply::Old(None)),
+        (Call::Insert(1, Half(7)), Wanted::Old(None)),
         (
             Call::CompareExchange(1, old, new),
-            Reply::Exchanged(Ok(new)),
+            Wanted::Exchanged(Ok(new)),
         ),
         (
             Call::CompareExchange(1, old, new),
-            Reply::Exchanged(Err(Some(Half(8)))),
+            Wanted::Exchanged(Err(Some(Half(8)))),
         ),
     ];
-    assert_run::<u64, Half>(&rt, rt.alloc(), &rows)
+    assert_run::<u64, Half>(&rt, rt.alloc(), &rows)?;
+    Ok(())
 }
 
 // Raises the number at the key by one, or takes the greatest one out, and counts the calls of its closure.
@@ -190,7 +199,7 @@ fn raise(map: &mut Congee<u64, u64>, key: u64, calls: &mut u32) -> Option<(u64, 
     map.compute_if_present(&key, &mut raise)
 }
 
-// A raise at key 1 answers so, and then this stands there.
+// A raise at key 1 returns this, and then this stands there.
 fn assert_raised(
     rt: &impl Abort,
     map: &mut Congee<u64, u64>,
@@ -204,15 +213,15 @@ fn assert_raised(
 
 #[test]
 fn computes_where_a_key_is_present(rt: HostRuntime) -> Result<(), Fail> {
-    let mut map: Congee<u64, u64> = Congee::new(rt.alloc(), DefaultAllocator {})?;
-    let mut calls = 0u32;
-    assert_raised(&rt, &mut map, &mut calls, None, None);
-    assert_old(&rt, 1, map.insert(1, u64::MAX - 1)?, None);
     let rows = [
         (Some((u64::MAX - 1, Some(u64::MAX))), Some(u64::MAX)),
         (Some((u64::MAX, None)), None),
         (None, None),
     ];
+    let mut calls = 0u32;
+    let mut map: Congee<u64, u64> = Congee::new(rt.alloc(), DefaultAllocator {})?;
+    assert_raised(&rt, &mut map, &mut calls, None, None);
+    assert_put(&rt, 1, map.insert(1, u64::MAX - 1), Ok(None));
     for (raised, standing) in rows {
         assert_raised(&rt, &mut map, &mut calls, raised, standing);
     }
@@ -235,8 +244,8 @@ fn raise_or_begin(
 
 #[test]
 fn computes_or_inserts(rt: HostRuntime) -> Result<(), Fail> {
-    let mut map: Congee<u64, Half> = Congee::new(rt.alloc(), DefaultAllocator {})?;
     let mut calls = 0u32;
+    let mut map: Congee<u64, Half> = Congee::new(rt.alloc(), DefaultAllocator {})?;
     for wanted in [None, Some(Half(22))] {
         assert_eq!(rt; raise_or_begin(&mut map, 5, &mut calls), Ok(wanted));
     }
@@ -245,124 +254,105 @@ fn computes_or_inserts(rt: HostRuntime) -> Result<(), Fail> {
     Ok(())
 }
 
-#[test]
-fn first_example(rt: HostRuntime) -> Result<(), Fail> {
-    let mut map: Congee<u64, u64> = Congee::new(rt.alloc(), DefaultAllocator {})?;
+fn assert_first_example(rt: &impl Abort, alloc: Global, map: &mut Congee<u64, u64>) {
     let begun = map.compute_or_insert(1, &mut |old: Option<u64>| old.unwrap_or(41));
-    assert_eq!(rt; begun, Ok(None));
+    assert_put(rt, 1, begun, Ok(None));
     let raised = map.compute_if_present(&1, &mut |old: u64| old.checked_add(1));
     assert_eq!(rt; raised, Some((41, Some(42))));
     let rows = [
         (
             Call::CompareExchange(1, 41, Some(43)),
-            Reply::Exchanged(Err(Some(42))),
+            Wanted::Exchanged(Err(Some(42))),
         ),
         (
             Call::CompareExchange(1, 42, None),
-            Reply::Exchanged(Ok(None)),
+            Wanted::Exchanged(Ok(None)),
         ),
-        (Call::IsEmpty, Reply::Tested(true)),
+        (Call::IsEmpty, Wanted::Tested(true)),
     ];
-    assert_rows(&rt, rt.alloc(), &mut map, &rows);
+    assert_rows(rt, alloc, map, &rows);
+}
+
+#[test]
+fn first_example(rt: HostRuntime) -> Result<(), Fail> {
+    let mut map: Congee<u64, u64> = Congee::new(rt.alloc(), DefaultAllocator {})?;
+    assert_first_example(&rt, rt.alloc(), &mut map);
     Ok(())
 }
 
 #[test]
 fn runs_a_list_of_calls(rt: HostRuntime) -> Result<(), Fail> {
-    let mut map: Congee<Tens, Half> = Congee::new(rt.alloc(), DefaultAllocator {})?;
     let (key, other) = (Tens(50), Tens(41));
-    let calls = [
-        Call::IsEmpty,
-        Call::Get(key),
-        Call::Insert(key, Half(3)),
-        Call::Insert(other, Half(1)),
-        Call::Insert(Tens(55), Half(5)),
-        Call::Get(other),
-        Call::CompareExchange(key, Half(9), None),
-        Call::CompareExchange(key, Half(4), Some(Half(7))),
-        Call::ComputeIfPresent(key, Some(100)),
-        Call::ComputeOrInsert(key, 6),
-        Call::ComputeIfPresent(Tens(0), None),
-        Call::ComputeIfPresent(key, None),
-        Call::ComputeOrInsert(key, 8),
-        Call::Remove(other),
-        Call::Remove(other),
-        Call::IsEmpty,
-        Call::Insert(other, Half(9)),
-        Call::Keys,
-        Call::Range(other, Tens(60), 1),
+    let rows = [
+        (Call::IsEmpty, Wanted::Tested(true)),
+        (Call::Get(key), Wanted::Old(None)),
+        (Call::Insert(key, Half(3)), Wanted::Old(None)),
+        (Call::Insert(other, Half(1)), Wanted::Old(None)),
+        (Call::Insert(Tens(55), Half(5)), Wanted::Old(Some(Half(2)))),
+        (Call::Get(other), Wanted::Old(Some(Half(0)))),
+        (
+            Call::CompareExchange(key, Half(9), None),
+            Wanted::Exchanged(Err(Some(Half(4)))),
+        ),
+        (
+            Call::CompareExchange(key, Half(4), Some(Half(7))),
+            Wanted::Exchanged(Ok(Some(Half(7)))),
+        ),
+        (
+            Call::ComputeIfPresent(key, Some(100)),
+            Wanted::Computed(Some((3, Some(100)))),
+        ),
+        (Call::ComputeOrInsert(key, 6), Wanted::Old(Some(Half(200)))),
+        (
+            Call::ComputeIfPresent(Tens(0), None),
+            Wanted::Computed(None),
+        ),
+        (
+            Call::ComputeIfPresent(key, None),
+            Wanted::Computed(Some((6, None))),
+        ),
+        (Call::ComputeOrInsert(key, 8), Wanted::Old(None)),
+        (Call::Remove(other), Wanted::Old(Some(Half(0)))),
+        (Call::Remove(other), Wanted::Old(None)),
+        (Call::IsEmpty, Wanted::Tested(false)),
+        (Call::Insert(other, Half(9)), Wanted::Old(None)),
+        (Call::Keys, Wanted::Listed(&[Tens(40), Tens(50)])),
+        (Call::Range(other, Tens(60), 1), Wanted::Ranged(&[(4, 4)])),
     ];
-    let replies = run_calls(rt.alloc(), &mut map, &calls)?;
-    let mut keys = Vec::new(rt.alloc());
-    keys.push(Tens(40))?;
-    keys.push(Tens(50))?;
-    let mut pairs = Vec::new(rt.alloc());
-    pairs.push((4, 4))?;
-    let wanted = [
-        Reply::Tested(true),
-        Reply::Old(None),
-        Reply::Old(None),
-        Reply::Old(None),
-        Reply::Old(Some(Half(2))),
-        Reply::Old(Some(Half(0))),
-        Reply::Exchanged(Err(Some(Half(4)))),
-        Reply::Exchanged(Ok(Some(Half(7)))),
-        Reply::Computed(Some((3, Some(100)))),
-        Reply::Old(Some(Half(200))),
-        Reply::Computed(None),
-        Reply::Computed(Some((6, None))),
-        Reply::Old(None),
-        Reply::Old(Some(Half(0))),
-        Reply::Old(None),
-        Reply::Tested(false),
-        Reply::Old(None),
-        Reply::Listed(keys),
-        Reply::Ranged(pairs),
-    ];
-    assert_eq!(rt; replies.as_slice(), wanted.as_slice());
+    assert_list::<Tens, Half>(&rt, rt.alloc(), &rows)?;
     Ok(())
 }
 
 #[test]
 fn runs_a_list_of_calls_by_numbers(rt: HostRuntime) -> Result<(), Fail> {
-    let mut map: U64Congee<Half> = U64Congee::new(rt.alloc())?;
-    let calls = [
-        U64Call::Get(5),
-        U64Call::Insert(5, Half(3)),
-        U64Call::Insert(4, Half(1)),
-        U64Call::Insert(5, Half(5)),
-        U64Call::Get(4),
-        U64Call::Remove(5),
-        U64Call::Get(5),
-        U64Call::Insert(6, Half(9)),
-        U64Call::Insert(5, Half(9)),
-        U64Call::Range(4, 6, 8),
+    let pairs = [([0, 0, 0, 0, 0, 0, 0, 4], 0), ([0, 0, 0, 0, 0, 0, 0, 5], 4)];
+    let rows = [
+        (U64Call::Get(5), NumberWanted::Old(None)),
+        (U64Call::Insert(5, Half(3)), NumberWanted::Old(None)),
+        (U64Call::Insert(4, Half(1)), NumberWanted::Old(None)),
+        (
+            U64Call::Insert(5, Half(5)),
+            NumberWanted::Old(Some(Half(2))),
+        ),
+        (U64Call::Get(4), NumberWanted::Old(Some(Half(0)))),
+        (U64Call::Remove(5), NumberWanted::Old(Some(Half(4)))),
+        (U64Call::Get(5), NumberWanted::Old(None)),
+        (U64Call::Insert(6, Half(9)), NumberWanted::Old(None)),
+        (U64Call::Insert(5, Half(9)), NumberWanted::Old(None)),
+        (U64Call::Range(4, 6, 8), NumberWanted::Ranged(&pairs)),
     ];
-    let replies = run_u64_calls(rt.alloc(), &mut map, &calls)?;
-    let mut pairs = Vec::new(rt.alloc());
-    pairs.push(([0, 0, 0, 0, 0, 0, 0, 4], 0))?;
-    pairs.push(([0, 0, 0, 0, 0, 0, 0, 5], 4))?;
-    let wanted = [
-        U64Reply::Old(None),
-        U64Reply::Old(None),
-        U64Reply::Old(None),
-        U64Reply::Old(Some(Half(2))),
-        U64Reply::Old(Some(Half(0))),
-        U64Reply::Old(Some(Half(4))),
-        U64Reply::Old(None),
-        U64Reply::Old(None),
-        U64Reply::Old(None),
-        U64Reply::Ranged(pairs),
-    ];
-    assert_eq!(rt; replies.as_slice(), wanted.as_slice());
+    assert_number_list::<Half>(&rt, rt.alloc(), &rows)?;
     Ok(())
+}
+
+fn is_told_so(alloc: Global, error: OOMError, wanted: &str) -> Result<bool, Fail> {
+    let told = format!(in alloc; "{error}, {error:?}")?;
+    Ok(told.as_str() == wanted)
 }
 
 #[test]
 fn tells_of_missing_memory(rt: HostRuntime) -> Result<(), Fail> {
-    let error = OOMError::new();
-    let told = format!(in rt.alloc(); "{error}, {error:?}")?;
     let text = "Allocator is out of memory!, Allocator is out of memory!";
-    assert_eq!(rt; told.as_str(), text);
+    assert_test(&rt, is_told_so(rt.alloc(), OOMError::new(), text)?, true);
     Ok(())
 }

@@ -1,23 +1,64 @@
-//! Rows of calls with what each has to answer, and their comparison with the answers of a map.
+//! Rows of calls with what each has to return, and their comparison with the replies of a map.
+//!
+//! Rows are `Copy`. A reply is owned by a helper that returns a `bool` or a number, since each assertion beside an owned
+//! value makes a test dearer to prove.
 
-use crate::calls::{Call, Reply, make_call};
-use crate::u64_calls::{U64Call, U64Reply, make_u64_call};
-use crate::{Allocator, Congee, DefaultAllocator, U64Congee, Word};
+use super::asserts::assert_number;
+use crate::calls::{Call, Reply, make_call, run_calls};
+use crate::u64_calls::{U64Call, U64Reply, make_u64_call, run_u64_calls};
+use crate::{Allocator, Congee, DefaultAllocator, OOMError, U64Congee, Word};
 use std::alloc::Global;
 use std::fmt::Debug;
 use std::process::Abort;
-use std::test::Fail;
 
-/// Makes the calls of the rows, one after another, and compares what they answer.
+/// What a call has to return.
+#[derive(Clone, Copy)]
+pub(super) enum Wanted<'a, K: Copy, V: Copy> {
+    Old(Option<V>),
+    Exchanged(Result<Option<V>, Option<V>>),
+    Computed(Option<(u64, Option<u64>)>),
+    Tested(bool),
+    Listed(&'a [K]),
+    Ranged(&'a [(u64, u64)]),
+    Refused,
+}
+
+fn is_wanted<K: Word + PartialEq, V: Word + PartialEq>(
+    reply: &Reply<K, V>,
+    wanted: &Wanted<'_, K, V>,
+) -> bool {
+    match wanted {
+        Wanted::Old(expected) => matches!(reply, Reply::Old(value) if value == expected),
+        Wanted::Exchanged(expected) => matches!(reply, Reply::Exchanged(r) if r == expected),
+        Wanted::Computed(expected) => matches!(reply, Reply::Computed(r) if r == expected),
+        Wanted::Tested(expected) => matches!(reply, Reply::Tested(test) if test == expected),
+        Wanted::Listed(expected) =>
+            matches!(reply, Reply::Listed(keys) if keys.as_slice() == *expected),
+        Wanted::Ranged(expected) =>
+            matches!(reply, Reply::Ranged(pairs) if pairs.as_slice() == *expected),
+        Wanted::Refused => matches!(reply, Reply::Refused),
+    }
+}
+
+// Makes the call, and returns whether its reply is the wanted one.
+fn replies<K: Word + PartialEq, V: Word + PartialEq, A: Allocator>(
+    alloc: Global,
+    map: &mut Congee<K, V, A>,
+    call: &Call<K, V>,
+    wanted: &Wanted<'_, K, V>,
+) -> bool {
+    is_wanted(&make_call(alloc, map, call), wanted)
+}
+
+/// Makes the calls of the rows, one after another, and compares what they return.
 pub(super) fn assert_rows<K: Word + Debug + PartialEq, V: Word + Debug + PartialEq, A: Allocator>(
     rt: &impl Abort,
     alloc: Global,
     map: &mut Congee<K, V, A>,
-    rows: &[(Call<K, V>, Reply<K, V>)],
+    rows: &[(Call<K, V>, Wanted<'_, K, V>)],
 ) {
     for (call, wanted) in rows {
-        let reply = make_call(alloc, map, call);
-        assert_eq!(rt; reply, *wanted, "{call:?}");
+        assert!(rt; replies(alloc, map, call, wanted), "{call:?}");
     }
 }
 
@@ -25,33 +66,147 @@ pub(super) fn assert_rows<K: Word + Debug + PartialEq, V: Word + Debug + Partial
 pub(super) fn assert_run<K: Word + Debug + PartialEq, V: Word + Debug + PartialEq>(
     rt: &impl Abort,
     alloc: Global,
-    rows: &[(Call<K, V>, Reply<K, V>)],
-) -> Result<(), Fail> {
+    rows: &[(Call<K, V>, Wanted<'_, K, V>)],
+) -> Result<(), OOMError> {
     let mut map: Congee<K, V> = Congee::new(alloc, DefaultAllocator {})?;
     assert_rows(rt, alloc, &mut map, rows);
     Ok(())
 }
 
-/// Makes the calls of the rows, one after another, each of which answers a value or none.
-pub(super) fn assert_number_rows<V: Word + Debug + PartialEq>(
+fn list_of<K: Word, V: Word>(
+    alloc: Global,
+    rows: &[(Call<K, V>, Wanted<'_, K, V>)],
+) -> Result<Vec<Call<K, V>>, OOMError> {
+    let mut calls = Vec::new(alloc);
+    for (call, _) in rows {
+        calls.push(*call)?;
+    }
+    Ok(calls)
+}
+
+// How many replies, from the first on, are the wanted ones.
+fn count_wanted<K: Word + PartialEq, V: Word + PartialEq>(
+    replies: &[Reply<K, V>],
+    rows: &[(Call<K, V>, Wanted<'_, K, V>)],
+) -> usize {
+    for i in 0..rows.len() {
+        match replies.get(i) {
+            Some(reply) if is_wanted(reply, &rows[i].1) => {}
+            _ => return i,
+        }
+    }
+    rows.len()
+}
+
+// The same of the replies to the calls of the rows, made as one list.
+fn list_wanted<K: Word + PartialEq, V: Word + PartialEq>(
+    alloc: Global,
+    map: &mut Congee<K, V>,
+    rows: &[(Call<K, V>, Wanted<'_, K, V>)],
+) -> Result<usize, OOMError> {
+    let calls = list_of(alloc, rows)?;
+    let replies = run_calls(alloc, map, &calls)?;
+    Ok(count_wanted(&replies, rows))
+}
+
+/// Makes the calls of the rows at a new map, as one list, and compares the replies.
+pub(super) fn assert_list<K: Word + PartialEq, V: Word + PartialEq>(
     rt: &impl Abort,
     alloc: Global,
-    map: &mut U64Congee<V>,
-    rows: &[(U64Call<V>, Option<V>)],
-) {
-    for (call, wanted) in rows {
-        let reply = make_u64_call(alloc, map, call);
-        assert_eq!(rt; reply, U64Reply::Old(*wanted), "{call:?}");
+    rows: &[(Call<K, V>, Wanted<'_, K, V>)],
+) -> Result<(), OOMError> {
+    let mut map: Congee<K, V> = Congee::new(alloc, DefaultAllocator {})?;
+    let count = list_wanted(alloc, &mut map, rows)?;
+    assert_number(rt, count as u128, rows.len() as u128);
+    Ok(())
+}
+
+/// What a call by numbers has to return.
+#[derive(Clone, Copy)]
+pub(super) enum NumberWanted<'a, V: Copy> {
+    Old(Option<V>),
+    Ranged(&'a [([u8; 8], u64)]),
+}
+
+fn is_number_wanted<V: Word + PartialEq>(
+    reply: &U64Reply<V>,
+    wanted: &NumberWanted<'_, V>,
+) -> bool {
+    match wanted {
+        NumberWanted::Old(expected) => matches!(reply, U64Reply::Old(value) if value == expected),
+        NumberWanted::Ranged(expected) =>
+            matches!(reply, U64Reply::Ranged(r) if r.as_slice() == *expected),
     }
 }
 
-/// Makes them at a new map.
+// Makes the call, and returns whether its reply is the wanted one.
+fn number_replies<V: Word + PartialEq>(
+    alloc: Global,
+    map: &mut U64Congee<V>,
+    call: &U64Call<V>,
+    wanted: &NumberWanted<'_, V>,
+) -> bool {
+    is_number_wanted(&make_u64_call(alloc, map, call), wanted)
+}
+
+/// Makes the calls of the rows at a new map, one after another, each of which returns a value or none.
 pub(super) fn assert_number_run<V: Word + Debug + PartialEq>(
     rt: &impl Abort,
     alloc: Global,
     rows: &[(U64Call<V>, Option<V>)],
-) -> Result<(), Fail> {
+) -> Result<(), OOMError> {
     let mut map: U64Congee<V> = U64Congee::new(alloc)?;
-    assert_number_rows(rt, alloc, &mut map, rows);
+    for (call, value) in rows {
+        let wanted = NumberWanted::Old(*value);
+        assert!(rt; number_replies(alloc, &mut map, call, &wanted), "{call:?}");
+    }
+    Ok(())
+}
+
+fn number_list_of<V: Word>(
+    alloc: Global,
+    rows: &[(U64Call<V>, NumberWanted<'_, V>)],
+) -> Result<Vec<U64Call<V>>, OOMError> {
+    let mut calls = Vec::new(alloc);
+    for (call, _) in rows {
+        calls.push(*call)?;
+    }
+    Ok(calls)
+}
+
+// How many replies, from the first on, are the wanted ones.
+fn count_number_wanted<V: Word + PartialEq>(
+    replies: &[U64Reply<V>],
+    rows: &[(U64Call<V>, NumberWanted<'_, V>)],
+) -> usize {
+    for i in 0..rows.len() {
+        match replies.get(i) {
+            Some(reply) if is_number_wanted(reply, &rows[i].1) => {}
+            _ => return i,
+        }
+    }
+    rows.len()
+}
+
+// The same of the replies to the calls of the rows, made as one list.
+fn number_list_wanted<V: Word + PartialEq>(
+    alloc: Global,
+    map: &mut U64Congee<V>,
+    rows: &[(U64Call<V>, NumberWanted<'_, V>)],
+) -> Result<usize, OOMError> {
+    let calls = number_list_of(alloc, rows)?;
+    let replies = run_u64_calls(alloc, map, &calls)?;
+    Ok(count_number_wanted(&replies, rows))
+}
+
+/// Makes the calls of the rows at a new map, as one list, and compares the replies.
+pub(super) fn assert_number_list<V: Word + PartialEq>(
+    rt: &impl Abort,
+    alloc: Global,
+    rows: &[(U64Call<V>, NumberWanted<'_, V>)],
+) -> Result<(), OOMError> {
+    let mut map: U64Congee<V> = U64Congee::new(alloc)?;
+    let count = number_list_wanted(alloc, &mut map, rows)?;
+    assert_number(rt, count as u128, rows.len() as u128);
     Ok(())
 }

@@ -1,180 +1,232 @@
 //! Worked examples of `CongeeArc`.
 
 use super::asserts::{assert_number, assert_old, assert_test};
-use crate::CongeeArc;
 use crate::payload_calls::{PayloadCall, PayloadReply, run_payload_calls};
-use std::alloc::Global;
+use crate::{CongeeArc, OOMError};
+use std::alloc::{AllocError, Global};
 use std::process::Abort;
 use std::sync::Arc;
 use std::test::Fail;
 
-fn text(alloc: Global, text: &str) -> Result<Arc<String>, Fail> {
+type Text = &'static str;
+
+fn owner_of(alloc: Global, text: Text) -> Result<Arc<String>, AllocError> {
     Ok(Arc::new(alloc, String::from_str(alloc, text)?)?)
 }
 
-fn is_text(owner: Option<&Arc<String>>, wanted: &str) -> bool {
-    match owner {
-        Some(owner) => owner.as_str() == wanted,
-        None => false,
+// Whether this is an owner of the text, or none is where none is wanted.
+fn is_owner(owner: Option<&Arc<String>>, wanted: Option<Text>) -> bool {
+    match (owner, wanted) {
+        (Some(owner), Some(text)) => owner.as_str() == text,
+        (None, None) => true,
+        _ => false,
     }
 }
 
 /// A call at a map of texts.
-#[derive(Clone, Copy)]
+#[derive(Clone, Copy, Debug)]
 enum Said {
     Get(u64),
-    Insert(u64, &'static str),
+    Insert(u64, Text),
     Remove(u64),
-    Change(u64, &'static str),
+    Change(u64, Text),
     IsEmpty,
     Keys,
 }
 
+/// What it has to return.
+#[derive(Clone, Copy)]
+enum Wanted {
+    Seen(Option<Text>),
+    Old(Option<Text>),
+    Tested(bool),
+    Listed(&'static [u64]),
+}
+
 // The call that is said so.
-fn call_of(alloc: Global, said: Said) -> Result<PayloadCall<u64, Arc<String>>, Fail> {
+fn made_of(alloc: Global, said: Said) -> Result<PayloadCall<u64, Arc<String>>, AllocError> {
     Ok(match said {
         Said::Get(key) => PayloadCall::Get(key),
-        Said::Insert(key, new) => PayloadCall::Insert(key, text(alloc, new)?),
+        Said::Insert(key, new) => PayloadCall::Insert(key, owner_of(alloc, new)?),
         Said::Remove(key) => PayloadCall::Remove(key),
-        Said::Change(key, new) => PayloadCall::ComputeIfPresent(key, Some(text(alloc, new)?)),
+        Said::Change(key, new) => PayloadCall::ComputeIfPresent(key, Some(owner_of(alloc, new)?)),
         Said::IsEmpty => PayloadCall::IsEmpty,
         Said::Keys => PayloadCall::Keys,
     })
 }
 
-// A run of the calls at a new map has these replies.
-fn assert_run(rt: &impl Abort, alloc: Global, rows: &[(Said, &str)]) -> Result<(), Fail> {
+fn is_wanted(reply: &PayloadReply<u64, Arc<String>>, wanted: Wanted) -> bool {
+    match wanted {
+        Wanted::Seen(text) =>
+            matches!(reply, PayloadReply::Seen(owner) if is_owner(owner.as_ref(), text)),
+        Wanted::Old(text) =>
+            matches!(reply, PayloadReply::Old(owner) if is_owner(owner.as_ref(), text)),
+        Wanted::Tested(expected) =>
+            matches!(reply, PayloadReply::Tested(test) if *test == expected),
+        Wanted::Listed(expected) =>
+            matches!(reply, PayloadReply::Listed(keys) if keys.as_slice() == expected),
+    }
+}
+
+fn calls_of(
+    alloc: Global,
+    rows: &[(Said, Wanted)],
+) -> Result<Vec<PayloadCall<u64, Arc<String>>>, OOMError> {
     let mut calls = Vec::new(alloc);
     for (said, _) in rows {
-        calls.push(call_of(alloc, *said)?)?;
+        calls.push(made_of(alloc, *said)?)?;
     }
-    let mut map: CongeeArc<u64, String> = CongeeArc::new(alloc)?;
-    let replies = run_payload_calls(alloc, &mut map, calls)?;
-    assert_number(rt, replies.len() as u128, rows.len() as u128);
-    for (reply, (_, wanted)) in replies.iter().zip(rows) {
-        assert_eq!(rt; told(alloc, reply)?.as_str(), *wanted);
+    Ok(calls)
+}
+
+// How many replies, from the first on, are the wanted ones.
+fn count_wanted(replies: &[PayloadReply<u64, Arc<String>>], rows: &[(Said, Wanted)]) -> usize {
+    for i in 0..rows.len() {
+        match replies.get(i) {
+            Some(reply) if is_wanted(reply, rows[i].1) => {}
+            _ => return i,
+        }
     }
+    rows.len()
+}
+
+fn replies_to(
+    alloc: Global,
+    map: &mut CongeeArc<u64, String>,
+    rows: &[(Said, Wanted)],
+) -> Result<Vec<PayloadReply<u64, Arc<String>>>, OOMError> {
+    run_payload_calls(alloc, map, calls_of(alloc, rows)?)
+}
+
+fn wanted_replies(
+    alloc: Global,
+    map: &mut CongeeArc<u64, String>,
+    rows: &[(Said, Wanted)],
+) -> Result<usize, OOMError> {
+    Ok(count_wanted(&replies_to(alloc, map, rows)?, rows))
+}
+
+// The calls, made at a new map, have the wanted replies.
+fn assert_run(rt: &impl Abort, alloc: Global, rows: &[(Said, Wanted)]) -> Result<(), OOMError> {
+    let count = wanted_replies(alloc, &mut CongeeArc::new(alloc)?, rows)?;
+    assert_number(rt, count as u128, rows.len() as u128);
     Ok(())
 }
 
 #[test]
 fn gives_back_what_is_replaced(rt: HostRuntime) -> Result<(), Fail> {
     let rows = [
-        (Said::IsEmpty, "true"),
-        (Said::Insert(1, "test1"), "old -"),
-        (Said::Insert(1, "test2"), "old test1"),
-        (Said::Get(1), "seen test2"),
-        (Said::IsEmpty, "false"),
-        (Said::Remove(1), "old test2"),
-        (Said::IsEmpty, "true"),
-        (Said::Get(1), "seen -"),
-        (Said::Remove(1), "old -"),
+        (Said::IsEmpty, Wanted::Tested(true)),
+        (Said::Insert(1, "test1"), Wanted::Old(None)),
+        (Said::Insert(1, "test2"), Wanted::Old(Some("test1"))),
+        (Said::Get(1), Wanted::Seen(Some("test2"))),
+        (Said::IsEmpty, Wanted::Tested(false)),
+        (Said::Remove(1), Wanted::Old(Some("test2"))),
+        (Said::IsEmpty, Wanted::Tested(true)),
+        (Said::Get(1), Wanted::Seen(None)),
+        (Said::Remove(1), Wanted::Old(None)),
     ];
-    assert_run(&rt, rt.alloc(), &rows)
+    assert_run(&rt, rt.alloc(), &rows)?;
+    let rows = [
+        (Said::Insert(1, "a"), Wanted::Old(None)),
+        (Said::Get(1), Wanted::Seen(Some("a"))),
+        (Said::Change(1, "b"), Wanted::Old(Some("a"))),
+        (Said::Get(2), Wanted::Seen(None)),
+        (Said::Keys, Wanted::Listed(&[1])),
+        (Said::Remove(1), Wanted::Old(Some("b"))),
+        (Said::IsEmpty, Wanted::Tested(true)),
+    ];
+    assert_run(&rt, rt.alloc(), &rows)?;
+    Ok(())
 }
 
-#[test]
-fn a_run_of_calls(rt: HostRuntime) -> Result<(), Fail> {
-    let rows = [
-        (Said::Insert(1, "a"), "old -"),
-        (Said::Get(1), "seen a"),
-        (Said::Change(1, "b"), "old a"),
-        (Said::Get(2), "seen -"),
-        (Said::Keys, "1 key"),
-        (Said::Remove(1), "old b"),
-        (Said::IsEmpty, "true"),
-    ];
-    assert_run(&rt, rt.alloc(), &rows)
+// Puts the owner, or none, in the place of what stands at the key. Returns whether the closure saw the wanted text there,
+// or wasn't called where none is wanted, and whether the call gave that back.
+fn changes(
+    map: &mut CongeeArc<u64, String>,
+    key: u64,
+    wanted: Option<Text>,
+    given: Option<Arc<String>>,
+) -> bool {
+    let mut seen = wanted.is_none();
+    let mut next = given;
+    let mut change = |standing: &Arc<String>| -> Option<Arc<String>> {
+        seen = is_owner(Some(standing), wanted);
+        next.take()
+    };
+    let old = map.compute_if_present(key, &mut change);
+    seen && is_owner(old.as_ref(), wanted)
+}
+
+fn assert_changes(
+    rt: &impl Abort,
+    alloc: Global,
+    map: &mut CongeeArc<u64, String>,
+) -> Result<(), OOMError> {
+    map.insert(1, owner_of(alloc, "hello")?)?;
+    let longer = owner_of(alloc, "hello world")?;
+    assert_test(rt, changes(map, 1, Some("hello"), Some(longer)), true);
+    assert_test(rt, is_owner(map.get(1), Some("hello world")), true);
+    assert_test(rt, changes(map, 2, None, None), true);
+    assert_test(rt, changes(map, 1, Some("hello world"), None), true);
+    assert_test(rt, map.is_empty(), true);
+    Ok(())
 }
 
 #[test]
 fn computes_on_what_stands(rt: HostRuntime) -> Result<(), Fail> {
-    let mut map: CongeeArc<u64, String> = CongeeArc::new(rt.alloc())?;
-    map.insert(1, text(rt.alloc(), "hello")?)?;
-    let mut longer = Some(text(rt.alloc(), "hello world")?);
-    let mut seen = false;
-    let old = map.compute_if_present(
-        1,
-        &mut |standing: &Arc<String>| {
-            seen = standing.as_str() == "hello";
-            longer.take()
-        },
-    );
-    assert_test(&rt, seen, true);
-    assert_test(&rt, is_text(old.as_ref(), "hello"), true);
-    assert_test(&rt, is_text(map.get(1), "hello world"), true);
-    let absent = map.compute_if_present(2, &mut |_standing: &Arc<String>| None);
-    assert_test(&rt, absent.is_none(), true);
-    let old = map.compute_if_present(1, &mut |_standing: &Arc<String>| None);
-    assert_test(&rt, is_text(old.as_ref(), "hello world"), true);
-    assert_test(&rt, map.is_empty(), true);
+    assert_changes(&rt, rt.alloc(), &mut CongeeArc::new(rt.alloc())?)?;
     Ok(())
 }
 
-// Puts an owner of the key's own number there, where none is.
-fn insert_owner(
-    rt: &impl Abort,
+// Puts an owner of the key's own number there; returns whether none was.
+fn is_first_owner(
     alloc: Global,
     map: &mut CongeeArc<u64, u64>,
     key: u64,
-) -> Result<(), Fail> {
+) -> Result<bool, OOMError> {
     let before = map.insert(key, Arc::new(alloc, key)?)?;
-    assert_test(rt, before.is_none(), true);
-    Ok(())
+    Ok(before.is_none())
 }
 
-// An owner of the key's own number stands there.
-fn assert_owned(rt: &impl Abort, map: &CongeeArc<u64, u64>, key: u64) {
-    let owner = map.get(key);
-    assert_old(rt, key, owner.map(|owner| **owner), Some(key));
+fn taken(map: &mut CongeeArc<u64, u64>, key: u64) -> Option<u64> {
+    map.remove(key).map(|owner| *owner)
 }
 
-fn assert_taken(rt: &impl Abort, map: &mut CongeeArc<u64, u64>, key: u64) {
-    let owner = map.remove(key);
-    assert_old(rt, key, owner.map(|owner| *owner), Some(key));
-}
-
-// The keys are those of many owners.
-fn assert_all_keys(rt: &impl Abort, map: &CongeeArc<u64, u64>) -> Result<(), Fail> {
+// The first key, the last one, and how many there are.
+fn ends(map: &CongeeArc<u64, u64>) -> Result<[Option<u64>; 3], OOMError> {
     let keys = map.keys()?;
-    assert_number(rt, keys.len() as u128, 300);
-    assert_old(rt, 0, keys.first().copied(), Some(0));
-    assert_old(rt, 299, keys.last().copied(), Some(299));
+    Ok([
+        keys.first().copied(),
+        keys.last().copied(),
+        Some(keys.len() as u64),
+    ])
+}
+
+fn assert_many(
+    rt: &impl Abort,
+    alloc: Global,
+    map: &mut CongeeArc<u64, u64>,
+) -> Result<(), OOMError> {
+    for key in 0..300u64 {
+        assert_test(rt, is_first_owner(alloc, map, key)?, true);
+    }
+    for key in 0..300u64 {
+        assert_old(rt, key, map.get(key).map(|owner| **owner), Some(key));
+    }
+    let [first, last, count] = ends(map)?;
+    assert_old(rt, 0, first, Some(0));
+    assert_old(rt, 299, last, Some(299));
+    assert_old(rt, 300, count, Some(300));
+    for key in 0..300u64 {
+        assert_old(rt, key, taken(map, key), Some(key));
+    }
+    assert_test(rt, map.is_empty(), true);
     Ok(())
 }
 
 #[test]
 fn many_owners(rt: HostRuntime) -> Result<(), Fail> {
-    let mut map: CongeeArc<u64, u64> = CongeeArc::new(rt.alloc())?;
-    for key in 0..300u64 {
-        insert_owner(&rt, rt.alloc(), &mut map, key)?;
-    }
-    for key in 0..300u64 {
-        assert_owned(&rt, &map, key);
-    }
-    assert_all_keys(&rt, &map)?;
-    for key in 0..300u64 {
-        assert_taken(&rt, &mut map, key);
-    }
-    assert_test(&rt, map.is_empty(), true);
+    assert_many(&rt, rt.alloc(), &mut CongeeArc::new(rt.alloc())?)?;
     Ok(())
-}
-
-// The reply in words.
-fn told(alloc: Global, reply: &PayloadReply<u64, Arc<String>>) -> Result<String, Fail> {
-    let (name, owner) = match reply {
-        PayloadReply::Seen(owner) => ("seen ", owner.as_ref()),
-        PayloadReply::Old(owner) => ("old ", owner.as_ref()),
-        PayloadReply::Tested(true) => return Ok(String::from_str(alloc, "true")?),
-        PayloadReply::Tested(false) => return Ok(String::from_str(alloc, "false")?),
-        PayloadReply::Listed(keys) => return Ok(format!(in alloc; "{} key", keys.len())?),
-        PayloadReply::Unseen => return Ok(String::from_str(alloc, "unseen")?),
-        PayloadReply::Refused => return Ok(String::from_str(alloc, "refused")?),
-    };
-    let mut words = String::from_str(alloc, name)?;
-    match owner {
-        Some(owner) => words.push_str(owner.as_str())?,
-        None => words.push_str("-")?,
-    }
-    Ok(words)
 }

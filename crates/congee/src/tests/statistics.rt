@@ -4,14 +4,19 @@ use crate::{Congee, DefaultAllocator, OOMError};
 use std::alloc::Global;
 use std::test::Fail;
 
-// The statistics of a map with so many keys, the multiples of a step.
-fn text_of(alloc: Global, step: u64, keys: u64) -> Result<String, OOMError> {
-    let mut map: Congee<u64, u64> = Congee::new(alloc, DefaultAllocator {})?;
+// Puts so many keys into a map, from this one on, so far from one another.
+fn fill(map: &mut Congee<u64, u64>, first: u64, step: u64, keys: u64) -> Result<(), OOMError> {
     for i in 0..keys {
-        map.insert(step.wrapping_mul(i), i)?;
+        map.insert(step.wrapping_mul(i).wrapping_add(first), i)?;
     }
+    Ok(())
+}
+
+// Whether the map's statistics have this text.
+fn has_text(alloc: Global, map: &Congee<u64, u64>, wanted: &str) -> Result<bool, OOMError> {
     let stats = map.stats()?;
-    Ok(format!(in alloc; "{stats}")?)
+    let text = format!(in alloc; "{stats}")?;
+    Ok(text.as_str() == wanted)
 }
 
 const FIRST_BYTE: u64 = 72057594037927936;
@@ -21,7 +26,7 @@ fn maps_have_these_texts(rt: HostRuntime) -> Result<(), Fail> {
     let alloc = rt.alloc();
     let rows = [
         (
-            (1, 4),
+            (0, 1, 4),
             "Level: 0 --- || N4:        0,     0.00 || N16:        0,     0.00 || N48:        0,     0.00 || N256:        1,     0.00 ||\n\
              Level: 1 --- || N4:        1,     1.00 || N16:        0,     0.00 || N48:        0,     0.00 || N256:        0,     0.00 ||\n\
              Overall node count: 2, entry count: 5\n\
@@ -30,7 +35,7 @@ fn maps_have_these_texts(rt: HostRuntime) -> Result<(), Fail> {
              KV count: 4\n",
         ),
         (
-            (FIRST_BYTE, 32),
+            (0, FIRST_BYTE, 32),
             "Level: 0 --- || N4:        0,     0.00 || N16:        0,     0.00 || N48:        0,     0.00 || N256:        1,     0.12 ||\n\
              Level: 1 --- || N4:       32,     0.25 || N16:        0,     0.00 || N48:        0,     0.00 || N256:        0,     0.00 ||\n\
              Overall node count: 33, entry count: 64\n\
@@ -39,7 +44,7 @@ fn maps_have_these_texts(rt: HostRuntime) -> Result<(), Fail> {
              KV count: 32\n",
         ),
         (
-            (FIRST_BYTE, 96),
+            (0, FIRST_BYTE, 96),
             "Level: 0 --- || N4:        0,     0.00 || N16:        0,     0.00 || N48:        0,     0.00 || N256:        1,     0.38 ||\n\
              Level: 1 --- || N4:       96,     0.25 || N16:        0,     0.00 || N48:        0,     0.00 || N256:        0,     0.00 ||\n\
              Overall node count: 97, entry count: 192\n\
@@ -49,7 +54,7 @@ fn maps_have_these_texts(rt: HostRuntime) -> Result<(), Fail> {
         ),
         // an inner node below the root, and its three leaves: 6 * 192 + 3 of 5 * 768
         (
-            (256, 3),
+            (0, 256, 3),
             "Level: 0 --- || N4:        0,     0.00 || N16:        0,     0.00 || N48:        0,     0.00 || N256:        1,     0.00 ||\n\
              Level: 1 --- || N4:        1,     0.75 || N16:        0,     0.00 || N48:        0,     0.00 || N256:        0,     0.00 ||\n\
              Level: 2 --- || N4:        3,     0.25 || N16:        0,     0.00 || N48:        0,     0.00 || N256:        0,     0.00 ||\n\
@@ -58,27 +63,21 @@ fn maps_have_these_texts(rt: HostRuntime) -> Result<(), Fail> {
              Active memory usage: 0 Mb\n\
              KV count: 3\n",
         ),
+        // the first example: key 1 alone
+        (
+            (1, 1, 1),
+            "Level: 0 --- || N4:        0,     0.00 || N16:        0,     0.00 || N48:        0,     0.00 || N256:        1,     0.00 ||\n\
+             Level: 1 --- || N4:        1,     0.25 || N16:        0,     0.00 || N48:        0,     0.00 || N256:        0,     0.00 ||\n\
+             Overall node count: 2, entry count: 2\n\
+             Load factor: 0.13 (too low)\n\
+             Active memory usage: 0 Mb\n\
+             KV count: 1\n",
+        ),
     ];
-    for ((step, keys), wanted) in rows {
-        assert_eq!(rt; text_of(alloc, step, keys)?.as_str(), wanted);
+    for ((first, step, keys), wanted) in rows {
+        let mut map: Congee<u64, u64> = Congee::new(alloc, DefaultAllocator {})?;
+        fill(&mut map, first, step, keys)?;
+        assert!(rt; has_text(alloc, &map, wanted)?, "{keys} keys");
     }
-    Ok(())
-}
-
-#[test]
-fn first_example_has_this_text(rt: HostRuntime) -> Result<(), Fail> {
-    let alloc = rt.alloc();
-    let mut map: Congee<u64, u64> = Congee::new(alloc, DefaultAllocator {})?;
-    map.insert(1, 42)?;
-    let stats = map.stats()?;
-    assert_eq!(rt;
-        format!(in alloc; "{stats}")?.as_str(),
-        "Level: 0 --- || N4:        0,     0.00 || N16:        0,     0.00 || N48:        0,     0.00 || N256:        1,     0.00 ||\n\
-         Level: 1 --- || N4:        1,     0.25 || N16:        0,     0.00 || N48:        0,     0.00 || N256:        0,     0.00 ||\n\
-         Overall node count: 2, entry count: 2\n\
-         Load factor: 0.13 (too low)\n\
-         Active memory usage: 0 Mb\n\
-         KV count: 1\n"
-    );
     Ok(())
 }

@@ -1,11 +1,10 @@
-//! The tree against the plain map, call by call, with keys of each kind.
+//! A map against the plain map, call by call, with keys of each kind, and where leaves empty again.
 
 use super::asserts::{assert_old, assert_put};
+use super::both::{Both, scattered};
 use super::rows::assert_number_run;
-use crate::U64Congee;
 use crate::u64_calls::U64Call;
-use congee_tree::sorted_pairs::SortedPairs;
-use std::alloc::Global;
+use crate::{OOMError, U64Congee};
 use std::process::Abort;
 use std::test::Fail;
 
@@ -33,57 +32,28 @@ fn key_of(kind: Kind, i: u64) -> u64 {
     }
 }
 
-// A number that looks like no neighbour's.
-pub(super) fn scattered(i: u64) -> u64 {
-    let x = i.wrapping_add(1).wrapping_mul(0x9e37_79b9_7f4a_7c15);
-    let y = (x ^ x.wrapping_shr(30)).wrapping_mul(0xbf58_476d_1ce4_e5b9);
-    y ^ y.wrapping_shr(27)
-}
-
-// Both maps answer alike at the first keys and their neighbours.
-fn assert_alike(
-    rt: &impl Abort,
-    tree: &U64Congee<u64>,
-    plain: &SortedPairs<u64>,
-    kind: Kind,
-    count: u64,
-) {
+// Both maps return alike at the first keys and their neighbours.
+fn assert_kind_alike(rt: &impl Abort, both: &Both, kind: Kind, count: u64) {
     for i in 0..count {
         let key = key_of(kind, i);
         for key in [key, key ^ 1, key.wrapping_add(256)] {
-            assert_old(rt, key, tree.get(key), plain.get(key).copied());
+            both.assert_get(rt, key);
         }
     }
-}
-
-// Puts the key of this number into both maps.
-fn insert_both(
-    rt: &impl Abort,
-    tree: &mut U64Congee<u64>,
-    plain: &mut SortedPairs<u64>,
-    kind: Kind,
-    i: u64,
-) {
-    let key = key_of(kind, i);
-    let wanted = plain.insert(key, i);
-    assert_put(rt, key, tree.insert(key, i), wanted);
 }
 
 // Both maps are alike all along while keys of this kind go in.
-fn assert_kind(rt: &impl Abort, alloc: Global, kind: Kind) -> Result<(), Fail> {
-    let mut tree: U64Congee<u64> = U64Congee::new(alloc)?;
-    let mut plain = SortedPairs::new(alloc);
+fn assert_kind(rt: &impl Abort, both: &mut Both, kind: Kind) {
     for i in 0..2000u64 {
-        insert_both(rt, &mut tree, &mut plain, kind, i);
+        both.insert(rt, key_of(kind, i), i);
         if i % 100 == 99 {
-            assert_alike(rt, &tree, &plain, kind, i + 1);
+            assert_kind_alike(rt, both, kind, i + 1);
         }
     }
-    Ok(())
 }
 
 #[test]
-fn agrees_with_the_plain_map(rt: HostRuntime) -> Result<(), Fail> {
+fn insertions_agree_with_the_plain_map(rt: HostRuntime) -> Result<(), Fail> {
     let kinds = [
         Kind::Dense,
         Kind::Random,
@@ -98,8 +68,42 @@ fn agrees_with_the_plain_map(rt: HostRuntime) -> Result<(), Fail> {
         Kind::Boundary,
     ];
     for kind in kinds {
-        assert_kind(&rt, rt.alloc(), kind)?;
+        assert_kind(&rt, &mut Both::new(rt.alloc())?, kind);
     }
+    Ok(())
+}
+
+// A key of a few at each byte of which one differs from the others, so that leaves empty again and again.
+fn crowded(i: u64) -> u64 {
+    let x = scattered(i);
+    (x % 6).wrapping_shl(8 * (x.wrapping_shr(16) % 8) as u32)
+}
+
+// Both maps return alike at each such key.
+fn assert_crowd_alike(rt: &impl Abort, both: &Both) {
+    for place in 0..8u32 {
+        for byte in 0..7u64 {
+            both.assert_get(rt, byte.wrapping_shl(8 * place));
+        }
+    }
+}
+
+fn assert_crowd(rt: &impl Abort, both: &mut Both) {
+    for i in 0..20_000u64 {
+        if scattered(i).wrapping_shr(40) % 2 == 0 {
+            both.insert(rt, crowded(i), i);
+        } else {
+            both.remove(rt, crowded(i));
+        }
+        if i % 1000 == 999 {
+            assert_crowd_alike(rt, both);
+        }
+    }
+}
+
+#[test]
+fn removals_agree_with_the_plain_map(rt: HostRuntime) -> Result<(), Fail> {
+    assert_crowd(&rt, &mut Both::new(rt.alloc())?);
     Ok(())
 }
 
@@ -114,40 +118,33 @@ fn assert_split(rt: &impl Abort, map: &mut U64Congee<u64>, place: u32) {
     assert_old(rt, other, map.get(other), Some(2));
 }
 
-#[test]
-fn splits_at_each_byte(rt: HostRuntime) -> Result<(), Fail> {
-    for place in 0..8u32 {
-        let mut map: U64Congee<u64> = U64Congee::new(rt.alloc())?;
-        assert_split(&rt, &mut map, place);
-    }
-    Ok(())
-}
-
-// Puts the next key into a map that has those before it.
-fn assert_next(rt: &impl Abort, map: &mut U64Congee<u64>, i: u64, shift: u32) {
-    let key = i.wrapping_shl(shift);
-    assert_put(rt, key, map.insert(key, i), Ok(None));
-    for j in 0..256u64 {
-        let key = j.wrapping_shl(shift);
-        let wanted = if j <= i { Some(j) } else { None };
-        assert_old(rt, key, map.get(key), wanted);
-    }
-}
-
-#[test]
-fn grows_through_all_forms(rt: HostRuntime) -> Result<(), Fail> {
-    // at a leaf, at the node above it, and three bytes from the root
-    for shift in [0u32, 8, 40] {
-        let mut map: U64Congee<u64> = U64Congee::new(rt.alloc())?;
-        for i in 0..256u64 {
-            assert_next(&rt, &mut map, i, shift);
+// Puts 256 keys so far apart into an empty map, one after another.
+fn assert_growth(rt: &impl Abort, map: &mut U64Congee<u64>, shift: u32) {
+    for i in 0..256u64 {
+        let key = i.wrapping_shl(shift);
+        assert_put(rt, key, map.insert(key, i), Ok(None));
+        for j in 0..256u64 {
+            let key = j.wrapping_shl(shift);
+            let wanted = if j <= i { Some(j) } else { None };
+            assert_old(rt, key, map.get(key), wanted);
         }
     }
+}
+
+#[test]
+fn splits_at_each_byte_and_grows_through_all_forms(rt: HostRuntime) -> Result<(), Fail> {
+    for place in 0..8u32 {
+        assert_split(&rt, &mut U64Congee::new(rt.alloc())?, place);
+    }
+    // at a leaf, at the node above it, and three bytes from the root
+    for shift in [0u32, 8, 40] {
+        assert_growth(&rt, &mut U64Congee::new(rt.alloc())?, shift);
+    }
     Ok(())
 }
 
 #[test]
-fn long_and_short_ways(rt: HostRuntime) -> Result<(), Fail> {
+fn long_and_short_paths(rt: HostRuntime) -> Result<(), Fail> {
     let rows = [
         (U64Call::Insert(1, 1), None),
         (U64Call::Insert(256, 2), None),
@@ -157,5 +154,6 @@ fn long_and_short_ways(rt: HostRuntime) -> Result<(), Fail> {
         (U64Call::Get(u64::MAX), Some(3)),
         (U64Call::Get(0), None),
     ];
-    assert_number_run::<u64>(&rt, rt.alloc(), &rows)
+    assert_number_run::<u64>(&rt, rt.alloc(), &rows)?;
+    Ok(())
 }

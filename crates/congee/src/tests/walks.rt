@@ -1,55 +1,59 @@
 //! Lists of keys, drains and drainers.
 
-use super::asserts::{assert_old, assert_put};
-use super::faces::Tens;
-use crate::{Congee, DefaultAllocator, Drainer, FnDrain, NoDrain};
+use super::asserts::{assert_old, assert_pairs, assert_put, assert_test};
+use crate::{Congee, DefaultAllocator, Drainer, FnDrain, NoDrain, OOMError};
 use std::alloc::Global;
 use std::cell::RefCell;
 use std::process::Abort;
 use std::test::Fail;
 
-// Puts a new key into the map, and at the end of the list.
-fn insert_noted(
-    rt: &impl Abort,
-    map: &mut Congee<u64, u64>,
-    keys: &mut Vec<u64>,
-    key: u64,
-) -> Result<(), Fail> {
-    assert_put(rt, key, map.insert(key, key), Ok(None));
-    keys.push(key)?;
-    Ok(())
+fn has_keys(map: &Congee<u64, u64>, wanted: &[u64]) -> Result<bool, OOMError> {
+    let keys = map.keys()?;
+    Ok(keys.as_slice() == wanted)
 }
 
-fn assert_keys(rt: &impl Abort, map: &Congee<u64, u64>, wanted: &[u64]) -> Result<(), Fail> {
-    let keys = map.keys()?;
-    assert_eq!(rt; keys.as_slice(), wanted);
+// 17 keys in one leaf, one of them taken out and put back, and then keys far from them.
+fn assert_all_keys(rt: &impl Abort, map: &mut Congee<u64, u64>) -> Result<(), OOMError> {
+    let wanted = [
+        0,
+        1,
+        2,
+        3,
+        4,
+        5,
+        6,
+        7,
+        8,
+        9,
+        10,
+        11,
+        12,
+        13,
+        14,
+        15,
+        16,
+        300,
+        1 << 40,
+        u64::MAX,
+    ];
+    assert_test(rt, has_keys(map, &[])?, true);
+    for key in 0..17u64 {
+        assert_put(rt, key, map.insert(key, key), Ok(None));
+    }
+    assert_old(rt, 5, map.remove(&5), Some(5));
+    assert_put(rt, 5, map.insert(5, 5), Ok(None));
+    assert_test(rt, has_keys(map, &wanted[..17])?, true);
+    for key in [300, 1 << 40, u64::MAX] {
+        assert_put(rt, key, map.insert(key, key), Ok(None));
+    }
+    assert_test(rt, has_keys(map, &wanted)?, true);
     Ok(())
 }
 
 #[test]
 fn keys_ascend(rt: HostRuntime) -> Result<(), Fail> {
     let mut map: Congee<u64, u64> = Congee::new(rt.alloc(), DefaultAllocator {})?;
-    assert_keys(&rt, &map, &[])?;
-    let mut wanted = Vec::new(rt.alloc());
-    for key in 0..17u64 {
-        insert_noted(&rt, &mut map, &mut wanted, key)?;
-    }
-    assert_old(&rt, 5, map.remove(&5), Some(5));
-    assert_put(&rt, 5, map.insert(5, 5), Ok(None));
-    assert_keys(&rt, &map, &wanted)?;
-    for key in [300, 1 << 40, u64::MAX] {
-        insert_noted(&rt, &mut map, &mut wanted, key)?;
-    }
-    assert_keys(&rt, &map, &wanted)?;
-    Ok(())
-}
-
-#[test]
-fn keys_are_read_back(rt: HostRuntime) -> Result<(), Fail> {
-    let mut map: Congee<Tens, u64> = Congee::new(rt.alloc(), DefaultAllocator {})?;
-    assert_put(&rt, 12, map.insert(Tens(12), 1), Ok(None));
-    assert_put(&rt, 17, map.insert(Tens(17), 2), Ok(Some(1)));
-    assert_eq!(rt; map.keys()?.as_slice(), [Tens(10)].as_slice());
+    assert_all_keys(&rt, &mut map)?;
     Ok(())
 }
 
@@ -69,41 +73,57 @@ impl Drainer<u64, u64> for Notes<'_> {
     }
 }
 
-// A map with three pairs, whose drainer notes what it is told.
-fn noted<'a>(
-    alloc: Global,
-    told: &'a RefCell<Vec<(u64, u64)>>,
-) -> Result<Congee<u64, u64, DefaultAllocator, Notes<'a>>, Fail> {
-    let mut map = Congee::new_with_drainer(alloc, DefaultAllocator {}, Notes { told })?;
+type NotedMap<'a> = Congee<u64, u64, DefaultAllocator, Notes<'a>>;
+
+// Puts three pairs into a map whose drainer notes what it is told.
+fn fill(map: &mut NotedMap<'_>) -> Result<(), OOMError> {
     for (key, value) in [(2, 20), (1, 10), (u64::MAX, 30)] {
         map.insert(key, value)?;
     }
+    Ok(())
+}
+
+// Such a map.
+fn noted<'a>(alloc: Global, told: &'a RefCell<Vec<(u64, u64)>>) -> Result<NotedMap<'a>, OOMError> {
+    let mut map = Congee::new_with_drainer(alloc, DefaultAllocator {}, Notes { told })?;
+    fill(&mut map)?;
     Ok(map)
+}
+
+// What the drainer is told when the map is dropped.
+fn told_at_drop(alloc: Global) -> Result<Vec<(u64, u64)>, OOMError> {
+    let told = RefCell::new(Vec::new(alloc));
+    let map = noted(alloc, &told)?;
+    drop(map);
+    Ok(told.into_inner())
 }
 
 #[test]
 fn drainer_is_told_at_the_drop(rt: HostRuntime) -> Result<(), Fail> {
-    let told = RefCell::new(Vec::new(rt.alloc()));
-    let map = noted(rt.alloc(), &told)?;
-    drop(map);
-    let list = told.into_inner();
     let wanted = [(1, 10), (2, 20), (u64::MAX, 30)];
-    assert_eq!(rt; list.as_slice(), wanted.as_slice());
+    assert_pairs(&rt, 0, &told_at_drop(rt.alloc())?, &wanted);
     Ok(())
 }
 
-#[test]
-fn drain_tells_its_closure_alone(rt: HostRuntime) -> Result<(), Fail> {
-    let told = RefCell::new(Vec::new(rt.alloc()));
-    let map = noted(rt.alloc(), &told)?;
-    let mut list = Vec::new(rt.alloc());
+// What the closure of a drain is told, and then what the drainer is.
+fn told_by_drain(alloc: Global) -> Result<Vec<(u64, u64)>, OOMError> {
+    let told = RefCell::new(Vec::new(alloc));
+    let map = noted(alloc, &told)?;
+    let mut list = Vec::new(alloc);
     let mut take = |key: u64, value: u64| {
         let _ = list.push((key, value));
     };
     map.drain(&mut take);
+    for pair in told.into_inner().as_slice() {
+        list.push(*pair)?;
+    }
+    Ok(list)
+}
+
+#[test]
+fn drain_tells_its_closure_alone(rt: HostRuntime) -> Result<(), Fail> {
     let wanted = [(1, 10), (2, 20), (u64::MAX, 30)];
-    assert_eq!(rt; list.as_slice(), wanted.as_slice());
-    assert_eq!(rt; told.into_inner().len(), 0);
+    assert_pairs(&rt, 0, &told_by_drain(rt.alloc())?, &wanted);
     Ok(())
 }
 
@@ -120,7 +140,7 @@ fn closure_is_told(rt: HostRuntime) -> Result<(), Fail> {
     let drainer = FnDrain::new(|key: u64, value: u64| {
         let _ = told.try_replace((key, value));
     });
-    assert_eq!(rt; tell(&drainer), true);
+    assert_test(&rt, tell(&drainer), true);
     drop(drainer);
     assert_eq!(rt; told.into_inner(), (7, 70));
     Ok(())
@@ -128,7 +148,6 @@ fn closure_is_told(rt: HostRuntime) -> Result<(), Fail> {
 
 #[test]
 fn nobody_is_told(rt: HostRuntime) -> Result<(), Fail> {
-    let nobody = NoDrain {};
-    assert_eq!(rt; tell(&nobody), false);
+    assert_test(&rt, tell(&NoDrain {}), false);
     Ok(())
 }

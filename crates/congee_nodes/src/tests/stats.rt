@@ -6,6 +6,7 @@ use crate::stats::NodeStats;
 use crate::stats::fraction::hundredths;
 use crate::stats::levels::{LevelStats, Levels};
 use std::alloc::Global;
+use std::process::Abort;
 use std::test::Fail;
 
 // Statistics with these counts, each level's nodes and entries.
@@ -36,6 +37,13 @@ fn root_and_leaves(alloc: Global, leaves: u64, pairs: u64) -> Result<NodeStats, 
         stats.add_pairs(pairs);
     }
     Ok(stats)
+}
+
+// The statistics have this text.
+fn reads(rt: &impl Abort, alloc: Global, stats: &NodeStats, wanted: &str) -> Result<(), Fail> {
+    let text = format!(in alloc; "{stats}")?;
+    assert_eq!(rt; text.as_str(), wanted);
+    Ok(())
 }
 
 #[test]
@@ -81,17 +89,13 @@ fn trees_have_these_texts(rt: HostRuntime) -> Result<(), Fail> {
         ),
     ];
     for ((leaves, pairs), wanted) in rows {
-        let stats = root_and_leaves(alloc, leaves, pairs)?;
-        assert_eq!(rt; format!(in alloc; "{stats}")?.as_str(), wanted);
+        reads(&rt, alloc, &root_and_leaves(alloc, leaves, pairs)?, wanted)?;
     }
-    assert_eq!(rt;
-        format!(in alloc; "{}", NodeStats::empty(alloc))?.as_str(),
-        "Overall node count: 0, entry count: 0\n\
-         Load factor: 0.00\n\
-         Active memory usage: 0 Mb\n\
-         KV count: 0\n"
-    );
-    Ok(())
+    let none = "Overall node count: 0, entry count: 0\n\
+                Load factor: 0.00\n\
+                Active memory usage: 0 Mb\n\
+                KV count: 0\n";
+    reads(&rt, alloc, &NodeStats::empty(alloc), none)
 }
 
 #[test]
@@ -112,7 +116,8 @@ fn levels_by_hand_have_these_texts(rt: HostRuntime) -> Result<(), Fail> {
              Level: 2 --- || N4:        5,     0.55 || N16:        0,     0.00 || N48:        0,     0.00 || N256:        7,     0.01 ||\n\
              Overall node count: 22, entry count: 1147\n\
              Load factor: 0.49 (too low)\n\
-             Active memory usage: 0 Mb\n",
+             Active memory usage: 0 Mb\n\
+             KV count: 42\n",
         ),
         // a tie goes to the even hundredth: 13 / 40
         (
@@ -120,7 +125,8 @@ fn levels_by_hand_have_these_texts(rt: HostRuntime) -> Result<(), Fail> {
             "Level: 0 --- || N4:       10,     0.32 || N16:        0,     0.00 || N48:        0,     0.00 || N256:        0,     0.00 ||\n\
              Overall node count: 10, entry count: 13\n\
              Load factor: 0.32 (too low)\n\
-             Active memory usage: 0 Mb\n",
+             Active memory usage: 0 Mb\n\
+             KV count: 42\n",
         ),
         // one half isn't too low; what is printed alike may be
         (
@@ -128,14 +134,16 @@ fn levels_by_hand_have_these_texts(rt: HostRuntime) -> Result<(), Fail> {
             "Level: 0 --- || N4:        1,     0.50 || N16:        0,     0.00 || N48:        0,     0.00 || N256:        0,     0.00 ||\n\
              Overall node count: 1, entry count: 2\n\
              Load factor: 0.50\n\
-             Active memory usage: 0 Mb\n",
+             Active memory usage: 0 Mb\n\
+             KV count: 42\n",
         ),
         (
             &[([0, 0, 0, 1], [0, 0, 0, 127])],
             "Level: 0 --- || N4:        0,     0.00 || N16:        0,     0.00 || N48:        0,     0.00 || N256:        1,     0.50 ||\n\
              Overall node count: 1, entry count: 127\n\
              Load factor: 0.50 (too low)\n\
-             Active memory usage: 0 Mb\n",
+             Active memory usage: 0 Mb\n\
+             KV count: 42\n",
         ),
         // 1047792 and 1049896 bytes
         (
@@ -143,14 +151,16 @@ fn levels_by_hand_have_these_texts(rt: HostRuntime) -> Result<(), Fail> {
             "Level: 0 --- || N4:        0,     0.00 || N16:        0,     0.00 || N48:        0,     0.00 || N256:      498,     0.00 ||\n\
              Overall node count: 498, entry count: 0\n\
              Load factor: 0.00 (too low)\n\
-             Active memory usage: 0 Mb\n",
+             Active memory usage: 0 Mb\n\
+             KV count: 42\n",
         ),
         (
             &[([0, 0, 0, 499], none)],
             "Level: 0 --- || N4:        0,     0.00 || N16:        0,     0.00 || N48:        0,     0.00 || N256:      499,     0.00 ||\n\
              Overall node count: 499, entry count: 0\n\
              Load factor: 0.00 (too low)\n\
-             Active memory usage: 1 Mb\n",
+             Active memory usage: 1 Mb\n\
+             KV count: 42\n",
         ),
         // entries without nodes, and a factor wider than its place
         (
@@ -158,28 +168,26 @@ fn levels_by_hand_have_these_texts(rt: HostRuntime) -> Result<(), Fail> {
             "Level: 0 --- || N4:        0,     0.00 || N16:        0,     0.00 || N48:        0,     0.00 || N256:        0,     0.00 ||\n\
              Overall node count: 0, entry count: 73786976294838206460\n\
              Load factor: 0.00\n\
-             Active memory usage: 0 Mb\n",
+             Active memory usage: 0 Mb\n\
+             KV count: 42\n",
         ),
         (
             &[([1, 0, 0, 0], [u64::MAX, 0, 0, 0])],
             "Level: 0 --- || N4:        1, 4611686018427387903.75 || N16:        0,     0.00 || N48:        0,     0.00 || N256:        0,     0.00 ||\n\
              Overall node count: 1, entry count: 18446744073709551615\n\
              Load factor: 4611686018427387903.75\n\
-             Active memory usage: 0 Mb\n",
+             Active memory usage: 0 Mb\n\
+             KV count: 42\n",
         ),
     ];
     for (counts, wanted) in rows {
-        let stats = by_hand(alloc, counts, 42)?;
-        let wanted = format!(in alloc; "{wanted}KV count: 42\n")?;
-        assert_eq!(rt; format!(in alloc; "{stats}")?.as_str(), wanted.as_str());
+        reads(&rt, alloc, &by_hand(alloc, counts, 42)?, wanted)?;
     }
     Ok(())
 }
 
-#[test]
-fn the_ninth_level_is_left_out(rt: HostRuntime) -> Result<(), Fail> {
-    let alloc = rt.alloc();
-    let stats = by_hand(alloc, &[([u64::MAX; 4], [u64::MAX; 4]); 9], u64::MAX)?;
+// The text of eight levels whose counts are as great as they can be.
+fn eight_greatest_levels(alloc: Global) -> Result<String, Fail> {
     let mut wanted = String::new(alloc);
     for number in 0..8u8 {
         let line = format!(in alloc;
@@ -193,8 +201,15 @@ fn the_ninth_level_is_left_out(rt: HostRuntime) -> Result<(), Fail> {
          Active memory usage: 423338364972826623 Mb\n\
          KV count: 18446744073709551615\n",
     )?;
-    assert_eq!(rt; format!(in alloc; "{stats}")?.as_str(), wanted.as_str());
-    Ok(())
+    Ok(wanted)
+}
+
+#[test]
+fn the_ninth_level_is_left_out(rt: HostRuntime) -> Result<(), Fail> {
+    let alloc = rt.alloc();
+    let wanted = eight_greatest_levels(alloc)?;
+    let nine = by_hand(alloc, &[([u64::MAX; 4], [u64::MAX; 4]); 9], u64::MAX)?;
+    reads(&rt, alloc, &nine, wanted.as_str())
 }
 
 #[test]
@@ -214,48 +229,81 @@ fn hundredths_are_the_nearest(rt: HostRuntime) {
     }
 }
 
-#[test]
-fn counts_stay_at_the_greatest(rt: HostRuntime) -> Result<(), Fail> {
-    let mut stats = NodeStats::empty(rt.alloc());
+// Counts more nodes, entries and pairs than a count can hold.
+fn counts_past_the_greatest(stats: &mut NodeStats) -> Result<(), OOMError> {
     stats.add_node(2, NodeType::N48, u64::MAX - 1)?;
     stats.add_node(2, NodeType::N48, 5)?;
     stats.add_node(0, NodeType::N16, 7)?;
     stats.add_pairs(u64::MAX);
     stats.add_pairs(1);
-    assert_eq!(rt; stats.kv_pairs, u64::MAX);
+    Ok(())
+}
+
+// Whether the levels have these nodes and entries.
+fn has_counts(levels: &[LevelStats], wanted: &[([u64; 4], [u64; 4])]) -> bool {
+    if levels.len() != wanted.len() {
+        return false;
+    }
+    for (level, counts) in levels.iter().zip(wanted) {
+        if (level.nodes, level.entries) != *counts {
+            return false;
+        }
+    }
+    true
+}
+
+// The pairs of statistics that counted too much, and whether their levels have these nodes and entries.
+fn after_too_much(alloc: Global, wanted: &[([u64; 4], [u64; 4])]) -> Result<(u64, bool), OOMError> {
+    let mut stats = NodeStats::empty(alloc);
+    counts_past_the_greatest(&mut stats)?;
+    let pairs = stats.kv_pairs;
     let levels = stats.levels.into_vec();
+    Ok((pairs, has_counts(&levels, wanted)))
+}
+
+#[test]
+fn counts_stay_at_the_greatest(rt: HostRuntime) -> Result<(), Fail> {
     let wanted = [
         ([0, 1, 0, 0], [0, 7, 0, 0]),
         ([0, 0, 0, 0], [0, 0, 0, 0]),
         ([0, 0, 2, 0], [0, 0, u64::MAX, 0]),
     ];
-    assert_eq!(rt; levels.len(), wanted.len());
-    for (level, counts) in levels.iter().zip(&wanted) {
-        assert_eq!(rt; (level.nodes, level.entries), *counts);
-    }
+    assert_eq!(rt; after_too_much(rt.alloc(), &wanted)?, (u64::MAX, true));
     Ok(())
+}
+
+// Whether a node without end is refused, and how many levels there are then.
+fn after_no_memory(alloc: Global) -> (bool, usize) {
+    let mut stats = NodeStats::empty(alloc);
+    let refused = stats.add_node(usize::MAX, NodeType::N4, 1) == Err(OOMError::new());
+    (refused, stats.levels.as_slice().len())
 }
 
 #[test]
 fn a_level_without_end_has_no_memory(rt: HostRuntime) {
-    let mut stats = NodeStats::empty(rt.alloc());
-    assert_eq!(rt;
-        stats.add_node(usize::MAX, NodeType::N4, 1),
-        Err(OOMError::new())
-    );
-    assert_eq!(rt; stats.levels.as_slice().len(), 0);
+    assert_eq!(rt; after_no_memory(rt.alloc()), (true, 0));
+}
+
+// What `Debug` and `Serialize` write of a root and a leaf with one pair.
+fn debug_text(alloc: Global) -> Result<String, Fail> {
+    let stats = root_and_leaves(alloc, 1, 1)?;
+    Ok(format!(in alloc; "{stats:?}")?)
+}
+
+fn json_text(alloc: Global) -> Result<String, Fail> {
+    let stats = root_and_leaves(alloc, 1, 1)?;
+    Ok(serde_json::to_string(alloc, &stats)?)
 }
 
 #[test]
 fn derives_show_the_fields(rt: HostRuntime) -> Result<(), Fail> {
     let alloc = rt.alloc();
-    let stats = root_and_leaves(alloc, 1, 1)?;
     assert_eq!(rt;
-        format!(in alloc; "{stats:?}")?.as_str(),
+        debug_text(alloc)?.as_str(),
         "NodeStats { levels: [LevelStats { nodes: [0, 0, 0, 1], entries: [0, 0, 0, 1] }, LevelStats { nodes: [1, 0, 0, 0], entries: [1, 0, 0, 0] }], kv_pairs: 1 }"
     );
     assert_eq!(rt;
-        serde_json::to_string(alloc, &stats)?.as_str(),
+        json_text(alloc)?.as_str(),
         r#"{"levels":[{"nodes":[0,0,0,1],"entries":[0,0,0,1]},{"nodes":[1,0,0,0],"entries":[1,0,0,0]}],"kv_pairs":1}"#
     );
     let level = LevelStats {

@@ -1,8 +1,13 @@
 //! Both kinds of nodes of a table: each call once.
 
+ghost use Rattle.std.specs.Prelude.{◌≡◌, [], ◌∷◌};
+ghost use Rattle.congee_base.specs.declared.base_node.NodeType.TheVariants.{N4};
+
 use crate::base_node::NodeType;
 use crate::child::{Child, ChildRef};
+use crate::error::OOMError;
 use crate::tree_node::TreeNode;
+use std::alloc::Global;
 use std::mem::size_of;
 use std::process::Abort;
 use std::test::Fail;
@@ -29,37 +34,58 @@ fn payload_at(node: &TreeNode<u64>, byte: u8) -> Option<u64> {
     }
 }
 
-#[test]
-fn leaf_grows_and_keeps_its_payloads(rt: HostRuntime) -> Result<(), Fail> {
-    let mut leaf = TreeNode::leaf(rt.alloc(), &[1, 2, 3, 4, 5, 6, 7])?;
+// Puts five payloads into an empty leaf, and grows it where it is full.
+fn grows_a_leaf(rt: &impl Abort, alloc: Global, leaf: &mut TreeNode<u64>) -> Result<(), OOMError> {
     for byte in 0..5u8 {
         if leaf.is_full() {
-            leaf.grow(rt.alloc())?;
+            leaf.grow(alloc)?;
         }
-        assert!(rt; put(&mut leaf, byte, 10 * u64::from(byte)), "at {byte}");
+        assert!(rt; put(leaf, byte, 10 * u64::from(byte)), "at {byte}");
     }
     assert_eq!(rt; leaf.base().get_type(), NodeType::N16);
     assert_eq!(rt; leaf.base().prefix(), [1, 2, 3, 4, 5, 6, 7].as_slice());
     assert_eq!(rt; leaf.base().value_count(), 5);
-    assert_eq!(rt; payload_at(&leaf, 3), Some(30));
-    assert_eq!(rt; payload_at(&leaf, 5), None);
+    assert_eq!(rt; payload_at(leaf, 3), Some(30));
+    assert_eq!(rt; payload_at(leaf, 5), None);
     Ok(())
 }
 
 #[test]
-fn inner_nodes_have_slots(rt: HostRuntime) -> Result<(), Fail> {
-    let mut node = TreeNode::<u64>::inner(rt.alloc(), &[1])?;
+fn leaf_grows_and_keeps_its_payloads(rt: HostRuntime) -> Result<(), Fail> {
+    let mut leaf = TreeNode::leaf(rt.alloc(), &[1, 2, 3, 4, 5, 6, 7])?;
+    grows_a_leaf(&rt, rt.alloc(), &mut leaf)?;
+    Ok(())
+}
+
+// Puts one slot in the place of another, and takes it out.
+fn changes_a_slot(rt: &impl Abort, node: &mut TreeNode<u64>)
+    requires { node.old ≡ record { form = N4; prefix = 1 ∷ []; children = [] } }
+{
     node.insert(9, Child::Node(5));
-    let old = node.change(9, Child::Node(6));
-    assert!(rt; matches!(old, Child::Node(5)));
+    assert!(rt; matches!(node.change(9, Child::Node(6)), Child::Node(5)));
     assert!(rt; matches!(node.get_child(9), Some(ChildRef::Node(6))));
     assert!(rt; matches!(node.first_from(0), Some((9, ChildRef::Node(6)))));
     assert!(rt; node.first_from(10).is_none());
     assert!(rt; matches!(node.remove(9), Child::Node(6)));
     assert!(rt; node.get_child(9).is_none());
-    let root = TreeNode::<u64>::root(rt.alloc())?;
-    assert_eq!(rt; root.base().get_type(), NodeType::N256);
-    assert!(rt; !root.is_leaf());
+}
+
+#[test]
+fn inner_nodes_have_slots(rt: HostRuntime) -> Result<(), Fail> {
+    let mut node = TreeNode::<u64>::inner(rt.alloc(), &[1])?;
+    changes_a_slot(&rt, &mut node);
+    Ok(())
+}
+
+// The form of an empty tree's root, and whether it is a leaf.
+fn root_is(alloc: Global) -> Result<(NodeType, bool), OOMError> {
+    let root = TreeNode::<u64>::root(alloc)?;
+    Ok((root.base().get_type(), root.is_leaf()))
+}
+
+#[test]
+fn roots_have_room_for_each_byte(rt: HostRuntime) -> Result<(), Fail> {
+    assert_eq!(rt; root_is(rt.alloc())?, (NodeType::N256, false));
     Ok(())
 }
 

@@ -2,7 +2,7 @@
 
 ghost use Rattle.std.specs.Prelude.{◌≡◌, ◌≢◌, ℕ, Some};
 ghost use Rattle.congee_olc.specs.World.{table_on};
-ghost use Rattle.congee_olc.specs.Facts.{IsPlaced, Facts, IsAdvance};
+ghost use Rattle.congee_olc.specs.inner.Facts.{IsPlaced, Facts, IsAdvance};
 ghost use Rattle.congee_olc.specs.Run.{IsServedOp};
 
 use crate::olc::reading::{Stepped, check, check_above, read, take_below, take_root};

@@ -1,68 +1,96 @@
-//! What the machine asks of a call that it is handed: whether it is served, whether it is the one in flight, and a share of
-//! its payloads.
+//! The records of calls in flight, and the room that is kept for those to come. What takes a record out of its place, puts it
+//! back and drops it stands here alone.
 
-ghost use Rattle.std.specs.Prelude.{◌≡◌, ◌↔◌, IsTrue, IfOk, IsOk};
-ghost use Rattle.congee_olc.specs.Flight.{IsSameCall, AlikeOp, AlikeOption};
-ghost use Rattle.congee_olc.specs.Run.{IsServedOp};
+ghost use Rattle.std.specs.Prelude.{◌≡◌, ◌↔◌, [], IsTrue, Some, None, IsSome, IsOk, OnOk, OnErr, option_copied};
+ghost use Rattle.congee_sync.specs.Epoch.{entry_at};
+ghost use Rattle.congee_olc.specs.World.{record_in};
+ghost use Rattle.congee_olc.specs.inner.Calls.{ChangesPlace};
 
-use crate::olc::types::Op;
+use crate::olc::stage::Record;
 use congee_map::error::OOMError;
-use congee_map::payload::Payload;
+use std::alloc::Global;
+use std::collections::BTreeMap;
+use std::marker::Model;
 
-/// Whether the machine serves calls of this kind. Others are refused at their first Read.
-pub fn is_served<P>(op: &Op<P>) -> bool
-    ensures { IsTrue result ↔ IsServedOp op.now }
-{
-    match op {
-        Op::Get(_) => true,
-        _ => false,
-    }
+/// A place for each number that has a call in flight or room for one.
+#[derive(Drop)]
+pub(crate) struct Calls<P> {
+    places: BTreeMap<u64, Option<Record<P>>>,
 }
 
-// The payload that takes a standing one's place, if one does.
-fn share_answer<P: Payload>(new: &Option<P>) -> Result<Option<P>, OOMError>
-    ensures alike { IfOk result (λ copy. AlikeOption P.alike new.now copy) }
-    ensures granted { P.always_shared → IsOk result }
-{
-    match new {
-        None => Ok(None),
-        Some(new) => Ok(Some(new.share()?)),
-    }
+impl<P> Model for Calls<P> {
+    ghost use Rattle.std.specs.Prelude.{ℕ, List, Option};
+    ghost use Rattle.congee_olc.specs.declared.olc.stage.Record.{Record};
+
+    ghost Value = { List (ℕ × Option (Record P)) };
+
+    ghost view = { λ c. c.places.entries };
 }
 
-/// The call, with a share of each of its payloads.
-pub(crate) fn share_op<P: Payload>(op: &Op<P>) -> Result<Op<P>, OOMError>
-    ensures alike { IfOk result (λ copy. AlikeOp P.alike op.now copy) }
-    ensures granted { P.always_shared → IsOk result }
-{
-    match op {
-        Op::Get(key) => Ok(Op::Get(*key)),
-        Op::Insert(key, value) => Ok(Op::Insert(*key, value.share()?)),
-        Op::Remove(key) => Ok(Op::Remove(*key)),
-        Op::ComputeIfPresent(key) => Ok(Op::ComputeIfPresent(*key)),
-        Op::ComputeOrInsert(key, otherwise) => Ok(Op::ComputeOrInsert(*key, otherwise.share()?)),
-        Op::CompareExchange(key, old, new) => {
-            let old = old.share()?;
-            Ok(Op::CompareExchange(*key, old, share_answer(new)?))
+impl<P: Drop> Calls<P> {
+    /// No places. Takes no memory.
+    pub(crate) fn new(alloc: Global) -> Self
+        ensures { result ≡ [] }
+    {
+        Calls {
+            places: BTreeMap::new(alloc),
         }
-        Op::Range(start, end, limit) => Ok(Op::Range(*start, *end, *limit)),
     }
-}
 
-/// Whether both are of one kind and have the same key; of a range the same start, end and limit.
-pub(crate) fn is_same_call<P>(call: &Op<P>, handed: &Op<P>) -> bool
-    ensures { IsTrue result ↔ IsSameCall call.now handed.now }
-{
-    match (call, handed) {
-        (Op::Get(key), Op::Get(other)) => *other == *key,
-        (Op::Insert(key, _), Op::Insert(other, _)) => *other == *key,
-        (Op::Remove(key), Op::Remove(other)) => *other == *key,
-        (Op::ComputeIfPresent(key), Op::ComputeIfPresent(other)) => *other == *key,
-        (Op::ComputeOrInsert(key, _), Op::ComputeOrInsert(other, _)) => *other == *key,
-        (Op::CompareExchange(key, _, _), Op::CompareExchange(other, _, _)) => *other == *key,
-        (Op::Range(start, end, limit), Op::Range(from, to, most)) => {
-            *from == *start && *to == *end && *most == *limit
+    /// Whether no number has a place.
+    #[cfg(test)]
+    pub(crate) fn is_empty(&self) -> bool
+        ensures { IsTrue result ↔ (self.now ≡ []) }
+    {
+        self.places.is_empty()
+    }
+
+    /// The record of a number's call in flight.
+    pub(crate) fn get(&self, id: u64) -> Option<&Record<P>>
+        ensures { option_copied result ≡ record_in (entry_at self.now id) }
+    {
+        match self.places.get(&id) {
+            Some(Some(call)) => Some(call),
+            _ => None,
         }
-        _ => false,
+    }
+
+    /// Makes a place for a number that has no call in flight. A refusal changes nothing.
+    pub(crate) fn reserve(&mut self, id: u64) -> Result<(), OOMError>
+        ensures ok { OnOk result (ChangesPlace self.old self.new id (Some None)) }
+        ensures err { OnErr result (self.new ≡ self.old) }
+    {
+        self.places.insert(id, None)?;
+        Ok(())
+    }
+
+    /// Puts a record into a number's place, and makes the place where there is none. Only that may be refused, and then
+    /// nothing changes.
+    pub(crate) fn put(&mut self, id: u64, call: Record<P>) -> Result<(), OOMError>
+        ensures ok { OnOk result (ChangesPlace self.old self.new id (Some (Some call))) }
+        ensures err { OnErr result (self.new ≡ self.old) }
+        ensures granted { IsSome (entry_at self.old id) → IsOk result }
+    {
+        self.places.insert(id, Some(call))?;
+        Ok(())
+    }
+
+    /// Takes the record of a number's call in flight out of its place, which stays.
+    pub(crate) fn take(&mut self, id: u64) -> Record<P>
+        requires { IsSome (record_in (entry_at self.old id)) }
+        ensures call { record_in (entry_at self.old id) ≡ Some result }
+        ensures place { ChangesPlace self.old self.new id (Some None) }
+    {
+        let Ok(Some(Some(call))) = self.places.insert(id, None) else {
+            unreachable!()
+        };
+        call
+    }
+
+    /// Gives a number's place back.
+    pub(crate) fn forget(&mut self, id: u64)
+        ensures { ChangesPlace self.old self.new id None }
+    {
+        self.places.remove(&id);
     }
 }

@@ -3,7 +3,7 @@
 ghost use Rattle.std.specs.Prelude.{◌≡◌, ℕ, suc, [], ◌∷◌, ◌++◌, length, OnOk};
 ghost use Rattle.congee_node_table.specs.Key.{low};
 ghost use Rattle.congee_node_table.specs.Table.{IsSubtree, pairs_at};
-ghost use Rattle.congee_olc.specs.Content.{nodes_on, AddsShares};
+ghost use Rattle.congee_olc.specs.inner.Walks.{nodes_on, AddsShares};
 
 use crate::olc::stage::Stored;
 use congee_map::error::OOMError;

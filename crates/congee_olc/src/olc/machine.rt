@@ -7,14 +7,14 @@ ghost use Rattle.congee_sync.specs.Epoch.{is_seated};
 ghost use Rattle.congee_olc.specs.World.{World, call_of};
 ghost use Rattle.congee_olc.specs.Flight.{Flight, flight_of, AlikeOp};
 ghost use Rattle.congee_olc.specs.Event.{Holds, IsStart, IsStep, IsHanded, IsTaken, IsReseated, IsSeating, IsUnchanged, report_of};
-ghost use Rattle.congee_olc.specs.Facts.{IsSound, IsBegun, IsTurn};
+ghost use Rattle.congee_olc.specs.inner.Facts.{IsSound, IsBegun, IsTurn};
 ghost use Rattle.congee_olc.specs.Run.{IsFresh, IsCarried, seen_of};
 ghost use Rattle.congee_olc.specs.Table.{view_of, IsContent, IsWellFormed, sizes_of};
 ghost use Rattle.congee_olc.specs.Content.{IsTold};
 ghost use Rattle.congee_olc.specs.declared.olc.types.Op.{Op};
 
 use crate::olc::advance::{Advanced, advance};
-use crate::olc::calls::{is_same_call, share_op};
+use crate::olc::calls::Calls;
 use crate::olc::content::push_pairs;
 use crate::olc::stage::{Asking, Place, Progress, Record, Stage, Stored};
 use crate::olc::types::{Env, Kind, Op, Outcome, Report, Seen, StartError};
@@ -27,7 +27,6 @@ use congee_sync::epoch::Pins;
 use congee_sync::lock::Word64;
 use slab::Slab;
 use std::alloc::Global;
-use std::collections::BTreeMap;
 use std::marker::Model;
 
 #[cfg(test)]
@@ -63,20 +62,20 @@ pub struct Machine<P: Payload, A: Allocator> {
     nodes: Slab<Stored<P>>,
     root: usize,
     pins: Pins,
-    calls: BTreeMap<u64, Option<Record<P>>>,
+    calls: Calls<P>,
     entries: u128,
     budget: A,
 }
 
 impl<P: Payload, A: Allocator> Model for Machine<P, A> {
     ghost use Rattle.congee_olc.specs.World.{World, call_of};
-    ghost use Rattle.congee_olc.specs.Facts.{IsSound};
+    ghost use Rattle.congee_olc.specs.inner.Facts.{IsSound};
 
     ghost Value = { World P };
 
-    ghost view = { λ m. record { slots = m.nodes.slots; root = m.root; pins = m.pins; calls = m.calls.entries; entries = m.entries; charge = A.charge m.budget } };
+    ghost view = { λ m. record { slots = m.nodes.slots; root = m.root; pins = m.pins; calls = m.calls; entries = m.entries; charge = A.charge m.budget } };
 
-    ghost invariant = { λ m. IsSound P.alike (record { slots = m.nodes.slots; root = m.root; pins = m.pins; calls = m.calls.entries; entries = m.entries; charge = A.charge m.budget }) };
+    ghost invariant = { λ m. IsSound P.alike (record { slots = m.nodes.slots; root = m.root; pins = m.pins; calls = m.calls; entries = m.entries; charge = A.charge m.budget }) };
 }
 
 impl<P: Payload, A: Allocator> Machine<P, A> {
@@ -98,7 +97,7 @@ impl<P: Payload, A: Allocator> Machine<P, A> {
             nodes,
             root,
             pins: Pins::new(alloc),
-            calls: BTreeMap::new(alloc),
+            calls: Calls::new(alloc),
             entries: 0,
             budget,
         })
@@ -108,10 +107,7 @@ impl<P: Payload, A: Allocator> Machine<P, A> {
     pub fn is_in_flight(&self, id: u64) -> bool
         ensures { IsTrue result ↔ IsSome (flight_of self.now id) }
     {
-        match self.calls.get(&id) {
-            Some(Some(_)) => true,
-            _ => false,
-        }
+        self.calls.get(id).is_some()
     }
 
     // Whether a number is seated or has a call in flight.
@@ -136,7 +132,7 @@ impl<P: Payload, A: Allocator> Machine<P, A> {
         Some(id)
     }
 
-    /// Keeps room for the calls of the least number that is neither seated nor in flight, and answers it.
+    /// Keeps room for the calls of the least number that is neither seated nor in flight, and returns it.
     ///
     /// A refusal changes nothing. It comes where there is no room, or where all numbers are taken.
     pub fn seat(&mut self) -> Result<u64, OOMError>
@@ -156,11 +152,9 @@ impl<P: Payload, A: Allocator> Machine<P, A> {
         ensures ok { OnOk result (IsReseated self.old self.new id true) }
         ensures err { OnErr result (IsUnchanged self.old self.new) }
     {
-        let Ok(_) = self.calls.insert(id, None) else {
-            return Err(OOMError::new());
-        };
+        self.calls.reserve(id)?;
         let Ok(()) = self.pins.seat(id) else {
-            self.calls.remove(&id);
+            self.calls.forget(id);
             return Err(OOMError::new());
         };
         Ok(())
@@ -175,7 +169,7 @@ impl<P: Payload, A: Allocator> Machine<P, A> {
             return;
         }
         self.pins.unseat(id);
-        self.calls.remove(&id);
+        self.calls.forget(id);
     }
 
     /// Begins a call of a number, which is pinned at the count of retirements. The call's payloads are shared.
@@ -192,7 +186,7 @@ impl<P: Payload, A: Allocator> Machine<P, A> {
         if self.is_in_flight(id) {
             return Err(StartError::InFlight);
         }
-        let op = match share_op(op) {
+        let op = match op.share() {
             Ok(op) => op,
             Err(error) => return Err(StartError::Oom(error)),
         };
@@ -219,7 +213,7 @@ impl<P: Payload, A: Allocator> Machine<P, A> {
             asking: Asking::Fresh,
             progress: Progress::Open,
         };
-        let Ok(_) = self.calls.insert(id, Some(call)) else {
+        let Ok(()) = self.calls.put(id, call) else {
             self.pins.leave(id);
             return Err(OOMError::new());
         };
@@ -249,9 +243,9 @@ impl<P: Payload, A: Allocator> Machine<P, A> {
     fn is_handed(&self, id: u64, op: &Op<P>) -> bool
         ensures { IsTrue result ↔ IsHanded self.now id op.now }
     {
-        match self.calls.get(&id) {
-            Some(Some(call)) => is_same_call(&call.op, op),
-            _ => false,
+        match self.calls.get(id) {
+            Some(call) => call.op.is_same_call(op),
+            None => false,
         }
     }
 
@@ -259,9 +253,9 @@ impl<P: Payload, A: Allocator> Machine<P, A> {
     pub fn seen(&self, id: u64) -> Option<&Seen<P>>
         ensures { option_copied result ≡ seen_of (flight_of self.now id) }
     {
-        match self.calls.get(&id) {
-            Some(Some(call)) => call.last.as_ref(),
-            _ => None,
+        match self.calls.get(id) {
+            Some(call) => call.last.as_ref(),
+            None => None,
         }
     }
 
@@ -296,10 +290,7 @@ impl<P: Payload, A: Allocator> Machine<P, A> {
     pub(crate) fn call(&self, id: u64) -> Option<&Record<P>>
         ensures { option_copied result ≡ call_of self.now id }
     {
-        match self.calls.get(&id) {
-            Some(Some(call)) => Some(call),
-            _ => None,
-        }
+        self.calls.get(id)
     }
 
     /// That the facts of the nodes and of the calls in flight hold.
@@ -322,16 +313,14 @@ impl<P: Payload, A: Allocator> Machine<P, A> {
         let Some(pin) = self.pins.pin(id) else {
             unreachable!()
         };
-        let Ok(Some(Some(call))) = self.calls.insert(id, None) else {
-            unreachable!()
-        };
+        let call = self.calls.take(id);
         let Advanced {
             call,
             report,
             outcome,
         } = advance(&self.nodes, &self.pins, self.root, pin, call, env);
         if let Some(call) = call {
-            let Ok(_) = self.calls.insert(id, Some(call)) else {
+            let Ok(()) = self.calls.put(id, call) else {
                 unreachable!()
             };
             return (report, outcome);
@@ -340,7 +329,7 @@ impl<P: Payload, A: Allocator> Machine<P, A> {
         if self.pins.is_seated(id) {
             return (report, outcome);
         }
-        self.calls.remove(&id);
+        self.calls.forget(id);
         (report, outcome)
     }
 }

@@ -8,16 +8,15 @@ ghost use Rattle.congee_sync.specs.Lock.{IsFree};
 ghost use Rattle.congee_olc.specs.World.{Table, table_on, bytes_of};
 ghost use Rattle.congee_olc.specs.Table.{View, view_on};
 ghost use Rattle.congee_node_table.specs.TableNode.{seen};
-ghost use Rattle.congee_olc.specs.Flight.{flight, key_of, payload_in, AlikeChildren};
+ghost use Rattle.congee_olc.specs.Flight.{flight, payload_in, AlikeChildren};
 ghost use Rattle.congee_olc.specs.Event.{IsReading, StepsOn, Finishes, report_of};
-ghost use Rattle.congee_olc.specs.Facts.{IsPlaced, Facts, IsSpare, IsWholeRead, IsRead};
-ghost use Rattle.congee_olc.specs.Found.{IsFound};
+ghost use Rattle.congee_olc.specs.inner.Facts.{IsPlaced, Facts, IsSpare, IsWholeRead, IsRead};
+ghost use Rattle.congee_olc.specs.inner.Found.{IsFound};
 ghost use Rattle.congee_olc.specs.Run.{IsServedOp};
 ghost use Rattle.congee_olc.specs.declared.olc.types.Env.{Env};
 
-use crate::olc::calls::is_served;
 use crate::olc::stage::{Asking, Path, Progress, Record, Spot, Stage, Stored};
-use crate::olc::types::{Kind, Op, Outcome, Reply, Report, Seen};
+use crate::olc::types::{Kind, Outcome, Reply, Report, Seen};
 use congee_map::error::OOMError;
 use congee_map::payload::Payload;
 use congee_node_table::child::{Child, ChildRef};
@@ -32,21 +31,6 @@ pub(crate) struct Stepped<P> {
     pub(crate) call: Record<P>,
     pub(crate) report: Report,
     pub(crate) outcome: Outcome<P>,
-}
-
-// The key of a point call; of a range the one that it begins with.
-fn key_of<P>(op: &Op<P>) -> u64
-    ensures { result ≡ key_of op.now }
-{
-    match op {
-        Op::Get(key) => *key,
-        Op::Insert(key, _) => *key,
-        Op::Remove(key) => *key,
-        Op::ComputeIfPresent(key) => *key,
-        Op::ComputeOrInsert(key, _) => *key,
-        Op::CompareExchange(key, _, _) => *key,
-        Op::Range(start, _, _) => *start,
-    }
 }
 
 // The call goes back to the root, and forgets what it has seen and asked.
@@ -280,10 +264,10 @@ fn read_whole<P: Payload>(
     ensures says { IsWholeRead P.alike node.now call path result.call result.outcome }
     ensures granted { P.always_shared → IsServedOp call.op → result.outcome ≢ Outcome.Refused }
 {
-    if !is_served(&call.op) {
+    if !call.op.is_served() {
         return refused(call, report);
     }
-    match look(node, key_of(&call.op)) {
+    match look(node, call.op.key()) {
         Ok(Looked { seen, spare }) => going(saw(call, path, seen, spare), report),
         Err(_) => refused(call, report),
     }
@@ -323,7 +307,7 @@ pub(crate) fn take_below<P: Payload>(
     let word = node.word;
     if word.is_free() {
         let report = report(Kind::Take, slot, word.number(), true);
-        let fits = is_way_of(&node.node, key_of(&call.op));
+        let fits = is_on_path(&node.node, call.op.key());
         let below = Spot {
             slot,
             word: word.number(),
@@ -336,7 +320,7 @@ pub(crate) fn take_below<P: Payload>(
 }
 
 // Whether a node's prefix begins the key.
-fn is_way_of<P: Payload>(node: &TreeNode<P>, key: u64) -> bool
+fn is_on_path<P: Payload>(node: &TreeNode<P>, key: u64) -> bool
     ensures { IsTrue result ↔ Begins node.now.prefix (bytes_of key) }
 {
     let bytes = key.to_be_bytes();

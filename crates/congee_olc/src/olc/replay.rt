@@ -3,10 +3,9 @@
 ghost use Rattle.std.specs.Prelude.{◌≡◌, ◌++◌, ℕ, Some, IfOk, OnOk};
 ghost use Rattle.congee_olc.specs.Flight.{Flight, asked_of};
 ghost use Rattle.congee_olc.specs.Run.{decided_by, IsReplayed};
-ghost use Rattle.congee_olc.specs.Played.{Played, noted};
+ghost use Rattle.congee_olc.specs.inner.Played.{Played, noted};
 ghost use Rattle.congee_olc.specs.declared.olc.types.Event.TheVariants as event;
 
-use crate::olc::calls::is_served;
 use crate::olc::copies::{asked_of, copy_env, copy_op, copy_reply, if_read};
 use crate::olc::machine::{Machine, started};
 use crate::olc::trace::{Decision, Line, Trace};
@@ -63,7 +62,7 @@ fn start<A: Allocator>(
 ) -> Result<Happened, OOMError>
     ensures { IfOk result (λ h. Played machine.old (record { event = event.Start id op.now; line = h.line; decided = noted h.decided; after = machine.new })) }
 {
-    if !is_served(op) {
+    if !op.is_served() {
         return Ok(skipped());
     }
     if machine.is_in_flight(id) {

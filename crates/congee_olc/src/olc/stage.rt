@@ -32,7 +32,7 @@ pub(crate) struct Spot {
     pub(crate) word: u64,
 }
 
-/// The way down so far: the current node, and its parent unless it is the root.
+/// The path down so far: the current node, and its parent unless it is the root.
 #[derive(Clone, Copy)]
 pub(crate) struct Path {
     pub(crate) above: Option<Spot>,

@@ -1,3 +1,4 @@
+use Rattle.std.proofs.Common.{rules}
 use Rattle.congee_changes.proofs.SlotLaws.{puts_payload, puts_leaf, one_payload}
 use Rattle.congee_changes.proofs.insertion.add.Goals as goal
 
@@ -10,3 +11,6 @@ returns-in-Some g c =
     let leaf = rw c.in-Some.is at c.requires.leaf in
     let one = one_payload c.in-Some.leaf c.insert.new.self c.args.key.now c.args.payload leaf.1 c.insert.ensures in
     puts_leaf c.args.nodes.now.slots c.put_child-in-Some.new.nodes.slots c.args.slot c.args.key.now c.args.byte c.args.payload _ _ c.insert.new.self c.requires.room leaf.0 i.was_vacant i.updates.others i.updates.changed one c.put_child-in-Some.ensures.keeps c.put_child-in-Some.ensures.written
+
+pub put_child-requires : goal.put_child-requires
+put_child-requires g c = search rules

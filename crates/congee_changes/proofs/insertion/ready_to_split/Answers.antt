@@ -1,7 +1,10 @@
-use Rattle.std.proofs.Common.{arith, ap}
+use Rattle.std.proofs.Common.{rules, arith, ap}
 use Rattle.congee_base.specs.declared.base_node.NodeType.TheVariants.{N4}
-use Rattle.congee_supply.specs.Supply.{count}
+use Rattle.congee_supply.specs.inner.Supply.{count}
 use Rattle.congee_changes.proofs.insertion.ready_to_split.Goals as goal
 
 pub leaf-requires-clause-room : goal.leaf-requires-clause-room
 leaf-requires-clause-room g c = omega (arith, ap (count N4) c.in_ok-upper.ensures.ok.forms, c.requires.few N4)
+
+pub returns-in-Err-clause-same : goal.returns-in-Err-clause-same
+returns-in-Err-clause-same g c = search rules

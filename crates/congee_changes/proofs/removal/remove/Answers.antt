@@ -1,27 +1,25 @@
-use Rattle.std.proofs.Common.{arith, sym, refl}
+use Rattle.std.proofs.Common.{sym, refl}
 use Rattle.congee_node_table.proofs.KeyLaws.{AreBytes-from_items}
 use Rattle.congee_map.proofs.MapLaws.{without-absent}
-use Rattle.congee_paths.proofs.WayLaws.{lookup_end}
-use Rattle.congee_paths.proofs.PathLaws.{path_length, path_short}
+use Rattle.congee_paths.proofs.PathEndLaws.{lookup_end}
 use Rattle.congee_changes.proofs.ChargeLaws.{gone_counted, remove_counted}
 use Rattle.congee_changes.proofs.RemoveLaws.{ready_take, was_present, take_out, shrinks_shape}
 use Rattle.congee_changes.proofs.removal.remove.Goals as goal
 
 pub take_out-before-requires : goal.take_out-before-requires
-take_out-before-requires g c = ready_take _ _ _ (AreBytes-from_items _ (λ k l. c.fits-key k)) c.told-key _ c.descend-slot.ensures.arrives _ _ c.in-Present.is c.requires.root
+take_out-before-requires g c = ready_take _ _ _ (AreBytes-from_items _ (λ k l. c.fits-key k)) c.told-key _ c.descend-slot.ensures.ends _ _ c.in-Present.is c.requires.root
 
 pub give_back_if_some-requires : goal.give_back_if_some-requires
 give_back_if_some-requires g c =
     let bytes = AreBytes-from_items _ (λ k l. c.fits-key k) in
-    let x = take_out _ _ _ bytes c.told-key _ c.descend-slot.ensures.arrives _ _ c.in-Present.is c.requires.root _ _ c.take_out-before.ensures.taken in
+    let x = take_out _ _ _ bytes c.told-key _ c.descend-slot.ensures.ends _ _ c.in-Present.is c.requires.root _ _ c.take_out-before.ensures.taken in
     gone_counted _ _ _ _ bytes c.told-key c.args.supply.now.forms c.requires.counts _ x.0
 
 pub returns-in-Present : goal.returns-in-Present
 returns-in-Present g c =
     let bytes = AreBytes-from_items _ (λ k l. c.fits-key k) in
-    let a = c.descend-slot.ensures.arrives in
+    let a = c.descend-slot.ensures.ends in
     let x = take_out _ _ _ bytes c.told-key _ a _ _ c.in-Present.is c.requires.root _ _ c.take_out-before.ensures.taken in
-    let l = path_length _ _ _ bytes c.told-key _ a in
     record {
       tree = x.0.tree;
       root = x.1;
@@ -30,16 +28,15 @@ returns-in-Present g c =
       counts = remove_counted _ _ _ _ bytes c.told-key c.args.supply.now.forms c.requires.counts _ _ x.0 c.give_back_if_some.ensures.forms;
       alike = c.give_back_if_some.ensures.alike;
       shape = shrinks_shape _ _ _ _ bytes c.told-key _ x.0.nodes;
-      reads = omega (arith, l, c.descend-slot.ensures.reads);
-      few = path_short _ _ _ bytes c.told-key _ a;
+      reads = c.descend-slot.ensures.reads;
+      few = c.descend-slot.ensures.few;
     }
 
 pub returns-in_default : goal.returns-in_default
 returns-in_default g c =
     let bytes = AreBytes-from_items _ (λ k l. c.fits-key k) in
-    let a = c.descend-slot.ensures.arrives in
+    let a = c.descend-slot.ensures.ends in
     let none = lookup_end _ _ _ bytes c.told-key _ a _ refl (λ b v e. c.in_default.not-Present b v e) in
-    let l = path_length _ _ _ bytes c.told-key _ a in
     record {
       tree = c.requires.tree;
       root = c.requires.root;
@@ -48,6 +45,6 @@ returns-in_default g c =
       counts = c.requires.counts;
       alike = refl;
       shape = refl;
-      reads = omega (arith, l, c.descend-slot.ensures.reads);
-      few = path_short _ _ _ bytes c.told-key _ a;
+      reads = c.descend-slot.ensures.reads;
+      few = c.descend-slot.ensures.few;
     }

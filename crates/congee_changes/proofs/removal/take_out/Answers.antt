@@ -1,4 +1,4 @@
-use Rattle.std.proofs.Common.{◌≡◌, ◌∙◌, sym, Some, refl}
+use Rattle.std.proofs.Common.{rules, ◌≡◌, ◌∙◌, sym, Some, refl}
 use Rattle.congee_node_table.specs.declared.child.Child.TheVariants.{Payload, Node}
 use Rattle.congee_changes.proofs.RemoveLaws.{linked_after}
 use Rattle.congee_changes.proofs.removal.take_out.Goals as goal
@@ -14,3 +14,6 @@ unreachable-requires g c =
     let x = c.requires in
     let e : Some (Payload x.value) ≡ Some (Node c.in-Node.field-0) = sym x.has ∙ c.in-Node.ensures.before x.leaf x.leaf_here in
     cc
+
+pub returns-clause-taken : goal.returns-clause-taken
+returns-clause-taken g c = search rules

@@ -1,5 +1,5 @@
 use Rattle.std.proofs.Common.{◌≡◌, ◌∷◌, [], decimal}
-use Rattle.congee_lines.specs.Words.{words_left}
+use Rattle.congee_lines.specs.inner.Words.{words_left}
 use Rattle.congee_commands.proofs.CommandLemmas.{no_range}
 use Rattle.congee_commands.proofs.command.range_of.Goals as goal
 

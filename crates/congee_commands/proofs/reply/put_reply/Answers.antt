@@ -1,7 +1,7 @@
 use Rattle.std.proofs.Common.{◌∷◌, [], ◌++◌}
 use Rattle.std.proofs.lemmas.Result.{err_from_is_err_and}
 use Rattle.congee_lines.specs.Lines.{ended}
-use Rattle.congee_commands.specs.Replied.{reply_text, head_text, items_text}
+use Rattle.congee_commands.specs.inner.Replied.{reply_text, head_text, items_text}
 use Rattle.congee_commands.proofs.Replies.{head_items}
 use Rattle.congee_lines.proofs.Sending.{sends_with, sends_line}
 use Rattle.congee_commands.proofs.reply.put_reply.Goals as goal

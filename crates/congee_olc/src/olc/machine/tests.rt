@@ -1,20 +1,23 @@
 //! The courses of single calls on a tree of one pair, and what refuses them.
+//!
+//! A test owns no machine, since the check expands the drop of each owned value at each assertion: one helper works on a
+//! machine that it borrows, and a second one makes that machine and returns a small value.
 
 use crate::olc::copies::copy_seen;
 use crate::olc::machine::Machine;
-use crate::olc::machine::tests::building::{flat, of_pairs};
+use crate::olc::machine::tests::building::{BuildError, flat, of_pairs};
 use crate::olc::types::{Env, Kind, Op, Outcome, Reply, Report, Seen, StartError};
 use congee_map::payload::Payload;
 use congee_node_table::allocator::{Allocator, DefaultAllocator};
 use congee_node_table::child::Child;
-use std::alloc::Global;
+use std::alloc::{AllocError, Global};
 use std::test::Fail;
 
 mod building;
 mod many_pairs;
 
 // Gives the node in a slot the word that its next writer would leave, where its word is free and not of the last version.
-// Answers whether it did.
+// Returns whether it did.
 fn renew<P: Payload, A: Allocator>(machine: &mut Machine<P, A>, slot: Option<usize>) -> bool {
     let Some(slot) = slot else {
         return false;
@@ -62,8 +65,16 @@ fn plain() -> Env<u64> {
     torn(seen_of(None))
 }
 
+// A machine of numbers that no budget limits.
+type Numbers = Machine<u64, DefaultAllocator>;
+
+// A machine that stores 42 at the key 1 alone.
+fn one_pair(alloc: Global) -> Result<Numbers, BuildError> {
+    of_pairs(alloc, DefaultAllocator {}, flat(), &[(1, 42)])
+}
+
 // Whether the call of number 0 has read this child last.
-fn has_seen(machine: &Machine<u64, DefaultAllocator>, read: &Seen<u64>) -> bool {
+fn has_seen(machine: &Numbers, read: &Seen<u64>) -> bool {
     match machine.seen(0) {
         Some(seen) => is_same(&seen.child, &read.child),
         None => false,
@@ -106,59 +117,100 @@ fn answer(outcome: Outcome<u64>) -> Option<Option<u64>> {
     }
 }
 
-// Whether nothing was done.
-fn is_unknown(outcome: &Outcome<u64>) -> bool {
-    matches!(outcome, Outcome::Unknown)
-}
-
 // The course of a Get.
-#[derive(Drop)]
+#[derive(Clone, Copy)]
 struct Course {
     id: u64,
     key: u64,
-    // A letter for each event.
-    letters: String,
     answer: Option<Option<u64>>,
-    // The slot that the last event touched.
+    // What the last event was, and the slot that it touched.
+    kind: Kind,
     slot: Option<usize>,
 }
 
 impl Course {
     // Starts a Get.
-    fn start(
-        alloc: Global,
-        machine: &mut Machine<u64, DefaultAllocator>,
-        id: u64,
-        key: u64,
-    ) -> Result<Self, Fail> {
+    fn start(machine: &mut Numbers, id: u64, key: u64) -> Result<Self, StartError> {
         let report = machine.start(id, &Op::Get(key))?;
-        let mut letters = String::new(alloc);
-        letters.push(letter(report.kind))?;
         Ok(Course {
             id,
             key,
-            letters,
             answer: None,
+            kind: report.kind,
             slot: report.slot,
         })
     }
 
-    // Makes so many more of its events.
+    // Makes one more event.
+    fn step(&mut self, machine: &mut Numbers) {
+        let (report, outcome) = machine.step(self.id, &Op::Get(self.key), plain());
+        self.kind = report.kind;
+        self.slot = report.slot;
+        if let Some(answer) = answer(outcome) {
+            self.answer = Some(answer);
+        }
+    }
+
+    // Makes so many more events, and adds a letter for each.
     fn go_on(
         &mut self,
-        machine: &mut Machine<u64, DefaultAllocator>,
+        machine: &mut Numbers,
         events: usize,
-    ) -> Result<(), Fail> {
+        letters: &mut String,
+    ) -> Result<(), AllocError> {
         for _ in 0..events {
-            let (report, outcome) = machine.step(self.id, &Op::Get(self.key), plain());
-            self.letters.push(letter(report.kind))?;
-            self.slot = report.slot;
-            if let Some(answer) = answer(outcome) {
-                self.answer = Some(answer);
-            }
+            self.step(machine);
+            letters.push(letter(self.kind))?;
         }
         Ok(())
     }
+
+    // Whether it was answered so, and has ended.
+    fn has_ended(&self, machine: &Numbers, value: Option<u64>) -> bool {
+        self.answer == Some(value) && !machine.is_in_flight(self.id)
+    }
+}
+
+// The letters of a Get alone, if it is answered so and ends within so many events.
+fn course_alone(
+    machine: &mut Numbers,
+    key: u64,
+    events: usize,
+    value: Option<u64>,
+    letters: &mut String,
+) -> Result<(), Fail> {
+    let id = machine.seat()?;
+    let mut course = Course::start(machine, id, key)?;
+    letters.push(letter(course.kind))?;
+    course.go_on(machine, events, letters)?;
+    if !course.has_ended(machine, value) {
+        letters.push('?')?;
+    }
+    Ok(())
+}
+
+fn course_on_one_pair(
+    alloc: Global,
+    key: u64,
+    events: usize,
+    value: Option<u64>,
+    letters: &mut String,
+) -> Result<(), Fail> {
+    let mut machine = one_pair(alloc)?;
+    course_alone(&mut machine, key, events, value, letters)
+}
+
+// Whether a Get on one pair takes this course to this answer.
+fn takes_course(alloc: Global, key: u64, want: &str, value: Option<u64>) -> Result<bool, Fail> {
+    let mut letters = String::new(alloc);
+    course_on_one_pair(
+        alloc,
+        key,
+        want.len().saturating_sub(1),
+        value,
+        &mut letters,
+    )?;
+    Ok(letters.as_str() == want)
 }
 
 #[test]
@@ -168,98 +220,176 @@ fn a_get_alone_takes_its_course(rt: HostRuntime) -> Result<(), Fail> {
         (72057594037927936, "STRCF", None),
         (256, "STRCTCF", None),
     ] {
-        let mut machine = of_pairs(rt.alloc(), DefaultAllocator {}, flat(), &[(1, 42)])?;
-        let id = machine.seat()?;
-        let mut course = Course::start(rt.alloc(), &mut machine, id, key)?;
-        course.go_on(&mut machine, want.len() - 1)?;
-        assert_eq!(rt; course.letters.as_str(), want, "at {key}");
-        assert_eq!(rt; course.answer, Some(value), "at {key}");
-        assert!(rt; !machine.is_in_flight(id), "at {key}");
+        assert!(rt; takes_course(rt.alloc(), key, want, value)?, "at {key}");
     }
     Ok(())
+}
+
+// The report of an event of number 0's Get of 1 after which nothing is said but that it goes on.
+fn goes_on(machine: &mut Numbers, env: Env<u64>) -> Option<Report> {
+    match machine.step(0, &Op::Get(1), env) {
+        (report, Outcome::Going) => Some(report),
+        _ => None,
+    }
+}
+
+// Whether the Read of a leaf whose word is another reports this, and the Check after it fails.
+fn is_torn(machine: &mut Numbers, leaf: Option<usize>, read: &Seen<u64>) -> bool {
+    let whole = goes_on(machine, torn(copy_seen(read)));
+    if whole != Some(report_at(Kind::Read, leaf, true)) || !has_seen(machine, read) {
+        return false;
+    }
+    goes_on(machine, plain()) == Some(report_at(Kind::Check, leaf, false))
+}
+
+// A Get whose leaf is written before it is read; a question mark where the Read isn't torn as it should be, or the answer
+// isn't the value that stands there.
+fn torn_course(machine: &mut Numbers, read: &Seen<u64>, letters: &mut String) -> Result<(), Fail> {
+    let mut course = Course::start(machine, 0, 1)?;
+    letters.push(letter(course.kind))?;
+    course.go_on(machine, 4, letters)?;
+    let leaf = course.slot;
+    course.go_on(machine, 1, letters)?;
+    if !renew(machine, leaf) || !is_torn(machine, leaf, read) {
+        letters.push('?')?;
+    }
+    course.go_on(machine, 8, letters)?;
+    if !course.has_ended(machine, Some(42)) {
+        letters.push('?')?;
+    }
+    Ok(())
+}
+
+fn torn_on_one_pair(alloc: Global, read: &Seen<u64>, letters: &mut String) -> Result<(), Fail> {
+    let mut machine = one_pair(alloc)?;
+    torn_course(&mut machine, read, letters)
+}
+
+// Whether a Get takes its course, from the root once more after its torn Read.
+fn is_not_believed(alloc: Global, child: Option<Child<u64>>) -> Result<bool, Fail> {
+    let mut letters = String::new(alloc);
+    torn_on_one_pair(alloc, &seen_of(child), &mut letters)?;
+    Ok(letters.as_str() == "STRCTCTRCTCRCF")
 }
 
 #[test]
 fn a_torn_read_is_not_believed(rt: HostRuntime) -> Result<(), Fail> {
-    for read in &[
-        seen_of(Some(Child::Payload(999))),
-        seen_of(None),
-        seen_of(Some(Child::Node(77))),
-    ] {
-        let mut machine = of_pairs(rt.alloc(), DefaultAllocator {}, flat(), &[(1, 42)])?;
-        let mut course = Course::start(rt.alloc(), &mut machine, 0, 1)?;
-        course.go_on(&mut machine, 4)?;
-        let leaf = course.slot;
-        course.go_on(&mut machine, 1)?;
-        assert!(rt; renew(&mut machine, leaf));
-        let (report, outcome) = machine.step(0, &Op::Get(1), torn(copy_seen(read)));
-        assert_eq!(rt; report, report_at(Kind::Read, leaf, true));
-        assert!(rt; matches!(outcome, Outcome::Going));
-        assert!(rt; has_seen(&machine, read));
-        let (report, outcome) = machine.step(0, &Op::Get(1), plain());
-        assert_eq!(rt; report, report_at(Kind::Check, leaf, false));
-        assert!(rt; matches!(outcome, Outcome::Going));
-        course.go_on(&mut machine, 8)?;
-        assert_eq!(rt; course.letters.as_str(), "STRCTCTRCTCRCF");
-        assert_eq!(rt; course.answer, Some(Some(42)));
-        assert!(rt; !machine.is_in_flight(0));
-    }
+    assert!(rt; is_not_believed(rt.alloc(), Some(Child::Payload(999)))?);
+    assert!(rt; is_not_believed(rt.alloc(), None)?);
+    assert!(rt; is_not_believed(rt.alloc(), Some(Child::Node(77)))?);
     Ok(())
+}
+
+// What a step of number 0 by this call is, if it is one.
+fn kind_of_step(machine: &mut Numbers, op: &Op<u64>) -> Option<Kind> {
+    match machine.step(0, op, plain()) {
+        (_, Outcome::Unknown) => None,
+        (report, _) => Some(report.kind),
+    }
+}
+
+// The first wrong answer where another call is stepped than the one in flight.
+fn wrong_step(machine: &mut Numbers) -> Result<Option<&'static str>, StartError> {
+    if kind_of_step(machine, &Op::Get(1)).is_some() {
+        return Ok(Some("a number without a call"));
+    }
+    if machine.start(0, &Op::Get(1))?.kind != Kind::Start {
+        return Ok(Some("the start"));
+    }
+    if kind_of_step(machine, &Op::Get(2)).is_some() {
+        return Ok(Some("another key"));
+    }
+    if kind_of_step(machine, &Op::Remove(1)).is_some() {
+        return Ok(Some("another kind"));
+    }
+    if machine.start(0, &Op::Get(1)) != Err(StartError::InFlight) {
+        return Ok(Some("a second start"));
+    }
+    if kind_of_step(machine, &Op::Get(1)) != Some(Kind::Take) {
+        return Ok(Some("the call itself"));
+    }
+    if machine.seen(0).is_some() {
+        return Ok(Some("what was seen"));
+    }
+    Ok(None)
+}
+
+fn wrong_step_on_one_pair(alloc: Global) -> Result<Option<&'static str>, Fail> {
+    let mut machine = one_pair(alloc)?;
+    Ok(wrong_step(&mut machine)?)
 }
 
 #[test]
 fn only_the_call_in_flight_is_stepped(rt: HostRuntime) -> Result<(), Fail> {
-    let mut machine = of_pairs(rt.alloc(), DefaultAllocator {}, flat(), &[(1, 42)])?;
-    let (_, outcome) = machine.step(0, &Op::Get(1), plain());
-    assert!(rt; is_unknown(&outcome), "a number without a call");
-    let report = machine.start(0, &Op::Get(1))?;
-    assert_eq!(rt; report.kind, Kind::Start);
-    let (_, outcome) = machine.step(0, &Op::Get(2), plain());
-    assert!(rt; is_unknown(&outcome), "another key");
-    let (_, outcome) = machine.step(0, &Op::Remove(1), plain());
-    assert!(rt; is_unknown(&outcome), "another kind");
-    assert_eq!(rt; machine.start(0, &Op::Get(1)), Err(StartError::InFlight));
-    let (report, outcome) = machine.step(0, &Op::Get(1), plain());
-    assert!(rt; !is_unknown(&outcome));
-    assert_eq!(rt; report.kind, Kind::Take);
-    assert!(rt; machine.seen(0).is_none());
+    assert_eq!(rt; wrong_step_on_one_pair(rt.alloc())?, None);
     Ok(())
+}
+
+// The numbers that are seated: the first, one beside a call in flight, and one after the first was given back.
+fn seats(machine: &mut Numbers) -> Result<[u64; 3], Fail> {
+    let first = machine.seat()?;
+    machine.start(1, &Op::Get(1))?;
+    let second = machine.seat()?;
+    machine.unseat(0);
+    Ok([first, second, machine.seat()?])
+}
+
+fn seats_on_one_pair(alloc: Global) -> Result<[u64; 3], Fail> {
+    let mut machine = one_pair(alloc)?;
+    seats(&mut machine)
 }
 
 #[test]
 fn seats_are_the_least_free_numbers(rt: HostRuntime) -> Result<(), Fail> {
-    let mut machine = of_pairs(rt.alloc(), DefaultAllocator {}, flat(), &[(1, 42)])?;
-    assert_eq!(rt; machine.seat()?, 0);
-    machine.start(1, &Op::Get(1))?;
-    assert_eq!(rt; machine.seat()?, 2);
-    machine.unseat(0);
-    assert_eq!(rt; machine.seat()?, 0);
-    assert_eq!(rt; machine.entry_count(), 1);
-    machine.is_well_formed();
+    assert_eq!(rt; seats_on_one_pair(rt.alloc())?, [0, 2, 0]);
     Ok(())
+}
+
+fn count_of_one_pair(alloc: Global) -> Result<u128, BuildError> {
+    let machine = one_pair(alloc)?;
+    machine.is_well_formed();
+    Ok(machine.entry_count())
+}
+
+#[test]
+fn one_pair_is_counted(rt: HostRuntime) -> Result<(), Fail> {
+    assert_eq!(rt; count_of_one_pair(rt.alloc())?, 1);
+    Ok(())
+}
+
+// Whether a call that isn't served is refused at its Read, and then ends.
+fn refuses(machine: &mut Numbers, op: &Op<u64>) -> Result<bool, StartError> {
+    machine.start(0, op)?;
+    let (_, _) = machine.step(0, op, plain());
+    let (report, outcome) = machine.step(0, op, plain());
+    if report.kind != Kind::Read || !matches!(outcome, Outcome::Refused) {
+        return Ok(false);
+    }
+    let (_, outcome) = machine.step(0, op, plain());
+    Ok(matches!(outcome, Outcome::Done))
+}
+
+fn refuses_an_insert(alloc: Global) -> Result<bool, Fail> {
+    let mut machine = one_pair(alloc)?;
+    Ok(refuses(&mut machine, &Op::Insert(1, 43))?)
 }
 
 #[test]
 fn a_call_that_is_not_served_is_refused(rt: HostRuntime) -> Result<(), Fail> {
-    let mut machine = of_pairs(rt.alloc(), DefaultAllocator {}, flat(), &[(1, 42)])?;
-    let op = Op::Insert(1, 43);
-    machine.start(0, &op)?;
-    let (_, _) = machine.step(0, &op, plain());
-    let (report, outcome) = machine.step(0, &op, plain());
-    assert_eq!(rt; report.kind, Kind::Read);
-    assert!(rt; matches!(outcome, Outcome::Refused));
-    let (_, outcome) = machine.step(0, &op, plain());
-    assert!(rt; matches!(outcome, Outcome::Done));
+    assert!(rt; refuses_an_insert(rt.alloc())?);
     Ok(())
+}
+
+// Whether a machine that stores these pairs tells exactly them.
+fn tells(alloc: Global, pairs: &[(u64, u64)]) -> Result<bool, Fail> {
+    let machine = of_pairs(alloc, DefaultAllocator {}, flat(), pairs)?;
+    let content = machine.content(alloc)?;
+    Ok(content.as_slice() == pairs)
 }
 
 #[test]
 fn the_content_is_all_that_is_stored(rt: HostRuntime) -> Result<(), Fail> {
-    let machine = of_pairs(rt.alloc(), DefaultAllocator {}, flat(), &[(1, 42)])?;
-    let pairs = machine.content(rt.alloc())?;
-    let wanted: [(u64, u64); 1] = [(1, 42)];
-    assert_eq!(rt; pairs.as_slice(), wanted.as_slice());
-    let fresh: Machine<u64, DefaultAllocator> = Machine::new(rt.alloc(), DefaultAllocator {})?;
-    assert!(rt; fresh.content(rt.alloc())?.is_empty());
+    assert!(rt; tells(rt.alloc(), &[(1, 42)])?);
+    assert!(rt; tells(rt.alloc(), &[])?);
     Ok(())
 }

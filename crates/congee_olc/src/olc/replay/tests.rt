@@ -37,9 +37,29 @@ fn plain(id: u64) -> Event<u64> {
     )
 }
 
-#[test]
-fn two_gets_of_an_empty_tree(rt: HostRuntime) -> Result<(), Fail> {
-    let events = [
+// A letter for each line of a trace.
+fn course_of(trace: &Trace, letters: &mut String) -> Result<(), AllocError> {
+    for line in &trace.lines {
+        letters.push(letter(line))?;
+    }
+    Ok(())
+}
+
+// The number of each decided call, and its key if it is a Get that found nothing.
+fn misses_of(trace: &Trace, misses: &mut Vec<(u64, Option<u64>)>) -> Result<(), AllocError> {
+    for decision in &trace.decided {
+        let key = match (&decision.op, &decision.reply) {
+            (Op::Get(key), Reply::Old(None)) => Some(*key),
+            _ => None,
+        };
+        misses.push((decision.id, key))?;
+    }
+    Ok(())
+}
+
+// Two Gets in turn, with events that aren't enabled between theirs.
+fn two_gets() -> [Event<u64>; 13] {
+    [
         Event::Start(7, Op::Get(1)),
         Event::Start(7, Op::Get(2)),
         plain(8),
@@ -53,51 +73,76 @@ fn two_gets_of_an_empty_tree(rt: HostRuntime) -> Result<(), Fail> {
         plain(7),
         plain(7),
         plain(8),
-    ];
-    let trace = replay(rt.alloc(), &events)?;
-    let mut course = String::new(rt.alloc());
-    for line in &trace.lines {
-        course.push(letter(line))?;
-    }
-    assert_eq!(rt; course.as_str(), "S--TSTR-CRF-C");
-    assert_eq!(rt; trace.content.len(), 0);
-    let mut decided = Vec::new(rt.alloc());
-    for decision in &trace.decided {
-        let none = match (&decision.op, &decision.reply) {
-            (Op::Get(key), Reply::Old(None)) => Some(*key),
-            _ => None,
-        };
-        decided.push((decision.id, none))?;
-    }
-    let wanted: [(u64, Option<u64>); 2] = [(7, Some(1)), (8, Some(256))];
-    assert_eq!(rt; decided.as_slice(), wanted.as_slice());
-    Ok(())
+    ]
+}
+
+// What the trace of these events has: a letter a line, the misses, and how many pairs stand at the end.
+fn told(
+    alloc: Global,
+    events: &[Event<u64>],
+    letters: &mut String,
+    misses: &mut Vec<(u64, Option<u64>)>,
+) -> Result<usize, OOMError> {
+    let trace = replay(alloc, events)?;
+    course_of(&trace, letters)?;
+    misses_of(&trace, misses)?;
+    Ok(trace.content.len())
+}
+
+// Whether the trace of the two Gets is so.
+fn is_course_of_two(
+    alloc: Global,
+    course: &str,
+    decided: &[(u64, Option<u64>)],
+) -> Result<bool, OOMError> {
+    let mut letters = String::new(alloc);
+    let mut misses = Vec::new(alloc);
+    let pairs = told(alloc, &two_gets(), &mut letters, &mut misses)?;
+    Ok(pairs == 0 && letters.as_str() == course && misses.as_slice() == decided)
 }
 
 #[test]
-fn a_read_tells_what_it_saw(rt: HostRuntime) -> Result<(), Fail> {
-    let events = [Event::Start(0, Op::Get(1)), plain(0), plain(0)];
-    let trace = replay_with(rt.alloc(), Budget::new(2104), &events)?;
+fn two_gets_of_an_empty_tree(rt: HostRuntime) -> Result<(), Fail> {
+    let decided: [(u64, Option<u64>); 2] = [(7, Some(1)), (8, Some(256))];
+    assert!(rt; is_course_of_two(rt.alloc(), "S--TSTR-CRF-C", &decided)?);
+    Ok(())
+}
+
+// Whether the second and the third line are those of a Take of the root and of a Read that saw nothing there.
+fn has_read_nothing(trace: &Trace) -> bool {
     let taken = Report {
         kind: Kind::Take,
         slot: Some(0),
         word: 0,
         ok: true,
     };
-    let read = match (trace.lines.get(1), trace.lines.get(2)) {
+    match (trace.lines.get(1), trace.lines.get(2)) {
         (
             Some(Line::Done(take, Outcome::Going, None)),
             Some(Line::Done(_, Outcome::Going, Some(seen))),
         ) => *take == taken && seen.child.is_none() && seen.count == 0 && !seen.full,
         _ => false,
-    };
-    assert!(rt; read);
-    Ok(())
+    }
+}
+
+fn reads_nothing(alloc: Global) -> Result<bool, OOMError> {
+    let events = [Event::Start(0, Op::Get(1)), plain(0), plain(0)];
+    let trace = replay_with(alloc, Budget::new(2104), &events)?;
+    Ok(has_read_nothing(&trace))
 }
 
 #[test]
-fn a_budget_without_room_for_the_root(rt: HostRuntime) -> Result<(), Fail> {
-    let refused = replay_with(rt.alloc(), Budget::new(2103), &[plain(0)]);
-    assert!(rt; refused.is_err());
+fn a_read_tells_what_it_saw(rt: HostRuntime) -> Result<(), Fail> {
+    assert!(rt; reads_nothing(rt.alloc())?);
     Ok(())
+}
+
+// Whether a budget of so many bytes has no room for the root.
+fn is_too_small(alloc: Global, bytes: u64) -> bool {
+    replay_with(alloc, Budget::new(bytes), &[plain(0)]).is_err()
+}
+
+#[test]
+fn a_budget_without_room_for_the_root(rt: HostRuntime) {
+    assert!(rt; is_too_small(rt.alloc(), 2103));
 }

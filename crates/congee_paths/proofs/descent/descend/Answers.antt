@@ -1,19 +1,29 @@
 use Rattle.std.proofs.Common.{arith, sym}
 use Rattle.congee_node_table.proofs.KeyLaws.{AreBytes-from_items}
-use Rattle.congee_paths.proofs.WayLaws.{walk_start, walk_step, walk_there}
+use Rattle.congee_paths.proofs.PathEndLaws.{leads_start, leads_step, leads_there}
+use Rattle.congee_paths.proofs.PathLaws.{path_length, path_short}
 use Rattle.congee_paths.proofs.descent.descend.Goals as goal
 
 pub down-init : goal.down-init
-down-init g c = record { walk = walk_start _ _ _ c.requires; counted = omega arith }
+down-init g c = record { leads = leads_start _ _ _ c.requires; counted = omega arith }
 
-pub returns-in-Stop-clause-arrives : goal.returns-in-Stop-clause-arrives
-returns-in-Stop-clause-arrives g c = record { walk = c.down.invariant.walk; node = c.in-Some.node.now; here = sym c.in-Some.ensures; end = c.in-Stop.ensures }
+pub returns-in-Stop-clause-ends : goal.returns-in-Stop-clause-ends
+returns-in-Stop-clause-ends g c = record { leads = c.down.invariant.leads; node = c.in-Some.node.now; here = sym c.in-Some.ensures; end = c.in-Stop.ensures }
 
 pub down-preserved : goal.down-preserved
 down-preserved g c = record {
-  walk = walk_step _ _ _ _ _ _ c.in-Some.node.now c.down.invariant.walk (sym c.in-Some.ensures) c.in-Down.ensures.0 (AreBytes-from_items _ (λ k l. c.fits-key k)) c.told-key c.in-Down.child c.in-Down.ensures.1;
-  counted = omega (arith, c.down.invariant.counted, c.tick.ensures);
+  leads = leads_step _ _ _ _ _ _ c.in-Some.node.now c.down.invariant.leads (sym c.in-Some.ensures) c.in-Down.ensures.0 (AreBytes-from_items _ (λ k l. c.fits-key k)) c.told-key c.in-Down.child c.in-Down.ensures.1;
+  counted = omega arith;
 }
 
 pub unreachable-requires : goal.unreachable-requires
-unreachable-requires g c = let there = walk_there _ _ _ _ _ _ c.down.invariant.walk in grind (arith, there)
+unreachable-requires g c = let there = leads_there _ _ _ _ _ _ c.down.invariant.leads in grind (arith, there)
+
+-- the nodes that were read are those on the path
+pub returns-in-Stop-clause-reads : goal.returns-in-Stop-clause-reads
+returns-in-Stop-clause-reads g c =
+    let l = path_length _ _ _ (AreBytes-from_items _ (λ k l. c.fits-key k)) c.told-key _ (returns-in-Stop-clause-ends g c) in
+    omega (arith, l)
+
+pub returns-in-Stop-clause-few : goal.returns-in-Stop-clause-few
+returns-in-Stop-clause-few g c = path_short _ _ _ (AreBytes-from_items _ (λ k l. c.fits-key k)) c.told-key _ (returns-in-Stop-clause-ends g c)

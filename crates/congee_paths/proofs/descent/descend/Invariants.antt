@@ -1,11 +1,11 @@
 use Rattle.std.proofs.Common.{◌≡◌, ◌+◌, ◌-◌}
-use Rattle.congee_paths.specs.Way.{Walk}
+use Rattle.congee_paths.specs.inner.Descent.{LeadsTo}
 use Rattle.congee_paths.proofs.descent.descend.Given as goal
 
 abbrev pub invariant-down : goal.invariant-down
 invariant-down g l =
     record {
-      walk : Walk l.nodes.slots l.root l.key l.above l.slot l.parent;
+      leads : LeadsTo l.nodes.slots l.root l.key l.above l.slot l.parent;
       counted : l.reads ≡ l.initial.reads + l.above;
     }
 

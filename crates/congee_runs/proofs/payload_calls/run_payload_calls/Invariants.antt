@@ -1,7 +1,7 @@
 use Rattle.std.proofs.Common.{◌≡◌, ◌+◌, ◌≤◌, List, ◌++◌, length, vec_len, vec_capacity}
 use Rattle.congee_map.specs.Map.{Pairs}
 use Rattle.congee_map.specs.Refusal.{of_new_nodes}
-use Rattle.congee_runs.specs.PayloadCalls.{IsPayloadRun}
+use Rattle.congee_runs.specs.PayloadCalls.{AreLegalPayloadReplies}
 use Rattle.congee_runs.specs.declared.payload_calls.PayloadReply.{PayloadReply}
 use Rattle.congee_runs.proofs.payload_calls.run_payload_calls.Given as goal
 
@@ -10,7 +10,7 @@ invariant-loop-call g l =
     (goal.iterator-loop-call g).can_next l.call-iterator
     × (goal.iterator-loop-call g).is_finite l.call-iterator
     × ((rest : List (PayloadReply g.row.K.Denot g.row.P.Denot)) (last : Pairs g.row.P.Denot)
-    → IsPayloadRun g.K.Word.number g.K.Word.of_number g.P.Payload.alike g.P.Payload.tells_same of_new_nodes l.map l.call-iterator.rest.items rest last
-    → IsPayloadRun g.K.Word.number g.K.Word.of_number g.P.Payload.alike g.P.Payload.tells_same of_new_nodes l.fn.map l.fn.calls.items (l.replies.items ++ rest) last)
+    → AreLegalPayloadReplies g.K.Word.number g.K.Word.of_number g.P.Payload.alike g.P.Payload.tells_same of_new_nodes l.map l.call-iterator.rest.items rest last
+    → AreLegalPayloadReplies g.K.Word.number g.K.Word.of_number g.P.Payload.alike g.P.Payload.tells_same of_new_nodes l.fn.map l.fn.calls.items (l.replies.items ++ rest) last)
     × (vec_len l.replies + length l.call-iterator.rest.items ≡ length l.fn.calls.items)
     × (length l.fn.calls.items ≤ vec_capacity l.replies)

@@ -1,11 +1,11 @@
 use Rattle.std.proofs.Common.{◌≡◌}
-use Rattle.congee_service.specs.Session.{Runs}
+use Rattle.congee_service.specs.inner.Session.{ServesInput}
 use Rattle.congee_lines.specs.Watched.{calls_left}
 use Rattle.congee_service.proofs.run.run_within.Given as goal
 
 abbrev pub invariant-loop-error : goal.invariant-loop-error
 invariant-loop-error g l = record {
-  runs : Runs l.session.map.pairs l.session.line l.session.pending
+  runs : ServesInput l.session.map.pairs l.session.line l.session.pending
       (g.R.Read.remaining l.fn.input.inner) (g.R.Read.remaining l.input.inner) (g.W.Write.contents l.fn.output.inner) (g.W.Write.contents l.output.inner);
   input : l.input.failed ≡ l.fn.input.failed;
   output : l.output.failed ≡ l.fn.output.failed;

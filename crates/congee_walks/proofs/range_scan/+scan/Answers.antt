@@ -1,7 +1,7 @@
 use Rattle.std.proofs.Common.{◌≡◌, ◌+◌, ◌∷◌, ◌∙◌, subst, arith, rules}
 use Rattle.congee_map.specs.Map.{between}
 use Rattle.congee_node_table.specs.TableNode.{looked_at}
-use Rattle.congee_walks.specs.Scan.{IsWindow}
+use Rattle.congee_walks.specs.inner.Scan.{IsWindow}
 use Rattle.congee_walks.proofs.WindowLaws.{low-leaf}
 use Rattle.congee_walks.proofs.ScanLaws.{part_start, part_full, part_end, part_past, part_payload, part_node, goes_down, in_leaf}
 use Rattle.congee_walks.proofs.range_scan.+scan.Goals as goal

@@ -1,6 +1,6 @@
 use Rattle.std.proofs.Common.{◌-◌, ℕ, suc, ◌≤◌}
 use Rattle.congee_node_table.specs.Table.{IsSubtree}
-use Rattle.congee_walks.specs.Scan.{bytes_left}
+use Rattle.congee_walks.proofs.BytesLeft.{bytes_left}
 use Rattle.congee_walks.proofs.ScanLaws.{Part}
 use Rattle.congee_walks.proofs.range_scan.+scan.Given as goal
 

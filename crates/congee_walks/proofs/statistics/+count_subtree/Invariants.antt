@@ -1,5 +1,5 @@
 use Rattle.std.proofs.Common.{◌≡◌, ◌-◌}
-use Rattle.congee_walks.specs.Count.{Counting}
+use Rattle.congee_walks.proofs.VisitedLaws.{Counting}
 use Rattle.congee_walks.proofs.statistics.+count_subtree.Given as goal
 
 abbrev pub decreases-count_subtree : goal.decreases-count_subtree

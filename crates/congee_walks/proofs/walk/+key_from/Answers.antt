@@ -2,7 +2,8 @@ use Rattle.std.proofs.Common.{◌≡◌, ℕ, suc, ◌+◌, ◌∷◌, ◌∙◌
 use Rattle.congee_map.specs.Map.{between}
 use Rattle.congee_node_table.specs.TableNode.{looked_at}
 use Rattle.congee_node_table.specs.Table.{IsSubtree, pairs_at, pairs_under}
-use Rattle.congee_walks.specs.Scan.{IsWindow, first_number, from_key}
+use Rattle.congee_walks.specs.Scan.{first_number, from_key}
+use Rattle.congee_walks.specs.inner.Scan.{IsWindow}
 use Rattle.congee_walks.proofs.ScanLaws.{goes_down}
 use Rattle.congee_walks.proofs.WalkLaws.{key_fits, seek_start, seek_end, seek_found, seek_on, seek_payload, seek_node, is_not_none, is_none}
 use Rattle.congee_walks.proofs.walk.+key_from.Goals as goal

@@ -1,6 +1,6 @@
 use Rattle.std.proofs.Common.{◌≡◌, ◌-◌, ℕ, suc, vec_capacity}
 use Rattle.congee_node_table.specs.Table.{IsSubtree}
-use Rattle.congee_walks.specs.Scan.{bytes_left}
+use Rattle.congee_walks.proofs.BytesLeft.{bytes_left}
 use Rattle.congee_walks.proofs.WalkLaws.{KeysLeft}
 use Rattle.congee_walks.proofs.walk.+push_keys.Given as goal
 

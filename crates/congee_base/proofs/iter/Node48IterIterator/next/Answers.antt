@@ -1,6 +1,6 @@
 use Rattle.std.proofs.Common.{rules, arith, ◌∙◌, ◌+◌, sym, get_or, slice_index}
 use Rattle.std.proofs.lemmas.Option.{slice_get-get_or, slice_get_past}
-use Rattle.congee_base.specs.Row.{at_place}
+use Rattle.congee_base.specs.inner.Row.{at_place}
 use Rattle.congee_base.proofs.RowLaws.{scan-found, scan-none, scan-end}
 use Rattle.congee_base.proofs.iter.Node48IterIterator.next.Goals as goal
 

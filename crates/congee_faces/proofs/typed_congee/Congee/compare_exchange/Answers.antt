@@ -1,4 +1,4 @@
-use Rattle.std.proofs.Common.{◌≡◌, ◌≢◌, Some, refl}
+use Rattle.std.proofs.Common.{◌≡◌, ◌≢◌, Some, refl, rules}
 use Rattle.congee_map.specs.Map.{lookup}
 use Rattle.congee_faces.proofs.Standing.{put_again}
 use Rattle.congee_faces.proofs.typed_congee.Congee.compare_exchange.Goals as goal
@@ -13,3 +13,6 @@ returns-in-Some-2-clause-other g c standing is differs =
       put_again c.args.self.now.pairs c.exchange-standing.new.self.pairs c.into_u64.result standing c.exchange-standing.ensures.ordered here
           (c.exchange-standing.ensures.other standing here other),
     )
+
+pub returns-in-Some-clause-same : goal.returns-in-Some-clause-same
+returns-in-Some-clause-same g c = search rules

@@ -1,37 +1,34 @@
-use Rattle.std.proofs.Common.{rules, arith, ◌≡◌, ◌≤◌, ◌+◌, ◌-◌, length, ◌∙◌, take, drop, ap, List}
-use Rattle.congee_base.specs.Sorted.{below, pairs}
+use Rattle.std.proofs.Common.{rules, arith, ℕ, ◌≡◌, ◌+◌, ◌-◌, ◌⊎◌, inl, inr, length, ◌∙◌, take, drop, ap, List, nat_lt}
+use Rattle.std.specs.List.{count_by}
+use Rattle.congee_base.specs.inner.Sorted.{below, pairs, IsSorted}
 use Rattle.congee_forms.proofs.SortedLaws.{part_between, part_none}
 use Rattle.congee_forms.proofs.SearchLaws.{rank-at, end-at}
 use Rattle.congee_forms.proofs.node_16.Node16Node.get_children.Goals as goal
 use Rattle.congee_forms.proofs.node_16.Node16Node.get_children.Goals.{then-end-eq255, else-end-eq255}
 
+-- the place of the byte after the last
+end_place : {C : Type 0} {most : ℕ} {ks : List ℕ} {cs : List C} {count : ℕ} → IsSorted most ks cs count → (b : ℕ) {n j : ℕ} → n ≡ length cs
+    → ((b ≡ 256) × (j ≡ n)) ⊎ (j ≡ count_by (λ x. nat_lt x b) (take n ks)) → j ≡ below (take n ks) b
+end_place r b n (inl whole) = end-at r n b whole.0 whole.1
+end_place r b n (inr ranked) = rank-at r n b ranked
+
 pub returns-then-low-high-clause-children : goal.returns-then-low-high-clause-children
 returns-then-low-high-clause-children g c =
-    let r = c.self.invariant.0 in
     let i = c.self.inside in
-    let l : length i.children.items ≤ length i.keys = omega (arith, r.long, r.within) in
     let n : c.len-count.result ≡ length i.children.items = search rules in
-    let low = rank-at i.keys i.children.items r.ascending l c.len-count.result n c.args.start c.rank-low.result c.rank-low.ensures in
+    let low = rank-at c.self.invariant.0 n c.args.start c.rank-low.ensures in
     let high : c.if-end-eq255.high ≡ below (take c.len-count.result i.keys) (c.args.end + 1) =
-    elim c.if-end-eq255.branch [
-      | then-end-eq255 w ↦ end-at i.keys i.children.items r.ascending l c.len-count.result n (c.args.end + 1) c.if-end-eq255.high (omega (arith, w.if-end-eq255.true)) w.high-is
-      | else-end-eq255 w ↦ rank-at i.keys i.children.items r.ascending l c.len-count.result n (c.args.end + 1) c.if-end-eq255.high (w.high-is ∙ w.rank-high.ensures)
-    ]
+    end_place c.self.invariant.0 (c.args.end + 1) n (elim c.if-end-eq255.branch [ then-end-eq255 w ↦ inl (omega (arith, w.if-end-eq255.true), w.high-is) | else-end-eq255 w ↦ inr (w.high-is ∙ w.rank-high.ensures) ])
     in
     ap (λ (x : List g.row.C.Denot). pairs (take (c.if-end-eq255.high - c.rank-low.result) (drop c.rank-low.result i.keys)) (take (c.if-end-eq255.high - c.rank-low.result) (drop c.rank-low.result x))) c.deref.ensures.value
-    ∙ rw (← c.self.view_is) (part_between i.keys i.children.items r.ascending l c.args.start (c.args.end + 1) c.rank-low.result c.if-end-eq255.high c.len-count.result n low high)
+    ∙ rw (← c.self.view_is) (part_between c.self.invariant.0 c.args.start (c.args.end + 1) n low high)
 
 pub returns-clause-children : goal.returns-clause-children
 returns-clause-children g c =
-    let r = c.self.invariant.0 in
     let i = c.self.inside in
-    let l : length i.children.items ≤ length i.keys = omega (arith, r.long, r.within) in
     let n : c.len-count.result ≡ length i.children.items = search rules in
-    let low = rank-at i.keys i.children.items r.ascending l c.len-count.result n c.args.start c.rank-low.result c.rank-low.ensures in
+    let low = rank-at c.self.invariant.0 n c.args.start c.rank-low.ensures in
     let high : c.if-end-eq255.high ≡ below (take c.len-count.result i.keys) (c.args.end + 1) =
-    elim c.if-end-eq255.branch [
-      | then-end-eq255 w ↦ end-at i.keys i.children.items r.ascending l c.len-count.result n (c.args.end + 1) c.if-end-eq255.high (omega (arith, w.if-end-eq255.true)) w.high-is
-      | else-end-eq255 w ↦ rank-at i.keys i.children.items r.ascending l c.len-count.result n (c.args.end + 1) c.if-end-eq255.high (w.high-is ∙ w.rank-high.ensures)
-    ]
+    end_place c.self.invariant.0 (c.args.end + 1) n (elim c.if-end-eq255.branch [ then-end-eq255 w ↦ inl (omega (arith, w.if-end-eq255.true), w.high-is) | else-end-eq255 w ↦ inr (w.high-is ∙ w.rank-high.ensures) ])
     in
-    rw (← c.self.view_is) (part_none i.keys i.children.items r.ascending l c.args.start (c.args.end + 1) c.rank-low.result c.if-end-eq255.high c.len-count.result n low high c.if-low-high.false)
+    rw (← c.self.view_is) (part_none c.self.invariant.0 c.args.start (c.args.end + 1) n low high c.if-low-high.false)

@@ -1,5 +1,5 @@
 use Rattle.std.proofs.Common.{rules, ◌≡◌, refl, replicate}
-use Rattle.congee_base.specs.Marked.{marked_place}
+use Rattle.congee_base.specs.inner.Marked.{marked_place}
 use Rattle.congee_base.proofs.RowLaws.{row-empty}
 use Rattle.congee_base.proofs.MarkLaws.{none-set}
 use Rattle.congee_forms.proofs.node_256.Node256.new.Goals as goal

@@ -1,8 +1,8 @@
 use Rattle.std.proofs.Common.{rules, arith, ◌≡◌, ◌<◌, ◌∙◌, sym, ap, refl, length, slice_index, inl, inr}
 use Rattle.std.proofs.lemmas.Bool.{cases_lt}
 use Rattle.std.proofs.lemmas.Option.{slice_get_read, slice_get_past}
-use Rattle.congee_base.specs.Marked.{mark_at, marked_place}
-use Rattle.congee_base.specs.Row.{at_place}
+use Rattle.congee_base.specs.inner.Marked.{mark_at, marked_place}
+use Rattle.congee_base.specs.inner.Row.{at_place}
 use Rattle.congee_base.proofs.RowLaws.{under-rises, row-lookup}
 use Rattle.congee_base.proofs.MarkLaws.{place-set, place-clear}
 use Rattle.congee_forms.proofs.node_256.Node256Node.get_child.Goals as goal

@@ -2,8 +2,8 @@ use Rattle.std.proofs.Common.{rules, arith, ◌≡◌, ◌≢◌, ℕ, ◌+◌, 
 use Rattle.std.specs.Vec.{vec_len, vec_capacity}
 use Rattle.std.proofs.lemmas.List.{get_or-set_same, get_or-set_other}
 use Rattle.congee_map.specs.Map.{lookup, put}
-use Rattle.congee_base.specs.Marked.{mark_at, marked_place}
-use Rattle.congee_base.specs.Row.{at_place, in_row, IsRow}
+use Rattle.congee_base.specs.inner.Marked.{mark_at, marked_place}
+use Rattle.congee_base.specs.inner.Row.{at_place, in_row, IsRow}
 use Rattle.congee_map.proofs.ByteMapLaws.{length-absent}
 use Rattle.congee_base.proofs.RowLaws.{under-rises, row-added}
 use Rattle.congee_base.proofs.MarkLaws.{place-set, place-same}

@@ -1,22 +1,18 @@
-use Rattle.std.proofs.Common.{◌∙◌, arith, ◌≡◌, ◌≤◌, length, sym}
-use Rattle.congee_base.specs.Few.{listed}
+use Rattle.std.proofs.Common.{◌∙◌, arith, ◌≡◌, length, sym}
+use Rattle.congee_base.specs.inner.Few.{listed}
 use Rattle.congee_forms.proofs.SortedLaws.{found_at, not_at}
 use Rattle.congee_forms.proofs.node_4.Node4Node.get_child.Goals as goal
 use Rattle.congee_forms.proofs.node_4.Node4Node.get_child.Goals.{else-i-count-via-then-i-count+else-self-i, else-i-count-via-else-i-count}
 
 pub returns-then-self-i-clause-found : goal.returns-then-self-i-clause-found
 returns-then-self-i-clause-found g c =
-    let r = c.self.invariant.0 in
-    let l : length (listed c.self.inside.children) ≤ length c.self.inside.keys = omega (arith, r.long, r.within) in
-    let n : c.value_count-count.result ≡ length (listed c.self.inside.children) = c.value_count-count.ensures ∙ r.counted in
-    c.get.ensures ∙ rw (← c.self.view_is) (found_at c.self.inside.keys (listed c.self.inside.children) r.ascending l c.args.byte c.place-i.result c.value_count-count.result n c.place-i.ensures.at (omega (arith, c.if-i-count.true, n)) c.if-self-i.true)
+    let n : c.value_count-count.result ≡ length (listed c.self.inside.children) = c.value_count-count.ensures ∙ c.self.invariant.0.counted in
+    c.get.ensures ∙ rw (← c.self.view_is) (found_at c.self.invariant.0 c.args.byte n c.place-i.ensures.at (omega (arith, c.if-i-count.true, n)) c.if-self-i.true)
 
 pub returns-else-i-count-clause-found : goal.returns-else-i-count-clause-found
 returns-else-i-count-clause-found g c =
-    let r = c.self.invariant.0 in
-    let l : length (listed c.self.inside.children) ≤ length c.self.inside.keys = omega (arith, r.long, r.within) in
-    let n : c.value_count-count.result ≡ length (listed c.self.inside.children) = c.value_count-count.ensures ∙ r.counted in
-    rw (← c.self.view_is) (sym (not_at c.self.inside.keys (listed c.self.inside.children) r.ascending l c.args.byte c.place-i.result c.value_count-count.result n c.place-i.ensures.at
+    let n : c.value_count-count.result ≡ length (listed c.self.inside.children) = c.value_count-count.ensures ∙ c.self.invariant.0.counted in
+    rw (← c.self.view_is) (sym (not_at c.self.invariant.0 c.args.byte n c.place-i.ensures.at
     (elim c.else-i-count.branch [
       | else-i-count-via-then-i-count+else-self-i w ↦ λ _. w.if-self-i.false
       | else-i-count-via-else-i-count w ↦ λ inside. absurd (omega (arith, w.if-i-count.false, n))

@@ -1,7 +1,7 @@
 use Rattle.std.proofs.Common.{rules, ◌≡◌, ◌<◌, ◌∙◌, ap, refl, IsSome, length, slice_index}
 use Rattle.std.proofs.lemmas.Option.{slice_get_read}
 use Rattle.congee_map.specs.Map.{lookup}
-use Rattle.congee_base.specs.Row.{in_row}
+use Rattle.congee_base.specs.inner.Row.{in_row}
 use Rattle.congee_base.proofs.RowLaws.{row-inside, row-lookup, row-changed}
 use Rattle.congee_forms.proofs.node_48.Node48Node.change.Goals as goal
 

@@ -1,6 +1,6 @@
 use Rattle.std.proofs.Common.{rules, arith, ◌≡◌, ◌<◌, ◌∙◌, sym, ap, refl, length, slice_index}
 use Rattle.std.proofs.lemmas.Option.{slice_get_read, slice_get_past}
-use Rattle.congee_base.specs.Row.{at_place}
+use Rattle.congee_base.specs.inner.Row.{at_place}
 use Rattle.congee_base.proofs.RowLaws.{under-rises, row-lookup}
 use Rattle.congee_forms.proofs.node_48.Node48Node.get_child.Goals as goal
 

@@ -1,7 +1,7 @@
 use Rattle.std.proofs.Common.{rules, arith, ◌≡◌, ◌≤◌, ◌<◌, ◌+◌, ◌∙◌, refl, None, length, set, slice_index}
 use Rattle.std.proofs.lemmas.List.{get_or-set_same, get_or-set_other}
 use Rattle.congee_map.specs.Map.{lookup}
-use Rattle.congee_base.specs.Row.{in_row}
+use Rattle.congee_base.specs.inner.Row.{in_row}
 use Rattle.congee_base.proofs.RowLaws.{row-added}
 use Rattle.congee_forms.proofs.node_48.Node48Node.insert.Goals as goal
 

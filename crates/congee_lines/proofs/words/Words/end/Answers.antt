@@ -1,6 +1,6 @@
 use Rattle.std.proofs.Common.{sym, ap, ◌∙◌}
 use Rattle.std.specs.Option.{option_copied}
-use Rattle.congee_lines.specs.Words.{words_in}
+use Rattle.congee_lines.specs.inner.Words.{words_in}
 use Rattle.congee_lines.proofs.WordLemmas.{words_some}
 use Rattle.congee_lines.proofs.words.Words.end.Goals as goal
 

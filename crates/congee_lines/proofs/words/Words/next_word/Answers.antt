@@ -1,7 +1,7 @@
 use Rattle.std.proofs.Common.{◌≡◌, ◌+◌, ◌<◌, length, ap, ◌∙◌, arith}
 use Rattle.std.specs.Option.{option_copied}
 use Rattle.std.proofs.lemmas.List.{take_rest}
-use Rattle.congee_lines.specs.Words.{words_in}
+use Rattle.congee_lines.specs.inner.Words.{words_in}
 use Rattle.congee_lines.proofs.WordLemmas.{words_none, words_cut, lacks_from_reads}
 use Rattle.congee_lines.proofs.words.Words.next_word.Goals as goal
 

@@ -1,7 +1,7 @@
 use Rattle.congee_node_table.specs.declared.child.Child.TheVariants.{Node, Payload}
 use Rattle.std.proofs.Common.{◌≡◌, sym, ap, ◌∙◌}
 use Rattle.congee_forms.specs.Any.{any_children}
-use Rattle.congee_node_table.specs.TableNode.{table_node}
+use Rattle.congee_node_table.specs.inner.Kinds.{table_node}
 use Rattle.congee_node_table.specs.declared.tree_node.Kind.TheVariants.{Inner, Leaf}
 use Rattle.congee_node_table.proofs.KindLaws.{made-put, mapped-present, lookup-mapped_some}
 use Rattle.congee_node_table.proofs.tree_node.TreeNode.change.Goals as goal

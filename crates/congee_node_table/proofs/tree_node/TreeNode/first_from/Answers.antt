@@ -1,6 +1,6 @@
 use Rattle.std.proofs.Common.{◌≡◌, arith, sym, ap, ◌∙◌}
 use Rattle.congee_forms.specs.Any.{any_children}
-use Rattle.congee_node_table.specs.TableNode.{table_node}
+use Rattle.congee_node_table.specs.inner.Kinds.{table_node}
 use Rattle.congee_node_table.specs.declared.tree_node.Kind.TheVariants.{Inner, Leaf}
 use Rattle.congee_node_table.proofs.KindLaws.{first-mapped, none-mapped}
 use Rattle.congee_map.proofs.RangeLaws.{between-crossed}

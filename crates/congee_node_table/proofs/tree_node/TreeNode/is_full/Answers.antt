@@ -1,5 +1,5 @@
 use Rattle.std.proofs.Common.{◌≡◌, sym, ap, ◌∙◌}
-use Rattle.congee_node_table.specs.TableNode.{table_node}
+use Rattle.congee_node_table.specs.inner.Kinds.{table_node}
 use Rattle.congee_node_table.specs.declared.tree_node.Kind.TheVariants.{Inner, Leaf}
 use Rattle.congee_node_table.proofs.KindLaws.{fits_here, fits_made}
 use Rattle.congee_node_table.proofs.tree_node.TreeNode.is_full.Goals as goal

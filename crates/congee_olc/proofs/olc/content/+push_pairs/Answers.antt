@@ -2,7 +2,7 @@ use Rattle.std.proofs.Common.{◌≡◌, ℕ, ◌+◌, List, [], ◌∷◌, ◌+
 use Rattle.congee_node_table.specs.Key.{low}
 use Rattle.congee_map.specs.Map.{between}
 use Rattle.congee_node_table.specs.TableNode.{looked_at}
-use Rattle.congee_olc.specs.Content.{nodes_on}
+use Rattle.congee_olc.specs.inner.Walks.{nodes_on}
 use Rattle.congee_olc.proofs.Telling.{stored_there, never_empty, next_payload, next_node, part_start, part_payload, part_node, part_end}
 use Rattle.congee_olc.proofs.olc.content.+push_pairs.Goals as goal
 use Rattle.congee_olc.proofs.olc.content.+push_pairs.Goals.{in-Payload+in_ok-share-in-Payload+in_ok-push-in-Payload, in-Node+in_ok-push_pairs-in-Node}

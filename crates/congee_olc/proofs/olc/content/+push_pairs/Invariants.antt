@@ -1,6 +1,6 @@
 use Rattle.std.proofs.Common.{◌-◌, ℕ, suc}
 use Rattle.congee_node_table.specs.Table.{IsSubtree}
-use Rattle.congee_olc.specs.Content.{nodes_on}
+use Rattle.congee_olc.specs.inner.Walks.{nodes_on}
 use Rattle.congee_olc.proofs.Telling.{PartTold, left_at}
 use Rattle.congee_olc.proofs.olc.content.+push_pairs.Given as goal
 

@@ -1,7 +1,7 @@
 use Rattle.std.proofs.Common.{rules, ◌≡◌, Some, None, slice_index_or, ap, subst}
 use Rattle.congee_sync.specs.Epoch.{entry_at}
 use Rattle.congee_olc.specs.World.{node_of}
-use Rattle.congee_olc.specs.Found.{IsFound}
+use Rattle.congee_olc.specs.inner.Found.{IsFound}
 use Rattle.congee_olc.specs.declared.olc.reading.Found.{Found}
 use Rattle.congee_olc.proofs.Reading.{check_restarts, check_goes_down, check_nothing, check_payload, check_known, check_remembers, test_false}
 use Rattle.congee_olc.proofs.olc.reading.check.Goals as goal

@@ -12,8 +12,8 @@ returns-then-is_free-clause-reads g c env =
     let there = ap (node_of (entry_at c.args.pins.now.slots c.args.slot)) at in
     let free : IsFree c.in-Some.node.now.word = c.is_free.ensures.0 c.if-is_free.true in
     rw (c.going.ensures, c.moved.ensures, c.report-report.ensures, c.number.ensures, c.number-then-is_free.ensures)
-    (below_ok g.P.Payload.alike g.P.Payload.tells_same _ c.args.root c.args.pin c.args.call c.requires.placed c.requires.facts env c.args.path c.args.slot _ c.is_way_of-fits.result c.requires.stage there free
-    (subst (λ (k : ℕ). IsTrue c.is_way_of-fits.result ↔ Begins c.in-Some.node.now.node.prefix (bytes_of k)) c.key_of.ensures c.is_way_of-fits.ensures))
+    (below_ok g.P.Payload.alike g.P.Payload.tells_same _ c.args.root c.args.pin c.args.call c.requires.placed c.requires.facts env c.args.path c.args.slot _ c.is_on_path-fits.result c.requires.stage there free
+    (subst (λ (k : ℕ). IsTrue c.is_on_path-fits.result ↔ Begins c.in-Some.node.now.node.prefix (bytes_of k)) c.key.ensures c.is_on_path-fits.ensures))
 
 pub returns-else-is_free-clause-reads : goal.returns-else-is_free-clause-reads
 returns-else-is_free-clause-reads g c env =

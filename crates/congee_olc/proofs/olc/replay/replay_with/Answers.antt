@@ -4,7 +4,7 @@ use Rattle.congee_map.specs.Map.{Pairs}
 use Rattle.congee_olc.specs.Table.{view_of, IsContent}
 use Rattle.congee_olc.specs.Content.{IsTold}
 use Rattle.congee_olc.specs.Run.{IsCopy}
-use Rattle.congee_olc.specs.Played.{SoFar}
+use Rattle.congee_olc.specs.inner.Played.{SoFar}
 use Rattle.congee_olc.specs.declared.olc.types.Event.{Event}
 use Rattle.congee_olc.proofs.Playing.{so_far_more}
 use Rattle.congee_olc.proofs.Histories.{pairs_copied}

@@ -1,5 +1,5 @@
 use Rattle.std.proofs.Common.{take}
-use Rattle.congee_olc.specs.Played.{SoFar}
+use Rattle.congee_olc.specs.inner.Played.{SoFar}
 use Rattle.congee_olc.proofs.olc.replay.replay_with.Given as goal
 
 abbrev pub invariant-loop-event : goal.invariant-loop-event

@@ -1,6 +1,6 @@
 use Rattle.std.proofs.Common.{ℕ, ap, sym, subst, ◌∙◌}
 use Rattle.congee_olc.specs.Run.{if_read}
-use Rattle.congee_olc.specs.Played.{Played, noted}
+use Rattle.congee_olc.specs.inner.Played.{Played, noted}
 use Rattle.congee_olc.specs.declared.olc.types.Env.{Env}
 use Rattle.congee_olc.specs.declared.olc.types.Event.TheVariants.{Step}
 use Rattle.congee_olc.specs.declared.olc.trace.Line.TheVariants.{Done as Made}

@@ -1,7 +1,8 @@
 //! Machines that store many pairs.
 
-ghost use Rattle.std.specs.Prelude.{◌≡◌, ◌+◌, ◌≤◌, [], ◌∷◌, ◌++◌, length, IfOk, IfSome, None};
-ghost use Rattle.congee_base.specs.Form.{Fits};
+ghost use Rattle.std.specs.Prelude.{◌≡◌, ◌+◌, ◌≤◌, [], ◌∷◌, ◌++◌, length, IfOk, OnOk, OnErr, IfSome, None};
+ghost use Rattle.congee_base.specs.Form.{Fits, stated_size};
+ghost use Rattle.congee_node_table.specs.Charge.{add_charge};
 ghost use Rattle.congee_node_table.specs.Key.{Begins};
 ghost use Rattle.congee_map.specs.Map.{lookup};
 
@@ -33,7 +34,7 @@ pub(super) fn flat() -> Layout {
     }
 }
 
-// Three inner nodes on the way to a leaf, as large as can be.
+// Three inner nodes on the path to a leaf, as large as can be.
 pub(super) fn middle() -> Layout {
     Layout {
         inner: 3,
@@ -74,6 +75,16 @@ fn stored<P>(node: TreeNode<P>) -> Stored<P>
     }
 }
 
+// Makes a node of the smallest form one of the largest.
+fn enlarge<P: Payload>(node: &mut TreeNode<P>, alloc: Global) -> Result<(), OOMError>
+    ensures prefix { OnOk result (node.new.prefix ≡ node.old.prefix) }
+    ensures children { OnOk result (node.new.children ≡ node.old.children) }
+{
+    node.grow(alloc)?;
+    node.grow(alloc)?;
+    node.grow(alloc)
+}
+
 // A node without children.
 fn fresh_node<P: Payload>(
     alloc: Global,
@@ -90,17 +101,33 @@ fn fresh_node<P: Payload>(
         TreeNode::inner(alloc, prefix)?
     };
     if large {
-        node.grow(alloc)?;
-        node.grow(alloc)?;
-        node.grow(alloc)?;
+        enlarge(&mut node, alloc)?;
     }
     Ok(node)
 }
 
+// A node without children, whose size is charged.
+fn paid_node<P: Payload, A: Allocator>(
+    budget: &mut A,
+    alloc: Global,
+    prefix: &[u8],
+    large: bool,
+) -> Result<TreeNode<P>, OOMError>
+    requires { length prefix.now ≤ 7 }
+    ensures prefix { IfOk result (λ n. n.prefix ≡ prefix.now) }
+    ensures children { IfOk result (λ n. n.children ≡ []) }
+    ensures charge { IfOk result (λ n. A.charge budget.new ≡ add_charge (A.charge budget.old) (stated_size n.form)) }
+    ensures err { OnErr result (budget.new ≡ budget.old) }
+{
+    let fresh = fresh_node(alloc, prefix, large)?;
+    budget.allocate(NodeSize::of(fresh.base().get_type()))?;
+    Ok(fresh)
+}
+
 // The byte under which these bytes go on below a linked node, where the node has no child there and room for one.
-fn open_byte<P: Payload>(node: &Stored<P>, way: &[u8]) -> Option<u8>
+fn open_byte<P: Payload>(node: &Stored<P>, path: &[u8]) -> Option<u8>
     ensures linked { IfSome result (λ byte. node.now.place ≡ Place.Linked) }
-    ensures begins { IfSome result (λ byte. Begins (node.now.node.prefix ++ byte ∷ []) way.now) }
+    ensures begins { IfSome result (λ byte. Begins (node.now.node.prefix ++ byte ∷ []) path.now) }
     ensures empty { IfSome result (λ byte. lookup node.now.node.children byte ≡ None) }
     ensures room { IfSome result (λ byte. Fits node.now.node.form (length node.now.node.children + 1)) }
 {
@@ -108,17 +135,17 @@ fn open_byte<P: Payload>(node: &Stored<P>, way: &[u8]) -> Option<u8>
         return None;
     };
     let prefix = node.node.base().prefix();
-    if prefix.len() >= way.len() || !way.starts_with(prefix) {
+    if prefix.len() >= path.len() || !path.starts_with(prefix) {
         return None;
     }
-    let byte = way[prefix.len()];
+    let byte = path[prefix.len()];
     if node.node.get_child(byte).is_some() || node.node.is_full() {
         return None;
     }
     Some(byte)
 }
 
-// Links a new node with this prefix below the one in a slot. Answers its slot, or `None` where it has no place there.
+// Links a new node with this prefix below the one in a slot. Returns its slot, or `None` where it has no place there.
 fn link<P: Payload, A: Allocator>(
     machine: &mut Machine<P, A>,
     alloc: Global,
@@ -135,11 +162,8 @@ fn link<P: Payload, A: Allocator>(
     let Some(byte) = open_byte(node, prefix) else {
         return Ok(None);
     };
-    let fresh = fresh_node(alloc, prefix, large)?;
     machine.nodes.reserve(1)?;
-    machine
-        .budget
-        .allocate(NodeSize::of(fresh.base().get_type()))?;
+    let fresh = paid_node(&mut machine.budget, alloc, prefix, large)?;
     let slot = machine.nodes.insert_reserved(stored(fresh));
     let Some(node) = machine.nodes.get_mut(above) else {
         unreachable!()
@@ -148,7 +172,7 @@ fn link<P: Payload, A: Allocator>(
     Ok(Some(slot))
 }
 
-// Puts a pair into the leaf in a slot. Answers whether it has a place there.
+// Puts a pair into the leaf in a slot. Returns whether it has a place there.
 fn put<P: Payload, A: Allocator>(
     machine: &mut Machine<P, A>,
     slot: usize,
@@ -214,7 +238,7 @@ fn go_below<P: Payload, A: Allocator>(
     }
 }
 
-// Stores a pair. Answers whether its key has a place.
+// Stores a pair. Returns whether its key has a place.
 fn add_pair<P: Payload, A: Allocator>(
     machine: &mut Machine<P, A>,
     alloc: Global,
@@ -239,6 +263,21 @@ fn add_pair<P: Payload, A: Allocator>(
     Ok(put(machine, leaf, key, value))
 }
 
+// Stores these pairs.
+fn add_pairs<A: Allocator>(
+    machine: &mut Machine<u64, A>,
+    alloc: Global,
+    layout: Layout,
+    pairs: &[(u64, u64)],
+) -> Result<(), BuildError> {
+    for (key, value) in pairs {
+        if !add_pair(machine, alloc, layout, *key, *value)? {
+            return Err(BuildError::NoPlace(*key));
+        }
+    }
+    Ok(())
+}
+
 // A machine that stores these pairs.
 pub(super) fn of_pairs<A: Allocator>(
     alloc: Global,
@@ -247,10 +286,6 @@ pub(super) fn of_pairs<A: Allocator>(
     pairs: &[(u64, u64)],
 ) -> Result<Machine<u64, A>, BuildError> {
     let mut machine = Machine::new(alloc, budget)?;
-    for (key, value) in pairs {
-        if !add_pair(&mut machine, alloc, layout, *key, *value)? {
-            return Err(BuildError::NoPlace(*key));
-        }
-    }
+    add_pairs(&mut machine, alloc, layout, pairs)?;
     Ok(machine)
 }

@@ -1,10 +1,9 @@
 //! Gets on tables of many pairs, against a search of the plain list.
 
-use crate::olc::machine::Machine;
 use crate::olc::machine::tests::building::{BuildError, Layout, deep, flat, middle, of_pairs};
-use crate::olc::machine::tests::{Course, answer, plain};
-use crate::olc::types::{Op, StartError};
-use congee_node_table::allocator::{Budget, DefaultAllocator};
+use crate::olc::machine::tests::{Course, Numbers};
+use crate::olc::types::StartError;
+use congee_node_table::allocator::{Allocator, Budget, DefaultAllocator};
 use std::alloc::Global;
 use std::test::Fail;
 
@@ -156,30 +155,19 @@ fn find(pairs: &[(u64, u64)], key: u64) -> Option<u64> {
 }
 
 // What a Get alone is answered, if it ends within 40 events.
-fn get(
-    machine: &mut Machine<u64, DefaultAllocator>,
-    key: u64,
-) -> Result<Option<Option<u64>>, StartError> {
-    machine.start(0, &Op::Get(key))?;
-    let mut given = None;
+fn get(machine: &mut Numbers, key: u64) -> Result<Option<Option<u64>>, StartError> {
+    let mut course = Course::start(machine, 0, key)?;
     for _ in 1..40 {
-        let (_, outcome) = machine.step(0, &Op::Get(key), plain());
-        if let Some(answer) = answer(outcome) {
-            given = Some(answer);
-        }
+        course.step(machine);
         if !machine.is_in_flight(0) {
-            return Ok(given);
+            return Ok(course.answer);
         }
     }
     Ok(None)
 }
 
 // Whether the Gets of a key and of those that begin as it does are answered as the list says.
-fn is_found(
-    machine: &mut Machine<u64, DefaultAllocator>,
-    pairs: &[(u64, u64)],
-    key: u64,
-) -> Result<bool, StartError> {
+fn is_found(machine: &mut Numbers, pairs: &[(u64, u64)], key: u64) -> Result<bool, StartError> {
     for change in changes() {
         let other = key ^ change;
         if get(machine, other)? != Some(find(pairs, other)) {
@@ -190,65 +178,87 @@ fn is_found(
 }
 
 // The first pair whose key, or a key beside it, is answered otherwise than the list says.
-fn first_wrong(alloc: Global, layout: Layout, pairs: &[(u64, u64)]) -> Result<Option<u64>, Fail> {
-    let mut machine = of_pairs(alloc, DefaultAllocator {}, layout, pairs)?;
+fn first_wrong(machine: &mut Numbers, pairs: &[(u64, u64)]) -> Result<Option<u64>, StartError> {
     for (key, _) in pairs {
-        if !is_found(&mut machine, pairs, *key)? {
+        if !is_found(machine, pairs, *key)? {
             return Ok(Some(*key));
         }
     }
     Ok(None)
 }
 
+// The same of a machine that stores these pairs.
+fn wrong_in(alloc: Global, layout: Layout, pairs: &[(u64, u64)]) -> Result<Option<u64>, Fail> {
+    let mut machine = of_pairs(alloc, DefaultAllocator {}, layout, pairs)?;
+    Ok(first_wrong(&mut machine, pairs)?)
+}
+
 #[test]
 fn gets_find_what_the_list_has(rt: HostRuntime) -> Result<(), Fail> {
-    assert_eq!(rt; first_wrong(rt.alloc(), deep(), &any_keys())?, None);
-    assert_eq!(rt; first_wrong(rt.alloc(), deep(), &four_bytes_apart())?, None);
-    assert_eq!(rt;
-        first_wrong(rt.alloc(), middle(), &four_bytes_apart())?,
-        None
-    );
-    assert_eq!(rt;
-        first_wrong(rt.alloc(), middle(), &first_byte_apart())?,
-        None
-    );
-    assert_eq!(rt; first_wrong(rt.alloc(), flat(), &first_byte_apart())?, None);
+    assert_eq!(rt; wrong_in(rt.alloc(), deep(), &any_keys())?, None);
+    assert_eq!(rt; wrong_in(rt.alloc(), deep(), &four_bytes_apart())?, None);
+    assert_eq!(rt; wrong_in(rt.alloc(), middle(), &four_bytes_apart())?, None);
+    assert_eq!(rt; wrong_in(rt.alloc(), middle(), &first_byte_apart())?, None);
+    assert_eq!(rt; wrong_in(rt.alloc(), flat(), &first_byte_apart())?, None);
+    Ok(())
+}
+
+// Seats a number for each key and starts its Get.
+fn start_all(machine: &mut Numbers, keys: &[u64], courses: &mut Vec<Course>) -> Result<(), Fail> {
+    for key in keys {
+        let id = machine.seat()?;
+        courses.push(Course::start(machine, id, *key)?)?;
+    }
     Ok(())
 }
 
 // One event of each course that hasn't ended.
-fn advance_all(
-    machine: &mut Machine<u64, DefaultAllocator>,
-    courses: &mut [Course],
-) -> Result<(), Fail> {
+fn advance_all(machine: &mut Numbers, courses: &mut [Course]) {
     for course in courses {
         if machine.is_in_flight(course.id) {
-            course.go_on(machine, 1)?;
+            course.step(machine);
         }
     }
-    Ok(())
 }
 
-// The courses of Gets of these keys, which make their events in turn, 40 each at most.
-fn run_together(
-    alloc: Global,
-    machine: &mut Machine<u64, DefaultAllocator>,
-    keys: &[u64],
-) -> Result<Vec<Course>, Fail> {
-    let mut courses = Vec::new(alloc);
-    for key in keys {
-        let id = machine.seat()?;
-        courses.push(Course::start(alloc, machine, id, *key)?)?;
-    }
+// Makes the events of all courses in turn, 40 each at most, and returns the first key whose Get hasn't ended with what
+// the list says.
+fn wrong_together(
+    machine: &mut Numbers,
+    pairs: &[(u64, u64)],
+    courses: &mut [Course],
+) -> Option<u64> {
     for _ in 1..40 {
-        advance_all(machine, &mut courses)?;
+        advance_all(machine, courses);
     }
-    Ok(courses)
+    for course in courses {
+        if !course.has_ended(machine, find(pairs, course.key)) {
+            return Some(course.key);
+        }
+    }
+    None
+}
+
+// The same for Gets of these keys on a machine that stores the pairs.
+fn wrong_of(
+    machine: &mut Numbers,
+    alloc: Global,
+    pairs: &[(u64, u64)],
+    keys: &[u64],
+) -> Result<Option<u64>, Fail> {
+    let mut courses = Vec::new(alloc);
+    start_all(machine, keys, &mut courses)?;
+    Ok(wrong_together(machine, pairs, &mut courses))
+}
+
+fn wrong_in_turn(alloc: Global, keys: &[u64]) -> Result<Option<u64>, Fail> {
+    let pairs = any_keys();
+    let mut machine = of_pairs(alloc, DefaultAllocator {}, deep(), &pairs)?;
+    wrong_of(&mut machine, alloc, &pairs, keys)
 }
 
 #[test]
 fn gets_in_turn_find_the_same(rt: HostRuntime) -> Result<(), Fail> {
-    let mut machine = of_pairs(rt.alloc(), DefaultAllocator {}, deep(), &any_keys())?;
     let keys = [
         0,
         1,
@@ -260,54 +270,49 @@ fn gets_in_turn_find_the_same(rt: HostRuntime) -> Result<(), Fail> {
         u64::MAX,
         1 << 62,
     ];
-    for course in &run_together(rt.alloc(), &mut machine, &keys)? {
-        let key = course.key;
-        assert!(rt; !machine.is_in_flight(course.id), "at {key}");
-        assert_eq!(rt; course.answer, Some(find(&any_keys(), key)), "at {key}");
-    }
+    assert_eq!(rt; wrong_in_turn(rt.alloc(), &keys)?, None);
     Ok(())
+}
+
+// How many pairs a flat machine stores that is built of these.
+fn built<A: Allocator>(alloc: Global, budget: A, pairs: &[(u64, u64)]) -> Result<u128, BuildError> {
+    let machine = of_pairs(alloc, budget, flat(), pairs)?;
+    Ok(machine.entry_count())
 }
 
 #[test]
 fn a_machine_is_not_built_where_a_key_has_no_place(rt: HostRuntime) -> Result<(), Fail> {
-    let apart = of_pairs(
-        rt.alloc(),
-        DefaultAllocator {},
-        flat(),
-        &[(1, 42), (256, 43)],
-    );
-    assert_eq!(rt; apart.err(), Some(BuildError::NoPlace(256)));
+    let apart = built(rt.alloc(), DefaultAllocator {}, &[(1, 42), (256, 43)]);
+    assert_eq!(rt; apart, Err(BuildError::NoPlace(256)));
     let full = [(1, 1), (2, 2), (3, 3), (4, 4), (5, 5)];
-    let many = of_pairs(rt.alloc(), DefaultAllocator {}, flat(), &full);
-    assert_eq!(rt; many.err(), Some(BuildError::NoPlace(5)));
-    let machine = of_pairs(rt.alloc(), Budget::new(2168), flat(), &[(1, 42)])?;
-    assert_eq!(rt; machine.entry_count(), 1);
-    let small = of_pairs(rt.alloc(), Budget::new(2167), flat(), &[(1, 42)]);
+    let many = built(rt.alloc(), DefaultAllocator {}, &full);
+    assert_eq!(rt; many, Err(BuildError::NoPlace(5)));
+    assert_eq!(rt; built(rt.alloc(), Budget::new(2168), &[(1, 42)]), Ok(1));
+    let small = built(rt.alloc(), Budget::new(2167), &[(1, 42)]);
     assert!(rt; matches!(small, Err(BuildError::Oom(_))));
     Ok(())
 }
 
-// Whether each key is above the one before it.
-fn are_ascending(pairs: &[(u64, u64)]) -> bool {
+// Whether the content is the list, in order: as many pairs, keys ascending, and each of them in the list.
+fn is_the_list(content: &[(u64, u64)], pairs: &[(u64, u64)]) -> bool {
     let mut before = None;
-    for (key, _) in pairs {
-        if before >= Some(*key) {
+    for (key, value) in content {
+        if before >= Some(*key) || find(pairs, *key) != Some(*value) {
             return false;
         }
         before = Some(*key);
     }
-    true
+    content.len() == pairs.len()
+}
+
+fn tells_in_order(alloc: Global, pairs: &[(u64, u64)]) -> Result<bool, Fail> {
+    let machine = of_pairs(alloc, DefaultAllocator {}, deep(), pairs)?;
+    let content = machine.content(alloc)?;
+    Ok(is_the_list(&content, pairs))
 }
 
 #[test]
 fn the_content_is_the_list_in_order(rt: HostRuntime) -> Result<(), Fail> {
-    let pairs = any_keys();
-    let machine = of_pairs(rt.alloc(), DefaultAllocator {}, deep(), &pairs)?;
-    let content = machine.content(rt.alloc())?;
-    assert_eq!(rt; content.len(), pairs.len());
-    assert!(rt; are_ascending(&content));
-    for (key, value) in &content {
-        assert_eq!(rt; find(&pairs, *key), Some(*value), "at {key}");
-    }
+    assert!(rt; tells_in_order(rt.alloc(), &any_keys())?);
     Ok(())
 }

@@ -1,3 +1,4 @@
+use Rattle.std.proofs.Common.{rules}
 use Rattle.std.proofs.lemmas.Result.{err_from_is_err_and}
 use Rattle.congee_service.proofs.session.Session.answer.Goals as goal
 
@@ -9,3 +10,6 @@ returns-in_err-put_reply-clause-err g c =
 
 pub returns-clause-ok : goal.returns-clause-ok
 returns-clause-ok g c = record { text = _; answers = c.reply_to-reply.ensures; sends = c.in_ok-put_reply.ensures.ok }
+
+pub returns-clause-line : goal.returns-clause-line
+returns-clause-line g c = search rules

@@ -1,7 +1,7 @@
 use Rattle.std.proofs.Common.{◌∷◌, [], ◌++◌, ◌+◌, ◌<◌, List, ℕ, take, drop, length, get_or, sym, subst, arith, append_assoc}
 use Rattle.std.proofs.lemmas.Result.{err_from_is_err_and}
 use Rattle.std.proofs.lemmas.List.{take-append-drop, take_more}
-use Rattle.congee_service.specs.Session.{Breaks}
+use Rattle.congee_service.specs.inner.Session.{Breaks}
 use Rattle.congee_service.proofs.session.Session.take_all.Goals as goal
 
 pub returns-in_err-take-clause-err : goal.returns-in_err-take-clause-err

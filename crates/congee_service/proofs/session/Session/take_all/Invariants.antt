@@ -1,5 +1,5 @@
 use Rattle.std.proofs.Common.{◌≡◌, ℕ, ◌++◌, List, Option, take}
-use Rattle.congee_service.specs.Session.{Serves}
+use Rattle.congee_service.specs.inner.Session.{Serves}
 use Rattle.congee_service.proofs.session.Session.take_all.Given as goal
 
 abbrev pub invariant-loop-byte : goal.invariant-loop-byte

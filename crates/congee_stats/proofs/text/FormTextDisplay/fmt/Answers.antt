@@ -6,4 +6,4 @@ pub returns-clause-writes : goal.returns-clause-writes
 returns-clause-writes g c p ok =
     let h = rw c.laid_out.ensures at (c.write.ensures.writes p ok) in
     has_written_of_eq _ _ _ _ _
-    (form_text_is _ _ _ _ _ _ _ c.name-name.ensures c.nodes_of-nodes.ensures c.room.ensures c.entries_of.ensures c.hundredths.ensures.value) h
+    (form_text_is _ _ _ _ _ _ _ c.name-name.ensures c.node_count-nodes.ensures c.capacity.ensures c.entry_count.ensures c.hundredths.ensures.value) h

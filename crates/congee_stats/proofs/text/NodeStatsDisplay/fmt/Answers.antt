@@ -14,6 +14,6 @@ returns-clause-writes g c p ok =
     let before = c.loop-number.invariant p in
     let sums = c.of-totals.ensures in
     has_written_of_eq _ _ _ _ _
-    (stats_text_is c.args.self.now _ _ _ _ _ _ _ _ (c.shown-levels.ensures.value ∙ ap (take 8) c.as_slice.ensures)
-    c.loop-number-test.false sums.nodes sums.entries sums.filled sums.room sums.bytes sums.pairs)
+    (stats_text_is c.args.self.now _ _ _ _ _ _ _ _ (c.shown_levels-levels.ensures.value ∙ ap (take 8) c.as_slice.ensures)
+    c.loop-number-test.false sums.nodes sums.entries sums.load sums.full_load sums.bytes sums.pairs)
     (has_written_append _ _ _ _ _ _ before (c.write-2.ensures.writes before.plain ok))

@@ -1,4 +1,4 @@
 use Rattle.congee_tree.proofs.into_pairs.IntoPairsIterator.next.Given as goal
 
-abbrev pub ghosts-take : goal.ghosts-take
-ghosts-take g a = record { name = a.blank.name; parts = a.blank.parts }
+abbrev pub ghosts-remove : goal.ghosts-remove
+ghosts-remove g a = record { name = a.blank.name; parts = a.blank.parts }

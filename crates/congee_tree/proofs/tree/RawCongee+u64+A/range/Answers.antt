@@ -1,5 +1,5 @@
 use Rattle.std.proofs.Common.{ℕ, ap}
-use Rattle.congee_changes.specs.Tree.{Tree}
+use Rattle.congee_tree.specs.Tree.{Tree}
 use Rattle.congee_walks.proofs.ScanLaws.{range_count, range_written}
 use Rattle.congee_tree.proofs.tree.RawCongee+u64+A.range.Goals as goal
 

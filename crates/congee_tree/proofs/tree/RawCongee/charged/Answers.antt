@@ -1,6 +1,6 @@
 use Rattle.std.proofs.Common.{◌∙◌, ap}
 use Rattle.congee_supply.specs.Charge.{charge_of}
-use Rattle.congee_changes.specs.Tree.{Tree}
+use Rattle.congee_tree.specs.Tree.{Tree}
 use Rattle.congee_changes.proofs.WeightLaws.{size_counted}
 use Rattle.congee_tree.proofs.tree.RawCongee.charged.Goals as goal
 

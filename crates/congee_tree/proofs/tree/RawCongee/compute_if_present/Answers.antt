@@ -2,10 +2,10 @@ use Rattle.std.proofs.Common.{[], ap, subst}
 use Rattle.congee_map.specs.Map.{IsMap}
 use Rattle.congee_node_table.specs.Table.{pairs_at, nodes_at}
 use Rattle.congee_node_table.proofs.KeyLaws.{key_number-be_bytes}
-use Rattle.congee_supply.specs.Supply.{SupplyView}
-use Rattle.congee_changes.specs.Tree.{Tree}
-use Rattle.congee_paths.specs.Way.{depth}
-use Rattle.congee_changes.proofs.ChargeLaws.{charge_seen}
+use Rattle.congee_supply.specs.inner.Supply.{SupplyView}
+use Rattle.congee_tree.specs.Tree.{Tree}
+use Rattle.congee_paths.specs.inner.Root.{depth}
+use Rattle.congee_tree.proofs.CallLaws.{charge_seen}
 use Rattle.congee_changes.proofs.CountLaws.{is_map}
 use Rattle.congee_tree.proofs.CallLaws.{same_tree, takes_seen, absent_seen, present_seen}
 use Rattle.congee_tree.proofs.tree.RawCongee.compute_if_present.Goals as goal

@@ -5,8 +5,8 @@ use Rattle.congee_node_table.specs.Key.{key_number}
 use Rattle.congee_map.specs.Map.{lookup}
 use Rattle.congee_node_table.specs.Table.{pairs_at}
 use Rattle.congee_node_table.proofs.KeyLaws.{key_number-be_bytes}
-use Rattle.congee_paths.specs.Way.{depth}
-use Rattle.congee_changes.proofs.ChargeLaws.{charge_seen}
+use Rattle.congee_paths.specs.inner.Root.{depth}
+use Rattle.congee_tree.proofs.CallLaws.{charge_seen}
 use Rattle.congee_changes.proofs.CountLaws.{few_pairs, count_new, count_same}
 use Rattle.congee_tree.proofs.tree.RawCongee.compute_or_insert.Goals as goal
 use Rattle.congee_tree.proofs.tree.RawCongee.compute_or_insert.Goals.{then-is_none, else-is_none}

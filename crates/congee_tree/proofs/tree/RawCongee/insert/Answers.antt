@@ -1,6 +1,6 @@
 use Rattle.std.proofs.Common.{arith}
 use Rattle.congee_changes.proofs.CountLaws.{few_pairs, count_new, count_same}
-use Rattle.congee_changes.proofs.ChargeLaws.{charge_seen}
+use Rattle.congee_tree.proofs.CallLaws.{charge_seen}
 use Rattle.congee_tree.proofs.tree.RawCongee.insert.Goals as goal
 use Rattle.congee_tree.proofs.tree.RawCongee.insert.Goals.{then-is_none, else-is_none}
 

@@ -1,6 +1,6 @@
 use Rattle.std.proofs.Common.{subst}
 use Rattle.congee_map.specs.Map.{IsMap}
-use Rattle.congee_changes.specs.Tree.{Tree}
+use Rattle.congee_tree.specs.Tree.{Tree}
 use Rattle.congee_changes.proofs.CountLaws.{is_map}
 use Rattle.congee_tree.proofs.tree.RawCongee.into_pairs.Goals as goal
 

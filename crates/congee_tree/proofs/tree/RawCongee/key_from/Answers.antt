@@ -1,6 +1,6 @@
 use Rattle.std.proofs.Common.{ap, ◌∙◌}
 use Rattle.congee_walks.specs.Scan.{from_key, first_number}
-use Rattle.congee_changes.specs.Tree.{Tree}
+use Rattle.congee_tree.specs.Tree.{Tree}
 use Rattle.congee_walks.proofs.WalkLaws.{root_key}
 use Rattle.congee_walks.proofs.ScanLaws.{root_stands}
 use Rattle.congee_tree.proofs.tree.RawCongee.key_from.Goals as goal

@@ -1,5 +1,5 @@
 use Rattle.std.proofs.Common.{ap, arith}
-use Rattle.congee_changes.specs.Tree.{Tree}
+use Rattle.congee_tree.specs.Tree.{Tree}
 use Rattle.congee_walks.proofs.WalkLaws.{root_room, root_keys}
 use Rattle.congee_tree.proofs.tree.RawCongee.keys.Goals as goal
 

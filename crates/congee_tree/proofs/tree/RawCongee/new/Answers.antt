@@ -1,6 +1,6 @@
 use Rattle.std.proofs.Common.{ap, sym, length}
-use Rattle.congee_changes.proofs.NewLaws.{root_stands, root_tree, root_pairs, root_nodes}
-use Rattle.congee_changes.proofs.ChargeLaws.{root_counted, root_charge}
+use Rattle.congee_tree.proofs.NewLaws.{root_stands, root_tree, root_pairs, root_nodes}
+use Rattle.congee_tree.proofs.NewLaws.{root_counted, root_charge}
 use Rattle.congee_tree.proofs.tree.RawCongee.new.Goals as goal
 
 pub invariant_of-result : goal.invariant_of-result

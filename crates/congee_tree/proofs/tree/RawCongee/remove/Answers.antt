@@ -1,5 +1,5 @@
 use Rattle.std.proofs.Common.{arith, sym}
-use Rattle.congee_changes.proofs.ChargeLaws.{charge_seen}
+use Rattle.congee_tree.proofs.CallLaws.{charge_seen}
 use Rattle.congee_changes.proofs.CountLaws.{count_less, count_kept}
 use Rattle.congee_tree.proofs.tree.RawCongee.remove.Goals as goal
 

@@ -2,8 +2,8 @@ use Rattle.std.proofs.Common.{rules, ◌≡◌, ◌+◌, [], length, subst}
 use Rattle.std.specs.List.{sum_by}
 use Rattle.congee_stats.specs.Stats.{IsTally}
 use Rattle.congee_stats.specs.Visits.{visits_below}
-use Rattle.congee_changes.specs.Tree.{Tree}
-use Rattle.congee_paths.specs.Way.{depth}
+use Rattle.congee_tree.specs.Tree.{Tree}
+use Rattle.congee_paths.specs.inner.Root.{depth}
 use Rattle.congee_stats.proofs.EntryLaws.{entries_counted}
 use Rattle.congee_walks.proofs.VisitedLaws.{count_root, whole_sums}
 use Rattle.congee_tree.proofs.tree.RawCongee.stats.Goals as goal

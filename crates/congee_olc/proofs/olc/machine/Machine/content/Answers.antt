@@ -2,7 +2,8 @@ use Rattle.std.proofs.Common.{[], subst}
 use Rattle.congee_node_table.specs.Table.{IsSubtree}
 use Rattle.congee_olc.specs.World.{World, table_on}
 use Rattle.congee_olc.specs.Table.{view_of}
-use Rattle.congee_olc.specs.Content.{nodes_on, IsTold}
+use Rattle.congee_olc.specs.Content.{IsTold}
+use Rattle.congee_olc.specs.inner.Walks.{nodes_on}
 use Rattle.congee_olc.proofs.Finding.{nodes_agree, root_tree, content_told}
 use Rattle.congee_olc.proofs.olc.machine.Machine.content.Goals as goal
 

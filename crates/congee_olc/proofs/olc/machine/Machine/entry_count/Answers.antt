@@ -3,7 +3,7 @@ use Rattle.congee_map.specs.Map.{Pairs}
 use Rattle.congee_node_table.specs.Table.{pairs_at}
 use Rattle.congee_olc.specs.World.{World, table_on}
 use Rattle.congee_olc.specs.Table.{view_of, IsContent}
-use Rattle.congee_olc.specs.Content.{nodes_on}
+use Rattle.congee_olc.specs.inner.Walks.{nodes_on}
 use Rattle.congee_olc.proofs.Finding.{nodes_agree, tree_content}
 use Rattle.congee_olc.proofs.olc.machine.Machine.entry_count.Goals as goal
 

@@ -1,4 +1,4 @@
-use Rattle.std.proofs.Common.{rules, ◌≡◌, Some, sym, subst, ap, ◌∙◌, option_copied}
+use Rattle.std.proofs.Common.{rules, ◌≡◌, Some, sym, subst, ◌∙◌, option_copied}
 use Rattle.congee_sync.specs.Epoch.{entry_at}
 use Rattle.congee_olc.specs.World.{World, record_in}
 use Rattle.congee_olc.specs.Flight.{flight_of}
@@ -6,9 +6,9 @@ use Rattle.congee_olc.specs.Run.{seen_of}
 use Rattle.congee_olc.proofs.Handed.{last_seen}
 use Rattle.congee_olc.proofs.olc.machine.Machine.seen.Goals as goal
 
-pub returns-in-Some-Some : goal.returns-in-Some-Some
-returns-in-Some-Some g c =
-    let at : entry_at c.self.inside.calls.entries c.args.id ≡ Some (Some c.in-Some-Some.call) = search rules in
-    let shown : option_copied c.as_ref.result ≡ c.in-Some-Some.call.last = search rules in
+pub returns-in-Some : goal.returns-in-Some
+returns-in-Some g c =
+    let at : record_in (entry_at c.self.inside.calls c.args.id) ≡ Some c.in-Some.call.now = search rules in
+    let shown : option_copied c.as_ref.result ≡ c.in-Some.call.now.last = search rules in
     subst (λ (z : World g.row.P.Denot). option_copied c.as_ref.result ≡ seen_of (flight_of z c.args.id)) c.self.view_is
-    (shown ∙ sym (last_seen g.P.Payload.alike (record { slots = c.self.inside.nodes.slots; root = c.self.inside.root; pins = c.self.inside.pins; calls = c.self.inside.calls.entries; entries = c.self.inside.entries; charge = g.A.Allocator.charge c.self.inside.budget }) c.args.id c.self.invariant c.in-Some-Some.call (ap record_in at)))
+    (shown ∙ sym (last_seen g.P.Payload.alike (record { slots = c.self.inside.nodes.slots; root = c.self.inside.root; pins = c.self.inside.pins; calls = c.self.inside.calls; entries = c.self.inside.entries; charge = g.A.Allocator.charge c.self.inside.budget }) c.args.id c.self.invariant c.in-Some.call.now at))

@@ -8,7 +8,7 @@ use Rattle.congee_olc.proofs.olc.machine.tests.renew.Goals as goal
 
 pub invariant_of-machine-2 : goal.invariant_of-machine-2
 invariant_of-machine-2 g c =
-    let w : World g.row.P.Denot = record { slots = c.machine.inside.nodes.slots; root = c.machine.inside.root; pins = c.machine.inside.pins; calls = c.machine.inside.calls.entries; entries = c.machine.inside.entries; charge = g.A.Allocator.charge c.machine.inside.budget } in
+    let w : World g.row.P.Denot = record { slots = c.machine.inside.nodes.slots; root = c.machine.inside.root; pins = c.machine.inside.pins; calls = c.machine.inside.calls; entries = c.machine.inside.entries; charge = g.A.Allocator.charge c.machine.inside.budget } in
     let n = c.in-Some-get_mut.stored.now in
     let here : get c.machine.inside.nodes c.in-Some.slot ≡ Some n = sym c.in-Some-get_mut.ensures.value in
     let may : MayUpgrade n.word n.word = c.in-Some-upgraded.ensures.exactly.0 refl in

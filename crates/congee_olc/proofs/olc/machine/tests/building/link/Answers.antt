@@ -24,7 +24,7 @@ insert-requires-clause-kind g c =
 
 pub invariant_of-machine-2 : goal.invariant_of-machine-2
 invariant_of-machine-2 g c =
-    let w : World g.row.P.Denot = record { slots = c.machine.inside.nodes.slots; root = c.machine.inside.root; pins = c.machine.inside.pins; calls = c.machine.inside.calls.entries; entries = c.machine.inside.entries; charge = g.A.Allocator.charge c.machine.inside.budget } in
+    let w : World g.row.P.Denot = record { slots = c.machine.inside.nodes.slots; root = c.machine.inside.root; pins = c.machine.inside.pins; calls = c.machine.inside.calls; entries = c.machine.inside.entries; charge = g.A.Allocator.charge c.machine.inside.budget } in
     let n = c.in-Some.node.now in
     let m = c.in-Some-get_mut.node.now in
     let b = c.stored.result in
@@ -41,8 +41,8 @@ invariant_of-machine-2 g c =
     let after : slice_index_or _ slot None ≡ Some (record n { node = record n.node { children = put n.node.children c.in-Some-open_byte.byte (below_at fresh) } }) =
     updates.changed ∙ (ap (λ (x : TableNode g.row.P.Denot). Some (record m { node = x })) c.insert.ensures
     ∙ ap (λ (z : Stored g.row.P.Denot). Some (record z { node = record z.node { children = put z.node.children c.in-Some-open_byte.byte (below_at fresh) } })) stays.0) in
-    let paid : g.A.Allocator.charge c.allocate.new.self ≡ add_charge w.charge (stated_size b.node.form) = search rules in
-    linked_sound g.P.Payload.alike w _ slot c.in-Some-open_byte.byte fresh n b (g.A.Allocator.charge c.allocate.new.self) c.machine.invariant quiet here c.in-Some-open_byte.ensures.linked c.in-Some-open_byte.ensures.empty
+    let paid : g.A.Allocator.charge c.paid_node.new.budget ≡ add_charge w.charge (stated_size b.node.form) = search rules in
+    linked_sound g.P.Payload.alike w _ slot c.in-Some-open_byte.byte fresh n b (g.A.Allocator.charge c.paid_node.new.budget) c.machine.invariant quiet here c.in-Some-open_byte.ensures.linked c.in-Some-open_byte.ensures.empty
     (omega arith) (ap (λ s. slice_index_or s fresh None) (sym kept) ∙ c.insert_reserved-slot.ensures.was_vacant) (subst (λ p. Begins (n.node.prefix ++ c.in-Some-open_byte.byte ∷ []) p) (sym prefix) c.in-Some-open_byte.ensures.begins)
     (ap (λ (z : Stored g.row.P.Denot). z.word) c.stored.ensures) (ap (λ (z : Stored g.row.P.Denot). z.place) c.stored.ensures) (ap (λ (z : Stored g.row.P.Denot). z.node.children) c.stored.ensures ∙ c.in_ok-fresh.ensures.children)
     (subst (λ p. length p ≤ 7) (sym prefix) (omega (arith, short))) (subst (λ p. AreBytes p) (sym prefix) bytes)

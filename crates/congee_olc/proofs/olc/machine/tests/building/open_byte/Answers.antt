@@ -7,7 +7,7 @@ use Rattle.congee_olc.proofs.olc.machine.tests.building.open_byte.Goals as goal
 pub returns-clause-begins : goal.returns-clause-begins
 returns-clause-begins g c =
     let p = c.prefix-prefix.result.now in
-    let k = c.args.way.now in
+    let k = c.args.path.now in
     let yes : c.starts_with.result ≡ true = search rules in
     let begins : Begins p k = (starts p k c.starts_with.result c.starts_with.ensures.value).0 yes in
     let less : length p < length k = search rules in

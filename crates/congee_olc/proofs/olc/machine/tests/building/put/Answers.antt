@@ -6,7 +6,7 @@ use Rattle.congee_node_table.specs.TableNode.{TableNode}
 use Rattle.congee_node_table.specs.declared.child.Child.TheVariants.{Payload}
 use Rattle.congee_node_table.proofs.BeginLaws.{begins_append}
 use Rattle.congee_olc.specs.World.{World, bytes_of}
-use Rattle.congee_olc.specs.Facts.{IsSound}
+use Rattle.congee_olc.specs.inner.Facts.{IsSound}
 use Rattle.congee_olc.proofs.Openings.{byte_after}
 use Rattle.congee_olc.proofs.Quiet.{IsQuiet, changed_to, empty_quiet, put_sound}
 use Rattle.congee_olc.proofs.Ways.{Begins-trans}
@@ -14,7 +14,7 @@ use Rattle.congee_olc.proofs.olc.machine.tests.building.put.Goals as goal
 
 pub invariant_of-machine-2 : goal.invariant_of-machine-2
 invariant_of-machine-2 g c =
-    let w : World g.row.P.Denot = record { slots = c.machine.inside.nodes.slots; root = c.machine.inside.root; pins = c.machine.inside.pins; calls = c.machine.inside.calls.entries; entries = c.machine.inside.entries; charge = g.A.Allocator.charge c.machine.inside.budget } in
+    let w : World g.row.P.Denot = record { slots = c.machine.inside.nodes.slots; root = c.machine.inside.root; pins = c.machine.inside.pins; calls = c.machine.inside.calls; entries = c.machine.inside.entries; charge = g.A.Allocator.charge c.machine.inside.budget } in
     let n = c.in-Some-get_mut.leaf.now in
     let slot = c.args.slot in
     let byte = c.in-Some-open_byte.byte in

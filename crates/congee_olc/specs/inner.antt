@@ -1,0 +1,5 @@
+pub mod Calls
+pub mod Facts
+pub mod Found
+pub mod Played
+pub mod Walks

@@ -1,0 +1,129 @@
+-- What a change at the end of a key's path does to the whole tree.
+use Rattle.std.proofs.Common.{Bor, IsSome, ◌≡◌, ℕ, zero, suc, ◌+◌, ◌-◌, ◌<◌, ◌≤◌, List, [], ◌∷◌, ◌++◌, length, Some, None, refl, ap, sym, subst, ◌∙◌, arith, length-append}
+use Rattle.congee_node_table.proofs.BeginLaws.{after, begins_append}
+use Rattle.congee_map.specs.Map.{lookup}
+use Rattle.congee_node_table.specs.Key.{AreBytes, key_number, Begins}
+use Rattle.congee_node_table.proofs.KeyLaws.{goes_on}
+use Rattle.congee_node_table.specs.TableNode.{TableNode}
+use Rattle.congee_node_table.specs.Table.{Table, node_at, pairs_at, IsTree}
+use Rattle.congee_node_table.specs.Key.{next_byte}
+use Rattle.congee_paths.specs.inner.Descent.{PathTo, LeadsTo, Finds, EndsAt}
+use Rattle.congee_paths.specs.inner.Root.{depth}
+use Rattle.congee_node_table.specs.declared.child.Child.TheVariants.{Payload, Node}
+use Rattle.congee_paths.specs.declared.descent.End.{End}
+use Rattle.congee_paths.specs.declared.descent.End.TheVariants.{Differs, Absent, Present}
+use Rattle.congee_paths.specs.declared.descent.Place.{Place}
+use Rattle.congee_node_table.proofs.TableLaws.{open_subtree, lookup-off_prefix, lookup-at_child, lookup-at_payload, lookup-at_node, IsChild-found}
+use Rattle.congee_node_table.proofs.DownLaws.{KeepsOthers, down}
+use Rattle.congee_map.proofs.LocalLaws.{IsLocal}
+
+pub depth_is : depth ≡ 8
+unfolding depth
+depth_is = refl
+
+module _ {P : Type 0} (s : Table P) (root : ℕ) (key : List ℕ) where
+  pub leads_start : IsTree s depth [] root → LeadsTo s root key 0 root root
+  leads_start h = record { levels = depth; q = []; path = (refl, refl, refl); up = tt; tree = h; begins = begins_append [] key; deep = omega arith; sum = omega (arith, depth_is) }
+
+  step_at : (above levels slot : ℕ) (q : List ℕ) (n : TableNode P) → PathTo s root key above levels q slot → IsTree s levels q slot → Begins q key → above ≤ length q → above + levels ≡ 8
+      → node_at s slot ≡ Some n → Begins n.prefix key → AreBytes key → length key ≡ 8 → (j : ℕ) → lookup n.children (next_byte n.prefix key) ≡ Some (Node j)
+      → LeadsTo s root key (suc above) j slot
+  step_at above zero slot q n path h begins deep sum here goes bytes full j found = absurd h
+  step_at above (suc levels) slot q n path h begins deep sum here goes bytes full j found =
+      let both : Some h.node ≡ Some n = sym h.here ∙ here in
+      let is : n ≡ h.node = cc in
+      let goes' : Begins h.node.prefix key = subst (λ (m : TableNode P). Begins m.prefix key) is goes in
+      let found' : lookup h.node.children (next_byte h.node.prefix key) ≡ Some (Node j) = subst (λ (m : TableNode P). lookup m.children (next_byte m.prefix key) ≡ Some (Node j)) is found in
+      let on = goes_on h.node.prefix key goes' bytes h.sound.short full in
+      let child = IsChild-found s levels h.node.prefix h.node.children (next_byte h.node.prefix key) (Node j) h.children found' in
+      let one = length-append h.node.prefix (next_byte h.node.prefix key ∷ []) in
+      let long = simp length-append at (ap length (after h.begins).is) in
+      record {
+        levels = levels;
+        q = h.node.prefix ++ next_byte h.node.prefix key ∷ [];
+        path = record { parent = slot; parent_q = q; tree = h; path = path; begins = goes'; found = found'; is = refl };
+        up = refl;
+        tree = child;
+        begins = on.begins;
+        deep = omega (arith, one, long, deep);
+        sum = omega (arith, sum);
+      }
+
+  pub leads_step : (above slot parent : ℕ) (n : TableNode P) → LeadsTo s root key above slot parent → node_at s slot ≡ Some n → Begins n.prefix key → AreBytes key → length key ≡ 8 → (j : ℕ)
+      → lookup n.children (next_byte n.prefix key) ≡ Some (Node j) → LeadsTo s root key (above + 1) j slot
+  leads_step above slot parent n w here goes bytes full j found =
+      let more : suc above ≡ above + 1 = omega arith in
+      subst (λ a. LeadsTo s root key a j slot) more (step_at above w.levels slot w.q n w.path w.tree w.begins w.deep w.sum here goes bytes full j found)
+
+  pub leads_there : (above slot parent : ℕ) → LeadsTo s root key above slot parent → IsSome (node_at s slot)
+  leads_there above slot parent w = there w.levels w.q w.tree
+    where
+      there : (levels : ℕ) (q : List ℕ) → IsTree s levels q slot → IsSome (node_at s slot)
+      there zero q h = absurd h
+      there (suc levels) q h = rw h.here refl
+
+  levels_left : (levels slot : ℕ) (q : List ℕ) → IsTree s levels q slot → 1 ≤ levels
+  levels_left zero slot q h = absurd h
+  levels_left (suc levels) slot q h = omega arith
+
+  pub leads_short : (above slot parent : ℕ) → LeadsTo s root key above slot parent → above < 8
+  leads_short above slot parent w = let l = levels_left w.levels slot w.q w.tree in omega (arith, w.sum)
+
+  module _ (bytes : AreBytes key) (full : length key ≡ 8) where
+    -- what is found in the whole is found at the end of the path
+    pub lookup_along : (above levels slot : ℕ) (q : List ℕ) → PathTo s root key above levels q slot → lookup (pairs_at s depth root) (key_number key) ≡ lookup (pairs_at s levels slot) (key_number key)
+    lookup_along zero levels slot q path = rw (path.0, path.2) refl
+    lookup_along (suc above) levels slot q path =
+        let h = path.tree in
+        let o = open_subtree s (suc levels) path.parent h.node (record { above = path.parent_q; tree = h }) (sym h.here) in
+        let less : suc levels - 1 ≡ levels = omega arith in
+        lookup_along above (suc levels) path.parent path.parent_q path.path
+        ∙ lookup-at_node s (suc levels) path.parent h.node o h.node.prefix key refl bytes full path.begins slot (sym path.found)
+        ∙ ap (λ l. lookup (pairs_at s l slot) (key_number key)) less
+
+    -- a change at the key in the subtree at the end of the path is one of the whole
+    pub along : (t : Table P) (f : List (ℕ × P) → List (ℕ × P)) → IsLocal (key_number key) f → (above levels slot : ℕ) (q : List ℕ) → PathTo s root key above levels q slot
+        → IsTree t levels q slot → pairs_at t levels slot ≡ f (pairs_at s levels slot) → KeepsOthers q s t
+        → IsTree t depth [] root × (pairs_at t depth root ≡ f (pairs_at s depth root))
+    along t f local zero levels slot q path tree pairs others = (
+      subst (λ i. IsTree t depth [] i) path.2 (subst (λ r. IsTree t depth r slot) path.1 (subst (λ l. IsTree t l q slot) path.0 tree)),
+      subst (λ i. pairs_at t depth i ≡ f (pairs_at s depth i)) path.2 (subst (λ l. pairs_at t l slot ≡ f (pairs_at s l slot)) path.0 pairs),
+    )
+    along t f local (suc above) levels slot q path tree pairs others =
+        let h = path.tree in
+        let p = h.node.prefix in
+        let b = next_byte p key in
+        let on = goes_on p key path.begins bytes h.sound.short full in
+        let d = down s t levels path.parent_q path.parent b slot (key_number key) f local h path.found
+        (subst (λ r. KeepsOthers r s t) path.is others) (subst (λ r. IsTree t levels r slot) path.is tree) pairs on.at_least on.below in
+        along t f local above (suc levels) path.parent path.parent_q path.path d.0 d.1 d.2
+
+    pub lookup_end : (place : Place P) → EndsAt s root key place → (e : End P) → e ≡ place.end → ((b : ℕ) (v : Bor P) → e ≡ Present b v → ⊥) → lookup (pairs_at s depth root) (key_number key) ≡ None
+    lookup_end place a (Differs at) is absent =
+        let w = a.leads in
+        let o = open_subtree s w.levels place.slot a.node (record { above = w.q; tree = w.tree }) (sym a.here) in
+        let d : Finds key a.node (Differs at) = subst (λ e. Finds key a.node e) (sym is) a.end in
+        lookup_along place.above w.levels place.slot w.q w.path ∙ lookup-off_prefix s w.levels place.slot a.node o a.node.prefix key refl bytes full at d
+    lookup_end place a (Absent b) is absent =
+        let w = a.leads in
+        let o = open_subtree s w.levels place.slot a.node (record { above = w.q; tree = w.tree }) (sym a.here) in
+        let d : Finds key a.node (Absent b) = subst (λ e. Finds key a.node e) (sym is) a.end in
+        lookup_along place.above w.levels place.slot w.q w.path
+        ∙ lookup-at_child s w.levels place.slot a.node o a.node.prefix key refl bytes full d.1 None (sym (subst (λ x. lookup a.node.children x ≡ None) d.0 d.2))
+    lookup_end place a (Present b v) is absent = absurd (absent b v refl)
+
+    pub lookup_present : (place : Place P) → EndsAt s root key place → (b : ℕ) (v : Bor P) → place.end ≡ Present b v → lookup (pairs_at s depth root) (key_number key) ≡ Some v.now
+    lookup_present place a b v is =
+        let w = a.leads in
+        let o = open_subtree s w.levels place.slot a.node (record { above = w.q; tree = w.tree }) (sym a.here) in
+        let d : Finds key a.node (Present b v) = subst (λ e. Finds key a.node e) is a.end in
+        lookup_along place.above w.levels place.slot w.q w.path
+        ∙ lookup-at_payload s w.levels place.slot a.node o a.node.prefix key refl bytes full d.1 v.now (sym (subst (λ x. lookup a.node.children x ≡ Some (Payload v.now)) d.0 d.2))
+
+    -- that payload, read another time
+    pub lookup_held : (place : Place P) (a : EndsAt s root key place) (b : ℕ) (v : Bor P) → place.end ≡ Present b v → (u : P) → lookup a.node.children b ≡ Some (Payload u) → lookup (pairs_at s depth root) (key_number key) ≡ Some u
+    lookup_held place a b v is u found =
+        let d : Finds key a.node (Present b v) = subst (λ e. Finds key a.node e) is a.end in
+        let both : Some (Payload v.now) ≡ Some (Payload u) = sym d.2 ∙ found in
+        let same : v.now ≡ u = cc in
+        lookup_present place a b v is ∙ ap (λ x. Some x) same

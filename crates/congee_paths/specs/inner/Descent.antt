@@ -1,0 +1,68 @@
+-- How the path of a key goes down the table, and how it ends.
+use Rattle.std.specs.Prelude.{◌≡◌, ℕ, zero, suc, ◌+◌, ◌≤◌, List, [], ◌∷◌, ◌++◌, length, Some, None}
+use Rattle.congee_map.specs.Map.{lookup}
+use Rattle.congee_node_table.specs.Key.{Begins, IsFirstDifference, next_byte}
+use Rattle.congee_node_table.specs.TableNode.{TableNode}
+use Rattle.congee_node_table.specs.Table.{Table, node_at, IsTree}
+use Rattle.congee_node_table.specs.declared.child.Child.TheVariants.{Payload, Node}
+use Rattle.congee_paths.specs.declared.descent.End.{End}
+use Rattle.congee_paths.specs.declared.descent.End.TheVariants.{Differs, Absent, Present}
+use Rattle.congee_paths.specs.declared.descent.Step.{Step}
+use Rattle.congee_paths.specs.declared.descent.Step.TheVariants.{Down, Stop}
+use Rattle.congee_paths.specs.declared.descent.Place.{Place}
+use Rattle.congee_paths.specs.inner.Root.{depth}
+
+module _ {P : Type 0} (key : List ℕ) where
+  -- what was found at the node
+  abbrev pub Finds : TableNode P → End P → Type 0
+  Finds n (Differs at) = IsFirstDifference n.prefix key at
+  Finds n (Absent b) =
+      (b ≡ next_byte n.prefix key) × Begins n.prefix key × (lookup n.children b ≡ None)
+  Finds n (Present b v) =
+      (b ≡ next_byte n.prefix key) × Begins n.prefix key
+      × (lookup n.children b ≡ Some (Payload v.now))
+
+  -- what a key meets at a node: the slot of the node below, or the end of its path
+  abbrev pub Meets : TableNode P → Step P → Type 0
+  Meets n (Down j) =
+      Begins n.prefix key × (lookup n.children (next_byte n.prefix key) ≡ Some (Node j))
+  Meets n (Stop end) = Finds n end
+
+module _ {P : Type 0} (s : Table P) (root : ℕ) (key : List ℕ) where
+  -- one step of the path, from a parent that is so far above
+  pub record PathStep (above : ℕ → List ℕ → ℕ → Type 0) (levels : ℕ) (q : List ℕ) (slot : ℕ) : Type 0 where
+    pub parent : ℕ
+    pub parent_q : List ℕ
+    pub tree : IsTree s (suc levels) parent_q parent
+    pub path : above (suc levels) parent_q parent
+    pub begins : Begins tree.node.prefix key
+    pub found : lookup tree.node.children (next_byte tree.node.prefix key) ≡ Some (Node slot)
+    pub is : q ≡ tree.node.prefix ++ next_byte tree.node.prefix key ∷ []
+
+  -- so many nodes stand above this slot on the key's path
+  abbrev pub PathTo : ℕ → ℕ → List ℕ → ℕ → Type 0
+  PathTo zero levels q slot = (levels ≡ depth) × (q ≡ []) × (slot ≡ root)
+  PathTo (suc above) levels q slot = PathStep (λ l r i. PathTo above l r i) levels q slot
+
+  -- if a node stands above, it is in the slot `parent`
+  abbrev pub HasParent : (above levels : ℕ) (q : List ℕ) (slot : ℕ) → PathTo above levels q slot → ℕ → Type 0
+  HasParent zero levels q slot path parent = Unit {0}
+  HasParent (suc above) levels q slot path parent = path.parent ≡ parent
+
+  -- the key's path leads to this slot, and so many nodes stand above it, the last in the slot `parent`
+  pub record LeadsTo (above slot parent : ℕ) : Type 0 where
+    pub levels : ℕ
+    pub q : List ℕ
+    pub path : PathTo above levels q slot
+    pub up : HasParent above levels q slot path parent
+    pub tree : IsTree s levels q slot
+    pub begins : Begins q key
+    pub deep : above ≤ length q
+    pub sum : above + levels ≡ 8
+
+  -- the key's path ends at this place
+  pub record EndsAt (place : Place P) : Type 0 where
+    pub leads : LeadsTo place.above place.slot place.parent
+    pub node : TableNode P
+    pub here : node_at s place.slot ≡ Some node
+    pub end : Finds key node place.end

@@ -1,0 +1,5 @@
+pub mod GroupLaws
+pub mod IndexLaws
+pub mod RowsLaws
+pub mod RunLaws
+pub mod Writes

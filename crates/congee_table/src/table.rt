@@ -1,0 +1,245 @@
+//! The table: its rows, its calls and their errors.
+
+ghost use Rattle.std.specs.Prelude.{◌≡◌, ◌≢◌, ◌↔◌, ◌+◌, ◌≤◌, [], ◌++◌, ◌/◌, ◌%◌, ◌^◌, Some, None, IfOk, OnOk, OnErr, IsErrOf, IsOkUnless, codes, length, min, take, drop};
+ghost use Rattle.congee_map.specs.Map.{lookup, put, without, between, IsMap};
+ghost use Rattle.congee_table.specs.Index.{joined};
+ghost use Rattle.congee_table.specs.Rows.{row_at, IsIn, regrouped, group_rows};
+ghost use Rattle.congee_table.specs.declared.table.TableError.TheVariants.{Oom};
+
+use crate::numbers::{high, joined, keep_low, low};
+use congee_faces::typed_congee::Congee;
+use congee_map::error::OOMError;
+use congee_node_table::allocator::Allocator;
+use std::alloc::Global;
+use std::error::Error;
+use std::fmt;
+use std::marker::Model;
+
+/// What a table holds of an id.
+#[derive(Clone, Copy, Debug, PartialEq, Eq)]
+pub struct Row {
+    pub id: u32,
+    pub group: u32,
+    pub value: u32,
+}
+
+/// Why a call wasn't done. The rows are as they were.
+#[derive(Clone, Copy, Debug, PartialEq, Eq)]
+pub enum TableError {
+    /// An allocator refused, or memory was missing.
+    Oom,
+    /// No row has the id.
+    Absent,
+}
+
+impl fmt::Display for TableError {
+    fn fmt<W: fmt::Write>(&self, f: &mut fmt::Formatter<W>) -> fmt::Result {
+        match self {
+            TableError::Oom => write!(f, "out of memory"),
+            TableError::Absent => write!(f, "no row has this id"),
+        }
+    }
+}
+
+impl Error for TableError {}
+
+impl From<OOMError> for TableError {
+    ghost from_gives = { λ _ e. e ≡ Oom };
+
+    fn from(_error: OOMError) -> Self {
+        TableError::Oom
+    }
+}
+
+/// An ordered table of rows, each with an id of its own, and a second index by group.
+///
+/// The first index takes an id to its group and value, the second a group and an id to the value. Each is a map of its
+/// own, with its own allocator. Contracts see the rows.
+#[derive(Drop)]
+pub struct Table<A: Allocator> {
+    first: Congee<u64, u64, A>,
+    second: Congee<u64, u64, A>,
+}
+
+impl<A: Allocator> Model for Table<A> {
+    ghost use Rattle.congee_faces.specs.Face.{stated_charge};
+    ghost use Rattle.congee_table.specs.Rows.{View};
+    ghost use Rattle.congee_table.specs.Index.{rows_of, AreIndexes};
+
+    ghost Value = { View };
+
+    ghost view = { λ t. record {
+      rows = rows_of t.first.pairs;
+      charged = (stated_charge t.first, stated_charge t.second);
+    } };
+
+    ghost invariant = { λ t. AreIndexes t.first.pairs t.second.pairs };
+}
+
+impl<A: Allocator> Table<A> {
+    /// An empty table over these allocators, of which the second serves the index by group. `Oom` comes where one of them or
+    /// the machine has no memory for it.
+    pub fn new(alloc: Global, first: A, second: A) -> Result<Self, TableError>
+        ensures rows { IfOk result (λ table. table.rows ≡ []) }
+        ensures error { IsOkUnless result TableError.Oom }
+    {
+        Ok(Table {
+            first: Congee::new(alloc, first)?,
+            second: Congee::new(alloc, second)?,
+        })
+    }
+
+    /// Sets the row of its id, and gives back the one that it replaces. `Oom` comes only for a row that is new in its group,
+    /// and leaves the rows as they were.
+    pub fn put(&mut self, row: Row) -> Result<Option<Row>, TableError>
+        ensures before { IfOk result (λ before. before ≡ row_at self.old.rows row.id) }
+        ensures ok { OnOk result (self.new.rows ≡ put self.old.rows row.id (row.group, row.value)) }
+        ensures err { OnErr result (self.new.rows ≡ self.old.rows) }
+        ensures error { IsOkUnless result TableError.Oom }
+        ensures refused { OnErr result (¬ IsIn self.old.rows row.id row.group) }
+    {
+        self.second
+            .insert(joined(row.group, row.id), u64::from(row.value))?;
+        let Some(number) = enter(&mut self.first, &mut self.second, row)? else {
+            return Ok(None);
+        };
+        let old = row_of(row.id, number);
+        leave(&mut self.second, old, row.group);
+        Ok(Some(old))
+    }
+
+    /// The row of the id. Takes no memory.
+    pub fn get(&self, id: u32) -> Option<Row>
+        ensures { result ≡ row_at self.now.rows id }
+    {
+        let number = self.first.get(&u64::from(id))?;
+        Some(row_of(id, number))
+    }
+
+    /// Takes the row of the id out, and gives it back. Takes no memory.
+    pub fn delete(&mut self, id: u32) -> Option<Row>
+        ensures before { result ≡ row_at self.old.rows id }
+        ensures rows { self.new.rows ≡ without self.old.rows id }
+    {
+        let number = self.first.remove(&u64::from(id))?;
+        let row = row_of(id, number);
+        self.second.remove(&joined(row.group, row.id));
+        Some(row)
+    }
+
+    /// Moves the row of the id to this group, and answers the group that it was in. `Absent` comes where no row has the id,
+    /// `Oom` only where its row is in another group. Both leave the rows as they were.
+    pub fn regroup(&mut self, id: u32, group: u32) -> Result<u32, TableError>
+        ensures old { IfOk result (λ old. IsIn self.old.rows id old) }
+        ensures ok { OnOk result (self.new.rows ≡ regrouped self.old.rows id group) }
+        ensures err { OnErr result (self.new.rows ≡ self.old.rows) }
+        ensures absent { IsErrOf result TableError.Absent ↔ (lookup self.old.rows id ≡ None) }
+        ensures refused { OnErr result (¬ IsIn self.old.rows id group) }
+    {
+        let Some(row) = self.get(id) else {
+            return Err(TableError::Absent);
+        };
+        self.put(Row {
+            id,
+            group,
+            value: row.value,
+        })?;
+        Ok(row.group)
+    }
+
+    /// Writes the first rows of the group with ids from this one on to the buffer, by id and value, ids ascending, as many as
+    /// there are or as fit, and answers how many. The rest of the buffer stays. Takes no memory: it is one scan of the second
+    /// index, and one look-up for the greatest id, which no scan reaches in the last group.
+    pub fn group(&self, group: u32, from: u32, buffer: &mut [(u64, u64)]) -> usize
+        ensures count { result
+            ≡ min (length buffer.old) (length (group_rows self.now.rows group from)) }
+        ensures written { buffer.new
+            ≡ take result (group_rows self.now.rows group from) ++ drop result buffer.old }
+    {
+        let start = joined(group, from);
+        let last = joined(group, u32::MAX);
+        let count = range_to(&self.second, start, last, buffer);
+        keep_low(&mut buffer[..count]);
+        count
+    }
+
+    /// What the allocators of the first and of the second index are charged. Takes no memory.
+    pub fn charged(&self) -> (u128, u128)
+        ensures { result ≡ self.now.charged }
+    {
+        (self.first.charged(), self.second.charged())
+    }
+}
+
+// The row of an id and of the number that the first index has for it.
+fn row_of(id: u32, number: u64) -> Row
+    ensures { result ≡ record { id = id; group = number / 2 ^ 32; value = number % 2 ^ 32 } }
+{
+    Row {
+        id,
+        group: high(number),
+        value: low(number),
+    }
+}
+
+// Enters the row in the first index, and answers the number that stood there. Where that is refused, the row's entry in the
+// second index is taken out.
+fn enter<A: Allocator>(
+    first: &mut Congee<u64, u64, A>,
+    second: &mut Congee<u64, u64, A>,
+    row: Row,
+) -> Result<Option<u64>, TableError>
+    ensures before { IfOk result (λ before. before ≡ lookup first.old.pairs row.id) }
+    ensures ok { OnOk result (first.new.pairs
+        ≡ put first.old.pairs row.id (joined row.group row.value)) }
+    ensures stays { OnOk result (second.new.pairs ≡ second.old.pairs) }
+    ensures err { OnErr result (first.new.pairs ≡ first.old.pairs) }
+    ensures left { OnErr result (second.new.pairs
+        ≡ without second.old.pairs (joined row.group row.id)) }
+    ensures error { IsOkUnless result TableError.Oom }
+    ensures new { OnErr result (lookup first.old.pairs row.id ≡ None) }
+{
+    let entry = joined(row.group, row.value);
+    let Ok(before) = first.insert(u64::from(row.id), entry) else {
+        second.remove(&joined(row.group, row.id));
+        return Err(TableError::Oom);
+    };
+    Ok(before)
+}
+
+// Takes the entry of the old row out of the second index, unless it is in this group, where the new one replaces it.
+fn leave<A: Allocator>(second: &mut Congee<u64, u64, A>, old: Row, group: u32)
+    ensures same { old.group ≡ group → second.new.pairs ≡ second.old.pairs }
+    ensures other { old.group ≢ group
+        → second.new.pairs ≡ without second.old.pairs (joined old.group old.id) }
+{
+    if old.group != group {
+        second.remove(&joined(old.group, old.id));
+    }
+}
+
+// Writes the first pairs with keys from `start` to `last` to the buffer, as a scan does, and also that of the greatest key,
+// which no scan reaches.
+fn range_to<A: Allocator>(
+    index: &Congee<u64, u64, A>,
+    start: u64,
+    last: u64,
+    buffer: &mut [(u64, u64)],
+) -> usize
+    requires ordered { IsMap index.now.pairs }
+    requires forward { start ≤ last }
+    ensures count { result
+        ≡ min (length buffer.old) (length (between index.now.pairs start (last + 1))) }
+    ensures written { buffer.new
+        ≡ take result (between index.now.pairs start (last + 1)) ++ drop result buffer.old }
+{
+    let count = index.range(&start, &last, buffer);
+    if count == buffer.len() {
+        return count;
+    }
+    let Some(value) = index.get(&last) else {
+        return count;
+    };
+    buffer[count] = (last, value);
+    count + 1
+}

@@ -1,0 +1,5 @@
+mod budgets;
+mod plain;
+mod random;
+mod refusals;
+mod rows;
