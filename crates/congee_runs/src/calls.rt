@@ -140,7 +140,7 @@ pub fn pairs_between<K: Word, V: Word, A: Allocator, D: Drainer<K, V>>(
 }
 
 /// Makes the calls, one after another, and returns their replies. `OOMError` comes where there is no memory for the
-/// list of replies; then no call was made.
+/// list of replies; then the pairs are as they were.
 pub fn run_calls<K: Word, V: Word, A: Allocator, D: Drainer<K, V>>(
     alloc: Global,
     map: &mut Congee<K, V, A, D>,

@@ -91,7 +91,7 @@ fn change<K: Word, P: Payload>(
 }
 
 /// Makes the calls, one after another, and returns their replies. `OOMError` comes where there is no memory for the
-/// list of replies; then no call was made.
+/// list of replies; then the pairs are as they were.
 pub fn run_payload_calls<K: Word, P: Payload>(
     alloc: Global,
     map: &mut PayloadCongee<K, P>,

@@ -77,7 +77,7 @@ fn bytes_between<V: Word, A: Allocator>(
 }
 
 /// Makes the calls, one after another, and returns their replies. `OOMError` comes where there is no memory for the
-/// list of replies; then no call was made.
+/// list of replies; then the pairs are as they were.
 pub fn run_u64_calls<V: Word, A: Allocator>(
     alloc: Global,
     map: &mut U64Congee<V, A>,

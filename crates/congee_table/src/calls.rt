@@ -82,7 +82,7 @@ fn listed<A: Allocator>(
 }
 
 /// Makes the calls, one after another, and answers their replies. `OOMError` comes where there is no memory for the list of
-/// replies; then no call was made.
+/// replies; then the rows are as they were.
 pub fn run_table_calls<A: Allocator>(
     alloc: Global,
     table: &mut Table<A>,
