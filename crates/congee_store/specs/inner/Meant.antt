@@ -1,0 +1,54 @@
+-- The machine's inside, with payloads replaced by what they stand for.
+use Rattle.std.specs.Prelude.{ℕ, List, Option, map}
+use Rattle.congee_node_table.specs.TableNode.{TableNode}
+use Rattle.congee_node_table.specs.inner.Kinds.{mapped}
+use Rattle.congee_protocol.specs.Meaning.{in_some, child_of, seen_of, op_of, asking_of}
+use Rattle.congee_store.specs.declared.stage.Record.{Record}
+use Rattle.congee_store.specs.declared.stage.Stored.{Stored}
+use Rattle.congee_store.specs.declared.stage.Task.{Task}
+use Rattle.congee_store.specs.declared.store.Store.{Store}
+use Rattle.congee_store.specs.inner.World.{World, Table, table_on}
+
+module _ {P M : Type 0} (meaning : P → M) where
+  abbrev pub meant_node : TableNode P → TableNode M
+  meant_node a = record {
+    form = a.form;
+    prefix = a.prefix;
+    children = mapped (child_of meaning) a.children;
+  }
+
+  abbrev pub meant_stored : Stored P → Stored M
+  meant_stored n = record { word = n.word; place = n.place; node = meant_node n.node }
+
+  abbrev pub meant_slots : List (Option (Stored P)) → List (Option (Stored M))
+  meant_slots slots = map (in_some meant_stored) slots
+
+  abbrev pub meant_task : Task P → Task M
+  meant_task task = record {
+    outline = task.outline;
+    op = in_some (op_of meaning) task.op;
+    last = in_some (seen_of meaning) task.last;
+    spare = in_some meaning task.spare;
+    asking = asking_of meaning task.asking;
+    progress = task.progress;
+  }
+
+  abbrev pub meant_record : Record P → Record M
+  meant_record r = record { stage = r.stage; task = meant_task r.task }
+
+  abbrev pub meant_calls : List (ℕ × Option (Record P)) → List (ℕ × Option (Record M))
+  meant_calls calls = mapped (in_some meant_record) calls
+
+  -- the nodes of a store
+  abbrev pub meant_table : Store P → Table M
+  meant_table store = table_on (meant_slots store.nodes.slots) store.pins.slots
+
+  abbrev pub meant_world : World P → World M
+  meant_world w = record {
+    slots = meant_slots w.slots;
+    root = w.root;
+    pins = w.pins;
+    calls = meant_calls w.calls;
+    entries = w.entries;
+    charge = w.charge;
+  }

@@ -1,0 +1,108 @@
+-- WHAT A READER SEES of the machine's inside.
+use Rattle.std.specs.Prelude.{ℕ, ◌+◌, ◌^◌, List, [], ◌∷◌, Option, Some, None, if◌then◌else◌, nat_lt}
+use Rattle.congee_map.specs.Map.{put, with_answer}
+use Rattle.congee_protocol.specs.Calls.{key_of}
+use Rattle.congee_protocol.specs.Lists.{off}
+use Rattle.congee_protocol.specs.State.{State, Flight, Publicity, not_yet, published, retired}
+use Rattle.congee_protocol.specs.State as state
+use Rattle.congee_sync.specs.Epoch.{PinsView, entry_at, pin_of}
+use Rattle.congee_sync.specs.declared.epoch.Life.{Life}
+use Rattle.congee_sync.specs.declared.epoch.Seat.{Seat}
+use Rattle.congee_store.specs.declared.stage.Path.{Path}
+use Rattle.congee_store.specs.declared.stage.Record.{Record}
+use Rattle.congee_store.specs.declared.stage.Spot.{Spot}
+use Rattle.congee_store.specs.declared.stage.Stage.{Stage}
+use Rattle.congee_store.specs.declared.stage.Stage.TheVariants.{TakeRoot, Read, Check, TakeBelow, CheckAbove, Finish}
+use Rattle.congee_store.specs.declared.stage.Stored.{Stored}
+use Rattle.congee_store.specs.inner.World.{World, Standing, is_private, is_linked, is_detached, is_retired, Node, node_of}
+
+abbrev pub publicity : Standing → Publicity
+publicity is_private = not_yet
+publicity is_linked = published
+publicity is_detached = published
+publicity (is_retired stamp) = retired stamp
+
+-- the words that a call remembers of slots
+abbrev pub above_spots : Option Spot → List (ℕ × ℕ)
+above_spots None = []
+above_spots (Some s) = (s.slot, s.word) ∷ []
+
+abbrev pub path_spots : Path → List (ℕ × ℕ)
+path_spots path = put (above_spots path.above) path.here.slot path.here.word
+
+abbrev pub spots_of : Stage → List (ℕ × ℕ)
+spots_of TakeRoot = []
+spots_of (Read path) = path_spots path
+spots_of (Check path) = path_spots path
+spots_of (TakeBelow path slot) = path_spots path
+spots_of (CheckAbove path spot fits) = put (path_spots path) spot.slot spot.word
+spots_of Finish = []
+
+-- the nodes that it holds, and its private ones
+abbrev pub held_at : Stage → List ℕ
+held_at stage = []
+
+abbrev pub made_at : Stage → List ℕ
+made_at stage = []
+
+module _ {P : Type 0} where
+  abbrev pub shown : Option (Node P) → Option (state.Node P)
+  shown None = None
+  shown (Some a) =
+      Some (record { word = a.word; publicity = publicity a.standing; node = a.node })
+
+  -- the nodes in these slots, of which the first has this number
+  abbrev pub nodes_from : List (ℕ × Life) → ℕ → List (Option (Stored P)) → List (ℕ × state.Node P)
+  nodes_from lives slot [] = []
+  nodes_from lives slot (n ∷ slots) =
+      with_answer (nodes_from lives (slot + 1) slots) slot (shown (node_of (entry_at lives slot) n))
+
+  -- a call with this pin
+  abbrev pub flight : ℕ → Record P → Flight P
+  flight pin r = record {
+    outline = r.task.outline;
+    op = r.task.op;
+    pin = pin;
+    cursor = key_of r.task.outline;
+    reach = key_of r.task.outline;
+    given = 0;
+    cleaning = None;
+    spots = spots_of r.stage;
+    seen = r.task.last;
+    asking = r.task.asking;
+    progress = r.task.progress;
+    held = held_at r.stage;
+    made = made_at r.stage;
+  }
+
+  abbrev pub flight_in : Option (Record P) → Option ℕ → Option (Flight P)
+  flight_in (Some r) (Some pin) = Some (flight pin r)
+  flight_in _ _ = None
+
+  -- a number's flight in place of another, where it is a number of 64 bits
+  abbrev pub with_flight :
+      List (ℕ × Flight P) → ℕ → Option (Record P) → Option ℕ → List (ℕ × Flight P)
+  with_flight flights id r pin =
+      if nat_lt id (2 ^ 64) then with_answer flights id (flight_in r pin) else flights
+
+  abbrev pub flights_on : PinsView → List (ℕ × Option (Record P)) → List (ℕ × Flight P)
+  flights_on pins [] = []
+  flights_on pins (e ∷ calls) = with_flight (flights_on pins calls) e.0 e.1 (pin_of pins e.0)
+
+-- the numbers that are seated
+abbrev pub seats_on : List (ℕ × Seat) → List ℕ
+seats_on [] = []
+seats_on (e ∷ seats) =
+    if e.1.seated then e.0 ∷ seats_on seats else off e.0 (seats_on seats)
+
+-- THE STATE
+abbrev pub state_of : {P : Type 0} → World P → State P
+state_of w = record {
+  nodes = nodes_from w.pins.slots 0 w.slots;
+  root = w.root;
+  count = w.pins.count;
+  flights = flights_on w.pins w.calls;
+  seats = seats_on w.pins.seats;
+  entries = w.entries;
+  charge = w.charge;
+}

@@ -1,0 +1,137 @@
+-- ONE EVENT as the machine's inside has it: what it leaves to its own call and to all others, and what it does to what a
+-- reader sees. The kinds of events are proved to be of this form, and the theorem on runs is proved from it.
+use Rattle.std.specs.Prelude.{◌≡◌, ◌≢◌, ℕ, ◌+◌, ◌-◌, ◌*◌, ◌<◌, ◌≤◌, Bool, length, Option, Some, None, ◌⊎◌}
+use Rattle.congee_map.specs.Map.{Pairs, lookup}
+use Rattle.congee_protocol.specs.Calls.{outline_of}
+use Rattle.congee_protocol.specs.Content.{IsContent}
+use Rattle.congee_protocol.specs.Deciding.{Carries, IsCarried}
+use Rattle.congee_protocol.specs.Kinds.{DoesAs, IsStart, IsStep, report_of}
+use Rattle.congee_protocol.specs.State.{State, with_call}
+use Rattle.congee_protocol.specs.declared.types.Env.{Env}
+use Rattle.congee_protocol.specs.declared.types.Kind.TheVariants as kind
+use Rattle.congee_protocol.specs.declared.types.Op.{Op}
+use Rattle.congee_protocol.specs.declared.types.Op.TheVariants.{Get}
+use Rattle.congee_protocol.specs.declared.types.Outcome.{Outcome}
+use Rattle.congee_protocol.specs.declared.types.Outcome.TheVariants.{Done}
+use Rattle.congee_protocol.specs.declared.types.Report.{Report}
+use Rattle.congee_protocol.specs.declared.types.Seen.{Seen}
+use Rattle.congee_sync.specs.Epoch.{pin_of}
+use Rattle.congee_store.specs.declared.stage.Record.{Record}
+use Rattle.congee_store.specs.declared.stage.Spot.{Spot}
+use Rattle.congee_store.specs.declared.stage.Stage.{Stage}
+use Rattle.congee_store.specs.declared.stage.Stage.TheVariants.{TakeRoot, Read, Check, TakeBelow, CheckAbove, Finish}
+use Rattle.congee_store.specs.inner.Facts.{Guarantees, Holding, NeedsHolder, SawNode, IsIn, named_at, Facts, IsSound}
+use Rattle.congee_store.specs.inner.Shown.{shown, flight, spots_of, state_of}
+use Rattle.congee_store.specs.inner.World.{World, Node, Table, table_of, call_of}
+
+-- The calls that end so far: those that are served. Another that is begun looks for its key again and again.
+abbrev pub IsServedCall : {X : Type 0} → Op X → Type 0
+IsServedCall (Get k) = Unit {0}
+IsServedCall _ = ⊥
+
+module _ {M : Type 0} where
+  -- the length of the prefix of the node in a slot
+  abbrev pub depth_in : Option (Node M) → ℕ
+  depth_in None = 0
+  depth_in (Some a) = length a.node.prefix
+
+  -- how many events of its own a call has left at most, if nobody disturbs it
+  abbrev pub work : Table M → Stage → ℕ
+  work t TakeRoot = 39
+  work t (Read path) = 4 * (7 - depth_in (t path.here.slot)) + 10
+  work t (Check path) = 4 * (7 - depth_in (t path.here.slot)) + 9
+  work t (TakeBelow path slot) = 4 * (7 - depth_in (t path.here.slot)) + 8
+  work t (CheckAbove path spot fits) = 4 * (7 - depth_in (t path.here.slot)) + 7
+  work t Finish = 1
+
+  -- each word that a call remembers stands there now
+  abbrev pub IsCurrent : Table M → Stage → Type 0
+  IsCurrent t stage = (slot word : ℕ) → lookup (spots_of stage) slot ≡ Some word
+      → (a : Node M) → t slot ≡ Some a → a.word ≡ word
+
+  -- no node needs a holder
+  abbrev pub NoneHeld : Table M → Type 0
+  NoneHeld t = (s : ℕ) → NeedsHolder t s → ⊥
+
+  pub record Stays (t : Table M) (spot : Spot) : Type 0 where
+    pub node : Node M
+    pub here : t spot.slot ≡ Some node
+    pub word : node.word ≡ spot.word
+
+  -- the last Read reported this slot, and its node's word is the remembered one
+  abbrev pub MayFollow : Table M → Stage → Option (Seen M) → ℕ → Type 0
+  MayFollow t (Check path) last slot = SawNode last slot × Stays t path.here
+  MayFollow t _ last slot = ⊥
+
+  -- THE COURSE of a call that goes on: what it touches, which slots it knows of then and whence, and that its work falls
+  -- unless it goes back to the root, which nobody makes a call do whose words stand
+  pub record IsCourse (t t' : Table M) (root : ℕ) (call next : Record M) (report : Report)
+      (out : Outcome M) : Type 0 where
+    pub touches : (slot : ℕ) → report.slot ≡ Some slot → report.kind ≢ kind.Make
+        → (slot ≡ root) ⊎ IsIn slot (named_at call.stage)
+    pub names : (slot : ℕ) → IsIn slot (named_at next.stage)
+        → (slot ≡ root) ⊎ (IsIn slot (named_at call.stage)
+        ⊎ MayFollow t call.stage call.task.last slot)
+    pub reads : (slot : ℕ) → MayFollow t' next.stage next.task.last slot → report.kind ≡ kind.Read
+    pub outline : next.task.outline ≡ call.task.outline
+    pub keeps : IsCurrent t call.stage → IsCurrent t' next.stage
+    pub falls : IsServedCall call.task.outline
+        → ((next.stage ≡ TakeRoot) × (IsCurrent t call.stage → NoneHeld t → ⊥))
+        ⊎ (work t' next.stage < work t call.stage)
+
+  -- what the state shows of these nodes
+  pub record Shows (t : Table M) (root : ℕ) (s : State M) : Type 0 where
+    pub nodes : (slot : ℕ) → lookup s.nodes slot ≡ shown (t slot)
+    pub root_is : s.root ≡ root
+
+-- Shares are granted always, if `Granted` holds. The same is told by a test.
+module _ {M : Type 0} (Granted : Type 0) (same : M → M → Bool) where
+  -- AN EVENT THAT ONLY READS: what it leaves of its call, in any state that shows these nodes
+  pub record IsRead (t : Table M) (root pin : ℕ) (call : Record M) (env : Env M) (next : Record M)
+      (report : Report) (out : Outcome M) : Type 0 where
+    pub facts : Facts Granted t root pin next
+    pub course : IsCourse t t root call next report out
+    pub does : (s : State M) (id : ℕ) → Shows t root s → DoesAs Granted same s
+        (with_call s id (flight pin next)) id (flight pin call) env report out report.kind
+    pub carries : (s : State M) → Shows t root s → (m : Pairs M) → IsContent s m
+        → Carries same m m (flight pin call) out
+
+  -- THE NEXT EVENT of a call, after which it goes on, or is no longer in flight
+  abbrev pub IsAdvance : Table M → ℕ → ℕ → Record M → Env M → Option (Record M) → Report
+      → Outcome M → Type 0
+  IsAdvance t root pin call env (Some next) report out = IsRead t root pin call env next report out
+  IsAdvance t root pin call env None report out =
+      (call.stage ≡ Finish) × (report ≡ report_of kind.Finish None 0 true) × (out ≡ Done)
+
+  -- A START
+  pub record IsBegun (w w' : World M) (id : ℕ) (op : Op M) (report : Report) : Type 0 where
+    pub before : IsSound Granted w
+    pub after : IsSound Granted w'
+    pub others : (o : ℕ) → o ≢ id → call_of w' o ≡ call_of w o
+    pub nodes : (s : ℕ) → table_of w' s ≡ table_of w s
+    pub root : w'.root ≡ w.root
+    pub record_is : Record M
+    pub here : call_of w' id ≡ Some record_is
+    pub stage : record_is.stage ≡ TakeRoot
+    pub outline : record_is.task.outline ≡ outline_of op
+    pub start : IsStart (state_of w) (state_of w') id op report
+
+  -- A STEP of the call of a number
+  pub record IsTurn (w w' : World M) (id : ℕ) (env : Env M) (report : Report)
+      (out : Outcome M) : Type 0 where
+    pub before : IsSound Granted w
+    pub after : IsSound Granted w'
+    pub call : Record M
+    pub pin : ℕ
+    pub found : call_of w id ≡ Some call
+    pub pinned : pin_of w.pins id ≡ Some pin
+    pub others : (o : ℕ) → o ≢ id → call_of w' o ≡ call_of w o
+    pub root : w'.root ≡ w.root
+    pub leaves : (p : ℕ) → p ≤ w.pins.count
+        → Guarantees (table_of w) (table_of w') (Holding call.stage) p
+    pub course : (next : Record M) → call_of w' id ≡ Some next
+        → IsCourse (table_of w) (table_of w') w.root call next report out
+    pub ends : call_of w' id ≡ None → (out ≡ Done) × (report.slot ≡ None)
+    pub step : IsStep Granted same (state_of w) (state_of w') id env report out
+    pub carries : (m : Pairs M) → IsContent (state_of w) m
+        → IsCarried same m (state_of w) (state_of w') id out

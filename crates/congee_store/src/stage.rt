@@ -1,0 +1,74 @@
+//! A call in flight: what it does next, and what it remembers.
+
+use congee_node_table::tree_node::TreeNode;
+use congee_protocol::types::{Asking, Op, Progress, Seen};
+use congee_sync::lock::Word64;
+
+/// Where a node is in its life.
+#[derive(Clone, Copy)]
+pub enum Place {
+    /// Made by a call and not yet linked.
+    Private,
+    /// In the tree.
+    Linked,
+    /// Taken out of the tree, and not yet marked obsolete.
+    Detached,
+    /// Obsolete.
+    Retired,
+}
+
+/// What a slot holds.
+#[derive(Drop)]
+pub struct Stored<P> {
+    pub word: Word64,
+    pub place: Place,
+    pub node: TreeNode<P>,
+}
+
+/// A node that a call remembers, with the word that it saw there.
+#[derive(Clone, Copy)]
+pub struct Spot {
+    pub slot: usize,
+    pub word: u64,
+}
+
+/// The path down so far: the current node, and its parent unless it is the root.
+#[derive(Clone, Copy)]
+pub struct Path {
+    pub above: Option<Spot>,
+    pub here: Spot,
+}
+
+/// What a call does next, with what it remembers for it.
+#[derive(Clone, Copy)]
+pub enum Stage {
+    TakeRoot,
+    Read(Path),
+    Check(Path),
+    /// The slot that was read.
+    TakeBelow(Path, usize),
+    /// The node that was taken, and whether its prefix begins the key.
+    CheckAbove(Path, Spot, bool),
+    Finish,
+}
+
+/// A call, and what has come of it since it last went back to the root.
+#[derive(Drop)]
+pub struct Task<P> {
+    /// Its kind and keys.
+    pub outline: Op<()>,
+    /// The call with its payloads, until it has its reply or is refused.
+    pub op: Option<Op<P>>,
+    pub last: Option<Seen<P>>,
+    /// One more share of a payload that was seen, for the reply.
+    pub spare: Option<P>,
+    pub asking: Asking<P>,
+    pub progress: Progress,
+}
+
+/// A call in flight.
+#[derive(Drop)]
+pub struct Record<P> {
+    pub stage: Stage,
+    pub task: Task<P>,
+}
