@@ -1,6 +1,6 @@
 -- ONE EVENT as the machine's inside has it: what it leaves to its own call and to all others, and what it does to what a
 -- reader sees. The kinds of events are proved to be of this form, and the theorem on runs is proved from it.
-use Rattle.std.specs.Prelude.{◌≡◌, ◌≢◌, ℕ, ◌+◌, ◌-◌, ◌*◌, ◌<◌, ◌≤◌, Bool, length, Option, Some, None, ◌⊎◌}
+use Rattle.std.specs.Prelude.{true, ◌≡◌, ◌≢◌, ℕ, ◌+◌, ◌-◌, ◌*◌, ◌<◌, ◌≤◌, Bool, length, Option, Some, None, ◌⊎◌}
 use Rattle.congee_map.specs.Map.{Pairs, lookup}
 use Rattle.congee_protocol.specs.Calls.{outline_of}
 use Rattle.congee_protocol.specs.Content.{IsContent}
