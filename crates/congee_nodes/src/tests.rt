@@ -46,8 +46,9 @@ fn take<N: Node<u32>>(node: &mut N, byte: u8) -> Option<u32> {
 fn scans<N: Node<u32>>(node: &N, start: u8, end: u8, wanted: &[(u8, u32)]) -> bool {
     let mut children = node.get_children(start, end);
     for (byte, child) in wanted {
-        if children.next().map(|(b, c)| (b, *c)) != Some((*byte, *child)) {
-            return false;
+        match children.next() {
+            Some((found, value)) if found == *byte && value == child => {}
+            _ => return false,
         }
     }
     children.next().is_none()
@@ -56,15 +57,54 @@ fn scans<N: Node<u32>>(node: &N, start: u8, end: u8, wanted: &[(u8, u32)]) -> bo
 // Puts children under the highest bytes, 255 downward; how many went in.
 fn fill<N: Node<u32>>(node: &mut N, most: u8) -> u8 {
     for i in 0..most {
-        if !put(node, 255 - i, u32::from(i)) {
+        if !put(node, 255u8.wrapping_sub(i), u32::from(i)) {
             return i;
         }
     }
     most
 }
 
+// Puts these children in; whether there was room for all.
+fn puts<N: Node<u32>>(node: &mut N, children: &[(u8, u32)]) -> bool {
+    for (byte, child) in children {
+        if !put(node, *byte, *child) {
+            return false;
+        }
+    }
+    true
+}
+
+// Takes what stands under these bytes out; whether that is what is wanted.
+fn takes<N: Node<u32>>(node: &mut N, wanted: &[(u8, Option<u32>)]) -> bool {
+    for (byte, child) in wanted {
+        if take(node, *byte) != *child {
+            return false;
+        }
+    }
+    true
+}
+
+// Whether this stands under these bytes.
+fn finds<N: Node<u32>>(node: &N, wanted: &[(u8, Option<u32>)]) -> bool {
+    for (byte, child) in wanted {
+        if node.get_child(*byte).copied() != *child {
+            return false;
+        }
+    }
+    true
+}
+
+// Whether the node has this form, prefix and number of children.
+fn has_base<N: Node<u32>>(node: &N, form: NodeType, prefix: &[u8], count: u16) -> bool {
+    let base = node.base();
+    node.get_type() == form
+        && base.get_type() == form
+        && base.prefix() == prefix
+        && base.value_count() == count
+}
+
 // The rows of a node with the children 1, 2, 3 under 10, 20, 30.
-fn scans_rows<N: Node<u32>>(rt: &impl Abort, node: &N) {
+fn scans_rows<N: Node<u32>>(node: &N) -> bool {
     let rows: [(u8, u8, &[(u8, u32)]); 6] = [
         (15, 25, &[(20, 2)]),
         (0, 9, &[]),
@@ -74,112 +114,105 @@ fn scans_rows<N: Node<u32>>(rt: &impl Abort, node: &N) {
         (31, 255, &[]),
     ];
     for (start, end, wanted) in rows {
-        assert!(rt; scans(node, start, end, wanted), "from {start} to {end}");
+        if !scans(node, start, end, wanted) {
+            return false;
+        }
     }
+    true
 }
 
-// Every call of the contract at one form. The node is empty at first, under the prefix 7, 8.
-fn makes_every_call<N: Node<u32>>(
-    rt: &impl Abort,
-    node: &mut N,
-    form: NodeType,
-    capacity: Option<u16>,
-) {
-    assert_eq!(rt; node.get_type(), form);
-    assert_eq!(rt; node.base().get_type(), form);
-    assert_eq!(rt; node.base().prefix(), [7, 8].as_slice());
-    assert_eq!(rt; node.base().value_count(), 0);
-    for (byte, child) in [(20u8, 2u32), (30, 9), (10, 1)] {
-        assert!(rt; put(node, byte, child));
-    }
-    // the second child under a byte takes the place of the first
-    assert!(rt; put(node, 30, 3));
-    assert_eq!(rt; node.base().value_count(), 3);
-    scans_rows(rt, node);
-    for (byte, child) in [(10u8, Some(1u32)), (30, Some(3)), (29, None), (255, None)] {
-        assert_eq!(rt; node.get_child(byte).copied(), child, "at {byte}");
-    }
-    assert_eq!(rt; take(node, 20), Some(2));
-    assert_eq!(rt; take(node, 20), None);
-    assert!(rt; scans(node, 0, 255, &[(10, 1), (30, 3)]));
-    assert_eq!(rt; take(node, 10), Some(1));
-    assert_eq!(rt; take(node, 30), Some(3));
-    let room = fill(node, 60);
-    assert_eq!(rt; node.is_full(), capacity.is_some());
-    assert_eq!(rt; u16::from(room), capacity.unwrap_or(60));
-    assert_eq!(rt; node.base().value_count(), capacity.unwrap_or(60));
+// Every call of the contract at one form. The node is empty at first, under the prefix 7, 8. Whether each step is right.
+fn calls<N: Node<u32>>(node: &mut N, form: NodeType, capacity: Option<u16>) -> [bool; 11] {
+    let room = capacity.unwrap_or(60);
+    [
+        has_base(node, form, &[7, 8], 0),
+        // the second child under a byte takes the place of the first
+        puts(node, &[(20, 2), (30, 9), (10, 1), (30, 3)]),
+        has_base(node, form, &[7, 8], 3),
+        scans_rows(node),
+        finds(
+            node,
+            &[(10, Some(1)), (30, Some(3)), (29, None), (255, None)],
+        ),
+        takes(node, &[(20, Some(2)), (20, None)]),
+        scans(node, 0, 255, &[(10, 1), (30, 3)]),
+        takes(node, &[(10, Some(1)), (30, Some(3))]),
+        u16::from(fill(node, 60)) == room,
+        node.is_full() == capacity.is_some(),
+        has_base(node, form, &[7, 8], room),
+    ]
 }
 
 #[test]
 fn every_call_at_every_form(rt: HostRuntime) -> Result<(), Fail> {
     let alloc = rt.alloc();
     let prefix = &[7, 8];
-    makes_every_call(&rt, &mut Node4::new(alloc, prefix)?, NodeType::N4, Some(4));
-    makes_every_call(
-        &rt,
-        &mut Node16::new(alloc, prefix)?,
-        NodeType::N16,
-        Some(16),
-    );
-    makes_every_call(
-        &rt,
-        &mut Node48::new(alloc, prefix)?,
-        NodeType::N48,
-        Some(48),
-    );
-    makes_every_call(&rt, &mut Node256::new(alloc, prefix)?, NodeType::N256, None);
-    let mut any = AnyNode::N4(Node4::new(alloc, prefix)?);
-    makes_every_call(&rt, &mut any, NodeType::N4, Some(4));
+    let right = [
+        calls(&mut Node4::new(alloc, prefix)?, NodeType::N4, Some(4)),
+        calls(&mut Node16::new(alloc, prefix)?, NodeType::N16, Some(16)),
+        calls(&mut Node48::new(alloc, prefix)?, NodeType::N48, Some(48)),
+        calls(&mut Node256::new(alloc, prefix)?, NodeType::N256, None),
+        calls(
+            &mut AnyNode::N4(Node4::new(alloc, prefix)?),
+            NodeType::N4,
+            Some(4),
+        ),
+    ];
+    assert_eq!(rt; right, [[true; 11]; 5]);
     Ok(())
 }
 
 // Fills an empty node with 48 children, and puts others in the place of six that are taken out.
-fn uses_places_again<N: Node<u32>>(rt: &impl Abort, node: &mut N) {
+fn uses_places_again<N: Node<u32>>(node: &mut N) -> bool {
     for byte in 0..48u8 {
-        assert!(rt; put(node, byte, u32::from(byte)));
+        if !put(node, byte, u32::from(byte)) {
+            return false;
+        }
     }
     for byte in 24..30u8 {
-        assert_eq!(rt; take(node, byte), Some(u32::from(byte)));
+        if take(node, byte) != Some(u32::from(byte)) {
+            return false;
+        }
     }
     for byte in 24..30u8 {
-        assert!(rt; put(node, byte, 100 + u32::from(byte)));
+        if !put(node, byte, u32::from(byte).wrapping_add(100)) {
+            return false;
+        }
     }
     for byte in 0..48u8 {
-        let last = if byte >= 24 && byte < 30 {
-            100 + u32::from(byte)
-        } else {
-            u32::from(byte)
-        };
-        assert_eq!(rt; node.get_child(byte).copied(), Some(last), "at {byte}");
+        let more = if byte >= 24 && byte < 30 { 100 } else { 0 };
+        if node.get_child(byte).copied() != Some(u32::from(byte).wrapping_add(more)) {
+            return false;
+        }
     }
+    true
 }
 
 #[test]
 fn removed_places_are_used_again(rt: HostRuntime) -> Result<(), Fail> {
-    uses_places_again(&rt, &mut Node48::new(rt.alloc(), &[])?);
+    assert!(rt; uses_places_again(&mut Node48::new(rt.alloc(), &[])?));
     Ok(())
 }
 
 // Two children, of which the second is taken out: its byte still stands past the count.
-fn forgets_a_byte<N: Node<u32>>(rt: &impl Abort, node: &mut N) {
-    assert!(rt; put(node, 3, 30) && put(node, 7, 70));
-    assert_eq!(rt; take(node, 7), Some(70));
-    assert_eq!(rt; node.get_child(7), None);
+fn forgets_a_byte<N: Node<u32>>(node: &mut N) -> bool {
+    puts(node, &[(3, 30), (7, 70)]) && takes(node, &[(7, Some(70))]) && finds(node, &[(7, None)])
 }
 
 // Sixteen children under even bytes.
-fn has_even_bytes<N: Node<u32>>(rt: &impl Abort, node: &mut N) {
+fn has_even_bytes<N: Node<u32>>(node: &mut N) -> bool {
     for i in 0..16u8 {
-        assert!(rt; put(node, 2 * i, u32::from(i)));
+        if !put(node, i.wrapping_mul(2), u32::from(i)) {
+            return false;
+        }
     }
-    assert_eq!(rt; node.get_child(30).copied(), Some(15));
-    assert_eq!(rt; node.get_child(31), None);
+    finds(node, &[(30, Some(15)), (31, None)])
 }
 
 #[test]
 fn bytes_past_the_count_never_match(rt: HostRuntime) -> Result<(), Fail> {
-    forgets_a_byte(&rt, &mut Node16::new(rt.alloc(), &[])?);
-    has_even_bytes(&rt, &mut Node16::new(rt.alloc(), &[])?);
+    assert!(rt; forgets_a_byte(&mut Node16::new(rt.alloc(), &[])?));
+    assert!(rt; has_even_bytes(&mut Node16::new(rt.alloc(), &[])?));
     Ok(())
 }
 
@@ -188,25 +221,18 @@ fn grows<A: Node<u32>, B: Node<u32>>(rt: &impl Abort, mut old: A, into: B, room:
     requires empty { B.children into ≡ [] }
     requires room { (a : A) (n : ℕ) → Fits (A.form a) n → Fits (B.form into) (n + 1) }
 {
-    assert_eq!(rt; fill(&mut old, 60), room);
+    assert!(rt; fill(&mut old, 60) == room);
     let _ = old.base();
     assert!(rt; old.get_child(byte).is_none());
-    grown(old, into, byte, 100 + u32::from(byte))
+    grown(old, into, byte, u32::from(byte).wrapping_add(100))
 }
 
-// A node has this prefix and so many children, and a scan from 0 gives these.
-fn has<N: Node<u32>>(
-    rt: &impl Abort,
-    node: &N,
-    prefix: u8,
-    count: u16,
-    end: u8,
-    wanted: &[(u8, u32)],
-) {
-    assert_eq!(rt; node.base().prefix(), [prefix].as_slice());
-    assert_eq!(rt; node.base().value_count(), count);
-    assert_eq!(rt; node.get_child(255).copied(), Some(0));
-    assert!(rt; scans(node, 0, end, wanted));
+// Whether a node has this prefix and so many children, and a scan from 0 gives these.
+fn has<N: Node<u32>>(node: &N, prefix: u8, count: u16, end: u8, wanted: &[(u8, u32)]) -> bool {
+    node.base().prefix() == [prefix].as_slice()
+        && node.base().value_count() == count
+        && finds(node, &[(255, Some(0))])
+        && scans(node, 0, end, wanted)
 }
 
 #[test]
@@ -220,45 +246,41 @@ fn growth_keeps_every_child(rt: HostRuntime) -> Result<(), Fail> {
         0,
     );
     let five = [(0, 100), (252, 3), (253, 2), (254, 1), (255, 0)];
-    has(&rt, &second, 2, 5, 255, &five);
+    assert!(rt; has(&second, 2, 5, 255, &five));
     let third = grows(&rt, second, Node48::new(alloc, &[3])?, 15, 1);
-    has(&rt, &third, 3, 17, 1, &[(0, 100), (1, 101)]);
+    assert!(rt; has(&third, 3, 17, 1, &[(0, 100), (1, 101)]));
     let fourth = grows(&rt, third, Node256::new(alloc, &[4])?, 46, 2);
     let low = [(0, 100), (1, 101), (2, 102), (210, 45)];
-    has(&rt, &fourth, 4, 49, 210, &low);
+    assert!(rt; has(&fourth, 4, 49, 210, &low));
     let mut last = Node256::new(alloc, &[5])?;
     fourth.copy_to(&mut last);
-    has(&rt, &last, 5, 49, 210, &low);
+    assert!(rt; has(&last, 5, 49, 210, &low));
     Ok(())
 }
 
 // Puts a child under each byte in turn, and grows the node where it is full.
-fn grows_through_all_forms(
-    rt: &impl Abort,
-    alloc: Global,
-    node: &mut AnyNode<u32>,
-) -> Result<(), OOMError> {
+fn grows_through_all_forms(alloc: Global, node: &mut AnyNode<u32>) -> Result<bool, OOMError> {
     for byte in 0..=255u8 {
         if node.is_full() {
             node.grow(alloc)?;
         }
-        assert!(rt; put(node, byte, 3 * u32::from(byte)), "at {byte}");
+        if !put(node, byte, u32::from(byte).wrapping_mul(3)) {
+            return Ok(false);
+        }
     }
-    assert_eq!(rt; node.get_type(), NodeType::N256);
-    assert_eq!(rt; node.base().prefix(), [7, 8].as_slice());
-    assert_eq!(rt; node.base().value_count(), 256);
     for byte in 0..=255u8 {
-        let child = node.get_child(byte).copied();
-        assert_eq!(rt; child, Some(3 * u32::from(byte)), "at {byte}");
+        if node.get_child(byte).copied() != Some(u32::from(byte).wrapping_mul(3)) {
+            return Ok(false);
+        }
     }
-    Ok(())
+    Ok(has_base(node, NodeType::N256, &[7, 8], 256))
 }
 
 #[test]
 fn one_value_grows_through_all_forms(rt: HostRuntime) -> Result<(), Fail> {
-    let alloc = rt.alloc();
-    let mut node = AnyNode::N4(Node4::new(alloc, &[7, 8])?);
-    grows_through_all_forms(&rt, alloc, &mut node)?;
+    let mut node = AnyNode::N4(Node4::new(rt.alloc(), &[7, 8])?);
+    let is_right = grows_through_all_forms(rt.alloc(), &mut node)?;
+    assert!(rt; is_right);
     Ok(())
 }
 
@@ -273,11 +295,14 @@ fn sizes_are_stated(rt: HostRuntime) -> Result<(), Fail> {
         assert_eq!(rt; NodeSize::of(form).bytes(), bytes);
     }
     // what each takes in place for children of 8 bytes, and so what a table of nodes takes for one
-    assert_eq!(rt; size_of::<Few<u64>>(), 40);
-    assert_eq!(rt; size_of::<Node4<u64>>(), 56);
-    assert_eq!(rt; size_of::<Node16<u64>>(), 56);
-    assert_eq!(rt; size_of::<Node48<u64>>(), 48);
-    assert_eq!(rt; size_of::<Node256<u64>>(), 48);
-    assert_eq!(rt; size_of::<AnyNode<u64>>(), 64);
+    let sizes = [
+        size_of::<Few<u64>>(),
+        size_of::<Node4<u64>>(),
+        size_of::<Node16<u64>>(),
+        size_of::<Node48<u64>>(),
+        size_of::<Node256<u64>>(),
+        size_of::<AnyNode<u64>>(),
+    ];
+    assert_eq!(rt; sizes, [40, 56, 56, 48, 48, 64]);
     Ok(())
 }

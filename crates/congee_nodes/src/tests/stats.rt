@@ -6,7 +6,6 @@ use crate::stats::NodeStats;
 use crate::stats::fraction::hundredths;
 use crate::stats::levels::{LevelStats, Levels};
 use std::alloc::Global;
-use std::process::Abort;
 use std::test::Fail;
 
 // Statistics with these counts, each level's nodes and entries.
@@ -39,63 +38,30 @@ fn root_and_leaves(alloc: Global, leaves: u64, pairs: u64) -> Result<NodeStats, 
     Ok(stats)
 }
 
-// The statistics have this text.
-fn reads(rt: &impl Abort, alloc: Global, stats: &NodeStats, wanted: &str) -> Result<(), Fail> {
+// Whether the statistics have this text.
+fn reads(alloc: Global, stats: &NodeStats, wanted: &str) -> Result<bool, OOMError> {
     let text = format!(in alloc; "{stats}")?;
-    assert_eq!(rt; text.as_str(), wanted);
-    Ok(())
+    Ok(text.as_str() == wanted)
 }
 
 #[test]
-fn trees_have_these_texts(rt: HostRuntime) -> Result<(), Fail> {
-    let alloc = rt.alloc();
-    let rows = [
-        // keys 1; 0 to 3; 32 and 96 keys that differ in their first byte
-        (
-            (1, 1),
-            "Level: 0 --- || N4:        0,     0.00 || N16:        0,     0.00 || N48:        0,     0.00 || N256:        1,     0.00 ||\n\
-             Level: 1 --- || N4:        1,     0.25 || N16:        0,     0.00 || N48:        0,     0.00 || N256:        0,     0.00 ||\n\
-             Overall node count: 2, entry count: 2\n\
-             Load factor: 0.13 (too low)\n\
-             Active memory usage: 0 Mb\n\
-             KV count: 1\n",
-        ),
-        (
-            (1, 4),
-            "Level: 0 --- || N4:        0,     0.00 || N16:        0,     0.00 || N48:        0,     0.00 || N256:        1,     0.00 ||\n\
-             Level: 1 --- || N4:        1,     1.00 || N16:        0,     0.00 || N48:        0,     0.00 || N256:        0,     0.00 ||\n\
-             Overall node count: 2, entry count: 5\n\
-             Load factor: 0.50\n\
-             Active memory usage: 0 Mb\n\
-             KV count: 4\n",
-        ),
-        (
-            (32, 1),
-            "Level: 0 --- || N4:        0,     0.00 || N16:        0,     0.00 || N48:        0,     0.00 || N256:        1,     0.12 ||\n\
-             Level: 1 --- || N4:       32,     0.25 || N16:        0,     0.00 || N48:        0,     0.00 || N256:        0,     0.00 ||\n\
-             Overall node count: 33, entry count: 64\n\
-             Load factor: 0.25 (too low)\n\
-             Active memory usage: 0 Mb\n\
-             KV count: 32\n",
-        ),
-        (
-            (96, 1),
-            "Level: 0 --- || N4:        0,     0.00 || N16:        0,     0.00 || N48:        0,     0.00 || N256:        1,     0.38 ||\n\
-             Level: 1 --- || N4:       96,     0.25 || N16:        0,     0.00 || N48:        0,     0.00 || N256:        0,     0.00 ||\n\
-             Overall node count: 97, entry count: 192\n\
-             Load factor: 0.25 (too low)\n\
-             Active memory usage: 0 Mb\n\
-             KV count: 96\n",
-        ),
-    ];
-    for ((leaves, pairs), wanted) in rows {
-        reads(&rt, alloc, &root_and_leaves(alloc, leaves, pairs)?, wanted)?;
-    }
+fn empty_statistics_have_this_text(rt: HostRuntime) -> Result<(), Fail> {
     let none = "Overall node count: 0, entry count: 0\n\
                 Load factor: 0.00\n\
                 Active memory usage: 0 Mb\n\
                 KV count: 0\n";
-    reads(&rt, alloc, &NodeStats::empty(alloc), none)
+    assert!(rt; reads(rt.alloc(), &NodeStats::empty(rt.alloc()), none)?);
+    Ok(())
+}
+
+// Whether statistics with these counts have this text.
+fn hand_reads(
+    alloc: Global,
+    counts: &[([u64; 4], [u64; 4])],
+    kv_pairs: u64,
+    wanted: &str,
+) -> Result<bool, OOMError> {
+    reads(alloc, &by_hand(alloc, counts, kv_pairs)?, wanted)
 }
 
 #[test]
@@ -181,13 +147,13 @@ fn levels_by_hand_have_these_texts(rt: HostRuntime) -> Result<(), Fail> {
         ),
     ];
     for (counts, wanted) in rows {
-        reads(&rt, alloc, &by_hand(alloc, counts, 42)?, wanted)?;
+        assert!(rt; hand_reads(alloc, counts, 42, wanted)?);
     }
     Ok(())
 }
 
 // The text of eight levels whose counts are as great as they can be.
-fn eight_greatest_levels(alloc: Global) -> Result<String, Fail> {
+fn eight_greatest_levels(alloc: Global) -> Result<String, OOMError> {
     let mut wanted = String::new(alloc);
     for number in 0..8u8 {
         let line = format!(in alloc;
@@ -204,12 +170,21 @@ fn eight_greatest_levels(alloc: Global) -> Result<String, Fail> {
     Ok(wanted)
 }
 
+// Whether nine such levels have that text.
+fn nine_read_as_eight(alloc: Global) -> Result<bool, OOMError> {
+    let wanted = eight_greatest_levels(alloc)?;
+    hand_reads(
+        alloc,
+        &[([u64::MAX; 4], [u64::MAX; 4]); 9],
+        u64::MAX,
+        wanted.as_str(),
+    )
+}
+
 #[test]
 fn the_ninth_level_is_left_out(rt: HostRuntime) -> Result<(), Fail> {
-    let alloc = rt.alloc();
-    let wanted = eight_greatest_levels(alloc)?;
-    let nine = by_hand(alloc, &[([u64::MAX; 4], [u64::MAX; 4]); 9], u64::MAX)?;
-    reads(&rt, alloc, &nine, wanted.as_str())
+    assert!(rt; nine_read_as_eight(rt.alloc())?);
+    Ok(())
 }
 
 #[test]
