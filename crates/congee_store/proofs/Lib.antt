@@ -1,3 +1,5 @@
+pub mod Entries
 pub mod Options
 pub mod Sizes
+pub mod States
 pub mod Ways

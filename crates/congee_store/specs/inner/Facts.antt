@@ -11,7 +11,7 @@ use Rattle.congee_protocol.specs.Calls.{bytes_of, key_of, outline_of}
 use Rattle.congee_protocol.specs.Content.{IsContent}
 use Rattle.congee_protocol.specs.Lists.{is_in}
 use Rattle.congee_protocol.specs.Local.{SharesNone}
-use Rattle.congee_protocol.specs.Reading.{IsReading}
+use Rattle.congee_protocol.specs.Reading.{IsReading, child_for}
 use Rattle.congee_protocol.specs.declared.types.Asking.TheVariants.{Fresh}
 use Rattle.congee_protocol.specs.declared.types.Op.{Op}
 use Rattle.congee_protocol.specs.declared.types.Progress.TheVariants as progress
@@ -219,6 +219,8 @@ module _ {M : Type 0} (Granted : Type 0) where
   pub record Agrees (task : Task M) (stage : Stage) (pin : ℕ) (a : Node M) (s : Seen M) : Type 0 where
     pub reading : IsReading (Sees task) (flight pin (record { stage = stage; task = task })) a.node s
     pub spare : IsSpare task s task.spare
+    pub below : (slot : ℕ) → s.child ≡ Some (below_at slot)
+        → child_for task.outline (key_of task.outline) a.node ≡ Some (below_at slot)
 
   pub record Saw (t : Table M) (pin : ℕ) (path : Path) (task : Task M) : Type 0 where
     pub seen : Seen M
@@ -234,11 +236,11 @@ module _ {M : Type 0} (Granted : Type 0) where
   FactsAt t root pin task (TakeBelow path slot) =
       IsFreshly task × OnPath t root pin (key_bytes task) path
       × LedTo t path.here (key_bytes task) slot × SawNode task.last slot × IsThere t pin slot
-      × (slot ≢ root)
+      × (slot ≢ root) × (slot ≢ path.here.slot)
   FactsAt t root pin task (CheckAbove path spot fits) =
       IsFreshly task × OnPath t root pin (key_bytes task) path
       × LedTo t path.here (key_bytes task) spot.slot × SawNode task.last spot.slot
-      × Known t pin spot × TestOf t spot.slot (key_bytes task) fits
+      × Known t pin spot × TestOf t spot.slot (key_bytes task) fits × (spot.slot ≢ path.here.slot)
   FactsAt t root pin task Finish = task.progress ≢ progress.Open
 
   pub record Facts (t : Table M) (root pin : ℕ) (r : Record M) : Type 0 where

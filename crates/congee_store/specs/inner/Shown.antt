@@ -1,5 +1,5 @@
 -- WHAT A READER SEES of the machine's inside.
-use Rattle.std.specs.Prelude.{ℕ, ◌+◌, ◌^◌, List, [], ◌∷◌, Option, Some, None, if◌then◌else◌, nat_lt}
+use Rattle.std.specs.Prelude.{ℕ, ◌+◌, ◌^◌, List, [], ◌∷◌, Option, Some, None, if◌then◌else◌, nat_lt, ◌==◌}
 use Rattle.congee_map.specs.Map.{put, with_answer}
 use Rattle.congee_protocol.specs.Calls.{key_of}
 use Rattle.congee_protocol.specs.Lists.{off}
@@ -89,11 +89,17 @@ module _ {P : Type 0} where
   flights_on pins [] = []
   flights_on pins (e ∷ calls) = with_flight (flights_on pins calls) e.0 e.1 (pin_of pins e.0)
 
+-- the ascending list with the number
+abbrev pub with_seat : ℕ → List ℕ → List ℕ
+with_seat id [] = id ∷ []
+with_seat id (x ∷ xs) =
+    if nat_lt x id then x ∷ with_seat id xs else (if x == id then x ∷ xs else id ∷ x ∷ xs)
+
 -- the numbers that are seated
 abbrev pub seats_on : List (ℕ × Seat) → List ℕ
 seats_on [] = []
 seats_on (e ∷ seats) =
-    if e.1.seated then e.0 ∷ seats_on seats else off e.0 (seats_on seats)
+    if e.1.seated then with_seat e.0 (seats_on seats) else off e.0 (seats_on seats)
 
 -- THE STATE
 abbrev pub state_of : {P : Type 0} → World P → State P
