@@ -1,22 +1,35 @@
 -- The laws of what a reader sees of the inside.
-use Rattle.std.proofs.Common.{◌≡◌, ◌≢◌, ℕ, zero, suc, ◌+◌, ◌<◌, ◌≤◌, ◌^◌, Bool, true, false, List, [], ◌∷◌, length, map, Option, Some, None, if◌then◌else◌, nat_lt, inl, inr, refl, ap, sym, subst, ◌∙◌, arith, slice_index_or}
-use Rattle.std.proofs.lemmas.Bool.{lt-ltb, le-ltb, cases_eq, cases_lt}
+use Rattle.std.proofs.Common.{◌≡◌, ◌≢◌, ℕ, zero, suc, ◌+◌, ◌<◌, ◌≤◌, ◌^◌, Bool, true, false, List, [], ◌∷◌, length, map, Option, Some, None, if◌then◌else◌, nat_lt, ◌==◌, ◌||◌, inl, inr, refl, ap, sym, subst, ◌∙◌, arith, slice_index_or}
+use Rattle.std.proofs.lemmas.Bool.{lt-ltb, le-ltb, eq-eqb, ne_eqb, cases_eq, cases_lt, cases_order}
+use Rattle.std.proofs.lemmas.Bool.Decides.{eqb_tells}
 use Rattle.congee_map.specs.Map.{lookup, put, without, with_answer, Rises, IsMap}
-use Rattle.congee_map.proofs.MapLaws.{Rises-wider}
+use Rattle.congee_map.proofs.MapLaws.{Rises-wider, Rises-put, Rises-without, lookup-put_same, lookup-put_other, lookup-without_same, lookup-without_other, same_from_lookups}
 use Rattle.congee_node_table.specs.inner.Kinds.{mapped}
 use Rattle.congee_protocol.specs.Meaning.{in_some, meant}
 use Rattle.congee_protocol.specs.Meaning as meaning_of
-use Rattle.congee_protocol.specs.State.{State, Flight}
+use Rattle.congee_protocol.specs.Lists.{is_in, off}
+use Rattle.congee_protocol.specs.State.{State, Flight, with_call}
 use Rattle.congee_protocol.specs.State as state
-use Rattle.congee_sync.specs.Epoch.{PinsView, entry_at, pin_of}
+use Rattle.congee_sync.specs.Epoch.{PinsView, entry_at, pin_of, seated_in, is_seated}
+use Rattle.congee_sync.specs.declared.epoch.Seat.{Seat}
 use Rattle.congee_sync.specs.declared.epoch.Life.{Life}
 use Rattle.congee_store.specs.declared.stage.Record.{Record}
 use Rattle.congee_store.specs.declared.stage.Stored.{Stored}
 use Rattle.congee_store.specs.inner.Meant.{meant_stored, meant_slots, meant_record, meant_calls, meant_world}
-use Rattle.congee_store.specs.inner.Shown.{shown, nodes_from, flight, flight_in, with_flight, flights_on, seats_on, state_of}
+use Rattle.congee_store.specs.inner.Shown.{shown, nodes_from, flight, flight_in, with_flight, flights_on, with_seat, seats_on, state_of}
 use Rattle.congee_store.specs.inner.Turns.{Shows}
 use Rattle.congee_store.specs.inner.World.{World, Node, node_of, table_of, record_in, call_of}
 use Rattle.congee_store.proofs.Entries.{entry-first, entry-next, answer_same, answer_other, Rises-answer, lookup-mapped, entry-mapped, answer-mapped, slot-mapped}
+
+-- a key above the range isn't there
+lookup-above : {V : Type 0} (a b : ℕ) (es : List (ℕ × V)) (k : ℕ) → Rises a b es → b ≤ k → lookup es k ≡ None
+lookup-above a b [] k h p = refl
+lookup-above a b (e ∷ es) k h p = rw (ne_eqb e.0 k (omega (arith, h.1))) (lookup-above (e.0 + 1) b es k h.2 p)
+
+state_is : {X : Type 0} (s : State X) (nodes : List (ℕ × state.Node X)) (root count : ℕ) (flights : List (ℕ × Flight X)) (seats : List ℕ) (entries : ℕ) (charge : Option ℕ)
+    → s.nodes ≡ nodes → s.root ≡ root → s.count ≡ count → s.flights ≡ flights → s.seats ≡ seats → s.entries ≡ entries → s.charge ≡ charge
+    → s ≡ record { nodes = nodes; root = root; count = count; flights = flights; seats = seats; entries = entries; charge = charge }
+state_is s nodes root count flights seats entries charge a b c d e f g = rw (← a, ← b, ← c, ← d, ← e, ← f, ← g) refl
 
 module _ {X : Type 0} (lives : List (ℕ × Life)) where
   nodes-rise : (n : ℕ) (slots : List (Option (Stored X))) → Rises n (n + length slots) (nodes_from lives n slots)
@@ -144,3 +157,118 @@ module _ {P M : Type 0} (meaning : P → M) where
   meant_state w =
       ap (λ ns. record (meant meaning (state_of w)) { nodes = ns }) (nodes-mapped w.pins.slots 0 w.slots)
       ∙ ap (λ fs. record (state_of (meant_world meaning w)) { flights = fs }) (flights-mapped w.pins w.calls)
+
+-- whether a number is in a list after it was entered or taken out
+seat_in : (k : ℕ) (xs : List ℕ) → is_in k (with_seat k xs) ≡ true
+seat_in k [] = rw (eq-eqb k k refl)
+seat_in k (x ∷ xs) =
+    elim (cases_order x k) [
+      | inl same ↦ rw (le-ltb x k (omega arith), eq-eqb x k same, eq-eqb x k same)
+      | inr (inl less) ↦ rw (lt-ltb x k less, ne_eqb x k (omega arith)) (seat_in k xs)
+      | inr (inr more) ↦ rw (le-ltb x k (omega arith), ne_eqb x k (omega arith), eq-eqb k k refl)
+    ]
+
+seat_other : (k j : ℕ) (xs : List ℕ) → k ≢ j → is_in j (with_seat k xs) ≡ is_in j xs
+seat_other k j [] d = rw (ne_eqb k j d)
+seat_other k j (x ∷ xs) d =
+    elim (cases_order x k) [
+      | inl same ↦ rw (le-ltb x k (omega arith), eq-eqb x k same)
+      | inr (inl less) ↦ rw (lt-ltb x k less) (ap (λ b. (x == j) || b) (seat_other k j xs d))
+      | inr (inr more) ↦ rw (le-ltb x k (omega arith), ne_eqb x k (omega arith), ne_eqb k j d)
+    ]
+
+seat_off : (k : ℕ) (xs : List ℕ) → is_in k (off k xs) ≡ false
+seat_off k [] = refl
+seat_off k (x ∷ xs) =
+    elim (eqb_tells x k) [
+      | inl at ↦ rw at.0 (seat_off k xs)
+      | inr far ↦ rw (far.0, far.0) (seat_off k xs)
+    ]
+
+seat_kept : (k j : ℕ) (xs : List ℕ) → k ≢ j → is_in j (off k xs) ≡ is_in j xs
+seat_kept k j [] d = refl
+seat_kept k j (x ∷ xs) d =
+    elim (cases_eq x k) [
+      | inl same ↦ rw (eq-eqb x k same, ne_eqb x j (omega arith)) (seat_kept k j xs d)
+      | inr other ↦ rw (ne_eqb x k other) (ap (λ b. (x == j) || b) (seat_kept k j xs d))
+    ]
+
+seat_here : (b : Bool) (k : ℕ) (xs : List ℕ) → is_in k (if b then with_seat k xs else off k xs) ≡ b
+seat_here true k xs = seat_in k xs
+seat_here false k xs = seat_off k xs
+
+seat_away : (b : Bool) (k j : ℕ) (xs : List ℕ) → k ≢ j → is_in j (if b then with_seat k xs else off k xs) ≡ is_in j xs
+seat_away true k j xs d = seat_other k j xs d
+seat_away false k j xs d = seat_kept k j xs d
+
+seats-at : (seats : List (ℕ × Seat)) (id : ℕ) → is_in id (seats_on seats) ≡ seated_in (entry_at seats id)
+seats-at [] id = refl
+seats-at ((k, seat) ∷ seats) id =
+    elim (cases_eq k id) [
+      | inl same ↦ ap (λ j. is_in j (seats_on ((k, seat) ∷ seats))) (sym same) ∙ seat_here seat.seated k (seats_on seats) ∙ ap seated_in (sym (entry-first (k, seat) seats id same))
+      | inr other ↦ seat_away seat.seated k id (seats_on seats) other ∙ seats-at seats id ∙ ap seated_in (sym (entry-next (k, seat) seats id other))
+    ]
+
+-- whether a reader sees room kept for a number
+pub shown_seat : {X : Type 0} (w : World X) (id : ℕ) → is_in id (state_of w).seats ≡ is_seated w.pins id
+shown_seat w id = seats-at w.pins.seats id
+
+module _ {X : Type 0} (w w' : World X) where
+  -- all but the calls is as it was
+  pub record SameButCalls : Type 0 where
+    pub slots : w'.slots ≡ w.slots
+    pub lives : w'.pins.slots ≡ w.pins.slots
+    pub count : w'.pins.count ≡ w.pins.count
+    pub seats : seats_on w'.pins.seats ≡ seats_on w.pins.seats
+    pub root : w'.root ≡ w.root
+    pub entries : w'.entries ≡ w.entries
+    pub charge : w'.charge ≡ w.charge
+
+  -- all calls but one number's are as they were
+  pub record OtherCallsStay (id : ℕ) : Type 0 where
+    pub records : (o : ℕ) → o ≢ id → call_of w' o ≡ call_of w o
+    pub pins : (o : ℕ) → o ≢ id → pin_of w'.pins o ≡ pin_of w.pins o
+
+  state_but_calls : SameButCalls → (fs : List (ℕ × Flight X)) → (state_of w').flights ≡ fs → state_of w' ≡ record (state_of w) { flights = fs }
+  state_but_calls h fs is =
+      let nodes : (state_of w').nodes ≡ (state_of w).nodes = ap (λ lives. nodes_from lives 0 w'.slots) h.lives ∙ ap (nodes_from w.pins.slots 0) h.slots in
+      let root = h.root in
+      let count = h.count in
+      let seats = h.seats in
+      let entries = h.entries in
+      let charge = h.charge in
+      state_is (state_of w') (state_of w).nodes w.root w.pins.count fs (seats_on w.pins.seats) w.entries w.charge nodes root count is seats entries charge
+
+  flights_by : (id : ℕ) (fs : List (ℕ × Flight X)) → IsMap fs → lookup fs id ≡ flight_in (call_of w' id) (pin_of w'.pins id) → ((o : ℕ) → o ≢ id → lookup fs o ≡ lookup (state_of w).flights o)
+      → OtherCallsStay id → (state_of w').flights ≡ fs
+  flights_by id fs map here away others =
+      same_from_lookups 0 (2 ^ 64) 0 (2 ^ 64) (state_of w').flights fs (flights_map w') map (λ k.
+      elim (cases_lt k (2 ^ 64)) [
+        | inr wide ↦ lookup-above 0 (2 ^ 64) (state_of w').flights k (flights_map w') wide ∙ sym (lookup-above 0 (2 ^ 64) fs k map wide)
+        | inl small ↦
+            elim (cases_eq k id) [
+              | inl same ↦ shown_flight w' k small ∙ ap (λ j. flight_in (call_of w' j) (pin_of w'.pins j)) same ∙ sym here ∙ ap (lookup fs) (sym same)
+              | inr other ↦
+                  shown_flight w' k small ∙ ap (λ r. flight_in r (pin_of w'.pins k)) (others.records k other) ∙ ap (flight_in (call_of w k)) (others.pins k other)
+                  ∙ sym (shown_flight w k small) ∙ sym (away k other)
+            ]
+      ])
+
+  -- ONE NUMBER'S CALL changed, and all else stayed
+  pub call_put : (id pin : ℕ) (r : Record X) → id < 2 ^ 64 → call_of w' id ≡ Some r → pin_of w'.pins id ≡ Some pin → OtherCallsStay id → SameButCalls
+      → state_of w' ≡ with_call (state_of w) id (flight pin r)
+  call_put id pin r small here pinned others rest =
+      let old : List (ℕ × Flight X) = (state_of w).flights in
+      state_but_calls rest (put old id (flight pin r))
+      (flights_by id (put old id (flight pin r)) (Rises-put 0 (2 ^ 64) old id (flight pin r) (flights_map w) (omega arith) small)
+      (lookup-put_same old id (flight pin r) ∙ sym (ap (λ x. flight_in x (pin_of w'.pins id)) here ∙ ap (flight_in (Some r)) pinned))
+      (λ o d. lookup-put_other old id (flight pin r) o d) others)
+
+  -- and one that is no longer in flight
+  pub call_gone : (id : ℕ) → call_of w' id ≡ None → OtherCallsStay id → SameButCalls → state_of w' ≡ record (state_of w) { flights = without (state_of w).flights id }
+  call_gone id gone others rest =
+      let old : List (ℕ × Flight X) = (state_of w).flights in
+      state_but_calls rest (without old id)
+      (flights_by id (without old id) (Rises-without 0 (2 ^ 64) old id (flights_map w))
+      (lookup-without_same 0 (2 ^ 64) old id (flights_map w) ∙ sym (ap (λ x. flight_in x (pin_of w'.pins id)) gone))
+      (λ o d. lookup-without_other old id o d) others)
