@@ -1,3 +1,4 @@
+pub mod Changes
 pub mod Entries
 pub mod Options
 pub mod Sizes

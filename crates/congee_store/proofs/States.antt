@@ -1,5 +1,5 @@
 -- The laws of what a reader sees of the inside.
-use Rattle.std.proofs.Common.{◌≡◌, ◌≢◌, ℕ, zero, suc, ◌+◌, ◌<◌, ◌≤◌, ◌^◌, Bool, true, false, List, [], ◌∷◌, length, map, Option, Some, None, if◌then◌else◌, nat_lt, ◌==◌, ◌||◌, inl, inr, refl, ap, sym, subst, ◌∙◌, arith, slice_index_or}
+use Rattle.std.proofs.Common.{◌≡◌, ◌≢◌, ℕ, zero, suc, ◌+◌, ◌<◌, ◌≤◌, ◌^◌, Bool, true, false, List, [], ◌∷◌, length, map, Option, Some, None, if◌then◌else◌, ◌==◌, ◌||◌, inl, inr, refl, ap, sym, subst, ◌∙◌, arith, slice_index_or}
 use Rattle.std.proofs.lemmas.Bool.{lt-ltb, le-ltb, eq-eqb, ne_eqb, cases_eq, cases_lt, cases_order}
 use Rattle.std.proofs.lemmas.Bool.Decides.{eqb_tells}
 use Rattle.congee_map.specs.Map.{lookup, put, without, with_answer, Rises, IsMap}
@@ -18,15 +18,10 @@ use Rattle.congee_store.specs.declared.stage.Stored.{Stored}
 use Rattle.congee_store.specs.inner.Meant.{meant_stored, meant_slots, meant_record, meant_calls, meant_world}
 use Rattle.congee_store.specs.inner.Shown.{shown, nodes_from, flight, flight_in, with_flight, flights_on, with_seat, seats_on, state_of}
 use Rattle.congee_store.specs.inner.Turns.{Shows}
-use Rattle.congee_store.specs.inner.World.{World, Node, node_of, table_of, record_in, call_of}
-use Rattle.congee_store.proofs.Entries.{entry-first, entry-next, answer_same, answer_other, Rises-answer, lookup-mapped, entry-mapped, answer-mapped, slot-mapped}
+use Rattle.congee_store.specs.inner.World.{World, node_of, table_of, record_in, call_of}
+use Rattle.congee_store.proofs.Entries.{lookup-above, entry-first, entry-next, answer_same, answer_other, Rises-answer, entry-mapped, answer-mapped, slot-mapped}
 
--- a key above the range isn't there
-lookup-above : {V : Type 0} (a b : ℕ) (es : List (ℕ × V)) (k : ℕ) → Rises a b es → b ≤ k → lookup es k ≡ None
-lookup-above a b [] k h p = refl
-lookup-above a b (e ∷ es) k h p = rw (ne_eqb e.0 k (omega (arith, h.1))) (lookup-above (e.0 + 1) b es k h.2 p)
-
-state_is : {X : Type 0} (s : State X) (nodes : List (ℕ × state.Node X)) (root count : ℕ) (flights : List (ℕ × Flight X)) (seats : List ℕ) (entries : ℕ) (charge : Option ℕ)
+pub state_is : {X : Type 0} (s : State X) (nodes : List (ℕ × state.Node X)) (root count : ℕ) (flights : List (ℕ × Flight X)) (seats : List ℕ) (entries : ℕ) (charge : Option ℕ)
     → s.nodes ≡ nodes → s.root ≡ root → s.count ≡ count → s.flights ≡ flights → s.seats ≡ seats → s.entries ≡ entries → s.charge ≡ charge
     → s ≡ record { nodes = nodes; root = root; count = count; flights = flights; seats = seats; entries = entries; charge = charge }
 state_is s nodes root count flights seats entries charge a b c d e f g = rw (← a, ← b, ← c, ← d, ← e, ← f, ← g) refl
@@ -93,8 +88,11 @@ module _ {X : Type 0} where
   pub shown_node : (w : World X) (s : ℕ) → lookup (state_of w).nodes s ≡ shown (table_of w s)
   shown_node w s = nodes-at w.pins.slots 0 w.slots s s (omega arith)
 
+  pub nodes_rise : (w : World X) → Rises 0 (length w.slots) (state_of w).nodes
+  nodes_rise w = Rises-wider 0 (0 + length w.slots) 0 (length w.slots) (nodes_from w.pins.slots 0 w.slots) (omega arith) (omega arith) (nodes-rise w.pins.slots 0 w.slots)
+
   pub nodes_map : (w : World X) → length w.slots < 2 ^ 64 → IsMap (state_of w).nodes
-  nodes_map w narrow = Rises-wider 0 (0 + length w.slots) 0 (2 ^ 64) (nodes_from w.pins.slots 0 w.slots) (omega arith) (omega arith) (nodes-rise w.pins.slots 0 w.slots)
+  nodes_map w narrow = Rises-wider 0 (length w.slots) 0 (2 ^ 64) (state_of w).nodes (omega arith) (omega arith) (nodes_rise w)
 
   pub shown_flight : (w : World X) (id : ℕ) → id < 2 ^ 64 → lookup (state_of w).flights id ≡ flight_in (call_of w id) (pin_of w.pins id)
   shown_flight w id small = flights-at w.pins w.calls id small

@@ -1,0 +1,93 @@
+-- What a reader sees where one slot's node changed, and what the content of a state depends on.
+use Rattle.std.proofs.Common.{◌≡◌, ◌≢◌, ℕ, ◌+◌, ◌<◌, ◌≤◌, List, length, Some, None, inl, inr, ap, sym, subst, ◌∙◌, arith}
+use Rattle.std.proofs.lemmas.Bool.{cases_eq}
+use Rattle.congee_map.specs.Map.{Pairs, lookup, put, without, Rises}
+use Rattle.congee_map.proofs.MapLaws.{Rises-wider, Rises-put, Rises-without, lookup-put_same, lookup-put_other, lookup-without_same, lookup-without_other, same_from_lookups}
+use Rattle.congee_node_table.proofs.KindLaws.{put-mapped, without-mapped}
+use Rattle.congee_node_table.specs.declared.child.Child.{Child}
+use Rattle.congee_protocol.specs.Content.{Reaches, at_root, by_child, HasEntry, Stands, IsContent}
+use Rattle.congee_protocol.specs.Meaning.{meant, node_of, flight_of}
+use Rattle.congee_protocol.specs.State.{State, Flight, with_node, with_call}
+use Rattle.congee_protocol.specs.State as state
+use Rattle.congee_store.specs.inner.Shown.{shown, publicity, state_of}
+use Rattle.congee_store.specs.inner.World.{World, Node, table_of}
+use Rattle.congee_store.proofs.Entries.{lookup-inside}
+use Rattle.congee_store.proofs.States.{shown_node, nodes_rise}
+
+module _ {P M : Type 0} (meaning : P → M) where
+  -- the meaning of a state with a node in a slot, with a number's call, and without it
+  pub meant_with_node : (s : State P) (slot : ℕ) (a : state.Node P) → meant meaning (with_node s slot a) ≡ with_node (meant meaning s) slot (node_of meaning a)
+  meant_with_node s slot a = ap (λ ns. record (meant meaning s) { nodes = ns }) (put-mapped (node_of meaning) s.nodes slot a)
+
+  pub meant_with_call : (s : State P) (id : ℕ) (call : Flight P) → meant meaning (with_call s id call) ≡ with_call (meant meaning s) id (flight_of meaning call)
+  meant_with_call s id call = ap (λ fs. record (meant meaning s) { flights = fs }) (put-mapped (flight_of meaning) s.flights id call)
+
+  pub meant_without_call : (s : State P) (id : ℕ) → meant meaning (record s { flights = without s.flights id }) ≡ record (meant meaning s) { flights = without (meant meaning s).flights id }
+  meant_without_call s id = ap (λ fs. record (meant meaning s) { flights = fs }) (without-mapped (flight_of meaning) s.flights id)
+
+module _ {X : Type 0} where
+  -- a node in its slot, as a reader sees it
+  abbrev pub reader_node : Node X → state.Node X
+  reader_node a = record { word = a.word; publicity = publicity a.standing; node = a.node }
+
+module _ {X : Type 0} (w w' : World X) where
+  -- the nodes in all slots but one are as they were
+  abbrev pub OtherNodesStay : ℕ → Type 0
+  OtherNodesStay slot = (o : ℕ) → o ≢ slot → table_of w' o ≡ table_of w o
+
+  -- no node changed
+  pub nodes_same : ((s : ℕ) → table_of w' s ≡ table_of w s) → (state_of w').nodes ≡ (state_of w).nodes
+  nodes_same same =
+      same_from_lookups 0 (length w'.slots) 0 (length w.slots) (state_of w').nodes (state_of w).nodes (nodes_rise w') (nodes_rise w)
+      (λ s. shown_node w' s ∙ ap shown (same s) ∙ sym (shown_node w s))
+
+  -- ONE SLOT'S NODE changed
+  pub node_put : (slot : ℕ) (a : Node X) → table_of w' slot ≡ Some a → OtherNodesStay slot → (state_of w').nodes ≡ put (state_of w).nodes slot (reader_node a)
+  node_put slot a here others =
+      let top : ℕ = length w.slots + length w'.slots in
+      let old : List (ℕ × state.Node X) = (state_of w).nodes in
+      let wide : Rises 0 top old = Rises-wider 0 (length w.slots) 0 top old (omega arith) (omega arith) (nodes_rise w) in
+      let shows : lookup (state_of w').nodes slot ≡ Some (reader_node a) = shown_node w' slot ∙ ap shown here in
+      let inside : (0 ≤ slot) × (slot < length w'.slots) = lookup-inside 0 (length w'.slots) (state_of w').nodes slot (reader_node a) (nodes_rise w') shows in
+      let small : slot < length w'.slots = inside.1 in
+      same_from_lookups 0 (length w'.slots) 0 top (state_of w').nodes (put old slot (reader_node a)) (nodes_rise w') (Rises-put 0 top old slot (reader_node a) wide (omega arith) (omega arith)) (λ s.
+      elim (cases_eq s slot) [
+        | inl same ↦ ap (lookup (state_of w').nodes) same ∙ shows ∙ sym (lookup-put_same old slot (reader_node a)) ∙ ap (lookup (put old slot (reader_node a))) (sym same)
+        | inr other ↦ shown_node w' s ∙ ap shown (others s other) ∙ sym (shown_node w s) ∙ sym (lookup-put_other old slot (reader_node a) s other)
+      ])
+
+  -- and one slot that became empty
+  pub node_gone : (slot : ℕ) → table_of w' slot ≡ None → OtherNodesStay slot → (state_of w').nodes ≡ without (state_of w).nodes slot
+  node_gone slot gone others =
+      let old : List (ℕ × state.Node X) = (state_of w).nodes in
+      same_from_lookups 0 (length w'.slots) 0 (length w.slots) (state_of w').nodes (without old slot) (nodes_rise w') (Rises-without 0 (length w.slots) old slot (nodes_rise w)) (λ s.
+      elim (cases_eq s slot) [
+        | inl same ↦
+            ap (lookup (state_of w').nodes) same ∙ shown_node w' slot ∙ ap shown gone ∙ sym (lookup-without_same 0 (length w.slots) old slot (nodes_rise w)) ∙ ap (lookup (without old slot)) (sym same)
+        | inr other ↦ shown_node w' s ∙ ap shown (others s other) ∙ sym (shown_node w s) ∙ sym (lookup-without_other old slot s other)
+      ])
+
+module _ {M : Type 0} (s t : State M) (nodes : (slot : ℕ) → lookup t.nodes slot ≡ lookup s.nodes slot) (root : t.root ≡ s.root) where
+  -- what is reachable depends on the nodes and the root alone
+  pub same_reaches : (slot : ℕ) → Reaches s slot → Reaches t slot
+  same_reaches _ at_root = subst (Reaches t) root at_root
+  same_reaches c (by_child above byte a r here there) = by_child above byte a (same_reaches above r) (nodes above ∙ here) there
+
+  abbrev pub same_entry : (slot byte : ℕ) (child : Child M) → HasEntry s slot byte child → HasEntry t slot byte child
+  same_entry slot byte child e = record { above = e.above; reaches = same_reaches slot e.reaches; here = nodes slot ∙ e.here; entry = e.entry }
+
+  pub same_stands : (key : ℕ) (value : M) → Stands s key value → Stands t key value
+  same_stands key value h = record { slot = h.slot; byte = h.byte; payload = same_entry h.slot h.byte _ h.payload; key_is = h.key_is }
+
+-- and so does the content
+pub same_content_by : {M : Type 0} (s t : State M) → ((slot : ℕ) → lookup t.nodes slot ≡ lookup s.nodes slot) → t.root ≡ s.root → (m : Pairs M) → IsContent s m → IsContent t m
+same_content_by s t nodes root m c = record {
+  map = c.map;
+  pairs = λ key v. (
+    (λ e. same_stands s t nodes root key v ((c.pairs key v).0 e)),
+    (λ h. (c.pairs key v).1 (same_stands t s (λ slot. sym (nodes slot)) (sym root) key v h)),
+  );
+}
+
+pub same_content : {M : Type 0} (s t : State M) → t.nodes ≡ s.nodes → t.root ≡ s.root → (m : Pairs M) → IsContent s m → IsContent t m
+same_content s t nodes root m c = same_content_by s t (λ slot. ap (λ ns. lookup ns slot) nodes) root m c
