@@ -9,9 +9,9 @@ use Rattle.congee_protocol.specs.Content.{Reaches, at_root, by_child, HasEntry, 
 use Rattle.congee_protocol.specs.Meaning.{meant, node_of, flight_of}
 use Rattle.congee_protocol.specs.State.{State, Flight, with_node, with_call}
 use Rattle.congee_protocol.specs.State as state
-use Rattle.congee_store.specs.inner.Shown.{shown, publicity, state_of}
+use Rattle.congee_store.specs.inner.Shown.{shown, state_of}
 use Rattle.congee_store.specs.inner.World.{World, Node, table_of}
-use Rattle.congee_store.proofs.Entries.{lookup-inside}
+use Rattle.congee_store.proofs.Reaching.{lookup-inside, one}
 use Rattle.congee_store.proofs.States.{shown_node, nodes_rise}
 
 module _ {P M : Type 0} (meaning : P → M) where
@@ -25,11 +25,6 @@ module _ {P M : Type 0} (meaning : P → M) where
   pub meant_without_call : (s : State P) (id : ℕ) → meant meaning (record s { flights = without s.flights id }) ≡ record (meant meaning s) { flights = without (meant meaning s).flights id }
   meant_without_call s id = ap (λ fs. record (meant meaning s) { flights = fs }) (without-mapped (flight_of meaning) s.flights id)
 
-module _ {X : Type 0} where
-  -- a node in its slot, as a reader sees it
-  abbrev pub reader_node : Node X → state.Node X
-  reader_node a = record { word = a.word; publicity = publicity a.standing; node = a.node }
-
 module _ {X : Type 0} (w w' : World X) where
   -- the nodes in all slots but one are as they were
   abbrev pub OtherNodesStay : ℕ → Type 0
@@ -42,18 +37,18 @@ module _ {X : Type 0} (w w' : World X) where
       (λ s. shown_node w' s ∙ ap shown (same s) ∙ sym (shown_node w s))
 
   -- ONE SLOT'S NODE changed
-  pub node_put : (slot : ℕ) (a : Node X) → table_of w' slot ≡ Some a → OtherNodesStay slot → (state_of w').nodes ≡ put (state_of w).nodes slot (reader_node a)
+  pub node_put : (slot : ℕ) (a : Node X) → table_of w' slot ≡ Some a → OtherNodesStay slot → (state_of w').nodes ≡ put (state_of w).nodes slot (one a)
   node_put slot a here others =
       let top : ℕ = length w.slots + length w'.slots in
       let old : List (ℕ × state.Node X) = (state_of w).nodes in
       let wide : Rises 0 top old = Rises-wider 0 (length w.slots) 0 top old (omega arith) (omega arith) (nodes_rise w) in
-      let shows : lookup (state_of w').nodes slot ≡ Some (reader_node a) = shown_node w' slot ∙ ap shown here in
-      let inside : (0 ≤ slot) × (slot < length w'.slots) = lookup-inside 0 (length w'.slots) (state_of w').nodes slot (reader_node a) (nodes_rise w') shows in
+      let shows : lookup (state_of w').nodes slot ≡ Some (one a) = shown_node w' slot ∙ ap shown here in
+      let inside : (0 ≤ slot) × (slot < length w'.slots) = lookup-inside 0 (length w'.slots) (state_of w').nodes slot (one a) (nodes_rise w') shows in
       let small : slot < length w'.slots = inside.1 in
-      same_from_lookups 0 (length w'.slots) 0 top (state_of w').nodes (put old slot (reader_node a)) (nodes_rise w') (Rises-put 0 top old slot (reader_node a) wide (omega arith) (omega arith)) (λ s.
+      same_from_lookups 0 (length w'.slots) 0 top (state_of w').nodes (put old slot (one a)) (nodes_rise w') (Rises-put 0 top old slot (one a) wide (omega arith) (omega arith)) (λ s.
       elim (cases_eq s slot) [
-        | inl same ↦ ap (lookup (state_of w').nodes) same ∙ shows ∙ sym (lookup-put_same old slot (reader_node a)) ∙ ap (lookup (put old slot (reader_node a))) (sym same)
-        | inr other ↦ shown_node w' s ∙ ap shown (others s other) ∙ sym (shown_node w s) ∙ sym (lookup-put_other old slot (reader_node a) s other)
+        | inl same ↦ ap (lookup (state_of w').nodes) same ∙ shows ∙ sym (lookup-put_same old slot (one a)) ∙ ap (lookup (put old slot (one a))) (sym same)
+        | inr other ↦ shown_node w' s ∙ ap shown (others s other) ∙ sym (shown_node w s) ∙ sym (lookup-put_other old slot (one a) s other)
       ])
 
   -- and one slot that became empty

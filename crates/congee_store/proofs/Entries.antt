@@ -2,12 +2,11 @@
 use Rattle.std.proofs.Common.{◌≡◌, ◌≢◌, ℕ, zero, suc, ◌+◌, ◌<◌, ◌≤◌, List, [], ◌∷◌, map, Option, Some, None, inl, inr, refl, ap, sym, ◌∙◌, arith, slice_index_or}
 use Rattle.std.proofs.lemmas.Bool.{lt-ltb, le-ltb, eq-eqb, ne_eqb, cases_eq, cases_lt}
 use Rattle.congee_map.specs.Map.{lookup, with_answer, Rises}
-use Rattle.congee_map.proofs.MapLaws.{lookup-below, Rises-put, Rises-without, lookup-put_same, lookup-put_other, lookup-without_same, lookup-without_other}
+use Rattle.congee_map.proofs.MapLaws.{Rises-put, Rises-without, lookup-put_same, lookup-put_other, lookup-without_same, lookup-without_other}
 use Rattle.congee_node_table.specs.inner.Kinds.{mapped}
 use Rattle.congee_node_table.proofs.KindLaws.{lookup-mapped_some, lookup-mapped_none, put-mapped, without-mapped}
 use Rattle.congee_protocol.specs.Meaning.{in_some}
 use Rattle.congee_sync.specs.Epoch.{entry_at}
-use Rattle.congee_store.proofs.Options.{none_some}
 
 module _ {X : Type 0} where
   -- the place of the first number, and of another
@@ -21,21 +20,10 @@ module _ {X : Type 0} where
         | inr more ↦ rw (le-ltb k e.0 more, ne_eqb k e.0 (λ x. other (sym x)))
       ]
 
-  -- a key above the range isn't there, and one that is there is inside
+  -- a key above the range isn't there
   pub lookup-above : (a b : ℕ) (es : List (ℕ × X)) (k : ℕ) → Rises a b es → b ≤ k → lookup es k ≡ None
   lookup-above a b [] k h p = refl
   lookup-above a b (e ∷ es) k h p = rw (ne_eqb e.0 k (omega (arith, h.1))) (lookup-above (e.0 + 1) b es k h.2 p)
-
-  pub lookup-inside : (a b : ℕ) (es : List (ℕ × X)) (k : ℕ) (v : X) → Rises a b es → lookup es k ≡ Some v → (a ≤ k) × (k < b)
-  lookup-inside a b es k v h e =
-      elim (cases_lt k a) [
-        | inl low ↦ absurd (none_some v (sym (lookup-below a b es k h low) ∙ e))
-        | inr from ↦
-            elim (cases_lt k b) [
-              | inl to ↦ (from, to)
-              | inr high ↦ absurd (none_some v (sym (lookup-above a b es k h high) ∙ e))
-            ]
-      ]
 
   -- an answer at a key
   pub answer_same : (a b : ℕ) (es : List (ℕ × X)) (k : ℕ) (o : Option X) → Rises a b es → lookup (with_answer es k o) k ≡ o

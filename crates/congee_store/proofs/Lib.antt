@@ -1,6 +1,9 @@
 pub mod Changes
+pub mod Contents
 pub mod Entries
+pub mod Formed
 pub mod Options
+pub mod Reaching
 pub mod Sizes
 pub mod States
 pub mod Ways

@@ -27,7 +27,7 @@ pub state_is : {X : Type 0} (s : State X) (nodes : List (ℕ × state.Node X)) (
 state_is s nodes root count flights seats entries charge a b c d e f g = rw (← a, ← b, ← c, ← d, ← e, ← f, ← g) refl
 
 module _ {X : Type 0} (lives : List (ℕ × Life)) where
-  nodes-rise : (n : ℕ) (slots : List (Option (Stored X))) → Rises n (n + length slots) (nodes_from lives n slots)
+  pub nodes-rise : (n : ℕ) (slots : List (Option (Stored X))) → Rises n (n + length slots) (nodes_from lives n slots)
   nodes-rise n [] = tt
   nodes-rise n (x ∷ xs) =
       let top : ℕ = n + length (x ∷ xs) in
