@@ -20,11 +20,6 @@ module _ {X : Type 0} where
         | inr more ↦ rw (le-ltb k e.0 more, ne_eqb k e.0 (λ x. other (sym x)))
       ]
 
-  -- a key above the range isn't there
-  pub lookup-above : (a b : ℕ) (es : List (ℕ × X)) (k : ℕ) → Rises a b es → b ≤ k → lookup es k ≡ None
-  lookup-above a b [] k h p = refl
-  lookup-above a b (e ∷ es) k h p = rw (ne_eqb e.0 k (omega (arith, h.1))) (lookup-above (e.0 + 1) b es k h.2 p)
-
   -- an answer at a key
   pub answer_same : (a b : ℕ) (es : List (ℕ × X)) (k : ℕ) (o : Option X) → Rises a b es → lookup (with_answer es k o) k ≡ o
   answer_same a b es k None h = lookup-without_same a b es k h

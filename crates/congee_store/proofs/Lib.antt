@@ -4,6 +4,7 @@ pub mod Entries
 pub mod Formed
 pub mod Options
 pub mod Reaching
+pub mod Rely
 pub mod Sizes
 pub mod States
 pub mod Ways

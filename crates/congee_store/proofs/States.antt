@@ -3,6 +3,7 @@ use Rattle.std.proofs.Common.{◌≡◌, ◌≢◌, ℕ, zero, suc, ◌+◌, ◌
 use Rattle.std.proofs.lemmas.Bool.{lt-ltb, le-ltb, eq-eqb, ne_eqb, cases_eq, cases_lt, cases_order}
 use Rattle.std.proofs.lemmas.Bool.Decides.{eqb_tells}
 use Rattle.congee_map.specs.Map.{lookup, put, without, with_answer, Rises, IsMap}
+use Rattle.congee_map.proofs.JoinLaws.{lookup-above}
 use Rattle.congee_map.proofs.MapLaws.{Rises-wider, Rises-put, Rises-without, lookup-put_same, lookup-put_other, lookup-without_same, lookup-without_other, same_from_lookups}
 use Rattle.congee_node_table.specs.inner.Kinds.{mapped}
 use Rattle.congee_protocol.specs.Meaning.{in_some, meant}
@@ -19,7 +20,7 @@ use Rattle.congee_store.specs.inner.Meant.{meant_stored, meant_slots, meant_reco
 use Rattle.congee_store.specs.inner.Shown.{shown, nodes_from, flight, flight_in, with_flight, flights_on, with_seat, seats_on, state_of}
 use Rattle.congee_store.specs.inner.Turns.{Shows}
 use Rattle.congee_store.specs.inner.World.{World, node_of, table_of, record_in, call_of}
-use Rattle.congee_store.proofs.Entries.{lookup-above, entry-first, entry-next, answer_same, answer_other, Rises-answer, entry-mapped, answer-mapped, slot-mapped}
+use Rattle.congee_store.proofs.Entries.{entry-first, entry-next, answer_same, answer_other, Rises-answer, entry-mapped, answer-mapped, slot-mapped}
 
 pub state_is : {X : Type 0} (s : State X) (nodes : List (ℕ × state.Node X)) (root count : ℕ) (flights : List (ℕ × Flight X)) (seats : List ℕ) (entries : ℕ) (charge : Option ℕ)
     → s.nodes ≡ nodes → s.root ≡ root → s.count ≡ count → s.flights ≡ flights → s.seats ≡ seats → s.entries ≡ entries → s.charge ≡ charge
