@@ -28,7 +28,8 @@ use Rattle.congee_store.specs.inner.Turns.{Shows}
 use Rattle.congee_store.specs.inner.World.{World, Standing, is_private, is_linked, is_detached, is_retired, Node, Table, node_of, table_of, entry, call_of}
 use Rattle.congee_store.proofs.Ways.{Begins-trans, Begins-both, get_or-begins, longer-begins, slots_same}
 use Rattle.congee_store.proofs.Reaching.{lookup-inside, last-byte, one, shown_at, reaches_linked, linked_reaches, onward}
-use Rattle.congee_store.proofs.States.{shown_node, shown_flight, nodes_map, flights_map, nodes-rise}
+use Rattle.congee_store.proofs.Narrow.{nodes_narrow}
+use Rattle.congee_store.proofs.States.{shown_node, shown_flight, flights_map, nodes-rise}
 use Rattle.congee_store.proofs.States as states
 use Rattle.congee_store.proofs.Options.{none_some, some_same}
 
@@ -295,7 +296,7 @@ module _ {M : Type 0} (Granted : Type 0) (w : World M) (sound : IsSound Granted 
   well_formed =
       let p = sound.placed in
       record {
-        nodes = nodes_map w sound.narrow;
+        nodes = nodes_narrow w sound.narrow;
         flights = flights_map w;
         root = one p.top;
         root_here = shown_node w w.root ∙ ap shown p.top_linked.here;

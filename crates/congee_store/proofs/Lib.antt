@@ -2,9 +2,13 @@ pub mod Changes
 pub mod Contents
 pub mod Entries
 pub mod Formed
+pub mod Narrow
 pub mod Options
 pub mod Reaching
 pub mod Rely
+pub mod Seats
 pub mod Sizes
 pub mod States
 pub mod Ways
+pub mod WalkLaws
+pub mod Walked

@@ -92,9 +92,6 @@ module _ {X : Type 0} where
   pub nodes_rise : (w : World X) → Rises 0 (length w.slots) (state_of w).nodes
   nodes_rise w = Rises-wider 0 (0 + length w.slots) 0 (length w.slots) (nodes_from w.pins.slots 0 w.slots) (omega arith) (omega arith) (nodes-rise w.pins.slots 0 w.slots)
 
-  pub nodes_map : (w : World X) → length w.slots < 2 ^ 64 → IsMap (state_of w).nodes
-  nodes_map w narrow = Rises-wider 0 (length w.slots) 0 (2 ^ 64) (state_of w).nodes (omega arith) (omega arith) (nodes_rise w)
-
   pub shown_flight : (w : World X) (id : ℕ) → id < 2 ^ 64 → lookup (state_of w).flights id ≡ flight_in (call_of w id) (pin_of w.pins id)
   shown_flight w id small = flights-at w.pins w.calls id small
 

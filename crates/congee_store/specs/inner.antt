@@ -4,3 +4,4 @@ pub mod Places
 pub mod Shown
 pub mod Facts
 pub mod Turns
+pub mod Walks

@@ -266,6 +266,6 @@ pub record IsSound {M : Type 0} (Granted : Type 0) (w : World M) : Type 0 where
       → Holding r.stage s → Holding q.stage s → ⊥
   pub held : (s : ℕ) → NeedsHolder (table_of w) s
       → (id : ℕ) × (r : Record M) × (call_of w id ≡ Some r) × Holding r.stage s
-  pub narrow : length w.slots < 2 ^ 64
+  pub narrow : (s : ℕ) (a : Node M) → table_of w s ≡ Some a → s < 2 ^ 64
   pub charged : Covers w.charge (sizes_of w.slots)
   pub counted : (m : Pairs M) → IsContent (state_of w) m → w.entries ≡ length m
