@@ -5,5 +5,6 @@
 #![tactic(auto)]
 
 pub mod calls;
+pub mod content;
 pub mod stage;
 pub mod store;
