@@ -1,1 +1,3 @@
+pub mod Below
+pub mod Prefixes
 pub mod Trees
