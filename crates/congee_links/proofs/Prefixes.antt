@@ -46,6 +46,22 @@ begins-or p q false e = inr (λ h. let holds : begins p q ≡ true = h.holds in 
 pub begins_or : (p q : List ℕ) → Begins p q ⊎ (Begins p q → ⊥)
 begins_or p q = begins-or p q (begins p q) refl
 
+-- two beginnings of one length are one
+same-front : (p q x y : List ℕ) → p ++ x ≡ q ++ y → length p ≡ length q → p ≡ q
+same-front [] [] x y e l = refl
+same-front [] (b ∷ q) x y e l = absurd (omega (arith, l))
+same-front (a ∷ p) [] x y e l = absurd (omega (arith, l))
+same-front (a ∷ p) (b ∷ q) x y e l =
+    let head : a ≡ b = cc in
+    let tail : p ++ x ≡ q ++ y = cc in
+    let rest : p ≡ q = same-front p q x y tail (omega (arith, l)) in cc
+
+pub same_beginning : (p q k : List ℕ) → Begins p k → Begins q k → length p ≡ length q → p ≡ q
+same_beginning p q k b c l =
+    let x = after b in
+    let y = after c in
+    same-front p q x.rest y.rest (sym x.is ∙ y.is) l
+
 -- the bytes of a key, and the key of eight bytes
 pub bytes-of_key : (key : ℕ) → AreBytes (bytes_of key)
 bytes-of_key key = (omega arith, (omega arith, (omega arith, (omega arith, (omega arith, (omega arith, (omega arith, (omega arith, tt))))))))

@@ -1,0 +1,139 @@
+-- What an event does to one slot, seen by the calls that it isn't an event of.
+use Rattle.std.proofs.Common.{◌≡◌, ◌≢◌, ℕ, ◌+◌, ◌<◌, ◌≤◌, List, [], ◌∷◌, Option, Some, None, ◌⊎◌, ◌↔◌, inl, inr, refl, sym, subst, ap, ◌∙◌, arith}
+use Rattle.std.proofs.lemmas.Bool.Decides.{eqb_tells}
+use Rattle.congee_sync.specs.Lock.{IsFree, IsLocked, IsObsolete}
+use Rattle.congee_store.specs.inner.World.{Standing, is_private, is_linked, is_detached, is_retired, Node, Table}
+use Rattle.congee_store.specs.inner.Facts.{IsSafe, IsIn, Kept, Remains, Guarantees, PrivateStays, NeedsHolder}
+use Rattle.congee_store.proofs.Options.{some_same, none_some}
+use Rattle.congee_links.proofs.Trees.{IsWorded}
+
+pub free_obsolete : (word : ℕ) → IsFree word → IsObsolete word → ⊥
+free_obsolete word free obsolete = omega (arith, free, obsolete)
+
+pub free_locked : (word : ℕ) → IsFree word → IsLocked word → ⊥
+free_locked word free locked = omega (arith, free, locked)
+
+pub linked_private : is_linked ≡ is_private → ⊥
+linked_private e = cc
+
+pub linked_retired : (stamp : Option ℕ) → is_linked ≡ is_retired stamp → ⊥
+linked_retired stamp e = cc
+
+pub private_retired : (stamp : Option ℕ) → is_private ≡ is_retired stamp → ⊥
+private_retired stamp e = cc
+
+pub detached_retired : (stamp : Option ℕ) → is_detached ≡ is_retired stamp → ⊥
+detached_retired stamp e = cc
+
+pub detached_private : is_detached ≡ is_private → ⊥
+detached_private e = cc
+
+pub retired_private : (stamp : Option ℕ) → is_retired stamp ≡ is_private → ⊥
+retired_private stamp e = cc
+
+module _ {M : Type 0} where
+  -- a node that isn't retired isn't obsolete
+  pub unretired : (a : Node M) → IsWorded a → ((stamp : Option ℕ) → a.standing ≡ is_retired stamp → ⊥) → IsObsolete a.word → ⊥
+  unretired a w not o = let r = w.obsolete.0 o in not r.0 r.1
+
+  -- a node that is linked or private, and not obsolete
+  pub worded_here : (a : Node M) → (a.standing ≡ is_linked) ⊎ (a.standing ≡ is_private) → (IsObsolete a.word → ⊥) → IsWorded a
+  worded_here a at fresh = record {
+    free = λ f. at;
+    locked = λ o. absurd (fresh o);
+    obsolete = ((λ (o : IsObsolete a.word). absurd (fresh o)), (λ r. absurd (elim at [
+      | inl e ↦ linked_retired r.0 (sym e ∙ r.1)
+      | inr e ↦ private_retired r.0 (sym e ∙ r.1)
+    ])));
+  }
+
+  -- a detached node, locked and not obsolete
+  pub worded_detached : (a : Node M) → a.standing ≡ is_detached → IsLocked a.word → (IsObsolete a.word → ⊥) → IsWorded a
+  worded_detached a at locked fresh = record {
+    free = λ f. absurd (free_locked a.word f locked);
+    locked = λ o. locked;
+    obsolete = ((λ (o : IsObsolete a.word). absurd (fresh o)), (λ r. absurd (detached_retired r.0 (sym at ∙ r.1))));
+  }
+
+  -- what an event whose call has these nodes does to one slot: the words stay right, calls with these pins keep what they know
+  -- of the node, and a private node of another call stays
+  pub record StepsAt (t t' : Table M) (Mine May : ℕ → Type 0) (s : ℕ) : Type 0 where
+    pub worded : (b : Node M) → t' s ≡ Some b → IsWorded b
+    pub remains : (pin : ℕ) → May pin → (a : Node M) → t s ≡ Some a → IsSafe pin a.standing → Remains t' Mine pin s a
+    pub stays : (a : Node M) → t s ≡ Some a → a.standing ≡ is_private → (Mine s → ⊥) → t' s ≡ Some a
+
+  pub kept_itself : (pin : ℕ) (a : Node M) → IsSafe pin a.standing → Kept pin a a
+  kept_itself pin a safe = record { prefix = refl; word = omega arith; same = λ f e. refl; safe = safe }
+
+  module _ (t t' : Table M) (Mine May : ℕ → Type 0) (s : ℕ) where
+    -- a slot that stays
+    pub untouched : t' s ≡ t s → ((a : Node M) → t s ≡ Some a → IsWorded a) → StepsAt t t' Mine May s
+    untouched same worded = record {
+      worded = λ b h. worded b (sym same ∙ h);
+      remains = λ pin may a h safe. record { node = a; here = same ∙ h; kept = kept_itself pin a safe; changed = inl refl };
+      stays = λ a h p other. same ∙ h;
+    }
+
+    -- a node that isn't private changes, held by the call or free
+    pub changes : (a b : Node M) → t s ≡ Some a → t' s ≡ Some b → (a.standing ≡ is_private → ⊥) → IsWorded b → b.node.prefix ≡ a.node.prefix → a.word ≤ b.word
+        → (IsFree b.word → b.word ≡ a.word → b.node ≡ a.node) → ((pin : ℕ) → May pin → IsSafe pin b.standing) → Mine s ⊎ IsFree a.word → StepsAt t t' Mine May s
+    changes a b before after public worded prefix word same safe mine = record {
+      worded = λ c h. subst (λ (z : Node M). IsWorded z) (some_same b c (sym after ∙ h)) worded;
+      remains = λ pin may c h was. subst (λ (z : Node M). Remains t' Mine pin s z) (some_same a c (sym before ∙ h)) (record {
+        node = b;
+        here = after;
+        kept = record { prefix = prefix; word = word; same = same; safe = safe pin may };
+        changed = inr mine;
+      });
+      stays = λ c h p other. absurd (public (ap (λ (z : Node M). z.standing) (some_same a c (sym before ∙ h)) ∙ p));
+    }
+
+    unsafe : (a : Node M) (pin : ℕ) → a.standing ≡ is_private → IsSafe pin a.standing → ⊥
+    unsafe a pin p safe = subst (λ z. IsSafe pin z) p safe
+
+    -- a private node of the call becomes another, or goes
+    pub owned : (a : Node M) → t s ≡ Some a → a.standing ≡ is_private → Mine s → ((b : Node M) → t' s ≡ Some b → IsWorded b) → StepsAt t t' Mine May s
+    owned a before p mine worded = record {
+      worded = worded;
+      remains = λ pin may c h safe. absurd (unsafe c pin (ap (λ (z : Node M). z.standing) (some_same c a (sym h ∙ before)) ∙ p) safe);
+      stays = λ c h q other. absurd (other mine);
+    }
+
+    -- an empty slot gets a node
+    pub comes : t s ≡ None → ((b : Node M) → t' s ≡ Some b → IsWorded b) → StepsAt t t' Mine May s
+    comes before worded = record {
+      worded = worded;
+      remains = λ pin may c h safe. absurd (none_some c (sym before ∙ h));
+      stays = λ c h q other. absurd (none_some c (sym before ∙ h));
+    }
+
+    late : (a : Node M) (pin stamp : ℕ) → a.standing ≡ is_retired (Some stamp) → stamp < pin → IsSafe pin a.standing → ⊥
+    late a pin stamp r less safe = let early : pin ≤ stamp = subst (λ z. IsSafe pin z) r safe in omega (arith, early, less)
+
+    -- a retired node goes, for calls that started after its stamp
+    pub goes : (a : Node M) (stamp : ℕ) → t s ≡ Some a → a.standing ≡ is_retired (Some stamp) → t' s ≡ None → ((pin : ℕ) → May pin → stamp < pin) → StepsAt t t' Mine May s
+    goes a stamp before r after started = record {
+      worded = λ b h. absurd (none_some b (sym after ∙ h));
+      remains = λ pin may c h safe. absurd (late c pin stamp (ap (λ (z : Node M). z.standing) (some_same c a (sym h ∙ before)) ∙ r) (started pin may) safe);
+      stays = λ c h q other. absurd (retired_private (Some stamp) (sym r ∙ (ap (λ (z : Node M). z.standing) (some_same a c (sym before ∙ h)) ∙ q)));
+    }
+
+  -- which nodes need no holder
+  pub none_needs : (t : Table M) (s : ℕ) → t s ≡ None → NeedsHolder t s → ⊥
+  none_needs t s none need = none_some need.node (sym none ∙ need.here)
+
+  pub retired_needs : (t : Table M) (s : ℕ) (a : Node M) (stamp : Option ℕ) → t s ≡ Some a → a.standing ≡ is_retired stamp → IsObsolete a.word → NeedsHolder t s → ⊥
+  retired_needs t s a stamp here r o need =
+      let is : need.node ≡ a = some_same need.node a (sym need.here ∙ here) in
+      elim need.why [
+        | inl p ↦ retired_private stamp (sym r ∙ (ap (λ (z : Node M). z.standing) (sym is) ∙ p))
+        | inr l ↦ l.1 (subst (λ (z : Node M). IsObsolete z.word) (sym is) o)
+      ]
+
+  pub free_needs : (t : Table M) (s : ℕ) (a : Node M) → t s ≡ Some a → a.standing ≡ is_linked → IsFree a.word → NeedsHolder t s → ⊥
+  free_needs t s a here l free need =
+      let is : need.node ≡ a = some_same need.node a (sym need.here ∙ here) in
+      elim need.why [
+        | inl p ↦ linked_private (sym l ∙ (ap (λ (z : Node M). z.standing) (sym is) ∙ p))
+        | inr held ↦ free_locked a.word free (subst (λ (z : Node M). IsLocked z.word) is held.0)
+      ]
