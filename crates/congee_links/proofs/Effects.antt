@@ -1,9 +1,10 @@
 -- WHAT AN EVENT THAT WRITES LEAVES of a table: the place facts, what other calls know, and which nodes need a holder.
-use Rattle.std.proofs.Common.{◌≡◌, ◌≢◌, ℕ, List, [], ◌∷◌, Option, Some, None, ◌⊎◌, inl, inr, refl, sym, subst, ◌∙◌}
+use Rattle.std.proofs.Common.{◌≡◌, ◌≢◌, ℕ, List, [], ◌∷◌, Option, Some, None, ◌⊎◌, inl, inr, refl, sym, subst, ap, ◌∙◌}
 use Rattle.std.proofs.lemmas.Bool.Decides.{eqb_tells}
 use Rattle.congee_store.specs.inner.World.{Node, Table}
 use Rattle.congee_store.specs.inner.Facts.{IsIn, IsPlaced, Guarantees, PrivateStays, NeedsHolder}
-use Rattle.congee_links.proofs.Trees.{IsTree, tree_of, placed_tree, tree_placed, placed_worded}
+use Rattle.congee_links.proofs.Trees.{Tree, IsTree, Pays, linked_in, tree_of, placed_tree, tree_placed, placed_worded, tree_same}
+use Rattle.congee_links.proofs.Pairs.{SamePairs, same_pairs}
 use Rattle.congee_links.proofs.Slots.{StepsAt, untouched}
 
 -- the number is none of these
@@ -18,6 +19,10 @@ AllIn Q (s ∷ slots) = Q s × AllIn Q slots
 pub all_in : (Q : ℕ → Type 0) (slots : List ℕ) → AllIn Q slots → (s : ℕ) → IsIn s slots → Q s
 all_in Q [] all s h = absurd h
 all_in Q (x ∷ slots) all s h = elim h [ inl e ↦ subst Q e all.0 | inr later ↦ all_in Q slots all.1 s later ]
+
+pub all_of : (Q R : ℕ → Type 0) (slots : List ℕ) → ((s : ℕ) → Q s → R s) → AllIn Q slots → AllIn R slots
+all_of Q R [] on all = tt
+all_of Q R (s ∷ slots) on all = (on s all.0, all_of Q R slots on all.1)
 
 pub in_or : (s : ℕ) (slots : List ℕ) → IsIn s slots ⊎ Beside s slots
 in_or s [] = inr (λ h. h)
@@ -65,3 +70,40 @@ module _ {M : Type 0} where
           | inr out ↦ inr (still_needs t t' s (others s out) need, out)
         ];
       }
+
+  -- THE LINKED NODES STAY: so do the place facts, and all pairs
+  abbrev pub SameTree : Table M → Table M → ℕ → Type 0
+  SameTree t t' s = tree_of t' s ≡ tree_of t s
+
+  pub same_tree : (t t' : Table M) (written : List ℕ) → OthersStay t t' written → AllIn (SameTree t t') written → (s : ℕ) → SameTree t t' s
+  same_tree t t' written others same s =
+      elim (in_or s written) [
+        | inl one ↦ all_in (SameTree t t') written same s one
+        | inr out ↦ ap linked_in (others s out)
+      ]
+
+  pub same_tree_leaves : (t t' : Table M) (root : ℕ) (Mine May : ℕ → Type 0) (written named : List ℕ) → IsPlaced t root → OthersStay t t' written
+      → AllIn (SameTree t t') written → AllIn (StepsAt t t' Mine May) written → AllIn (λ s. NeedsHolder t' s → IsIn s named) written → Leaves t t' root Mine May written named
+  same_tree_leaves t t' root Mine May written named placed others same steps needs =
+      leaves t t' root Mine May written named placed others steps needs (tree_same (tree_of t) (tree_of t') root (same_tree t t' written others same))
+
+  pays_same : (f f' : Tree M) → ((s : ℕ) → f' s ≡ f s) → (p : List ℕ) (x : ℕ) (v : M) → Pays f p x v → Pays f' p x v
+  pays_same f f' same p x v h = record { slot = h.slot; node = h.node; here = same h.slot ∙ h.here; same = h.same; child = h.child }
+
+  pub same_tree_pairs : (t t' : Table M) (written : List ℕ) → OthersStay t t' written → AllIn (SameTree t t') written → SamePairs t t'
+  same_tree_pairs t t' written others same =
+      let all : (s : ℕ) → SameTree t t' s = same_tree t t' written others same in
+      same_pairs t t' (λ p x v. (
+        (λ (h : Pays (tree_of t) p x v). pays_same (tree_of t) (tree_of t') all p x v h),
+        (λ (h : Pays (tree_of t') p x v). pays_same (tree_of t') (tree_of t) (λ s. sym (all s)) p x v h),
+      ))
+
+  -- all other slots stay, told by the numbers of those that are written
+  pub beside_one : (t t' : Table M) (s : ℕ) → ((o : ℕ) → o ≢ s → t' o ≡ t o) → OthersStay t t' (s ∷ [])
+  beside_one t t' s others o out = others o (λ e. out (inl (sym e)))
+
+  pub beside_two : (t t' : Table M) (s r : ℕ) → ((o : ℕ) → o ≢ s → o ≢ r → t' o ≡ t o) → OthersStay t t' (s ∷ r ∷ [])
+  beside_two t t' s r others o out = others o (λ e. out (inl (sym e))) (λ e. out (inr (inl (sym e))))
+
+  pub beside_three : (t t' : Table M) (s r q : ℕ) → ((o : ℕ) → o ≢ s → o ≢ r → o ≢ q → t' o ≡ t o) → OthersStay t t' (s ∷ r ∷ q ∷ [])
+  beside_three t t' s r q others o out = others o (λ e. out (inl (sym e))) (λ e. out (inr (inl (sym e)))) (λ e. out (inr (inr (inl (sym e)))))

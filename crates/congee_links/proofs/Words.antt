@@ -1,0 +1,107 @@
+-- A WORD RISES: a free linked node is locked, a locked one is unlocked, a detached one is retired.
+use Rattle.std.proofs.Common.{◌≡◌, ◌≢◌, ℕ, suc, ◌+◌, ◌≤◌, List, [], ◌∷◌, Option, Some, None, ◌⊎◌, inl, inr, refl, sym, subst, ap, ◌∙◌, arith}
+use Rattle.congee_sync.specs.Lock.{IsFree, IsLocked, IsObsolete}
+use Rattle.congee_store.specs.inner.World.{Standing, is_private, is_linked, is_detached, is_retired, Node, Table}
+use Rattle.congee_store.specs.inner.Facts.{IsSafe, IsLinked, IsIn, IsPlaced, NeedsHolder}
+use Rattle.congee_links.proofs.Effects.{OthersStay, Leaves, SameTree, same_tree_leaves, same_tree_pairs}
+use Rattle.congee_links.proofs.Pairs.{SamePairs}
+use Rattle.congee_links.proofs.Slots.{StepsAt, changes, worded_here, free_obsolete, unretired, linked_private, linked_retired, detached_private, detached_retired, free_needs, retired_needs}
+use Rattle.congee_links.proofs.Trees.{IsWorded, tree_of, linked_in, when_linked, placed_worded}
+
+up_two : (word : ℕ) → word ≤ word + 2
+up_two word = omega arith
+
+not_same : (word more : ℕ) → word + suc more ≡ word → ⊥
+not_same word more e = omega (arith, e)
+
+locked_of : (word : ℕ) → IsFree word → IsObsolete (word + 2) → ⊥
+locked_of word free o = omega (arith, free, o)
+
+freed : (word : ℕ) → IsLocked word → (IsObsolete word → ⊥) → IsFree (word + 2)
+freed word locked fresh = omega (arith, locked, fresh)
+
+ended : (word : ℕ) → IsLocked word → (IsObsolete word → ⊥) → IsObsolete (word + 1) × IsLocked (word + 1)
+ended word locked fresh = (omega (arith, locked, fresh), omega (arith, locked, fresh))
+
+module _ {M : Type 0} where
+  -- a free linked node is locked
+  pub record Upgrades (t t' : Table M) (s : ℕ) (a : Node M) : Type 0 where
+    pub here : IsLinked t s a
+    pub free : IsFree a.word
+    pub after : t' s ≡ Some (record a { word = a.word + 2 })
+    pub others : OthersStay t t' (s ∷ [])
+
+  -- a locked linked node is unlocked
+  pub record Unlocks (t t' : Table M) (s : ℕ) (a : Node M) : Type 0 where
+    pub here : IsLinked t s a
+    pub locked : IsLocked a.word
+    pub after : t' s ≡ Some (record a { word = a.word + 2 })
+    pub others : OthersStay t t' (s ∷ [])
+
+  -- a locked detached node is retired with this stamp
+  pub record Retires (t t' : Table M) (s : ℕ) (a : Node M) (stamp : Option ℕ) : Type 0 where
+    pub here : t s ≡ Some a
+    pub detached : a.standing ≡ is_detached
+    pub locked : IsLocked a.word
+    pub after : t' s ≡ Some (record a { word = a.word + 1; standing = is_retired stamp })
+    pub others : OthersStay t t' (s ∷ [])
+
+  reworded_same : (t t' : Table M) (s word : ℕ) (a : Node M) → t s ≡ Some a → t' s ≡ Some (record a { word = word }) → SameTree t t' s
+  reworded_same t t' s word a here after = ap linked_in after ∙ sym (ap linked_in here)
+
+  not_private : (a : Node M) → a.standing ≡ is_linked → a.standing ≡ is_private → ⊥
+  not_private a l p = linked_private (sym l ∙ p)
+
+  not_retired : (a : Node M) → a.standing ≡ is_linked → (stamp : Option ℕ) → a.standing ≡ is_retired stamp → ⊥
+  not_retired a l stamp r = linked_retired stamp (sym l ∙ r)
+
+  safe_linked : (a : Node M) (pin : ℕ) → a.standing ≡ is_linked → IsSafe pin a.standing
+  safe_linked a pin l = subst (λ z. IsSafe pin z) (sym l) tt
+
+  module _ {t t' : Table M} {s : ℕ} {a : Node M} (u : Upgrades t t' s a) where
+    pub upgraded_leaves : (root : ℕ) (Mine May : ℕ → Type 0) → IsPlaced t root → Leaves t t' root Mine May (s ∷ []) (s ∷ [])
+    upgraded_leaves root Mine May placed =
+        let b : Node M = record a { word = a.word + 2 } in
+        same_tree_leaves t t' root Mine May (s ∷ []) (s ∷ []) placed u.others
+          (reworded_same t t' s (a.word + 2) a u.here.here u.after, tt)
+          (changes t t' Mine May s a b u.here.here u.after (not_private a u.here.standing) (worded_here b (inl u.here.standing) (locked_of a.word u.free)) refl (up_two a.word)
+            (λ f e. absurd (not_same a.word 1 e)) (λ pin may. safe_linked a pin u.here.standing) (inr u.free), tt)
+          ((λ (need : NeedsHolder t' s). inl refl), tt)
+
+    pub upgraded_pairs : SamePairs t t'
+    upgraded_pairs = same_tree_pairs t t' (s ∷ []) u.others (reworded_same t t' s (a.word + 2) a u.here.here u.after, tt)
+
+  module _ {t t' : Table M} {s : ℕ} {a : Node M} (u : Unlocks t t' s a) where
+    pub unlocked_leaves : (root : ℕ) (Mine May : ℕ → Type 0) → IsPlaced t root → Mine s → Leaves t t' root Mine May (s ∷ []) []
+    unlocked_leaves root Mine May placed mine =
+        let b : Node M = record a { word = a.word + 2 } in
+        let fresh : IsObsolete a.word → ⊥ = unretired a (placed_worded t root placed s a u.here.here) (not_retired a u.here.standing) in
+        let free : IsFree (a.word + 2) = freed a.word u.locked fresh in
+        same_tree_leaves t t' root Mine May (s ∷ []) [] placed u.others
+          (reworded_same t t' s (a.word + 2) a u.here.here u.after, tt)
+          (changes t t' Mine May s a b u.here.here u.after (not_private a u.here.standing) (worded_here b (inl u.here.standing) (free_obsolete (a.word + 2) free)) refl (up_two a.word)
+            (λ f e. absurd (not_same a.word 1 e)) (λ pin may. safe_linked a pin u.here.standing) (inl mine), tt)
+          (free_needs t' s b u.after u.here.standing free, tt)
+
+    pub unlocked_pairs : SamePairs t t'
+    unlocked_pairs = same_tree_pairs t t' (s ∷ []) u.others (reworded_same t t' s (a.word + 2) a u.here.here u.after, tt)
+
+  module _ {t t' : Table M} {s : ℕ} {a : Node M} {stamp : Option ℕ} (u : Retires t t' s a stamp) where
+    retired_same : SameTree t t' s
+    retired_same = ap linked_in u.after ∙ sym (ap linked_in u.here ∙ ap (λ z. when_linked z a.node) u.detached)
+
+    -- calls may rely on it that began by the time of the stamp
+    pub retired_leaves : (root : ℕ) (Mine : ℕ → Type 0) → IsPlaced t root → Mine s → Leaves t t' root Mine (λ pin. IsSafe pin (is_retired stamp)) (s ∷ []) []
+    retired_leaves root Mine placed mine =
+        let b : Node M = record a { word = a.word + 1; standing = is_retired stamp } in
+        let fresh : IsObsolete a.word → ⊥ = unretired a (placed_worded t root placed s a u.here) (λ at r. detached_retired at (sym u.detached ∙ r)) in
+        let over = ended a.word u.locked fresh in
+        same_tree_leaves t t' root Mine (λ pin. IsSafe pin (is_retired stamp)) (s ∷ []) [] placed u.others
+          (retired_same, tt)
+          (changes t t' Mine (λ pin. IsSafe pin (is_retired stamp)) s a b u.here u.after (λ p. detached_private (sym u.detached ∙ p))
+            (record { free = λ f. absurd (free_obsolete (a.word + 1) f over.0); locked = λ o. over.1; obsolete = ((λ (o : IsObsolete b.word). (stamp, refl)), (λ r. over.0)) })
+            refl (omega arith) (λ f e. absurd (not_same a.word 0 e)) (λ pin may. may) (inl mine), tt)
+          (retired_needs t' s b stamp u.after refl over.0, tt)
+
+    pub retired_pairs : SamePairs t t'
+    retired_pairs = same_tree_pairs t t' (s ∷ []) u.others (retired_same, tt)
