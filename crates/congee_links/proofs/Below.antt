@@ -18,15 +18,19 @@ abbrev pub Inside : List ℕ → ℕ → List ℕ → Type 0
 Inside p x q = Begins (p ++ x ∷ []) q
 
 module _ {M : Type 0} where
-  -- The linked node in a slot has another child under one byte, or none; the nodes whose prefixes don't go that way stay, and
-  -- those that do are linked to one another, and to that child, as in a tree.
-  pub record Relinks (f f' : Tree M) (p x : ℕ) (a a' : TableNode M) : Type 0 where
+  -- the linked node in a slot has another child under one byte, or none
+  pub record ChangesChild (f f' : Tree M) (p x : ℕ) (a a' : TableNode M) : Type 0 where
     pub before : f p ≡ Some a
     pub after : f' p ≡ Some a'
     pub prefix : a'.prefix ≡ a.prefix
     pub form : a'.form ≡ a.form
     pub shaped : IsShaped a'
     pub children : (y : ℕ) → y ≢ x → lookup a'.children y ≡ lookup a.children y
+
+  -- The linked node in a slot has another child under one byte, or none; the nodes whose prefixes don't go that way stay, and
+  -- those that do are linked to one another, and to that child, as in a tree.
+  pub record Relinks (f f' : Tree M) (p x : ℕ) (a a' : TableNode M) : Type 0 where
+    pub at : ChangesChild f f' p x a a'
     pub stay : (s : ℕ) (n : TableNode M) → s ≢ p → (Inside a.prefix x n.prefix → ⊥) → f s ≡ Some n → f' s ≡ Some n
     pub were : (s : ℕ) (n : TableNode M) → s ≢ p → (Inside a.prefix x n.prefix → ⊥) → f' s ≡ Some n → f s ≡ Some n
     pub child : (c : ℕ) → lookup a'.children x ≡ Some (below_at c) → Under f' a x c
@@ -56,12 +60,12 @@ module _ {M : Type 0} {f f' : Tree M} {p x : ℕ} {a a' : TableNode M} (re : Rel
   was s n h off =
       elim (eqb_tells s p) [
         | inl e ↦
-            let is : n ≡ a' = some_same n a' (sym h ∙ subst (λ z. f' z ≡ Some a') (sym e.1) re.after) in
+            let is : n ≡ a' = some_same n a' (sym h ∙ subst (λ z. f' z ≡ Some a') (sym e.1) re.at.after) in
             record {
               node = a;
-              here = subst (λ z. f z ≡ Some a) (sym e.1) re.before;
-              prefix = ap (λ (z : TableNode M). z.prefix) is ∙ re.prefix;
-              children = λ y other. subst (λ (z : TableNode M). lookup z.children y ≡ lookup a.children y) (sym is) (re.children y (other e.1));
+              here = subst (λ z. f z ≡ Some a) (sym e.1) re.at.before;
+              prefix = ap (λ (z : TableNode M). z.prefix) is ∙ re.at.prefix;
+              children = λ y other. subst (λ (z : TableNode M). lookup z.children y ≡ lookup a.children y) (sym is) (re.at.children y (other e.1));
             }
         | inr ne ↦ record { node = n; here = re.were s n ne.1 off h; prefix = refl; children = λ y other. refl }
       ]
@@ -70,12 +74,12 @@ module _ {M : Type 0} {f f' : Tree M} {p x : ℕ} {a a' : TableNode M} (re : Rel
   still s n h off =
       elim (eqb_tells s p) [
         | inl e ↦
-            let is : a ≡ n = some_same a n (sym (subst (λ z. f z ≡ Some a) (sym e.1) re.before) ∙ h) in
+            let is : a ≡ n = some_same a n (sym (subst (λ z. f z ≡ Some a) (sym e.1) re.at.before) ∙ h) in
             record {
               node = a';
-              here = subst (λ z. f' z ≡ Some a') (sym e.1) re.after;
-              prefix = re.prefix ∙ ap (λ (z : TableNode M). z.prefix) is;
-              form = re.form ∙ ap (λ (z : TableNode M). z.form) is;
+              here = subst (λ z. f' z ≡ Some a') (sym e.1) re.at.after;
+              prefix = re.at.prefix ∙ ap (λ (z : TableNode M). z.prefix) is;
+              form = re.at.form ∙ ap (λ (z : TableNode M). z.form) is;
             }
         | inr ne ↦ record { node = n; here = re.stay s n ne.1 off h; prefix = refl; form = refl }
       ]
@@ -91,9 +95,9 @@ module _ {M : Type 0} {f f' : Tree M} {p x : ℕ} {a a' : TableNode M} (re : Rel
           | inl less ↦
               let grown : length (a.prefix ++ x ∷ []) ≡ length a.prefix + 1 = snoc_length a.prefix x in
               off (Begins-both (a.prefix ++ x ∷ []) n.prefix u.node.prefix inside from_n (omega arith))
-          | inr le ↦ elim (tree.leads s p n a h re.before (Begins-both n.prefix a.prefix u.node.prefix from_n from_a le)) [
+          | inr le ↦ elim (tree.leads s p n a h re.at.before (Begins-both n.prefix a.prefix u.node.prefix from_n from_a le)) [
             | inl same ↦
-                let is : n ≡ a = some_same n a (sym h ∙ subst (λ z. f z ≡ Some a) (sym same) re.before) in
+                let is : n ≡ a = some_same n a (sym h ∙ subst (λ z. f z ≡ Some a) (sym same) re.at.before) in
                 let one : next_byte n.prefix u.node.prefix ≡ next_byte a.prefix u.node.prefix = ap (λ (z : TableNode M). next_byte z.prefix u.node.prefix) is in
                 other same (sym (byte_after n.prefix y u.node.prefix u.begins) ∙ (one ∙ byte_after a.prefix x u.node.prefix inside))
             | inr on ↦
@@ -132,13 +136,13 @@ module _ {M : Type 0} {f f' : Tree M} {p x : ℕ} {a a' : TableNode M} (re : Rel
             | inl e ↦ elim (eqb_tells y x) [
               | inr far ↦ under_off s n y c h off (λ q. far.1) child
               | inl here ↦
-                  let is : n ≡ a' = some_same n a' (sym h ∙ subst (λ z. f' z ≡ Some a') (sym e.1) re.after) in
+                  let is : n ≡ a' = some_same n a' (sym h ∙ subst (λ z. f' z ≡ Some a') (sym e.1) re.at.after) in
                   let there : lookup a'.children x ≡ Some (below_at c) = subst (λ (z : TableNode M). lookup z.children x ≡ Some (below_at c)) is (subst (λ z. lookup n.children z ≡ Some (below_at c)) here.1 child) in
                   let u : Under f' a x c = re.child c there in
                   record {
                     node = u.node;
                     here = u.here;
-                    begins = subst (λ z. Begins (z ++ y ∷ []) u.node.prefix) (sym (ap (λ (z : TableNode M). z.prefix) is ∙ re.prefix)) (subst (λ z. Begins (a.prefix ++ z ∷ []) u.node.prefix) (sym here.1) u.begins);
+                    begins = subst (λ z. Begins (z ++ y ∷ []) u.node.prefix) (sym (ap (λ (z : TableNode M). z.prefix) is ∙ re.at.prefix)) (subst (λ z. Begins (a.prefix ++ z ∷ []) u.node.prefix) (sym here.1) u.begins);
                   }
             ]
           ]
@@ -152,7 +156,7 @@ module _ {M : Type 0} {f f' : Tree M} {p x : ℕ} {a a' : TableNode M} (re : Rel
         let one : u.node ≡ on.node = some_same u.node on.node (sym u.here ∙ on.here) in
         let goes : Begins (w.prefix ++ next_byte w.prefix k ∷ []) on.node.prefix = subst (λ (z : TableNode M). Begins (w.prefix ++ next_byte w.prefix k ∷ []) z.prefix) one u.begins in
         let other : s ≡ p → next_byte w.prefix k ≢ x = λ e byte.
-            let is : w ≡ a = some_same w a (sym h ∙ subst (λ z. f z ≡ Some a) (sym e) re.before) in
+            let is : w ≡ a = some_same w a (sym h ∙ subst (λ z. f z ≡ Some a) (sym e) re.at.before) in
             off (subst (λ (z : TableNode M). Inside z.prefix x on.node.prefix) is (subst (λ z. Begins (w.prefix ++ z ∷ []) on.node.prefix) byte goes)) in
         let kept : Still f' on.slot on.node = still on.slot on.node on.here off in
         record {
@@ -178,9 +182,9 @@ module _ {M : Type 0} {f f' : Tree M} {p x : ℕ} {a a' : TableNode M} (re : Rel
                           absurd (off (Begins-both (a.prefix ++ x ∷ []) n.prefix m.prefix inside begins (omega arith)))
                       | inr le ↦
                           let up : Begins n.prefix a.prefix = Begins-both n.prefix a.prefix m.prefix begins from_a le in
-                          elim (tree.leads s p w.node a w.here re.before (subst (λ z. Begins z a.prefix) w.prefix up)) [
+                          elim (tree.leads s p w.node a w.here re.at.before (subst (λ z. Begins z a.prefix) w.prefix up)) [
                             | inl same ↦
-                                let is : a' ≡ n = some_same a' n (sym (subst (λ z. f' z ≡ Some a') (sym same) re.after) ∙ h) in
+                                let is : a' ≡ n = some_same a' n (sym (subst (λ z. f' z ≡ Some a') (sym same) re.at.after) ∙ h) in
                                 inr (subst (λ (z : TableNode M). Leads f' z m.prefix) is (re.leads r m g inside))
                             | inr on ↦
                                 let v : Under f w.node (next_byte w.node.prefix a.prefix) on.slot = tree.under s w.node w.here (next_byte w.node.prefix a.prefix) on.slot on.child in
@@ -217,7 +221,7 @@ module _ {M : Type 0} {f f' : Tree M} {p x : ℕ} {a a' : TableNode M} (re : Rel
         elim (begins_or (a.prefix ++ x ∷ []) n.prefix) [
           | inl inside ↦ re.new_shaped s n h inside
           | inr off ↦ elim (eqb_tells s p) [
-            | inl e ↦ subst (λ (z : TableNode M). IsShaped z) (some_same a' n (sym re.after ∙ subst (λ z. f' z ≡ Some n) e.1 h)) re.shaped
+            | inl e ↦ subst (λ (z : TableNode M). IsShaped z) (some_same a' n (sym re.at.after ∙ subst (λ z. f' z ≡ Some n) e.1 h)) re.at.shaped
             | inr ne ↦ tree.shaped s n (re.were s n ne.1 off h)
           ]
         ]
@@ -238,3 +242,61 @@ module _ {M : Type 0} {f f' : Tree M} {p x : ℕ} {a a' : TableNode M} (re : Rel
           under = relinks_under;
           leads = relinks_leads;
         }
+
+-- which nodes go that way before
+module _ {M : Type 0} {f f' : Tree M} {p x : ℕ} {a a' : TableNode M} (at : ChangesChild f f' p x a a') (root : ℕ) (tree : IsTree f root) where
+  pub inside_on : (s : ℕ) (n : TableNode M) → f s ≡ Some n → Inside a.prefix x n.prefix → Leads f a n.prefix
+  inside_on s n h inside =
+      elim (tree.leads p s a n at.before h (begins_before a.prefix x n.prefix inside)) [
+        | inr on ↦ on
+        | inl same ↦
+            let is : a ≡ n = some_same a n (sym at.before ∙ subst (λ z. f z ≡ Some n) (sym same) h) in
+            let longer : length a.prefix < length n.prefix = longer-begins a.prefix n.prefix x inside in
+            let even : length a.prefix ≡ length n.prefix = ap (λ (z : TableNode M). length z.prefix) is in absurd (omega (arith, longer, even))
+      ]
+
+  pub inside_child : (s : ℕ) (n : TableNode M) (h : f s ≡ Some n) (i : Inside a.prefix x n.prefix) → lookup a.children x ≡ Some (below_at (inside_on s n h i).slot)
+  inside_child s n h i = subst (λ z. lookup a.children z ≡ Some (below_at (inside_on s n h i).slot)) (byte_after a.prefix x n.prefix i) (inside_on s n h i).child
+
+  -- none does where there is no node below that byte
+  pub none_inside : ((c : ℕ) → lookup a.children x ≡ Some (below_at c) → ⊥) → (s : ℕ) (n : TableNode M) → f s ≡ Some n → Inside a.prefix x n.prefix → ⊥
+  none_inside none s n h i = none (inside_on s n h i).slot (inside_child s n h i)
+
+  -- each begins with the child there
+  pub head_begins : (c : ℕ) (b : TableNode M) → lookup a.children x ≡ Some (below_at c) → f c ≡ Some b → (s : ℕ) (n : TableNode M) → f s ≡ Some n → Inside a.prefix x n.prefix → Begins b.prefix n.prefix
+  head_begins c b child here s n h i =
+      let on : Leads f a n.prefix = inside_on s n h i in
+      let slot : c ≡ on.slot = slots_same c on.slot (sym child ∙ inside_child s n h i) in
+      let is : on.node ≡ b = some_same on.node b (sym (subst (λ z. f z ≡ Some on.node) (sym slot) on.here) ∙ here) in
+      subst (λ (z : TableNode M). Begins z.prefix n.prefix) is on.begins
+
+  pub head_inside : (c : ℕ) (b : TableNode M) → lookup a.children x ≡ Some (below_at c) → f c ≡ Some b → Inside a.prefix x b.prefix
+  head_inside c b child here =
+      let u : Under f a x c = tree.under p a at.before x c child in
+      subst (λ (z : TableNode M). Inside a.prefix x z.prefix) (some_same u.node b (sym u.here ∙ here)) u.begins
+
+  -- the node that changes doesn't, before or after
+  pub parent_off : (s : ℕ) (n : TableNode M) → f' s ≡ Some n → Inside a.prefix x n.prefix → s ≢ p
+  parent_off s n h i e =
+      let is : n ≡ a' = some_same n a' (sym h ∙ subst (λ z. f' z ≡ Some a') (sym e) at.after) in
+      let longer : length a.prefix < length n.prefix = longer-begins a.prefix n.prefix x i in
+      let even : length n.prefix ≡ length a.prefix = ap (λ (z : TableNode M). length z.prefix) is ∙ ap length at.prefix in omega (arith, longer, even)
+
+  pub parent_was_off : (s : ℕ) (n : TableNode M) → f s ≡ Some n → Inside a.prefix x n.prefix → s ≢ p
+  parent_was_off s n h i e =
+      let is : n ≡ a = some_same n a (sym h ∙ subst (λ z. f z ≡ Some a) (sym e) at.before) in
+      let longer : length a.prefix < length n.prefix = longer-begins a.prefix n.prefix x i in
+      let even : length n.prefix ≡ length a.prefix = ap (λ (z : TableNode M). length z.prefix) is in omega (arith, longer, even)
+
+-- a child is longer than its node, and so is a node that it leads on to
+module _ {M : Type 0} (f : Tree M) (root : ℕ) (tree : IsTree f root) where
+  pub under_longer : (n : TableNode M) (y c : ℕ) (u : Under f n y c) → length n.prefix < length u.node.prefix
+  under_longer n y c u = longer-begins n.prefix u.node.prefix y u.begins
+
+  pub leads_under : (s : ℕ) (n : TableNode M) (k : List ℕ) → f s ≡ Some n → (on : Leads f n k) → Begins (n.prefix ++ next_byte n.prefix k ∷ []) on.node.prefix
+  leads_under s n k h on =
+      let u : Under f n (next_byte n.prefix k) on.slot = tree.under s n h (next_byte n.prefix k) on.slot on.child in
+      subst (λ (z : TableNode M). Begins (n.prefix ++ next_byte n.prefix k ∷ []) z.prefix) (some_same u.node on.node (sym u.here ∙ on.here)) u.begins
+
+  pub leads_longer : (s : ℕ) (n : TableNode M) (k : List ℕ) → f s ≡ Some n → (on : Leads f n k) → length n.prefix < length on.node.prefix
+  leads_longer s n k h on = longer-begins n.prefix on.node.prefix (next_byte n.prefix k) (leads_under s n k h on)

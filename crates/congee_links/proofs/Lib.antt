@@ -4,5 +4,6 @@ pub mod Making
 pub mod Pairs
 pub mod Prefixes
 pub mod Slots
+pub mod TreeLeaves
 pub mod Trees
 pub mod Words
