@@ -8,6 +8,7 @@ use Rattle.congee_node_table.specs.Key.{Begins, next_byte}
 use Rattle.congee_node_table.specs.TableNode.{TableNode}
 use Rattle.congee_node_table.specs.declared.child.Child.{Child}
 use Rattle.congee_node_table.specs.declared.child.Child.TheVariants.{Payload, Node as below_at}
+use Rattle.congee_node_table.proofs.BeginLaws.{begins_itself}
 use Rattle.congee_store.proofs.Options.{some_same}
 use Rattle.congee_store.proofs.Ways.{length-begins, Begins-trans, Begins-both, get_or-begins, longer-begins, slots_same}
 use Rattle.congee_links.proofs.Prefixes.{byte_after, begins_before, snoc_length, begins_or}
@@ -300,3 +301,14 @@ module _ {M : Type 0} (f : Tree M) (root : ℕ) (tree : IsTree f root) where
 
   pub leads_longer : (s : ℕ) (n : TableNode M) (k : List ℕ) → f s ≡ Some n → (on : Leads f n k) → length n.prefix < length on.node.prefix
   leads_longer s n k h on = longer-begins n.prefix on.node.prefix (next_byte n.prefix k) (leads_under s n k h on)
+
+  -- one prefix stands in one slot
+  pub one_prefix : (s r : ℕ) (n m : TableNode M) → f s ≡ Some n → f r ≡ Some m → n.prefix ≡ m.prefix → s ≡ r
+  one_prefix s r n m h g same =
+      elim (tree.leads s r n m h g (subst (λ z. Begins n.prefix z) same (begins_itself n.prefix))) [
+        | inl one ↦ one
+        | inr on ↦
+            let longer : length n.prefix < length on.node.prefix = leads_longer s n m.prefix h on in
+            let short : length on.node.prefix ≤ length m.prefix = length-begins on.node.prefix m.prefix on.begins in
+            let even : length n.prefix ≡ length m.prefix = ap length same in absurd (omega (arith, longer, short, even))
+      ]

@@ -1,9 +1,12 @@
 pub mod Below
 pub mod Effects
+pub mod Entries
 pub mod Making
 pub mod Pairs
 pub mod Prefixes
 pub mod Slots
+pub mod TreeCopies
 pub mod TreeLeaves
 pub mod Trees
 pub mod Words
+pub mod Writing
