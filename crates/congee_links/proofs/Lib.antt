@@ -1,6 +1,8 @@
 pub mod Below
+pub mod Detaching
 pub mod Effects
 pub mod Entries
+pub mod Linking
 pub mod Making
 pub mod Pairs
 pub mod Prefixes

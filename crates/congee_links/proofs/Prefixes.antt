@@ -5,7 +5,7 @@ use Rattle.congee_node_table.specs.Key.{begins, Begins, AreBytes, next_byte, key
 use Rattle.congee_node_table.proofs.BeginLaws.{after, begins_append}
 use Rattle.congee_node_table.proofs.KeyLaws.{goes_on, key_number_at, key_number-be_bytes, Begins-snoc}
 use Rattle.congee_protocol.specs.Calls.{bytes_of}
-use Rattle.congee_store.proofs.Ways.{Begins-trans, get_or-begins}
+use Rattle.congee_store.proofs.Ways.{length-begins, Begins-both, Begins-trans, get_or-begins}
 
 last-byte : (p : List ℕ) (b : ℕ) → get_or (p ++ b ∷ []) (length p) 0 ≡ b
 last-byte [] b = refl
@@ -34,6 +34,13 @@ byte_after p b k h =
 -- and begins with what comes before that byte
 pub begins_before : (p : List ℕ) (b : ℕ) (k : List ℕ) → Begins (p ++ b ∷ []) k → Begins p k
 begins_before p b k h = Begins-trans p (p ++ b ∷ []) k (begins_append p (b ∷ [])) h
+
+-- two beginnings of one list: the longer goes on as the list does
+pub begins_next : (p q k : List ℕ) → Begins p k → Begins q k → length p < length q → Begins (p ++ next_byte p k ∷ []) q
+begins_next p q k b c h =
+    let within : length q ≤ length k = length-begins q k c in
+    let grown : length (p ++ next_byte p k ∷ []) ≡ length p + 1 = length-append p (next_byte p k ∷ []) in
+    Begins-both (p ++ next_byte p k ∷ []) q k (begins_on p k b (omega arith)) c (omega arith)
 
 pub snoc_length : (p : List ℕ) (b : ℕ) → length (p ++ b ∷ []) ≡ length p + 1
 snoc_length p b = length-append p (b ∷ [])

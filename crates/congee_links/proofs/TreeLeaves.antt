@@ -116,7 +116,7 @@ module _ {M : Type 0} {f f' : Tree M} {p x q : ℕ} {a a' b : TableNode M} (d : 
         | inr on ↦ absurd (d.leaf (next_byte b.prefix n.prefix) on.slot on.child)
       ]
 
-  none_left : (s : ℕ) (n : TableNode M) → f' s ≡ Some n → Inside a.prefix x n.prefix → ⊥
+  pub none_left : (s : ℕ) (n : TableNode M) → f' s ≡ Some n → Inside a.prefix x n.prefix → ⊥
   none_left s n h i =
       elim (eqb_tells s q) [
         | inl e ↦ none_some n (sym d.gone ∙ subst (λ z. f' z ≡ Some n) e.1 h)

@@ -69,13 +69,41 @@ module _ {M : Type 0} where
     pub begins : Begins n.prefix (bytes_of key)
     pub children : n.children ≡ (next_byte n.prefix (bytes_of key), Payload v) ∷ []
 
+  -- the node with another child is as it should be
+  answer_leaf : (n : TableNode M) (x : ℕ) (child : Option (Child M)) → IsShaped n → ((v : M) → child ≡ Some (Payload v) → length n.prefix ≡ 7)
+      → (y : ℕ) (v : M) → lookup (with_answer n.children x child) y ≡ Some (Payload v) → length n.prefix ≡ 7
+  answer_leaf n x child shaped paid y v e =
+      elim (eqb_tells y x) [
+        | inl same ↦ paid v (sym (answer_same 0 256 n.children x child shaped.ordered) ∙ subst (λ z. lookup (with_answer n.children x child) z ≡ Some (Payload v)) same.1 e)
+        | inr far ↦ shaped.leaf y v (sym (answer_other n.children x child y far.1) ∙ e)
+      ]
+
+  pub answer_changes : (f f' : Tree M) (p x : ℕ) (n : TableNode M) (child : Option (Child M)) → f p ≡ Some n → f' p ≡ Some (record n { children = with_answer n.children x child })
+      → IsShaped n → x < 256 → ((v : M) → child ≡ Some (Payload v) → length n.prefix ≡ 7) → ChangesChild f f' p x n (record n { children = with_answer n.children x child })
+  answer_changes f f' p x n child before after shaped small paid = record {
+    before = before;
+    after = after;
+    prefix = refl;
+    form = refl;
+    shaped = record {
+      short = shaped.short;
+      bytes = shaped.bytes;
+      ordered = answer_rises 0 256 n.children x child shaped.ordered (omega arith) small;
+      leaf = answer_leaf n x child shaped paid;
+    };
+    children = λ y far. answer_other n.children x child y far;
+  }
+
   payload_below : (v : M) (c : ℕ) → let x : Child M = Payload v in let y : Child M = below_at c in Some x ≡ Some y → ⊥
   payload_below v c e = cc
 
-  single_same : (x : ℕ) (c : Child M) → lookup ((x, c) ∷ []) x ≡ Some c
+  pub below_payload : (c : ℕ) (v : M) → let x : Child M = below_at c in let y : Child M = Payload v in Some x ≡ Some y → ⊥
+  below_payload c v e = cc
+
+  pub single_same : (x : ℕ) (c : Child M) → lookup ((x, c) ∷ []) x ≡ Some c
   single_same x c = rw (eq-eqb x x refl)
 
-  single_only : (x y : ℕ) (c d : Child M) → lookup ((x, c) ∷ []) y ≡ Some d → (y ≡ x) × (d ≡ c)
+  pub single_only : (x y : ℕ) (c d : Child M) → lookup ((x, c) ∷ []) y ≡ Some d → (y ≡ x) × (d ≡ c)
   single_only x y c d e =
       elim (eqb_tells x y) [
         | inl same ↦
@@ -106,7 +134,7 @@ module _ {M : Type 0} where
 
   -- THE NODE THAT IS WRITTEN
   module _ {t t' : Table M} {p key : ℕ} {a : Node M} {child : Option (Child M)} (w : WritesBelow t t' p key a child) (root : ℕ) (placed : IsPlaced t root) where
-    before_shaped : IsShaped a.node
+    pub before_shaped : IsShaped a.node
     before_shaped = (placed_tree t root placed).shaped p a.node (tree_at t p a w.here)
 
     pub written_at : lookup (answered a (byte_at a (bytes_of key)) child).node.children (byte_at a (bytes_of key)) ≡ child
@@ -115,28 +143,11 @@ module _ {M : Type 0} where
     pub written_linked : IsLinked t' p (answered a (byte_at a (bytes_of key)) child)
     written_linked = record { here = w.after; standing = w.here.standing }
 
-    written_leaf : ((v : M) → child ≡ Some (Payload v) → length a.node.prefix ≡ 7) → (y : ℕ) (v : M) → lookup (answered a (byte_at a (bytes_of key)) child).node.children y ≡ Some (Payload v) → length a.node.prefix ≡ 7
-    written_leaf paid y v e =
-        elim (eqb_tells y (byte_at a (bytes_of key))) [
-          | inl same ↦ paid v (sym written_at ∙ subst (λ z. lookup (answered a (byte_at a (bytes_of key)) child).node.children z ≡ Some (Payload v)) same.1 e)
-          | inr far ↦ before_shaped.leaf y v (sym (answer_other a.node.children (byte_at a (bytes_of key)) child y far.1) ∙ e)
-        ]
-
     pub written_changes : ((v : M) → child ≡ Some (Payload v) → length a.node.prefix ≡ 7)
         → ChangesChild (tree_of t) (tree_of t') p (byte_at a (bytes_of key)) a.node (answered a (byte_at a (bytes_of key)) child).node
-    written_changes paid = record {
-      before = tree_at t p a w.here;
-      after = tree_at t' p (answered a (byte_at a (bytes_of key)) child) written_linked;
-      prefix = refl;
-      form = refl;
-      shaped = record {
-        short = before_shaped.short;
-        bytes = before_shaped.bytes;
-        ordered = answer_rises 0 256 a.node.children (byte_at a (bytes_of key)) child before_shaped.ordered (omega arith) (key_byte a.node.prefix key w.begins before_shaped.short);
-        leaf = written_leaf paid;
-      };
-      children = λ y far. answer_other a.node.children (byte_at a (bytes_of key)) child y far;
-    }
+    written_changes paid =
+        answer_changes (tree_of t) (tree_of t') p (byte_at a (bytes_of key)) a.node child (tree_at t p a w.here)
+          (tree_at t' p (answered a (byte_at a (bytes_of key)) child) written_linked) before_shaped (key_byte a.node.prefix key w.begins before_shaped.short) paid
 
     pub written_steps : (Mine May : ℕ → Type 0) → Mine p → StepsAt t t' Mine May p
     written_steps Mine May mine =
@@ -223,3 +234,19 @@ module _ {M : Type 0} where
   only_pays f g prefix byte s n here none =
       λ z h. subst (λ (z : TableNode M). (y : ℕ) (v : M) → Elsewhere prefix byte z.prefix y → lookup z.children y ≡ Some (Payload v) → Pays g z.prefix y v) (some_same n z (sym here ∙ h))
       (λ y v far e. absurd (none y v far e))
+
+  -- a node that has a child of another kind than a payload keeps its payloads
+  module _ {t t' : Table M} {p key : ℕ} {a : Node M} {child : Option (Child M)} (w : WritesBelow t t' p key a child) (root : ℕ) (placed : IsPlaced t root) (prefix : List ℕ) (byte : ℕ) where
+    pub parent_to : ((v : M) → entry a (byte_at a (bytes_of key)) ≡ Some (Payload v) → ⊥) → SlotPays (tree_of t) (tree_of t') prefix byte p
+    parent_to none =
+        let b : Node M = answered a (byte_at a (bytes_of key)) child in
+        node_pays (tree_of t) (tree_of t') prefix byte p p a.node b.node (tree_at t p a w.here) (tree_at t' p b (written_linked w root placed)) refl (λ y v far e.
+            let off : y ≢ byte_at a (bytes_of key) = λ q. none v (subst (λ z. entry a z ≡ Some (Payload v)) q e) in
+            answer_other a.node.children (byte_at a (bytes_of key)) child y off ∙ e)
+
+    pub parent_from : ((v : M) → child ≡ Some (Payload v) → ⊥) → SlotPays (tree_of t') (tree_of t) prefix byte p
+    parent_from none =
+        let b : Node M = answered a (byte_at a (bytes_of key)) child in
+        node_pays (tree_of t') (tree_of t) prefix byte p p b.node a.node (tree_at t' p b (written_linked w root placed)) (tree_at t p a w.here) refl (λ y v far e.
+            let off : y ≢ byte_at a (bytes_of key) = λ q. none v (sym (written_at w root placed) ∙ subst (λ z. entry b z ≡ Some (Payload v)) q e) in
+            sym (answer_other a.node.children (byte_at a (bytes_of key)) child y off) ∙ e)
