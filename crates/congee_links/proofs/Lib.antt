@@ -2,6 +2,7 @@ pub mod Below
 pub mod Detaching
 pub mod Effects
 pub mod Entries
+pub mod Growing
 pub mod Linking
 pub mod Making
 pub mod Pairs

@@ -1,5 +1,6 @@
 -- The linked nodes of a table alone: a tree, whose nodes have no words.
-use Rattle.std.proofs.Common.{◌≡◌, ◌≢◌, ℕ, ◌+◌, ◌<◌, ◌≤◌, List, [], ◌∷◌, ◌++◌, length, Option, Some, None, ◌⊎◌, ◌↔◌, inl, inr, refl, sym, subst, ap, ◌∙◌, arith}
+use Rattle.std.proofs.Common.{◌≡◌, ◌≢◌, ℕ, ◌+◌, ◌<◌, ◌≤◌, List, [], ◌∷◌, ◌++◌, length, Option, Some, None, ◌⊎◌, ◌↔◌, inl, inr, refl, sym, subst, ap, ◌∙◌, arith, cond, eqb}
+use Rattle.std.proofs.lemmas.Bool.{eq-eqb, ne_eqb}
 use Rattle.congee_base.specs.declared.base_node.NodeType.TheVariants.{N256}
 use Rattle.congee_map.specs.Map.{lookup, Rises}
 use Rattle.congee_node_table.specs.Key.{Begins, AreBytes, next_byte}
@@ -201,3 +202,13 @@ module _ {M : Type 0} where
           | inr on ↦ inr (record { slot = on.slot; node = on.node; child = on.child; here = same on.slot ∙ on.here; begins = on.begins })
         ];
   }
+
+  -- a tree with this node in a slot
+  abbrev pub override : Tree M → ℕ → TableNode M → Tree M
+  override f s n o = cond (eqb o s) (Some n) (f o)
+
+  pub override_here : (f : Tree M) (s : ℕ) (n : TableNode M) → override f s n s ≡ Some n
+  override_here f s n = rw (eq-eqb s s refl)
+
+  pub override_other : (f : Tree M) (s : ℕ) (n : TableNode M) (o : ℕ) → o ≢ s → override f s n o ≡ f o
+  override_other f s n o far = rw (ne_eqb o s far)

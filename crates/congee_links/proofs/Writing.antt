@@ -94,7 +94,7 @@ module _ {M : Type 0} where
     children = λ y far. answer_other n.children x child y far;
   }
 
-  payload_below : (v : M) (c : ℕ) → let x : Child M = Payload v in let y : Child M = below_at c in Some x ≡ Some y → ⊥
+  pub payload_below : (v : M) (c : ℕ) → let x : Child M = Payload v in let y : Child M = below_at c in Some x ≡ Some y → ⊥
   payload_below v c e = cc
 
   pub below_payload : (c : ℕ) (v : M) → let x : Child M = below_at c in let y : Child M = Payload v in Some x ≡ Some y → ⊥
