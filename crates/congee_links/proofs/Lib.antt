@@ -8,6 +8,7 @@ pub mod Making
 pub mod Pairs
 pub mod Prefixes
 pub mod Slots
+pub mod Splitting
 pub mod TreeCopies
 pub mod TreeLeaves
 pub mod Trees
