@@ -122,11 +122,9 @@ module _ {M : Type 0} {f f' : Tree M} {p x : ℕ} {a a' : TableNode M} (re : Rel
         let there : lookup w.node.children y ≡ Some (below_at c) = sym (w.children y other) ∙ child in
         let u : Under f w.node y c = tree.under s w.node w.here y c there in
         let k : Still f' c u.node = still c u.node u.here (child_off s w.node y c w.here off_w other there u) in
-        record {
-          node = k.node;
-          here = k.here;
-          begins = subst (λ z. Begins (z ++ y ∷ []) k.node.prefix) (sym w.prefix) (subst (λ z. Begins (w.node.prefix ++ y ∷ []) z) (sym k.prefix) u.begins);
-        }
+        let goes : Begins (w.node.prefix ++ y ∷ []) k.node.prefix = subst (λ z. Begins (w.node.prefix ++ y ∷ []) z) (sym k.prefix) u.begins in
+        let prefix : w.node.prefix ≡ n.prefix = sym w.prefix in
+        record { node = k.node; here = k.here; begins = subst (λ z. Begins (z ++ y ∷ []) k.node.prefix) prefix goes }
 
     pub relinks_under : (s : ℕ) (n : TableNode M) → f' s ≡ Some n → (y c : ℕ) → lookup n.children y ≡ Some (below_at c) → Under f' n y c
     relinks_under s n h y c child =

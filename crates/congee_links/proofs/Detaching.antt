@@ -10,7 +10,7 @@ use Rattle.congee_store.specs.inner.World.{Node, Table, entry}
 use Rattle.congee_store.specs.inner.Facts.{byte_at, IsPlaced, NeedsHolder}
 use Rattle.congee_store.proofs.Options.{none_some, some_same}
 use Rattle.congee_links.proofs.Below.{Inside, head_inside}
-use Rattle.congee_links.proofs.Effects.{OthersStay, Leaves, leaves}
+use Rattle.congee_links.proofs.Effects.{OthersStay, Effect, effect}
 use Rattle.congee_links.proofs.Pairs.{SamePairs, TakesPair, OtherPays, same_pairs, takes_pair}
 use Rattle.congee_links.proofs.Trees.{IsTree, Pays, tree_of, linked_in, tree_at, placed_tree}
 use Rattle.congee_links.proofs.TreeLeaves.{HasNoNodes, DropsNode, dropped_tree, none_left}
@@ -43,9 +43,9 @@ module _ {M : Type 0} {t t' : Table M} {p q key : ℕ} {a b : Node M} {left : Ta
     others = λ s far off. ap linked_in (d.others s (λ one. elim one [ inl e ↦ far (sym e) | inr (inl e) ↦ off (sym e) | inr (inr none) ↦ none ]));
   }
 
-  pub taken_leaves : (Mine May : ℕ → Type 0) → Mine p → Mine q → Leaves t t' root Mine May (p ∷ q ∷ []) (p ∷ q ∷ [])
-  taken_leaves Mine May mine also =
-      leaves t t' root Mine May (p ∷ q ∷ []) (p ∷ q ∷ []) placed d.others
+  pub taken_effect : (Mine May : ℕ → Type 0) → Mine p → Mine q → Effect t t' root Mine May (p ∷ q ∷ []) (p ∷ q ∷ [])
+  taken_effect Mine May mine also =
+      effect t t' root Mine May (p ∷ q ∷ []) (p ∷ q ∷ []) placed d.others
         (written_steps d.write root placed Mine May mine, (detached_steps d.old root Mine May placed also, tt))
         ((λ (need : NeedsHolder t' p). inl refl), ((λ (need : NeedsHolder t' q). inr (inl refl)), tt))
         (λ tree. dropped_tree taken_drops root tree)

@@ -42,7 +42,7 @@ module _ {M : Type 0} where
 
   -- The event of a call that has its nodes wrote these slots. The place facts hold again; calls with pins that may rely on it
   -- keep what they know; private nodes of other calls stay; of the slots that were written at most the named ones need a holder.
-  pub record Leaves (t t' : Table M) (root : ℕ) (Mine May : ℕ → Type 0) (written named : List ℕ) : Type 0 where
+  pub record Effect (t t' : Table M) (root : ℕ) (Mine May : ℕ → Type 0) (written named : List ℕ) : Type 0 where
     pub placed : IsPlaced t' root
     pub others : (pin : ℕ) → May pin → Guarantees t t' Mine pin
     pub privates : PrivateStays t t' Mine
@@ -53,9 +53,9 @@ module _ {M : Type 0} where
   still_needs t t' s same need = record { node = need.node; here = sym same ∙ need.here; why = need.why }
 
   -- slot by slot
-  pub leaves : (t t' : Table M) (root : ℕ) (Mine May : ℕ → Type 0) (written named : List ℕ) → IsPlaced t root → OthersStay t t' written
-      → AllIn (StepsAt t t' Mine May) written → AllIn (λ s. NeedsHolder t' s → IsIn s named) written → (IsTree (tree_of t) root → IsTree (tree_of t') root) → Leaves t t' root Mine May written named
-  leaves t t' root Mine May written named placed others steps needs tree =
+  pub effect : (t t' : Table M) (root : ℕ) (Mine May : ℕ → Type 0) (written named : List ℕ) → IsPlaced t root → OthersStay t t' written
+      → AllIn (StepsAt t t' Mine May) written → AllIn (λ s. NeedsHolder t' s → IsIn s named) written → (IsTree (tree_of t) root → IsTree (tree_of t') root) → Effect t t' root Mine May written named
+  effect t t' root Mine May written named placed others steps needs tree =
       let at : (s : ℕ) → StepsAt t t' Mine May s = λ s.
           elim (in_or s written) [
             | inl one ↦ all_in (StepsAt t t' Mine May) written steps s one
@@ -82,10 +82,10 @@ module _ {M : Type 0} where
         | inr out ↦ ap linked_in (others s out)
       ]
 
-  pub same_tree_leaves : (t t' : Table M) (root : ℕ) (Mine May : ℕ → Type 0) (written named : List ℕ) → IsPlaced t root → OthersStay t t' written
-      → AllIn (SameTree t t') written → AllIn (StepsAt t t' Mine May) written → AllIn (λ s. NeedsHolder t' s → IsIn s named) written → Leaves t t' root Mine May written named
-  same_tree_leaves t t' root Mine May written named placed others same steps needs =
-      leaves t t' root Mine May written named placed others steps needs (tree_same (tree_of t) (tree_of t') root (same_tree t t' written others same))
+  pub same_tree_effect : (t t' : Table M) (root : ℕ) (Mine May : ℕ → Type 0) (written named : List ℕ) → IsPlaced t root → OthersStay t t' written
+      → AllIn (SameTree t t') written → AllIn (StepsAt t t' Mine May) written → AllIn (λ s. NeedsHolder t' s → IsIn s named) written → Effect t t' root Mine May written named
+  same_tree_effect t t' root Mine May written named placed others same steps needs =
+      effect t t' root Mine May written named placed others steps needs (tree_same (tree_of t) (tree_of t') root (same_tree t t' written others same))
 
   pays_same : (f f' : Tree M) → ((s : ℕ) → f' s ≡ f s) → (p : List ℕ) (x : ℕ) (v : M) → Pays f p x v → Pays f' p x v
   pays_same f f' same p x v h = record { slot = h.slot; node = h.node; here = same h.slot ∙ h.here; same = h.same; child = h.child }

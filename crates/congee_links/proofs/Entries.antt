@@ -10,7 +10,7 @@ use Rattle.congee_store.specs.inner.World.{Node, Table}
 use Rattle.congee_store.specs.inner.Facts.{byte_at, IsPlaced, NeedsHolder}
 use Rattle.congee_store.proofs.Options.{some_same, none_some}
 use Rattle.congee_links.proofs.Below.{one_prefix}
-use Rattle.congee_links.proofs.Effects.{OthersStay, Leaves, leaves}
+use Rattle.congee_links.proofs.Effects.{OthersStay, Effect, effect}
 use Rattle.congee_links.proofs.Pairs.{Elsewhere, PutsPair, TakesPair, OtherPays, puts_pair, takes_pair}
 use Rattle.congee_links.proofs.Trees.{Tree, IsTree, Pays, tree_of, linked_in, tree_at, placed_tree}
 use Rattle.congee_links.proofs.TreeLeaves.{ChangesLeaf, paid_tree}
@@ -43,9 +43,9 @@ module _ {M : Type 0} {t t' : Table M} {s key : ℕ} {a : Node M} {value : Optio
   entry_tree : IsTree (tree_of t') root
   entry_tree = paid_tree entry_changes root (placed_tree t root placed)
 
-  pub entry_leaves : (Mine May : ℕ → Type 0) → Mine s → Leaves t t' root Mine May (s ∷ []) (s ∷ [])
-  entry_leaves Mine May mine =
-      leaves t t' root Mine May (s ∷ []) (s ∷ []) placed w.others (written_steps w.write root placed Mine May mine, tt) ((λ (need : NeedsHolder t' s). inl refl), tt) (λ tree. entry_tree)
+  pub entry_effect : (Mine May : ℕ → Type 0) → Mine s → Effect t t' root Mine May (s ∷ []) (s ∷ [])
+  entry_effect Mine May mine =
+      effect t t' root Mine May (s ∷ []) (s ∷ []) placed w.others (written_steps w.write root placed Mine May mine, tt) ((λ (need : NeedsHolder t' s). inl refl), tt) (λ tree. entry_tree)
 
   entry_others : OtherPays (tree_of t) (tree_of t') a.node.prefix (byte_at a (bytes_of key))
   entry_others =

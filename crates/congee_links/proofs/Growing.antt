@@ -13,7 +13,7 @@ use Rattle.congee_store.specs.inner.World.{Node, Table, entry}
 use Rattle.congee_store.specs.inner.Facts.{byte_at, IsPlaced, NeedsHolder}
 use Rattle.congee_store.proofs.Options.{none_some, some_same}
 use Rattle.congee_links.proofs.Below.{Inside, ChangesChild, head_inside, parent_was_off}
-use Rattle.congee_links.proofs.Effects.{OthersStay, Leaves, leaves}
+use Rattle.congee_links.proofs.Effects.{OthersStay, Effect, effect}
 use Rattle.congee_links.proofs.Pairs.{Elsewhere, PutsPair, OtherPays, puts_pair}
 use Rattle.congee_links.proofs.Prefixes.{begins_next, key_byte}
 use Rattle.congee_links.proofs.Trees.{Tree, IsTree, IsShaped, tree_of, linked_in, tree_at, placed_tree, override, override_here, override_other}
@@ -134,9 +134,9 @@ module _ {M : Type 0} {t t' : Table M} {p q r key : ℕ} {a b c : Node M} {v : M
             ap linked_in (g.others s (λ one. elim one [ inl e ↦ far (sym e) | inr (inl e) ↦ not_q (sym e) | inr (inr (inl e)) ↦ not_r (sym e) | inr (inr (inr none)) ↦ none ])) ∙ sym (off s not_q)))
         root (paid_tree first root before)
 
-  pub grown_leaf_leaves : (Mine May : ℕ → Type 0) → Mine p → Mine q → Mine r → Leaves t t' root Mine May (p ∷ q ∷ r ∷ []) (p ∷ q ∷ [])
-  grown_leaf_leaves Mine May mine also made =
-      leaves t t' root Mine May (p ∷ q ∷ r ∷ []) (p ∷ q ∷ []) placed g.others
+  pub grown_leaf_effect : (Mine May : ℕ → Type 0) → Mine p → Mine q → Mine r → Effect t t' root Mine May (p ∷ q ∷ r ∷ []) (p ∷ q ∷ [])
+  grown_leaf_effect Mine May mine also made =
+      effect t t' root Mine May (p ∷ q ∷ r ∷ []) (p ∷ q ∷ []) placed g.others
         (written_steps g.swap.write root placed Mine May mine, (detached_steps g.swap.old root Mine May placed also, (published_steps g.swap.new Mine May made, tt)))
         ((λ (need : NeedsHolder t' p). inl refl), ((λ (need : NeedsHolder t' q). inr (inl refl)), ((λ (need : NeedsHolder t' r). absurd (published_needs g.swap.new need)), tt)))
         leaf_tree
@@ -212,9 +212,9 @@ module _ {M : Type 0} {t t' : Table M} {p q r o key : ℕ} {a b c d : Node M} {v
             ]))
         root (linked_tree first root before)
 
-  pub grown_inner_leaves : (Mine May : ℕ → Type 0) → Mine p → Mine q → Mine r → Mine o → Leaves t t' root Mine May (p ∷ q ∷ r ∷ o ∷ []) (p ∷ q ∷ [])
-  grown_inner_leaves Mine May mine also made leaf =
-      leaves t t' root Mine May (p ∷ q ∷ r ∷ o ∷ []) (p ∷ q ∷ []) placed g.others
+  pub grown_inner_effect : (Mine May : ℕ → Type 0) → Mine p → Mine q → Mine r → Mine o → Effect t t' root Mine May (p ∷ q ∷ r ∷ o ∷ []) (p ∷ q ∷ [])
+  grown_inner_effect Mine May mine also made leaf =
+      effect t t' root Mine May (p ∷ q ∷ r ∷ o ∷ []) (p ∷ q ∷ []) placed g.others
         (written_steps g.swap.write root placed Mine May mine, (detached_steps g.swap.old root Mine May placed also, (published_steps g.swap.new Mine May made, (published_steps g.leaf_new Mine May leaf, tt))))
         ((λ (need : NeedsHolder t' p). inl refl), ((λ (need : NeedsHolder t' q). inr (inl refl)),
           ((λ (need : NeedsHolder t' r). absurd (published_needs g.swap.new need)), ((λ (need : NeedsHolder t' o). absurd (published_needs g.leaf_new need)), tt))))

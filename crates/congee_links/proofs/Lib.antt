@@ -5,6 +5,7 @@ pub mod Entries
 pub mod Growing
 pub mod Linking
 pub mod Making
+pub mod Maps
 pub mod Pairs
 pub mod Prefixes
 pub mod Slots

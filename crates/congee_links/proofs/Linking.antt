@@ -9,7 +9,7 @@ use Rattle.congee_store.specs.inner.World.{Node, Table, entry}
 use Rattle.congee_store.specs.inner.Facts.{byte_at, IsPlaced, NeedsHolder}
 use Rattle.congee_store.proofs.Options.{none_some}
 use Rattle.congee_links.proofs.Below.{Inside}
-use Rattle.congee_links.proofs.Effects.{OthersStay, Leaves, leaves}
+use Rattle.congee_links.proofs.Effects.{OthersStay, Effect, effect}
 use Rattle.congee_links.proofs.Pairs.{PutsPair, OtherPays, puts_pair}
 use Rattle.congee_links.proofs.Prefixes.{begins_next}
 use Rattle.congee_links.proofs.Trees.{IsTree, tree_of, linked_in, placed_tree}
@@ -45,9 +45,9 @@ module _ {M : Type 0} {t t' : Table M} {p q key : ℕ} {a b : Node M} {v : M} (l
       } in
       linked_tree links root tree
 
-  pub link_leaves : (Mine May : ℕ → Type 0) → Mine p → Mine q → Leaves t t' root Mine May (p ∷ q ∷ []) (p ∷ [])
-  link_leaves Mine May mine made =
-      leaves t t' root Mine May (p ∷ q ∷ []) (p ∷ []) placed l.others
+  pub link_effect : (Mine May : ℕ → Type 0) → Mine p → Mine q → Effect t t' root Mine May (p ∷ q ∷ []) (p ∷ [])
+  link_effect Mine May mine made =
+      effect t t' root Mine May (p ∷ q ∷ []) (p ∷ []) placed l.others
         (written_steps l.write root placed Mine May mine, (published_steps l.new Mine May made, tt))
         ((λ (need : NeedsHolder t' p). inl refl), ((λ (need : NeedsHolder t' q). absurd (published_needs l.new need)), tt))
         link_tree

@@ -4,7 +4,7 @@ use Rattle.congee_sync.specs.Lock.{IsFree}
 use Rattle.congee_store.specs.inner.World.{is_private, is_retired, Node, Table}
 use Rattle.congee_store.specs.inner.Facts.{IsIn, IsPlaced, NeedsHolder}
 use Rattle.congee_store.proofs.Options.{some_same, none_some}
-use Rattle.congee_links.proofs.Effects.{AllIn, all_of, OthersStay, Leaves, SameTree, same_tree_leaves, same_tree_pairs}
+use Rattle.congee_links.proofs.Effects.{AllIn, all_of, OthersStay, Effect, SameTree, same_tree_effect, same_tree_pairs}
 use Rattle.congee_links.proofs.Pairs.{SamePairs}
 use Rattle.congee_links.proofs.Slots.{StepsAt, comes, owned, goes, worded_here, free_obsolete, none_needs}
 use Rattle.congee_links.proofs.Trees.{IsWorded, tree_of, linked_in, when_linked}
@@ -49,18 +49,18 @@ module _ {M : Type 0} where
   gone_same : {t t' : Table M} {s stamp : ℕ} {a : Node M} → Reclaims t t' s a stamp → SameTree t t' s
   gone_same {a = a} r = ap linked_in r.after ∙ sym (ap linked_in r.here ∙ ap (λ z. when_linked z a.node) r.retired)
 
-  pub made_leaves : {t t' : Table M} {s : ℕ} {b : Node M} → Makes t t' s b → (root : ℕ) (Mine May : ℕ → Type 0) → IsPlaced t root → Leaves t t' root Mine May (s ∷ []) (s ∷ [])
-  made_leaves {t} {t'} {s} {b} m root Mine May placed =
-      same_tree_leaves t t' root Mine May (s ∷ []) (s ∷ []) placed m.others (made_same m, tt)
+  pub made_effect : {t t' : Table M} {s : ℕ} {b : Node M} → Makes t t' s b → (root : ℕ) (Mine May : ℕ → Type 0) → IsPlaced t root → Effect t t' root Mine May (s ∷ []) (s ∷ [])
+  made_effect {t} {t'} {s} {b} m root Mine May placed =
+      same_tree_effect t t' root Mine May (s ∷ []) (s ∷ []) placed m.others (made_same m, tt)
         (comes t t' Mine May s m.empty (λ c h. subst (λ (z : Node M). IsWorded z) (some_same b c (sym m.after ∙ h)) (worded_here b (inr m.private) (free_obsolete b.word m.free))), tt)
         ((λ (need : NeedsHolder t' s). inl refl), tt)
 
   pub made_pairs : {t t' : Table M} {s : ℕ} {b : Node M} → Makes t t' s b → SamePairs t t'
   made_pairs {t} {t'} {s} m = same_tree_pairs t t' (s ∷ []) m.others (made_same m, tt)
 
-  pub given_back_leaves : {t t' : Table M} {Mine : ℕ → Type 0} {slots : List ℕ} → GivesBack t t' Mine slots → (root : ℕ) (May : ℕ → Type 0) → IsPlaced t root → Leaves t t' root Mine May slots []
-  given_back_leaves {t} {t'} {Mine} {slots} g root May placed =
-      same_tree_leaves t t' root Mine May slots [] placed g.others
+  pub given_back_effect : {t t' : Table M} {Mine : ℕ → Type 0} {slots : List ℕ} → GivesBack t t' Mine slots → (root : ℕ) (May : ℕ → Type 0) → IsPlaced t root → Effect t t' root Mine May slots []
+  given_back_effect {t} {t'} {Mine} {slots} g root May placed =
+      same_tree_effect t t' root Mine May slots [] placed g.others
         (all_of (IsGivenBack t t' Mine) (SameTree t t') slots (back_same t t' Mine) g.each)
         (all_of (IsGivenBack t t' Mine) (StepsAt t t' Mine May) slots (back_steps t t' Mine May) g.each)
         (all_of (IsGivenBack t t' Mine) (λ s. NeedsHolder t' s → IsIn s []) slots (λ s b. none_needs t' s b.gone) g.each)
@@ -69,9 +69,9 @@ module _ {M : Type 0} where
   given_back_pairs {t} {t'} {Mine} {slots} g = same_tree_pairs t t' slots g.others (all_of (IsGivenBack t t' Mine) (SameTree t t') slots (back_same t t' Mine) g.each)
 
   -- calls may rely on it that began after the stamp
-  pub reclaimed_leaves : {t t' : Table M} {s stamp : ℕ} {a : Node M} → Reclaims t t' s a stamp → (root : ℕ) (Mine : ℕ → Type 0) → IsPlaced t root → Leaves t t' root Mine (λ pin. stamp < pin) (s ∷ []) []
-  reclaimed_leaves {t} {t'} {s} {stamp} {a} r root Mine placed =
-      same_tree_leaves t t' root Mine (λ pin. stamp < pin) (s ∷ []) [] placed r.others (gone_same r, tt)
+  pub reclaimed_effect : {t t' : Table M} {s stamp : ℕ} {a : Node M} → Reclaims t t' s a stamp → (root : ℕ) (Mine : ℕ → Type 0) → IsPlaced t root → Effect t t' root Mine (λ pin. stamp < pin) (s ∷ []) []
+  reclaimed_effect {t} {t'} {s} {stamp} {a} r root Mine placed =
+      same_tree_effect t t' root Mine (λ pin. stamp < pin) (s ∷ []) [] placed r.others (gone_same r, tt)
         (goes t t' Mine (λ pin. stamp < pin) s a stamp r.here r.retired r.after (λ pin may. may), tt)
         (none_needs t' s r.after, tt)
 

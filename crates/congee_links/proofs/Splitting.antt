@@ -16,7 +16,7 @@ use Rattle.congee_store.specs.inner.Facts.{byte_at, IsLinked, IsPlaced, NeedsHol
 use Rattle.congee_store.proofs.Options.{none_some, some_same}
 use Rattle.congee_store.proofs.Ways.{length-begins, Begins-both}
 use Rattle.congee_links.proofs.Below.{Inside, ChangesChild, head_inside}
-use Rattle.congee_links.proofs.Effects.{OthersStay, Leaves, leaves}
+use Rattle.congee_links.proofs.Effects.{OthersStay, Effect, effect}
 use Rattle.congee_links.proofs.Pairs.{PutsPair, OtherPays, puts_pair}
 use Rattle.congee_links.proofs.Prefixes.{begins_next, begins_on, key_byte}
 use Rattle.congee_links.proofs.Trees.{Tree, IsTree, IsShaped, tree_of, linked_in, tree_at, placed_tree, override, override_here, override_other}
@@ -188,9 +188,9 @@ module _ {M : Type 0} {t t' : Table M} {p q r o key : ℕ} {a b m d : Node M} {v
       } in
       linked_tree second root (middle_tree first root before)
 
-  pub split_leaves : (Mine May : ℕ → Type 0) → Mine p → Mine r → Mine o → Leaves t t' root Mine May (p ∷ r ∷ o ∷ []) (p ∷ [])
-  split_leaves Mine May mine middle leaf =
-      leaves t t' root Mine May (p ∷ r ∷ o ∷ []) (p ∷ []) placed g.others
+  pub split_effect : (Mine May : ℕ → Type 0) → Mine p → Mine r → Mine o → Effect t t' root Mine May (p ∷ r ∷ o ∷ []) (p ∷ [])
+  split_effect Mine May mine middle leaf =
+      effect t t' root Mine May (p ∷ r ∷ o ∷ []) (p ∷ []) placed g.others
         (written_steps g.write root placed Mine May mine, (published_steps g.middle_new Mine May middle, (published_steps g.leaf_new Mine May leaf, tt)))
         ((λ (need : NeedsHolder t' p). inl refl), ((λ (need : NeedsHolder t' r). absurd (published_needs g.middle_new need)), ((λ (need : NeedsHolder t' o). absurd (published_needs g.leaf_new need)), tt)))
         split_tree

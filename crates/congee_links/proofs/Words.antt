@@ -3,7 +3,7 @@ use Rattle.std.proofs.Common.{◌≡◌, ◌≢◌, ℕ, suc, ◌+◌, ◌≤◌
 use Rattle.congee_sync.specs.Lock.{IsFree, IsLocked, IsObsolete}
 use Rattle.congee_store.specs.inner.World.{Standing, is_private, is_linked, is_detached, is_retired, Node, Table}
 use Rattle.congee_store.specs.inner.Facts.{IsSafe, IsLinked, IsIn, IsPlaced, NeedsHolder}
-use Rattle.congee_links.proofs.Effects.{OthersStay, Leaves, SameTree, same_tree_leaves, same_tree_pairs}
+use Rattle.congee_links.proofs.Effects.{OthersStay, Effect, SameTree, same_tree_effect, same_tree_pairs}
 use Rattle.congee_links.proofs.Pairs.{SamePairs}
 use Rattle.congee_links.proofs.Slots.{StepsAt, changes, worded_here, free_obsolete, unretired, linked_private, linked_retired, detached_private, detached_retired, free_needs, retired_needs}
 use Rattle.congee_links.proofs.Trees.{IsWorded, tree_of, linked_in, when_linked, placed_worded}
@@ -59,10 +59,10 @@ module _ {M : Type 0} where
   safe_linked a pin l = subst (λ z. IsSafe pin z) (sym l) tt
 
   module _ {t t' : Table M} {s : ℕ} {a : Node M} (u : Upgrades t t' s a) where
-    pub upgraded_leaves : (root : ℕ) (Mine May : ℕ → Type 0) → IsPlaced t root → Leaves t t' root Mine May (s ∷ []) (s ∷ [])
-    upgraded_leaves root Mine May placed =
+    pub upgraded_effect : (root : ℕ) (Mine May : ℕ → Type 0) → IsPlaced t root → Effect t t' root Mine May (s ∷ []) (s ∷ [])
+    upgraded_effect root Mine May placed =
         let b : Node M = record a { word = a.word + 2 } in
-        same_tree_leaves t t' root Mine May (s ∷ []) (s ∷ []) placed u.others
+        same_tree_effect t t' root Mine May (s ∷ []) (s ∷ []) placed u.others
           (reworded_same t t' s (a.word + 2) a u.here.here u.after, tt)
           (changes t t' Mine May s a b u.here.here u.after (not_private a u.here.standing) (worded_here b (inl u.here.standing) (locked_of a.word u.free)) refl (up_two a.word)
             (λ f e. absurd (not_same a.word 1 e)) (λ pin may. safe_linked a pin u.here.standing) (inr u.free), tt)
@@ -72,12 +72,12 @@ module _ {M : Type 0} where
     upgraded_pairs = same_tree_pairs t t' (s ∷ []) u.others (reworded_same t t' s (a.word + 2) a u.here.here u.after, tt)
 
   module _ {t t' : Table M} {s : ℕ} {a : Node M} (u : Unlocks t t' s a) where
-    pub unlocked_leaves : (root : ℕ) (Mine May : ℕ → Type 0) → IsPlaced t root → Mine s → Leaves t t' root Mine May (s ∷ []) []
-    unlocked_leaves root Mine May placed mine =
+    pub unlocked_effect : (root : ℕ) (Mine May : ℕ → Type 0) → IsPlaced t root → Mine s → Effect t t' root Mine May (s ∷ []) []
+    unlocked_effect root Mine May placed mine =
         let b : Node M = record a { word = a.word + 2 } in
         let fresh : IsObsolete a.word → ⊥ = unretired a (placed_worded t root placed s a u.here.here) (not_retired a u.here.standing) in
         let free : IsFree (a.word + 2) = freed a.word u.locked fresh in
-        same_tree_leaves t t' root Mine May (s ∷ []) [] placed u.others
+        same_tree_effect t t' root Mine May (s ∷ []) [] placed u.others
           (reworded_same t t' s (a.word + 2) a u.here.here u.after, tt)
           (changes t t' Mine May s a b u.here.here u.after (not_private a u.here.standing) (worded_here b (inl u.here.standing) (free_obsolete (a.word + 2) free)) refl (up_two a.word)
             (λ f e. absurd (not_same a.word 1 e)) (λ pin may. safe_linked a pin u.here.standing) (inl mine), tt)
@@ -91,12 +91,12 @@ module _ {M : Type 0} where
     retired_same = ap linked_in u.after ∙ sym (ap linked_in u.here ∙ ap (λ z. when_linked z a.node) u.detached)
 
     -- calls may rely on it that began by the time of the stamp
-    pub retired_leaves : (root : ℕ) (Mine : ℕ → Type 0) → IsPlaced t root → Mine s → Leaves t t' root Mine (λ pin. IsSafe pin (is_retired stamp)) (s ∷ []) []
-    retired_leaves root Mine placed mine =
+    pub retired_effect : (root : ℕ) (Mine : ℕ → Type 0) → IsPlaced t root → Mine s → Effect t t' root Mine (λ pin. IsSafe pin (is_retired stamp)) (s ∷ []) []
+    retired_effect root Mine placed mine =
         let b : Node M = record a { word = a.word + 1; standing = is_retired stamp } in
         let fresh : IsObsolete a.word → ⊥ = unretired a (placed_worded t root placed s a u.here) (λ at r. detached_retired at (sym u.detached ∙ r)) in
         let over = ended a.word u.locked fresh in
-        same_tree_leaves t t' root Mine (λ pin. IsSafe pin (is_retired stamp)) (s ∷ []) [] placed u.others
+        same_tree_effect t t' root Mine (λ pin. IsSafe pin (is_retired stamp)) (s ∷ []) [] placed u.others
           (retired_same, tt)
           (changes t t' Mine (λ pin. IsSafe pin (is_retired stamp)) s a b u.here u.after (λ p. detached_private (sym u.detached ∙ p))
             (record { free = λ f. absurd (free_obsolete (a.word + 1) f over.0); locked = λ o. over.1; obsolete = ((λ (o : IsObsolete b.word). (stamp, refl)), (λ r. over.0)) })
