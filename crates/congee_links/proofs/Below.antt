@@ -55,6 +55,14 @@ module _ {M : Type 0} where
     pub prefix : node.prefix ≡ n.prefix
     pub form : node.form ≡ n.form
 
+  -- a child that is still there is below each node with that prefix
+  under_still : (f f' : Tree M) (n w : TableNode M) (y c : ℕ) → n.prefix ≡ w.prefix → (u : Under f w y c) → Still f' c u.node → Under f' n y c
+  under_still f f' n w y c same u k = record {
+    node = k.node;
+    here = k.here;
+    begins = subst (λ z. Begins (z ++ y ∷ []) k.node.prefix) (sym same) (subst (λ z. Begins (w.prefix ++ y ∷ []) z) (sym k.prefix) u.begins);
+  }
+
 module _ {M : Type 0} {f f' : Tree M} {p x : ℕ} {a a' : TableNode M} (re : Relinks f f' p x a a') where
   -- a node that doesn't go that way was there, and is there
   pub was : (s : ℕ) (n : TableNode M) → f' s ≡ Some n → (Inside a.prefix x n.prefix → ⊥) → Was f p x s n
@@ -121,10 +129,7 @@ module _ {M : Type 0} {f f' : Tree M} {p x : ℕ} {a a' : TableNode M} (re : Rel
         let off_w : Inside a.prefix x w.node.prefix → ⊥ = subst (λ z. Inside a.prefix x z → ⊥) w.prefix off in
         let there : lookup w.node.children y ≡ Some (below_at c) = sym (w.children y other) ∙ child in
         let u : Under f w.node y c = tree.under s w.node w.here y c there in
-        let k : Still f' c u.node = still c u.node u.here (child_off s w.node y c w.here off_w other there u) in
-        let goes : Begins (w.node.prefix ++ y ∷ []) k.node.prefix = subst (λ z. Begins (w.node.prefix ++ y ∷ []) z) (sym k.prefix) u.begins in
-        let prefix : w.node.prefix ≡ n.prefix = sym w.prefix in
-        record { node = k.node; here = k.here; begins = subst (λ z. Begins (z ++ y ∷ []) k.node.prefix) prefix goes }
+        under_still f f' n w.node y c w.prefix u (still c u.node u.here (child_off s w.node y c w.here off_w other there u))
 
     pub relinks_under : (s : ℕ) (n : TableNode M) → f' s ≡ Some n → (y c : ℕ) → lookup n.children y ≡ Some (below_at c) → Under f' n y c
     relinks_under s n h y c child =

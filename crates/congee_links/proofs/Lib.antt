@@ -1,4 +1,5 @@
 pub mod Below
+pub mod Contents
 pub mod Detaching
 pub mod Effects
 pub mod Entries

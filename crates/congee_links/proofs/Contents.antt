@@ -1,0 +1,43 @@
+-- WHAT BECOMES OF THE CONTENT, as a reader sees it: it stays, has one pair more or another value, or one pair less.
+use Rattle.std.proofs.Common.{◌≡◌, ℕ, ◌+◌, ◌^◌, ◌<◌, List, length, Option, Some, None, IsSome, ◌↔◌, sym, ◌∙◌, subst}
+use Rattle.congee_map.specs.Map.{Pairs, IsMap, lookup, put, without}
+use Rattle.congee_map.proofs.ByteMapLaws.{length-put_new, length-without_present}
+use Rattle.congee_protocol.specs.Calls.{bytes_of}
+use Rattle.congee_protocol.specs.Content.{IsContent}
+use Rattle.congee_protocol.specs.State.{State}
+use Rattle.congee_store.specs.inner.Facts.{IsPlaced, Keeps}
+use Rattle.congee_store.specs.inner.Turns.{Shows}
+use Rattle.congee_store.specs.inner.World.{Table}
+use Rattle.congee_store.proofs.Reaching.{keeps_stands, stands_keeps}
+use Rattle.congee_links.proofs.Maps.{IsMapOf, map_same, map_put, map_without}
+use Rattle.congee_links.proofs.Pairs.{SamePairs, PutsPair, TakesPair}
+
+module _ {M : Type 0} (t : Table M) (root : ℕ) (s : State M) (placed : IsPlaced t root) (shows : Shows t root s) where
+  -- the content is the map that the table keeps
+  pub content_map : (m : Pairs M) → IsContent s m → IsMapOf t m
+  content_map m c = record {
+    map = c.map;
+    pairs = λ key v. (
+      (λ (e : lookup m key ≡ Some v). let h = stands_keeps t root s placed shows key v ((c.pairs key v).0 e) in (h.1, h.0)),
+      (λ h. (c.pairs key v).1 (keeps_stands t root s placed shows key v h.0 h.1)),
+    );
+  }
+
+  pub map_content : (m : Pairs M) → IsMapOf t m → IsContent s m
+  map_content m is = record {
+    map = is.map;
+    pairs = λ key v. (
+      (λ (e : lookup m key ≡ Some v). let h = (is.pairs key v).0 e in keeps_stands t root s placed shows key v h.0 h.1),
+      (λ h. let k = stands_keeps t root s placed shows key v h in (is.pairs key v).1 (k.1, k.0)),
+    );
+  }
+
+module _ {M : Type 0} (t t' : Table M) (root : ℕ) (s s' : State M) (placed : IsPlaced t root) (placed' : IsPlaced t' root) (shows : Shows t root s) (shows' : Shows t' root s') where
+  pub content_same : SamePairs t t' → (m : Pairs M) → IsContent s m → IsContent s' m
+  content_same same m c = map_content t' root s' placed' shows' m (map_same same (content_map t root s placed shows m c))
+
+  pub content_put : (key : ℕ) (v : M) → key < 2 ^ 64 → PutsPair t t' key v → (m : Pairs M) → IsContent s m → IsContent s' (put m key v)
+  content_put key v small puts m c = map_content t' root s' placed' shows' (put m key v) (map_put root placed' small puts (content_map t root s placed shows m c))
+
+  pub content_without : (key : ℕ) → TakesPair t t' key → (m : Pairs M) → IsContent s m → IsContent s' (without m key)
+  content_without key takes m c = map_content t' root s' placed' shows' (without m key) (map_without takes (content_map t root s placed shows m c))
