@@ -1,5 +1,5 @@
 -- A SPLIT: a private middle node, which has a locked node and a leaf with one pair, takes that node's place below its locked parent.
-use Rattle.std.proofs.Common.{◌≡◌, ◌≢◌, ℕ, suc, ◌+◌, ◌^◌, ◌<◌, ◌≤◌, List, [], ◌∷◌, ◌++◌, length, get_or, Option, Some, None, ◌⊎◌, inl, inr, refl, sym, subst, ap, ◌∙◌, arith}
+use Rattle.std.proofs.Common.{◌≡◌, ◌≢◌, ℕ, zero, suc, ◌+◌, ◌^◌, ◌<◌, ◌≤◌, List, [], ◌∷◌, ◌++◌, length, get_or, Option, Some, None, ◌⊎◌, inl, inr, refl, sym, subst, ap, ◌∙◌, arith}
 use Rattle.std.proofs.lemmas.Bool.{cases_eq, eq-eqb, ne_eqb}
 use Rattle.std.proofs.lemmas.Bool.Decides.{eqb_tells}
 use Rattle.congee_map.specs.Map.{lookup, put, Rises}
@@ -24,6 +24,11 @@ use Rattle.congee_links.proofs.TreeCopies.{InsertsMiddle, middle_tree}
 use Rattle.congee_links.proofs.TreeLeaves.{LinksLeaf, linked_tree}
 use Rattle.congee_links.proofs.Writing.{answered, WritesBelow, Publishes, IsLeafFor, leaf_has, leaf_only, leaf_nodes, leaf_shaped, single_same, single_only, below_payload, written_at, written_changes, written_steps, published_tree, published_vacant, published_steps, published_needs, published_new, other_pays, vacant_pays, only_pays, parent_to, parent_from}
 
+byte_small : (p : List ℕ) (i : ℕ) → AreBytes p → get_or p i 0 < 256
+byte_small [] i bytes = omega arith
+byte_small (b ∷ p) zero bytes = bytes.0
+byte_small (b ∷ p) (suc i) bytes = byte_small p i bytes.1
+
 -- a key that is found is in the range
 pub found_below : {V : Type 0} (a b : ℕ) (es : List (ℕ × V)) (k : ℕ) (v : V) → Rises a b es → lookup es k ≡ Some v → k < b
 found_below a b [] k v rises e = absurd (none_some v e)
@@ -44,6 +49,33 @@ module _ {M : Type 0} where
     pub has_new : lookup m.children (next_byte m.prefix (bytes_of key)) ≡ Some (below_at o)
     pub only : (y : ℕ) (c : Child M) → lookup m.children y ≡ Some c → (y ≡ next_byte m.prefix old.prefix) ⊎ (y ≡ next_byte m.prefix (bytes_of key))
     pub ordered : Rises 0 256 m.children
+
+  -- a node with these two entries is one
+  pub middle_of : (m old : TableNode M) (key q o : ℕ) → length m.prefix ≤ 7 → AreBytes old.prefix → Begins m.prefix old.prefix → Begins m.prefix (bytes_of key)
+      → length m.prefix < length old.prefix → next_byte m.prefix old.prefix ≢ next_byte m.prefix (bytes_of key)
+      → m.children ≡ put ((next_byte m.prefix old.prefix, below_at q) ∷ []) (next_byte m.prefix (bytes_of key)) (below_at o) → IsMiddle m old key q o
+  middle_of m old key q o short also begins_old begins_key shorter apart children =
+      let u = next_byte m.prefix old.prefix in
+      let z = next_byte m.prefix (bytes_of key) in
+      let single : List (ℕ × Child M) = (u, below_at q) ∷ [] in
+      let small : u < 256 = byte_small old.prefix (length m.prefix) also in
+      let rises : Rises 0 256 single = (omega arith, small, tt) in
+      record {
+        begins_old = begins_old;
+        begins_key = begins_key;
+        shorter = shorter;
+        apart = apart;
+        has_old = rw children (lookup-put_other single z (below_at o) u apart ∙ single_same u (below_at q));
+        has_new = rw children (lookup-put_same single z (below_at o));
+        only = λ y c e.
+            elim (eqb_tells y z) [
+              | inl same ↦ inr same.1
+              | inr far ↦
+                  let there : lookup (put single z (below_at o)) y ≡ Some c = subst (λ (es : List (ℕ × Child M)). lookup es y ≡ Some c) children e in
+                  inl (single_only u y (below_at q) c (sym (lookup-put_other single z (below_at o) y far.1) ∙ there)).0
+            ];
+        ordered = subst (λ (es : List (ℕ × Child M)). Rises 0 256 es) (sym children) (Rises-put 0 256 single z (below_at o) rises (omega arith) (key_byte m.prefix key begins_key short));
+      }
 
   pub record Splits (t t' : Table M) (p q r o key : ℕ) (a b m d : Node M) (v : M) : Type 0 where
     pub write : WritesBelow t t' p key a (Some (below_at r))

@@ -23,6 +23,13 @@ freed word locked fresh = omega (arith, locked, fresh)
 ended : (word : ℕ) → IsLocked word → (IsObsolete word → ⊥) → IsObsolete (word + 1) × IsLocked (word + 1)
 ended word locked fresh = (omega (arith, locked, fresh), omega (arith, locked, fresh))
 
+-- a call that began by the time of a stamp may rely on a node with that stamp
+pub safe_by : (pin count : ℕ) → pin ≤ count → IsSafe pin (is_retired (Some count))
+safe_by pin count early = early
+
+pub safe_always : (pin : ℕ) → IsSafe pin (is_retired None)
+safe_always pin = tt
+
 module _ {M : Type 0} where
   -- a free linked node is locked
   pub record Upgrades (t t' : Table M) (s : ℕ) (a : Node M) : Type 0 where
