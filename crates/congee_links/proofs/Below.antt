@@ -1,13 +1,11 @@
 -- Below one byte of a linked node other nodes are linked than before.
-use Rattle.std.proofs.Common.{◌≡◌, ◌≢◌, ℕ, ◌+◌, ◌<◌, ◌≤◌, List, [], ◌∷◌, ◌++◌, length, Some, ◌⊎◌, ◌↔◌, inl, inr, refl, sym, subst, ap, ◌∙◌, arith}
+use Rattle.std.proofs.Common.{◌≡◌, ◌≢◌, ℕ, ◌+◌, ◌<◌, ◌≤◌, List, [], ◌∷◌, ◌++◌, length, Some, ◌⊎◌, inl, inr, refl, sym, subst, ap, ◌∙◌, arith}
 use Rattle.std.proofs.lemmas.Bool.{cases_lt}
 use Rattle.std.proofs.lemmas.Bool.Decides.{eqb_tells}
-use Rattle.congee_base.specs.declared.base_node.NodeType.{NodeType}
 use Rattle.congee_map.specs.Map.{lookup}
 use Rattle.congee_node_table.specs.Key.{Begins, next_byte}
 use Rattle.congee_node_table.specs.TableNode.{TableNode}
-use Rattle.congee_node_table.specs.declared.child.Child.{Child}
-use Rattle.congee_node_table.specs.declared.child.Child.TheVariants.{Payload, Node as below_at}
+use Rattle.congee_node_table.specs.declared.child.Child.TheVariants.{Node as below_at}
 use Rattle.congee_node_table.proofs.BeginLaws.{begins_itself}
 use Rattle.congee_store.proofs.Options.{some_same}
 use Rattle.congee_store.proofs.Ways.{length-begins, Begins-trans, Begins-both, get_or-begins, longer-begins, slots_same}
@@ -160,8 +158,8 @@ module _ {M : Type 0} {f f' : Tree M} {p x : ℕ} {a a' : TableNode M} (re : Rel
         let one : u.node ≡ on.node = some_same u.node on.node (sym u.here ∙ on.here) in
         let goes : Begins (w.prefix ++ next_byte w.prefix k ∷ []) on.node.prefix = subst (λ (z : TableNode M). Begins (w.prefix ++ next_byte w.prefix k ∷ []) z.prefix) one u.begins in
         let other : s ≡ p → next_byte w.prefix k ≢ x = λ e byte.
-            let is : w ≡ a = some_same w a (sym h ∙ subst (λ z. f z ≡ Some a) (sym e) re.at.before) in
-            off (subst (λ (z : TableNode M). Inside z.prefix x on.node.prefix) is (subst (λ z. Begins (w.prefix ++ z ∷ []) on.node.prefix) byte goes)) in
+        let is : w ≡ a = some_same w a (sym h ∙ subst (λ z. f z ≡ Some a) (sym e) re.at.before) in
+        off (subst (λ (z : TableNode M). Inside z.prefix x on.node.prefix) is (subst (λ z. Begins (w.prefix ++ z ∷ []) on.node.prefix) byte goes)) in
         let kept : Still f' on.slot on.node = still on.slot on.node on.here off in
         record {
           slot = on.slot;
@@ -194,18 +192,18 @@ module _ {M : Type 0} {f f' : Tree M} {p x : ℕ} {a a' : TableNode M} (re : Rel
                                 let v : Under f w.node (next_byte w.node.prefix a.prefix) on.slot = tree.under s w.node w.here (next_byte w.node.prefix a.prefix) on.slot on.child in
                                 let one : v.node ≡ on.node = some_same v.node on.node (sym v.here ∙ on.here) in
                                 let longer : length w.node.prefix < length on.node.prefix =
-                                    subst (λ (z : TableNode M). length w.node.prefix < length z.prefix) one (longer-begins w.node.prefix v.node.prefix (next_byte w.node.prefix a.prefix) v.begins) in
+                                subst (λ (z : TableNode M). length w.node.prefix < length z.prefix) one (longer-begins w.node.prefix v.node.prefix (next_byte w.node.prefix a.prefix) v.begins) in
                                 let within : length on.node.prefix ≤ length a.prefix = length-begins on.node.prefix a.prefix on.begins in
                                 let byte : next_byte w.node.prefix a.prefix ≡ next_byte w.node.prefix m.prefix = get_or-begins a.prefix m.prefix (length w.node.prefix) from_a (omega arith) in
                                 let far : Inside a.prefix x on.node.prefix → ⊥ = λ i. let beyond : length a.prefix < length on.node.prefix = longer-begins a.prefix on.node.prefix x i in omega (arith, beyond, within) in
                                 inr (way_off s n w.node m.prefix w.here w.prefix w.children
-                                  (record {
-                                    slot = on.slot;
-                                    node = on.node;
-                                    child = subst (λ z. lookup w.node.children z ≡ Some (below_at on.slot)) byte on.child;
-                                    here = on.here;
-                                    begins = Begins-trans on.node.prefix a.prefix m.prefix on.begins from_a;
-                                  }) far)
+                                (record {
+                                  slot = on.slot;
+                                  node = on.node;
+                                  child = subst (λ z. lookup w.node.children z ≡ Some (below_at on.slot)) byte on.child;
+                                  here = on.here;
+                                  begins = Begins-trans on.node.prefix a.prefix m.prefix on.begins from_a;
+                                }) far)
                           ]
                     ]
                 | inr out ↦
@@ -214,7 +212,7 @@ module _ {M : Type 0} {f f' : Tree M} {p x : ℕ} {a a' : TableNode M} (re : Rel
                       | inl same ↦ inl same
                       | inr on ↦
                           let far : Inside a.prefix x on.node.prefix → ⊥ = λ i.
-                              out (subst (λ z. Inside a.prefix x z) (sym v.prefix) (Begins-trans (a.prefix ++ x ∷ []) on.node.prefix v.node.prefix i on.begins)) in
+                          out (subst (λ z. Inside a.prefix x z) (sym v.prefix) (Begins-trans (a.prefix ++ x ∷ []) on.node.prefix v.node.prefix i on.begins)) in
                           inr (subst (λ z. Leads f' n z) (sym v.prefix) (way_off s n w.node v.node.prefix w.here w.prefix w.children on far))
                     ]
               ]
@@ -234,8 +232,8 @@ module _ {M : Type 0} {f f' : Tree M} {p x : ℕ} {a a' : TableNode M} (re : Rel
     pub relinks_tree : IsTree f' root
     relinks_tree =
         let out : Inside a.prefix x tree.top.prefix → ⊥ = λ i.
-            let longer : length a.prefix < length tree.top.prefix = longer-begins a.prefix tree.top.prefix x i in
-            let none : length tree.top.prefix ≡ 0 = ap length tree.top_prefix in omega (arith, longer, none) in
+        let longer : length a.prefix < length tree.top.prefix = longer-begins a.prefix tree.top.prefix x i in
+        let none : length tree.top.prefix ≡ 0 = ap length tree.top_prefix in omega (arith, longer, none) in
         let top : Still f' root tree.top = still root tree.top tree.top_here out in
         record {
           top = top.node;

@@ -1,5 +1,5 @@
 -- WHAT BECOMES OF THE CONTENT, as a reader sees it: it stays, has one pair more or another value, or one pair less.
-use Rattle.std.proofs.Common.{◌≡◌, ◌≢◌, ℕ, ◌+◌, ◌^◌, ◌<◌, ◌≤◌, List, length, Option, Some, None, IsSome, ◌⊎◌, ◌↔◌, inl, inr, refl, sym, ap, ◌∙◌, subst, arith}
+use Rattle.std.proofs.Common.{◌≡◌, ℕ, ◌+◌, ◌^◌, ◌<◌, length, Option, Some, None, IsSome, inl, inr, refl, sym, ap, ◌∙◌, subst, arith}
 use Rattle.std.proofs.lemmas.Bool.Decides.{eqb_tells}
 use Rattle.congee_map.specs.Map.{Pairs, IsMap, lookup, put, without}
 use Rattle.congee_map.proofs.MapLaws.{lookup-put_same, lookup-put_other, Rises-put, lookup-without_same, lookup-without_other, Rises-without, same_from_lookups}
@@ -70,11 +70,11 @@ module _ {M : Type 0} where
   without-put m key v map small =
       let rises : IsMap (put m key v) = Rises-put 0 (2 ^ 64) m key v map (omega arith) small in
       same_from_lookups 0 (2 ^ 64) 0 (2 ^ 64) (without (put m key v) key) (without m key) (Rises-without 0 (2 ^ 64) (put m key v) key rises) (Rises-without 0 (2 ^ 64) m key map) (λ k.
-          elim (eqb_tells k key) [
-            | inl same ↦ subst (λ z. lookup (without (put m key v) key) z ≡ lookup (without m key) z) (sym same.1)
-                (lookup-without_same 0 (2 ^ 64) (put m key v) key rises ∙ sym (lookup-without_same 0 (2 ^ 64) m key map))
-            | inr far ↦ lookup-without_other (put m key v) key k far.1 ∙ (lookup-put_other m key v k far.1 ∙ sym (lookup-without_other m key k far.1))
-          ])
+      elim (eqb_tells k key) [
+        | inl same ↦ subst (λ z. lookup (without (put m key v) key) z ≡ lookup (without m key) z) (sym same.1)
+            (lookup-without_same 0 (2 ^ 64) (put m key v) key rises ∙ sym (lookup-without_same 0 (2 ^ 64) m key map))
+        | inr far ↦ lookup-without_other (put m key v) key k far.1 ∙ (lookup-put_other m key v k far.1 ∙ sym (lookup-without_other m key k far.1))
+      ])
 
   length-put_present : (m : Pairs M) (key : ℕ) (v w : M) → IsMap m → key < 2 ^ 64 → lookup m key ≡ Some w → length (put m key v) ≡ length m
   length-put_present m key v w map small e =

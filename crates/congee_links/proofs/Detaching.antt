@@ -1,6 +1,5 @@
 -- A LOCKED LEAF WITH ONE PAIR IS DETACHED from its locked parent, and gives its payload away.
-use Rattle.std.proofs.Common.{◌≡◌, ◌≢◌, ℕ, ◌+◌, ◌^◌, ◌<◌, List, [], ◌∷◌, ◌++◌, length, Option, Some, None, ◌⊎◌, inl, inr, refl, sym, subst, ap, ◌∙◌, arith}
-use Rattle.std.proofs.lemmas.Bool.Decides.{eqb_tells}
+use Rattle.std.proofs.Common.{◌≡◌, ℕ, ◌+◌, ◌^◌, ◌<◌, List, [], ◌∷◌, length, Option, Some, None, inl, inr, refl, sym, subst, ap, ◌∙◌, arith}
 use Rattle.congee_map.specs.Map.{lookup}
 use Rattle.congee_node_table.specs.TableNode.{TableNode}
 use Rattle.congee_node_table.specs.declared.child.Child.{Child}
@@ -8,13 +7,12 @@ use Rattle.congee_node_table.specs.declared.child.Child.TheVariants.{Payload, No
 use Rattle.congee_protocol.specs.Calls.{bytes_of}
 use Rattle.congee_store.specs.inner.World.{Node, Table, entry}
 use Rattle.congee_store.specs.inner.Facts.{byte_at, IsPlaced, NeedsHolder}
-use Rattle.congee_store.proofs.Options.{none_some, some_same}
 use Rattle.congee_links.proofs.Below.{Inside, head_inside}
 use Rattle.congee_links.proofs.Effects.{OthersStay, Effect, effect}
 use Rattle.congee_links.proofs.Pairs.{SamePairs, TakesPair, OtherPays, same_pairs, takes_pair}
 use Rattle.congee_links.proofs.Trees.{IsTree, Pays, tree_of, linked_in, tree_at, placed_tree}
 use Rattle.congee_links.proofs.TreeLeaves.{HasNoNodes, DropsNode, dropped_tree, none_left}
-use Rattle.congee_links.proofs.Writing.{answered, WritesBelow, Detaches, IsLeafFor, leaf_only, leaf_nodes, below_payload, written_at, written_linked, written_changes, written_steps, detached_tree, detached_steps, other_pays, vacant_pays, only_pays, parent_to, parent_from}
+use Rattle.congee_links.proofs.Writing.{answered, WritesBelow, Detaches, IsLeafFor, leaf_only, below_payload, written_at, written_changes, written_steps, detached_tree, detached_steps, other_pays, vacant_pays, only_pays, parent_to, parent_from}
 
 not_longer : (p : List ℕ) → p ≡ 0 ∷ p → ⊥
 not_longer p e = let even : length p ≡ length p + 1 = ap length e ∙ omega arith in omega (arith, even)
@@ -46,30 +44,30 @@ module _ {M : Type 0} {t t' : Table M} {p q key : ℕ} {a b : Node M} {left : Ta
   pub taken_effect : (Mine May : ℕ → Type 0) → Mine p → Mine q → Effect t t' root Mine May (p ∷ q ∷ []) (p ∷ q ∷ [])
   taken_effect Mine May mine also =
       effect t t' root Mine May (p ∷ q ∷ []) (p ∷ q ∷ []) placed d.others
-        (written_steps d.write root placed Mine May mine, (detached_steps d.old root Mine May placed also, tt))
-        ((λ (need : NeedsHolder t' p). inl refl), ((λ (need : NeedsHolder t' q). inr (inl refl)), tt))
-        (λ tree. dropped_tree taken_drops root tree)
+      (written_steps d.write root placed Mine May mine, (detached_steps d.old root Mine May placed also, tt))
+      ((λ (need : NeedsHolder t' p). inl refl), ((λ (need : NeedsHolder t' q). inr (inl refl)), tt))
+      (λ tree. dropped_tree taken_drops root tree)
 
   taken_others : (prefix : List ℕ) (byte : ℕ) → ((y : ℕ) (v : M) → (b.node.prefix ≡ prefix → y ≡ byte → ⊥) → lookup b.node.children y ≡ Some (Payload v) → ⊥) → OtherPays (tree_of t) (tree_of t') prefix byte
   taken_others prefix byte none =
       other_pays t t' prefix byte (p ∷ q ∷ []) d.others
-        (parent_to d.write root placed prefix byte (λ v e. below_payload q v (sym d.child ∙ e)), (only_pays (tree_of t) (tree_of t') prefix byte q b.node (tree_at t q b d.old.here) none, tt))
-        (parent_from d.write root placed prefix byte none_payload, (vacant_pays (tree_of t') (tree_of t) prefix byte q (detached_tree d.old), tt))
+      (parent_to d.write root placed prefix byte (λ v e. below_payload q v (sym d.child ∙ e)), (only_pays (tree_of t) (tree_of t') prefix byte q b.node (tree_at t q b d.old.here) none, tt))
+      (parent_from d.write root placed prefix byte none_payload, (vacant_pays (tree_of t') (tree_of t) prefix byte q (detached_tree d.old), tt))
 
   none_there : (v : M) → Pays (tree_of t') b.node.prefix (byte_at b (bytes_of key)) v → ⊥
   none_there v h =
       let tree : IsTree (tree_of t) root = placed_tree t root placed in
       none_left taken_drops root tree h.slot h.node h.here
-        (subst (λ z. Inside a.node.prefix (byte_at a (bytes_of key)) z) (sym h.same) (head_inside taken_drops.at root tree q b.node d.child (tree_at t q b d.old.here)))
+      (subst (λ z. Inside a.node.prefix (byte_at a (bytes_of key)) z) (sym h.same) (head_inside taken_drops.at root tree q b.node d.child (tree_at t q b d.old.here)))
 
   -- the key of its one pair goes
   pub taken_takes : (v : M) → IsLeafFor b.node key v → key < 2 ^ 64 → TakesPair t t' key
   taken_takes v leaf small =
       takes_pair t t' b.node.prefix key leaf.full leaf.begins small
-        (taken_others b.node.prefix (byte_at b (bytes_of key)) (λ y w far e. far refl (leaf_only leaf y (Payload w) e).0)) none_there
+      (taken_others b.node.prefix (byte_at b (bytes_of key)) (λ y w far e. far refl (leaf_only leaf y (Payload w) e).0)) none_there
 
   -- no pair goes with an empty node
   pub taken_pairs : b.node.children ≡ [] → SamePairs t t'
   taken_pairs empty =
       same_pairs t t' (λ x y v.
-          taken_others (0 ∷ x) y (λ z w far e. none_payload w (subst (λ (es : List (ℕ × Child M)). lookup es z ≡ Some (Payload w)) empty e)) x y v (λ e same. not_longer x e))
+      taken_others (0 ∷ x) y (λ z w far e. none_payload w (subst (λ (es : List (ℕ × Child M)). lookup es z ≡ Some (Payload w)) empty e)) x y v (λ e same. not_longer x e))

@@ -1,7 +1,7 @@
 -- WHAT AN EVENT THAT WRITES LEAVES of a table: the place facts, what other calls know, and which nodes need a holder.
-use Rattle.std.proofs.Common.{◌≡◌, ◌≢◌, ℕ, List, [], ◌∷◌, Option, Some, None, ◌⊎◌, inl, inr, refl, sym, subst, ap, ◌∙◌}
+use Rattle.std.proofs.Common.{◌≡◌, ◌≢◌, ℕ, List, [], ◌∷◌, ◌⊎◌, inl, inr, sym, subst, ap, ◌∙◌}
 use Rattle.std.proofs.lemmas.Bool.Decides.{eqb_tells}
-use Rattle.congee_store.specs.inner.World.{Node, Table}
+use Rattle.congee_store.specs.inner.World.{Table}
 use Rattle.congee_store.specs.inner.Facts.{IsIn, IsPlaced, Guarantees, PrivateStays, NeedsHolder}
 use Rattle.congee_links.proofs.Trees.{Tree, IsTree, Pays, linked_in, tree_of, placed_tree, tree_placed, placed_worded, tree_same}
 use Rattle.congee_links.proofs.Pairs.{SamePairs, same_pairs}
@@ -57,10 +57,10 @@ module _ {M : Type 0} where
       → AllIn (StepsAt t t' Mine May) written → AllIn (λ s. NeedsHolder t' s → IsIn s named) written → (IsTree (tree_of t) root → IsTree (tree_of t') root) → Effect t t' root Mine May written named
   effect t t' root Mine May written named placed others steps needs tree =
       let at : (s : ℕ) → StepsAt t t' Mine May s = λ s.
-          elim (in_or s written) [
-            | inl one ↦ all_in (StepsAt t t' Mine May) written steps s one
-            | inr out ↦ untouched t t' Mine May s (others s out) (placed_worded t root placed s)
-          ] in
+      elim (in_or s written) [
+        | inl one ↦ all_in (StepsAt t t' Mine May) written steps s one
+        | inr out ↦ untouched t t' Mine May s (others s out) (placed_worded t root placed s)
+      ] in
       record {
         placed = tree_placed t' root (tree (placed_tree t root placed)) (λ s. (at s).worded);
         others = λ pin may s. (at s).remains pin may;

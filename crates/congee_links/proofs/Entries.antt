@@ -1,7 +1,6 @@
 -- A LOCKED LEAF HAS ANOTHER PAYLOAD under a key's byte, or none there.
-use Rattle.std.proofs.Common.{◌≡◌, ◌≢◌, ℕ, ◌^◌, ◌<◌, List, [], ◌∷◌, length, Option, Some, None, ◌⊎◌, inl, inr, refl, sym, subst, ap, ◌∙◌}
+use Rattle.std.proofs.Common.{◌≡◌, ℕ, ◌^◌, ◌<◌, [], ◌∷◌, length, Option, Some, None, inl, inr, refl, sym, subst, ap, ◌∙◌}
 use Rattle.congee_map.specs.Map.{lookup}
-use Rattle.congee_node_table.specs.Key.{Begins, next_byte}
 use Rattle.congee_node_table.specs.TableNode.{TableNode}
 use Rattle.congee_node_table.specs.declared.child.Child.{Child}
 use Rattle.congee_node_table.specs.declared.child.Child.TheVariants.{Payload, Node as below_at}
@@ -11,10 +10,10 @@ use Rattle.congee_store.specs.inner.Facts.{byte_at, IsPlaced, NeedsHolder}
 use Rattle.congee_store.proofs.Options.{some_same, none_some}
 use Rattle.congee_links.proofs.Below.{one_prefix}
 use Rattle.congee_links.proofs.Effects.{OthersStay, Effect, effect}
-use Rattle.congee_links.proofs.Pairs.{Elsewhere, PutsPair, TakesPair, OtherPays, puts_pair, takes_pair}
-use Rattle.congee_links.proofs.Trees.{Tree, IsTree, Pays, tree_of, linked_in, tree_at, placed_tree}
+use Rattle.congee_links.proofs.Pairs.{PutsPair, TakesPair, OtherPays, puts_pair, takes_pair}
+use Rattle.congee_links.proofs.Trees.{IsTree, tree_of, linked_in, tree_at, placed_tree}
 use Rattle.congee_links.proofs.TreeLeaves.{ChangesLeaf, paid_tree}
-use Rattle.congee_links.proofs.Writing.{answered, WritesBelow, written_at, written_linked, written_changes, written_steps, SlotPays, other_pays, node_pays, answer_other}
+use Rattle.congee_links.proofs.Writing.{answered, WritesBelow, written_at, written_linked, written_changes, written_steps, other_pays, node_pays, answer_other}
 
 module _ {M : Type 0} where
   abbrev pub payload : Option M → Option (Child M)
@@ -52,11 +51,15 @@ module _ {M : Type 0} {t t' : Table M} {s key : ℕ} {a : Node M} {value : Optio
       let b : Node M = answered a (byte_at a (bytes_of key)) (payload value) in
       let before : tree_of t s ≡ Some a.node = tree_at t s a w.write.here in
       let after : tree_of t' s ≡ Some b.node = tree_at t' s b (written_linked w.write root placed) in
-      other_pays t t' a.node.prefix (byte_at a (bytes_of key)) (s ∷ []) w.others
-        (node_pays (tree_of t) (tree_of t') a.node.prefix (byte_at a (bytes_of key)) s s a.node b.node before after refl
-          (λ y v far e. answer_other a.node.children (byte_at a (bytes_of key)) (payload value) y (far refl) ∙ e), tt)
-        (node_pays (tree_of t') (tree_of t) a.node.prefix (byte_at a (bytes_of key)) s s b.node a.node after before refl
-          (λ y v far e. sym (answer_other a.node.children (byte_at a (bytes_of key)) (payload value) y (far refl)) ∙ e), tt)
+      other_pays t t' a.node.prefix (byte_at a (bytes_of key)) (s ∷ []) w.others (
+        node_pays (tree_of t) (tree_of t') a.node.prefix (byte_at a (bytes_of key)) s s a.node b.node before after refl
+            (λ y v far e. answer_other a.node.children (byte_at a (bytes_of key)) (payload value) y (far refl) ∙ e),
+        tt,
+      ) (
+        node_pays (tree_of t') (tree_of t) a.node.prefix (byte_at a (bytes_of key)) s s b.node a.node after before refl
+            (λ y v far e. sym (answer_other a.node.children (byte_at a (bytes_of key)) (payload value) y (far refl)) ∙ e),
+        tt,
+      )
 
   pub entry_puts : (v : M) → value ≡ Some v → PutsPair t t' key v
   entry_puts v is =
@@ -71,9 +74,9 @@ module _ {M : Type 0} {t t' : Table M} {s key : ℕ} {a : Node M} {value : Optio
   pub entry_takes : value ≡ None → TakesPair t t' key
   entry_takes is =
       takes_pair t t' a.node.prefix key w.full w.write.begins w.small entry_others (λ v h.
-          let b : Node M = answered a (byte_at a (bytes_of key)) (payload value) in
-          let after : tree_of t' s ≡ Some b.node = tree_at t' s b (written_linked w.write root placed) in
-          let one : h.slot ≡ s = one_prefix (tree_of t') root entry_tree h.slot s h.node b.node h.here after h.same in
-          let same : h.node ≡ b.node = some_same h.node b.node (sym h.here ∙ subst (λ z. tree_of t' z ≡ Some b.node) (sym one) after) in
-          let there : lookup b.node.children (byte_at a (bytes_of key)) ≡ Some (Payload v) = subst (λ (z : TableNode M). lookup z.children (byte_at a (bytes_of key)) ≡ Some (Payload v)) same h.child in
-          none_some (Payload v) (sym (written_at w.write root placed ∙ ap payload is) ∙ there))
+      let b : Node M = answered a (byte_at a (bytes_of key)) (payload value) in
+      let after : tree_of t' s ≡ Some b.node = tree_at t' s b (written_linked w.write root placed) in
+      let one : h.slot ≡ s = one_prefix (tree_of t') root entry_tree h.slot s h.node b.node h.here after h.same in
+      let same : h.node ≡ b.node = some_same h.node b.node (sym h.here ∙ subst (λ z. tree_of t' z ≡ Some b.node) (sym one) after) in
+      let there : lookup b.node.children (byte_at a (bytes_of key)) ≡ Some (Payload v) = subst (λ (z : TableNode M). lookup z.children (byte_at a (bytes_of key)) ≡ Some (Payload v)) same h.child in
+      none_some (Payload v) (sym (written_at w.write root placed ∙ ap payload is) ∙ there))

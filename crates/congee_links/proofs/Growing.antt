@@ -1,10 +1,10 @@
 -- GROWTH: a private copy of a locked node, with one entry more, takes its place below its locked parent. The entry is a payload,
 -- or a leaf with one pair that is linked by the same write.
-use Rattle.std.proofs.Common.{◌≡◌, ◌≢◌, ℕ, ◌+◌, ◌^◌, ◌<◌, ◌≤◌, List, [], ◌∷◌, ◌++◌, length, Option, Some, None, ◌⊎◌, inl, inr, refl, sym, subst, ap, ◌∙◌, arith}
+use Rattle.std.proofs.Common.{◌≡◌, ◌≢◌, ℕ, ◌^◌, ◌<◌, List, [], ◌∷◌, length, Some, None, inl, inr, refl, sym, subst, ap, ◌∙◌, arith}
 use Rattle.std.proofs.lemmas.Bool.Decides.{eqb_tells}
 use Rattle.congee_map.specs.Map.{lookup, put}
 use Rattle.congee_map.proofs.MapLaws.{lookup-put_same, lookup-put_other}
-use Rattle.congee_node_table.specs.Key.{Begins, next_byte}
+use Rattle.congee_node_table.specs.Key.{Begins}
 use Rattle.congee_node_table.specs.TableNode.{TableNode}
 use Rattle.congee_node_table.specs.declared.child.Child.{Child}
 use Rattle.congee_node_table.specs.declared.child.Child.TheVariants.{Payload, Node as below_at}
@@ -12,14 +12,14 @@ use Rattle.congee_protocol.specs.Calls.{bytes_of}
 use Rattle.congee_store.specs.inner.World.{Node, Table, entry}
 use Rattle.congee_store.specs.inner.Facts.{byte_at, IsPlaced, NeedsHolder}
 use Rattle.congee_store.proofs.Options.{none_some, some_same}
-use Rattle.congee_links.proofs.Below.{Inside, ChangesChild, head_inside, parent_was_off}
+use Rattle.congee_links.proofs.Below.{ChangesChild, head_inside, parent_was_off}
 use Rattle.congee_links.proofs.Effects.{OthersStay, Effect, effect}
 use Rattle.congee_links.proofs.Pairs.{Elsewhere, PutsPair, OtherPays, puts_pair}
 use Rattle.congee_links.proofs.Prefixes.{begins_next, key_byte}
 use Rattle.congee_links.proofs.Trees.{Tree, IsTree, IsShaped, tree_of, linked_in, tree_at, placed_tree, override, override_here, override_other}
 use Rattle.congee_links.proofs.TreeCopies.{CopiesNode, copied_tree}
 use Rattle.congee_links.proofs.TreeLeaves.{ChangesLeaf, LinksLeaf, paid_tree, linked_tree}
-use Rattle.congee_links.proofs.Writing.{answered, WritesBelow, Publishes, Detaches, IsLeafFor, leaf_has, leaf_only, leaf_nodes, leaf_shaped, payload_below, below_payload, answer_same, answer_changes, written_at, written_changes, written_steps, published_tree, published_vacant, published_steps, published_needs, published_new, detached_tree, detached_steps, SlotPays, other_pays, vacant_pays, node_pays, only_pays, parent_to, parent_from}
+use Rattle.congee_links.proofs.Writing.{answered, WritesBelow, Publishes, Detaches, IsLeafFor, leaf_has, leaf_only, leaf_nodes, leaf_shaped, payload_below, below_payload, answer_changes, written_at, written_changes, written_steps, published_tree, published_vacant, published_steps, published_needs, published_new, detached_tree, detached_steps, SlotPays, other_pays, vacant_pays, node_pays, only_pays, parent_to, parent_from}
 
 module _ {M : Type 0} where
   -- the copy, with this child more under the key's byte, for the old node
@@ -97,17 +97,17 @@ module _ {M : Type 0} where
     old_pays : (prefix : List ℕ) (byte : ℕ) → SlotPays (tree_of t) (tree_of t') prefix byte q
     old_pays prefix byte =
         node_pays (tree_of t) (tree_of t') prefix byte q r b.node c.node old_here (published_tree w.new) w.prefix (λ y v far e.
-            let off : y ≢ byte_at b (bytes_of key) = λ i. none_some (Payload v) (sym w.empty ∙ subst (λ z. entry b z ≡ Some (Payload v)) i e) in
-            subst (λ (es : List (ℕ × Child M)). lookup es y ≡ Some (Payload v)) (sym w.children) (lookup-put_other b.node.children (byte_at b (bytes_of key)) child y off ∙ e))
+        let off : y ≢ byte_at b (bytes_of key) = λ i. none_some (Payload v) (sym w.empty ∙ subst (λ z. entry b z ≡ Some (Payload v)) i e) in
+        subst (λ (es : List (ℕ × Child M)). lookup es y ≡ Some (Payload v)) (sym w.children) (lookup-put_other b.node.children (byte_at b (bytes_of key)) child y off ∙ e))
 
     copy_pays : (prefix : List ℕ) (byte : ℕ) → ((y : ℕ) (v : M) → Elsewhere prefix byte c.node.prefix y → child ≡ Payload v → y ≢ byte_at b (bytes_of key)) → SlotPays (tree_of t') (tree_of t) prefix byte r
     copy_pays prefix byte new =
         node_pays (tree_of t') (tree_of t) prefix byte r q c.node b.node (published_tree w.new) old_here (sym w.prefix) (λ y v far e.
-            let there : lookup (put b.node.children (byte_at b (bytes_of key)) child) y ≡ Some (Payload v) = subst (λ (es : List (ℕ × Child M)). lookup es y ≡ Some (Payload v)) w.children e in
-            let off : y ≢ byte_at b (bytes_of key) = λ i.
-                new y v far (some_same child (Payload v) (sym (lookup-put_same b.node.children (byte_at b (bytes_of key)) child)
-                  ∙ subst (λ z. lookup (put b.node.children (byte_at b (bytes_of key)) child) z ≡ Some (Payload v)) i there)) i in
-            sym (lookup-put_other b.node.children (byte_at b (bytes_of key)) child y off) ∙ there)
+        let there : lookup (put b.node.children (byte_at b (bytes_of key)) child) y ≡ Some (Payload v) = subst (λ (es : List (ℕ × Child M)). lookup es y ≡ Some (Payload v)) w.children e in
+        let off : y ≢ byte_at b (bytes_of key) = λ i.
+        new y v far (some_same child (Payload v) (sym (lookup-put_same b.node.children (byte_at b (bytes_of key)) child)
+        ∙ subst (λ z. lookup (put b.node.children (byte_at b (bytes_of key)) child) z ≡ Some (Payload v)) i there)) i in
+        sym (lookup-put_other b.node.children (byte_at b (bytes_of key)) child y off) ∙ there)
 
     parent_pays : (prefix : List ℕ) (byte : ℕ) → SlotPays (tree_of t) (tree_of t') prefix byte p
     parent_pays prefix byte = parent_to w.write root placed prefix byte (λ v e. below_payload q v (sym w.under ∙ e))
@@ -130,25 +130,29 @@ module _ {M : Type 0} {t t' : Table M} {p q r key : ℕ} {a b c : Node M} {v : M
       let at_p : f p ≡ Some a.node = off p (λ e. q_not_p g.swap root placed (sym e)) ∙ tree_at t p a g.swap.write.here in
       let at_r : f r ≡ None = off r (λ e. q_not_r g.swap root placed (sym e)) ∙ published_vacant g.swap.new in
       copied_tree
-        (swap_copies g.swap root placed f at_p here at_r (λ s far not_q not_r.
-            ap linked_in (g.others s (λ one. elim one [ inl e ↦ far (sym e) | inr (inl e) ↦ not_q (sym e) | inr (inr (inl e)) ↦ not_r (sym e) | inr (inr (inr none)) ↦ none ])) ∙ sym (off s not_q)))
-        root (paid_tree first root before)
+      (swap_copies g.swap root placed f at_p here at_r (λ s far not_q not_r.
+      ap linked_in (g.others s (λ one. elim one [ inl e ↦ far (sym e) | inr (inl e) ↦ not_q (sym e) | inr (inr (inl e)) ↦ not_r (sym e) | inr (inr (inr none)) ↦ none ])) ∙ sym (off s not_q)))
+      root (paid_tree first root before)
 
   pub grown_leaf_effect : (Mine May : ℕ → Type 0) → Mine p → Mine q → Mine r → Effect t t' root Mine May (p ∷ q ∷ r ∷ []) (p ∷ q ∷ [])
   grown_leaf_effect Mine May mine also made =
       effect t t' root Mine May (p ∷ q ∷ r ∷ []) (p ∷ q ∷ []) placed g.others
-        (written_steps g.swap.write root placed Mine May mine, (detached_steps g.swap.old root Mine May placed also, (published_steps g.swap.new Mine May made, tt)))
-        ((λ (need : NeedsHolder t' p). inl refl), ((λ (need : NeedsHolder t' q). inr (inl refl)), ((λ (need : NeedsHolder t' r). absurd (published_needs g.swap.new need)), tt)))
-        leaf_tree
+      (written_steps g.swap.write root placed Mine May mine, (detached_steps g.swap.old root Mine May placed also, (published_steps g.swap.new Mine May made, tt)))
+      ((λ (need : NeedsHolder t' p). inl refl), ((λ (need : NeedsHolder t' q). inr (inl refl)), ((λ (need : NeedsHolder t' r). absurd (published_needs g.swap.new need)), tt)))
+      leaf_tree
 
   grown_leaf_others : OtherPays (tree_of t) (tree_of t') b.node.prefix (byte_at b (bytes_of key))
   grown_leaf_others =
       let prefix = b.node.prefix in
       let byte = byte_at b (bytes_of key) in
       other_pays t t' prefix byte (p ∷ q ∷ r ∷ []) g.others
-        (parent_pays g.swap root placed prefix byte, (old_pays g.swap root placed prefix byte, (vacant_pays (tree_of t) (tree_of t') prefix byte r (published_vacant g.swap.new), tt)))
-        (parent_paid g.swap root placed prefix byte, (vacant_pays (tree_of t') (tree_of t) prefix byte q (detached_tree g.swap.old),
-          (copy_pays g.swap root placed prefix byte (λ y w far same. far g.swap.prefix), tt)))
+      (parent_pays g.swap root placed prefix byte, (old_pays g.swap root placed prefix byte, (vacant_pays (tree_of t) (tree_of t') prefix byte r (published_vacant g.swap.new), tt))) (
+        parent_paid g.swap root placed prefix byte,
+        (
+          vacant_pays (tree_of t') (tree_of t) prefix byte q (detached_tree g.swap.old),
+          (copy_pays g.swap root placed prefix byte (λ y w far same. far g.swap.prefix), tt),
+        ),
+      )
 
   pub grown_leaf_puts : PutsPair t t' key v
   grown_leaf_puts =
@@ -198,40 +202,57 @@ module _ {M : Type 0} {t t' : Table M} {p q r o key : ℕ} {a b c d : Node M} {v
       let at_p : f p ≡ Some a.node = on_f p p_not_o ∙ (on_e p (λ i. q_not_p g.swap root placed (sym i)) ∙ tree_at t p a g.swap.write.here) in
       let at_r : f r ≡ None = on_f r r_not_o ∙ (on_e r (λ i. q_not_r g.swap root placed (sym i)) ∙ published_vacant g.swap.new) in
       copied_tree
-        (swap_copies g.swap root placed f at_p here at_r (λ s far not_q not_r.
-            elim (eqb_tells s o) [
-              | inl is ↦ subst (λ z. tree_of t' z ≡ f z) (sym is.1) (published_tree g.leaf_new ∙ sym leaf)
-              | inr not_o ↦
-                  ap linked_in (g.others s (λ one. elim one [
-                    | inl i ↦ far (sym i)
-                    | inr (inl i) ↦ not_q (sym i)
-                    | inr (inr (inl i)) ↦ not_r (sym i)
-                    | inr (inr (inr (inl i))) ↦ not_o.1 (sym i)
-                    | inr (inr (inr (inr none))) ↦ none
-                  ])) ∙ sym (on_f s not_o.1 ∙ on_e s not_q)
-            ]))
-        root (linked_tree first root before)
+      (swap_copies g.swap root placed f at_p here at_r (λ s far not_q not_r.
+      elim (eqb_tells s o) [
+        | inl is ↦ subst (λ z. tree_of t' z ≡ f z) (sym is.1) (published_tree g.leaf_new ∙ sym leaf)
+        | inr not_o ↦
+            ap linked_in (g.others s (λ one. elim one [
+              | inl i ↦ far (sym i)
+              | inr (inl i) ↦ not_q (sym i)
+              | inr (inr (inl i)) ↦ not_r (sym i)
+              | inr (inr (inr (inl i))) ↦ not_o.1 (sym i)
+              | inr (inr (inr (inr none))) ↦ none
+            ])) ∙ sym (on_f s not_o.1 ∙ on_e s not_q)
+      ]))
+      root (linked_tree first root before)
 
   pub grown_inner_effect : (Mine May : ℕ → Type 0) → Mine p → Mine q → Mine r → Mine o → Effect t t' root Mine May (p ∷ q ∷ r ∷ o ∷ []) (p ∷ q ∷ [])
   grown_inner_effect Mine May mine also made leaf =
       effect t t' root Mine May (p ∷ q ∷ r ∷ o ∷ []) (p ∷ q ∷ []) placed g.others
-        (written_steps g.swap.write root placed Mine May mine, (detached_steps g.swap.old root Mine May placed also, (published_steps g.swap.new Mine May made, (published_steps g.leaf_new Mine May leaf, tt))))
-        ((λ (need : NeedsHolder t' p). inl refl), ((λ (need : NeedsHolder t' q). inr (inl refl)),
-          ((λ (need : NeedsHolder t' r). absurd (published_needs g.swap.new need)), ((λ (need : NeedsHolder t' o). absurd (published_needs g.leaf_new need)), tt))))
-        inner_tree
+      (written_steps g.swap.write root placed Mine May mine, (detached_steps g.swap.old root Mine May placed also, (published_steps g.swap.new Mine May made, (published_steps g.leaf_new Mine May leaf, tt)))) (
+        (λ (need : NeedsHolder t' p). inl refl),
+        (
+          (λ (need : NeedsHolder t' q). inr (inl refl)),
+          ((λ (need : NeedsHolder t' r). absurd (published_needs g.swap.new need)), ((λ (need : NeedsHolder t' o). absurd (published_needs g.leaf_new need)), tt)),
+        ),
+      )
+      inner_tree
 
   grown_inner_others : OtherPays (tree_of t) (tree_of t') d.node.prefix (byte_at d (bytes_of key))
   grown_inner_others =
       let prefix = d.node.prefix in
       let byte = byte_at d (bytes_of key) in
-      other_pays t t' prefix byte (p ∷ q ∷ r ∷ o ∷ []) g.others
-        (parent_pays g.swap root placed prefix byte, (old_pays g.swap root placed prefix byte, (vacant_pays (tree_of t) (tree_of t') prefix byte r (published_vacant g.swap.new),
-          (vacant_pays (tree_of t) (tree_of t') prefix byte o (published_vacant g.leaf_new), tt))))
-        (parent_paid g.swap root placed prefix byte, (vacant_pays (tree_of t') (tree_of t) prefix byte q (detached_tree g.swap.old),
-          (copy_pays g.swap root placed prefix byte (λ y w far same. absurd (below_payload o w (ap (λ z. Some z) same))),
-            (only_pays (tree_of t') (tree_of t) prefix byte o d.node (published_tree g.leaf_new) (λ y w far e. far refl (leaf_only g.leaf y (Payload w) e).0), tt))))
+      other_pays t t' prefix byte (p ∷ q ∷ r ∷ o ∷ []) g.others (
+        parent_pays g.swap root placed prefix byte,
+        (
+          old_pays g.swap root placed prefix byte,
+          (
+            vacant_pays (tree_of t) (tree_of t') prefix byte r (published_vacant g.swap.new),
+            (vacant_pays (tree_of t) (tree_of t') prefix byte o (published_vacant g.leaf_new), tt),
+          ),
+        ),
+      ) (
+        parent_paid g.swap root placed prefix byte,
+        (
+          vacant_pays (tree_of t') (tree_of t) prefix byte q (detached_tree g.swap.old),
+          (
+            copy_pays g.swap root placed prefix byte (λ y w far same. absurd (below_payload o w (ap (λ z. Some z) same))),
+            (only_pays (tree_of t') (tree_of t) prefix byte o d.node (published_tree g.leaf_new) (λ y w far e. far refl (leaf_only g.leaf y (Payload w) e).0), tt),
+          ),
+        ),
+      )
 
   pub grown_inner_puts : PutsPair t t' key v
   grown_inner_puts =
       puts_pair t t' d.node.prefix key g.leaf.full g.leaf.begins g.swap.small grown_inner_others v
-        (record { slot = o; node = d.node; here = published_tree g.leaf_new; same = refl; child = leaf_has g.leaf })
+      (record { slot = o; node = d.node; here = published_tree g.leaf_new; same = refl; child = leaf_has g.leaf })

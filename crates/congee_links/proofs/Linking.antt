@@ -1,8 +1,5 @@
 -- A LEAF WITH ONE PAIR IS LINKED below a locked inner node, under a byte where nothing stood.
-use Rattle.std.proofs.Common.{◌≡◌, ◌≢◌, ℕ, ◌^◌, ◌<◌, List, [], ◌∷◌, ◌++◌, length, Option, Some, None, ◌⊎◌, inl, inr, refl, sym, subst, ap, ◌∙◌, arith}
-use Rattle.congee_map.specs.Map.{lookup}
-use Rattle.congee_node_table.specs.Key.{Begins, next_byte}
-use Rattle.congee_node_table.specs.declared.child.Child.{Child}
+use Rattle.std.proofs.Common.{◌≡◌, ℕ, ◌^◌, ◌<◌, [], ◌∷◌, length, Some, None, inl, inr, refl, sym, ap, ◌∙◌, arith}
 use Rattle.congee_node_table.specs.declared.child.Child.TheVariants.{Payload, Node as below_at}
 use Rattle.congee_protocol.specs.Calls.{bytes_of}
 use Rattle.congee_store.specs.inner.World.{Node, Table, entry}
@@ -12,7 +9,7 @@ use Rattle.congee_links.proofs.Below.{Inside}
 use Rattle.congee_links.proofs.Effects.{OthersStay, Effect, effect}
 use Rattle.congee_links.proofs.Pairs.{PutsPair, OtherPays, puts_pair}
 use Rattle.congee_links.proofs.Prefixes.{begins_next}
-use Rattle.congee_links.proofs.Trees.{IsTree, tree_of, linked_in, placed_tree}
+use Rattle.congee_links.proofs.Trees.{IsTree, tree_of, linked_in}
 use Rattle.congee_links.proofs.TreeLeaves.{LinksLeaf, linked_tree}
 use Rattle.congee_links.proofs.Writing.{answered, WritesBelow, Publishes, IsLeafFor, leaf_has, leaf_only, leaf_nodes, leaf_shaped, below_payload, written_at, written_changes, written_steps, published_tree, published_vacant, published_steps, published_needs, other_pays, vacant_pays, only_pays, parent_to, parent_from}
 
@@ -48,19 +45,21 @@ module _ {M : Type 0} {t t' : Table M} {p q key : ℕ} {a b : Node M} {v : M} (l
   pub link_effect : (Mine May : ℕ → Type 0) → Mine p → Mine q → Effect t t' root Mine May (p ∷ q ∷ []) (p ∷ [])
   link_effect Mine May mine made =
       effect t t' root Mine May (p ∷ q ∷ []) (p ∷ []) placed l.others
-        (written_steps l.write root placed Mine May mine, (published_steps l.new Mine May made, tt))
-        ((λ (need : NeedsHolder t' p). inl refl), ((λ (need : NeedsHolder t' q). absurd (published_needs l.new need)), tt))
-        link_tree
+      (written_steps l.write root placed Mine May mine, (published_steps l.new Mine May made, tt))
+      ((λ (need : NeedsHolder t' p). inl refl), ((λ (need : NeedsHolder t' q). absurd (published_needs l.new need)), tt))
+      link_tree
 
   link_others : OtherPays (tree_of t) (tree_of t') b.node.prefix (byte_at b (bytes_of key))
   link_others =
-      other_pays t t' b.node.prefix (byte_at b (bytes_of key)) (p ∷ q ∷ []) l.others
-        (parent_to l.write root placed b.node.prefix (byte_at b (bytes_of key)) (λ w e. none_some (Payload w) (sym l.empty ∙ e)),
-          (vacant_pays (tree_of t) (tree_of t') b.node.prefix (byte_at b (bytes_of key)) q (published_vacant l.new), tt))
-        (parent_from l.write root placed b.node.prefix (byte_at b (bytes_of key)) (λ w e. below_payload q w e),
-          (only_pays (tree_of t') (tree_of t) b.node.prefix (byte_at b (bytes_of key)) q b.node (published_tree l.new) (λ y w far e. far refl (leaf_only l.leaf y (Payload w) e).0), tt))
+      other_pays t t' b.node.prefix (byte_at b (bytes_of key)) (p ∷ q ∷ []) l.others (
+        parent_to l.write root placed b.node.prefix (byte_at b (bytes_of key)) (λ w e. none_some (Payload w) (sym l.empty ∙ e)),
+        (vacant_pays (tree_of t) (tree_of t') b.node.prefix (byte_at b (bytes_of key)) q (published_vacant l.new), tt),
+      ) (
+        parent_from l.write root placed b.node.prefix (byte_at b (bytes_of key)) (λ w e. below_payload q w e),
+        (only_pays (tree_of t') (tree_of t) b.node.prefix (byte_at b (bytes_of key)) q b.node (published_tree l.new) (λ y w far e. far refl (leaf_only l.leaf y (Payload w) e).0), tt),
+      )
 
   pub link_puts : PutsPair t t' key v
   link_puts =
       puts_pair t t' b.node.prefix key l.leaf.full l.leaf.begins l.small link_others v
-        (record { slot = q; node = b.node; here = published_tree l.new; same = refl; child = leaf_has l.leaf })
+      (record { slot = q; node = b.node; here = published_tree l.new; same = refl; child = leaf_has l.leaf })

@@ -1,5 +1,5 @@
 -- A NODE COMES OR GOES beside the tree: a private one is made, private ones are given back, a retired one is reclaimed.
-use Rattle.std.proofs.Common.{◌≡◌, ◌≢◌, ℕ, ◌<◌, List, [], ◌∷◌, Option, Some, None, ◌⊎◌, inl, inr, refl, sym, subst, ap, ◌∙◌}
+use Rattle.std.proofs.Common.{◌≡◌, ℕ, ◌<◌, List, [], ◌∷◌, Some, None, inl, inr, refl, sym, subst, ap, ◌∙◌}
 use Rattle.congee_sync.specs.Lock.{IsFree}
 use Rattle.congee_store.specs.inner.World.{is_private, is_retired, Node, Table}
 use Rattle.congee_store.specs.inner.Facts.{IsIn, IsPlaced, NeedsHolder}
@@ -7,7 +7,7 @@ use Rattle.congee_store.proofs.Options.{some_same, none_some}
 use Rattle.congee_links.proofs.Effects.{AllIn, all_of, OthersStay, Effect, SameTree, same_tree_effect, same_tree_pairs}
 use Rattle.congee_links.proofs.Pairs.{SamePairs}
 use Rattle.congee_links.proofs.Slots.{StepsAt, comes, owned, goes, worded_here, free_obsolete, none_needs}
-use Rattle.congee_links.proofs.Trees.{IsWorded, tree_of, linked_in, when_linked}
+use Rattle.congee_links.proofs.Trees.{IsWorded, linked_in, when_linked}
 
 module _ {M : Type 0} where
   -- a private node comes into an empty slot
@@ -52,8 +52,8 @@ module _ {M : Type 0} where
   pub made_effect : {t t' : Table M} {s : ℕ} {b : Node M} → Makes t t' s b → (root : ℕ) (Mine May : ℕ → Type 0) → IsPlaced t root → Effect t t' root Mine May (s ∷ []) (s ∷ [])
   made_effect {t} {t'} {s} {b} m root Mine May placed =
       same_tree_effect t t' root Mine May (s ∷ []) (s ∷ []) placed m.others (made_same m, tt)
-        (comes t t' Mine May s m.empty (λ c h. subst (λ (z : Node M). IsWorded z) (some_same b c (sym m.after ∙ h)) (worded_here b (inr m.private) (free_obsolete b.word m.free))), tt)
-        ((λ (need : NeedsHolder t' s). inl refl), tt)
+      (comes t t' Mine May s m.empty (λ c h. subst (λ (z : Node M). IsWorded z) (some_same b c (sym m.after ∙ h)) (worded_here b (inr m.private) (free_obsolete b.word m.free))), tt)
+      ((λ (need : NeedsHolder t' s). inl refl), tt)
 
   pub made_pairs : {t t' : Table M} {s : ℕ} {b : Node M} → Makes t t' s b → SamePairs t t'
   made_pairs {t} {t'} {s} m = same_tree_pairs t t' (s ∷ []) m.others (made_same m, tt)
@@ -61,9 +61,9 @@ module _ {M : Type 0} where
   pub given_back_effect : {t t' : Table M} {Mine : ℕ → Type 0} {slots : List ℕ} → GivesBack t t' Mine slots → (root : ℕ) (May : ℕ → Type 0) → IsPlaced t root → Effect t t' root Mine May slots []
   given_back_effect {t} {t'} {Mine} {slots} g root May placed =
       same_tree_effect t t' root Mine May slots [] placed g.others
-        (all_of (IsGivenBack t t' Mine) (SameTree t t') slots (back_same t t' Mine) g.each)
-        (all_of (IsGivenBack t t' Mine) (StepsAt t t' Mine May) slots (back_steps t t' Mine May) g.each)
-        (all_of (IsGivenBack t t' Mine) (λ s. NeedsHolder t' s → IsIn s []) slots (λ s b. none_needs t' s b.gone) g.each)
+      (all_of (IsGivenBack t t' Mine) (SameTree t t') slots (back_same t t' Mine) g.each)
+      (all_of (IsGivenBack t t' Mine) (StepsAt t t' Mine May) slots (back_steps t t' Mine May) g.each)
+      (all_of (IsGivenBack t t' Mine) (λ s. NeedsHolder t' s → IsIn s []) slots (λ s b. none_needs t' s b.gone) g.each)
 
   pub given_back_pairs : {t t' : Table M} {Mine : ℕ → Type 0} {slots : List ℕ} → GivesBack t t' Mine slots → SamePairs t t'
   given_back_pairs {t} {t'} {Mine} {slots} g = same_tree_pairs t t' slots g.others (all_of (IsGivenBack t t' Mine) (SameTree t t') slots (back_same t t' Mine) g.each)
@@ -72,8 +72,8 @@ module _ {M : Type 0} where
   pub reclaimed_effect : {t t' : Table M} {s stamp : ℕ} {a : Node M} → Reclaims t t' s a stamp → (root : ℕ) (Mine : ℕ → Type 0) → IsPlaced t root → Effect t t' root Mine (λ pin. stamp < pin) (s ∷ []) []
   reclaimed_effect {t} {t'} {s} {stamp} {a} r root Mine placed =
       same_tree_effect t t' root Mine (λ pin. stamp < pin) (s ∷ []) [] placed r.others (gone_same r, tt)
-        (goes t t' Mine (λ pin. stamp < pin) s a stamp r.here r.retired r.after (λ pin may. may), tt)
-        (none_needs t' s r.after, tt)
+      (goes t t' Mine (λ pin. stamp < pin) s a stamp r.here r.retired r.after (λ pin may. may), tt)
+      (none_needs t' s r.after, tt)
 
   pub reclaimed_pairs : {t t' : Table M} {s stamp : ℕ} {a : Node M} → Reclaims t t' s a stamp → SamePairs t t'
   reclaimed_pairs {t} {t'} {s} r = same_tree_pairs t t' (s ∷ []) r.others (gone_same r, tt)

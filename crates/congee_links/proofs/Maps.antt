@@ -1,5 +1,5 @@
 -- WHICH MAP a table keeps, and that a changed table keeps the map with one pair more, another value, or one pair less.
-use Rattle.std.proofs.Common.{◌≡◌, ◌≢◌, ℕ, ◌+◌, ◌^◌, ◌<◌, ◌≤◌, List, [], ◌∷◌, length, Option, Some, None, ◌⊎◌, ◌↔◌, inl, inr, refl, sym, subst, ap, ◌∙◌, arith}
+use Rattle.std.proofs.Common.{◌≡◌, ℕ, ◌^◌, ◌<◌, Some, ◌↔◌, inl, inr, sym, subst, ap, ◌∙◌, arith}
 use Rattle.std.proofs.lemmas.Bool.Decides.{eqb_tells}
 use Rattle.congee_map.specs.Map.{Pairs, IsMap, lookup, put, without}
 use Rattle.congee_map.proofs.MapLaws.{lookup-put_same, lookup-put_other, Rises-put, lookup-without_same, lookup-without_other, Rises-without}
@@ -28,40 +28,40 @@ module _ {M : Type 0} where
   map_put {t} {t'} {m} {key} {v} root placed small puts is = record {
     map = Rises-put 0 (2 ^ 64) m key v is.map (omega arith) small;
     pairs = λ k w.
-      elim (eqb_tells k key) [
-        | inl same ↦
-            subst (λ z. (lookup (put m key v) z ≡ Some w) ↔ ((z < 2 ^ 64) × Keeps t' (bytes_of z) w)) (sym same.1) (
-              (λ (e : lookup (put m key v) key ≡ Some w).
-                let value : v ≡ w = some_same v w (sym (lookup-put_same m key v) ∙ e) in
-                (small, subst (λ z. Keeps t' (bytes_of key) z) value puts.here)),
-              (λ h.
-                let value : v ≡ w = kept_once t' root (bytes_of key) v w placed puts.here h.1 in
-                lookup-put_same m key v ∙ ap (λ z. Some z) value),
-            )
-        | inr far ↦ (
+        elim (eqb_tells k key) [
+          | inl same ↦
+              subst (λ z. (lookup (put m key v) z ≡ Some w) ↔ ((z < 2 ^ 64) × Keeps t' (bytes_of z) w)) (sym same.1) (
+                (λ (e : lookup (put m key v) key ≡ Some w).
+                    let value : v ≡ w = some_same v w (sym (lookup-put_same m key v) ∙ e) in
+                    (small, subst (λ z. Keeps t' (bytes_of key) z) value puts.here)),
+                (λ h.
+                    let value : v ≡ w = kept_once t' root (bytes_of key) v w placed puts.here h.1 in
+                    lookup-put_same m key v ∙ ap (λ z. Some z) value),
+              )
+          | inr far ↦ (
             (λ (e : lookup (put m key v) k ≡ Some w).
-              let h = (is.pairs k w).0 (sym (lookup-put_other m key v k far.1) ∙ e) in
-              (h.0, (puts.others k w h.0 far.1).0 h.1)),
+                let h = (is.pairs k w).0 (sym (lookup-put_other m key v k far.1) ∙ e) in
+                (h.0, (puts.others k w h.0 far.1).0 h.1)),
             (λ h. lookup-put_other m key v k far.1 ∙ (is.pairs k w).1 (h.0, (puts.others k w h.0 far.1).1 h.1)),
           )
-      ];
+        ];
   }
 
   pub map_without : {t t' : Table M} {m : Pairs M} {key : ℕ} → TakesPair t t' key → IsMapOf t m → IsMapOf t' (without m key)
   map_without {t} {t'} {m} {key} takes is = record {
     map = Rises-without 0 (2 ^ 64) m key is.map;
     pairs = λ k w.
-      elim (eqb_tells k key) [
-        | inl same ↦
-            subst (λ z. (lookup (without m key) z ≡ Some w) ↔ ((z < 2 ^ 64) × Keeps t' (bytes_of z) w)) (sym same.1) (
-              (λ (e : lookup (without m key) key ≡ Some w). absurd (none_some w (sym (lookup-without_same 0 (2 ^ 64) m key is.map) ∙ e))),
-              (λ h. absurd (takes.gone w h.1)),
-            )
-        | inr far ↦ (
+        elim (eqb_tells k key) [
+          | inl same ↦
+              subst (λ z. (lookup (without m key) z ≡ Some w) ↔ ((z < 2 ^ 64) × Keeps t' (bytes_of z) w)) (sym same.1) (
+                (λ (e : lookup (without m key) key ≡ Some w). absurd (none_some w (sym (lookup-without_same 0 (2 ^ 64) m key is.map) ∙ e))),
+                (λ h. absurd (takes.gone w h.1)),
+              )
+          | inr far ↦ (
             (λ (e : lookup (without m key) k ≡ Some w).
-              let h = (is.pairs k w).0 (sym (lookup-without_other m key k far.1) ∙ e) in
-              (h.0, (takes.others k w h.0 far.1).0 h.1)),
+                let h = (is.pairs k w).0 (sym (lookup-without_other m key k far.1) ∙ e) in
+                (h.0, (takes.others k w h.0 far.1).0 h.1)),
             (λ h. lookup-without_other m key k far.1 ∙ (is.pairs k w).1 (h.0, (takes.others k w h.0 far.1).1 h.1)),
           )
-      ];
+        ];
   }

@@ -1,8 +1,6 @@
 -- WHAT BECOMES OF THE MAP: no pair changes, or that of one key.
-use Rattle.std.proofs.Common.{◌≡◌, ◌≢◌, ℕ, ◌+◌, ◌^◌, ◌<◌, ◌≤◌, List, [], ◌∷◌, length, Some, ◌⊎◌, ◌↔◌, inl, inr, refl, sym, subst, ap, ◌∙◌, arith}
-use Rattle.congee_map.specs.Map.{lookup}
+use Rattle.std.proofs.Common.{◌≡◌, ◌≢◌, ℕ, ◌^◌, ◌<◌, List, length, ◌↔◌, inl, inr, sym, subst, ◌∙◌}
 use Rattle.congee_node_table.specs.Key.{Begins, next_byte}
-use Rattle.congee_node_table.specs.TableNode.{TableNode}
 use Rattle.congee_node_table.specs.declared.child.Child.{Child}
 use Rattle.congee_node_table.specs.declared.child.Child.TheVariants.{Payload, Node as below_at}
 use Rattle.congee_protocol.specs.Calls.{bytes_of}
@@ -79,9 +77,9 @@ module _ {M : Type 0} where
     pub other_pairs : OtherPairs t t' key
     other_pairs o w little far = (
       (λ (h : Keeps t (bytes_of o) w). keeps_again t t' (bytes_of o) w h
-        (other h.leaf.node.prefix (next_byte h.leaf.node.prefix (bytes_of o)) w (elsewhere h.leaf.node.prefix o h.full h.begins little far)).0),
+          (other h.leaf.node.prefix (next_byte h.leaf.node.prefix (bytes_of o)) w (elsewhere h.leaf.node.prefix o h.full h.begins little far)).0),
       (λ (h : Keeps t' (bytes_of o) w). keeps_again t' t (bytes_of o) w h
-        (other h.leaf.node.prefix (next_byte h.leaf.node.prefix (bytes_of o)) w (elsewhere h.leaf.node.prefix o h.full h.begins little far)).1),
+          (other h.leaf.node.prefix (next_byte h.leaf.node.prefix (bytes_of o)) w (elsewhere h.leaf.node.prefix o h.full h.begins little far)).1),
     )
 
     pub puts_pair : (v : M) → Pays (tree_of t') prefix (next_byte prefix (bytes_of key)) v → PutsPair t t' key v

@@ -1,9 +1,8 @@
 -- What an event does to one slot, seen by the calls that it isn't an event of.
-use Rattle.std.proofs.Common.{◌≡◌, ◌≢◌, ℕ, ◌+◌, ◌<◌, ◌≤◌, List, [], ◌∷◌, Option, Some, None, ◌⊎◌, ◌↔◌, inl, inr, refl, sym, subst, ap, ◌∙◌, arith}
-use Rattle.std.proofs.lemmas.Bool.Decides.{eqb_tells}
+use Rattle.std.proofs.Common.{◌≡◌, ℕ, ◌<◌, ◌≤◌, Option, Some, None, ◌⊎◌, inl, inr, refl, sym, subst, ap, ◌∙◌, arith}
 use Rattle.congee_sync.specs.Lock.{IsFree, IsLocked, IsObsolete}
-use Rattle.congee_store.specs.inner.World.{Standing, is_private, is_linked, is_detached, is_retired, Node, Table}
-use Rattle.congee_store.specs.inner.Facts.{IsSafe, IsIn, Kept, Remains, Guarantees, PrivateStays, NeedsHolder}
+use Rattle.congee_store.specs.inner.World.{is_private, is_linked, is_detached, is_retired, Node, Table}
+use Rattle.congee_store.specs.inner.Facts.{IsSafe, Kept, Remains, NeedsHolder}
 use Rattle.congee_store.proofs.Options.{some_same, none_some}
 use Rattle.congee_links.proofs.Trees.{IsWorded}
 
@@ -41,10 +40,13 @@ module _ {M : Type 0} where
   worded_here a at fresh = record {
     free = λ f. at;
     locked = λ o. absurd (fresh o);
-    obsolete = ((λ (o : IsObsolete a.word). absurd (fresh o)), (λ r. absurd (elim at [
-      | inl e ↦ linked_retired r.0 (sym e ∙ r.1)
-      | inr e ↦ private_retired r.0 (sym e ∙ r.1)
-    ])));
+    obsolete = (
+      (λ (o : IsObsolete a.word). absurd (fresh o)),
+      (λ r. absurd (elim at [
+        | inl e ↦ linked_retired r.0 (sym e ∙ r.1)
+        | inr e ↦ private_retired r.0 (sym e ∙ r.1)
+      ])),
+    );
   }
 
   -- a detached node, locked and not obsolete

@@ -1,6 +1,6 @@
 -- A SPLIT: a private middle node, which has a locked node and a leaf with one pair, takes that node's place below its locked parent.
-use Rattle.std.proofs.Common.{◌≡◌, ◌≢◌, ℕ, zero, suc, ◌+◌, ◌^◌, ◌<◌, ◌≤◌, List, [], ◌∷◌, ◌++◌, length, get_or, Option, Some, None, ◌⊎◌, inl, inr, refl, sym, subst, ap, ◌∙◌, arith}
-use Rattle.std.proofs.lemmas.Bool.{cases_eq, eq-eqb, ne_eqb}
+use Rattle.std.proofs.Common.{◌≡◌, ◌≢◌, ℕ, zero, suc, ◌+◌, ◌^◌, ◌<◌, ◌≤◌, List, [], ◌∷◌, length, get_or, Option, Some, None, ◌⊎◌, inl, inr, refl, sym, subst, ap, ◌∙◌, arith}
+use Rattle.std.proofs.lemmas.Bool.{cases_eq, ne_eqb}
 use Rattle.std.proofs.lemmas.Bool.Decides.{eqb_tells}
 use Rattle.congee_map.specs.Map.{lookup, put, Rises}
 use Rattle.congee_map.proofs.MapLaws.{lookup-put_same, lookup-put_other, Rises-put}
@@ -14,8 +14,7 @@ use Rattle.congee_protocol.specs.Calls.{bytes_of}
 use Rattle.congee_store.specs.inner.World.{Node, Table, entry}
 use Rattle.congee_store.specs.inner.Facts.{byte_at, IsLinked, IsPlaced, NeedsHolder}
 use Rattle.congee_store.proofs.Options.{none_some, some_same}
-use Rattle.congee_store.proofs.Ways.{length-begins, Begins-both}
-use Rattle.congee_links.proofs.Below.{Inside, ChangesChild, head_inside}
+use Rattle.congee_links.proofs.Below.{Inside, ChangesChild}
 use Rattle.congee_links.proofs.Effects.{OthersStay, Effect, effect}
 use Rattle.congee_links.proofs.Pairs.{PutsPair, OtherPays, puts_pair}
 use Rattle.congee_links.proofs.Prefixes.{begins_next, begins_on, key_byte}
@@ -223,22 +222,26 @@ module _ {M : Type 0} {t t' : Table M} {p q r o key : ℕ} {a b m d : Node M} {v
   pub split_effect : (Mine May : ℕ → Type 0) → Mine p → Mine r → Mine o → Effect t t' root Mine May (p ∷ r ∷ o ∷ []) (p ∷ [])
   split_effect Mine May mine middle leaf =
       effect t t' root Mine May (p ∷ r ∷ o ∷ []) (p ∷ []) placed g.others
-        (written_steps g.write root placed Mine May mine, (published_steps g.middle_new Mine May middle, (published_steps g.leaf_new Mine May leaf, tt)))
-        ((λ (need : NeedsHolder t' p). inl refl), ((λ (need : NeedsHolder t' r). absurd (published_needs g.middle_new need)), ((λ (need : NeedsHolder t' o). absurd (published_needs g.leaf_new need)), tt)))
-        split_tree
+      (written_steps g.write root placed Mine May mine, (published_steps g.middle_new Mine May middle, (published_steps g.leaf_new Mine May leaf, tt)))
+      ((λ (need : NeedsHolder t' p). inl refl), ((λ (need : NeedsHolder t' r). absurd (published_needs g.middle_new need)), ((λ (need : NeedsHolder t' o). absurd (published_needs g.leaf_new need)), tt)))
+      split_tree
 
   split_others : OtherPays (tree_of t) (tree_of t') d.node.prefix (byte_at d (bytes_of key))
   split_others =
       let prefix = d.node.prefix in
       let byte = byte_at d (bytes_of key) in
-      other_pays t t' prefix byte (p ∷ r ∷ o ∷ []) g.others
-        (parent_to g.write root placed prefix byte (λ w e. below_payload q w (sym g.under ∙ e)),
-          (vacant_pays (tree_of t) (tree_of t') prefix byte r (published_vacant g.middle_new), (vacant_pays (tree_of t) (tree_of t') prefix byte o (published_vacant g.leaf_new), tt)))
-        (parent_from g.write root placed prefix byte (λ w e. below_payload r w e),
-          (only_pays (tree_of t') (tree_of t) prefix byte r m.node (published_tree g.middle_new) (λ y w far e. middle_pays y w e),
-            (only_pays (tree_of t') (tree_of t) prefix byte o d.node (published_tree g.leaf_new) (λ y w far e. far refl (leaf_only g.leaf y (Payload w) e).0), tt)))
+      other_pays t t' prefix byte (p ∷ r ∷ o ∷ []) g.others (
+        parent_to g.write root placed prefix byte (λ w e. below_payload q w (sym g.under ∙ e)),
+        (vacant_pays (tree_of t) (tree_of t') prefix byte r (published_vacant g.middle_new), (vacant_pays (tree_of t) (tree_of t') prefix byte o (published_vacant g.leaf_new), tt)),
+      ) (
+        parent_from g.write root placed prefix byte (λ w e. below_payload r w e),
+        (
+          only_pays (tree_of t') (tree_of t) prefix byte r m.node (published_tree g.middle_new) (λ y w far e. middle_pays y w e),
+          (only_pays (tree_of t') (tree_of t) prefix byte o d.node (published_tree g.leaf_new) (λ y w far e. far refl (leaf_only g.leaf y (Payload w) e).0), tt),
+        ),
+      )
 
   pub split_puts : PutsPair t t' key v
   split_puts =
       puts_pair t t' d.node.prefix key g.leaf.full g.leaf.begins g.small split_others v
-        (record { slot = o; node = d.node; here = published_tree g.leaf_new; same = refl; child = leaf_has g.leaf })
+      (record { slot = o; node = d.node; here = published_tree g.leaf_new; same = refl; child = leaf_has g.leaf })

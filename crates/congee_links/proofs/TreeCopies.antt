@@ -1,5 +1,5 @@
 -- In a tree: a copy takes a node's place, or a new node comes between a node and its child.
-use Rattle.std.proofs.Common.{◌≡◌, ◌≢◌, ℕ, ◌+◌, ◌<◌, ◌≤◌, List, [], ◌∷◌, ◌++◌, length, Some, None, ◌⊎◌, inl, inr, refl, sym, subst, ap, ◌∙◌, arith}
+use Rattle.std.proofs.Common.{◌≡◌, ◌≢◌, ℕ, ◌<◌, ◌≤◌, List, [], ◌∷◌, ◌++◌, length, Some, None, ◌⊎◌, inl, inr, sym, subst, ap, ◌∙◌, arith}
 use Rattle.std.proofs.lemmas.Bool.Decides.{eqb_tells}
 use Rattle.congee_map.specs.Map.{lookup}
 use Rattle.congee_node_table.specs.Key.{Begins, next_byte}
@@ -60,8 +60,8 @@ module _ {M : Type 0} {f f' : Tree M} {p x q r : ℕ} {a a' b c : TableNode M} (
   copied_stays : (d : ℕ) (u : TableNode M) → f d ≡ Some u → Inside a.prefix x u.prefix → length b.prefix < length u.prefix → f' d ≡ Some u
   copied_stays d u h i longer =
       k.others d (parent_was_off k.at root tree d u h i)
-        (λ e. let even : length u.prefix ≡ length b.prefix = ap (λ (z : TableNode M). length z.prefix) (some_same u b (sym (subst (λ z. f z ≡ Some u) e h) ∙ k.old)) in omega (arith, even, longer))
-        (λ e. none_some u (sym k.vacant ∙ subst (λ z. f z ≡ Some u) e h))
+      (λ e. let even : length u.prefix ≡ length b.prefix = ap (λ (z : TableNode M). length z.prefix) (some_same u b (sym (subst (λ z. f z ≡ Some u) e h) ∙ k.old)) in omega (arith, even, longer))
+      (λ e. none_some u (sym k.vacant ∙ subst (λ z. f z ≡ Some u) e h))
       ∙ h
 
   copied_begins : (s : ℕ) (n : TableNode M) → f' s ≡ Some n → Inside a.prefix x n.prefix → Begins b.prefix n.prefix

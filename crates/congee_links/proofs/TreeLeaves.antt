@@ -1,17 +1,16 @@
 -- In a tree: a leaf has another payload, a leaf is linked where nothing stood, and a node without nodes below it is taken out.
-use Rattle.std.proofs.Common.{◌≡◌, ◌≢◌, ℕ, ◌+◌, ◌<◌, ◌≤◌, List, [], ◌∷◌, ◌++◌, length, Some, None, ◌⊎◌, inl, inr, refl, sym, subst, ap, ◌∙◌, arith}
+use Rattle.std.proofs.Common.{◌≡◌, ◌≢◌, ℕ, ◌<◌, ◌≤◌, length, Some, None, inl, inr, sym, subst, ◌∙◌, arith}
 use Rattle.std.proofs.lemmas.Bool.Decides.{eqb_tells}
 use Rattle.congee_map.specs.Map.{lookup}
 use Rattle.congee_node_table.specs.Key.{Begins, next_byte}
 use Rattle.congee_node_table.specs.TableNode.{TableNode}
-use Rattle.congee_node_table.specs.declared.child.Child.{Child}
-use Rattle.congee_node_table.specs.declared.child.Child.TheVariants.{Payload, Node as below_at}
+use Rattle.congee_node_table.specs.declared.child.Child.TheVariants.{Node as below_at}
 use Rattle.congee_node_table.proofs.BeginLaws.{begins_itself}
 use Rattle.congee_store.proofs.Options.{some_same, none_some}
-use Rattle.congee_store.proofs.Ways.{length-begins, longer-begins, slots_same}
+use Rattle.congee_store.proofs.Ways.{longer-begins, slots_same}
 use Rattle.congee_links.proofs.Prefixes.{byte_after}
-use Rattle.congee_links.proofs.Trees.{Tree, IsShaped, Under, Leads, IsTree}
-use Rattle.congee_links.proofs.Below.{Inside, ChangesChild, Relinks, relinks_tree, none_inside, inside_on, head_begins, head_inside, parent_off}
+use Rattle.congee_links.proofs.Trees.{Tree, IsShaped, Leads, IsTree}
+use Rattle.congee_links.proofs.Below.{Inside, ChangesChild, Relinks, relinks_tree, none_inside, head_begins, head_inside, parent_off}
 
 module _ {M : Type 0} where
   -- no child is a node

@@ -1,5 +1,5 @@
 -- The linked nodes of a table alone: a tree, whose nodes have no words.
-use Rattle.std.proofs.Common.{◌≡◌, ◌≢◌, ℕ, ◌+◌, ◌<◌, ◌≤◌, List, [], ◌∷◌, ◌++◌, length, Option, Some, None, ◌⊎◌, ◌↔◌, inl, inr, refl, sym, subst, ap, ◌∙◌, arith, cond, eqb}
+use Rattle.std.proofs.Common.{◌≡◌, ◌≢◌, ℕ, ◌≤◌, List, [], ◌∷◌, ◌++◌, length, Option, Some, None, ◌⊎◌, ◌↔◌, inl, inr, refl, sym, subst, ap, ◌∙◌, cond, eqb}
 use Rattle.std.proofs.lemmas.Bool.{eq-eqb, ne_eqb}
 use Rattle.congee_base.specs.declared.base_node.NodeType.TheVariants.{N256}
 use Rattle.congee_map.specs.Map.{lookup, Rises}
@@ -8,7 +8,7 @@ use Rattle.congee_node_table.specs.TableNode.{TableNode}
 use Rattle.congee_node_table.specs.declared.child.Child.TheVariants.{Payload, Node as below_at}
 use Rattle.congee_sync.specs.Lock.{IsFree, IsLocked, IsObsolete}
 use Rattle.congee_store.specs.inner.World.{Standing, is_private, is_linked, is_detached, is_retired, Node, Table}
-use Rattle.congee_store.specs.inner.Facts.{IsLinked, IsBelow, LeadsOn, IsPlaced, Keeps}
+use Rattle.congee_store.specs.inner.Facts.{IsLinked, IsBelow, IsPlaced, Keeps}
 
 -- the linked node in each slot
 abbrev pub Tree : Type 0 → Type 0
@@ -117,17 +117,17 @@ module _ {M : Type 0} where
     under = λ s n e x c.
         let h : Stands t s n = stands_at t s n e in
         subst (λ (z : TableNode M). lookup z.children x ≡ Some (below_at c) → Under (tree_of t) z x c) h.same (λ child.
-            let b : IsBelow t h.node x c = placed.below s h.node h.linked x c child in
-            record { node = b.node.node; here = tree_at t c b.node b.linked; begins = b.begins });
+        let b : IsBelow t h.node x c = placed.below s h.node h.linked x c child in
+        record { node = b.node.node; here = tree_at t c b.node b.linked; begins = b.begins });
     leads = λ s r n m e d.
         let h : Stands t s n = stands_at t s n e in
         let g : Stands t r m = stands_at t r m d in
         subst (λ (z : TableNode M). Begins z.prefix m.prefix → (s ≡ r) ⊎ Leads (tree_of t) z m.prefix) h.same
         (subst (λ (z : TableNode M). Begins h.node.node.prefix z.prefix → (s ≡ r) ⊎ Leads (tree_of t) h.node.node z.prefix) g.same (λ begins.
-            elim (placed.leads s r h.node g.node h.linked g.linked begins) [
-              | inl same ↦ inl same
-              | inr on ↦ inr (record { slot = on.slot; node = on.node.node; child = on.entry_is; here = tree_at t on.slot on.node on.linked; begins = on.begins })
-            ]));
+        elim (placed.leads s r h.node g.node h.linked g.linked begins) [
+          | inl same ↦ inl same
+          | inr on ↦ inr (record { slot = on.slot; node = on.node.node; child = on.entry_is; here = tree_at t on.slot on.node on.linked; begins = on.begins })
+        ]));
   }
 
   pub placed_worded : (t : Table M) (root : ℕ) → IsPlaced t root → AreWorded t

@@ -1,12 +1,12 @@
 -- A WORD RISES: a free linked node is locked, a locked one is unlocked, a detached one is retired.
-use Rattle.std.proofs.Common.{◌≡◌, ◌≢◌, ℕ, suc, ◌+◌, ◌≤◌, List, [], ◌∷◌, Option, Some, None, ◌⊎◌, inl, inr, refl, sym, subst, ap, ◌∙◌, arith}
+use Rattle.std.proofs.Common.{◌≡◌, ℕ, suc, ◌+◌, ◌≤◌, [], ◌∷◌, Option, Some, None, inl, inr, refl, sym, subst, ap, ◌∙◌, arith}
 use Rattle.congee_sync.specs.Lock.{IsFree, IsLocked, IsObsolete}
-use Rattle.congee_store.specs.inner.World.{Standing, is_private, is_linked, is_detached, is_retired, Node, Table}
-use Rattle.congee_store.specs.inner.Facts.{IsSafe, IsLinked, IsIn, IsPlaced, NeedsHolder}
+use Rattle.congee_store.specs.inner.World.{is_private, is_linked, is_detached, is_retired, Node, Table}
+use Rattle.congee_store.specs.inner.Facts.{IsSafe, IsLinked, IsPlaced, NeedsHolder}
 use Rattle.congee_links.proofs.Effects.{OthersStay, Effect, SameTree, same_tree_effect, same_tree_pairs}
 use Rattle.congee_links.proofs.Pairs.{SamePairs}
-use Rattle.congee_links.proofs.Slots.{StepsAt, changes, worded_here, free_obsolete, unretired, linked_private, linked_retired, detached_private, detached_retired, free_needs, retired_needs}
-use Rattle.congee_links.proofs.Trees.{IsWorded, tree_of, linked_in, when_linked, placed_worded}
+use Rattle.congee_links.proofs.Slots.{changes, worded_here, free_obsolete, unretired, linked_private, linked_retired, detached_private, detached_retired, free_needs, retired_needs}
+use Rattle.congee_links.proofs.Trees.{linked_in, when_linked, placed_worded}
 
 up_two : (word : ℕ) → word ≤ word + 2
 up_two word = omega arith
@@ -70,10 +70,12 @@ module _ {M : Type 0} where
     upgraded_effect root Mine May placed =
         let b : Node M = record a { word = a.word + 2 } in
         same_tree_effect t t' root Mine May (s ∷ []) (s ∷ []) placed u.others
-          (reworded_same t t' s (a.word + 2) a u.here.here u.after, tt)
-          (changes t t' Mine May s a b u.here.here u.after (not_private a u.here.standing) (worded_here b (inl u.here.standing) (locked_of a.word u.free)) refl (up_two a.word)
-            (λ f e. absurd (not_same a.word 1 e)) (λ pin may. safe_linked a pin u.here.standing) (inr u.free), tt)
-          ((λ (need : NeedsHolder t' s). inl refl), tt)
+        (reworded_same t t' s (a.word + 2) a u.here.here u.after, tt) (
+          changes t t' Mine May s a b u.here.here u.after (not_private a u.here.standing) (worded_here b (inl u.here.standing) (locked_of a.word u.free)) refl (up_two a.word)
+              (λ f e. absurd (not_same a.word 1 e)) (λ pin may. safe_linked a pin u.here.standing) (inr u.free),
+          tt,
+        )
+        ((λ (need : NeedsHolder t' s). inl refl), tt)
 
     pub upgraded_pairs : SamePairs t t'
     upgraded_pairs = same_tree_pairs t t' (s ∷ []) u.others (reworded_same t t' s (a.word + 2) a u.here.here u.after, tt)
@@ -85,10 +87,12 @@ module _ {M : Type 0} where
         let fresh : IsObsolete a.word → ⊥ = unretired a (placed_worded t root placed s a u.here.here) (not_retired a u.here.standing) in
         let free : IsFree (a.word + 2) = freed a.word u.locked fresh in
         same_tree_effect t t' root Mine May (s ∷ []) [] placed u.others
-          (reworded_same t t' s (a.word + 2) a u.here.here u.after, tt)
-          (changes t t' Mine May s a b u.here.here u.after (not_private a u.here.standing) (worded_here b (inl u.here.standing) (free_obsolete (a.word + 2) free)) refl (up_two a.word)
-            (λ f e. absurd (not_same a.word 1 e)) (λ pin may. safe_linked a pin u.here.standing) (inl mine), tt)
-          (free_needs t' s b u.after u.here.standing free, tt)
+        (reworded_same t t' s (a.word + 2) a u.here.here u.after, tt) (
+          changes t t' Mine May s a b u.here.here u.after (not_private a u.here.standing) (worded_here b (inl u.here.standing) (free_obsolete (a.word + 2) free)) refl (up_two a.word)
+              (λ f e. absurd (not_same a.word 1 e)) (λ pin may. safe_linked a pin u.here.standing) (inl mine),
+          tt,
+        )
+        (free_needs t' s b u.after u.here.standing free, tt)
 
     pub unlocked_pairs : SamePairs t t'
     unlocked_pairs = same_tree_pairs t t' (s ∷ []) u.others (reworded_same t t' s (a.word + 2) a u.here.here u.after, tt)
@@ -104,11 +108,13 @@ module _ {M : Type 0} where
         let fresh : IsObsolete a.word → ⊥ = unretired a (placed_worded t root placed s a u.here) (λ at r. detached_retired at (sym u.detached ∙ r)) in
         let over = ended a.word u.locked fresh in
         same_tree_effect t t' root Mine (λ pin. IsSafe pin (is_retired stamp)) (s ∷ []) [] placed u.others
-          (retired_same, tt)
-          (changes t t' Mine (λ pin. IsSafe pin (is_retired stamp)) s a b u.here u.after (λ p. detached_private (sym u.detached ∙ p))
-            (record { free = λ f. absurd (free_obsolete (a.word + 1) f over.0); locked = λ o. over.1; obsolete = ((λ (o : IsObsolete b.word). (stamp, refl)), (λ r. over.0)) })
-            refl (omega arith) (λ f e. absurd (not_same a.word 0 e)) (λ pin may. may) (inl mine), tt)
-          (retired_needs t' s b stamp u.after refl over.0, tt)
+        (retired_same, tt) (
+          changes t t' Mine (λ pin. IsSafe pin (is_retired stamp)) s a b u.here u.after (λ p. detached_private (sym u.detached ∙ p))
+              (record { free = λ f. absurd (free_obsolete (a.word + 1) f over.0); locked = λ o. over.1; obsolete = ((λ (o : IsObsolete b.word). (stamp, refl)), (λ r. over.0)) })
+              refl (omega arith) (λ f e. absurd (not_same a.word 0 e)) (λ pin may. may) (inl mine),
+          tt,
+        )
+        (retired_needs t' s b stamp u.after refl over.0, tt)
 
     pub retired_pairs : SamePairs t t'
     retired_pairs = same_tree_pairs t t' (s ∷ []) u.others (retired_same, tt)

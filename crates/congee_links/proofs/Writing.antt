@@ -1,5 +1,5 @@
 -- What a write does to each slot that it names: a locked node has another child, a private node is linked, a node is detached.
-use Rattle.std.proofs.Common.{◌≡◌, ◌≢◌, ℕ, ◌+◌, ◌^◌, ◌<◌, ◌≤◌, List, [], ◌∷◌, ◌++◌, length, Option, Some, None, ◌⊎◌, ◌↔◌, inl, inr, refl, sym, subst, ap, ◌∙◌, arith, cond, eqb}
+use Rattle.std.proofs.Common.{◌≡◌, ◌≢◌, ℕ, ◌<◌, ◌≤◌, List, [], ◌∷◌, length, Option, Some, None, inl, inr, refl, sym, subst, ap, ◌∙◌, arith}
 use Rattle.std.proofs.lemmas.Bool.{eq-eqb, ne_eqb}
 use Rattle.std.proofs.lemmas.Bool.Decides.{eqb_tells}
 use Rattle.congee_map.specs.Map.{lookup, with_answer, Rises}
@@ -12,8 +12,8 @@ use Rattle.congee_node_table.proofs.BeginLaws.{after}
 use Rattle.congee_node_table.proofs.KeyLaws.{AreBytes-append_left}
 use Rattle.congee_protocol.specs.Calls.{bytes_of}
 use Rattle.congee_sync.specs.Lock.{IsFree, IsLocked, IsObsolete}
-use Rattle.congee_store.specs.inner.World.{is_private, is_linked, is_detached, is_retired, Node, Table, entry}
-use Rattle.congee_store.specs.inner.Facts.{IsSafe, byte_at, IsLinked, IsIn, IsPlaced, NeedsHolder}
+use Rattle.congee_store.specs.inner.World.{is_private, is_linked, is_detached, Node, Table, entry}
+use Rattle.congee_store.specs.inner.Facts.{IsSafe, byte_at, IsLinked, IsPlaced, NeedsHolder}
 use Rattle.congee_store.proofs.Options.{some_same, none_some}
 use Rattle.congee_links.proofs.Below.{ChangesChild}
 use Rattle.congee_links.proofs.Effects.{OthersStay, AllIn, all_in, in_or}
@@ -147,14 +147,14 @@ module _ {M : Type 0} where
         → ChangesChild (tree_of t) (tree_of t') p (byte_at a (bytes_of key)) a.node (answered a (byte_at a (bytes_of key)) child).node
     written_changes paid =
         answer_changes (tree_of t) (tree_of t') p (byte_at a (bytes_of key)) a.node child (tree_at t p a w.here)
-          (tree_at t' p (answered a (byte_at a (bytes_of key)) child) written_linked) before_shaped (key_byte a.node.prefix key w.begins before_shaped.short) paid
+        (tree_at t' p (answered a (byte_at a (bytes_of key)) child) written_linked) before_shaped (key_byte a.node.prefix key w.begins before_shaped.short) paid
 
     pub written_steps : (Mine May : ℕ → Type 0) → Mine p → StepsAt t t' Mine May p
     written_steps Mine May mine =
         let b : Node M = answered a (byte_at a (bytes_of key)) child in
         let fresh : IsObsolete a.word → ⊥ = unretired a (placed_worded t root placed p a w.here.here) (λ stamp r. linked_retired stamp (sym w.here.standing ∙ r)) in
         changes t t' Mine May p a b w.here.here w.after (λ e. linked_private (sym w.here.standing ∙ e)) (worded_here b (inl w.here.standing) fresh) refl (omega arith)
-          (λ f e. absurd (free_locked a.word f w.locked)) (λ pin may. subst (λ z. IsSafe pin z) (sym w.here.standing) tt) (inl mine)
+        (λ f e. absurd (free_locked a.word f w.locked)) (λ pin may. subst (λ z. IsSafe pin z) (sym w.here.standing) tt) (inl mine)
 
   -- A NODE THAT IS LINKED
   module _ {t t' : Table M} {r : ℕ} {c : Node M} (l : Publishes t t' r c) where
@@ -170,7 +170,7 @@ module _ {M : Type 0} where
     pub published_steps : (Mine May : ℕ → Type 0) → Mine r → StepsAt t t' Mine May r
     published_steps Mine May mine =
         owned t t' Mine May r c l.made l.private mine
-          (λ d h. subst (λ (z : Node M). IsWorded z) (some_same (record c { standing = is_linked }) d (sym l.after ∙ h)) (worded_here (record c { standing = is_linked }) (inl refl) (free_obsolete c.word l.free)))
+        (λ d h. subst (λ (z : Node M). IsWorded z) (some_same (record c { standing = is_linked }) d (sym l.after ∙ h)) (worded_here (record c { standing = is_linked }) (inl refl) (free_obsolete c.word l.free)))
 
     pub published_needs : NeedsHolder t' r → ⊥
     published_needs = free_needs t' r (record c { standing = is_linked }) l.after refl l.free
@@ -190,7 +190,7 @@ module _ {M : Type 0} where
         let c : Node M = record b { node = left; standing = is_detached } in
         let fresh : IsObsolete b.word → ⊥ = unretired b (placed_worded t root placed q b d.here.here) (λ stamp r. linked_retired stamp (sym d.here.standing ∙ r)) in
         changes t t' Mine May q b c d.here.here d.after (λ e. linked_private (sym d.here.standing ∙ e)) (worded_detached c refl d.locked fresh) d.prefix (omega arith)
-          (λ f e. absurd (free_locked b.word f d.locked)) (λ pin may. tt) (inl mine)
+        (λ f e. absurd (free_locked b.word f d.locked)) (λ pin may. tt) (inl mine)
 
   -- PAYLOADS SLOT BY SLOT: each one in the slot, but for one place, stands in the other tree
   abbrev pub SlotPays : Tree M → Tree M → List ℕ → ℕ → ℕ → Type 0
@@ -241,12 +241,12 @@ module _ {M : Type 0} where
     parent_to none =
         let b : Node M = answered a (byte_at a (bytes_of key)) child in
         node_pays (tree_of t) (tree_of t') prefix byte p p a.node b.node (tree_at t p a w.here) (tree_at t' p b (written_linked w root placed)) refl (λ y v far e.
-            let off : y ≢ byte_at a (bytes_of key) = λ q. none v (subst (λ z. entry a z ≡ Some (Payload v)) q e) in
-            answer_other a.node.children (byte_at a (bytes_of key)) child y off ∙ e)
+        let off : y ≢ byte_at a (bytes_of key) = λ q. none v (subst (λ z. entry a z ≡ Some (Payload v)) q e) in
+        answer_other a.node.children (byte_at a (bytes_of key)) child y off ∙ e)
 
     pub parent_from : ((v : M) → child ≡ Some (Payload v) → ⊥) → SlotPays (tree_of t') (tree_of t) prefix byte p
     parent_from none =
         let b : Node M = answered a (byte_at a (bytes_of key)) child in
         node_pays (tree_of t') (tree_of t) prefix byte p p b.node a.node (tree_at t' p b (written_linked w root placed)) (tree_at t p a w.here) refl (λ y v far e.
-            let off : y ≢ byte_at a (bytes_of key) = λ q. none v (sym (written_at w root placed) ∙ subst (λ z. entry b z ≡ Some (Payload v)) q e) in
-            sym (answer_other a.node.children (byte_at a (bytes_of key)) child y off) ∙ e)
+        let off : y ≢ byte_at a (bytes_of key) = λ q. none v (sym (written_at w root placed) ∙ subst (λ z. entry b z ≡ Some (Payload v)) q e) in
+        sym (answer_other a.node.children (byte_at a (bytes_of key)) child y off) ∙ e)
