@@ -1,0 +1,90 @@
+-- What the events that only read make of a call's stage.
+use Rattle.std.proofs.Common.{◌≡◌, ◌≢◌, ℕ, ◌+◌, ◌-◌, ◌*◌, ◌/◌, ◌%◌, ◌<◌, ◌≤◌, List, [], ◌∷◌, length, Option, Some, ◌⊎◌, inl, inr, sym, subst, ap, ◌∙◌, arith}
+use Rattle.congee_sync.specs.Lock.{IsFree, IsLocked, IsObsolete}
+use Rattle.congee_map.specs.Map.{lookup, put}
+use Rattle.congee_store.specs.declared.stage.Path.{Path}
+use Rattle.congee_store.specs.declared.stage.Spot.{Spot}
+use Rattle.congee_store.specs.declared.stage.Stage.{Stage}
+use Rattle.congee_store.specs.declared.stage.Stage.TheVariants.{TakeBelow}
+use Rattle.congee_store.specs.inner.Facts.{byte_at, IsLinked, IsBelow, IsPlaced, LedTo, OnPath}
+use Rattle.congee_store.specs.inner.Shown.{spots_of}
+use Rattle.congee_store.specs.inner.Turns.{depth_in, IsCurrent, NoneHeld}
+use Rattle.congee_store.specs.inner.World.{Node, Table, is_linked, is_retired}
+use Rattle.congee_store.proofs.Options.{some_same}
+use Rattle.congee_store.proofs.Ways.{known_linked, longer-begins}
+use Rattle.congee_reading.proofs.Events.{Within}
+use Rattle.congee_reading.proofs.Spots.{here_known, put_known}
+
+linked_retired : (stamp : Option ℕ) → is_linked ≡ is_retired stamp → ⊥
+linked_retired stamp e = cc
+
+neither : (word : ℕ) → (IsLocked word → ⊥) → (IsObsolete word → ⊥) → IsFree word
+neither word locked obsolete =
+    let l : word / 2 % 2 ≢ 1 = locked in
+    let o : word % 2 ≢ 1 = obsolete in omega arith
+
+module _ {M : Type 0} (t : Table M) where
+  -- words that stand still stand where fewer are remembered
+  pub still_current : (before after : Stage) → Within (spots_of after) (spots_of before) → IsCurrent t before → IsCurrent t after
+  still_current before after within current slot word h = current slot word (within slot word h)
+
+  -- the word that was taken stands there, beside those before
+  pub taken_current : (before after : Stage) (slot : ℕ) (a : Node M) → t slot ≡ Some a → spots_of after ≡ put (spots_of before) slot a.word → IsCurrent t before → IsCurrent t after
+  taken_current before after slot a here is current other w h b there =
+      elim (put_known (spots_of before) slot a.word other w (subst (λ (z : List (ℕ × ℕ)). lookup z other ≡ Some w) is h)) [
+        | inl e ↦
+            let same : a ≡ b = some_same a b (sym here ∙ subst (λ (z : ℕ). t z ≡ Some b) (sym e.0) there) in
+            ap (λ (z : Node M). z.word) (sym same) ∙ e.1
+        | inr old ↦ current other w old b there
+      ]
+
+  module _ (root : ℕ) (placed : IsPlaced t root) where
+    -- a linked node that nobody holds is free
+    linked_free : (slot : ℕ) (a : Node M) → NoneHeld t → IsLinked t slot a → IsFree a.word
+    linked_free slot a none linked =
+        let obsolete : IsObsolete a.word → ⊥ = λ o. let r = (placed.obsolete slot a linked.here).0 o in linked_retired r.0 (sym linked.standing ∙ r.1) in
+        neither a.word (λ l. none slot (record { node = a; here = linked.here; why = inr (l, obsolete) })) obsolete
+
+    pub root_free : (a : Node M) → NoneHeld t → t root ≡ Some a → IsFree a.word
+    root_free a none at =
+        let top : placed.top ≡ a = some_same placed.top a (sym placed.top_linked.here ∙ at) in
+        linked_free root a none (record { here = at; standing = subst (λ (z : Node M). z.standing ≡ is_linked) top placed.top_linked.standing })
+
+    module _ (pin : ℕ) (k : List ℕ) (path : Path) (on : OnPath t root pin k path) (slot : ℕ) (led : LedTo t path.here k slot) where
+      -- the child of a node whose word stands is linked
+      below_is : (a : Node M) → t path.here.slot ≡ Some a → a.word ≡ path.here.word → IsBelow t a (byte_at a k) slot
+      below_is a at word = placed.below path.here.slot a (known_linked t root k placed pin path.here a on.here at word) (byte_at a k) slot (led a at word)
+
+      pub below_free : (b : Node M) → IsCurrent t (TakeBelow path slot) → NoneHeld t → t slot ≡ Some b → IsFree b.word
+      below_free b current none at =
+          let word : on.here.node.word ≡ path.here.word = current path.here.slot path.here.word (here_known path) on.here.node on.here.here in
+          let below = below_is on.here.node on.here.here word in
+          let same : below.node ≡ b = some_same below.node b (sym below.linked.here ∙ at) in
+          linked_free slot b none (subst (λ (z : Node M). IsLinked t slot z) same below.linked)
+
+      -- a child isn't its own parent
+      pub below_other : (a : Node M) → t path.here.slot ≡ Some a → a.word ≡ path.here.word → slot ≢ path.here.slot
+      below_other a at word e =
+          let below = below_is a at word in
+          let same : below.node ≡ a = some_same below.node a (sym below.linked.here ∙ subst (λ (z : ℕ). t z ≡ Some a) (sym e) at) in
+          let longer : length a.node.prefix < length below.node.node.prefix = longer-begins a.node.prefix below.node.node.prefix (byte_at a k) below.begins in
+          let is : length below.node.node.prefix ≡ length a.node.prefix = ap (λ (z : Node M). length z.node.prefix) same in omega arith
+
+      -- and isn't the root
+      pub below_not_root : (a : Node M) → t path.here.slot ≡ Some a → a.word ≡ path.here.word → slot ≢ root
+      below_not_root a at word e =
+          let below = below_is a at word in
+          let same : below.node ≡ placed.top = some_same below.node placed.top (sym below.linked.here ∙ subst (λ (z : ℕ). t z ≡ Some placed.top) (sym e) placed.top_linked.here) in
+          let longer : length a.node.prefix < length below.node.node.prefix = longer-begins a.node.prefix below.node.node.prefix (byte_at a k) below.begins in
+          let is : length below.node.node.prefix ≡ length placed.top.node.prefix = ap (λ (z : Node M). length z.node.prefix) same in
+          let none : length placed.top.node.prefix ≡ 0 = ap length placed.top_prefix in omega arith
+
+      -- a step down makes the prefix longer
+      pub descends : (a : Node M) → t path.here.slot ≡ Some a → a.word ≡ path.here.word → 4 * (7 - depth_in (t slot)) + 10 < 4 * (7 - depth_in (t path.here.slot)) + 7
+      descends a at word =
+          let below = below_is a at word in
+          let up : depth_in (t path.here.slot) ≡ length a.node.prefix = ap depth_in at in
+          let down : depth_in (t slot) ≡ length below.node.node.prefix = ap depth_in below.linked.here in
+          let longer : length a.node.prefix < length below.node.node.prefix = longer-begins a.node.prefix below.node.node.prefix (byte_at a k) below.begins in
+          let short : length below.node.node.prefix ≤ 7 = placed.short slot below.node below.linked in
+          omega arith

@@ -1,0 +1,4 @@
+pub mod Courses
+pub mod Events
+pub mod Spots
+pub mod Takes

@@ -1,0 +1,149 @@
+-- What a Take leaves of its call.
+use Rattle.std.proofs.Common.{◌≡◌, ◌≢◌, ℕ, ◌<◌, ◌^◌, Bool, true, false, IsTrue, ◌↔◌, [], Option, Some, None, ◌⊎◌, inl, inr, refl, sym, subst, ap, ◌∙◌, arith}
+use Rattle.congee_node_table.specs.Key.{Begins}
+use Rattle.congee_protocol.specs.Calls.{key_of}
+use Rattle.congee_protocol.specs.Kinds.{report_of}
+use Rattle.congee_protocol.specs.State.{State, back}
+use Rattle.congee_protocol.specs.declared.types.Asking.{Asking}
+use Rattle.congee_protocol.specs.declared.types.Asking.TheVariants.{Fresh}
+use Rattle.congee_protocol.specs.declared.types.Env.{Env}
+use Rattle.congee_protocol.specs.declared.types.Kind.TheVariants as kind
+use Rattle.congee_protocol.specs.declared.types.Outcome.TheVariants.{Going}
+use Rattle.congee_protocol.specs.declared.types.Seen.{Seen}
+use Rattle.congee_sync.specs.Lock.{IsFree}
+use Rattle.congee_store.specs.declared.stage.Path.{Path}
+use Rattle.congee_store.specs.declared.stage.Record.{Record}
+use Rattle.congee_store.specs.declared.stage.Spot.{Spot}
+use Rattle.congee_store.specs.declared.stage.Stage.{Stage}
+use Rattle.congee_store.specs.declared.stage.Stage.TheVariants.{TakeRoot, Read, TakeBelow, CheckAbove}
+use Rattle.congee_store.specs.declared.stage.Task.{Task}
+use Rattle.congee_store.specs.inner.Facts.{IsSafe, IsPlaced, IsThere, IsFreshly, IsIn, Facts, key_bytes, named_at}
+use Rattle.congee_store.specs.inner.Shown.{flight}
+use Rattle.congee_store.specs.inner.Turns.{IsCurrent, IsRead, NoneHeld, Shows}
+use Rattle.congee_store.specs.inner.World.{Node, Standing, Table, is_linked}
+use Rattle.congee_store.proofs.Options.{none_some, some_same}
+use Rattle.congee_store.proofs.Reaching.{one, seen_at}
+use Rattle.congee_reading.proofs.Courses.{taken_current, root_free, below_free}
+use Rattle.congee_reading.proofs.Events.{take_ok, take_fails}
+
+-- a call at a stage, and what is left of it when it goes back to the root
+abbrev pub at : {M : Type 0} → Stage → Task M → Record M
+at stage task = record { stage = stage; task = task }
+
+abbrev pub restart : {M : Type 0} → Task M → Task M
+restart task = record task { last = None; spare = None; asking = Fresh }
+
+abbrev pub top_path : ℕ → ℕ → Path
+top_path root word = record { above = None; here = record { slot = root; word = word } }
+
+module _ {M : Type 0} (Granted : Type 0) (same : M → M → Bool) (t : Table M) (root pin : ℕ) (task : Task M) (env : Env M) (placed : IsPlaced t root) where
+  -- at the root all is new
+  is_new : IsFreshly task → task.last ≡ None → flight pin (at TakeRoot task) ≡ back (flight pin (at TakeRoot task))
+  is_new fresh none =
+      ap (λ (x : Option (Seen M)). record (flight pin (at TakeRoot task)) { seen = x }) none
+      ∙ ap (λ (x : Asking M). record (flight pin (at TakeRoot task)) { seen = None; asking = x }) fresh.fresh
+
+  pub restarted_fresh : IsFreshly task → IsFreshly (restart task)
+  restarted_fresh f = record {
+    opened = record { undecided = f.opened.undecided; op = f.opened.op; op_is = f.opened.op_is; outline = f.opened.outline };
+    fresh = refl;
+  }
+
+  pub root_ok : (a : Node M) → Facts Granted t root pin (at TakeRoot task) → t root ≡ Some a → IsFree a.word
+      → IsRead Granted same t root pin (at TakeRoot task) env (at (Read (top_path root a.word)) task) (report_of kind.Take (Some root) a.word true) Going
+  root_ok a facts here free =
+      let f = facts.at in
+      let top : a ≡ placed.top = some_same a placed.top (sym here ∙ placed.top_linked.here) in
+      let standing : a.standing ≡ is_linked = subst (λ (z : Node M). z.standing ≡ is_linked) (sym top) placed.top_linked.standing in
+      let prefix : a.node.prefix ≡ [] = subst (λ (z : Node M). z.node.prefix ≡ []) (sym top) placed.top_prefix in
+      record {
+        facts = record {
+          small = facts.small;
+          at = (
+            f.0,
+            record {
+              above = refl;
+              here = record { node = a; here = here; safe = subst (λ (z : Standing). IsSafe pin z) (sym standing) tt; free = free; word = omega arith };
+              way = λ (b : Node M) (h : t root ≡ Some b). subst (λ (z : Node M). Begins z.node.prefix (key_bytes task)) (some_same a b (sym here ∙ h)) (rw prefix (record { holds = refl }));
+            },
+          );
+        };
+        course = record {
+          touches = λ slot e make. inl (sym (some_same root slot e));
+          names = λ slot h. elim h [ inl e ↦ inl (sym e) | inr never ↦ absurd never ];
+          reads = λ slot h. absurd h;
+          outline = refl;
+          keeps = taken_current t TakeRoot (Read (top_path root a.word)) root a here refl;
+          falls = λ served. inr (omega arith);
+        };
+        does = λ s id shows. take_ok Granted same s id (flight pin (at TakeRoot task)) env (inl f.0.opened.undecided) root (one a) (seen_at t root s shows root a here) (λ e. is_new f.0 f.1) free;
+        carries = λ s shows m content. refl;
+      }
+
+  -- a Take that fails
+  take_restarts : (stage : Stage) (slot : ℕ) (a : Node M) → key_of task.outline < 2 ^ 64 → IsFreshly task → t slot ≡ Some a → (IsFree a.word → ⊥)
+      → (slot ≡ root) ⊎ IsIn slot (named_at stage) → (IsCurrent t stage → NoneHeld t → IsFree a.word)
+      → ((s : State M) → Shows t root s → slot ≡ s.root → flight pin (at stage task) ≡ back (flight pin (at stage task)))
+      → IsRead Granted same t root pin (at stage task) env (at TakeRoot (restart task)) (report_of kind.Take (Some slot) a.word false) Going
+  take_restarts stage slot a small fresh here free known frees anew =
+      record {
+        facts = record { small = small; at = (restarted_fresh fresh, refl) };
+        course = record {
+          touches = λ z e make. subst (λ (x : ℕ). (x ≡ root) ⊎ IsIn x (named_at stage)) (some_same slot z e) known;
+          names = λ z h. absurd h;
+          reads = λ z h. absurd h;
+          outline = refl;
+          keeps = λ current z w h. absurd (none_some w h);
+          falls = λ served. inl (refl, (λ current none. free (frees current none)));
+        };
+        does = λ s id shows. take_fails Granted same s id (flight pin (at stage task)) env (inl fresh.opened.undecided) slot (one a) (seen_at t root s shows slot a here) (anew s shows) free;
+        carries = λ s shows m content. refl;
+      }
+
+  pub root_restarts : (a : Node M) → Facts Granted t root pin (at TakeRoot task) → t root ≡ Some a → (IsFree a.word → ⊥)
+      → IsRead Granted same t root pin (at TakeRoot task) env (at TakeRoot (restart task)) (report_of kind.Take (Some root) a.word false) Going
+  root_restarts a facts here free =
+      let f = facts.at in
+      take_restarts TakeRoot root a facts.small f.0 here free (inl refl) (λ current none. root_free t root placed a none here) (λ s shows e. is_new f.0 f.1)
+
+  pub below_ok : (path : Path) (slot : ℕ) (a : Node M) (fits : Bool) → Facts Granted t root pin (at (TakeBelow path slot) task) → t slot ≡ Some a → IsFree a.word
+      → (IsTrue fits ↔ Begins a.node.prefix (key_bytes task))
+      → IsRead Granted same t root pin (at (TakeBelow path slot) task) env (at (CheckAbove path (record { slot = slot; word = a.word }) fits) task) (report_of kind.Take (Some slot) a.word true) Going
+  below_ok path slot a fits facts here free test =
+      let f = facts.at in
+      let there : IsThere t pin slot = f.4 in
+      let same_node : there.node ≡ a = some_same there.node a (sym there.here ∙ here) in
+      let below : Spot = record { slot = slot; word = a.word } in
+      record {
+        facts = record {
+          small = facts.small;
+          at = (
+            f.0,
+            f.1,
+            f.2,
+            f.3,
+            record { node = a; here = here; safe = subst (λ (z : Node M). IsSafe pin z.standing) same_node there.safe; free = free; word = omega arith },
+            (λ (b : Node M) (h : t slot ≡ Some b). subst (λ (z : Node M). IsTrue fits ↔ Begins z.node.prefix (key_bytes task)) (some_same a b (sym here ∙ h)) test),
+            f.6,
+          );
+        };
+        course = record {
+          touches = λ z e make. inr (inl (some_same slot z e));
+          names = λ z h. inr (inl h);
+          reads = λ z h. absurd h;
+          outline = refl;
+          keeps = taken_current t (TakeBelow path slot) (CheckAbove path below fits) slot a here refl;
+          falls = λ served. inr (omega arith);
+        };
+        does = λ s id shows. take_ok Granted same s id (flight pin (at (TakeBelow path slot) task)) env (inl f.0.opened.undecided) slot (one a) (seen_at t root s shows slot a here)
+            (λ e. absurd (f.5 (e ∙ shows.root_is))) free;
+        carries = λ s shows m content. refl;
+      }
+
+  pub below_restarts : (path : Path) (slot : ℕ) (a : Node M) → Facts Granted t root pin (at (TakeBelow path slot) task) → t slot ≡ Some a → (IsFree a.word → ⊥)
+      → IsRead Granted same t root pin (at (TakeBelow path slot) task) env (at TakeRoot (restart task)) (report_of kind.Take (Some slot) a.word false) Going
+  below_restarts path slot a facts here free =
+      let f = facts.at in
+      take_restarts (TakeBelow path slot) slot a facts.small f.0 here free (inr (inl refl))
+      (λ current none. below_free t root placed pin (key_bytes task) path f.1 slot f.2 a current none here)
+      (λ s shows e. absurd (f.5 (e ∙ shows.root_is)))

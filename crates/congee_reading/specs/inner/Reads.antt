@@ -1,0 +1,33 @@
+-- What an event makes of a call, over the code's own payloads.
+use Rattle.std.specs.Prelude.{◌≡◌, ℕ, Bool, Some}
+use Rattle.congee_protocol.specs.Meaning.{env_of, outcome_of}
+use Rattle.congee_protocol.specs.declared.types.Env.{Env}
+use Rattle.congee_protocol.specs.declared.types.Outcome.{Outcome}
+use Rattle.congee_protocol.specs.declared.types.Report.{Report}
+use Rattle.congee_sync.specs.Epoch.{entry_at}
+use Rattle.congee_store.specs.declared.stage.Record.{Record}
+use Rattle.congee_store.specs.declared.stage.Stored.{Stored}
+use Rattle.congee_store.specs.declared.store.Store.{Store}
+use Rattle.congee_store.specs.inner.Facts.{Facts}
+use Rattle.congee_store.specs.inner.Meant.{meant_record, meant_stored, meant_table}
+use Rattle.congee_store.specs.inner.Turns.{IsRead}
+use Rattle.congee_store.specs.inner.World.{node_of}
+
+module _ {P M : Type 0} where
+  -- this is what stands in the slot
+  abbrev pub stands_as : (P → M) → Store P → ℕ → Stored P → Type 0
+  stands_as meaning store slot node =
+      meant_table meaning store slot
+      ≡ node_of (entry_at store.pins.slots slot) (Some (meant_stored meaning node))
+
+  -- what a call with this pin knows
+  abbrev pub Knows : Type 0 → (P → M) → Store P → ℕ → Record P → Type 0
+  Knows Granted meaning store pin call =
+      Facts Granted (meant_table meaning store) store.root pin (meant_record meaning call)
+
+  -- an event that only reads
+  abbrev pub Reads : Type 0 → (M → M → Bool) → (P → M) → Store P → ℕ → Record P → Env P
+      → Record P → Report → Outcome P → Type 0
+  Reads Granted same meaning store pin call env next report out =
+      IsRead Granted same (meant_table meaning store) store.root pin (meant_record meaning call)
+      (env_of meaning env) (meant_record meaning next) report (outcome_of meaning out)

@@ -1,0 +1,11 @@
+//! The events of the protocol that only read: Take, Read and Check, and which event a call makes next.
+//!
+//! Each is a function over the nodes as they stand. What it leaves of its call, and what it says, is the event that
+//! `congee_protocol` defines, in any state that shows these nodes.
+#![tactic(auto)]
+
+
+
+
+mod stepped;
+mod taking;

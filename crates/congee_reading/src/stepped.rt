@@ -1,0 +1,234 @@
+//! A call after an event that only reads.
+
+ghost use Rattle.std.specs.Prelude.{◌≡◌, ◌↔◌, IsTrue, Some, None, IsSome};
+ghost use Rattle.congee_protocol.specs.Kinds.{report_of};
+ghost use Rattle.congee_store.specs.inner.Meant.{meant_table};
+ghost use Rattle.congee_reading.specs.inner.Reads.{stands_as};
+
+use congee_protocol::payload::HasMeaning;
+use congee_protocol::types::{Asking, Kind, Outcome, Progress, Reply, Report, Seen};
+use congee_store::stage::{Path, Record, Spot, Stage, Stored, Task};
+use congee_store::store::Store;
+use congee_sync::lock::Word64;
+
+/// A call after an event, and what the event says.
+#[derive(Drop)]
+pub(crate) struct Stepped<P> {
+    pub(crate) call: Record<P>,
+    pub(crate) report: Report,
+    pub(crate) outcome: Outcome<P>,
+}
+
+/// What a Take, a Check or a Read of a slot reports.
+pub(crate) fn report(kind: Kind, slot: usize, word: u64, ok: bool) -> Report
+    ensures { result ≡ report_of kind (Some slot) word ok }
+{
+    Report {
+        kind,
+        slot: Some(slot),
+        word,
+        ok,
+    }
+}
+
+/// The node in a slot that has one.
+pub(crate) fn node_at<P: HasMeaning>(store: &Store<P>, slot: usize) -> &Stored<P>
+    requires { IsSome (meant_table P.meaning store.now slot) }
+    ensures { stands_as P.meaning store.now slot result.now }
+{
+    let Some(node) = store.nodes.get(slot) else {
+        unreachable!()
+    };
+    node
+}
+
+/// Whether a node's word is the remembered one.
+pub(crate) fn stands<P>(node: &Stored<P>, spot: Spot) -> bool
+    ensures { IsTrue result ↔ (node.now.word ≡ spot.word) }
+{
+    node.word.matches(Word64::from_number(spot.word))
+}
+
+/// An event after which the call goes on.
+pub(crate) fn going<P>(task: Task<P>, stage: Stage, report: Report) -> Stepped<P>
+    ensures { result ≡ record {
+        call = record { stage = stage; task = task };
+        report = report;
+        outcome = Outcome.Going;
+    } }
+{
+    Stepped {
+        call: Record { stage, task },
+        report,
+        outcome: Outcome::Going,
+    }
+}
+
+/// An event after which the call goes back to the root, and forgets what it has seen and asked.
+pub(crate) fn restarted<P: Drop>(task: Task<P>, report: Report) -> Stepped<P>
+    ensures { result ≡ record {
+        call = record {
+            stage = Stage.TakeRoot;
+            task = record task { last = None; spare = None; asking = Asking.Fresh };
+        };
+        report = report;
+        outcome = Outcome.Going;
+    } }
+{
+    let Task {
+        outline,
+        op,
+        last: _,
+        spare: _,
+        asking: _,
+        progress,
+    } = task;
+    let task = Task {
+        outline,
+        op,
+        last: None,
+        spare: None,
+        asking: Asking::Fresh,
+        progress,
+    };
+    going(task, Stage::TakeRoot, report)
+}
+
+/// A Read after which the call goes on to its Check.
+pub(crate) fn saw<P: Drop>(
+    task: Task<P>,
+    path: Path,
+    seen: Seen<P>,
+    spare: Option<P>,
+    report: Report,
+) -> Stepped<P>
+    ensures { result ≡ record {
+        call = record {
+            stage = Stage.Check path;
+            task = record task { last = Some seen; spare = spare };
+        };
+        report = report;
+        outcome = Outcome.Going;
+    } }
+{
+    let Task {
+        outline,
+        op,
+        last: _,
+        spare: _,
+        asking,
+        progress,
+    } = task;
+    let task = Task {
+        outline,
+        op,
+        last: Some(seen),
+        spare,
+        asking,
+        progress,
+    };
+    going(task, Stage::Check(path), report)
+}
+
+// What is left of a call that only ends, and the share that was kept for its reply.
+fn ended<P: Drop>(task: Task<P>, progress: Progress) -> (Record<P>, Option<P>)
+    ensures call { result.0 ≡ record {
+        stage = Stage.Finish;
+        task = record task { op = None; spare = None; asking = Asking.Fresh; progress = progress };
+    } }
+    ensures spare { result.1 ≡ task.spare }
+{
+    let Task {
+        outline,
+        op: _,
+        last,
+        spare,
+        asking: _,
+        progress: _,
+    } = task;
+    let task = Task {
+        outline,
+        op: None,
+        last,
+        spare: None,
+        asking: Asking::Fresh,
+        progress,
+    };
+    let call = Record {
+        stage: Stage::Finish,
+        task,
+    };
+    (call, spare)
+}
+
+/// An event that is refused: the call only ends.
+pub(crate) fn refused<P: Drop>(task: Task<P>, report: Report) -> Stepped<P>
+    ensures { result ≡ record {
+        call = record {
+            stage = Stage.Finish;
+            task = record task {
+                op = None;
+                spare = None;
+                asking = Asking.Fresh;
+                progress = Progress.Refused;
+            };
+        };
+        report = report;
+        outcome = Outcome.Refused;
+    } }
+{
+    let (call, _) = ended(task, Progress::Refused);
+    Stepped {
+        call,
+        report,
+        outcome: Outcome::Refused,
+    }
+}
+
+/// An event that decides a Get for whose key nothing stands.
+pub(crate) fn decided_absent<P: Drop>(task: Task<P>, report: Report) -> Stepped<P>
+    ensures { result ≡ record {
+        call = record {
+            stage = Stage.Finish;
+            task = record task {
+                op = None;
+                spare = None;
+                asking = Asking.Fresh;
+                progress = Progress.Decided;
+            };
+        };
+        report = report;
+        outcome = Outcome.Decided (Reply.Old None);
+    } }
+{
+    let (call, _) = ended(task, Progress::Decided);
+    Stepped {
+        call,
+        report,
+        outcome: Outcome::Decided(Reply::Old(None)),
+    }
+}
+
+/// An event that decides a Get with the share that its Read kept.
+pub(crate) fn decided_present<P: Drop>(task: Task<P>, report: Report) -> Stepped<P>
+    ensures { result ≡ record {
+        call = record {
+            stage = Stage.Finish;
+            task = record task {
+                op = None;
+                spare = None;
+                asking = Asking.Fresh;
+                progress = Progress.Decided;
+            };
+        };
+        report = report;
+        outcome = Outcome.Decided (Reply.Old task.spare);
+    } }
+{
+    let (call, spare) = ended(task, Progress::Decided);
+    Stepped {
+        call,
+        report,
+        outcome: Outcome::Decided(Reply::Old(spare)),
+    }
+}
