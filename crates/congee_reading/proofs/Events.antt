@@ -3,9 +3,10 @@ use Rattle.std.proofs.Common.{◌≡◌, ◌≢◌, ℕ, Bool, true, false, IsTr
 use Rattle.std.proofs.lemmas.Bool.{eq-eqb}
 use Rattle.congee_map.proofs.MapLaws.{lookup-put_same}
 use Rattle.congee_map.specs.Call.{old_value}
-use Rattle.congee_map.specs.Map.{lookup, put}
+use Rattle.congee_map.specs.Map.{Pairs, lookup, put}
 use Rattle.congee_node_table.specs.declared.child.Child.TheVariants.{Payload}
-use Rattle.congee_protocol.specs.Calls.{Outline, key_of, outline_of, asked_of}
+use Rattle.congee_protocol.specs.Calls.{Outline, IsPoint, key_of, outline_of, asked_of}
+use Rattle.congee_protocol.specs.Deciding.{Leads}
 use Rattle.congee_protocol.specs.Kinds.{DoesAs, Finds, IsAtWork, report_of}
 use Rattle.congee_protocol.specs.Local.{SharesNone, SeesPayloads, IsLocal, LeavesAll, only_at, seen_payload}
 use Rattle.congee_protocol.specs.Reading.{IsReading, LooksOn, child_for}
@@ -23,9 +24,10 @@ use Rattle.congee_protocol.specs.declared.types.Reply.TheVariants.{Old}
 use Rattle.congee_protocol.specs.declared.types.Report.{Report}
 use Rattle.congee_protocol.specs.declared.types.Seen.{Seen}
 use Rattle.congee_sync.specs.Lock.{IsFree}
+use Rattle.congee_store.specs.inner.Turns.{IsServedCall}
 use Rattle.congee_store.proofs.Options.{none_some}
 
-false_true : false ≡ true → ⊥
+pub false_true : false ≡ true → ⊥
 false_true e = cc
 
 true_false : true ≡ false → ⊥
@@ -203,3 +205,44 @@ module _ {M : Type 0} (Granted : Type 0) (same : M → M → Bool) (call : Fligh
         (λ sees. refl),
         refl,
       )
+
+-- a call that is served is a Get
+module _ {M : Type 0} where
+  pub get_is : (op : Op M) (o : Outline) → outline_of op ≡ o → IsServedCall o → op ≡ Get (key_of o)
+  get_is (Get k) o e served = subst (λ (z : Outline). let x : Op M = Get k in x ≡ Get (key_of z)) e refl
+  get_is (Insert k v) o e served = absurd (subst (λ (z : Outline). IsServedCall z) (sym e) served)
+  get_is (Remove k) o e served = absurd (subst (λ (z : Outline). IsServedCall z) (sym e) served)
+  get_is (ComputeIfPresent k) o e served = absurd (subst (λ (z : Outline). IsServedCall z) (sym e) served)
+  get_is (ComputeOrInsert k v) o e served = absurd (subst (λ (z : Outline). IsServedCall z) (sym e) served)
+  get_is (CompareExchange k old new) o e served = absurd (subst (λ (z : Outline). IsServedCall z) (sym e) served)
+  get_is (Range a b n) o e served = absurd (subst (λ (z : Outline). IsServedCall z) (sym e) served)
+
+  -- and leads from a content to itself
+  pub get_leads : (same : M → M → Bool) (call : Flight M) (key : ℕ) (reply : Option M) (m : Pairs M) → call.op ≡ Some (Get key) → call.asking ≡ Fresh → lookup m key ≡ reply
+      → Leads same m m call (Old reply)
+  get_leads same call key reply m op_is fresh there = record {
+    op = Get key;
+    op_is = op_is;
+    asked = ap (λ (a : Asking M). asked_of a) fresh;
+    replied = ap old_value (sym there);
+    after = refl;
+  }
+
+pub get_point : (o : Outline) → IsServedCall o → IsPoint o
+get_point (Get k) served = tt
+get_point (Insert k v) served = absurd served
+get_point (Remove k) served = absurd served
+get_point (ComputeIfPresent k) served = absurd served
+get_point (ComputeOrInsert k v) served = absurd served
+get_point (CompareExchange k old new) served = absurd served
+get_point (Range a b n) served = absurd served
+
+-- it sees payloads
+pub get_shares : (o : Outline) → IsServedCall o → SharesNone o None → ⊥
+get_shares (Get k) served h = h
+get_shares (Insert k v) served h = served
+get_shares (Remove k) served h = served
+get_shares (ComputeIfPresent k) served h = h
+get_shares (ComputeOrInsert k v) served h = h
+get_shares (CompareExchange k old new) served h = h
+get_shares (Range a b n) served h = h

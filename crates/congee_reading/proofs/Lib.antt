@@ -1,4 +1,9 @@
+pub mod Advances
+pub mod Begun
+pub mod Checks
 pub mod Courses
 pub mod Events
+pub mod Findings
+pub mod Looks
 pub mod Spots
 pub mod Takes

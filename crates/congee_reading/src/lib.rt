@@ -4,8 +4,8 @@
 //! `congee_protocol` defines, in any state that shows these nodes.
 #![tactic(auto)]
 
-
-
-
+pub mod advance;
+mod checking;
+mod looking;
 mod stepped;
 mod taking;

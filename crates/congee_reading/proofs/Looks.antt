@@ -1,0 +1,223 @@
+-- What a Read leaves of its call.
+use Rattle.std.proofs.Common.{◌≡◌, ◌≢◌, ℕ, ◌+◌, ◌-◌, ◌*◌, ◌<◌, Bool, true, false, IsTrue, ◌↔◌, List, [], ◌∷◌, length, Option, Some, None, Result, Ok, Err, IfErr, ◌⊎◌, inl, inr, refl, sym, subst, ap, ◌∙◌, arith}
+use Rattle.std.proofs.lemmas.Bool.Decides.{eqb_tells}
+use Rattle.congee_map.specs.Map.{lookup}
+use Rattle.congee_node_table.specs.Key.{next_byte}
+use Rattle.congee_node_table.specs.TableNode.{TableNode}
+use Rattle.congee_node_table.specs.declared.child.Child.{Child}
+use Rattle.congee_node_table.specs.declared.child.Child.TheVariants.{Payload, Node as below_at}
+use Rattle.congee_node_table.specs.inner.Kinds.{mapped}
+use Rattle.congee_protocol.specs.Calls.{Outline, IsPoint, bytes_of, key_of}
+use Rattle.congee_protocol.specs.Kinds.{report_of}
+use Rattle.congee_protocol.specs.Local.{SharesNone, payload_in}
+use Rattle.congee_protocol.specs.Meaning.{in_some, child_of}
+use Rattle.congee_protocol.specs.Reading.{IsSeenOf, child_for}
+use Rattle.congee_protocol.specs.State.{State}
+use Rattle.congee_protocol.specs.declared.types.Env.{Env}
+use Rattle.congee_protocol.specs.declared.types.Kind.TheVariants as kind
+use Rattle.congee_protocol.specs.declared.types.Outcome.{Outcome}
+use Rattle.congee_protocol.specs.declared.types.Outcome.TheVariants.{Going, Ask, Pair, Decided, Refused, Done, Unknown}
+use Rattle.congee_protocol.specs.declared.types.Progress.TheVariants as progress
+use Rattle.congee_protocol.specs.declared.types.Seen.{Seen}
+use Rattle.congee_store.specs.declared.stage.Path.{Path}
+use Rattle.congee_store.specs.declared.stage.Record.{Record}
+use Rattle.congee_store.specs.declared.stage.Stage.TheVariants.{Read, Check, Finish}
+use Rattle.congee_store.specs.declared.stage.Task.{Task}
+use Rattle.congee_store.specs.inner.Facts.{IsPlaced, IsFreshly, Facts, Agrees}
+use Rattle.congee_store.specs.inner.Meant.{meant_node}
+use Rattle.congee_store.specs.inner.Shown.{flight}
+use Rattle.congee_store.specs.inner.Turns.{IsRead}
+use Rattle.congee_store.specs.inner.World.{Node, Table}
+use Rattle.congee_store.proofs.Options.{none_some, some_same}
+use Rattle.congee_store.proofs.Reaching.{one, seen_at}
+use Rattle.congee_reading.specs.inner.Looked.{HasPayload, IsFull, IsLooking, IsUnseen, IsWholeRead, SeesAll, refused}
+use Rattle.congee_reading.specs.inner.Looked as looked
+use Rattle.congee_reading.proofs.Checks.{child_point}
+use Rattle.congee_reading.proofs.Courses.{still_current}
+use Rattle.congee_reading.proofs.Events.{read_whole, read_torn, read_refused}
+use Rattle.congee_reading.proofs.Spots.{here_known}
+use Rattle.congee_reading.proofs.Takes.{at}
+
+refused_open : progress.Refused ≡ progress.Open → ⊥
+refused_open e = cc
+
+lookup-mapped : {C D : Type 0} (f : C → D) (es : List (ℕ × C)) (k : ℕ) → lookup (mapped f es) k ≡ in_some f (lookup es k)
+lookup-mapped f [] k = refl
+lookup-mapped f (e ∷ es) k =
+    elim (eqb_tells e.0 k) [
+      | inl is ↦ rw is.0 refl
+      | inr off ↦ rw off.0 (lookup-mapped f es k)
+    ]
+
+pub length-meant : {C D : Type 0} (f : C → D) (es : List (ℕ × C)) → length (mapped f es) ≡ length es
+length-meant f [] = refl
+length-meant f (e ∷ es) = omega (arith, length-meant f es)
+
+-- what a payload stands for
+pub payload_means : {P M : Type 0} (meaning : P → M) (c : Option (Child P)) → HasPayload c → HasPayload (in_some (child_of meaning) c)
+payload_means meaning c h = (meaning h.0, ap (in_some (child_of meaning)) h.1)
+
+-- what stands under a byte, with payloads replaced by what they stand for
+pub child_means : {P M : Type 0} (meaning : P → M) (a : TableNode P) (k : ℕ) → lookup (meant_node meaning a).children k ≡ in_some (child_of meaning) (lookup a.children k)
+child_means meaning a k = lookup-mapped (child_of meaning) a.children k
+
+pub found_means : {P M : Type 0} (meaning : P → M) (a : TableNode P) (o : Outline) (k : ℕ) (x : Option (Child P)) → x ≡ lookup a.children (next_byte a.prefix (bytes_of k)) → k ≡ key_of o
+    → lookup (meant_node meaning a).children (next_byte (meant_node meaning a).prefix (bytes_of (key_of o))) ≡ in_some (child_of meaning) x
+found_means meaning a o k x found key =
+    child_means meaning a (next_byte a.prefix (bytes_of (key_of o)))
+    ∙ ap (in_some (child_of meaning)) (ap (λ (z : ℕ). lookup a.children (next_byte a.prefix (bytes_of z))) (sym key) ∙ sym found)
+
+-- the count of the children, and that there is no room for more
+pub count_means : {P M : Type 0} (meaning : P → M) (a : TableNode P) (count : ℕ) → count ≡ length a.children → count ≡ length (meant_node meaning a).children
+count_means meaning a count e = e ∙ sym (length-meant (child_of meaning) a.children)
+
+pub full_means : {P M : Type 0} (meaning : P → M) (a : TableNode P) (full : Bool) → IsFull a.form (length a.children) full → IsFull a.form (length (meant_node meaning a).children) full
+full_means meaning a full h = subst (λ (n : ℕ). IsFull a.form n full) (sym (length-meant (child_of meaning) a.children)) h
+
+pub if_err : {A E : Type 0} (Q : Type 0) (r : Result A E) → Q → IfErr r (λ e. Q)
+if_err Q (Ok x) q = tt
+if_err Q (Err e) q = q
+
+module _ {M : Type 0} where
+  exact_seen : (Q : Type 0) (c seen : Option (Child M)) → seen ≡ c → IsSeenOf Q c seen
+  exact_seen Q None seen e = e
+  exact_seen Q (Some (Payload v)) seen e = λ q. e
+  exact_seen Q (Some (below_at s)) seen e = e
+
+  kept_seen : (c : Option (Child M)) (v : M) → c ≡ Some (Payload v) → payload_in c ≡ Some v
+  kept_seen c v e = ap payload_in e
+
+none_below : {M : Type 0} (slot : ℕ) → let c : Child M = below_at slot in None ≡ Some c → ⊥
+none_below slot e = none_some (below_at slot) e
+
+module _ {M : Type 0} (Granted : Type 0) (a : TableNode M) (o : Outline) (point : IsPoint o) (c : Option (Child M)) (there : lookup a.children (next_byte a.prefix (bytes_of (key_of o))) ≡ c)
+    (s : Seen M) (spare : Option M) (count : s.count ≡ length a.children) (full : IsFull a.form (length a.children) s.full) where
+  child_is : child_for o (key_of o) a ≡ c
+  child_is = child_point o point (key_of o) a ∙ there
+
+  -- it was shared
+  pub looks_shared : s.child ≡ c → spare ≡ payload_in c → IsLooking Granted a o s spare
+  looks_shared child kept = record {
+    child = exact_seen (SeesAll Granted o) (child_for o (key_of o) a) s.child (child ∙ sym child_is);
+    count = count;
+    full = full;
+    kept = λ sees v e. kept ∙ kept_seen c v (sym child ∙ e);
+    below = λ slot e. child_is ∙ (sym child ∙ e);
+  }
+
+  -- a call that shares nothing leaves it open
+  pub looks_open : SharesNone o None → (Granted → ⊥) → HasPayload c → s.child ≡ None → IsLooking Granted a o s spare
+  looks_open shares granted payload none = record {
+    child = subst (λ (x : Option (Child M)). IsSeenOf (SeesAll Granted o) x s.child) (sym (child_is ∙ payload.1)) (λ (sees : SeesAll Granted o). absurd (granted (sees shares)));
+    count = count;
+    full = full;
+    kept = λ sees v e. absurd (none_some (Payload v) (sym none ∙ e));
+    below = λ slot e. absurd (none_below slot (sym none ∙ e));
+  }
+
+module _ {M : Type 0} (Granted : Type 0) (a : TableNode M) (o : Outline) (point : IsPoint o) (c : Option (Child M)) (there : lookup a.children (next_byte a.prefix (bytes_of (key_of o))) ≡ c) where
+  pub looks_refused : (SharesNone o None → ⊥) → (Granted → ⊥) → HasPayload c → IsUnseen Granted a o
+  looks_refused shares granted payload = record {
+    payload = (payload.0, child_point o point (key_of o) a ∙ there ∙ payload.1);
+    shares = shares;
+    granted = granted;
+  }
+
+module _ {M : Type 0} (Granted : Type 0) (same : M → M → Bool) (t : Table M) (root pin : ℕ) (task : Task M) (env : Env M) (placed : IsPlaced t root) (path : Path) (a : Node M)
+    (here : t path.here.slot ≡ Some a) (facts : Facts Granted t root pin (at (Read path) task)) where
+  pub torn_read : (torn : Seen M) → env.torn ≡ torn → a.word ≢ path.here.word
+      → IsRead Granted same t root pin (at (Read path) task) env (at (Check path) (record task { last = Some torn; spare = None })) (report_of kind.Read (Some path.here.slot) 0 true) Going
+  torn_read torn is other =
+      let f = facts.at in
+      let gone : (b : Node M) → t path.here.slot ≡ Some b → b.word ≡ path.here.word → ⊥ = λ b h e. other (ap (λ (z : Node M). z.word) (some_same a b (sym here ∙ h)) ∙ e) in
+      subst (λ (x : Seen M). IsRead Granted same t root pin (at (Read path) task) env (at (Check path) (record task { last = Some x; spare = None })) (report_of kind.Read (Some path.here.slot) 0 true) Going) is
+      (record {
+        facts = record {
+          small = facts.small;
+          at = (
+            record { opened = record { undecided = f.0.opened.undecided; op = f.0.opened.op; op_is = f.0.opened.op_is; outline = f.0.opened.outline }; fresh = f.0.fresh },
+            f.1,
+            record { seen = env.torn; is = refl; agrees = λ b h e. absurd (gone b h e) },
+          );
+        };
+        course = record {
+          touches = λ z e make. inr (inl (some_same path.here.slot z e));
+          names = λ z h. inr (inl h);
+          reads = λ z h. refl;
+          outline = refl;
+          keeps = still_current t (Read path) (Check path) (λ z w h. h);
+          falls = λ served. inr (omega arith);
+        };
+        does = λ s id shows. read_torn Granted same s id (flight pin (at (Read path) task)) env (inl f.0.opened.undecided) path.here.slot path.here.word (one a) (seen_at t root s shows path.here.slot a here) (here_known path) other;
+        carries = λ s shows m content. refl;
+      })
+
+  module _ (word : a.word ≡ path.here.word) where
+    whole : (seen : Seen M) (spare : Option M) → IsLooking Granted a.node task.outline seen spare
+        → IsRead Granted same t root pin (at (Read path) task) env (at (Check path) (record task { last = Some seen; spare = spare })) (report_of kind.Read (Some path.here.slot) 0 true) Going
+    whole seen spare looks =
+        let f = facts.at in
+        let next : Task M = record task { last = Some seen; spare = spare } in
+        let agrees : Agrees Granted next (Check path) pin a seen = record {
+          reading = record { child = looks.child; count = looks.count; full = looks.full };
+          spare = looks.kept;
+          below = looks.below;
+        } in
+        record {
+          facts = record {
+            small = facts.small;
+            at = (
+              record { opened = record { undecided = f.0.opened.undecided; op = f.0.opened.op; op_is = f.0.opened.op_is; outline = f.0.opened.outline }; fresh = f.0.fresh },
+              f.1,
+              record {
+                seen = seen;
+                is = refl;
+                agrees = λ (b : Node M) (h : t path.here.slot ≡ Some b) (e : b.word ≡ path.here.word).
+                    subst (λ (z : Node M). Agrees Granted next (Check path) pin z seen) (some_same a b (sym here ∙ h)) agrees;
+              },
+            );
+          };
+          course = record {
+            touches = λ z e make. inr (inl (some_same path.here.slot z e));
+            names = λ z h. inr (inl h);
+            reads = λ z h. refl;
+            outline = refl;
+            keeps = still_current t (Read path) (Check path) (λ z w h. h);
+            falls = λ served. inr (omega arith);
+          };
+          does = λ s id shows. read_whole Granted same s id (flight pin (at (Read path) task)) env (inl f.0.opened.undecided) path.here.slot path.here.word (one a) (seen_at t root s shows path.here.slot a here) (here_known path)
+              seen word (record { child = looks.child; count = looks.count; full = looks.full });
+          carries = λ s shows m content. refl;
+        }
+
+    unseen : IsUnseen Granted a.node task.outline
+        → IsRead Granted same t root pin (at (Read path) task) env (refused Granted task) (report_of kind.Read (Some path.here.slot) 0 true) Refused
+    unseen denied =
+        let f = facts.at in
+        record {
+          facts = record { small = facts.small; at = refused_open };
+          course = record {
+            touches = λ z e make. inr (inl (some_same path.here.slot z e));
+            names = λ z h. absurd h;
+            reads = λ z h. absurd h;
+            outline = refl;
+            keeps = λ current z w h. absurd (none_some w h);
+            falls = λ served. inr (omega arith);
+          };
+          does = λ s id shows. read_refused Granted same s id (flight pin (at (Read path) task)) env (inl f.0.opened.undecided) path.here.slot path.here.word (one a) (seen_at t root s shows path.here.slot a here) (here_known path)
+              denied.payload.0 word denied.payload.1 denied.shares denied.granted f.0.opened.undecided;
+          carries = λ s shows m content. refl;
+        }
+
+    -- a Read of a node whose word is the remembered one
+    pub whole_or_refused : (next : Record M) (out : Outcome M) → IsWholeRead Granted a.node path task next out
+        → IsRead Granted same t root pin (at (Read path) task) env next (report_of kind.Read (Some path.here.slot) 0 true) out
+    whole_or_refused next Going h =
+        subst (λ (n : Record M). IsRead Granted same t root pin (at (Read path) task) env n (report_of kind.Read (Some path.here.slot) 0 true) Going) (sym h.is) (whole h.seen h.spare h.looking)
+    whole_or_refused next Refused h =
+        subst (λ (n : Record M). IsRead Granted same t root pin (at (Read path) task) env n (report_of kind.Read (Some path.here.slot) 0 true) Refused) (sym h.1) (unseen h.0)
+    whole_or_refused next (Ask old) h = absurd h
+    whole_or_refused next (Pair k v) h = absurd h
+    whole_or_refused next (Decided reply) h = absurd h
+    whole_or_refused next Done h = absurd h
+    whole_or_refused next Unknown h = absurd h

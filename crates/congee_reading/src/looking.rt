@@ -1,0 +1,154 @@
+//! Read: what stands under the key's byte of the current node, with a share more of a payload.
+
+ghost use Rattle.std.specs.Prelude.{◌≡◌, ◌↔◌, IsTrue, None, IsOk, IfOk, IfErr, IfSome, IfNone, length};
+ghost use Rattle.congee_map.specs.Map.{lookup};
+ghost use Rattle.congee_node_table.specs.Key.{next_byte};
+ghost use Rattle.congee_node_table.specs.TableNode.{seen};
+ghost use Rattle.congee_protocol.specs.Calls.{IsPoint, bytes_of};
+ghost use Rattle.congee_protocol.specs.Local.{SharesNone, payload_in};
+ghost use Rattle.congee_protocol.specs.Meaning.{in_some, child_of, seen_of, outcome_of};
+ghost use Rattle.congee_protocol.specs.declared.types.Env.{Env};
+ghost use Rattle.congee_store.specs.inner.Facts.{IsPlaced};
+ghost use Rattle.congee_store.specs.inner.Meant.{meant_node, meant_record, meant_table, meant_task};
+ghost use Rattle.congee_reading.specs.inner.Looked.{HasPayload, IsFull, IsLooking, IsUnseen, IsWholeRead};
+ghost use Rattle.congee_reading.specs.inner.Reads.{Knows, Reads};
+
+use crate::stepped::{Stepped, node_at, refused, report, saw, stands};
+use congee_map::error::OOMError;
+use congee_node_table::child::{Child, ChildRef};
+use congee_node_table::tree_node::TreeNode;
+use congee_protocol::payload::HasMeaning;
+use congee_protocol::types::{Kind, Op, Report, Seen};
+use congee_store::stage::{Path, Stage, Task};
+use congee_store::store::Store;
+
+/// Read of the current node by a point call, which reports `torn` where the node's word isn't the remembered one.
+pub(crate) fn read<P: HasMeaning>(
+    store: &Store<P>,
+    pin: u64,
+    task: Task<P>,
+    path: Path,
+    torn: Seen<P>,
+) -> Stepped<P>
+    requires placed { IsPlaced (meant_table P.meaning store.now) store.now.root }
+    requires facts { Knows P.always_shared P.meaning store.now pin
+        (record { stage = Stage.Read path; task = task }) }
+    requires point { IsPoint task.outline }
+    ensures reads { (env : Env P) → env.torn ≡ torn
+        → Reads P.always_shared P.same_meaning P.meaning store.now pin
+        (record { stage = Stage.Read path; task = task }) env
+        result.call result.report result.outcome }
+{
+    let slot = path.here.slot;
+    let node = node_at(store, slot);
+    let report = report(Kind::Read, slot, 0, true);
+    if stands(node, path.here) {
+        read_whole(&node.node, task, path, torn, report)
+    } else {
+        saw(task, path, torn, None, report)
+    }
+}
+
+// A Read of a node whose word is the remembered one; what a torn Read would have reported is dropped.
+fn read_whole<P: HasMeaning>(
+    node: &TreeNode<P>,
+    task: Task<P>,
+    path: Path,
+    _torn: Seen<P>,
+    report: Report,
+) -> Stepped<P>
+    requires { IsPoint task.outline }
+    ensures report { result.report ≡ report }
+    ensures says { IsWholeRead P.always_shared (meant_node P.meaning node.now) path
+        (meant_task P.meaning task) (meant_record P.meaning result.call)
+        (outcome_of P.meaning result.outcome) }
+{
+    match look(node, &task.outline) {
+        Some(found) => saw(task, path, found.seen, found.spare, report),
+        None => refused(task, report),
+    }
+}
+
+/// What a Read found, and a share more of the payload, if it found one.
+#[derive(Drop)]
+struct Looked<P> {
+    seen: Seen<P>,
+    spare: Option<P>,
+}
+
+// What stands under the key's byte of a node. Where a share is refused a call that needs none leaves it open, and
+// another one gets nothing.
+fn look<P: HasMeaning>(node: &TreeNode<P>, outline: &Op<()>) -> Option<Looked<P>>
+    requires { IsPoint outline.now }
+    ensures some { IfSome result (λ x. IsLooking P.always_shared (meant_node P.meaning node.now)
+        outline.now (seen_of P.meaning x.seen) (in_some P.meaning x.spare)) }
+    ensures none { IfNone result
+        (IsUnseen P.always_shared (meant_node P.meaning node.now) outline.now) }
+{
+    match shared(child_at(node, outline.key())) {
+        Ok((child, spare)) => Some(noted(node, child, spare)),
+        Err(_) => {
+            if shares_none(outline) {
+                Some(noted(node, None, None))
+            } else {
+                None
+            }
+        }
+    }
+}
+
+fn child_at<'a, P: Drop>(node: &'a TreeNode<P>, key: u64) -> Option<ChildRef<'a, P>>
+    ensures { seen result ≡ lookup node.now.children (next_byte node.now.prefix (bytes_of key)) }
+{
+    let bytes = key.to_be_bytes();
+    let byte = bytes[node.base().prefix().len()];
+    node.get_child(byte)
+}
+
+// The child and a share more of its payload.
+fn shared<P: HasMeaning>(
+    child: Option<ChildRef<'_, P>>,
+) -> Result<(Option<Child<P>>, Option<P>), OOMError>
+    ensures child { IfOk result (λ x. in_some (child_of P.meaning) x.0
+        ≡ in_some (child_of P.meaning) (seen child.entry)) }
+    ensures spare { IfOk result (λ x. in_some P.meaning x.1
+        ≡ payload_in (in_some (child_of P.meaning) (seen child.entry))) }
+    ensures payload { IfErr result (λ e. HasPayload (seen child.entry)) }
+    ensures granted { P.always_shared → IsOk result }
+{
+    match child {
+        None => Ok((None, None)),
+        Some(ChildRef::Node(slot)) => Ok((Some(Child::Node(slot)), None)),
+        Some(ChildRef::Payload(payload)) => {
+            let shown = payload.share()?;
+            let spare = payload.share()?;
+            Ok((Some(Child::Payload(shown)), Some(spare)))
+        }
+    }
+}
+
+// The count of a node's children, and whether it is full, beside what was found.
+fn noted<P: Drop>(node: &TreeNode<P>, child: Option<Child<P>>, spare: Option<P>) -> Looked<P>
+    ensures child { result.seen.child ≡ child }
+    ensures spare { result.spare ≡ spare }
+    ensures count { result.seen.count ≡ length node.now.children }
+    ensures full { IsFull node.now.form (length node.now.children) result.seen.full }
+{
+    let seen = Seen {
+        child,
+        count: node.base().value_count(),
+        full: node.is_full(),
+    };
+    Looked { seen, spare }
+}
+
+// Whether a call of this kind shares no payload.
+fn shares_none(outline: &Op<()>) -> bool
+    ensures { IsTrue result ↔ SharesNone outline.now None }
+{
+    match outline {
+        Op::Insert(..) => true,
+        Op::Remove(_) => true,
+        _ => false,
+    }
+}
