@@ -8,6 +8,7 @@ pub mod Reaching
 pub mod Rely
 pub mod Seats
 pub mod Sizes
+pub mod Slots
 pub mod States
 pub mod Ways
 pub mod WalkLaws

@@ -5,3 +5,6 @@ pub mod Shown
 pub mod Facts
 pub mod Turns
 pub mod Walks
+pub mod Tails
+pub mod TailFacts
+pub mod Moves

@@ -8,3 +8,4 @@ pub mod calls;
 pub mod content;
 pub mod stage;
 pub mod store;
+pub mod tail;

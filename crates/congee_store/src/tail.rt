@@ -1,0 +1,78 @@
+//! What a call does once its Check has found that it has to write: the tails of the protocol, event by event.
+//!
+//! | The case at the node | Events |
+//! |---|---|
+//! | a payload is put into a leaf with room, or in another's place, or taken out of several | `Upgrade`, `Write`, `Unlock` |
+//! | a new leaf below an inner node with room | `Upgrade`, `MakeLeaf`, `Link`, `Unlock` |
+//! | a full leaf | `UpgradeAbove`, `UpgradeBelow`, `Grow`, `Replace`, `Obsolete`, `Unlock` |
+//! | a full inner node | `UpgradeAbove`, `UpgradeBelow`, `MakeLeafBelow`, `Grow`, `Replace`, `Obsolete`, `Unlock` |
+//! | a prefix that leaves the key | `UpgradeAbove`, `UpgradeBelow`, `MakeLeafBelow`, `MakeMiddle`, `Insert`, `UnlockBelow`, `Unlock` |
+//! | a leaf's last payload is taken out | `UpgradeAbove`, `UpgradeBelow`, `Detach`, `Obsolete`, `Unlock` |
+//!
+//! After the last `Unlock` the call ends; where the second upgrade has failed, it goes back to the root.
+
+use crate::stage::{Path, Spot};
+
+/// What is changed at the call's node alone.
+#[derive(Clone, Copy)]
+pub enum Small {
+    /// The payload under the key's byte of a leaf.
+    Entry,
+    /// A leaf is linked under the key's byte of an inner node.
+    Leaf,
+}
+
+/// What is changed at the parent of the call's node.
+#[derive(Clone, Copy)]
+pub enum Large {
+    /// A larger copy with one payload more takes the leaf's place.
+    GrowLeaf,
+    /// A larger copy with one leaf more takes the inner node's place.
+    GrowInner,
+    /// A node that has the call's node and a new leaf is put between.
+    Split,
+    /// The leaf goes.
+    Detach,
+}
+
+/// A node and its parent, each with the word that was seen there.
+#[derive(Clone, Copy)]
+pub struct Pair {
+    pub above: Spot,
+    pub here: Spot,
+}
+
+/// The next event of a tail. Where a spot's node is held, its word is the one before the upgrade.
+#[derive(Clone, Copy)]
+pub enum Tail {
+    /// Locks the node.
+    Upgrade(Path, Small),
+    /// Changes the payload of the held leaf.
+    Write(Spot),
+    /// Makes a leaf for the held inner node.
+    MakeLeaf(Spot),
+    /// Links that leaf.
+    Link(Spot, usize),
+    /// Unlocks the one node that is held.
+    Unlock(Spot),
+    /// Locks the parent.
+    UpgradeAbove(Pair, Large),
+    /// Locks the node, with the parent held.
+    UpgradeBelow(Pair, Large),
+    /// Makes a leaf, with both held.
+    MakeLeafBelow(Pair, Large),
+    /// Makes the larger copy; the new leaf, where the node is an inner one.
+    Grow(Pair, Option<usize>),
+    /// Makes the node that is put between, for the new leaf.
+    MakeMiddle(Pair, usize),
+    /// Puts the copy in the node's place; the copy, and the new leaf.
+    Replace(Pair, usize, Option<usize>),
+    /// Puts the middle node between; the middle node, and the new leaf.
+    Insert(Pair, usize, usize),
+    /// Takes the held leaf from its parent.
+    Detach(Pair),
+    /// Marks the node obsolete that is no longer in the tree.
+    Obsolete(Pair),
+    /// Unlocks the node, with the parent held.
+    UnlockBelow(Pair),
+}
