@@ -131,6 +131,13 @@ impl<K: Word, V: Word, A: Allocator, D: Drainer<K, V>> Congee<K, V, A, D> {
         self.tree.stats()
     }
 
+    /// How many pairs there are: 2 to the 64 at most. Takes constant time and no memory.
+    pub fn value_count(&self) -> u128
+        ensures { result ≡ length self.now.pairs }
+    {
+        self.tree.value_count()
+    }
+
     /// The sum of the stated sizes of the nodes of the map's tree, which its allocator is charged for. Takes no memory.
     pub fn charged(&self) -> u128
         ensures { result ≡ charge_of self.now.nodes }
@@ -159,7 +166,7 @@ impl<K: Word, V: Word, A: Allocator, D: Drainer<K, V>> Congee<K, V, A, D> {
     }
 
     /// The same for entries of another kind.
-    pub(crate) fn range_of<E: RangeEntry>(&self, start: u64, end: u64, buffer: &mut [E]) -> usize
+    pub fn range_of<E: RangeEntry>(&self, start: u64, end: u64, buffer: &mut [E]) -> usize
         ensures count { result
             ≡ min (length buffer.old) (length (between self.now.pairs start end)) }
         ensures written { buffer.new
