@@ -1,0 +1,30 @@
+//! The map that a handle holds.
+
+ghost use Rattle.std.specs.Prelude.{◌≡◌, [], IfOk};
+ghost use Rattle.congee_c.specs.Limit.{limit_of, limit_charge};
+ghost use Rattle.congee_faces.specs.Face.{ChargedFor};
+
+use congee_faces::typed_congee::Congee;
+use congee_map::error::OOMError;
+use congee_node_table::allocator::Budget;
+use std::alloc::Global;
+
+/// The map, under a type without parameters, as C needs it.
+#[derive(Drop)]
+pub struct Held {
+    pub map: Congee<u64, u64, Budget>,
+}
+
+impl Held {
+    /// An empty map, or `OOMError` where the limit or the machine has no memory for it. The limit is in bytes, over the
+    /// stated sizes of nodes.
+    pub fn new(alloc: Global, limit: u64) -> Result<Held, OOMError>
+        ensures pairs { IfOk result (λ held. held.map.pairs ≡ []) }
+        ensures charge { IfOk result (λ held.
+            ChargedFor limit_charge (limit_of limit) held.map) }
+    {
+        Ok(Held {
+            map: Congee::new(alloc, Budget::new(limit))?,
+        })
+    }
+}

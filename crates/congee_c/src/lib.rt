@@ -1,0 +1,234 @@
+//! The map from `u64` to `u64` for C and Rust programs: `include/congee.h` declares what stands here.
+//!
+//! C holds a `Handle`, one word that owns a map on the heap. Each call takes it by `&mut`, so C makes one call on a map at a
+//! time, reads included. A call leaves the map where it stands (`place`), so C may keep its address alone.
+//!
+//! An answer is an `i32`: 0, 1 or 2 as each call says, and -1 where there is no memory.
+#![tactic(auto)]
+
+ghost use Rattle.std.specs.Prelude.{◌≡◌, ◌≢◌, ℕ, pos, ◌⊎◌, ◌↔◌, ◌++◌, [], Some, None, IfSome, IsSome, IsTrue, length, min, map, take, drop};
+ghost use Rattle.congee_map.specs.Map.{lookup, put, without, between};
+ghost use Rattle.congee_map.specs.Refusal.{NeedsNode};
+ghost use Rattle.congee_stats.specs.LevelCounts.{capped};
+ghost use Rattle.congee_supply.specs.Charge.{charge_of};
+ghost use Rattle.congee_faces.specs.Face.{ChargedAlike, ChargedFor, FaceUnchanged};
+ghost use Rattle.congee_c.specs.Answer.{is_there, put_if_there, oom};
+ghost use Rattle.congee_c.specs.Limit.{limit_of, limit_charge};
+
+mod handle;
+mod held;
+mod room;
+
+use congee_walks::range_scan::RangeEntry;
+pub use handle::Handle;
+use held::Held;
+pub use room::Room;
+use std::alloc::Global;
+
+/// The answer of a call that found no memory.
+const OOM: i32 = -1;
+
+/// A key and its value: 16 bytes.
+#[repr(C)]
+#[derive(Clone, Copy, Drop)]
+pub struct Pair {
+    pub key: u64,
+    pub value: u64,
+}
+
+impl RangeEntry for Pair {
+    ghost entry = { λ key value. record { key = key; value = value } };
+
+    fn from_pair(key: u64, value: u64) -> Pair {
+        Pair { key, value }
+    }
+}
+
+/// Writes the handle of a new, empty map to `out` and answers 0, or answers `OOM` and writes nothing. The stated sizes of
+/// the map's nodes are charged to a limit in bytes, which refuses what goes past it; the greatest number is none.
+#[unsafe(no_mangle)]
+pub extern "C" fn congee_c_new(alloc: Global, limit: u64, out: &mut Room) -> i32
+    requires { out.old.held ≡ None }
+    ensures code { (result ≡ pos 0) ⊎ (result ≡ oom) }
+    ensures made { result ≡ pos 0 → IsSome out.new.held }
+    ensures empty { result ≡ pos 0 → IfSome out.new.held (λ held. held.map.pairs ≡ []) }
+    ensures charge { result ≡ pos 0 → IfSome out.new.held (λ held.
+        ChargedFor limit_charge (limit_of limit) held.map) }
+    ensures refused { result ≡ oom → out.new ≡ out.old }
+{
+    let Ok(held) = Held::new(alloc, limit) else {
+        return OOM;
+    };
+    let Ok(handle) = Handle::new(alloc, held) else {
+        return OOM;
+    };
+    *out = Room::of(handle);
+    0
+}
+
+/// Drops the map, and frees all its memory.
+#[unsafe(no_mangle)]
+pub extern "C" fn congee_c_free(handle: Handle) {
+    handle.free();
+}
+
+/// Writes the value at the key to `value` and answers 1, or answers 0. Takes no memory.
+#[unsafe(no_mangle)]
+pub extern "C" fn congee_c_get(handle: &mut Handle, key: u64, value: &mut u64) -> i32
+    ensures code { result ≡ is_there (lookup handle.old.held.map.pairs key) }
+    ensures value { value.new
+        ≡ put_if_there (lookup handle.old.held.map.pairs key) value.old }
+    ensures same { handle.new.held ≡ handle.old.held }
+    ensures place { handle.new.ptr ≡ handle.old.ptr }
+{
+    answer(handle.as_mut().map.get(&key), value)
+}
+
+/// Sets the value at the key. Answers 0 for a new key, and 1 where a value stood there, which is written to `before`. For a
+/// new key that needs a node it may find no memory: then it answers `OOM`, and all is as it was.
+#[unsafe(no_mangle)]
+pub extern "C" fn congee_c_insert(
+    handle: &mut Handle,
+    key: u64,
+    value: u64,
+    before: &mut u64,
+) -> i32
+    ensures code { (result ≡ oom)
+        ⊎ (result ≡ is_there (lookup handle.old.held.map.pairs key)) }
+    ensures pairs { result ≢ oom
+        → handle.new.held.map.pairs ≡ put handle.old.held.map.pairs key value }
+    ensures before { result ≢ oom
+        → before.new ≡ put_if_there (lookup handle.old.held.map.pairs key) before.old }
+    ensures refused { result ≡ oom
+        → FaceUnchanged handle.old.held.map handle.new.held.map × (before.new ≡ before.old) }
+    ensures rare { result ≡ oom → NeedsNode handle.old.held.map.pairs key }
+    ensures charge { ChargedAlike limit_charge handle.old.held.map handle.new.held.map }
+    ensures place { handle.new.ptr ≡ handle.old.ptr }
+{
+    match handle.as_mut().map.insert(key, value) {
+        Ok(stood) => answer(stood, before),
+        Err(_) => OOM,
+    }
+}
+
+/// Takes the key out. Answers 1 where a value stood there, which is written to `before`, or 0. Takes no memory.
+#[unsafe(no_mangle)]
+pub extern "C" fn congee_c_remove(handle: &mut Handle, key: u64, before: &mut u64) -> i32
+    ensures code { result ≡ is_there (lookup handle.old.held.map.pairs key) }
+    ensures before { before.new
+        ≡ put_if_there (lookup handle.old.held.map.pairs key) before.old }
+    ensures pairs { handle.new.held.map.pairs ≡ without handle.old.held.map.pairs key }
+    ensures charge { ChargedAlike limit_charge handle.old.held.map handle.new.held.map }
+    ensures place { handle.new.ptr ≡ handle.old.ptr }
+{
+    answer(handle.as_mut().map.remove(&key), before)
+}
+
+/// Where `expected` stands at the key, puts `desired` there and answers 1. Where another value stands there, writes it to
+/// `found` and answers 2. Where the key is absent, answers 0. Takes no memory.
+#[unsafe(no_mangle)]
+pub extern "C" fn congee_c_compare_exchange(
+    handle: &mut Handle,
+    key: u64,
+    expected: u64,
+    desired: u64,
+    found: &mut u64,
+) -> i32
+    ensures absent { lookup handle.old.held.map.pairs key ≡ None
+        → (result ≡ pos 0)
+        × (handle.new.held.map.pairs ≡ handle.old.held.map.pairs)
+        × (found.new ≡ found.old) }
+    ensures same { lookup handle.old.held.map.pairs key ≡ Some expected
+        → (result ≡ pos 1)
+        × (handle.new.held.map.pairs ≡ put handle.old.held.map.pairs key desired)
+        × (found.new ≡ found.old) }
+    ensures other { (standing : ℕ) → lookup handle.old.held.map.pairs key ≡ Some standing
+        → standing ≢ expected
+        → (result ≡ pos 2)
+        × (handle.new.held.map.pairs ≡ handle.old.held.map.pairs)
+        × (found.new ≡ standing) }
+    ensures charge { ChargedAlike limit_charge handle.old.held.map handle.new.held.map }
+    ensures place { handle.new.ptr ≡ handle.old.ptr }
+{
+    let held = handle.as_mut();
+    match held.map.compare_exchange(&key, &expected, Some(desired)) {
+        Ok(_) => 1,
+        Err(None) => 0,
+        Err(Some(standing)) => {
+            *found = standing;
+            2
+        }
+    }
+}
+
+/// Writes the first pairs with keys from `start` on and below `end`, keys ascending, as many as there are or as fit, and
+/// answers how many. The rest of the buffer stays. Takes no memory.
+#[unsafe(no_mangle)]
+pub extern "C" fn congee_c_range(
+    handle: &mut Handle,
+    start: u64,
+    end: u64,
+    buffer: &mut [Pair],
+) -> usize
+    ensures count { result
+        ≡ min (length buffer.old) (length (between handle.old.held.map.pairs start end)) }
+    ensures written { let pairs = map (λ pair. record { key = pair.0; value = pair.1 })
+        (between handle.old.held.map.pairs start end) in
+        buffer.new ≡ take result pairs ++ drop result buffer.old }
+    ensures same { handle.new.held ≡ handle.old.held }
+    ensures place { handle.new.ptr ≡ handle.old.ptr }
+{
+    handle.as_mut().map.range_of(start, end, buffer)
+}
+
+/// Whether there is no pair.
+#[unsafe(no_mangle)]
+pub extern "C" fn congee_c_is_empty(handle: &mut Handle) -> bool
+    ensures empty { IsTrue result ↔ (handle.old.held.map.pairs ≡ []) }
+    ensures same { handle.new.held ≡ handle.old.held }
+    ensures place { handle.new.ptr ≡ handle.old.ptr }
+{
+    handle.as_mut().map.is_empty()
+}
+
+/// How many pairs there are, or the greatest `u64` where there are more. Takes constant time.
+#[unsafe(no_mangle)]
+pub extern "C" fn congee_c_count(handle: &mut Handle) -> u64
+    ensures count { result ≡ capped (length handle.old.held.map.pairs) }
+    ensures same { handle.new.held ≡ handle.old.held }
+    ensures place { handle.new.ptr ≡ handle.old.ptr }
+{
+    narrowed(handle.as_mut().map.value_count())
+}
+
+/// The sum in bytes of the stated sizes of the map's nodes, which its limit is charged for, or the greatest `u64` where it is
+/// more. Takes constant time.
+#[unsafe(no_mangle)]
+pub extern "C" fn congee_c_charged(handle: &mut Handle) -> u64
+    ensures charge { result ≡ capped (charge_of handle.old.held.map.nodes) }
+    ensures same { handle.new.held ≡ handle.old.held }
+    ensures place { handle.new.ptr ≡ handle.old.ptr }
+{
+    narrowed(handle.as_mut().map.charged())
+}
+
+// 1 with the value written to the place, or 0.
+fn answer(value: Option<u64>, place: &mut u64) -> i32
+    ensures code { result ≡ is_there value }
+    ensures place { place.new ≡ put_if_there value place.old }
+{
+    match value {
+        Some(value) => {
+            *place = value;
+            1
+        }
+        None => 0,
+    }
+}
+
+// The number, or the greatest `u64` where it is more.
+fn narrowed(number: u128) -> u64
+    ensures { result ≡ capped number }
+{
+    u64::try_from(number).unwrap_or(u64::MAX)
+}

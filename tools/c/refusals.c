@@ -1,0 +1,114 @@
+/* Each of the first 400 allocations fails in turn: the call answers CONGEE_OOM, everything is as it was, and nothing leaks.
+ * Then the least limits, and one below each. Linked with --wrap for malloc, realloc and free. */
+#include "congee.h"
+#include <stdio.h>
+#include <stdlib.h>
+
+enum { FIRST = 400, KEYS = 3000 };
+
+static long left = -1; /* how many allocations succeed before one fails, or none for -1 */
+static long live;      /* how many blocks are out */
+
+void *__real_malloc(size_t);
+void *__real_realloc(void *, size_t);
+void __real_free(void *);
+
+static bool is_refused(void) {
+    if (left == 0)
+        return true;
+    left -= left > 0;
+    return false;
+}
+
+void *__wrap_malloc(size_t n) {
+    if (is_refused())
+        return NULL;
+    void *block = __real_malloc(n);
+    live += block != NULL;
+    return block;
+}
+
+void *__wrap_realloc(void *block, size_t n) {
+    return is_refused() ? NULL : __real_realloc(block, n);
+}
+
+void __wrap_free(void *block) {
+    live -= block != NULL;
+    __real_free(block);
+}
+
+static void need(bool holds, const char *what) {
+    if (!holds) {
+        fprintf(stderr, "refusals: wrong: %s\n", what);
+        exit(1);
+    }
+}
+
+static uint64_t key_of(uint64_t i) {
+    return i * 0x0100010001000100u + i % 7;
+}
+
+/* The keys below a place stand in the map, each with its place, and no other key. */
+static void check(struct congee *map, uint64_t below) {
+    uint64_t value;
+    need(congee_count(map) == below, "the count after a refusal");
+    for (uint64_t i = 0; i < KEYS; i++)
+        need(congee_get(map, key_of(i), &value) == (i < below) && (i >= below || value == i), "a pair after a refusal");
+}
+
+/* Fills a map with one allocation refused, and says how often an insertion was. */
+static long fill(struct congee *map) {
+    long refused = 0;
+    for (uint64_t i = 0; i < KEYS; i++) {
+        uint64_t old = 99, charged = congee_charged(map);
+        int code = congee_insert(map, key_of(i), i, &old);
+        if (code == CONGEE_OOM) {
+            refused++;
+            left = -1;
+            need(old == 99 && congee_charged(map) == charged, "what a refusal leaves");
+            check(map, i);
+            code = congee_insert(map, key_of(i), i, &old);
+        }
+        need(code == 0 && old == 99, "an insertion");
+    }
+    return refused;
+}
+
+static int insert_with_limit(uint64_t limit) {
+    struct congee *map;
+    if (congee_new_with_limit(&map, limit) == CONGEE_OOM) {
+        need(map == NULL, "no map is null");
+        return -2;
+    }
+    int code = congee_insert(map, 1, 42, NULL);
+    need(congee_count(map) == (code == 0) && congee_charged(map) <= limit, "the limit holds");
+    congee_free(map);
+    return code;
+}
+
+int main(void) {
+    long maps = 0, insertions = 0;
+    for (long fail = 0; fail < FIRST; fail++) {
+        struct congee *map;
+        left = fail;
+        if (congee_new(&map) == CONGEE_OOM) {
+            need(map == NULL, "no map is null");
+            maps++;
+        } else {
+            insertions += fill(map);
+            need(left != 0, "an allocation failed unseen");
+            left = -1;
+            check(map, KEYS);
+            congee_free(map);
+        }
+        need(live == 0, "a block leaks");
+    }
+    need(maps + insertions == FIRST, "each of the allocations failed once");
+    left = -1;
+    need(insert_with_limit(2103) == -2, "a limit below the first node's size");
+    need(insert_with_limit(2104) == CONGEE_OOM && insert_with_limit(2167) == CONGEE_OOM, "a limit below a leaf's size");
+    need(insert_with_limit(2168) == 0, "the least limit for one pair");
+    need(live == 0, "a block leaks");
+    printf("%ld maps and %ld insertions refused, no block lost\n", maps, insertions);
+    return 0;
+}

@@ -1,0 +1,105 @@
+/* Three million mixed calls, each answer compared with what an array of the keys says. */
+#include "congee.h"
+#include <inttypes.h>
+#include <stdio.h>
+#include <stdlib.h>
+#include <string.h>
+
+enum { KEYS = 4096, CALLS = 3000000, ROOM = 8 };
+
+static uint64_t keys[KEYS]; /* ascending */
+static bool stands[KEYS];
+static uint64_t values[KEYS];
+static uint64_t count;
+
+static uint64_t next(uint64_t *state) { /* splitmix64 */
+    uint64_t z = (*state += 0x9e3779b97f4a7c15u);
+    z = (z ^ (z >> 30)) * 0xbf58476d1ce4e5b9u;
+    z = (z ^ (z >> 27)) * 0x94d049bb133111ebu;
+    return z ^ (z >> 31);
+}
+
+static void need(bool holds, const char *what) {
+    if (!holds) {
+        fprintf(stderr, "stress: wrong answer: %s\n", what);
+        exit(1);
+    }
+}
+
+/* Eight full leaves, then keys that differ in all bytes; 0 is the first and the greatest number the last. */
+static void make_keys(void) {
+    for (uint64_t i = 0; i < KEYS; i++)
+        keys[i] = i < KEYS / 2 ? (i / 256) << 40 | i % 256 : ((uint64_t)1 << 60) + i * 0x0001010101010101u;
+    keys[KEYS - 1] = UINT64_MAX;
+    for (int i = 1; i < KEYS; i++)
+        need(keys[i - 1] < keys[i], "the keys ascend");
+}
+
+static void check_range(struct congee *map, int i, uint64_t *seed) {
+    struct congee_pair got[ROOM];
+    memset(got, 0xee, sizeof got);
+    int end = i + (int)(next(seed) % 64) - 4;
+    end = end < 0 ? 0 : end >= KEYS ? KEYS - 1 : end;
+    size_t n = next(seed) % (ROOM + 1), k = 0;
+    size_t told = congee_range(map, keys[i], keys[end], n > 0 ? got : NULL, n);
+    for (int j = i; j < end && k < n; j++)
+        if (stands[j]) {
+            need(k < told && got[k].key == keys[j] && got[k].value == values[j], "a pair of a range");
+            k++;
+        }
+    need(k == told, "how many pairs a range has");
+    for (; k < ROOM; k++)
+        need(got[k].key == 0xeeeeeeeeeeeeeeeeu && got[k].value == 0xeeeeeeeeeeeeeeeeu, "the rest of the buffer stays");
+}
+
+static void check_exchange(struct congee *map, int i, uint64_t value, uint64_t *seed) {
+    uint64_t expected = next(seed) % 4, found = 99;
+    int wanted = !stands[i] ? 0 : values[i] == expected ? 1 : 2;
+    need(congee_compare_exchange(map, keys[i], expected, value, &found) == wanted, "compare_exchange");
+    need(found == (wanted == 2 ? values[i] : 99), "what compare_exchange found");
+    if (wanted == 1)
+        values[i] = value;
+}
+
+static void call(struct congee *map, uint64_t *seed, unsigned removals) {
+    int i = (int)(next(seed) % KEYS);
+    uint64_t value = next(seed) % 4, out = 99, stood = stands[i] ? values[i] : 99;
+    unsigned kind = next(seed) % 12;
+    if (kind < removals) {
+        need(congee_remove(map, keys[i], &out) == stands[i] && out == stood, "remove");
+        count -= stands[i];
+        stands[i] = false;
+    } else if (kind < 6) {
+        need(congee_insert(map, keys[i], value, kind == 5 ? NULL : &out) == stands[i], "insert");
+        need(kind == 5 || out == stood, "what insert replaced");
+        count += !stands[i];
+        stands[i] = true, values[i] = value;
+    } else if (kind < 8) {
+        need(congee_get(map, keys[i], &out) == stands[i] && out == stood, "get");
+    } else if (kind < 10) {
+        check_exchange(map, i, value, seed);
+    } else {
+        check_range(map, i, seed);
+    }
+    need(congee_count(map) == count && congee_is_empty(map) == (count == 0), "count and is_empty");
+}
+
+int main(void) {
+    struct congee *map;
+    uint64_t seed = 7, out;
+    make_keys();
+    congee_free(NULL);
+    if (congee_new(&map))
+        return 1;
+    need(congee_charged(map) == 2104, "the charge of an empty map");
+    /* (so nodes grow, and shrink again) */
+    for (int c = 0; c < CALLS; c++)
+        call(map, &seed, c / (CALLS / 6) % 2 == 0 ? 1 : 5);
+    uint64_t left = count;
+    for (int i = 0; i < KEYS; i++)
+        need(congee_remove(map, keys[i], &out) == stands[i], "the last removals");
+    need(congee_is_empty(map) && congee_count(map) == 0 && congee_charged(map) == 2104, "all is given back");
+    congee_free(map);
+    printf("%d calls, %" PRIu64 " pairs at the end\n", CALLS, left);
+    return 0;
+}
