@@ -47,6 +47,7 @@ fn assert_all_keys(rt: &impl Abort, map: &mut Congee<u64, u64>) -> Result<(), OO
         assert_put(rt, key, map.insert(key, key), Ok(None));
     }
     assert_test(rt, has_keys(map, &wanted)?, true);
+    assert_test(rt, map.value_count() == 20, true);
     Ok(())
 }
 
