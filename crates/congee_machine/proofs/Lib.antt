@@ -1,0 +1,5 @@
+pub mod Changing
+pub mod Handed
+pub mod Inners
+pub mod Roots
+pub mod Turning

@@ -1,0 +1,217 @@
+-- What an event of a call is to the inside as a whole: a Start, an event after which the call goes on, and its last.
+use Rattle.std.proofs.Common.{◌≡◌, ◌≢◌, ℕ, ◌<◌, ◌≤◌, ◌^◌, Bool, true, List, Option, Some, None, IsSome, inl, refl, sym, subst, ap, ◌∙◌, arith}
+use Rattle.congee_map.specs.Map.{Pairs, lookup, without}
+use Rattle.congee_protocol.specs.Calls.{key_of, outline_of}
+use Rattle.congee_protocol.specs.Content.{IsContent}
+use Rattle.congee_protocol.specs.Deciding.{Carries}
+use Rattle.congee_protocol.specs.Kinds.{DoesAs, IsStep, IsStart, Finishes, begun, report_of}
+use Rattle.congee_protocol.specs.State.{State, Flight, with_call}
+use Rattle.congee_protocol.specs.declared.types.Asking.TheVariants.{Fresh}
+use Rattle.congee_protocol.specs.declared.types.Env.{Env}
+use Rattle.congee_protocol.specs.declared.types.Kind.TheVariants as kind
+use Rattle.congee_protocol.specs.declared.types.Op.{Op}
+use Rattle.congee_protocol.specs.declared.types.Op.TheVariants.{Get, Insert, Remove, ComputeIfPresent, ComputeOrInsert, CompareExchange, Range}
+use Rattle.congee_protocol.specs.declared.types.Outcome.{Outcome}
+use Rattle.congee_protocol.specs.declared.types.Outcome.TheVariants.{Done}
+use Rattle.congee_protocol.specs.declared.types.Progress.TheVariants.{Open}
+use Rattle.congee_protocol.specs.declared.types.Report.{Report}
+use Rattle.congee_sync.specs.Epoch.{PinsView, ChangesSeat, entry_at, pin_of, is_seated}
+use Rattle.congee_store.specs.declared.stage.Record.{Record}
+use Rattle.congee_store.specs.declared.stage.Stage.{Stage}
+use Rattle.congee_store.specs.declared.stage.Stage.TheVariants.{TakeRoot, Finish}
+use Rattle.congee_store.specs.inner.Facts.{Facts, FactsAt, Guarantees, Holding, IsSafe, IsSound}
+use Rattle.congee_store.specs.inner.Places.{ChangesPlace}
+use Rattle.congee_store.specs.inner.Shown.{flight, flight_in, state_of}
+use Rattle.congee_store.specs.inner.Turns.{IsAdvance, IsBegun, IsCourse, IsRead, IsTurn}
+use Rattle.congee_store.specs.inner.World.{World, Table, table_on, table_of, record_in, call_of}
+use Rattle.congee_store.proofs.Changes.{same_content}
+use Rattle.congee_store.proofs.Options.{none_some, some_same}
+use Rattle.congee_store.proofs.States.{shows, shown_flight, call_put, call_gone}
+use Rattle.congee_machine.specs.inner.Inside.{begun_record}
+use Rattle.congee_machine.proofs.Changing.{changed_sound, others_stay, rest_stays}
+
+module _ {M : Type 0} where
+  -- the call in flight of a number with a record and a pin
+  pub flown : (w : World M) (id pin : ℕ) (r : Record M) → id < 2 ^ 64 → call_of w id ≡ Some r → pin_of w.pins id ≡ Some pin
+      → lookup (state_of w).flights id ≡ Some (flight pin r)
+  flown w id pin r small found pinned =
+      shown_flight w id small ∙ (ap (λ x. flight_in x (pin_of w.pins id)) found ∙ ap (λ x. flight_in (Some r) x) pinned)
+
+  flight_begun : (op : Op M) (count : ℕ) → flight count (begun_record op) ≡ begun op count
+  flight_begun (Get k) count = refl
+  flight_begun (Insert k v) count = refl
+  flight_begun (Remove k) count = refl
+  flight_begun (ComputeIfPresent k) count = refl
+  flight_begun (ComputeOrInsert k v) count = refl
+  flight_begun (CompareExchange k old new) count = refl
+  flight_begun (Range a b n) count = refl
+
+  key_outline : (op : Op M) → key_of (outline_of op) ≡ key_of op
+  key_outline (Get k) = refl
+  key_outline (Insert k v) = refl
+  key_outline (Remove k) = refl
+  key_outline (ComputeIfPresent k) = refl
+  key_outline (ComputeOrInsert k v) = refl
+  key_outline (CompareExchange k old new) = refl
+  key_outline (Range a b n) = refl
+
+  -- nodes that stay as they are leave to all calls what they rely on
+  nothing_leaves : (t u : Table M) → ((s : ℕ) → u s ≡ t s) → (Mine : ℕ → Type 0) (p : ℕ) → Guarantees t u Mine p
+  nothing_leaves t u same Mine p s a here safe = record {
+    node = a;
+    here = same s ∙ here;
+    kept = record { prefix = refl; word = omega arith; same = λ free word. refl; safe = safe };
+    changed = inl refl;
+  }
+
+module _ {M : Type 0} (Granted : Type 0) (w : World M) (pins : PinsView) (calls : List (ℕ × Option (Record M))) (id : ℕ)
+    (sound : IsSound Granted w) (small : id < 2 ^ 64) where
+  -- A CALL BEGINS.
+  pub begun_sound : (op : Op M) → key_of op < 2 ^ 64
+      → ChangesSeat w.pins pins id (is_seated w.pins id) (Some w.pins.count)
+      → ChangesPlace w.calls calls id (Some (Some (begun_record op)))
+      → IsSound Granted (record w { pins = pins; calls = calls })
+  begun_sound op least enters places =
+      let facts : Facts Granted (table_of w) w.root w.pins.count (begun_record op) = record {
+        small = subst (λ k. k < 2 ^ 64) (sym (key_outline op)) least;
+        at = (record { opened = record { undecided = refl; op = op; op_is = refl; outline = refl }; fresh = refl }, refl);
+      } in
+      changed_sound w pins calls id (is_seated w.pins id) (Some w.pins.count) (Some (Some (begun_record op))) enters places Granted sound
+      (λ q p e f. subst (λ (x : Record M). Facts Granted (table_of w) w.root p x) (some_same (begun_record op) q e)
+      (subst (λ n. Facts Granted (table_of w) w.root n (begun_record op)) (some_same w.pins.count p f) facts))
+      (λ q e. refl)
+      (λ p f. refl)
+      (λ e. refl)
+      (λ p f. let e : w.pins.count ≡ p = some_same w.pins.count p f in omega arith)
+
+  pub begun_turn : (same : M → M → Bool) (op : Op M) → key_of op < 2 ^ 64 → call_of w id ≡ None
+      → ChangesSeat w.pins pins id (is_seated w.pins id) (Some w.pins.count)
+      → ChangesPlace w.calls calls id (Some (Some (begun_record op)))
+      → IsBegun Granted same w (record w { pins = pins; calls = calls }) id op (report_of kind.Start None 0 true)
+  begun_turn same op least free enters places =
+      let now : World M = record w { pins = pins; calls = calls } in
+      let pin = w.pins.count in
+      let place : Option (Option (Record M)) = Some (Some (begun_record op)) in
+      record {
+        before = sound;
+        after = begun_sound op least enters places;
+        others = λ o ne. ap record_in (places.others o ne);
+        nodes = λ s. ap (λ l. table_on w.slots l s) enters.slots;
+        root = refl;
+        record_is = begun_record op;
+        here = ap record_in places.here;
+        stage = refl;
+        outline = refl;
+        start = record {
+          is = refl;
+          free = shown_flight w id small ∙ ap (λ x. flight_in x (pin_of w.pins id)) free;
+          after = call_put w now id pin (begun_record op) small (ap record_in places.here) enters.pinned
+              (others_stay w pins calls id (is_seated w.pins id) (Some pin) place enters places)
+              (rest_stays w pins calls id (is_seated w.pins id) (Some pin) place enters places refl)
+              ∙ ap (λ f. with_call (state_of w) id f) (flight_begun op pin);
+        };
+      }
+
+  -- AN EVENT of a call in flight
+  module _ (same : M → M → Bool) (r : Record M) (pin : ℕ) (env : Env M) (report : Report) (out : Outcome M)
+      (found : call_of w id ≡ Some r) (pinned : pin_of w.pins id ≡ Some pin) where
+    -- after which it goes on
+    pub on_turn : (next : Record M)
+        → ChangesSeat w.pins pins id (is_seated w.pins id) (Some pin)
+        → ChangesPlace w.calls calls id (Some (Some next))
+        → IsRead Granted same (table_of w) w.root pin r env next report out
+        → IsTurn Granted same w (record w { pins = pins; calls = calls }) id env report out
+    on_turn next stays places read =
+        let now : World M = record w { pins = pins; calls = calls } in
+        let place : Option (Option (Record M)) = Some (Some next) in
+        let nodes : (s : ℕ) → table_of now s ≡ table_of w s = λ s. ap (λ l. table_on w.slots l s) stays.slots in
+        let after : state_of now ≡ with_call (state_of w) id (flight pin next) =
+        call_put w now id pin next small (ap record_in places.here) stays.pinned
+        (others_stay w pins calls id (is_seated w.pins id) (Some pin) place stays places)
+        (rest_stays w pins calls id (is_seated w.pins id) (Some pin) place stays places refl)
+        in
+        record {
+          before = sound;
+          after = changed_sound w pins calls id (is_seated w.pins id) (Some pin) place stays places Granted sound
+              (λ q p e f. subst (λ (x : Record M). Facts Granted (table_of w) w.root p x) (some_same next q e)
+              (subst (λ n. Facts Granted (table_of w) w.root n next) (some_same pin p f) read.facts))
+              (λ q e. refl)
+              (λ p f. refl)
+              (λ e. refl)
+              (λ p f. sound.before id p (pinned ∙ f));
+          call = r;
+          pin = pin;
+          found = found;
+          pinned = pinned;
+          others = λ o ne. ap record_in (places.others o ne);
+          root = refl;
+          leaves = λ p le. nothing_leaves (table_of w) (table_of now) nodes (Holding r.stage) p;
+          course = λ q e. subst (λ (x : Record M). IsCourse (table_of w) (table_of now) w.root r x report out) (some_same next q (sym (ap record_in places.here) ∙ e))
+              (subst (λ l. IsCourse (table_of w) (table_on w.slots l) w.root r next report out) (sym stays.slots) read.course);
+          ends = λ e. absurd (none_some next (sym e ∙ ap record_in places.here));
+          step = record {
+            call = flight pin r;
+            in_flight = flown w id pin r small found pinned;
+            event = subst (λ (s : State M). DoesAs Granted same (state_of w) s id (flight pin r) env report out report.kind) (sym after)
+                (read.does (state_of w) id (shows w));
+          };
+          carries = λ m c. record {
+            call = flight pin r;
+            in_flight = flown w id pin r small found pinned;
+            content = m;
+            content_is = subst (λ (s : State M). IsContent s m) (sym after) (same_content (state_of w) (with_call (state_of w) id (flight pin next)) refl refl m c);
+            carries = read.carries (state_of w) (shows w) m c;
+          };
+        }
+
+    -- and its last
+    pub gone_turn : (place : Option (Option (Record M)))
+        → ChangesSeat w.pins pins id (is_seated w.pins id) None
+        → ChangesPlace w.calls calls id place → record_in place ≡ None
+        → (is_seated w.pins id ≡ true → IsSome place)
+        → IsAdvance Granted same (table_of w) w.root pin r env None report out
+        → IsTurn Granted same w (record w { pins = pins; calls = calls }) id env report out
+    gone_turn place leaves places gone room advance =
+        let now : World M = record w { pins = pins; calls = calls } in
+        let nodes : (s : ℕ) → table_of now s ≡ table_of w s = λ s. ap (λ l. table_on w.slots l s) leaves.slots in
+        let none : call_of now id ≡ None = ap record_in places.here ∙ gone in
+        let after : state_of now ≡ record (state_of w) { flights = without (state_of w).flights id } =
+        call_gone w now id none
+        (others_stay w pins calls id (is_seated w.pins id) None place leaves places)
+        (rest_stays w pins calls id (is_seated w.pins id) None place leaves places refl)
+        in
+        let facts : FactsAt Granted (table_of w) w.root pin r.task Finish =
+        subst (λ (stage : Stage). FactsAt Granted (table_of w) w.root pin r.task stage) advance.0 (sound.facts id pin r found pinned).at
+        in
+        record {
+          before = sound;
+          after = changed_sound w pins calls id (is_seated w.pins id) None place leaves places Granted sound
+              (λ q p e f. absurd (none_some p f))
+              (λ q e. absurd (none_some q (sym gone ∙ e)))
+              (λ p f. absurd (none_some p f))
+              room
+              (λ p f. absurd (none_some p f));
+          call = r;
+          pin = pin;
+          found = found;
+          pinned = pinned;
+          others = λ o ne. ap record_in (places.others o ne);
+          root = refl;
+          leaves = λ p le. nothing_leaves (table_of w) (table_of now) nodes (Holding r.stage) p;
+          course = λ q e. absurd (none_some q (sym none ∙ e));
+          ends = λ e. (advance.2, ap (λ (x : Report). x.slot) advance.1);
+          step = record {
+            call = flight pin r;
+            in_flight = flown w id pin r small found pinned;
+            event = subst (λ (x : Report). DoesAs Granted same (state_of w) (state_of now) id (flight pin r) env x out x.kind) (sym advance.1)
+                (record { says = (refl, advance.2); may = inl facts; held = refl; made = refl; after = after });
+          };
+          carries = λ m c. record {
+            call = flight pin r;
+            in_flight = flown w id pin r small found pinned;
+            content = m;
+            content_is = subst (λ (s : State M). IsContent s m) (sym after)
+                (same_content (state_of w) (record (state_of w) { flights = without (state_of w).flights id }) refl refl m c);
+            carries = subst (λ (o : Outcome M). Carries same m m (flight pin r) o) (sym advance.2) refl;
+          };
+        }

@@ -1,0 +1,61 @@
+use Rattle.std.proofs.Common.{◌≡◌, true, Option, Some, None, sym, subst, ap, refl, ◌∙◌}
+use Rattle.std.proofs.lemmas.Bool.{false≢true}
+use Rattle.congee_protocol.specs.Meaning.{env_of, in_some, outcome_of}
+use Rattle.congee_sync.specs.Epoch.{pin_of}
+use Rattle.congee_store.specs.declared.stage.Record.{Record}
+use Rattle.congee_store.specs.inner.Meant.{meant_record, meant_world}
+use Rattle.congee_store.specs.inner.Turns.{IsAdvance}
+use Rattle.congee_store.specs.inner.World.{call_of, table_of}
+use Rattle.congee_store.proofs.States.{meant_call}
+use Rattle.congee_machine.specs.inner.Inside.{inside}
+use Rattle.congee_machine.proofs.Handed.{no_pin}
+use Rattle.congee_machine.proofs.Inners.{goes_on, is_last, then_changes}
+use Rattle.congee_machine.proofs.inner.Inner.proceed.Goals as goal
+
+pub unreachable-requires : goal.unreachable-requires
+unreachable-requires g c =
+    no_pin g.P.HasMeaning.meaning g.P.Payload.always_shared (inside g.A.Allocator.charge c.args.self.now) c.args.id c.ranges.id.fits c.requires.sound c.requires.flies (sym c.pin.ensures ∙ c.in_default.is)
+
+pub advance-call-requires-clause-facts : goal.advance-call-requires-clause-facts
+advance-call-requires-clause-facts g c =
+    let w = inside g.A.Allocator.charge c.args.self.now in
+    let meaning = g.P.HasMeaning.meaning in
+    let found : call_of w c.args.id ≡ Some c.take-call.result = c.take-call.ensures.call in
+    c.requires.sound.facts c.args.id c.in-Some.pin (meant_record meaning c.take-call.result) (meant_call meaning w c.args.id ∙ ap (in_some (meant_record meaning)) found) (sym c.pin.ensures ∙ c.in-Some.is)
+
+pub returns-in-Some-call : goal.returns-in-Some-call
+returns-in-Some-call g c =
+    let w = inside g.A.Allocator.charge c.args.self.now in
+    let meaning = g.P.HasMeaning.meaning in
+    let advance =
+    subst (λ (n : Option (Record g.row.P.Denot)). IsAdvance g.P.Payload.always_shared g.P.HasMeaning.same_meaning (table_of (meant_world meaning w)) w.root c.in-Some.pin (meant_record meaning c.take-call.result) (env_of meaning c.args.env)
+    (in_some (meant_record meaning) n) c.advance-call.result.report (outcome_of meaning c.advance-call.result.outcome)) c.in-Some-call.is c.advance-call.ensures
+    in
+    goes_on meaning g.P.Payload.always_shared w c.args.id c.ranges.id.fits c.requires.sound w.pins c.put.new.self g.P.HasMeaning.same_meaning c.take-call.result c.in-Some.pin (env_of meaning c.args.env)
+    c.advance-call.result.report (outcome_of meaning c.advance-call.result.outcome) c.take-call.ensures.call (sym c.pin.ensures ∙ c.in-Some.is) c.take-call.new.self c.take-call.ensures.place
+    c.in-Some-call.call refl c.in-Ok.ensures.ok advance
+
+pub returns-then-is_seated : goal.returns-then-is_seated
+returns-then-is_seated g c =
+    let w = inside g.A.Allocator.charge c.args.self.now in
+    let meaning = g.P.HasMeaning.meaning in
+    let advance =
+    subst (λ (n : Option (Record g.row.P.Denot)). IsAdvance g.P.Payload.always_shared g.P.HasMeaning.same_meaning (table_of (meant_world meaning w)) w.root c.in-Some.pin (meant_record meaning c.take-call.result) (env_of meaning c.args.env)
+    (in_some (meant_record meaning) n) c.advance-call.result.report (outcome_of meaning c.advance-call.result.outcome)) c.in_default-call.is c.advance-call.ensures
+    in
+    is_last meaning g.P.Payload.always_shared w c.args.id c.ranges.id.fits c.requires.sound c.leave.new.self c.take-call.new.self g.P.HasMeaning.same_meaning c.take-call.result c.in-Some.pin (env_of meaning c.args.env)
+    c.advance-call.result.report (outcome_of meaning c.advance-call.result.outcome) c.take-call.ensures.call (sym c.pin.ensures ∙ c.in-Some.is) c.take-call.new.self c.take-call.ensures.place
+    (Some None) c.leave.ensures c.take-call.ensures.place refl (λ e. refl) advance
+
+pub returns : goal.returns
+returns g c =
+    let w = inside g.A.Allocator.charge c.args.self.now in
+    let meaning = g.P.HasMeaning.meaning in
+    let advance =
+    subst (λ (n : Option (Record g.row.P.Denot)). IsAdvance g.P.Payload.always_shared g.P.HasMeaning.same_meaning (table_of (meant_world meaning w)) w.root c.in-Some.pin (meant_record meaning c.take-call.result) (env_of meaning c.args.env)
+    (in_some (meant_record meaning) n) c.advance-call.result.report (outcome_of meaning c.advance-call.result.outcome)) c.in_default-call.is c.advance-call.ensures
+    in
+    is_last meaning g.P.Payload.always_shared w c.args.id c.ranges.id.fits c.requires.sound c.leave.new.self c.forget.new.self g.P.HasMeaning.same_meaning c.take-call.result c.in-Some.pin (env_of meaning c.args.env)
+    c.advance-call.result.report (outcome_of meaning c.advance-call.result.outcome) c.take-call.ensures.call (sym c.pin.ensures ∙ c.in-Some.is) c.take-call.new.self c.take-call.ensures.place
+    None c.leave.ensures (then_changes w.calls c.take-call.new.self c.forget.new.self c.args.id (Some None) None c.take-call.ensures.place c.forget.ensures) refl
+    (λ e. absurd (false≢true (sym c.if-is_seated.false ∙ (c.is_seated.ensures ∙ (c.leave.ensures.seat ∙ e))))) advance

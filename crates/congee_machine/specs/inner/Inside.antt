@@ -1,0 +1,47 @@
+-- The machine's inside as data.
+use Rattle.std.specs.Prelude.{ℕ, Option, Some, None}
+use Rattle.congee_protocol.specs.Calls.{outline_of}
+use Rattle.congee_protocol.specs.State.{State}
+use Rattle.congee_protocol.specs.declared.types.Asking.TheVariants.{Fresh}
+use Rattle.congee_protocol.specs.declared.types.Op.{Op}
+use Rattle.congee_protocol.specs.declared.types.Progress.TheVariants.{Open}
+use Rattle.congee_store.specs.declared.stage.Record.{Record}
+use Rattle.congee_store.specs.declared.stage.Stage.TheVariants.{TakeRoot}
+use Rattle.congee_store.specs.inner.Meant.{meant_world}
+use Rattle.congee_store.specs.inner.Shown.{state_of}
+use Rattle.congee_store.specs.inner.World.{World}
+use Rattle.congee_machine.specs.declared.inner.Inner.{Inner}
+
+module _ {P A : Type 0} where
+  -- what is inside, with what the budget has charged
+  abbrev pub inside : (A → Option ℕ) → Inner P A → World P
+  inside charge m = record {
+    slots = m.store.nodes.slots;
+    root = m.store.root;
+    pins = m.store.pins;
+    calls = m.calls;
+    entries = m.entries;
+    charge = charge m.budget;
+  }
+
+  -- what a reader sees of it
+  abbrev pub state_in : (A → Option ℕ) → Inner P A → State P
+  state_in charge m = state_of (inside charge m)
+
+  -- it, with payloads replaced by what they stand for
+  abbrev pub meant_in : {M : Type 0} → (P → M) → (A → Option ℕ) → Inner P A → World M
+  meant_in meaning charge m = meant_world meaning (inside charge m)
+
+-- the record of a call that begins
+abbrev pub begun_record : {M : Type 0} → Op M → Record M
+begun_record op = record {
+  stage = TakeRoot;
+  task = record {
+    outline = outline_of op;
+    op = Some op;
+    last = None;
+    spare = None;
+    asking = Fresh;
+    progress = Open;
+  };
+}

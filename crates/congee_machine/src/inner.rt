@@ -1,0 +1,271 @@
+//! What a machine has inside, and the events of one call.
+
+ghost use Rattle.std.specs.Prelude.{◌≡◌, ◌↔◌, ℕ, ◌<◌, ◌^◌, true, false, None, IsSome, IfSome, IfOk, IsOk, OnOk, OnErr, IsTrue, option_copied};
+ghost use Rattle.congee_map.specs.Map.{lookup};
+ghost use Rattle.congee_node_table.specs.Charge.{add_charge};
+ghost use Rattle.congee_node_table.specs.inner.Kinds.{mapped};
+ghost use Rattle.congee_protocol.specs.Calls.{key_of};
+ghost use Rattle.congee_protocol.specs.Content.{IsContent};
+ghost use Rattle.congee_protocol.specs.Kinds.{report_of};
+ghost use Rattle.congee_protocol.specs.Meaning.{env_of, meant, op_of, outcome_of};
+ghost use Rattle.congee_protocol.specs.Runs.{fresh};
+ghost use Rattle.congee_protocol.specs.Seats.{IsHanded, IsTaken, IsReseated, IsSeating, seen_in};
+ghost use Rattle.congee_store.specs.inner.Facts.{IsSound};
+ghost use Rattle.congee_store.specs.inner.Meant.{meant_record};
+ghost use Rattle.congee_store.specs.inner.Turns.{IsBegun, IsTurn};
+ghost use Rattle.congee_store.specs.inner.World.{call_of};
+ghost use Rattle.congee_sync.specs.Epoch.{is_seated};
+ghost use Rattle.congee_machine.specs.inner.Inside.{begun_record, inside, state_in, meant_in};
+
+use congee_base::base_node::{NodeSize, NodeType};
+use congee_map::error::OOMError;
+use congee_node_table::allocator::Allocator;
+use congee_node_table::tree_node::TreeNode;
+use congee_protocol::payload::HasMeaning;
+use congee_protocol::types::{Asking, Env, Kind, Op, Outcome, Progress, Report, Seen};
+use congee_reading::advance::{Advanced, advance};
+use congee_store::calls::Calls;
+use congee_store::content::content;
+use congee_store::stage::{Place, Record, Stage, Stored, Task};
+use congee_store::store::Store;
+use congee_sync::epoch::Pins;
+use congee_sync::lock::Word64;
+use slab::Slab;
+use std::alloc::Global;
+
+/// The nodes, the calls in flight, how many pairs are stored, and the budget. A machine shows none of it.
+#[derive(Drop)]
+pub struct Inner<P, A> {
+    pub store: Store<P>,
+    pub calls: Calls<P>,
+    pub entries: u128,
+    pub budget: A,
+}
+
+// What a start reports.
+fn started() -> Report
+    ensures { result ≡ report_of Kind.Start None 0 true }
+{
+    Report {
+        kind: Kind::Start,
+        slot: None,
+        word: 0,
+        ok: true,
+    }
+}
+
+// The record of a call that begins.
+fn begun<P: HasMeaning>(op: Op<P>) -> Record<P>
+    ensures begins { meant_record P.meaning result ≡ begun_record (op_of P.meaning op) }
+    ensures small { key_of (op_of P.meaning op) < 2 ^ 64 }
+{
+    let _key = op.key();
+    Record {
+        stage: Stage::TakeRoot,
+        task: Task {
+            outline: op.outline(),
+            op: Some(op),
+            last: None,
+            spare: None,
+            asking: Asking::Fresh,
+            progress: Progress::Open,
+        },
+    }
+}
+
+impl<P: HasMeaning, A: Allocator> Inner<P, A> {
+    /// The root alone, which the budget is charged for; `OOMError` where that is refused.
+    pub fn new(alloc: Global, mut budget: A) -> Result<Self, OOMError>
+        ensures sound { IfOk result (λ m. IsSound P.always_shared (meant_in P.meaning A.charge m)) }
+        ensures fresh { IfOk result (λ m. (root : ℕ)
+            × (state_in A.charge m ≡ fresh root (add_charge (A.charge budget) 2104))) }
+    {
+        budget.allocate(NodeSize::of(NodeType::N256))?;
+        let mut nodes = Slab::new(alloc);
+        nodes.reserve(1)?;
+        let root = nodes.insert_reserved(Stored {
+            word: Word64::from_number(0),
+            place: Place::Linked,
+            node: TreeNode::root(alloc)?,
+        });
+        Ok(Inner {
+            store: Store {
+                nodes,
+                root,
+                pins: Pins::new(alloc),
+            },
+            calls: Calls::new(alloc),
+            entries: 0,
+            budget,
+        })
+    }
+
+    /// The record of a number's call in flight.
+    pub fn call(&self, id: u64) -> Option<&Record<P>>
+        ensures { option_copied result ≡ call_of (inside A.charge self.now) id }
+    {
+        self.calls.get(id)
+    }
+
+    /// Whether a number has a call in flight.
+    pub fn is_in_flight(&self, id: u64) -> bool
+        ensures { IsTrue result ↔ IsSome (call_of (inside A.charge self.now) id) }
+    {
+        self.calls.get(id).is_some()
+    }
+
+    // Whether a number is seated or has a call in flight.
+    fn is_taken(&self, id: u64) -> bool
+        requires sound { IsSound P.always_shared (meant_in P.meaning A.charge self.now) }
+        ensures { IsTrue result ↔ IsTaken (state_in A.charge self.now) id }
+    {
+        self.store.pins.is_seated(id) || self.is_in_flight(id)
+    }
+
+    // The least number that is neither seated nor in flight, if there is one.
+    fn least_free(&self) -> Option<u64>
+        requires sound { IsSound P.always_shared (meant_in P.meaning A.charge self.now) }
+        ensures free { IfSome result (λ id. IsTaken (state_in A.charge self.now) id → ⊥) }
+        ensures least { IfSome result (λ id. (lesser : ℕ) → lesser < id
+            → IsTaken (state_in A.charge self.now) lesser) }
+    {
+        let mut id = 0;
+        while self.is_taken(id) {
+            if id == u64::MAX {
+                return None;
+            }
+            id += 1;
+        }
+        Some(id)
+    }
+
+    /// Keeps room for the calls of the least number that is neither seated nor in flight, and returns it.
+    pub fn seat(&mut self) -> Result<u64, OOMError>
+        requires sound { IsSound P.always_shared (meant_in P.meaning A.charge self.old) }
+        ensures stays { IsSound P.always_shared (meant_in P.meaning A.charge self.new) }
+        ensures ok { IfOk result (λ id.
+            IsSeating (state_in A.charge self.old) (state_in A.charge self.new) id) }
+        ensures err { OnErr result (state_in A.charge self.new ≡ state_in A.charge self.old) }
+    {
+        let Some(id) = self.least_free() else {
+            return Err(OOMError::new());
+        };
+        self.keep_room(id)?;
+        Ok(id)
+    }
+
+    // Seats a number that isn't taken.
+    fn keep_room(&mut self, id: u64) -> Result<(), OOMError>
+        requires sound { IsSound P.always_shared (meant_in P.meaning A.charge self.old) }
+        requires free { IsTaken (state_in A.charge self.old) id → ⊥ }
+        ensures stays { IsSound P.always_shared (meant_in P.meaning A.charge self.new) }
+        ensures ok { OnOk result
+            (IsReseated (state_in A.charge self.old) (state_in A.charge self.new) id true) }
+        ensures err { OnErr result (state_in A.charge self.new ≡ state_in A.charge self.old) }
+    {
+        self.calls.reserve(id)?;
+        let Ok(()) = self.store.pins.seat(id) else {
+            self.calls.forget(id);
+            return Err(OOMError::new());
+        };
+        Ok(())
+    }
+
+    /// Gives a number's room back. A call in flight goes on.
+    pub fn unseat(&mut self, id: u64)
+        requires sound { IsSound P.always_shared (meant_in P.meaning A.charge self.old) }
+        ensures stays { IsSound P.always_shared (meant_in P.meaning A.charge self.new) }
+        ensures seats { IsReseated (state_in A.charge self.old) (state_in A.charge self.new) id
+            false }
+    {
+        if self.is_in_flight(id) {
+            self.store.pins.unseat(id);
+            return;
+        }
+        self.store.pins.unseat(id);
+        self.calls.forget(id);
+    }
+
+    /// Takes a number's pin and makes its record; all room is made before anything changes.
+    pub fn begin(&mut self, id: u64, op: Op<P>) -> Result<Report, OOMError>
+        requires sound { IsSound P.always_shared (meant_in P.meaning A.charge self.old) }
+        requires free { call_of (inside A.charge self.old) id ≡ None }
+        ensures stays { IsSound P.always_shared (meant_in P.meaning A.charge self.new) }
+        ensures ok { IfOk result (λ report. IsBegun P.always_shared P.same_meaning
+            (meant_in P.meaning A.charge self.old) (meant_in P.meaning A.charge self.new) id
+            (op_of P.meaning op) report) }
+        ensures err { OnErr result (state_in A.charge self.new ≡ state_in A.charge self.old) }
+        ensures granted { is_seated self.old.store.pins id ≡ true → IsOk result }
+    {
+        self.store.pins.enter(id)?;
+        let call = begun(op);
+        let Ok(()) = self.calls.put(id, call) else {
+            self.store.pins.leave(id);
+            return Err(OOMError::new());
+        };
+        Ok(started())
+    }
+
+    /// Whether a call of the handed one's kind and key is in flight under a number.
+    pub fn is_handed(&self, id: u64, op: &Op<P>) -> bool
+        requires sound { IsSound P.always_shared (meant_in P.meaning A.charge self.now) }
+        ensures { IsTrue result ↔ IsHanded (state_in A.charge self.now) id op.now }
+    {
+        match self.calls.get(id) {
+            Some(call) => op.has_outline(&call.task.outline),
+            None => false,
+        }
+    }
+
+    /// What the last Read of a number's call has reported since the call last went back to the root.
+    pub fn seen(&self, id: u64) -> Option<&Seen<P>>
+        requires sound { IsSound P.always_shared (meant_in P.meaning A.charge self.now) }
+        ensures { option_copied result ≡ seen_in (lookup (state_in A.charge self.now).flights id) }
+    {
+        match self.calls.get(id) {
+            Some(call) => call.task.last.as_ref(),
+            None => None,
+        }
+    }
+
+    /// All pairs that are stored, keys ascending, each with a share of its payload.
+    pub fn content(&self, alloc: Global) -> Result<Vec<(u64, P)>, OOMError>
+        requires sound { IsSound P.always_shared (meant_in P.meaning A.charge self.now) }
+        ensures { IfOk result (λ pairs. IsContent
+            (meant P.meaning (state_in A.charge self.now)) (mapped P.meaning pairs.items)) }
+    {
+        let pairs = content(&self.store, alloc)?;
+        Ok(pairs)
+    }
+
+    /// The next event of the call of a number in flight. The calls of all other numbers stay as they are.
+    pub fn proceed(&mut self, id: u64, env: Env<P>) -> (Report, Outcome<P>)
+        requires sound { IsSound P.always_shared (meant_in P.meaning A.charge self.old) }
+        requires flies { IsSome (call_of (inside A.charge self.old) id) }
+        ensures { IsTurn P.always_shared P.same_meaning
+            (meant_in P.meaning A.charge self.old) (meant_in P.meaning A.charge self.new) id
+            (env_of P.meaning env) result.0 (outcome_of P.meaning result.1) }
+    {
+        let Some(pin) = self.store.pins.pin(id) else {
+            unreachable!()
+        };
+        let call = self.calls.take(id);
+        let Advanced {
+            call,
+            report,
+            outcome,
+        } = advance(&self.store, pin, call, env);
+        if let Some(call) = call {
+            let Ok(()) = self.calls.put(id, call) else {
+                unreachable!()
+            };
+            return (report, outcome);
+        }
+        self.store.pins.leave(id);
+        if self.store.pins.is_seated(id) {
+            return (report, outcome);
+        }
+        self.calls.forget(id);
+        (report, outcome)
+    }
+}

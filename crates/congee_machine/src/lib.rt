@@ -1,0 +1,5 @@
+//! A machine of the tree's protocol: it makes one event of one call at a time.
+#![tactic(auto)]
+
+pub mod inner;
+pub mod machine;

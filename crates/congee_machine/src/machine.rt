@@ -1,0 +1,177 @@
+//! The machine: nodes, calls in flight, pins and a budget.
+
+ghost use Rattle.std.specs.Prelude.{◌≡◌, ◌↔◌, ℕ, false, None, IsSome, Err, IfOk, IsOk, OnErr, IsTrue, option_copied};
+ghost use Rattle.congee_map.specs.Map.{Pairs, lookup};
+ghost use Rattle.congee_node_table.specs.Charge.{add_charge};
+ghost use Rattle.congee_node_table.specs.inner.Kinds.{mapped};
+ghost use Rattle.congee_protocol.specs.Content.{IsContent};
+ghost use Rattle.congee_protocol.specs.Deciding.{IsCarried};
+ghost use Rattle.congee_protocol.specs.Kinds.{IsStart, IsStep};
+ghost use Rattle.congee_protocol.specs.Lists.{is_in};
+ghost use Rattle.congee_protocol.specs.Meaning.{env_of, meant, op_of, outcome_of};
+ghost use Rattle.congee_protocol.specs.Runs.{fresh};
+ghost use Rattle.congee_protocol.specs.Seats.{IsHanded, IsReseated, IsSeating, seen_in};
+ghost use Rattle.congee_protocol.specs.WellFormed.{IsWellFormed};
+
+use crate::inner::Inner;
+use congee_map::error::OOMError;
+use congee_node_table::allocator::Allocator;
+use congee_protocol::payload::HasMeaning;
+use congee_protocol::types::{Env, Kind, Op, Outcome, Report, Seen, StartError};
+use std::alloc::Global;
+use std::marker::Model;
+
+// The report of no event.
+fn unknown() -> Report {
+    Report {
+        kind: Kind::Start,
+        slot: None,
+        word: 0,
+        ok: false,
+    }
+}
+
+/// A tree under the protocol, which makes one event of one call at a time.
+///
+/// Calls are known by numbers. A number may be seated, so that its calls find room, and has one call in flight at most.
+#[derive(Drop)]
+pub struct Machine<P: HasMeaning, A: Allocator> {
+    inner: Inner<P, A>,
+}
+
+impl<P: HasMeaning, A: Allocator> Model for Machine<P, A> {
+    ghost use Rattle.congee_protocol.specs.State.{State};
+    ghost use Rattle.congee_store.specs.inner.Facts.{IsSound};
+    ghost use Rattle.congee_machine.specs.inner.Inside.{state_in, meant_in};
+
+    ghost Value = { State P };
+
+    ghost view = { λ m. state_in A.charge m.inner };
+
+    ghost invariant = { λ m. IsSound P.always_shared (meant_in P.meaning A.charge m.inner) };
+}
+
+impl<P: HasMeaning, A: Allocator> Machine<P, A> {
+    /// A machine whose tree has the root alone, which the budget is charged for; `OOMError` where that is refused.
+    pub fn new(alloc: Global, budget: A) -> Result<Self, OOMError>
+        ensures fresh { IfOk result (λ m. (root : ℕ)
+            × (m ≡ fresh root (add_charge (A.charge budget) 2104))) }
+    {
+        Ok(Machine {
+            inner: Inner::new(alloc, budget)?,
+        })
+    }
+
+    /// Whether a number has a call in flight.
+    pub fn is_in_flight(&self, id: u64) -> bool
+        ensures { IsTrue result ↔ IsSome (lookup self.now.flights id) }
+    {
+        self.inner.is_in_flight(id)
+    }
+
+    /// Keeps room for the calls of the least number that is neither seated nor in flight, and returns it.
+    ///
+    /// A refusal changes nothing. It comes where there is no room, or where all numbers are taken.
+    pub fn seat(&mut self) -> Result<u64, OOMError>
+        ensures ok { IfOk result (λ id. IsSeating self.old self.new id) }
+        ensures err { OnErr result (self.new ≡ self.old) }
+    {
+        self.inner.seat()
+    }
+
+    /// Gives a number's room back. A call in flight goes on; of a number that isn't seated nothing changes.
+    pub fn unseat(&mut self, id: u64)
+        ensures { IsReseated self.old self.new id false }
+    {
+        self.inner.unseat(id);
+    }
+
+    /// Begins a call of a number, which is pinned at the count of retirements. The call's payloads are shared.
+    ///
+    /// `InFlight` exactly where the number's last call hasn't ended; `Oom` where there is no room for the call or a share
+    /// is refused, which for a seated number over `u64` never comes. Either leaves everything as it was.
+    pub fn start(&mut self, id: u64, op: &Op<P>) -> Result<Report, StartError>
+        ensures ok { IfOk result (λ report. IsStart (meant P.meaning self.old)
+            (meant P.meaning self.new) id (op_of P.meaning op.now) report) }
+        ensures err { OnErr result (self.new ≡ self.old) }
+        ensures in_flight { (result ≡ Err StartError.InFlight)
+            ↔ IsSome (lookup self.old.flights id) }
+        ensures granted { P.always_shared → IsTrue (is_in id self.old.seats)
+            → lookup self.old.flights id ≡ None → IsOk result }
+    {
+        if self.is_in_flight(id) {
+            return Err(StartError::InFlight);
+        }
+        let op = match op.share() {
+            Ok(op) => op,
+            Err(error) => return Err(StartError::Oom(error)),
+        };
+        let report = match self.inner.begin(id, op) {
+            Ok(report) => report,
+            Err(error) => return Err(StartError::Oom(error)),
+        };
+        Ok(report)
+    }
+
+    /// One event of the call of a number.
+    ///
+    /// `Unknown` exactly where no call of the handed one's kind and keys is in flight under the number, and then nothing is
+    /// done and the report is of no meaning. What is done, answered and stored follows from the call as it started: the
+    /// payloads that are handed here are ignored, and so is what the event doesn't use of `env`.
+    pub fn step(&mut self, id: u64, op: &Op<P>, env: Env<P>) -> (Report, Outcome<P>)
+        ensures known { (result.1 ≡ Outcome.Unknown) ↔ (IsHanded self.old id op.now → ⊥) }
+        ensures unknown { result.1 ≡ Outcome.Unknown → self.new ≡ self.old }
+        ensures event { IsHanded self.old id op.now
+            → IsStep P.always_shared P.same_meaning (meant P.meaning self.old)
+            (meant P.meaning self.new) id (env_of P.meaning env) result.0
+            (outcome_of P.meaning result.1) }
+        ensures content { IsHanded self.old id op.now → (m : Pairs P.Meaning)
+            → IsContent (meant P.meaning self.old) m
+            → IsCarried P.same_meaning m (meant P.meaning self.old) (meant P.meaning self.new) id
+            (outcome_of P.meaning result.1) }
+    {
+        if !self.is_handed(id, op) {
+            return (unknown(), Outcome::Unknown);
+        }
+        self.inner.proceed(id, env)
+    }
+
+    // Whether a call of the handed one's kind and keys is in flight under a number.
+    fn is_handed(&self, id: u64, op: &Op<P>) -> bool
+        ensures { IsTrue result ↔ IsHanded self.now id op.now }
+    {
+        self.inner.is_handed(id, op)
+    }
+
+    /// What the last Read of a number's call has reported since the call last went back to the root; `None` without one.
+    pub fn seen(&self, id: u64) -> Option<&Seen<P>>
+        ensures { option_copied result ≡ seen_in (lookup self.now.flights id) }
+    {
+        self.inner.seen(id)
+    }
+
+    /// How many pairs are stored.
+    pub fn entry_count(&self) -> u128
+        ensures { result ≡ self.now.entries }
+    {
+        self.inner.entries
+    }
+
+    /// All pairs that are stored, keys ascending, each with a share of its payload.
+    ///
+    /// One walk over all reachable nodes, at most eight of them below one another. `OOMError` where memory for the vector is
+    /// missing or a share is refused.
+    pub fn content(&self, alloc: Global) -> Result<Vec<(u64, P)>, OOMError>
+        ensures { IfOk result (λ pairs.
+            IsContent (meant P.meaning self.now) (mapped P.meaning pairs.items)) }
+    {
+        self.inner.content(alloc)
+    }
+
+    /// The law that a machine is well formed, whatever its calls have done.
+    pub fn is_well_formed(&self)
+        ensures { IsWellFormed (meant P.meaning self.now) }
+    {
+        let _ = &self.inner;
+    }
+}
