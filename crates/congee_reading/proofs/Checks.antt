@@ -1,6 +1,6 @@
 -- What a Check leaves of its call.
-use Rattle.std.proofs.Common.{◌≡◌, ◌≢◌, ℕ, ◌+◌, ◌-◌, ◌*◌, ◌<◌, ◌^◌, Bool, true, false, [], Option, Some, None, ◌⊎◌, inl, inr, refl, sym, subst, ap, ◌∙◌, arith}
-use Rattle.congee_map.specs.Map.{Pairs, lookup, put}
+use Rattle.std.proofs.Common.{◌≡◌, ◌≢◌, ℕ, ◌<◌, ◌^◌, Bool, true, false, [], Option, Some, None, ◌⊎◌, inl, inr, refl, sym, subst, ap, ◌∙◌, arith}
+use Rattle.congee_map.specs.Map.{Pairs, lookup}
 use Rattle.congee_node_table.specs.Key.{next_byte}
 use Rattle.congee_node_table.specs.TableNode.{TableNode}
 use Rattle.congee_node_table.specs.declared.child.Child.{Child}
@@ -14,7 +14,6 @@ use Rattle.congee_protocol.specs.State.{State, settled}
 use Rattle.congee_protocol.specs.declared.types.Asking.TheVariants.{Fresh}
 use Rattle.congee_protocol.specs.declared.types.Env.{Env}
 use Rattle.congee_protocol.specs.declared.types.Kind.TheVariants as kind
-use Rattle.congee_protocol.specs.declared.types.Op.{Op}
 use Rattle.congee_protocol.specs.declared.types.Op.TheVariants.{Get, Insert, Remove, ComputeIfPresent, ComputeOrInsert, CompareExchange, Range}
 use Rattle.congee_protocol.specs.declared.types.Outcome.TheVariants.{Going, Decided}
 use Rattle.congee_protocol.specs.declared.types.Progress.TheVariants as progress
@@ -26,7 +25,7 @@ use Rattle.congee_store.specs.declared.stage.Stage.{Stage}
 use Rattle.congee_store.specs.declared.stage.Stage.TheVariants.{TakeRoot, Read, Check, TakeBelow, CheckAbove, Finish}
 use Rattle.congee_store.specs.declared.stage.Task.{Task}
 use Rattle.congee_store.specs.inner.Facts.{IsPlaced, IsFreshly, IsIn, Facts, Agrees, Saw, SawNode, LedTo, OnPath, Sees, byte_at, key_bytes, named_at}
-use Rattle.congee_store.specs.inner.Shown.{flight, path_spots, above_spots, spots_of}
+use Rattle.congee_store.specs.inner.Shown.{flight, spots_of}
 use Rattle.congee_store.specs.inner.Turns.{IsRead, IsServedCall, MayFollow, Shows, work}
 use Rattle.congee_store.specs.inner.World.{Node, Table, entry}
 use Rattle.congee_store.proofs.Contents.{kept_there, none_there}

@@ -1,9 +1,8 @@
 -- What the events that only read make of a call's stage.
-use Rattle.std.proofs.Common.{◌≡◌, ◌≢◌, ℕ, ◌+◌, ◌-◌, ◌*◌, ◌/◌, ◌%◌, ◌<◌, ◌≤◌, List, [], ◌∷◌, length, Option, Some, ◌⊎◌, inl, inr, sym, subst, ap, ◌∙◌, arith}
+use Rattle.std.proofs.Common.{◌≡◌, ◌≢◌, ℕ, ◌+◌, ◌-◌, ◌*◌, ◌/◌, ◌%◌, ◌<◌, ◌≤◌, List, length, Option, Some, inl, inr, sym, subst, ap, ◌∙◌, arith}
 use Rattle.congee_sync.specs.Lock.{IsFree, IsLocked, IsObsolete}
 use Rattle.congee_map.specs.Map.{lookup, put}
 use Rattle.congee_store.specs.declared.stage.Path.{Path}
-use Rattle.congee_store.specs.declared.stage.Spot.{Spot}
 use Rattle.congee_store.specs.declared.stage.Stage.{Stage}
 use Rattle.congee_store.specs.declared.stage.Stage.TheVariants.{TakeBelow}
 use Rattle.congee_store.specs.inner.Facts.{byte_at, IsLinked, IsBelow, IsPlaced, LedTo, OnPath}

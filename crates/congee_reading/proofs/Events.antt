@@ -1,5 +1,5 @@
 -- How the events that only read are events of their kinds.
-use Rattle.std.proofs.Common.{◌≡◌, ◌≢◌, ℕ, Bool, true, false, IsTrue, ◌↔◌, List, [], ◌∷◌, Option, Some, None, inl, refl, sym, subst, ap, ◌∙◌, arith}
+use Rattle.std.proofs.Common.{◌≡◌, ◌≢◌, ℕ, Bool, true, false, IsTrue, ◌↔◌, List, [], Option, Some, None, inl, refl, sym, subst, ap, ◌∙◌, arith}
 use Rattle.std.proofs.lemmas.Bool.{eq-eqb}
 use Rattle.congee_map.proofs.MapLaws.{lookup-put_same}
 use Rattle.congee_map.specs.Call.{old_value}
@@ -8,7 +8,7 @@ use Rattle.congee_node_table.specs.declared.child.Child.TheVariants.{Payload}
 use Rattle.congee_protocol.specs.Calls.{Outline, IsPoint, key_of, outline_of, asked_of}
 use Rattle.congee_protocol.specs.Deciding.{Leads}
 use Rattle.congee_protocol.specs.Kinds.{DoesAs, Finds, IsAtWork, report_of}
-use Rattle.congee_protocol.specs.Local.{SharesNone, SeesPayloads, IsLocal, LeavesAll, only_at, seen_payload}
+use Rattle.congee_protocol.specs.Local.{SharesNone, SeesPayloads, only_at, seen_payload}
 use Rattle.congee_protocol.specs.Reading.{IsReading, LooksOn, child_for}
 use Rattle.congee_protocol.specs.State.{State, Node, Flight, with_call, back, settled}
 use Rattle.congee_protocol.specs.declared.types.Asking.{Asking}
@@ -21,7 +21,6 @@ use Rattle.congee_protocol.specs.declared.types.Outcome.{Outcome}
 use Rattle.congee_protocol.specs.declared.types.Outcome.TheVariants.{Going, Decided, Refused}
 use Rattle.congee_protocol.specs.declared.types.Progress.TheVariants as progress
 use Rattle.congee_protocol.specs.declared.types.Reply.TheVariants.{Old}
-use Rattle.congee_protocol.specs.declared.types.Report.{Report}
 use Rattle.congee_protocol.specs.declared.types.Seen.{Seen}
 use Rattle.congee_sync.specs.Lock.{IsFree}
 use Rattle.congee_store.specs.inner.Turns.{IsServedCall}

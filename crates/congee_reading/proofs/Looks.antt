@@ -1,5 +1,5 @@
 -- What a Read leaves of its call.
-use Rattle.std.proofs.Common.{◌≡◌, ◌≢◌, ℕ, ◌+◌, ◌-◌, ◌*◌, ◌<◌, Bool, true, false, IsTrue, ◌↔◌, List, [], ◌∷◌, length, Option, Some, None, Result, Ok, Err, IfErr, ◌⊎◌, inl, inr, refl, sym, subst, ap, ◌∙◌, arith}
+use Rattle.std.proofs.Common.{◌≡◌, ◌≢◌, ℕ, Bool, true, List, [], ◌∷◌, length, Option, Some, None, Result, Ok, Err, IfErr, inl, inr, refl, sym, subst, ap, ◌∙◌, arith}
 use Rattle.std.proofs.lemmas.Bool.Decides.{eqb_tells}
 use Rattle.congee_map.specs.Map.{lookup}
 use Rattle.congee_node_table.specs.Key.{next_byte}
@@ -12,7 +12,6 @@ use Rattle.congee_protocol.specs.Kinds.{report_of}
 use Rattle.congee_protocol.specs.Local.{SharesNone, payload_in}
 use Rattle.congee_protocol.specs.Meaning.{in_some, child_of}
 use Rattle.congee_protocol.specs.Reading.{IsSeenOf, child_for}
-use Rattle.congee_protocol.specs.State.{State}
 use Rattle.congee_protocol.specs.declared.types.Env.{Env}
 use Rattle.congee_protocol.specs.declared.types.Kind.TheVariants as kind
 use Rattle.congee_protocol.specs.declared.types.Outcome.{Outcome}
@@ -21,9 +20,9 @@ use Rattle.congee_protocol.specs.declared.types.Progress.TheVariants as progress
 use Rattle.congee_protocol.specs.declared.types.Seen.{Seen}
 use Rattle.congee_store.specs.declared.stage.Path.{Path}
 use Rattle.congee_store.specs.declared.stage.Record.{Record}
-use Rattle.congee_store.specs.declared.stage.Stage.TheVariants.{Read, Check, Finish}
+use Rattle.congee_store.specs.declared.stage.Stage.TheVariants.{Read, Check}
 use Rattle.congee_store.specs.declared.stage.Task.{Task}
-use Rattle.congee_store.specs.inner.Facts.{IsPlaced, IsFreshly, Facts, Agrees}
+use Rattle.congee_store.specs.inner.Facts.{IsPlaced, Facts, Agrees}
 use Rattle.congee_store.specs.inner.Meant.{meant_node}
 use Rattle.congee_store.specs.inner.Shown.{flight}
 use Rattle.congee_store.specs.inner.Turns.{IsRead}
@@ -31,7 +30,6 @@ use Rattle.congee_store.specs.inner.World.{Node, Table}
 use Rattle.congee_store.proofs.Options.{none_some, some_same}
 use Rattle.congee_store.proofs.Reaching.{one, seen_at}
 use Rattle.congee_reading.specs.inner.Looked.{HasPayload, IsFull, IsLooking, IsUnseen, IsWholeRead, SeesAll, refused}
-use Rattle.congee_reading.specs.inner.Looked as looked
 use Rattle.congee_reading.proofs.Checks.{child_point}
 use Rattle.congee_reading.proofs.Courses.{still_current}
 use Rattle.congee_reading.proofs.Events.{read_whole, read_torn, read_refused}

@@ -1,5 +1,5 @@
 -- The words that the stages of a call remember.
-use Rattle.std.proofs.Common.{◌≡◌, ◌≢◌, ℕ, List, [], ◌∷◌, Some, None, ◌⊎◌, inl, inr, sym, subst, ap, ◌∙◌}
+use Rattle.std.proofs.Common.{◌≡◌, ◌≢◌, ℕ, List, [], Some, ◌⊎◌, inl, inr, sym, subst, ap, ◌∙◌}
 use Rattle.std.proofs.lemmas.Bool.Decides.{eqb_tells}
 use Rattle.congee_map.proofs.MapLaws.{lookup-put_same, lookup-put_other}
 use Rattle.congee_map.specs.Map.{lookup, put}

@@ -1,5 +1,5 @@
 -- What a Take leaves of its call.
-use Rattle.std.proofs.Common.{◌≡◌, ◌≢◌, ℕ, ◌<◌, ◌^◌, Bool, true, false, IsTrue, ◌↔◌, [], Option, Some, None, ◌⊎◌, inl, inr, refl, sym, subst, ap, ◌∙◌, arith}
+use Rattle.std.proofs.Common.{◌≡◌, ℕ, ◌<◌, ◌^◌, Bool, true, false, IsTrue, ◌↔◌, [], Option, Some, None, ◌⊎◌, inl, inr, refl, sym, subst, ap, ◌∙◌, arith}
 use Rattle.congee_node_table.specs.Key.{Begins}
 use Rattle.congee_protocol.specs.Calls.{key_of}
 use Rattle.congee_protocol.specs.Kinds.{report_of}

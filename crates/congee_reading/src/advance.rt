@@ -28,9 +28,9 @@ pub struct Advanced<P> {
 // A call that goes on.
 fn on<P>(stepped: Stepped<P>) -> Advanced<P>
     ensures { result ≡ record {
-        call = Some stepped.call;
-        report = stepped.report;
-        outcome = stepped.outcome;
+      call = Some stepped.call;
+      report = stepped.report;
+      outcome = stepped.outcome;
     } }
 {
     let Stepped {
@@ -48,9 +48,9 @@ fn on<P>(stepped: Stepped<P>) -> Advanced<P>
 // A call that ends.
 fn finished<P>() -> Advanced<P>
     ensures { result ≡ record {
-        call = None;
-        report = report_of Kind.Finish None 0 true;
-        outcome = Outcome.Done;
+      call = None;
+      report = report_of Kind.Finish None 0 true;
+      outcome = Outcome.Done;
     } }
 {
     Advanced {

@@ -61,16 +61,20 @@ fn told<P>(last: &Option<Seen<P>>) -> Found
     ensures { IsFound last.now result }
 {
     match last {
-        Some(Seen {
-            child: Some(Child::Payload(_)),
-            count: _,
-            full: _,
-        }) => Found::Payload,
-        Some(Seen {
-            child: Some(Child::Node(slot)),
-            count: _,
-            full: _,
-        }) => Found::Node(*slot),
+        Some(
+            Seen {
+                child: Some(Child::Payload(_)),
+                count: _,
+                full: _,
+            },
+        ) => Found::Payload,
+        Some(
+            Seen {
+                child: Some(Child::Node(slot)),
+                count: _,
+                full: _,
+            },
+        ) => Found::Node(*slot),
         _ => Found::Nothing,
     }
 }

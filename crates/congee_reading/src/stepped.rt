@@ -52,9 +52,9 @@ pub(crate) fn stands<P>(node: &Stored<P>, spot: Spot) -> bool
 /// An event after which the call goes on.
 pub(crate) fn going<P>(task: Task<P>, stage: Stage, report: Report) -> Stepped<P>
     ensures { result ≡ record {
-        call = record { stage = stage; task = task };
-        report = report;
-        outcome = Outcome.Going;
+      call = record { stage = stage; task = task };
+      report = report;
+      outcome = Outcome.Going;
     } }
 {
     Stepped {
@@ -67,12 +67,12 @@ pub(crate) fn going<P>(task: Task<P>, stage: Stage, report: Report) -> Stepped<P
 /// An event after which the call goes back to the root, and forgets what it has seen and asked.
 pub(crate) fn restarted<P: Drop>(task: Task<P>, report: Report) -> Stepped<P>
     ensures { result ≡ record {
-        call = record {
-            stage = Stage.TakeRoot;
-            task = record task { last = None; spare = None; asking = Asking.Fresh };
-        };
-        report = report;
-        outcome = Outcome.Going;
+      call = record {
+        stage = Stage.TakeRoot;
+        task = record task { last = None; spare = None; asking = Asking.Fresh };
+      };
+      report = report;
+      outcome = Outcome.Going;
     } }
 {
     let Task {
@@ -103,12 +103,12 @@ pub(crate) fn saw<P: Drop>(
     report: Report,
 ) -> Stepped<P>
     ensures { result ≡ record {
-        call = record {
-            stage = Stage.Check path;
-            task = record task { last = Some seen; spare = spare };
-        };
-        report = report;
-        outcome = Outcome.Going;
+      call = record {
+        stage = Stage.Check path;
+        task = record task { last = Some seen; spare = spare };
+      };
+      report = report;
+      outcome = Outcome.Going;
     } }
 {
     let Task {
@@ -133,8 +133,8 @@ pub(crate) fn saw<P: Drop>(
 // What is left of a call that only ends, and the share that was kept for its reply.
 fn ended<P: Drop>(task: Task<P>, progress: Progress) -> (Record<P>, Option<P>)
     ensures call { result.0 ≡ record {
-        stage = Stage.Finish;
-        task = record task { op = None; spare = None; asking = Asking.Fresh; progress = progress };
+      stage = Stage.Finish;
+      task = record task { op = None; spare = None; asking = Asking.Fresh; progress = progress };
     } }
     ensures spare { result.1 ≡ task.spare }
 {
@@ -164,17 +164,17 @@ fn ended<P: Drop>(task: Task<P>, progress: Progress) -> (Record<P>, Option<P>)
 /// An event that is refused: the call only ends.
 pub(crate) fn refused<P: Drop>(task: Task<P>, report: Report) -> Stepped<P>
     ensures { result ≡ record {
-        call = record {
-            stage = Stage.Finish;
-            task = record task {
-                op = None;
-                spare = None;
-                asking = Asking.Fresh;
-                progress = Progress.Refused;
-            };
+      call = record {
+        stage = Stage.Finish;
+        task = record task {
+          op = None;
+          spare = None;
+          asking = Asking.Fresh;
+          progress = Progress.Refused;
         };
-        report = report;
-        outcome = Outcome.Refused;
+      };
+      report = report;
+      outcome = Outcome.Refused;
     } }
 {
     let (call, _) = ended(task, Progress::Refused);
@@ -188,17 +188,17 @@ pub(crate) fn refused<P: Drop>(task: Task<P>, report: Report) -> Stepped<P>
 /// An event that decides a Get for whose key nothing stands.
 pub(crate) fn decided_absent<P: Drop>(task: Task<P>, report: Report) -> Stepped<P>
     ensures { result ≡ record {
-        call = record {
-            stage = Stage.Finish;
-            task = record task {
-                op = None;
-                spare = None;
-                asking = Asking.Fresh;
-                progress = Progress.Decided;
-            };
+      call = record {
+        stage = Stage.Finish;
+        task = record task {
+          op = None;
+          spare = None;
+          asking = Asking.Fresh;
+          progress = Progress.Decided;
         };
-        report = report;
-        outcome = Outcome.Decided (Reply.Old None);
+      };
+      report = report;
+      outcome = Outcome.Decided (Reply.Old None);
     } }
 {
     let (call, _) = ended(task, Progress::Decided);
@@ -212,17 +212,17 @@ pub(crate) fn decided_absent<P: Drop>(task: Task<P>, report: Report) -> Stepped<
 /// An event that decides a Get with the share that its Read kept.
 pub(crate) fn decided_present<P: Drop>(task: Task<P>, report: Report) -> Stepped<P>
     ensures { result ≡ record {
-        call = record {
-            stage = Stage.Finish;
-            task = record task {
-                op = None;
-                spare = None;
-                asking = Asking.Fresh;
-                progress = Progress.Decided;
-            };
+      call = record {
+        stage = Stage.Finish;
+        task = record task {
+          op = None;
+          spare = None;
+          asking = Asking.Fresh;
+          progress = Progress.Decided;
         };
-        report = report;
-        outcome = Outcome.Decided (Reply.Old task.spare);
+      };
+      report = report;
+      outcome = Outcome.Decided (Reply.Old task.spare);
     } }
 {
     let (call, spare) = ended(task, Progress::Decided);

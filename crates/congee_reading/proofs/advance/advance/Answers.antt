@@ -49,4 +49,3 @@ take_below-requires-clause-facts g c = known_at g.P.Payload.always_shared _ c.ar
 
 pub check_above-requires-clause-facts : goal.check_above-requires-clause-facts
 check_above-requires-clause-facts g c = known_at g.P.Payload.always_shared _ c.args.store.now.root c.args.pin _ _ c.in-CheckAbove.is c.requires.facts
-

@@ -1,7 +1,7 @@
-use Rattle.std.proofs.Common.{rules, ◌≡◌, Bool, true, false, subst}
+use Rattle.std.proofs.Common.{rules, ◌≡◌, Bool, subst}
 use Rattle.congee_store.specs.inner.Turns.{IsServedCall}
 use Rattle.congee_store.specs.declared.stage.Stage.TheVariants.{CheckAbove}
-use Rattle.congee_reading.specs.inner.Reads.{Knows, Reads}
+use Rattle.congee_reading.specs.inner.Reads.{Knows}
 use Rattle.congee_reading.proofs.Checks.{above_restarts, above_again, above_goes, above_decides}
 use Rattle.congee_reading.proofs.Events.{test_false}
 use Rattle.congee_reading.proofs.checking.check_above.Goals as goal

@@ -1,4 +1,4 @@
-use Rattle.std.proofs.Common.{rules, ◌≡◌}
+use Rattle.std.proofs.Common.{◌≡◌}
 use Rattle.congee_store.specs.inner.Turns.{IsServedCall}
 use Rattle.congee_reading.proofs.Checks.{still_restarts, still_again}
 use Rattle.congee_reading.proofs.Events.{get_point, test_false}
