@@ -1,0 +1,335 @@
+-- What a call touches was named to it, and hasn't been free since.
+use Rattle.std.proofs.Common.{◌≡◌, ◌≢◌, ℕ, ◌+◌, ◌^◌, ◌<◌, ◌≤◌, Bool, true, false, List, [], ◌∷◌, Option, Some, None, IsSome, ◌⊎◌, inl, inr, refl, sym, subst, ap, ◌∙◌, arith, if◌then◌else◌, nat_lt}
+use Rattle.std.proofs.lemmas.Bool.Decides.{eqb_tells}
+use Rattle.std.proofs.lemmas.Bool.{eq-eqb, ne_eqb, cases_lt, lt-ltb, le-ltb}
+use Rattle.congee_map.specs.Map.{Pairs, lookup, Rises}
+use Rattle.congee_node_table.specs.Key.{next_byte}
+use Rattle.congee_node_table.specs.declared.child.Child.{Child}
+use Rattle.congee_node_table.specs.declared.child.Child.TheVariants.{Node as below_at}
+use Rattle.congee_protocol.specs.Calls.{Outline, bytes_of, key_of}
+use Rattle.congee_protocol.specs.Reading.{child_for, first_from, bound_at}
+use Rattle.congee_protocol.specs.Runs.{Entry, read_by, same_number}
+use Rattle.congee_protocol.specs.State.{Flight}
+use Rattle.congee_protocol.specs.Touching.{Names, Vouches, IsKnown, MayTouch, Touches, AllTouchKnown}
+use Rattle.congee_protocol.specs.declared.trace.Line.{Line}
+use Rattle.congee_protocol.specs.declared.trace.Line.TheVariants.{Done as Made, Skipped}
+use Rattle.congee_protocol.specs.declared.types.Env.{Env}
+use Rattle.congee_protocol.specs.declared.types.Event.{Event}
+use Rattle.congee_protocol.specs.declared.types.Event.TheVariants.{Start, Step, Reclaim}
+use Rattle.congee_protocol.specs.declared.types.Kind.{Kind}
+use Rattle.congee_protocol.specs.declared.types.Kind.TheVariants as kind
+use Rattle.congee_protocol.specs.declared.types.Op.TheVariants.{Get, Insert, Remove, ComputeIfPresent, ComputeOrInsert, CompareExchange, Range}
+use Rattle.congee_protocol.specs.declared.types.Outcome.{Outcome}
+use Rattle.congee_protocol.specs.declared.types.Report.{Report}
+use Rattle.congee_protocol.specs.declared.types.Seen.{Seen}
+use Rattle.congee_store.specs.declared.stage.Path.{Path}
+use Rattle.congee_store.specs.declared.stage.Record.{Record}
+use Rattle.congee_store.specs.declared.stage.Spot.{Spot}
+use Rattle.congee_store.specs.declared.stage.Stage.{Stage}
+use Rattle.congee_store.specs.declared.stage.Stage.TheVariants.{TakeRoot, Read, Check, TakeBelow, CheckAbove, Finish}
+use Rattle.congee_store.specs.inner.Facts.{IsIn, above_slots, path_slots, named_at, IsBelow, IsPlaced, IsSafe, Known, IsThere, CameFrom, OnPath, Guarantees, SawNode, Saw, Facts, FactsAt, IsSound}
+use Rattle.congee_store.specs.inner.Shown.{shown, flight, state_of}
+use Rattle.congee_store.specs.inner.Turns.{Stays, MayFollow, IsCourse, IsTurn}
+use Rattle.congee_store.specs.inner.World.{World, Node, Table, table_of, entry, call_of}
+use Rattle.congee_store.proofs.States.{shown_node}
+use Rattle.congee_store.proofs.Ways.{known_linked}
+use Rattle.congee_replay.specs.inner.Played.{Plays, Move, entry_of, entries_of, AreMoves}
+use Rattle.congee_replay.proofs.Flying.{in_flight, small_at}
+use Rattle.congee_replay.proofs.Playing.{sound_next}
+use Rattle.congee_store.proofs.Reaching.{lookup-inside}
+use Rattle.congee_store.proofs.Options.{none_some, some_same}
+
+-- a child that a Read finds stands under some byte
+first_entry : {C : Type 0} (a b byte : ℕ) (es : List (ℕ × C)) (c : C) → Rises a b es → first_from byte es ≡ Some c → (x : ℕ) × (lookup es x ≡ Some c)
+first_entry a b byte [] c rises e = absurd (none_some c e)
+first_entry {C} a b byte (x ∷ es) c rises e =
+    elim (cases_lt x.0 byte) [
+      | inl less ↦
+          let next : first_from byte es ≡ Some c = subst (λ (o : Option C). o ≡ Some c) (rw (lt-ltb x.0 byte less) refl) e in
+          let f = first_entry (x.0 + 1) b byte es c rises.2 next in
+          let inside = lookup-inside (x.0 + 1) b es f.0 c rises.2 f.1 in
+          let off : x.0 ≢ f.0 = omega (arith, inside.0) in
+          (f.0, rw (ne_eqb x.0 f.0 off) f.1)
+      | inr more ↦ (x.0, rw (eq-eqb x.0 x.0 refl) (subst (λ (o : Option C). o ≡ Some c) (rw (le-ltb x.0 byte more) refl) e))
+    ]
+
+child_entry : (outline : Outline) (cursor : ℕ) (a : Node ℕ) (c : Child ℕ) → Rises 0 256 a.node.children → child_for outline cursor a.node ≡ Some c → (x : ℕ) × (entry a x ≡ Some c)
+child_entry (Get k) cursor a c rises e = (next_byte a.node.prefix (bytes_of cursor), e)
+child_entry (Insert k v) cursor a c rises e = (next_byte a.node.prefix (bytes_of cursor), e)
+child_entry (Remove k) cursor a c rises e = (next_byte a.node.prefix (bytes_of cursor), e)
+child_entry (ComputeIfPresent k) cursor a c rises e = (next_byte a.node.prefix (bytes_of cursor), e)
+child_entry (ComputeOrInsert k v) cursor a c rises e = (next_byte a.node.prefix (bytes_of cursor), e)
+child_entry (CompareExchange k old new) cursor a c rises e = (next_byte a.node.prefix (bytes_of cursor), e)
+child_entry (Range from to n) cursor a c rises e = first_entry 0 256 (bound_at cursor a.node.prefix) a.node.children c rises e
+
+module _ (t : Table ℕ) (root pin : ℕ) (k : List ℕ) where
+  known_there : (s : Spot) (slot : ℕ) → Known t pin s → s.slot ≡ slot → IsThere t pin slot
+  known_there s slot kn e = record { node = kn.node; here = subst (λ (z : ℕ). t z ≡ Some kn.node) e kn.here; safe = kn.safe }
+
+  above_there : (above : Option Spot) (at slot : ℕ) → CameFrom t root pin k above at → IsIn slot (above_slots above) → IsThere t pin slot
+  above_there None at slot came h = absurd h
+  above_there (Some p) at slot came h = elim h [ inl e ↦ known_there p slot came.0 e | inr never ↦ absurd never ]
+
+  path_there : (path : Path) (slot : ℕ) → OnPath t root pin k path → IsIn slot (path_slots path) → IsThere t pin slot
+  path_there path slot on h =
+      elim h [ inl e ↦ known_there path.here slot on.here e | inr more ↦ above_there path.above path.here.slot slot on.above more ]
+
+module _ (t : Table ℕ) (root pin : ℕ) (r : Record ℕ) (placed : IsPlaced t root) where
+  abbrev key : List ℕ
+  key = bytes_of (key_of r.task.outline)
+
+  named_there : (stage : Stage) (slot : ℕ) → FactsAt (Unit {0}) t root pin r.task stage → IsIn slot (named_at stage) → IsThere t pin slot
+  named_there TakeRoot slot f h = absurd h
+  named_there (Read path) slot f h = path_there t root pin key path slot f.1 h
+  named_there (Check path) slot f h = path_there t root pin key path slot f.1 h
+  named_there (TakeBelow path below) slot f h =
+      elim h [ inl e ↦ subst (λ (z : ℕ). IsThere t pin z) e f.4 | inr more ↦ path_there t root pin key path slot f.1 more ]
+  named_there (CheckAbove path spot fits) slot f h =
+      elim h [ inl e ↦ known_there t root pin key spot slot f.4 e | inr more ↦ path_there t root pin key path slot f.1 more ]
+  named_there Finish slot f h = absurd h
+
+  -- a slot that was read where the word still stands has one
+  follow_there : (stage : Stage) (slot : ℕ) → FactsAt (Unit {0}) t root pin r.task stage → MayFollow t stage r.task.last slot → IsThere t pin slot
+  follow_there TakeRoot slot f h = absurd h
+  follow_there (Read path) slot f h = absurd h
+  follow_there (Check path) slot f h =
+      let s : Saw (Unit {0}) t pin path r.task = f.2 in
+      let one_seen : s.seen ≡ h.0.seen = some_same s.seen h.0.seen (sym s.is ∙ h.0.is) in
+      let child : s.seen.child ≡ Some (below_at slot) = ap (λ (z : Seen ℕ). z.child) one_seen ∙ h.0.child in
+      let stands : Stays t path.here = h.1 in
+      let linked = known_linked t root key placed pin path.here stands.node f.1.here stands.here stands.word in
+      let at = child_entry r.task.outline (key_of r.task.outline) stands.node (below_at slot) (placed.ordered path.here.slot stands.node linked)
+      ((s.agrees stands.node stands.here stands.word).below slot child) in
+      let below : IsBelow t stands.node at.0 slot = placed.below path.here.slot stands.node linked at.0 slot at.1 in
+      record { node = below.node; here = below.linked.here; safe = subst (λ z. IsSafe pin z) (sym below.linked.standing) tt }
+  follow_there (TakeBelow path below) slot f h = absurd h
+  follow_there (CheckAbove path spot fits) slot f h = absurd h
+  follow_there Finish slot f h = absurd h
+
+-- the slots that a call may touch next, or after its next event
+abbrev pub Trusts : Table ℕ → Record ℕ → ℕ → Type 0
+Trusts t r slot = IsIn slot (named_at r.stage) ⊎ MayFollow t r.stage r.task.last slot
+
+in_use : (w : World ℕ) (id : ℕ) (r : Record ℕ) (slot : ℕ) → IsSound (Unit {0}) w → id < 2 ^ 64 → call_of w id ≡ Some r → Trusts (table_of w) r slot → IsSome (lookup (state_of w).nodes slot)
+in_use w id r slot sound small found h =
+    let p = in_flight w id r sound small found in
+    let facts : Facts (Unit {0}) (table_of w) w.root p.0 r = sound.facts id p.0 r found p.1 in
+    let there : IsThere (table_of w) p.0 slot = elim h [
+      | inl named ↦ named_there (table_of w) w.root p.0 r sound.placed r.stage slot facts.at named
+      | inr follows ↦ follow_there (table_of w) w.root p.0 r sound.placed r.stage slot facts.at follows
+    ] in
+    subst (λ x. IsSome x) (sym (shown_node w slot ∙ ap shown there.here)) refl
+
+-- What another's event leaves readable was so before: the words only grow.
+module _ (t t' : Table ℕ) (root pin : ℕ) (Mine : ℕ → Type 0) (leaves : Guarantees t t' Mine pin) (r : Record ℕ) where
+  stayed : (spot : Spot) → Known t pin spot → Stays t' spot → Stays t spot
+  stayed spot kn s =
+      let m = leaves spot.slot kn.node kn.here kn.safe in
+      let same : s.node ≡ m.node = some_same s.node m.node (sym s.here ∙ m.here) in
+      let now : m.node.word ≡ spot.word = sym (ap (λ (a : Node ℕ). a.word) same) ∙ s.word in
+      record { node = kn.node; here = kn.here; word = omega (arith, kn.word, m.kept.word, now) }
+
+  followed : (stage : Stage) (slot : ℕ) → FactsAt (Unit {0}) t root pin r.task stage → MayFollow t' stage r.task.last slot → MayFollow t stage r.task.last slot
+  followed TakeRoot slot f h = h
+  followed (Read path) slot f h = h
+  followed (Check path) slot f h = (h.0, stayed path.here f.1.here h.1)
+  followed (TakeBelow path below) slot f h = h
+  followed (CheckAbove path spot fits) slot f h = h
+  followed Finish slot f h = h
+
+same_follows : (t t' : Table ℕ) (same : (s : ℕ) → t' s ≡ t s) (stage : Stage) (last : Option (Seen ℕ)) (slot : ℕ) → MayFollow t' stage last slot → MayFollow t stage last slot
+same_follows t t' same TakeRoot last slot h = h
+same_follows t t' same (Read path) last slot h = h
+same_follows t t' same (Check path) last slot h = (h.0, record { node = h.1.node; here = sym (same path.here.slot) ∙ h.1.here; word = h.1.word })
+same_follows t t' same (TakeBelow path below) last slot h = h
+same_follows t t' same (CheckAbove path spot fits) last slot h = h
+same_follows t t' same Finish last slot h = h
+
+-- a slot that may be followed was seen
+saw_of : (t : Table ℕ) (stage : Stage) (last : Option (Seen ℕ)) (slot : ℕ) → MayFollow t stage last slot → SawNode last slot
+saw_of t TakeRoot last slot h = absurd h
+saw_of t (Read path) last slot h = absurd h
+saw_of t (Check path) last slot h = h.0
+saw_of t (TakeBelow path below) last slot h = absurd h
+saw_of t (CheckAbove path spot fits) last slot h = absurd h
+saw_of t Finish last slot h = absurd h
+
+-- the entries before tell of the slot, or it is the root's
+abbrev pub Told : ℕ → List Entry → ℕ → ℕ → Type 0
+Told root past id slot = (slot ≡ root) ⊎ IsKnown id slot past
+
+-- what the calls trust is told
+abbrev pub IsVouched : ℕ → World ℕ → List Entry → Type 0
+IsVouched root w past = (id : ℕ) → id < 2 ^ 64 → (r : Record ℕ) → call_of w id ≡ Some r → (slot : ℕ) → Trusts (table_of w) r slot → Told root past id slot
+
+module _ (root : ℕ) (w : World ℕ) (past : List Entry) (sound : IsSound (Unit {0}) w) (at : w.root ≡ root) (vouched : IsVouched root w past) where
+  -- one more entry leaves to the earlier ones what it doesn't name
+  longer : (x : Entry) (id slot : ℕ) → IsSome (lookup x.after.nodes slot) → (IsKnown id slot past → Vouches id slot x.event x.line (IsKnown id slot past)) → Told root past id slot → Told root (x ∷ past) id slot
+  longer x id slot used leaves h = elim h [ inl e ↦ inl e | inr v ↦ inr (used, leaves v) ]
+
+  module _ (id : ℕ) (env : Env ℕ) (report : Report) (out : Outcome ℕ) (seen : Option (Seen ℕ)) (after : World ℕ) (content : Pairs ℕ)
+      (turn : IsTurn (Unit {0}) same_number w after id env report out) (is : seen ≡ read_by report.kind (lookup (state_of after).flights id)) where
+    abbrev now : Entry
+    now = record { event = Step id env; line = Made report out seen; after = state_of after; content = content }
+
+    small : id < 2 ^ 64
+    small = small_at w id turn.step.call turn.step.in_flight
+
+    -- what the call itself trusted
+    own : (slot : ℕ) → (slot ≡ w.root) ⊎ Trusts (table_of w) turn.call slot → Told root past id slot
+    own slot h = elim h [ inl e ↦ inl (e ∙ at) | inr t ↦ vouched id small turn.call turn.found slot t ]
+
+    -- the Read names what it saw
+    read_names : (next : Record ℕ) (slot : ℕ) → call_of after id ≡ Some next → report.kind ≡ kind.Read → SawNode next.task.last slot → Names report.kind report.slot seen slot
+    read_names next slot found done saw =
+        let f = in_flight after id next turn.after small found in
+        let e : seen ≡ Some saw.seen = is ∙ (ap (λ k. read_by k (lookup (state_of after).flights id)) done ∙ (ap (read_by kind.Read) f.2 ∙ saw.is)) in
+        subst (λ (k : Kind). Names k report.slot seen slot) (sym done) (saw.seen, e, saw.child)
+
+    goes_vouched : (next : Record ℕ) (slot : ℕ) → call_of after id ≡ Some next → Trusts (table_of after) next slot → Told root (now ∷ past) id slot
+    goes_vouched next slot found h =
+        let used : IsSome (lookup (state_of after).nodes slot) = in_use after id next slot turn.after small found h in
+        let course : IsCourse (table_of w) (table_of after) w.root turn.call next report out = turn.course next found in
+        elim h [
+          | inl named ↦ longer now id slot used (λ v. inr v) (own slot (course.names slot named))
+          | inr follows ↦ inr (used, inl (refl, read_names next slot found (course.reads slot follows) (saw_of (table_of after) next.stage next.task.last slot follows)))
+        ]
+
+    stays_vouched : (o : ℕ) (r : Record ℕ) (slot : ℕ) → o < 2 ^ 64 → o ≢ id → call_of after o ≡ Some r → Trusts (table_of after) r slot → Told root (now ∷ past) o slot
+    stays_vouched o r slot narrow off found h =
+        let was : call_of w o ≡ Some r = sym (turn.others o off) ∙ found in
+        let p = in_flight w o r sound narrow was in
+        let facts : Facts (Unit {0}) (table_of w) w.root p.0 r = sound.facts o p.0 r was p.1 in
+        let before : Trusts (table_of w) r slot = elim h [
+          | inl named ↦ inl named
+          | inr follows ↦ inr (followed (table_of w) (table_of after) w.root p.0 _ (turn.leaves p.0 (sound.before o p.0 p.1)) r r.stage slot facts.at follows)
+        ] in
+        longer now o slot (in_use after o r slot turn.after narrow found h) (λ v. inr v) (vouched o narrow r was slot before)
+
+    pub turn_vouched : IsVouched root after (now ∷ past)
+    turn_vouched o narrow r found slot h =
+        elim (eqb_tells o id) [
+          | inl same ↦ subst (λ (z : ℕ). Told root (now ∷ past) z slot) (sym same.1) (goes_vouched r slot (subst (λ (z : ℕ). call_of after z ≡ Some r) same.1 found) h)
+          | inr off ↦ stays_vouched o r slot narrow off.1 found h
+        ]
+
+    -- what it touches
+    touched_at : (next : Option (Record ℕ)) → call_of after id ≡ next → report.kind ≢ kind.Make → (slot : ℕ) → report.slot ≡ Some slot → Told root past id slot
+    touched_at (Some next) e other slot t =
+        let course : IsCourse (table_of w) (table_of after) w.root turn.call next report out = turn.course next e in
+        own slot (elim (course.touches slot t other) [ inl top ↦ inl top | inr named ↦ inr (inl named) ])
+    touched_at None e other slot t = absurd (none_some slot (sym (turn.ends e).1 ∙ t))
+
+    pub turn_touches : report.kind ≢ kind.Make → (slot : ℕ) → report.slot ≡ Some slot → Told root past id slot
+    turn_touches other slot t = touched_at (call_of after id) refl other slot t
+
+  -- after any event
+  vouched_next : (event : Event ℕ) (line : Line) (after : World ℕ) (content : Pairs ℕ) → IsSound (Unit {0}) after → Plays w event line after
+      → IsVouched root after (record { event = event; line = line; after = state_of after; content = content } ∷ past) × (after.root ≡ root)
+  vouched_next (Start id op) Skipped after content next p = (
+    (λ o narrow r found slot t. longer (record { event = Start id op; line = Skipped; after = state_of after; content = content }) o slot (in_use after o r slot next narrow found t) (λ v. v)
+        (skipped_vouched o narrow r found slot t)),
+    ap (λ (z : World ℕ). z.root) p.1 ∙ at,
+  )
+    where
+      skipped_vouched : IsVouched root after past
+      skipped_vouched = subst (λ (z : World ℕ). IsVouched root z past) (sym p.1) vouched
+  vouched_next (Step id env) Skipped after content next p = (
+    (λ o narrow r found slot t. longer (record { event = Step id env; line = Skipped; after = state_of after; content = content }) o slot (in_use after o r slot next narrow found t) (λ v. v)
+        (skipped_vouched o narrow r found slot t)),
+    ap (λ (z : World ℕ). z.root) p.1 ∙ at,
+  )
+    where
+      skipped_vouched : IsVouched root after past
+      skipped_vouched = subst (λ (z : World ℕ). IsVouched root z past) (sym p.1) vouched
+  vouched_next (Reclaim s) Skipped after content next p = (
+    (λ o narrow r found slot t. longer (record { event = Reclaim s; line = Skipped; after = state_of after; content = content }) o slot (in_use after o r slot next narrow found t) (λ v. v)
+        (skipped_vouched o narrow r found slot t)),
+    ap (λ (z : World ℕ). z.root) p.1 ∙ at,
+  )
+    where
+      skipped_vouched : IsVouched root after past
+      skipped_vouched = subst (λ (z : World ℕ). IsVouched root z past) (sym p.1) vouched
+  vouched_next (Start id op) (Made report out seen) after content next p = (
+    (λ o narrow r found slot t.
+        elim (eqb_tells o id) [
+          | inl same ↦
+              let is : p.1.record_is ≡ r = some_same p.1.record_is r (sym p.1.here ∙ subst (λ (z : ℕ). call_of after z ≡ Some r) same.1 found) in
+              let stage : r.stage ≡ TakeRoot = subst (λ (q : Record ℕ). q.stage ≡ TakeRoot) is p.1.stage in
+              elim t [
+                | inl named ↦ absurd (subst (λ (s : Stage). IsIn slot (named_at s)) stage named)
+                | inr follows ↦ absurd (subst (λ (s : Stage). MayFollow (table_of after) s r.task.last slot) stage follows)
+              ]
+          | inr off ↦
+              let before : Trusts (table_of w) r slot = elim t [
+                | inl named ↦ inl named
+                | inr follows ↦ inr (same_follows (table_of w) (table_of after) p.1.nodes r.stage r.task.last slot follows)
+              ] in
+              longer (record { event = Start id op; line = Made report out seen; after = state_of after; content = content }) o slot (in_use after o r slot next narrow found t)
+              (λ v. ((λ e. off.1 (sym e)), v)) (vouched o narrow r (sym (p.1.others o off.1) ∙ found) slot before)
+        ]),
+    p.1.root ∙ at,
+  )
+  vouched_next (Step id env) (Made report out seen) after content next p = (turn_vouched id env report out seen after content p.0 p.1, p.0.root ∙ at)
+  vouched_next (Reclaim slot) (Made report out seen) after content next p = absurd p
+
+abbrev is_make : Kind → Bool
+is_make kind.Make = true
+is_make _ = false
+
+true_false : false ≡ true → ⊥
+true_false e = cc
+
+not_make : (k : Kind) → is_make k ≡ false → k ≢ kind.Make
+not_make k e is = true_false (sym e ∙ ap is_make is)
+
+may_touch : (root id : ℕ) (past : List Entry) (done : Kind) (slot : Option ℕ) → (done ≢ kind.Make → (s : ℕ) → slot ≡ Some s → Told root past id s) → MayTouch root id past done slot
+may_touch root id past kind.Start None known = tt
+may_touch root id past kind.Start (Some s) known = known (not_make kind.Start refl) s refl
+may_touch root id past kind.Take None known = tt
+may_touch root id past kind.Take (Some s) known = known (not_make kind.Take refl) s refl
+may_touch root id past kind.Check None known = tt
+may_touch root id past kind.Check (Some s) known = known (not_make kind.Check refl) s refl
+may_touch root id past kind.Read None known = tt
+may_touch root id past kind.Read (Some s) known = known (not_make kind.Read refl) s refl
+may_touch root id past kind.Upgrade None known = tt
+may_touch root id past kind.Upgrade (Some s) known = known (not_make kind.Upgrade refl) s refl
+may_touch root id past kind.Make slot known = tt
+may_touch root id past kind.Write None known = tt
+may_touch root id past kind.Write (Some s) known = known (not_make kind.Write refl) s refl
+may_touch root id past kind.Obsolete None known = tt
+may_touch root id past kind.Obsolete (Some s) known = known (not_make kind.Obsolete refl) s refl
+may_touch root id past kind.Unlock None known = tt
+may_touch root id past kind.Unlock (Some s) known = known (not_make kind.Unlock refl) s refl
+may_touch root id past kind.Answer None known = tt
+may_touch root id past kind.Answer (Some s) known = known (not_make kind.Answer refl) s refl
+may_touch root id past kind.Finish None known = tt
+may_touch root id past kind.Finish (Some s) known = known (not_make kind.Finish refl) s refl
+may_touch root id past kind.Reclaim None known = tt
+may_touch root id past kind.Reclaim (Some s) known = known (not_make kind.Reclaim refl) s refl
+
+touches_next : (root : ℕ) (w after : World ℕ) (past : List Entry) (event : Event ℕ) (line : Line) (content : Pairs ℕ) → IsSound (Unit {0}) w → w.root ≡ root → IsVouched root w past
+    → Plays w event line after → Touches root past event line
+touches_next root w after past (Start id op) Skipped content sound at vouched p = tt
+touches_next root w after past (Step id env) Skipped content sound at vouched p = tt
+touches_next root w after past (Reclaim slot) Skipped content sound at vouched p = tt
+touches_next root w after past (Start id op) (Made report out seen) content sound at vouched p = tt
+touches_next root w after past (Reclaim slot) (Made report out seen) content sound at vouched p = tt
+touches_next root w after past (Step id env) (Made report out seen) content sound at vouched p =
+    may_touch root id past report.kind report.slot (turn_touches root w past sound at vouched id env report out seen after content p.0 p.1)
+
+all_touch_on : (root : ℕ) (w : World ℕ) (m : Pairs ℕ) (past : List Entry) (xs : List Move) (last : World ℕ) (n : Pairs ℕ) → IsSound (Unit {0}) w → w.root ≡ root → IsVouched root w past
+    → AreMoves w m xs last n → AllTouchKnown root past (entries_of xs)
+all_touch_on root w m past [] last n sound at vouched are = tt
+all_touch_on root w m past (x ∷ xs) last n sound at vouched are =
+    let next : IsSound (Unit {0}) x.inside = sound_next w x.inside x.event x.line sound are.0.plays in
+    let more = vouched_next root w past sound at vouched x.event x.line x.inside x.content next are.0.plays in (
+      touches_next root w x.inside past x.event x.line x.content sound at vouched are.0.plays,
+      all_touch_on root x.inside x.content (entry_of x ∷ past) xs last n next more.1 more.0 are.1,
+    )
+
+-- In a machine without calls, all that its calls will touch is known to them.
+pub all_touch : (root : ℕ) (first : World ℕ) (m : Pairs ℕ) (xs : List Move) (last : World ℕ) (n : Pairs ℕ) → IsSound (Unit {0}) first → first.root ≡ root
+    → ((id : ℕ) → id < 2 ^ 64 → call_of first id ≡ None) → AreMoves first m xs last n → AllTouchKnown root [] (entries_of xs)
+all_touch root first m xs last n sound at none are =
+    all_touch_on root first m [] xs last n sound at (λ id small r found. absurd (none_some r (sym (none id small) ∙ found))) are

@@ -1,0 +1,83 @@
+-- A run with what the machine has inside after each event. Only proofs need these words.
+use Rattle.std.specs.Prelude.{◌≡◌, ℕ, List, [], ◌∷◌, Option, Some, None, map}
+use Rattle.congee_map.specs.Map.{Pairs, lookup}
+use Rattle.congee_protocol.specs.Content.{IsContent}
+use Rattle.congee_protocol.specs.Runs.{Entry, IsEnabled, IsServed, IsHistory, same_number, read_by, decided_at, decided_in, events_of, lines_of}
+use Rattle.congee_protocol.specs.declared.trace.Decision.{Decision}
+use Rattle.congee_protocol.specs.declared.trace.Line.{Line}
+use Rattle.congee_protocol.specs.declared.trace.Line.TheVariants.{Done as Made, Skipped}
+use Rattle.congee_protocol.specs.declared.types.Event.{Event}
+use Rattle.congee_protocol.specs.declared.types.Event.TheVariants.{Start, Step, Reclaim}
+use Rattle.congee_protocol.specs.declared.types.Kind.{Kind}
+use Rattle.congee_protocol.specs.declared.types.Kind.TheVariants as kind
+use Rattle.congee_protocol.specs.declared.types.Outcome.{Outcome}
+use Rattle.congee_protocol.specs.declared.types.Outcome.TheVariants.{Going}
+use Rattle.congee_protocol.specs.declared.types.Seen.{Seen}
+use Rattle.congee_store.specs.declared.stage.Record.{Record}
+use Rattle.congee_store.specs.inner.Shown.{state_of}
+use Rattle.congee_store.specs.inner.Turns.{IsBegun, IsTurn}
+use Rattle.congee_store.specs.inner.World.{World}
+
+-- what an event of a schedule does to the inside, and what its line says
+abbrev pub Plays : World ℕ → Event ℕ → Line → World ℕ → Type 0
+Plays old event Skipped new =
+    (IsEnabled (state_of old) event → IsServed event → ⊥) × (new ≡ old)
+Plays old (Start id op) (Made report out seen) new =
+    IsServed (Start id op) × IsBegun (Unit {0}) same_number old new id op report
+    × (out ≡ Going) × (seen ≡ None)
+Plays old (Step id env) (Made report out seen) new =
+    IsTurn (Unit {0}) same_number old new id env report out
+    × (seen ≡ read_by report.kind (lookup (state_of new).flights id))
+Plays old (Reclaim slot) (Made report out seen) new = ⊥
+
+-- one event, what came of it, what is inside after it, and the content
+pub record Move : Type 0 where
+  pub event : Event ℕ
+  pub line : Line
+  pub inside : World ℕ
+  pub content : Pairs ℕ
+
+abbrev pub entry_of : Move → Entry
+entry_of x =
+    record { event = x.event; line = x.line; after = state_of x.inside; content = x.content }
+
+abbrev pub entries_of : List Move → List Entry
+entries_of xs = map entry_of xs
+
+-- what the event decides leads from the content before to the content after
+pub record IsMove (old : World ℕ) (m : Pairs ℕ) (x : Move) : Type 0 where
+  pub plays : Plays old x.event x.line x.inside
+  pub history : IsHistory m (decided_at (state_of old) x.event x.line) x.content
+  pub content : IsContent (state_of x.inside) x.content
+
+-- from one inside and its content to another
+abbrev pub AreMoves : World ℕ → Pairs ℕ → List Move → World ℕ → Pairs ℕ → Type 0
+AreMoves old m [] new n = (new ≡ old) × (n ≡ m)
+AreMoves old m (x ∷ xs) new n = IsMove old m x × AreMoves x.inside x.content xs new n
+
+-- so far these events were made, from a machine without content on
+pub record SoFar (first : World ℕ) (events : List (Event ℕ)) (lines : List Line)
+    (decided : List Decision) (now : World ℕ) : Type 0 where
+  pub moves : List Move
+  pub content : Pairs ℕ
+  pub are_moves : AreMoves first [] moves now content
+  pub content_is : IsContent (state_of now) content
+  pub events_are : events_of (entries_of moves) ≡ events
+  pub lines_are : lines_of (entries_of moves) ≡ lines
+  pub decided_are : decided_in (state_of first) (entries_of moves) ≡ decided
+
+-- what the last Read of a record's call reported, if the event is a Read
+abbrev pub last_read : Kind → Option (Record ℕ) → Option (Seen ℕ)
+last_read kind.Read (Some r) = r.task.last
+last_read _ _ = None
+
+-- the decision of one event, if it made one
+abbrev pub noted : Option Decision → List Decision
+noted None = []
+noted (Some decision) = decision ∷ []
+
+-- an event came to this line, and decided this
+pub record IsHappening (old : World ℕ) (event : Event ℕ) (line : Line) (decided : Option Decision)
+    (new : World ℕ) : Type 0 where
+  pub plays : Plays old event line new
+  pub decided_is : noted decided ≡ decided_at (state_of old) event line

@@ -1,0 +1,168 @@
+//! Replay of a schedule on a fresh machine.
+
+ghost use Rattle.std.specs.Prelude.{◌≡◌, ◌++◌, ℕ, IfOk, OnOk};
+ghost use Rattle.congee_protocol.specs.Calls.{asked_of};
+ghost use Rattle.congee_protocol.specs.Replay.{IsReplayed};
+ghost use Rattle.congee_protocol.specs.Runs.{decided_by};
+ghost use Rattle.congee_protocol.specs.State.{Flight};
+ghost use Rattle.congee_protocol.specs.declared.types.Event.TheVariants as event;
+ghost use Rattle.congee_store.specs.inner.Facts.{IsSound};
+ghost use Rattle.congee_machine.specs.inner.Inside.{inside};
+ghost use Rattle.congee_replay.specs.inner.Played.{IsHappening, noted};
+
+use crate::copies::{asked_of, copy_env, copy_op, copy_reply, copy_some_op, last_read};
+use congee_machine::inner::Inner;
+use congee_map::error::OOMError;
+use congee_node_table::allocator::{Allocator, DefaultAllocator};
+use congee_protocol::trace::{Decision, Line, Trace};
+use congee_protocol::types::{Env, Event, Op, Outcome};
+use std::alloc::{AllocError, Global};
+
+/// What came of one event, and what it decided.
+#[derive(Drop)]
+struct Happened {
+    line: Line,
+    decided: Option<Decision>,
+}
+
+// An event that isn't enabled, or not served yet.
+fn skipped() -> Happened
+    ensures { result ≡ record { line = Line.Skipped; decided = None } }
+{
+    Happened {
+        line: Line::Skipped,
+        decided: None,
+    }
+}
+
+// The decision of a call that has its payloads yet, by what its event says.
+fn decision(
+    id: u64,
+    op: Option<Op<u64>>,
+    asked: Option<(Option<u64>, Option<u64>)>,
+    outcome: &Outcome<u64>,
+) -> Option<Decision>
+    ensures { (call : Flight ℕ) → call.op ≡ op → asked_of call.asking ≡ asked
+        → noted result ≡ decided_by id (Some call) outcome.now }
+{
+    match outcome {
+        Outcome::Decided(reply) => match op {
+            None => None,
+            Some(op) => Some(Decision {
+                id,
+                op,
+                asked,
+                reply: copy_reply(reply),
+            }),
+        },
+        _ => None,
+    }
+}
+
+// A Start: skipped where the number is in flight or the call is not served.
+fn start<A: Allocator>(
+    machine: &mut Inner<u64, A>,
+    id: u64,
+    op: &Op<u64>,
+) -> Result<Happened, OOMError>
+    requires sound { IsSound (Unit {0}) (inside A.charge machine.old) }
+    ensures { IfOk result (λ h. IsHappening (inside A.charge machine.old) (event.Start id op.now)
+        h.line h.decided (inside A.charge machine.new)) }
+{
+    if !op.is_served() {
+        return Ok(skipped());
+    }
+    if machine.is_in_flight(id) {
+        return Ok(skipped());
+    }
+    let report = machine.begin(id, copy_op(op))?;
+    Ok(Happened {
+        line: Line::Done(report, Outcome::Going, None),
+        decided: None,
+    })
+}
+
+// A Step: skipped where the number is not in flight.
+fn step<A: Allocator>(machine: &mut Inner<u64, A>, id: u64, env: &Env<u64>) -> Happened
+    requires sound { IsSound (Unit {0}) (inside A.charge machine.old) }
+    ensures { IsHappening (inside A.charge machine.old) (event.Step id env.now)
+        result.line result.decided (inside A.charge machine.new) }
+{
+    let Some(call) = machine.call(id) else {
+        return skipped();
+    };
+    let op = copy_some_op(&call.task.op);
+    let asked = asked_of(&call.task.asking);
+    let (report, outcome) = machine.proceed(id, copy_env(env));
+    let seen = last_read(report.kind, machine.call(id));
+    let decided = decision(id, op, asked, &outcome);
+    Happened {
+        line: Line::Done(report, outcome, seen),
+        decided,
+    }
+}
+
+// One event of the schedule.
+fn happen<A: Allocator>(
+    machine: &mut Inner<u64, A>,
+    event: &Event<u64>,
+) -> Result<Happened, OOMError>
+    requires sound { IsSound (Unit {0}) (inside A.charge machine.old) }
+    ensures { IfOk result (λ h. IsHappening (inside A.charge machine.old) event.now
+        h.line h.decided (inside A.charge machine.new)) }
+{
+    match event {
+        Event::Start(id, op) => start(machine, *id, op),
+        Event::Step(id, env) => Ok(step(machine, *id, env)),
+        Event::Reclaim(_) => Ok(skipped()),
+    }
+}
+
+// Appends a decision, if there is one.
+fn note(decided: &mut Vec<Decision>, decision: Option<Decision>) -> Result<(), AllocError>
+    ensures { OnOk result (decided.new.items ≡ decided.old.items ++ noted decision) }
+{
+    match decision {
+        None => Ok(()),
+        Some(decision) => Ok(decided.push(decision)?),
+    }
+}
+
+/// Runs a schedule on a fresh machine with this budget.
+///
+/// An event that is not enabled, or not served yet, is `Skipped` and changes nothing. `OOMError` where memory is missing for
+/// the root, for a `Start` or for the trace itself; then there is no trace.
+pub fn replay_with<A: Allocator>(
+    alloc: Global,
+    budget: A,
+    events: &[Event<u64>],
+) -> Result<Trace, OOMError>
+    ensures { IfOk result (λ trace. IsReplayed events.now trace.lines.items trace.decided.items
+        trace.content.items) }
+{
+    let mut machine = Inner::new(alloc, budget)?;
+    let mut lines = Vec::new(alloc);
+    let mut decided = Vec::new(alloc);
+    for event in events {
+        let happened = happen(&mut machine, event)?;
+        lines.push(happened.line)?;
+        note(&mut decided, happened.decided)?;
+    }
+    let content = machine.content(alloc)?;
+    Ok(Trace {
+        lines,
+        decided,
+        content,
+    })
+}
+
+/// Runs a schedule on a fresh machine that no budget limits.
+///
+/// An event that is not enabled, or not served yet, is `Skipped` and changes nothing. `OOMError` where memory is missing for
+/// the root, for a `Start` or for the trace itself; then there is no trace.
+pub fn replay(alloc: Global, events: &[Event<u64>]) -> Result<Trace, OOMError>
+    ensures { IfOk result (λ trace. IsReplayed events.now trace.lines.items trace.decided.items
+        trace.content.items) }
+{
+    replay_with(alloc, DefaultAllocator {}, events)
+}
