@@ -1,8 +1,7 @@
 -- The inside after an event that writes no node, and changes the seat and the call of one number.
-use Rattle.std.proofs.Common.{◌≡◌, ◌≢◌, ℕ, ◌<◌, ◌≤◌, ◌^◌, Bool, true, false, List, Option, Some, None, IsSome, inl, inr, refl, sym, subst, ap, ◌∙◌, arith}
+use Rattle.std.proofs.Common.{◌≡◌, ℕ, ◌≤◌, ◌^◌, Bool, true, List, Option, Some, IsSome, inl, inr, refl, sym, subst, ap, ◌∙◌}
 use Rattle.std.proofs.lemmas.Bool.{false≢true, cases_lt}
 use Rattle.std.proofs.lemmas.Bool.Decides.{eqb_tells}
-use Rattle.congee_map.specs.Map.{lookup}
 use Rattle.congee_map.proofs.MapLaws.{same_from_lookups}
 use Rattle.congee_protocol.specs.Seats.{IsReseated}
 use Rattle.congee_sync.specs.Epoch.{PinsView, ChangesSeat, entry_at, pin_of, is_seated}

@@ -1,10 +1,9 @@
 -- The laws of changed insides, where payloads stand for what they mean.
-use Rattle.std.proofs.Common.{◌≡◌, ◌≢◌, ℕ, ◌<◌, ◌^◌, Bool, true, false, IsTrue, List, Option, Some, None, IsSome, inl, inr, refl, sym, subst, ap, ◌∙◌}
+use Rattle.std.proofs.Common.{◌≡◌, ℕ, ◌<◌, ◌^◌, Bool, true, false, List, Option, Some, None, IsSome, inl, inr, refl, sym, subst, ap, ◌∙◌}
 use Rattle.std.proofs.lemmas.Bool.{false≢true}
 use Rattle.congee_map.specs.Map.{lookup}
 use Rattle.congee_protocol.specs.Calls.{key_of}
 use Rattle.congee_protocol.specs.Kinds.{report_of}
-use Rattle.congee_protocol.specs.Lists.{is_in}
 use Rattle.congee_protocol.specs.Meaning.{in_some}
 use Rattle.congee_protocol.specs.Seats.{IsTaken, IsReseated}
 use Rattle.congee_protocol.specs.declared.types.Env.{Env}
@@ -35,6 +34,10 @@ module _ {A B : Type 0} (f : Record A → Record B) where
   in_record : (x : Option (Option (Record A))) → record_in (in_some (in_some f) x) ≡ in_some f (record_in x)
   in_record None = refl
   in_record (Some r) = refl
+
+-- a seat that is told not to be there after a change that kept it wasn't there before
+pub never_seated : (told now before : Bool) → told ≡ now → now ≡ before → told ≡ false → before ≡ true → ⊥
+never_seated told now before is kept off on = false≢true (sym off ∙ (is ∙ (kept ∙ on)))
 
 -- two changes of one number's place
 pub then_changes : {P : Type 0} (old mid new : List (ℕ × Option (Record P))) (id : ℕ) (x y : Option (Option (Record P)))

@@ -1,17 +1,17 @@
 -- The machine of the root alone.
-use Rattle.std.proofs.Common.{◌≡◌, ◌≢◌, ℕ, zero, suc, ◌+◌, ◌<◌, ◌≤◌, ◌^◌, true, false, List, [], ◌∷◌, length, Option, Some, None, inl, inr, refl, sym, subst, ap, ◌∙◌, arith, slice_index_or}
+use Rattle.std.proofs.Common.{◌≡◌, ◌≢◌, ℕ, zero, suc, ◌+◌, ◌<◌, ◌≤◌, ◌^◌, List, [], ◌∷◌, length, Option, Some, None, inl, inr, refl, sym, subst, ap, ◌∙◌, arith, slice_index_or}
 use Rattle.std.proofs.lemmas.Bool.{eq-eqb, false≢true}
 use Rattle.std.proofs.lemmas.Bool.Decides.{eqb_tells}
 use Rattle.congee_base.specs.Form.{stated_size}
 use Rattle.congee_base.specs.declared.base_node.NodeType.TheVariants.{N256}
-use Rattle.congee_map.specs.Map.{Pairs, lookup, put, Rises}
-use Rattle.congee_map.proofs.MapLaws.{same_from_lookups, lookup-put_same, lookup-put_other}
+use Rattle.congee_map.specs.Map.{Pairs, lookup, Rises}
+use Rattle.congee_map.proofs.MapLaws.{same_from_lookups}
 use Rattle.congee_node_table.specs.Charge.{add_charge, Covers}
 use Rattle.congee_node_table.specs.Key.{AreBytes}
 use Rattle.congee_node_table.specs.TableNode.{TableNode}
 use Rattle.congee_node_table.specs.declared.child.Child.{Child}
 use Rattle.congee_node_table.specs.declared.child.Child.TheVariants.{Payload, Node as below_at}
-use Rattle.congee_protocol.specs.Content.{HasEntry, Stands, IsContent}
+use Rattle.congee_protocol.specs.Content.{Stands, IsContent}
 use Rattle.congee_protocol.specs.Runs.{bare_root, fresh}
 use Rattle.congee_protocol.specs.Meaning.{in_some}
 use Rattle.congee_protocol.specs.State.{State}
@@ -24,8 +24,7 @@ use Rattle.congee_store.specs.declared.stage.Stored.{Stored}
 use Rattle.congee_store.specs.inner.Facts.{IsPlaced, IsSound, NeedsHolder, sizes_of}
 use Rattle.congee_store.specs.inner.Meant.{meant_node, meant_slots, meant_stored, meant_world}
 use Rattle.congee_store.specs.inner.Shown.{shown, state_of}
-use Rattle.congee_store.specs.inner.World.{World, Node, Table, Standing, entry, is_linked, is_private, is_retired, node_of, table_on, table_of}
-use Rattle.congee_store.proofs.Changes.{nodes_same}
+use Rattle.congee_store.specs.inner.World.{World, Node, Table, entry, is_linked, is_private, is_retired, node_of}
 use Rattle.congee_store.proofs.Options.{none_some, some_same}
 use Rattle.congee_store.proofs.States.{meant_slot, nodes_rise, shown_node}
 

@@ -1,25 +1,22 @@
 -- What an event of a call is to the inside as a whole: a Start, an event after which the call goes on, and its last.
-use Rattle.std.proofs.Common.{◌≡◌, ◌≢◌, ℕ, ◌<◌, ◌≤◌, ◌^◌, Bool, true, List, Option, Some, None, IsSome, inl, refl, sym, subst, ap, ◌∙◌, arith}
-use Rattle.congee_map.specs.Map.{Pairs, lookup, without}
+use Rattle.std.proofs.Common.{◌≡◌, ℕ, ◌<◌, ◌^◌, Bool, true, List, Option, Some, None, IsSome, inl, refl, sym, subst, ap, ◌∙◌, arith}
+use Rattle.congee_map.specs.Map.{lookup, without}
 use Rattle.congee_protocol.specs.Calls.{key_of, outline_of}
 use Rattle.congee_protocol.specs.Content.{IsContent}
 use Rattle.congee_protocol.specs.Deciding.{Carries}
-use Rattle.congee_protocol.specs.Kinds.{DoesAs, IsStep, IsStart, Finishes, begun, report_of}
-use Rattle.congee_protocol.specs.State.{State, Flight, with_call}
-use Rattle.congee_protocol.specs.declared.types.Asking.TheVariants.{Fresh}
+use Rattle.congee_protocol.specs.Kinds.{DoesAs, begun, report_of}
+use Rattle.congee_protocol.specs.State.{State, with_call}
 use Rattle.congee_protocol.specs.declared.types.Env.{Env}
 use Rattle.congee_protocol.specs.declared.types.Kind.TheVariants as kind
 use Rattle.congee_protocol.specs.declared.types.Op.{Op}
 use Rattle.congee_protocol.specs.declared.types.Op.TheVariants.{Get, Insert, Remove, ComputeIfPresent, ComputeOrInsert, CompareExchange, Range}
 use Rattle.congee_protocol.specs.declared.types.Outcome.{Outcome}
-use Rattle.congee_protocol.specs.declared.types.Outcome.TheVariants.{Done}
-use Rattle.congee_protocol.specs.declared.types.Progress.TheVariants.{Open}
 use Rattle.congee_protocol.specs.declared.types.Report.{Report}
-use Rattle.congee_sync.specs.Epoch.{PinsView, ChangesSeat, entry_at, pin_of, is_seated}
+use Rattle.congee_sync.specs.Epoch.{PinsView, ChangesSeat, pin_of, is_seated}
 use Rattle.congee_store.specs.declared.stage.Record.{Record}
 use Rattle.congee_store.specs.declared.stage.Stage.{Stage}
-use Rattle.congee_store.specs.declared.stage.Stage.TheVariants.{TakeRoot, Finish}
-use Rattle.congee_store.specs.inner.Facts.{Facts, FactsAt, Guarantees, Holding, IsSafe, IsSound}
+use Rattle.congee_store.specs.declared.stage.Stage.TheVariants.{Finish}
+use Rattle.congee_store.specs.inner.Facts.{Facts, FactsAt, Guarantees, Holding, IsSound}
 use Rattle.congee_store.specs.inner.Places.{ChangesPlace}
 use Rattle.congee_store.specs.inner.Shown.{flight, flight_in, state_of}
 use Rattle.congee_store.specs.inner.Turns.{IsAdvance, IsBegun, IsCourse, IsRead, IsTurn}

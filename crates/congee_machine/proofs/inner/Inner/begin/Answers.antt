@@ -1,4 +1,4 @@
-use Rattle.std.proofs.Common.{◌≡◌, true, None, Some, IsSome, sym, subst, ap, ◌∙◌, refl}
+use Rattle.std.proofs.Common.{sym, subst}
 use Rattle.congee_protocol.specs.Meaning.{op_of}
 use Rattle.congee_protocol.specs.declared.types.Report.{Report}
 use Rattle.congee_store.specs.inner.Meant.{meant_world}

@@ -1,5 +1,4 @@
 use Rattle.std.proofs.Common.{sym, subst}
-use Rattle.congee_protocol.specs.Meaning.{meant}
 use Rattle.congee_protocol.specs.State.{State}
 use Rattle.congee_store.specs.inner.Meant.{meant_table, meant_world}
 use Rattle.congee_store.specs.inner.Turns.{Shows}

@@ -1,4 +1,4 @@
-use Rattle.std.proofs.Common.{rules, ◌≡◌, Some, None, ◌∙◌, sym, false}
+use Rattle.std.proofs.Common.{rules, ◌≡◌, Some, None}
 use Rattle.std.proofs.lemmas.Bool.{false≢true}
 use Rattle.congee_store.specs.inner.World.{call_of}
 use Rattle.congee_machine.specs.inner.Inside.{inside}

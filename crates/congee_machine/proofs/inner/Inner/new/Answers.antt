@@ -1,15 +1,12 @@
-use Rattle.std.proofs.Common.{◌≡◌, ◌≢◌, ℕ, None, rules, arith, refl, sym, subst, ap, ◌∙◌, slice_index_or, List, Option}
+use Rattle.std.proofs.Common.{◌≡◌, ◌≢◌, ℕ, None, rules, arith, sym, subst, slice_index_or}
 use Rattle.std.proofs.lemmas.Grind.{common_steps}
 use Rattle.congee_node_table.specs.Charge.{add_charge}
 use Rattle.congee_protocol.specs.Runs.{fresh}
-use Rattle.congee_protocol.specs.State.{State}
-use Rattle.congee_store.specs.declared.stage.Record.{Record}
 use Rattle.congee_store.specs.inner.Facts.{IsSound}
 use Rattle.congee_store.specs.inner.Meant.{meant_world}
 use Rattle.congee_store.specs.inner.Shown.{state_of}
 use Rattle.congee_store.specs.inner.World.{World}
-use Rattle.congee_sync.specs.Epoch.{PinsView}
-use Rattle.congee_machine.proofs.Roots.{alone, alone_is, root_fresh, meant_sound}
+use Rattle.congee_machine.proofs.Roots.{alone_is, root_fresh, meant_sound}
 use Rattle.congee_machine.proofs.inner.Inner.new.Goals as goal
 
 pub returns-clause-sound : goal.returns-clause-sound

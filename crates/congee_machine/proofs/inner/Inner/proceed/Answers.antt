@@ -1,7 +1,5 @@
-use Rattle.std.proofs.Common.{◌≡◌, true, Option, Some, None, sym, subst, ap, refl, ◌∙◌}
-use Rattle.std.proofs.lemmas.Bool.{false≢true}
+use Rattle.std.proofs.Common.{◌≡◌, Option, Some, None, sym, subst, ap, refl, ◌∙◌}
 use Rattle.congee_protocol.specs.Meaning.{env_of, in_some, outcome_of}
-use Rattle.congee_sync.specs.Epoch.{pin_of}
 use Rattle.congee_store.specs.declared.stage.Record.{Record}
 use Rattle.congee_store.specs.inner.Meant.{meant_record, meant_world}
 use Rattle.congee_store.specs.inner.Turns.{IsAdvance}
@@ -9,7 +7,7 @@ use Rattle.congee_store.specs.inner.World.{call_of, table_of}
 use Rattle.congee_store.proofs.States.{meant_call}
 use Rattle.congee_machine.specs.inner.Inside.{inside}
 use Rattle.congee_machine.proofs.Handed.{no_pin}
-use Rattle.congee_machine.proofs.Inners.{goes_on, is_last, then_changes}
+use Rattle.congee_machine.proofs.Inners.{goes_on, is_last, never_seated, then_changes}
 use Rattle.congee_machine.proofs.inner.Inner.proceed.Goals as goal
 
 pub unreachable-requires : goal.unreachable-requires
@@ -58,4 +56,4 @@ returns g c =
     is_last meaning g.P.Payload.always_shared w c.args.id c.ranges.id.fits c.requires.sound c.leave.new.self c.forget.new.self g.P.HasMeaning.same_meaning c.take-call.result c.in-Some.pin (env_of meaning c.args.env)
     c.advance-call.result.report (outcome_of meaning c.advance-call.result.outcome) c.take-call.ensures.call (sym c.pin.ensures ∙ c.in-Some.is) c.take-call.new.self c.take-call.ensures.place
     None c.leave.ensures (then_changes w.calls c.take-call.new.self c.forget.new.self c.args.id (Some None) None c.take-call.ensures.place c.forget.ensures) refl
-    (λ e. absurd (false≢true (sym c.if-is_seated.false ∙ (c.is_seated.ensures ∙ (c.leave.ensures.seat ∙ e))))) advance
+    (λ e. absurd (never_seated _ _ _ c.is_seated.ensures c.leave.ensures.seat c.if-is_seated.false e)) advance

@@ -1,4 +1,4 @@
-use Rattle.std.proofs.Common.{◌≡◌, Option, IsSome, Some, refl, sym, subst, ap, ◌∙◌}
+use Rattle.std.proofs.Common.{Option, IsSome, refl, sym, subst, ap}
 use Rattle.congee_map.specs.Map.{Pairs, lookup}
 use Rattle.congee_protocol.specs.Content.{IsContent}
 use Rattle.congee_protocol.specs.Deciding.{IsCarried}
