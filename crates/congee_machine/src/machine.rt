@@ -1,6 +1,6 @@
 //! The machine: nodes, calls in flight, pins and a budget.
 
-ghost use Rattle.std.specs.Prelude.{◌≡◌, ◌↔◌, ℕ, false, None, IsSome, Err, IfOk, IsOk, OnErr, IsTrue, option_copied};
+ghost use Rattle.std.specs.Prelude.{◌≡◌, ◌↔◌, ℕ, false, None, IsSome, Err, IfOk, IsOk, OnErr, IsTrue, option_copied, length};
 ghost use Rattle.congee_map.specs.Map.{Pairs, lookup};
 ghost use Rattle.congee_node_table.specs.Charge.{add_charge};
 ghost use Rattle.congee_node_table.specs.inner.Kinds.{mapped};
@@ -152,7 +152,9 @@ impl<P: HasMeaning, A: Allocator> Machine<P, A> {
 
     /// How many pairs are stored.
     pub fn entry_count(&self) -> u128
-        ensures { result ≡ self.now.entries }
+        ensures count { result ≡ self.now.entries }
+        ensures content { (m : Pairs P.Meaning)
+            × IsContent (meant P.meaning self.now) m × (result ≡ length m) }
     {
         self.inner.entries
     }

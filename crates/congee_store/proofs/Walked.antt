@@ -185,6 +185,13 @@ module _ {P M : Type 0} (meaning : P → M) (slots : List (Option (Stored P))) (
   pub root_top : IsTop meaning slots root
   root_top = (8, record { above = []; tree = the_tree })
 
+  -- THERE IS A CONTENT, whatever state shows the nodes
+  pub placed_content : (s : State M) → Shows (table_on (meant_slots meaning slots) lives) root s → (m : Pairs M) × IsContent s m
+  placed_content s shows = (
+    pairs_at (meant_nodes meaning slots) 8 root,
+    tree_content (table_on (meant_slots meaning slots) lives) root placed (meant_nodes meaning slots) (nodes_agree (meant_slots meaning slots) lives) s shows,
+  )
+
   -- a list that got its pairs, and had none, is the content
   pub added_content : (old new : Pairs P) → old ≡ [] → AddsPairs meaning slots root old new → (s : State M) → Shows (table_on (meant_slots meaning slots) lives) root s → IsContent s (mapped meaning new)
   added_content old new none adds s shows =

@@ -1,0 +1,119 @@
+//! One call on a machine without pairs, event by event, and each of the machine's other calls once.
+
+use congee_machine::machine::Machine;
+use congee_map::error::OOMError;
+use congee_node_table::allocator::Budget;
+use congee_protocol::types::{Env, Kind, Op, Outcome, Reply, Seen, StartError};
+use std::alloc::Global;
+use std::test::Fail;
+
+// An event with nothing to take from outside.
+fn plain() -> Env<u64> {
+    let torn = Seen {
+        child: None,
+        count: 0,
+        full: false,
+    };
+    Env {
+        torn,
+        fail: false,
+        answer: None,
+    }
+}
+
+// Whether the call of number 0 makes an event of this kind next, and goes on.
+fn goes_on(machine: &mut Machine<u64, Budget>, kind: Kind) -> bool {
+    let (report, outcome) = machine.step(0, &Op::Get(1), plain());
+    report.kind == kind && matches!(outcome, Outcome::Going)
+}
+
+// Whether it finds nothing then.
+fn finds_nothing(machine: &mut Machine<u64, Budget>) -> bool {
+    let (report, outcome) = machine.step(0, &Op::Get(1), plain());
+    report.kind == Kind::Check && matches!(outcome, Outcome::Decided(Reply::Old(None)))
+}
+
+// Whether it ends then.
+fn ends(machine: &mut Machine<u64, Budget>) -> bool {
+    let (report, outcome) = machine.step(0, &Op::Get(1), plain());
+    report.kind == Kind::Finish && matches!(outcome, Outcome::Done) && !machine.is_in_flight(0)
+}
+
+// A Get of an empty tree takes five events: S T R C F.
+fn gets_nothing(machine: &mut Machine<u64, Budget>) -> bool {
+    machine.start(0, &Op::Get(1)).is_ok()
+        && machine.is_in_flight(0)
+        && goes_on(machine, Kind::Take)
+        && goes_on(machine, Kind::Read)
+        && machine.seen(0).is_some()
+        && finds_nothing(machine)
+        && ends(machine)
+}
+
+// A number whose call hasn't ended starts no other, and another call than the one in flight isn't stepped.
+fn keeps_to_its_call(machine: &mut Machine<u64, Budget>) -> bool {
+    let first = machine.start(3, &Op::Get(1)).is_ok();
+    let second = matches!(machine.start(3, &Op::Get(2)), Err(StartError::InFlight));
+    let (_, outcome) = machine.step(3, &Op::Get(2), plain());
+    first && second && matches!(outcome, Outcome::Unknown)
+}
+
+// The numbers that are seated one after another, and the first once more where it was given back.
+fn seats(machine: &mut Machine<u64, Budget>) -> Result<[u64; 3], OOMError> {
+    let first = machine.seat()?;
+    let second = machine.seat()?;
+    machine.unseat(first);
+    let again = machine.seat()?;
+    Ok([first, second, again])
+}
+
+// How many pairs are told, by their list and by their count.
+fn counts(machine: &Machine<u64, Budget>, alloc: Global) -> Result<(usize, u128), OOMError> {
+    machine.is_well_formed();
+    let pairs = machine.content(alloc)?;
+    Ok((pairs.len(), machine.entry_count()))
+}
+
+fn has_room_for_the_root(alloc: Global, bytes: u64) -> bool {
+    let machine: Result<Machine<u64, Budget>, OOMError> = Machine::new(alloc, Budget::new(bytes));
+    machine.is_ok()
+}
+
+fn get_of_nothing(alloc: Global) -> Result<bool, OOMError> {
+    let mut machine = Machine::new(alloc, Budget::new(2104))?;
+    Ok(gets_nothing(&mut machine) && keeps_to_its_call(&mut machine))
+}
+
+#[test]
+fn a_get_has_five_events(rt: HostRuntime) -> Result<(), Fail> {
+    assert!(rt; get_of_nothing(rt.alloc())?);
+    Ok(())
+}
+
+fn seats_of_a_machine(alloc: Global) -> Result<[u64; 3], OOMError> {
+    let mut machine = Machine::new(alloc, Budget::new(2104))?;
+    seats(&mut machine)
+}
+
+#[test]
+fn seats_are_the_least_numbers(rt: HostRuntime) -> Result<(), Fail> {
+    assert_eq!(rt; seats_of_a_machine(rt.alloc())?, [0, 1, 0]);
+    Ok(())
+}
+
+fn counts_of_a_machine(alloc: Global) -> Result<(usize, u128), OOMError> {
+    let machine = Machine::new(alloc, Budget::new(2104))?;
+    counts(&machine, alloc)
+}
+
+#[test]
+fn nothing_is_stored(rt: HostRuntime) -> Result<(), Fail> {
+    assert_eq!(rt; counts_of_a_machine(rt.alloc())?, (0, 0));
+    Ok(())
+}
+
+#[test]
+fn the_root_is_charged(rt: HostRuntime) {
+    assert!(rt; !has_room_for_the_root(rt.alloc(), 2103));
+    assert!(rt; has_room_for_the_root(rt.alloc(), 2104));
+}

@@ -1,0 +1,151 @@
+//! Whole schedules on the fresh machine, and what their traces say.
+
+use congee_map::error::OOMError;
+use congee_node_table::allocator::Budget;
+use congee_protocol::trace::{Line, Trace};
+use congee_protocol::types::{Env, Event, Kind, Op, Outcome, Reply, Report, Seen};
+use congee_replay::replay::{replay, replay_with};
+use std::alloc::{AllocError, Global};
+use std::test::Fail;
+
+// The letter of what an event did; a dash where it was skipped.
+fn letter(line: &Line) -> char {
+    let Line::Done(report, _, _) = line else {
+        return '-';
+    };
+    match report.kind {
+        Kind::Start => 'S',
+        Kind::Take => 'T',
+        Kind::Check => 'C',
+        Kind::Read => 'R',
+        Kind::Finish => 'F',
+        _ => '?',
+    }
+}
+
+// An event of a number's call, with nothing to take from outside.
+fn plain(id: u64) -> Event<u64> {
+    let torn = Seen {
+        child: None,
+        count: 0,
+        full: false,
+    };
+    Event::Step(
+        id,
+        Env {
+            torn,
+            fail: false,
+            answer: None,
+        },
+    )
+}
+
+// A letter for each line of a trace.
+fn course_of(trace: &Trace, letters: &mut String) -> Result<(), AllocError> {
+    for line in &trace.lines {
+        letters.push(letter(line))?;
+    }
+    Ok(())
+}
+
+// The number of each decided call, and its key if it is a Get that found nothing.
+fn misses_of(trace: &Trace, misses: &mut Vec<(u64, Option<u64>)>) -> Result<(), AllocError> {
+    for decision in &trace.decided {
+        let key = match (&decision.op, &decision.reply) {
+            (Op::Get(key), Reply::Old(None)) => Some(*key),
+            _ => None,
+        };
+        misses.push((decision.id, key))?;
+    }
+    Ok(())
+}
+
+// Two Gets in turn, with events that aren't enabled between theirs.
+fn two_gets() -> [Event<u64>; 13] {
+    [
+        Event::Start(7, Op::Get(1)),
+        Event::Start(7, Op::Get(2)),
+        plain(8),
+        plain(7),
+        Event::Start(8, Op::Get(256)),
+        plain(8),
+        plain(7),
+        Event::Reclaim(0),
+        plain(7),
+        plain(8),
+        plain(7),
+        plain(7),
+        plain(8),
+    ]
+}
+
+// What the trace of these events has: a letter a line, the misses, and how many pairs stand at the end.
+fn told(
+    alloc: Global,
+    events: &[Event<u64>],
+    letters: &mut String,
+    misses: &mut Vec<(u64, Option<u64>)>,
+) -> Result<usize, OOMError> {
+    let trace = replay(alloc, events)?;
+    course_of(&trace, letters)?;
+    misses_of(&trace, misses)?;
+    Ok(trace.content.len())
+}
+
+// Whether the trace of the two Gets is so.
+fn is_course_of_two(
+    alloc: Global,
+    course: &str,
+    decided: &[(u64, Option<u64>)],
+) -> Result<bool, OOMError> {
+    let mut letters = String::new(alloc);
+    let mut misses = Vec::new(alloc);
+    let pairs = told(alloc, &two_gets(), &mut letters, &mut misses)?;
+    Ok(pairs == 0 && letters.as_str() == course && misses.as_slice() == decided)
+}
+
+#[test]
+fn two_gets_of_an_empty_tree(rt: HostRuntime) -> Result<(), Fail> {
+    let decided: [(u64, Option<u64>); 2] = [(7, Some(1)), (8, Some(256))];
+    assert!(rt; is_course_of_two(rt.alloc(), "S--TSTR-CRF-C", &decided)?);
+    Ok(())
+}
+
+// Whether the second and the third line are those of a Take of the root and of a Read that saw nothing there.
+fn has_read_nothing(trace: &Trace) -> bool {
+    let taken = Report {
+        kind: Kind::Take,
+        slot: Some(0),
+        word: 0,
+        ok: true,
+    };
+    match (trace.lines.get(1), trace.lines.get(2)) {
+        (
+            Some(Line::Done(take, Outcome::Going, None)),
+            Some(Line::Done(_, Outcome::Going, Some(seen))),
+        ) => *take == taken && seen.child.is_none() && seen.count == 0 && !seen.full,
+        _ => false,
+    }
+}
+
+fn reads_nothing(alloc: Global) -> Result<bool, OOMError> {
+    let events = [Event::Start(0, Op::Get(1)), plain(0), plain(0)];
+    let trace = replay_with(alloc, Budget::new(2104), &events)?;
+    Ok(has_read_nothing(&trace))
+}
+
+#[test]
+fn a_read_tells_what_it_saw(rt: HostRuntime) -> Result<(), Fail> {
+    assert!(rt; reads_nothing(rt.alloc())?);
+    Ok(())
+}
+
+// Whether a budget of so many bytes has no room for the root.
+fn is_too_small(alloc: Global, bytes: u64) -> bool {
+    replay_with(alloc, Budget::new(bytes), &[plain(0)]).is_err()
+}
+
+#[test]
+fn a_budget_without_room_for_the_root(rt: HostRuntime) {
+    assert!(rt; is_too_small(rt.alloc(), 2103));
+}
