@@ -7,7 +7,7 @@ use Rattle.congee_map.proofs.ByteMapLaws.{length-put_new, length-without_present
 use Rattle.congee_protocol.specs.Calls.{bytes_of}
 use Rattle.congee_protocol.specs.Content.{IsContent}
 use Rattle.congee_protocol.specs.State.{State}
-use Rattle.congee_store.specs.inner.Facts.{IsPlaced, Keeps}
+use Rattle.congee_store.specs.inner.Tables.{IsPlaced, Keeps}
 use Rattle.congee_store.specs.inner.Turns.{Shows}
 use Rattle.congee_store.specs.inner.World.{Table}
 use Rattle.congee_store.proofs.Reaching.{keeps_stands, stands_keeps}

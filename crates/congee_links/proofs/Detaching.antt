@@ -6,7 +6,7 @@ use Rattle.congee_node_table.specs.declared.child.Child.{Child}
 use Rattle.congee_node_table.specs.declared.child.Child.TheVariants.{Payload, Node as below_at}
 use Rattle.congee_protocol.specs.Calls.{bytes_of}
 use Rattle.congee_store.specs.inner.World.{Node, Table, entry}
-use Rattle.congee_store.specs.inner.Facts.{byte_at, IsPlaced, NeedsHolder}
+use Rattle.congee_store.specs.inner.Tables.{byte_at, IsPlaced, NeedsHolder}
 use Rattle.congee_links.proofs.Below.{Inside, head_inside}
 use Rattle.congee_links.proofs.Effects.{OthersStay, Effect, effect}
 use Rattle.congee_links.proofs.Pairs.{SamePairs, TakesPair, OtherPays, same_pairs, takes_pair}

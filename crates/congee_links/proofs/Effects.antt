@@ -2,7 +2,7 @@
 use Rattle.std.proofs.Common.{◌≡◌, ◌≢◌, ℕ, List, [], ◌∷◌, ◌⊎◌, inl, inr, sym, subst, ap, ◌∙◌}
 use Rattle.std.proofs.lemmas.Bool.Decides.{eqb_tells}
 use Rattle.congee_store.specs.inner.World.{Table}
-use Rattle.congee_store.specs.inner.Facts.{IsIn, IsPlaced, Guarantees, PrivateStays, NeedsHolder}
+use Rattle.congee_store.specs.inner.Tables.{IsIn, IsPlaced, Guarantees, PrivateStays, NeedsHolder}
 use Rattle.congee_links.proofs.Trees.{Tree, IsTree, Pays, linked_in, tree_of, placed_tree, tree_placed, placed_worded, tree_same}
 use Rattle.congee_links.proofs.Pairs.{SamePairs, same_pairs}
 use Rattle.congee_links.proofs.Slots.{StepsAt, untouched}

@@ -2,7 +2,7 @@
 use Rattle.std.proofs.Common.{◌≡◌, ℕ, ◌<◌, List, [], ◌∷◌, Some, None, inl, inr, refl, sym, subst, ap, ◌∙◌}
 use Rattle.congee_sync.specs.Lock.{IsFree}
 use Rattle.congee_store.specs.inner.World.{is_private, is_retired, Node, Table}
-use Rattle.congee_store.specs.inner.Facts.{IsIn, IsPlaced, NeedsHolder}
+use Rattle.congee_store.specs.inner.Tables.{IsIn, IsPlaced, NeedsHolder}
 use Rattle.congee_store.proofs.Options.{some_same, none_some}
 use Rattle.congee_links.proofs.Effects.{AllIn, all_of, OthersStay, Effect, SameTree, same_tree_effect, same_tree_pairs}
 use Rattle.congee_links.proofs.Pairs.{SamePairs}

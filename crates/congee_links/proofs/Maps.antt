@@ -5,7 +5,7 @@ use Rattle.congee_map.specs.Map.{Pairs, IsMap, lookup, put, without}
 use Rattle.congee_map.proofs.MapLaws.{lookup-put_same, lookup-put_other, Rises-put, lookup-without_same, lookup-without_other, Rises-without}
 use Rattle.congee_protocol.specs.Calls.{bytes_of}
 use Rattle.congee_store.specs.inner.World.{Table}
-use Rattle.congee_store.specs.inner.Facts.{IsPlaced, Keeps}
+use Rattle.congee_store.specs.inner.Tables.{IsPlaced, Keeps}
 use Rattle.congee_store.proofs.Options.{some_same, none_some}
 use Rattle.congee_links.proofs.Pairs.{SamePairs, PutsPair, TakesPair, kept_once}
 

@@ -5,7 +5,7 @@ use Rattle.congee_node_table.specs.declared.child.Child.{Child}
 use Rattle.congee_node_table.specs.declared.child.Child.TheVariants.{Payload, Node as below_at}
 use Rattle.congee_protocol.specs.Calls.{bytes_of}
 use Rattle.congee_store.specs.inner.World.{Table}
-use Rattle.congee_store.specs.inner.Facts.{IsPlaced, Keeps}
+use Rattle.congee_store.specs.inner.Tables.{IsPlaced, Keeps}
 use Rattle.congee_store.proofs.Options.{some_same}
 use Rattle.congee_store.proofs.Ways.{toward_leaf, leaf_entry}
 use Rattle.congee_links.proofs.Prefixes.{same_key, same_beginning}

@@ -2,7 +2,7 @@
 use Rattle.std.proofs.Common.{◌≡◌, ℕ, ◌<◌, ◌≤◌, Option, Some, None, ◌⊎◌, inl, inr, refl, sym, subst, ap, ◌∙◌, arith}
 use Rattle.congee_sync.specs.Lock.{IsFree, IsLocked, IsObsolete}
 use Rattle.congee_store.specs.inner.World.{is_private, is_linked, is_detached, is_retired, Node, Table}
-use Rattle.congee_store.specs.inner.Facts.{IsSafe, Kept, Remains, NeedsHolder}
+use Rattle.congee_store.specs.inner.Tables.{IsSafe, Kept, Remains, NeedsHolder}
 use Rattle.congee_store.proofs.Options.{some_same, none_some}
 use Rattle.congee_links.proofs.Trees.{IsWorded}
 

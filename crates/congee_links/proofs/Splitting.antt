@@ -12,7 +12,7 @@ use Rattle.congee_node_table.proofs.BeginLaws.{after}
 use Rattle.congee_node_table.proofs.KeyLaws.{AreBytes-append_left}
 use Rattle.congee_protocol.specs.Calls.{bytes_of}
 use Rattle.congee_store.specs.inner.World.{Node, Table, entry}
-use Rattle.congee_store.specs.inner.Facts.{byte_at, IsLinked, IsPlaced, NeedsHolder}
+use Rattle.congee_store.specs.inner.Tables.{byte_at, IsLinked, IsPlaced, NeedsHolder}
 use Rattle.congee_store.proofs.Options.{none_some, some_same}
 use Rattle.congee_links.proofs.Below.{Inside, ChangesChild}
 use Rattle.congee_links.proofs.Effects.{OthersStay, Effect, effect}

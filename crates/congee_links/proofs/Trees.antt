@@ -8,7 +8,7 @@ use Rattle.congee_node_table.specs.TableNode.{TableNode}
 use Rattle.congee_node_table.specs.declared.child.Child.TheVariants.{Payload, Node as below_at}
 use Rattle.congee_sync.specs.Lock.{IsFree, IsLocked, IsObsolete}
 use Rattle.congee_store.specs.inner.World.{Standing, is_private, is_linked, is_detached, is_retired, Node, Table}
-use Rattle.congee_store.specs.inner.Facts.{IsLinked, IsBelow, IsPlaced, Keeps}
+use Rattle.congee_store.specs.inner.Tables.{IsLinked, IsBelow, IsPlaced, Keeps}
 
 -- the linked node in each slot
 abbrev pub Tree : Type 0 → Type 0

@@ -2,7 +2,7 @@
 use Rattle.std.proofs.Common.{◌≡◌, ℕ, suc, ◌+◌, ◌≤◌, [], ◌∷◌, Option, Some, None, inl, inr, refl, sym, subst, ap, ◌∙◌, arith}
 use Rattle.congee_sync.specs.Lock.{IsFree, IsLocked, IsObsolete}
 use Rattle.congee_store.specs.inner.World.{is_private, is_linked, is_detached, is_retired, Node, Table}
-use Rattle.congee_store.specs.inner.Facts.{IsSafe, IsLinked, IsPlaced, NeedsHolder}
+use Rattle.congee_store.specs.inner.Tables.{IsSafe, IsLinked, IsPlaced, NeedsHolder}
 use Rattle.congee_links.proofs.Effects.{OthersStay, Effect, SameTree, same_tree_effect, same_tree_pairs}
 use Rattle.congee_links.proofs.Pairs.{SamePairs}
 use Rattle.congee_links.proofs.Slots.{changes, worded_here, free_obsolete, unretired, linked_private, linked_retired, detached_private, detached_retired, free_needs, retired_needs}

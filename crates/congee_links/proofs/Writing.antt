@@ -13,7 +13,7 @@ use Rattle.congee_node_table.proofs.KeyLaws.{AreBytes-append_left}
 use Rattle.congee_protocol.specs.Calls.{bytes_of}
 use Rattle.congee_sync.specs.Lock.{IsFree, IsLocked, IsObsolete}
 use Rattle.congee_store.specs.inner.World.{is_private, is_linked, is_detached, Node, Table, entry}
-use Rattle.congee_store.specs.inner.Facts.{IsSafe, byte_at, IsLinked, IsPlaced, NeedsHolder}
+use Rattle.congee_store.specs.inner.Tables.{IsSafe, byte_at, IsLinked, IsPlaced, NeedsHolder}
 use Rattle.congee_store.proofs.Options.{some_same, none_some}
 use Rattle.congee_links.proofs.Below.{ChangesChild}
 use Rattle.congee_links.proofs.Effects.{OthersStay, AllIn, all_in, in_or}

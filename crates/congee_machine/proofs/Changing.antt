@@ -7,7 +7,8 @@ use Rattle.congee_protocol.specs.Seats.{IsReseated}
 use Rattle.congee_sync.specs.Epoch.{PinsView, ChangesSeat, entry_at, pin_of, is_seated}
 use Rattle.congee_store.specs.declared.stage.Record.{Record}
 use Rattle.congee_store.specs.declared.stage.Stage.{Stage}
-use Rattle.congee_store.specs.inner.Facts.{Facts, Holding, IsPlaced, IsSound, NeedsHolder}
+use Rattle.congee_store.specs.inner.Tables.{IsPlaced, NeedsHolder}
+use Rattle.congee_store.specs.inner.Facts.{Facts, Holding, IsSound}
 use Rattle.congee_store.specs.inner.Places.{ChangesPlace}
 use Rattle.congee_store.specs.inner.Shown.{nodes_from, flight_in, seats_on, state_of}
 use Rattle.congee_store.specs.inner.World.{World, table_on, table_of, record_in, call_of}

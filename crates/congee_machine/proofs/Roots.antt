@@ -21,7 +21,8 @@ use Rattle.congee_sync.specs.Lock.{IsLocked, IsObsolete}
 use Rattle.congee_store.specs.declared.stage.Place.TheVariants.{Linked}
 use Rattle.congee_store.specs.declared.stage.Record.{Record}
 use Rattle.congee_store.specs.declared.stage.Stored.{Stored}
-use Rattle.congee_store.specs.inner.Facts.{IsPlaced, IsSound, NeedsHolder, sizes_of}
+use Rattle.congee_store.specs.inner.Tables.{IsPlaced, NeedsHolder}
+use Rattle.congee_store.specs.inner.Facts.{IsSound, sizes_of}
 use Rattle.congee_store.specs.inner.Meant.{meant_node, meant_slots, meant_stored, meant_world}
 use Rattle.congee_store.specs.inner.Shown.{shown, state_of}
 use Rattle.congee_store.specs.inner.World.{World, Node, Table, entry, is_linked, is_private, is_retired, node_of}

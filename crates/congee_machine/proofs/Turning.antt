@@ -16,7 +16,8 @@ use Rattle.congee_sync.specs.Epoch.{PinsView, ChangesSeat, pin_of, is_seated}
 use Rattle.congee_store.specs.declared.stage.Record.{Record}
 use Rattle.congee_store.specs.declared.stage.Stage.{Stage}
 use Rattle.congee_store.specs.declared.stage.Stage.TheVariants.{Finish}
-use Rattle.congee_store.specs.inner.Facts.{Facts, FactsAt, Guarantees, Holding, IsSound}
+use Rattle.congee_store.specs.inner.Tables.{Guarantees}
+use Rattle.congee_store.specs.inner.Facts.{Facts, FactsAt, Holding, IsSound}
 use Rattle.congee_store.specs.inner.Places.{ChangesPlace}
 use Rattle.congee_store.specs.inner.Shown.{flight, flight_in, state_of}
 use Rattle.congee_store.specs.inner.Turns.{IsAdvance, IsBegun, IsCourse, IsRead, IsTurn}

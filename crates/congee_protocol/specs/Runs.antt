@@ -19,7 +19,7 @@ use Rattle.congee_protocol.specs.declared.types.Kind.TheVariants as kind
 use Rattle.congee_protocol.specs.declared.types.Kind.{Kind}
 use Rattle.congee_protocol.specs.declared.types.Asking.{Asking}
 use Rattle.congee_protocol.specs.declared.types.Op.{Op}
-use Rattle.congee_protocol.specs.declared.types.Op.TheVariants.{Get}
+use Rattle.congee_protocol.specs.declared.types.Op.TheVariants.{Get, Insert}
 use Rattle.congee_protocol.specs.declared.types.Reply.{Reply}
 use Rattle.congee_protocol.specs.declared.types.Outcome.{Outcome}
 use Rattle.congee_protocol.specs.declared.types.Outcome.TheVariants.{Going, Decided}
@@ -39,6 +39,7 @@ module _ {M : Type 0} where
   -- The events that are served so far; a schedule's others are skipped.
   abbrev pub IsServed : Event M → Type 0
   IsServed (Start id (Get k)) = Unit {0}
+  IsServed (Start id (Insert k v)) = Unit {0}
   IsServed (Start id op) = ⊥
   IsServed (Step id env) = Unit {0}
   IsServed (Reclaim slot) = ⊥

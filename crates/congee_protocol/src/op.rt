@@ -27,7 +27,7 @@ impl<P> Op<P> {
         ensures { (id : ℕ) → IsTrue result ↔ IsServed (event.Start id self.now) }
     {
         match self {
-            Op::Get(_) => true,
+            Op::Get(_) | Op::Insert(..) => true,
             _ => false,
         }
     }

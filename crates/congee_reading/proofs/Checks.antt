@@ -24,7 +24,9 @@ use Rattle.congee_store.specs.declared.stage.Spot.{Spot}
 use Rattle.congee_store.specs.declared.stage.Stage.{Stage}
 use Rattle.congee_store.specs.declared.stage.Stage.TheVariants.{TakeRoot, Read, Check, TakeBelow, CheckAbove, Finish}
 use Rattle.congee_store.specs.declared.stage.Task.{Task}
-use Rattle.congee_store.specs.inner.Facts.{IsPlaced, IsFreshly, IsIn, Facts, Agrees, Saw, SawNode, LedTo, OnPath, Sees, byte_at, key_bytes, named_at}
+use Rattle.congee_store.specs.inner.Tables.{IsPlaced, IsIn, LedTo, OnPath, byte_at}
+use Rattle.congee_store.specs.inner.Tasks.{IsFreshly, Agrees, Saw, SawNode, Sees, key_bytes}
+use Rattle.congee_store.specs.inner.Facts.{Facts, named_at}
 use Rattle.congee_store.specs.inner.Shown.{flight, spots_of}
 use Rattle.congee_store.specs.inner.Turns.{IsRead, IsServedCall, MayFollow, Shows, work}
 use Rattle.congee_store.specs.inner.World.{Node, Table, entry}

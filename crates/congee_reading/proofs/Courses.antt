@@ -5,7 +5,7 @@ use Rattle.congee_map.specs.Map.{lookup, put}
 use Rattle.congee_store.specs.declared.stage.Path.{Path}
 use Rattle.congee_store.specs.declared.stage.Stage.{Stage}
 use Rattle.congee_store.specs.declared.stage.Stage.TheVariants.{TakeBelow}
-use Rattle.congee_store.specs.inner.Facts.{byte_at, IsLinked, IsBelow, IsPlaced, LedTo, OnPath}
+use Rattle.congee_store.specs.inner.Tables.{byte_at, IsLinked, IsBelow, IsPlaced, LedTo, OnPath}
 use Rattle.congee_store.specs.inner.Shown.{spots_of}
 use Rattle.congee_store.specs.inner.Turns.{depth_in, IsCurrent, NoneHeld}
 use Rattle.congee_store.specs.inner.World.{Node, Table, is_linked, is_retired}

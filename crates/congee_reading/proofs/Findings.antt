@@ -4,7 +4,7 @@ use Rattle.congee_node_table.specs.declared.child.Child.TheVariants as child
 use Rattle.congee_protocol.specs.Calls.{Outline}
 use Rattle.congee_protocol.specs.Meaning.{in_some, child_of, seen_of}
 use Rattle.congee_protocol.specs.declared.types.Seen.{Seen}
-use Rattle.congee_store.specs.inner.Facts.{SawNode}
+use Rattle.congee_store.specs.inner.Tasks.{SawNode}
 use Rattle.congee_store.specs.inner.Turns.{IsServedCall}
 use Rattle.congee_store.proofs.Options.{none_some, some_same}
 use Rattle.congee_reading.specs.inner.Found.{IsFollowed, IsFound}

@@ -22,7 +22,9 @@ use Rattle.congee_store.specs.declared.stage.Path.{Path}
 use Rattle.congee_store.specs.declared.stage.Record.{Record}
 use Rattle.congee_store.specs.declared.stage.Stage.TheVariants.{Read, Check}
 use Rattle.congee_store.specs.declared.stage.Task.{Task}
-use Rattle.congee_store.specs.inner.Facts.{IsPlaced, Facts, Agrees}
+use Rattle.congee_store.specs.inner.Tables.{IsPlaced}
+use Rattle.congee_store.specs.inner.Tasks.{Agrees}
+use Rattle.congee_store.specs.inner.Facts.{Facts}
 use Rattle.congee_store.specs.inner.Meant.{meant_node}
 use Rattle.congee_store.specs.inner.Shown.{flight}
 use Rattle.congee_store.specs.inner.Turns.{IsRead}

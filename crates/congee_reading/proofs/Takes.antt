@@ -17,7 +17,9 @@ use Rattle.congee_store.specs.declared.stage.Spot.{Spot}
 use Rattle.congee_store.specs.declared.stage.Stage.{Stage}
 use Rattle.congee_store.specs.declared.stage.Stage.TheVariants.{TakeRoot, Read, TakeBelow, CheckAbove}
 use Rattle.congee_store.specs.declared.stage.Task.{Task}
-use Rattle.congee_store.specs.inner.Facts.{IsSafe, IsPlaced, IsThere, IsFreshly, IsIn, Facts, key_bytes, named_at}
+use Rattle.congee_store.specs.inner.Tables.{IsSafe, IsPlaced, IsThere, IsIn}
+use Rattle.congee_store.specs.inner.Tasks.{IsFreshly, key_bytes}
+use Rattle.congee_store.specs.inner.Facts.{Facts, named_at}
 use Rattle.congee_store.specs.inner.Shown.{flight}
 use Rattle.congee_store.specs.inner.Turns.{IsCurrent, IsRead, NoneHeld, Shows}
 use Rattle.congee_store.specs.inner.World.{Node, Standing, Table, is_linked}

@@ -3,14 +3,14 @@
 ghost use Rattle.std.specs.Prelude.{◌≡◌, Some, None, true};
 ghost use Rattle.congee_protocol.specs.Kinds.{report_of};
 ghost use Rattle.congee_protocol.specs.Meaning.{env_of, in_some, outcome_of};
-ghost use Rattle.congee_store.specs.inner.Facts.{IsPlaced};
+ghost use Rattle.congee_store.specs.inner.Tables.{IsPlaced};
 ghost use Rattle.congee_store.specs.inner.Meant.{meant_record, meant_table};
 ghost use Rattle.congee_store.specs.inner.Turns.{IsAdvance};
 ghost use Rattle.congee_reading.specs.inner.Reads.{Knows};
 
 use crate::checking::{check, check_above, check_still, is_point};
 use crate::looking::read;
-use crate::stepped::Stepped;
+use congee_store::stepped::Stepped;
 use crate::taking::{take_below, take_root};
 use congee_protocol::payload::HasMeaning;
 use congee_protocol::types::{Env, Kind, Outcome, Report};

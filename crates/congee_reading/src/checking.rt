@@ -3,13 +3,13 @@
 ghost use Rattle.std.specs.Prelude.{◌↔◌, IsTrue};
 ghost use Rattle.congee_protocol.specs.Calls.{IsPoint};
 ghost use Rattle.congee_protocol.specs.declared.types.Env.{Env};
-ghost use Rattle.congee_store.specs.inner.Facts.{IsPlaced};
+ghost use Rattle.congee_store.specs.inner.Tables.{IsPlaced};
 ghost use Rattle.congee_store.specs.inner.Meant.{meant_table};
 ghost use Rattle.congee_store.specs.inner.Turns.{IsServedCall};
 ghost use Rattle.congee_reading.specs.inner.Found.{IsFollowed, IsFound};
 ghost use Rattle.congee_reading.specs.inner.Reads.{Knows, Reads};
 
-use crate::stepped::{
+use congee_store::stepped::{
     Stepped, decided_absent, decided_present, going, node_at, report, restarted, stands,
 };
 use congee_node_table::child::Child;

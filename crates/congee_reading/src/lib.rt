@@ -7,5 +7,4 @@
 pub mod advance;
 mod checking;
 mod looking;
-mod stepped;
 mod taking;

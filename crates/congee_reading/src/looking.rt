@@ -8,12 +8,12 @@ ghost use Rattle.congee_protocol.specs.Calls.{IsPoint, bytes_of};
 ghost use Rattle.congee_protocol.specs.Local.{SharesNone, payload_in};
 ghost use Rattle.congee_protocol.specs.Meaning.{in_some, child_of, seen_of, outcome_of};
 ghost use Rattle.congee_protocol.specs.declared.types.Env.{Env};
-ghost use Rattle.congee_store.specs.inner.Facts.{IsPlaced};
+ghost use Rattle.congee_store.specs.inner.Tables.{IsPlaced};
 ghost use Rattle.congee_store.specs.inner.Meant.{meant_node, meant_record, meant_table, meant_task};
 ghost use Rattle.congee_reading.specs.inner.Looked.{HasPayload, IsFull, IsLooking, IsUnseen, IsWholeRead};
 ghost use Rattle.congee_reading.specs.inner.Reads.{Knows, Reads};
 
-use crate::stepped::{Stepped, node_at, refused, report, saw, stands};
+use congee_store::stepped::{Stepped, node_at, refused, report, saw, stands};
 use congee_map::error::OOMError;
 use congee_node_table::child::{Child, ChildRef};
 use congee_node_table::tree_node::TreeNode;

@@ -4,11 +4,11 @@ ghost use Rattle.std.specs.Prelude.{◌↔◌, IsTrue};
 ghost use Rattle.congee_node_table.specs.Key.{Begins};
 ghost use Rattle.congee_protocol.specs.Calls.{bytes_of};
 ghost use Rattle.congee_protocol.specs.declared.types.Env.{Env};
-ghost use Rattle.congee_store.specs.inner.Facts.{IsPlaced};
+ghost use Rattle.congee_store.specs.inner.Tables.{IsPlaced};
 ghost use Rattle.congee_store.specs.inner.Meant.{meant_table};
 ghost use Rattle.congee_reading.specs.inner.Reads.{Knows, Reads};
 
-use crate::stepped::{Stepped, going, node_at, report, restarted};
+use congee_store::stepped::{Stepped, going, node_at, report, restarted};
 use congee_node_table::tree_node::TreeNode;
 use congee_protocol::payload::HasMeaning;
 use congee_protocol::types::Kind;

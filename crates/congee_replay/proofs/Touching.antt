@@ -27,7 +27,9 @@ use Rattle.congee_store.specs.declared.stage.Record.{Record}
 use Rattle.congee_store.specs.declared.stage.Spot.{Spot}
 use Rattle.congee_store.specs.declared.stage.Stage.{Stage}
 use Rattle.congee_store.specs.declared.stage.Stage.TheVariants.{TakeRoot, Read, Check, TakeBelow, CheckAbove, Finish}
-use Rattle.congee_store.specs.inner.Facts.{IsIn, above_slots, path_slots, named_at, IsBelow, IsPlaced, IsSafe, Known, IsThere, CameFrom, OnPath, Guarantees, SawNode, Saw, Facts, FactsAt, IsSound}
+use Rattle.congee_store.specs.inner.Tables.{IsIn, IsBelow, IsPlaced, IsSafe, Known, IsThere, CameFrom, OnPath, Guarantees}
+use Rattle.congee_store.specs.inner.Tasks.{SawNode, Saw}
+use Rattle.congee_store.specs.inner.Facts.{above_slots, path_slots, named_at, Facts, FactsAt, IsSound}
 use Rattle.congee_store.specs.inner.Shown.{shown, flight, state_of}
 use Rattle.congee_store.specs.inner.Turns.{Stays, MayFollow, IsCourse, IsTurn}
 use Rattle.congee_store.specs.inner.World.{World, Node, Table, table_of, entry, call_of}

@@ -22,7 +22,8 @@ use Rattle.congee_sync.specs.Epoch.{entry_at, pin_of}
 use Rattle.congee_sync.specs.declared.epoch.Life.{Life}
 use Rattle.congee_store.specs.declared.stage.Record.{Record}
 use Rattle.congee_store.specs.declared.stage.Stored.{Stored}
-use Rattle.congee_store.specs.inner.Facts.{byte_at, IsLinked, IsBelow, IsPlaced, Holding, IsSound, sizes_of}
+use Rattle.congee_store.specs.inner.Tables.{byte_at, IsLinked, IsBelow, IsPlaced}
+use Rattle.congee_store.specs.inner.Facts.{Holding, IsSound, sizes_of}
 use Rattle.congee_store.specs.inner.Shown.{publicity, shown, nodes_from, flight, flight_in, held_at, made_at, state_of}
 use Rattle.congee_store.specs.inner.Turns.{Shows}
 use Rattle.congee_store.specs.inner.World.{World, Standing, is_private, is_linked, is_detached, is_retired, Node, Table, node_of, table_of, entry, call_of}

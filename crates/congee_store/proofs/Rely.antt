@@ -8,7 +8,9 @@ use Rattle.congee_sync.specs.Lock.{IsFree}
 use Rattle.congee_protocol.specs.Calls.{key_of}
 use Rattle.congee_protocol.specs.Reading.{IsReading, child_for}
 use Rattle.congee_protocol.specs.declared.types.Seen.{Seen}
-use Rattle.congee_store.specs.inner.Facts.{IsSafe, Known, IsThere, OnWay, LedTo, CameFrom, OnPath, TestOf, Guarantees, Remains, Sees, Agrees, Saw, FactsAt, Facts, key_bytes}
+use Rattle.congee_store.specs.inner.Tables.{IsSafe, Known, IsThere, OnWay, LedTo, CameFrom, OnPath, TestOf, Guarantees, Remains}
+use Rattle.congee_store.specs.inner.Tasks.{Sees, Agrees, Saw, key_bytes}
+use Rattle.congee_store.specs.inner.Facts.{FactsAt, Facts}
 use Rattle.congee_store.specs.inner.Shown.{flight}
 use Rattle.congee_store.specs.inner.World.{Node, Table}
 use Rattle.congee_store.specs.declared.stage.Path.{Path}

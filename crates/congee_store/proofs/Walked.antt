@@ -16,7 +16,7 @@ use Rattle.congee_protocol.specs.State.{State}
 use Rattle.congee_sync.specs.Epoch.{entry_at}
 use Rattle.congee_sync.specs.declared.epoch.Life.{Life}
 use Rattle.congee_store.specs.declared.stage.Stored.{Stored}
-use Rattle.congee_store.specs.inner.Facts.{byte_at, IsLinked, IsBelow, IsPlaced, Keeps}
+use Rattle.congee_store.specs.inner.Tables.{byte_at, IsLinked, IsBelow, IsPlaced, Keeps}
 use Rattle.congee_store.specs.inner.Meant.{meant_slots}
 use Rattle.congee_store.specs.inner.Turns.{Shows}
 use Rattle.congee_store.specs.inner.Walks.{nodes_on, meant_nodes, IsTop, AddsPairs}

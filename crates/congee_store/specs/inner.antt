@@ -2,9 +2,13 @@ pub mod World
 pub mod Meant
 pub mod Places
 pub mod Shown
+pub mod Tables
+pub mod Tasks
+pub mod Tails
+pub mod TailFacts
 pub mod Facts
 pub mod Turns
 pub mod Walks
-pub mod Tails
-pub mod TailFacts
 pub mod Moves
+pub mod Slots
+pub mod Stocks

@@ -7,5 +7,7 @@
 pub mod calls;
 pub mod content;
 pub mod stage;
+pub mod stepped;
+pub mod stock;
 pub mod store;
 pub mod tail;

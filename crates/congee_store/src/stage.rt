@@ -1,5 +1,6 @@
 //! A call in flight: what it does next, and what it remembers.
 
+use crate::tail::Tail;
 use congee_node_table::tree_node::TreeNode;
 use congee_protocol::types::{Asking, Op, Progress, Seen};
 use congee_sync::lock::Word64;
@@ -49,6 +50,8 @@ pub enum Stage {
     TakeBelow(Path, usize),
     /// The node that was taken, and whether its prefix begins the key.
     CheckAbove(Path, Spot, bool),
+    /// Its Check has found that it has to write.
+    Tail(Tail),
     Finish,
 }
 

@@ -1,12 +1,22 @@
 //! The nodes in their slots, and the changes that events make there.
 
-ghost use Rattle.std.specs.Prelude.{◌≡◌, ◌≢◌, ℕ, Some, IsSome, length};
+ghost use Rattle.std.specs.Prelude.{◌≡◌, ◌≢◌, ◌+◌, ℕ, None, Some, IsSome, IfOk, OnErr, length, ◌⊎◌};
 ghost use Rattle.slab.specs.Slab.{get};
-ghost use Rattle.congee_store.specs.inner.Facts.{sizes_of};
-ghost use Rattle.congee_store.specs.inner.Meant.{meant_table};
-ghost use Rattle.congee_store.specs.inner.World.{Node};
+ghost use Rattle.congee_base.specs.Form.{Fits, stated_size};
+ghost use Rattle.congee_map.specs.Map.{lookup, put};
+ghost use Rattle.congee_node_table.specs.TableNode.{MayHave};
+ghost use Rattle.congee_protocol.specs.Meaning.{child_of, in_some};
+ghost use Rattle.congee_store.specs.inner.Facts.{sizes_of, AllAdmitted};
+ghost use Rattle.congee_store.specs.inner.Meant.{meant_node, meant_stored, meant_table};
+ghost use Rattle.congee_store.specs.inner.Slots.{SetsNode, made_node};
+ghost use Rattle.congee_store.specs.inner.World.{Node, entry, is_detached, is_linked, is_private, is_retired};
+ghost use Rattle.congee_sync.specs.Epoch.{count_after, stamp_at};
+ghost use Rattle.congee_sync.specs.Lock.{IsLocked, IsObsolete};
 
-use crate::stage::Stored;
+use crate::stage::{Place, Stored};
+use congee_map::error::OOMError;
+use congee_node_table::child::Child;
+use congee_node_table::tree_node::TreeNode;
 use congee_protocol::payload::HasMeaning;
 use congee_sync::epoch::Pins;
 use congee_sync::lock::Word64;
@@ -36,5 +46,123 @@ impl<P: HasMeaning> Store<P> {
             unreachable!()
         };
         node.word = word;
+    }
+
+    /// Links a private node.
+    pub fn publish(&mut self, slot: usize)
+        requires { (a : Node P.Meaning) × (meant_table P.meaning self.old slot ≡ Some a) }
+        ensures sets { (a : Node P.Meaning) → meant_table P.meaning self.old slot ≡ Some a
+            → SetsNode P.meaning self.old self.new slot (Some (record a { standing = is_linked })) }
+        ensures sizes { sizes_of self.new.nodes.slots ≡ sizes_of self.old.nodes.slots }
+        ensures lives { self.new.pins ≡ self.old.pins }
+    {
+        let Some(node) = self.nodes.get_mut(slot) else {
+            unreachable!()
+        };
+        node.place = Place::Linked;
+    }
+
+    /// Takes a linked node out of the tree.
+    pub fn detach(&mut self, slot: usize)
+        requires { (a : Node P.Meaning) × (meant_table P.meaning self.old slot ≡ Some a) }
+        ensures sets { (a : Node P.Meaning) → meant_table P.meaning self.old slot ≡ Some a
+            → SetsNode P.meaning self.old self.new slot (Some (record a { standing = is_detached })) }
+        ensures sizes { sizes_of self.new.nodes.slots ≡ sizes_of self.old.nodes.slots }
+        ensures lives { self.new.pins ≡ self.old.pins }
+    {
+        let Some(node) = self.nodes.get_mut(slot) else {
+            unreachable!()
+        };
+        node.place = Place::Detached;
+    }
+
+    /// Puts a child under a byte of a node, and returns the one that stood there.
+    pub fn put_child(&mut self, slot: usize, byte: u8, child: Child<P>) -> Option<Child<P>>
+        requires { (a : Node P.Meaning) × (meant_table P.meaning self.old slot ≡ Some a)
+            × MayHave a.node.prefix (child_of P.meaning child)
+            × (lookup a.node.children byte ≡ None → Fits a.node.form (length a.node.children + 1)) }
+        ensures sets { (a : Node P.Meaning) → meant_table P.meaning self.old slot ≡ Some a
+            → SetsNode P.meaning self.old self.new slot (Some (record a { node = record a.node {
+              children = put a.node.children byte (child_of P.meaning child);
+            } })) }
+        ensures before { (a : Node P.Meaning) → meant_table P.meaning self.old slot ≡ Some a
+            → in_some (child_of P.meaning) result ≡ entry a byte }
+        ensures sizes { sizes_of self.new.nodes.slots ≡ sizes_of self.old.nodes.slots }
+        ensures lives { self.new.pins ≡ self.old.pins }
+    {
+        let Some(node) = self.nodes.get_mut(slot) else {
+            unreachable!()
+        };
+        if node.node.get_child(byte).is_some() {
+            return Some(node.node.change(byte, child));
+        }
+        node.node.insert(byte, child);
+        None
+    }
+
+    /// Puts a new node into a free slot, where only its call knows of it. A refusal for want of memory changes nothing.
+    pub fn add(&mut self, node: TreeNode<P>) -> Result<usize, OOMError>
+        requires { AllAdmitted (meant_table P.meaning self.old) self.old.pins.slots }
+        ensures free { IfOk result (λ slot. meant_table P.meaning self.old slot ≡ None) }
+        ensures sets { IfOk result (λ slot. SetsNode P.meaning self.old self.new slot
+            (Some (made_node (meant_node P.meaning node)))) }
+        ensures sizes { IfOk result (λ slot. sizes_of self.new.nodes.slots
+            ≡ sizes_of self.old.nodes.slots + stated_size node.form) }
+        ensures admitted { AllAdmitted (meant_table P.meaning self.new) self.new.pins.slots }
+        ensures err { OnErr result (self.new.nodes.slots ≡ self.old.nodes.slots) }
+        ensures err_rest { OnErr result
+            (record self.new { nodes = self.old.nodes } ≡ self.old) }
+    {
+        self.nodes.reserve(1)?;
+        let slot = self.nodes.vacant_key();
+        self.pins.admit(slot)?;
+        Ok(self.nodes.insert_reserved(Stored {
+            word: Word64::from_number(0),
+            place: Place::Private,
+            node,
+        }))
+    }
+
+    /// Takes a private node back, whose slot is free then.
+    pub fn take_back(&mut self, slot: usize) -> TreeNode<P>
+        requires private { (a : Node P.Meaning) × (meant_table P.meaning self.old slot ≡ Some a)
+            × (a.standing ≡ is_private) }
+        requires admitted { AllAdmitted (meant_table P.meaning self.old) self.old.pins.slots }
+        ensures sets { SetsNode P.meaning self.old self.new slot None }
+        ensures node { (a : Node P.Meaning) → meant_table P.meaning self.old slot ≡ Some a
+            → meant_node P.meaning result ≡ a.node }
+        ensures sizes { sizes_of self.old.nodes.slots
+            ≡ sizes_of self.new.nodes.slots + stated_size result.form }
+        ensures admitted { AllAdmitted (meant_table P.meaning self.new) self.new.pins.slots }
+    {
+        let stored = self.nodes.remove(slot);
+        self.pins.forget(slot);
+        stored.node
+    }
+
+    /// Marks a locked node obsolete that is no longer in the tree, and retires it.
+    pub fn retire(&mut self, slot: usize)
+        requires out { (a : Node P.Meaning) × (meant_table P.meaning self.old slot ≡ Some a)
+            × (a.standing ≡ is_detached) × IsLocked a.word × (IsObsolete a.word → ⊥) }
+        requires admitted { AllAdmitted (meant_table P.meaning self.old) self.old.pins.slots }
+        ensures here { (a : Node P.Meaning) → meant_table P.meaning self.old slot ≡ Some a
+            → meant_table P.meaning self.new slot ≡ Some (record a {
+              word = a.word + 1;
+              standing = is_retired (stamp_at self.old.pins.count);
+            }) }
+        ensures others { (o : ℕ) → o ≢ slot
+            → meant_table P.meaning self.new o ≡ meant_table P.meaning self.old o }
+        ensures root { self.new.root ≡ self.old.root }
+        ensures seats { self.new.pins.seats ≡ self.old.pins.seats }
+        ensures count { self.new.pins.count ≡ count_after self.old.pins.count }
+        ensures sizes { sizes_of self.new.nodes.slots ≡ sizes_of self.old.nodes.slots }
+        ensures admitted { AllAdmitted (meant_table P.meaning self.new) self.new.pins.slots }
+    {
+        let Some(node) = self.nodes.get_mut(slot) else {
+            unreachable!()
+        };
+        node.word = node.word.obsoleted();
+        node.place = Place::Retired;
+        self.pins.retire(slot);
     }
 }

@@ -2,12 +2,11 @@
 //!
 //! | The case at the node | Events |
 //! |---|---|
-//! | a payload is put into a leaf with room, or in another's place, or taken out of several | `Upgrade`, `Write`, `Unlock` |
+//! | a payload is put into a leaf with room, or in another's place | `Upgrade`, `Write`, `Unlock` |
 //! | a new leaf below an inner node with room | `Upgrade`, `MakeLeaf`, `Link`, `Unlock` |
 //! | a full leaf | `UpgradeAbove`, `UpgradeBelow`, `Grow`, `Replace`, `Obsolete`, `Unlock` |
 //! | a full inner node | `UpgradeAbove`, `UpgradeBelow`, `MakeLeafBelow`, `Grow`, `Replace`, `Obsolete`, `Unlock` |
 //! | a prefix that leaves the key | `UpgradeAbove`, `UpgradeBelow`, `MakeLeafBelow`, `MakeMiddle`, `Insert`, `UnlockBelow`, `Unlock` |
-//! | a leaf's last payload is taken out | `UpgradeAbove`, `UpgradeBelow`, `Detach`, `Obsolete`, `Unlock` |
 //!
 //! After the last `Unlock` the call ends; where the second upgrade has failed, it goes back to the root.
 
@@ -31,8 +30,6 @@ pub enum Large {
     GrowInner,
     /// A node that has the call's node and a new leaf is put between.
     Split,
-    /// The leaf goes.
-    Detach,
 }
 
 /// A node and its parent, each with the word that was seen there.
@@ -69,8 +66,6 @@ pub enum Tail {
     Replace(Pair, usize, Option<usize>),
     /// Puts the middle node between; the middle node, and the new leaf.
     Insert(Pair, usize, usize),
-    /// Takes the held leaf from its parent.
-    Detach(Pair),
     /// Marks the node obsolete that is no longer in the tree.
     Obsolete(Pair),
     /// Unlocks the node, with the parent held.

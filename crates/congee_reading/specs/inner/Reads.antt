@@ -14,12 +14,6 @@ use Rattle.congee_store.specs.inner.Turns.{IsRead}
 use Rattle.congee_store.specs.inner.World.{node_of}
 
 module _ {P M : Type 0} where
-  -- this is what stands in the slot
-  abbrev pub stands_as : (P → M) → Store P → ℕ → Stored P → Type 0
-  stands_as meaning store slot node =
-      meant_table meaning store slot
-      ≡ node_of (entry_at store.pins.slots slot) (Some (meant_stored meaning node))
-
   -- what a call with this pin knows
   abbrev pub Knows : Type 0 → (P → M) → Store P → ℕ → Record P → Type 0
   Knows Granted meaning store pin call =

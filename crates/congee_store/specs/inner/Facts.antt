@@ -1,56 +1,30 @@
 -- What holds of the machine's inside after each event: the place facts of its nodes, and what each call in flight knows.
 -- Payloads stand for what they mean.
-use Rattle.std.specs.Prelude.{◌≡◌, ◌≢◌, ℕ, ◌+◌, ◌^◌, ◌<◌, ◌≤◌, Bool, true, IsTrue, List, [], ◌∷◌, ◌++◌, length, Option, Some, None, IsSome, ◌⊎◌, ◌↔◌}
+use Rattle.std.specs.Prelude.{◌≡◌, ◌≢◌, ℕ, ◌+◌, ◌^◌, ◌<◌, ◌≤◌, true, IsTrue, List, [], ◌∷◌, length, Option, Some, None, IsSome, ◌⊎◌}
 use Rattle.congee_base.specs.Form.{stated_size}
-use Rattle.congee_base.specs.declared.base_node.NodeType.TheVariants.{N256}
-use Rattle.congee_map.specs.Map.{Pairs, Rises}
+use Rattle.congee_map.specs.Map.{Pairs}
 use Rattle.congee_node_table.specs.Charge.{Covers}
-use Rattle.congee_node_table.specs.Key.{Begins, AreBytes, next_byte}
-use Rattle.congee_node_table.specs.declared.child.Child.TheVariants.{Payload, Node as below_at}
-use Rattle.congee_protocol.specs.Calls.{bytes_of, key_of, outline_of}
+use Rattle.congee_protocol.specs.Calls.{key_of}
 use Rattle.congee_protocol.specs.Content.{IsContent}
 use Rattle.congee_protocol.specs.Lists.{is_in}
-use Rattle.congee_protocol.specs.Local.{SharesNone}
-use Rattle.congee_protocol.specs.Reading.{IsReading, child_for}
-use Rattle.congee_protocol.specs.declared.types.Asking.TheVariants.{Fresh}
-use Rattle.congee_protocol.specs.declared.types.Op.{Op}
 use Rattle.congee_protocol.specs.declared.types.Progress.TheVariants as progress
-use Rattle.congee_protocol.specs.declared.types.Seen.{Seen}
 use Rattle.congee_sync.specs.Epoch.{is_seated, pin_of, entry_at}
-use Rattle.congee_sync.specs.Lock.{IsFree, IsLocked, IsObsolete}
-use Rattle.congee_store.specs.declared.stage.Path.{Path}
+use Rattle.congee_sync.specs.declared.epoch.Life.{Life}
+use Rattle.congee_sync.specs.declared.epoch.Life.TheVariants.{InUse}
 use Rattle.congee_store.specs.declared.stage.Record.{Record}
-use Rattle.congee_store.specs.declared.stage.Spot.{Spot}
 use Rattle.congee_store.specs.declared.stage.Stage.{Stage}
-use Rattle.congee_store.specs.declared.stage.Stage.TheVariants.{TakeRoot, Read, Check, TakeBelow, CheckAbove, Finish}
+use Rattle.congee_store.specs.declared.stage.Stage.TheVariants.{TakeRoot, Read, Check, TakeBelow, CheckAbove, Tail, Finish}
 use Rattle.congee_store.specs.declared.stage.Stored.{Stored}
 use Rattle.congee_store.specs.declared.stage.Task.{Task}
-use Rattle.congee_store.specs.inner.Shown.{flight, held_at, made_at, state_of}
-use Rattle.congee_store.specs.inner.World.{World, Standing, is_private, is_linked, is_detached, is_retired, Node, Table, table_of, entry, call_of}
-
--- a call with this pin may still step on a node that stands so
-abbrev pub IsSafe : ℕ → Standing → Type 0
-IsSafe pin is_private = ⊥
-IsSafe pin is_linked = Unit {0}
-IsSafe pin is_detached = Unit {0}
-IsSafe pin (is_retired None) = Unit {0}
-IsSafe pin (is_retired (Some stamp)) = pin ≤ stamp
-
+use Rattle.congee_store.specs.inner.Shown.{held_at, made_at, state_of}
+use Rattle.congee_store.specs.inner.World.{World, is_retired, Node, Table, table_of, call_of}
+use Rattle.congee_store.specs.inner.Tables.{IsPlaced, IsThere, Known, LedTo, NeedsHolder, OnPath, TestOf}
+use Rattle.congee_store.specs.inner.TailFacts.{TailFacts}
+use Rattle.congee_store.specs.inner.Tails.{path_slots, named_in}
+use Rattle.congee_store.specs.inner.Tasks.{IsFreshly, Saw, SawNode, key_bytes}
 -- the nodes that a call holds or has made before its next event
 abbrev pub Holding : Stage → ℕ → Type 0
 Holding stage s = IsTrue (is_in s (held_at stage)) ⊎ IsTrue (is_in s (made_at stage))
-
--- the number is in the list
-abbrev pub IsIn : ℕ → List ℕ → Type 0
-IsIn n [] = ⊥
-IsIn n (x ∷ xs) = (x ≡ n) ⊎ IsIn n xs
-
-abbrev pub above_slots : Option Spot → List ℕ
-above_slots None = []
-above_slots (Some s) = s.slot ∷ []
-
-abbrev pub path_slots : Path → List ℕ
-path_slots path = path.here.slot ∷ above_slots path.above
 
 -- the slots beside the root's that a call may touch before it reads on
 abbrev pub named_at : Stage → List ℕ
@@ -59,180 +33,17 @@ named_at (Read path) = path_slots path
 named_at (Check path) = path_slots path
 named_at (TakeBelow path slot) = slot ∷ path_slots path
 named_at (CheckAbove path spot fits) = spot.slot ∷ path_slots path
+named_at (Tail tail) = named_in tail
 named_at Finish = []
 
-module _ {M : Type 0} where
-  -- the byte of a key under which it goes on below a node
-  abbrev pub byte_at : Node M → List ℕ → ℕ
-  byte_at a k = next_byte a.node.prefix k
-
-  -- a linked node stands in the slot
-  pub record IsLinked (t : Table M) (s : ℕ) (a : Node M) : Type 0 where
-    pub here : t s ≡ Some a
-    pub standing : a.standing ≡ is_linked
-
-  -- what stands under a byte of a linked inner node is a linked node further down
-  pub record IsBelow (t : Table M) (a : Node M) (byte c : ℕ) : Type 0 where
-    pub node : Node M
-    pub linked : IsLinked t c node
-    pub begins : Begins (a.node.prefix ++ byte ∷ []) node.node.prefix
-
-  -- the way from a linked node to another whose prefix begins with its own
-  pub record LeadsOn (t : Table M) (a : Node M) (k : List ℕ) : Type 0 where
-    pub slot : ℕ
-    pub node : Node M
-    pub entry_is : entry a (byte_at a k) ≡ Some (below_at slot)
-    pub linked : IsLinked t slot node
-    pub begins : Begins node.node.prefix k
-
-  -- THE PLACE FACTS
-  pub record IsPlaced (t : Table M) (root : ℕ) : Type 0 where
-    pub top : Node M
-    pub top_linked : IsLinked t root top
-    pub top_prefix : top.node.prefix ≡ []
-    pub top_form : top.node.form ≡ N256
-    pub short : (s : ℕ) (a : Node M) → IsLinked t s a → length a.node.prefix ≤ 7
-    pub bytes : (s : ℕ) (a : Node M) → IsLinked t s a → AreBytes a.node.prefix
-    pub ordered : (s : ℕ) (a : Node M) → IsLinked t s a → Rises 0 256 a.node.children
-    pub below : (s : ℕ) (a : Node M) → IsLinked t s a
-        → (x c : ℕ) → entry a x ≡ Some (below_at c) → IsBelow t a x c
-    pub leaf : (s : ℕ) (a : Node M) → IsLinked t s a
-        → (x : ℕ) (v : M) → entry a x ≡ Some (Payload v) → length a.node.prefix ≡ 7
-    pub leads : (s r : ℕ) (a b : Node M) → IsLinked t s a → IsLinked t r b
-        → Begins a.node.prefix b.node.prefix → (s ≡ r) ⊎ LeadsOn t a b.node.prefix
-    pub free : (s : ℕ) (a : Node M) → t s ≡ Some a → IsFree a.word
-        → (a.standing ≡ is_linked) ⊎ (a.standing ≡ is_private)
-    pub locked : (s : ℕ) (a : Node M) → t s ≡ Some a → IsObsolete a.word → IsLocked a.word
-    pub obsolete : (s : ℕ) (a : Node M) → t s ≡ Some a
-        → IsObsolete a.word ↔ ((stamp : Option ℕ) × (a.standing ≡ is_retired stamp))
-
-  -- a key stands in the table at a value: some linked leaf has it
-  pub record Keeps (t : Table M) (k : List ℕ) (v : M) : Type 0 where
-    pub slot : ℕ
-    pub leaf : Node M
-    pub linked : IsLinked t slot leaf
-    pub full : length leaf.node.prefix ≡ 7
-    pub begins : Begins leaf.node.prefix k
-    pub payload : entry leaf (byte_at leaf k) ≡ Some (Payload v)
-
-  -- the node that a call remembers is there, safe from reclaiming, and its word hasn't fallen
-  pub record Known (t : Table M) (pin : ℕ) (spot : Spot) : Type 0 where
-    pub node : Node M
-    pub here : t spot.slot ≡ Some node
-    pub safe : IsSafe pin node.standing
-    pub free : IsFree spot.word
-    pub word : spot.word ≤ node.word
-
-  -- a slot has a node that is safe from reclaiming
-  pub record IsThere (t : Table M) (pin slot : ℕ) : Type 0 where
-    pub node : Node M
-    pub here : t slot ≡ Some node
-    pub safe : IsSafe pin node.standing
-
-  -- the node in this slot is on the key's way
-  abbrev pub OnWay : Table M → ℕ → List ℕ → Type 0
-  OnWay t slot k = (a : Node M) → t slot ≡ Some a → Begins a.node.prefix k
-
-  -- as long as the word is the remembered one, this holds of the node
-  abbrev pub While : Table M → Spot → (Node M → Type 0) → Type 0
-  While t spot Q = (a : Node M) → t spot.slot ≡ Some a → a.word ≡ spot.word → Q a
-
-  -- it leads to this slot
-  abbrev pub LedTo : Table M → Spot → List ℕ → ℕ → Type 0
-  LedTo t spot k slot = While t spot (λ a. entry a (byte_at a k) ≡ Some (below_at slot))
-
-  -- the parent, if there is one, is known, and led to the node in this slot
-  abbrev pub CameFrom : Table M → ℕ → ℕ → List ℕ → Option Spot → ℕ → Type 0
-  CameFrom t root pin k None slot = slot ≡ root
-  CameFrom t root pin k (Some p) slot = Known t pin p × OnWay t p.slot k × LedTo t p k slot
-
-  pub record OnPath (t : Table M) (root pin : ℕ) (k : List ℕ) (path : Path) : Type 0 where
-    pub above : CameFrom t root pin k path.above path.here.slot
-    pub here : Known t pin path.here
-    pub way : OnWay t path.here.slot k
-
-  -- a test of the prefix of the node in this slot
-  abbrev pub TestOf : Table M → ℕ → List ℕ → Bool → Type 0
-  TestOf t slot k fits = (a : Node M) → t slot ≡ Some a → IsTrue fits ↔ Begins a.node.prefix k
-
-  -- what an event leaves of a node that others may remember
-  pub record Kept (pin : ℕ) (a b : Node M) : Type 0 where
-    pub prefix : b.node.prefix ≡ a.node.prefix
-    pub word : a.word ≤ b.word
-    pub same : IsFree b.word → b.word ≡ a.word → b.node ≡ a.node
-    pub safe : IsSafe pin b.standing
-
-  -- it is still there, and changed only if the call of the event held it or it was free
-  pub record Remains (t' : Table M) (Mine : ℕ → Type 0) (pin s : ℕ) (a : Node M) : Type 0 where
-    pub node : Node M
-    pub here : t' s ≡ Some node
-    pub kept : Kept pin a node
-    pub changed : (node ≡ a) ⊎ (Mine s ⊎ IsFree a.word)
-
-  -- what the calls with this pin may rely on, whichever event another call made
-  abbrev pub Guarantees : Table M → Table M → (ℕ → Type 0) → ℕ → Type 0
-  Guarantees t t' Mine pin =
-      (s : ℕ) (a : Node M) → t s ≡ Some a → IsSafe pin a.standing → Remains t' Mine pin s a
-
-  -- a private node of another call is as it was
-  abbrev pub PrivateStays : Table M → Table M → (ℕ → Type 0) → Type 0
-  PrivateStays t t' Mine = (s : ℕ) (a : Node M) → t s ≡ Some a → a.standing ≡ is_private
-      → (Mine s → ⊥) → t' s ≡ Some a
-
-  -- a node that some call has to hold: private, or locked and not obsolete
-  pub record NeedsHolder (t : Table M) (s : ℕ) : Type 0 where
-    pub node : Node M
-    pub here : t s ≡ Some node
-    pub why : (node.standing ≡ is_private) ⊎ (IsLocked node.word × (IsObsolete node.word → ⊥))
-
-  -- the last Read reported this slot
-  pub record SawNode (last : Option (Seen M)) (slot : ℕ) : Type 0 where
-    pub seen : Seen M
-    pub is : last ≡ Some seen
-    pub child : seen.child ≡ Some (below_at slot)
-
-  -- A CALL WITHOUT A REPLY has its payloads.
-  pub record IsOpen (task : Task M) : Type 0 where
-    pub undecided : task.progress ≡ progress.Open
-    pub op : Op M
-    pub op_is : task.op ≡ Some op
-    pub outline : outline_of op ≡ task.outline
-
-  -- the same, which hasn't asked its closure
-  pub record IsFreshly (task : Task M) : Type 0 where
-    pub opened : IsOpen task
-    pub fresh : task.asking ≡ Fresh
-
-  abbrev pub key_bytes : Task M → List ℕ
-  key_bytes task = bytes_of (key_of task.outline)
-
+-- Shares are granted always, if `Granted` holds.
 module _ {M : Type 0} (Granted : Type 0) where
-  -- what the call sees of a payload is what stands there
-  abbrev pub Sees : Task M → Type 0
-  Sees task = SharesNone task.outline None → Granted
-
-  -- beside a payload that was seen, one more share of it is kept for the reply
-  abbrev pub IsSpare : Task M → Seen M → Option M → Type 0
-  IsSpare task s spare = Sees task → (v : M) → s.child ≡ Some (Payload v) → spare ≡ Some v
-
-  -- what the last Read reported stands there
-  pub record Agrees (task : Task M) (stage : Stage) (pin : ℕ) (a : Node M) (s : Seen M) : Type 0 where
-    pub reading : IsReading (Sees task) (flight pin (record { stage = stage; task = task })) a.node s
-    pub spare : IsSpare task s task.spare
-    pub below : (slot : ℕ) → s.child ≡ Some (below_at slot)
-        → child_for task.outline (key_of task.outline) a.node ≡ Some (below_at slot)
-
-  pub record Saw (t : Table M) (pin : ℕ) (path : Path) (task : Task M) : Type 0 where
-    pub seen : Seen M
-    pub is : task.last ≡ Some seen
-    pub agrees : While t path.here (λ a. Agrees task (Check path) pin a seen)
-
   -- WHAT A CALL KNOWS before its next event
   abbrev pub FactsAt : Table M → ℕ → ℕ → Task M → Stage → Type 0
   FactsAt t root pin task TakeRoot = IsFreshly task × (task.last ≡ None)
   FactsAt t root pin task (Read path) = IsFreshly task × OnPath t root pin (key_bytes task) path
   FactsAt t root pin task (Check path) =
-      IsFreshly task × OnPath t root pin (key_bytes task) path × Saw t pin path task
+      IsFreshly task × OnPath t root pin (key_bytes task) path × Saw Granted t pin path task
   FactsAt t root pin task (TakeBelow path slot) =
       IsFreshly task × OnPath t root pin (key_bytes task) path
       × LedTo t path.here (key_bytes task) slot × SawNode task.last slot × IsThere t pin slot
@@ -241,6 +52,7 @@ module _ {M : Type 0} (Granted : Type 0) where
       IsFreshly task × OnPath t root pin (key_bytes task) path
       × LedTo t path.here (key_bytes task) spot.slot × SawNode task.last spot.slot
       × Known t pin spot × TestOf t spot.slot (key_bytes task) fits × (spot.slot ≢ path.here.slot)
+  FactsAt t root pin task (Tail tail) = TailFacts Granted t root pin task tail
   FactsAt t root pin task Finish = task.progress ≢ progress.Open
 
   pub record Facts (t : Table M) (root pin : ℕ) (r : Record M) : Type 0 where
@@ -252,6 +64,14 @@ abbrev pub sizes_of : {P : Type 0} → List (Option (Stored P)) → ℕ
 sizes_of [] = 0
 sizes_of (None ∷ slots) = sizes_of slots
 sizes_of (Some n ∷ slots) = stated_size n.node.form + sizes_of slots
+
+-- A slot with a node is admitted, so that the node can be retired, and one without isn't.
+abbrev pub IsAdmitted : {M : Type 0} → Option (Node M) → Option Life → Type 0
+IsAdmitted None life = life ≡ None
+IsAdmitted (Some a) life = (life ≡ Some InUse) ⊎ ((stamp : Option ℕ) × (a.standing ≡ is_retired stamp))
+
+abbrev pub AllAdmitted : {M : Type 0} → Table M → List (ℕ × Life) → Type 0
+AllAdmitted t lives = (s : ℕ) → IsAdmitted (t s) (entry_at lives s)
 
 -- THE MACHINE after each event. Shares are granted always, if `Granted` holds.
 pub record IsSound {M : Type 0} (Granted : Type 0) (w : World M) : Type 0 where
@@ -266,6 +86,7 @@ pub record IsSound {M : Type 0} (Granted : Type 0) (w : World M) : Type 0 where
       → Holding r.stage s → Holding q.stage s → ⊥
   pub held : (s : ℕ) → NeedsHolder (table_of w) s
       → (id : ℕ) × (r : Record M) × (call_of w id ≡ Some r) × Holding r.stage s
+  pub admitted : AllAdmitted (table_of w) w.pins.slots
   pub narrow : (s : ℕ) (a : Node M) → table_of w s ≡ Some a → s < 2 ^ 64
   pub charged : Covers w.charge (sizes_of w.slots)
   pub counted : (m : Pairs M) → IsContent (state_of w) m → w.entries ≡ length m

@@ -1,13 +1,14 @@
 -- The machine's inside, with payloads replaced by what they stand for.
-use Rattle.std.specs.Prelude.{ℕ, List, Option, map}
+use Rattle.std.specs.Prelude.{◌≡◌, ℕ, List, Option, Some, map}
 use Rattle.congee_node_table.specs.TableNode.{TableNode}
 use Rattle.congee_node_table.specs.inner.Kinds.{mapped}
 use Rattle.congee_protocol.specs.Meaning.{in_some, child_of, seen_of, op_of, asking_of}
+use Rattle.congee_sync.specs.Epoch.{entry_at}
 use Rattle.congee_store.specs.declared.stage.Record.{Record}
 use Rattle.congee_store.specs.declared.stage.Stored.{Stored}
 use Rattle.congee_store.specs.declared.stage.Task.{Task}
 use Rattle.congee_store.specs.declared.store.Store.{Store}
-use Rattle.congee_store.specs.inner.World.{World, Table, table_on}
+use Rattle.congee_store.specs.inner.World.{World, Table, node_of, table_on}
 
 module _ {P M : Type 0} (meaning : P → M) where
   abbrev pub meant_node : TableNode P → TableNode M
@@ -42,6 +43,11 @@ module _ {P M : Type 0} (meaning : P → M) where
   -- the nodes of a store
   abbrev pub meant_table : Store P → Table M
   meant_table store = table_on (meant_slots store.nodes.slots) store.pins.slots
+
+  -- this is what stands in the slot of a store
+  abbrev pub stands_as : Store P → ℕ → Stored P → Type 0
+  stands_as store slot node =
+      meant_table store slot ≡ node_of (entry_at store.pins.slots slot) (Some (meant_stored node))
 
   abbrev pub meant_world : World P → World M
   meant_world w = record {

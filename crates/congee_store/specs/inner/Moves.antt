@@ -13,7 +13,7 @@ use Rattle.congee_sync.specs.Lock.{IsFree}
 use Rattle.congee_store.specs.declared.stage.Record.{Record}
 use Rattle.congee_store.specs.inner.Facts.{Holding, Facts}
 use Rattle.congee_store.specs.inner.Shown.{flight}
-use Rattle.congee_store.specs.inner.Facts.{IsLinked, IsPlaced, Guarantees, PrivateStays, NeedsHolder}
+use Rattle.congee_store.specs.inner.Tables.{IsLinked, IsPlaced, Guarantees, PrivateStays, NeedsHolder}
 use Rattle.congee_store.specs.inner.Turns.{IsCourse, Shows}
 use Rattle.congee_store.specs.inner.World.{Node, Table}
 
@@ -59,14 +59,14 @@ module _ {M : Type 0} (Granted : Type 0) (same : M → M → Bool) where
 
   pub record IsMove (t t' : Table M) (root pin : ℕ) (books books' : Books) (call : Record M)
       (env : Env M) (next : Record M) (report : Report) (out : Outcome M) : Type 0 where
-    pub placed : IsPlaced t' root
     pub facts : Facts Granted t' root pin next
+    pub counts : books.count ≤ books'.count
     pub others : (p : ℕ) → p ≤ books.count → Guarantees t t' (Holding call.stage) p
     pub privates : PrivateStays t t' (Holding call.stage)
     pub holds : (s : ℕ) → Holding next.stage s → Holding call.stage s ⊎ NewlyHeld t s
     pub holders : (s : ℕ) → NeedsHolder t' s
         → Holding next.stage s ⊎ (NeedsHolder t s × (Holding call.stage s → ⊥))
-    pub course : IsCourse t t' root call next report out
+    pub course : IsCourse t t' root call env next report out
     pub does : (s s' : State M) (id : ℕ) → Shows t root s → Shows t' root s'
         → IsMap s.nodes → IsMap s'.nodes → IsAfter s s' id (flight pin next) books books'
         → DoesAs Granted same s s' id (flight pin call) env report out report.kind

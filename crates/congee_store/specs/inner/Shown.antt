@@ -8,12 +8,11 @@ use Rattle.congee_protocol.specs.State as state
 use Rattle.congee_sync.specs.Epoch.{PinsView, entry_at, pin_of}
 use Rattle.congee_sync.specs.declared.epoch.Life.{Life}
 use Rattle.congee_sync.specs.declared.epoch.Seat.{Seat}
-use Rattle.congee_store.specs.declared.stage.Path.{Path}
 use Rattle.congee_store.specs.declared.stage.Record.{Record}
-use Rattle.congee_store.specs.declared.stage.Spot.{Spot}
 use Rattle.congee_store.specs.declared.stage.Stage.{Stage}
-use Rattle.congee_store.specs.declared.stage.Stage.TheVariants.{TakeRoot, Read, Check, TakeBelow, CheckAbove, Finish}
+use Rattle.congee_store.specs.declared.stage.Stage.TheVariants.{TakeRoot, Read, Check, TakeBelow, CheckAbove, Tail, Finish}
 use Rattle.congee_store.specs.declared.stage.Stored.{Stored}
+use Rattle.congee_store.specs.inner.Tails.{path_spots, spots_in, held_in, made_in}
 use Rattle.congee_store.specs.inner.World.{World, Standing, is_private, is_linked, is_detached, is_retired, Node, node_of}
 
 abbrev pub publicity : Standing → Publicity
@@ -23,27 +22,23 @@ publicity is_detached = published
 publicity (is_retired stamp) = retired stamp
 
 -- the words that a call remembers of slots
-abbrev pub above_spots : Option Spot → List (ℕ × ℕ)
-above_spots None = []
-above_spots (Some s) = (s.slot, s.word) ∷ []
-
-abbrev pub path_spots : Path → List (ℕ × ℕ)
-path_spots path = put (above_spots path.above) path.here.slot path.here.word
-
 abbrev pub spots_of : Stage → List (ℕ × ℕ)
 spots_of TakeRoot = []
 spots_of (Read path) = path_spots path
 spots_of (Check path) = path_spots path
 spots_of (TakeBelow path slot) = path_spots path
 spots_of (CheckAbove path spot fits) = put (path_spots path) spot.slot spot.word
+spots_of (Tail tail) = spots_in tail
 spots_of Finish = []
 
 -- the nodes that it holds, and its private ones
 abbrev pub held_at : Stage → List ℕ
-held_at stage = []
+held_at (Tail tail) = held_in tail
+held_at _ = []
 
 abbrev pub made_at : Stage → List ℕ
-made_at stage = []
+made_at (Tail tail) = made_in tail
+made_at _ = []
 
 module _ {P : Type 0} where
   abbrev pub shown : Option (Node P) → Option (state.Node P)

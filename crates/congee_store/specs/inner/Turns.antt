@@ -1,6 +1,6 @@
 -- ONE EVENT as the machine's inside has it: what it leaves to its own call and to all others, and what it does to what a
 -- reader sees. The kinds of events are proved to be of this form, and the theorem on runs is proved from it.
-use Rattle.std.specs.Prelude.{true, ◌≡◌, ◌≢◌, ℕ, ◌+◌, ◌-◌, ◌*◌, ◌<◌, ◌≤◌, Bool, length, Option, Some, None, ◌⊎◌}
+use Rattle.std.specs.Prelude.{[], false, true, ◌≡◌, ◌≢◌, ℕ, ◌+◌, ◌-◌, ◌*◌, ◌<◌, ◌≤◌, Bool, length, Option, Some, None, ◌⊎◌}
 use Rattle.congee_map.specs.Map.{Pairs, lookup}
 use Rattle.congee_protocol.specs.Calls.{outline_of}
 use Rattle.congee_protocol.specs.Content.{IsContent}
@@ -10,23 +10,29 @@ use Rattle.congee_protocol.specs.State.{State, with_call}
 use Rattle.congee_protocol.specs.declared.types.Env.{Env}
 use Rattle.congee_protocol.specs.declared.types.Kind.TheVariants as kind
 use Rattle.congee_protocol.specs.declared.types.Op.{Op}
-use Rattle.congee_protocol.specs.declared.types.Op.TheVariants.{Get}
+use Rattle.congee_protocol.specs.declared.types.Op.TheVariants.{Get, Insert}
 use Rattle.congee_protocol.specs.declared.types.Outcome.{Outcome}
 use Rattle.congee_protocol.specs.declared.types.Outcome.TheVariants.{Done}
+use Rattle.congee_protocol.specs.declared.types.Progress.{Progress}
 use Rattle.congee_protocol.specs.declared.types.Report.{Report}
 use Rattle.congee_protocol.specs.declared.types.Seen.{Seen}
 use Rattle.congee_sync.specs.Epoch.{pin_of}
+use Rattle.congee_sync.specs.Lock.{version, last_version}
 use Rattle.congee_store.specs.declared.stage.Record.{Record}
 use Rattle.congee_store.specs.declared.stage.Spot.{Spot}
 use Rattle.congee_store.specs.declared.stage.Stage.{Stage}
-use Rattle.congee_store.specs.declared.stage.Stage.TheVariants.{TakeRoot, Read, Check, TakeBelow, CheckAbove, Finish}
-use Rattle.congee_store.specs.inner.Facts.{Guarantees, Holding, NeedsHolder, SawNode, IsIn, named_at, Facts, IsSound}
+use Rattle.congee_store.specs.declared.stage.Stage.TheVariants.{TakeRoot, Read, Check, TakeBelow, CheckAbove, Tail, Finish}
+use Rattle.congee_store.specs.inner.Tables.{Guarantees, NeedsHolder, IsIn}
+use Rattle.congee_store.specs.inner.Tasks.{SawNode}
+use Rattle.congee_store.specs.inner.Facts.{Holding, named_at, Facts, IsSound}
 use Rattle.congee_store.specs.inner.Shown.{shown, flight, spots_of, state_of}
+use Rattle.congee_store.specs.inner.Tails.{tail_work}
 use Rattle.congee_store.specs.inner.World.{World, Node, Table, table_of, call_of}
 
 -- The calls that end so far: those that are served. Another that is begun looks for its key again and again.
 abbrev pub IsServedCall : {X : Type 0} → Op X → Type 0
 IsServedCall (Get k) = Unit {0}
+IsServedCall (Insert k v) = Unit {0}
 IsServedCall _ = ⊥
 
 module _ {M : Type 0} where
@@ -35,23 +41,35 @@ module _ {M : Type 0} where
   depth_in None = 0
   depth_in (Some a) = length a.node.prefix
 
-  -- how many events of its own a call has left at most, if nobody disturbs it
-  abbrev pub work : Table M → Stage → ℕ
-  work t TakeRoot = 39
-  work t (Read path) = 4 * (7 - depth_in (t path.here.slot)) + 10
-  work t (Check path) = 4 * (7 - depth_in (t path.here.slot)) + 9
-  work t (TakeBelow path slot) = 4 * (7 - depth_in (t path.here.slot)) + 8
-  work t (CheckAbove path spot fits) = 4 * (7 - depth_in (t path.here.slot)) + 7
-  work t Finish = 1
+  -- how many events of its own a call that stands so has left at most, if nobody disturbs it
+  abbrev pub work : Table M → Progress → Stage → ℕ
+  work t progress TakeRoot = 39
+  work t progress (Read path) = 4 * (7 - depth_in (t path.here.slot)) + 10
+  work t progress (Check path) = 4 * (7 - depth_in (t path.here.slot)) + 9
+  work t progress (TakeBelow path slot) = 4 * (7 - depth_in (t path.here.slot)) + 8
+  work t progress (CheckAbove path spot fits) = 4 * (7 - depth_in (t path.here.slot)) + 7
+  work t progress (Tail tail) = tail_work progress tail
+  work t progress Finish = 1
+
+  abbrev pub work_of : Table M → Record M → ℕ
+  work_of t call = work t call.task.progress call.stage
 
   -- each word that a call remembers stands there now
   abbrev pub IsCurrent : Table M → Stage → Type 0
   IsCurrent t stage = (slot word : ℕ) → lookup (spots_of stage) slot ≡ Some word
       → (a : Node M) → t slot ≡ Some a → a.word ≡ word
 
-  -- no node needs a holder
-  abbrev pub NoneHeld : Table M → Type 0
-  NoneHeld t = (s : ℕ) → NeedsHolder t s → ⊥
+  -- Nobody disturbs the event of a call: no upgrade is made to fail, no node has the last version, and the call alone
+  -- holds what is held.
+  pub record IsUndisturbed (t : Table M) (stage : Stage) (env : Env M) : Type 0 where
+    pub whole : env.fail ≡ false
+    pub versions : (s : ℕ) (a : Node M) → t s ≡ Some a → version a.word ≢ last_version
+    pub alone : (s : ℕ) → NeedsHolder t s → Holding stage s
+
+  -- the call remembers nothing any more, and begins again
+  pub record StartsOver (t : Table M) (next : Record M) : Type 0 where
+    pub forgotten : spots_of next.stage ≡ []
+    pub work : work_of t next ≤ 40
 
   pub record Stays (t : Table M) (spot : Spot) : Type 0 where
     pub node : Node M
@@ -64,9 +82,9 @@ module _ {M : Type 0} where
   MayFollow t _ last slot = ⊥
 
   -- THE COURSE of a call that goes on: what it touches, which slots it knows of then and whence, and that its work falls
-  -- unless it goes back to the root, which nobody makes a call do whose words stand
-  pub record IsCourse (t t' : Table M) (root : ℕ) (call next : Record M) (report : Report)
-      (out : Outcome M) : Type 0 where
+  -- unless it begins again, which an event that nobody disturbs doesn't do where the words stand
+  pub record IsCourse (t t' : Table M) (root : ℕ) (call : Record M) (env : Env M) (next : Record M)
+      (report : Report) (out : Outcome M) : Type 0 where
     pub touches : (slot : ℕ) → report.slot ≡ Some slot → report.kind ≢ kind.Make
         → (slot ≡ root) ⊎ IsIn slot (named_at call.stage)
     pub names : (slot : ℕ) → IsIn slot (named_at next.stage)
@@ -76,8 +94,8 @@ module _ {M : Type 0} where
     pub outline : next.task.outline ≡ call.task.outline
     pub keeps : IsCurrent t call.stage → IsCurrent t' next.stage
     pub falls : IsServedCall call.task.outline
-        → ((next.stage ≡ TakeRoot) × (IsCurrent t call.stage → NoneHeld t → ⊥))
-        ⊎ (work t' next.stage < work t call.stage)
+        → (StartsOver t' next × (IsCurrent t call.stage → IsUndisturbed t call.stage env → ⊥))
+        ⊎ (work_of t' next < work_of t call)
 
   -- what the state shows of these nodes
   pub record Shows (t : Table M) (root : ℕ) (s : State M) : Type 0 where
@@ -90,7 +108,7 @@ module _ {M : Type 0} (Granted : Type 0) (same : M → M → Bool) where
   pub record IsRead (t : Table M) (root pin : ℕ) (call : Record M) (env : Env M) (next : Record M)
       (report : Report) (out : Outcome M) : Type 0 where
     pub facts : Facts Granted t root pin next
-    pub course : IsCourse t t root call next report out
+    pub course : IsCourse t t root call env next report out
     pub does : (s : State M) (id : ℕ) → Shows t root s → DoesAs Granted same s
         (with_call s id (flight pin next)) id (flight pin call) env report out report.kind
     pub carries : (s : State M) → Shows t root s → (m : Pairs M) → IsContent s m
@@ -130,7 +148,7 @@ module _ {M : Type 0} (Granted : Type 0) (same : M → M → Bool) where
     pub leaves : (p : ℕ) → p ≤ w.pins.count
         → Guarantees (table_of w) (table_of w') (Holding call.stage) p
     pub course : (next : Record M) → call_of w' id ≡ Some next
-        → IsCourse (table_of w) (table_of w') w.root call next report out
+        → IsCourse (table_of w) (table_of w') w.root call env next report out
     pub ends : call_of w' id ≡ None → (out ≡ Done) × (report.slot ≡ None)
     pub step : IsStep Granted same (state_of w) (state_of w') id env report out
     pub carries : (m : Pairs M) → IsContent (state_of w) m

@@ -1,26 +1,25 @@
-//! A call after an event that only reads.
+//! A call after an event.
 
 ghost use Rattle.std.specs.Prelude.{◌≡◌, ◌↔◌, IsTrue, Some, None, IsSome};
 ghost use Rattle.congee_protocol.specs.Kinds.{report_of};
-ghost use Rattle.congee_store.specs.inner.Meant.{meant_table};
-ghost use Rattle.congee_reading.specs.inner.Reads.{stands_as};
+ghost use Rattle.congee_store.specs.inner.Meant.{meant_table, stands_as};
 
+use crate::stage::{Path, Record, Spot, Stage, Stored, Task};
+use crate::store::Store;
 use congee_protocol::payload::HasMeaning;
 use congee_protocol::types::{Asking, Kind, Outcome, Progress, Reply, Report, Seen};
-use congee_store::stage::{Path, Record, Spot, Stage, Stored, Task};
-use congee_store::store::Store;
 use congee_sync::lock::Word64;
 
 /// A call after an event, and what the event says.
 #[derive(Drop)]
-pub(crate) struct Stepped<P> {
-    pub(crate) call: Record<P>,
-    pub(crate) report: Report,
-    pub(crate) outcome: Outcome<P>,
+pub struct Stepped<P> {
+    pub call: Record<P>,
+    pub report: Report,
+    pub outcome: Outcome<P>,
 }
 
 /// What a Take, a Check or a Read of a slot reports.
-pub(crate) fn report(kind: Kind, slot: usize, word: u64, ok: bool) -> Report
+pub fn report(kind: Kind, slot: usize, word: u64, ok: bool) -> Report
     ensures { result ≡ report_of kind (Some slot) word ok }
 {
     Report {
@@ -32,7 +31,7 @@ pub(crate) fn report(kind: Kind, slot: usize, word: u64, ok: bool) -> Report
 }
 
 /// The node in a slot that has one.
-pub(crate) fn node_at<P: HasMeaning>(store: &Store<P>, slot: usize) -> &Stored<P>
+pub fn node_at<P: HasMeaning>(store: &Store<P>, slot: usize) -> &Stored<P>
     requires { IsSome (meant_table P.meaning store.now slot) }
     ensures { stands_as P.meaning store.now slot result.now }
 {
@@ -43,14 +42,14 @@ pub(crate) fn node_at<P: HasMeaning>(store: &Store<P>, slot: usize) -> &Stored<P
 }
 
 /// Whether a node's word is the remembered one.
-pub(crate) fn stands<P>(node: &Stored<P>, spot: Spot) -> bool
+pub fn stands<P>(node: &Stored<P>, spot: Spot) -> bool
     ensures { IsTrue result ↔ (node.now.word ≡ spot.word) }
 {
     node.word.matches(Word64::from_number(spot.word))
 }
 
 /// An event after which the call goes on.
-pub(crate) fn going<P>(task: Task<P>, stage: Stage, report: Report) -> Stepped<P>
+pub fn going<P>(task: Task<P>, stage: Stage, report: Report) -> Stepped<P>
     ensures { result ≡ record {
       call = record { stage = stage; task = task };
       report = report;
@@ -65,7 +64,7 @@ pub(crate) fn going<P>(task: Task<P>, stage: Stage, report: Report) -> Stepped<P
 }
 
 /// An event after which the call goes back to the root, and forgets what it has seen and asked.
-pub(crate) fn restarted<P: Drop>(task: Task<P>, report: Report) -> Stepped<P>
+pub fn restarted<P: Drop>(task: Task<P>, report: Report) -> Stepped<P>
     ensures { result ≡ record {
       call = record {
         stage = Stage.TakeRoot;
@@ -95,7 +94,7 @@ pub(crate) fn restarted<P: Drop>(task: Task<P>, report: Report) -> Stepped<P>
 }
 
 /// A Read after which the call goes on to its Check.
-pub(crate) fn saw<P: Drop>(
+pub fn saw<P: Drop>(
     task: Task<P>,
     path: Path,
     seen: Seen<P>,
@@ -162,7 +161,7 @@ fn ended<P: Drop>(task: Task<P>, progress: Progress) -> (Record<P>, Option<P>)
 }
 
 /// An event that is refused: the call only ends.
-pub(crate) fn refused<P: Drop>(task: Task<P>, report: Report) -> Stepped<P>
+pub fn refused<P: Drop>(task: Task<P>, report: Report) -> Stepped<P>
     ensures { result ≡ record {
       call = record {
         stage = Stage.Finish;
@@ -186,7 +185,7 @@ pub(crate) fn refused<P: Drop>(task: Task<P>, report: Report) -> Stepped<P>
 }
 
 /// An event that decides a Get for whose key nothing stands.
-pub(crate) fn decided_absent<P: Drop>(task: Task<P>, report: Report) -> Stepped<P>
+pub fn decided_absent<P: Drop>(task: Task<P>, report: Report) -> Stepped<P>
     ensures { result ≡ record {
       call = record {
         stage = Stage.Finish;
@@ -210,7 +209,7 @@ pub(crate) fn decided_absent<P: Drop>(task: Task<P>, report: Report) -> Stepped<
 }
 
 /// An event that decides a Get with the share that its Read kept.
-pub(crate) fn decided_present<P: Drop>(task: Task<P>, report: Report) -> Stepped<P>
+pub fn decided_present<P: Drop>(task: Task<P>, report: Report) -> Stepped<P>
     ensures { result ≡ record {
       call = record {
         stage = Stage.Finish;
