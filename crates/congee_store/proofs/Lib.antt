@@ -2,6 +2,7 @@ pub mod Changes
 pub mod Contents
 pub mod Entries
 pub mod Formed
+pub mod Holding
 pub mod Narrow
 pub mod Options
 pub mod Reaching

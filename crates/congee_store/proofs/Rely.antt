@@ -1,16 +1,22 @@
 -- What a call knows outlives the events of others.
-use Rattle.std.proofs.Common.{◌≡◌, ℕ, Bool, List, Option, Some, None, IsTrue, ◌↔◌, refl, sym, subst, ap, ◌∙◌, arith}
+use Rattle.std.proofs.Common.{◌≡◌, ℕ, ◌+◌, ◌<◌, Bool, List, [], ◌∷◌, length, Option, Some, None, IsTrue, ◌↔◌, inl, inr, refl, sym, subst, ap, ◌∙◌, arith}
+use Rattle.congee_base.specs.Form.{Fits}
 use Rattle.congee_map.specs.Map.{lookup}
 use Rattle.congee_node_table.specs.Key.{Begins, next_byte}
 use Rattle.congee_node_table.specs.TableNode.{TableNode}
+use Rattle.congee_node_table.specs.declared.child.Child.{Child}
 use Rattle.congee_node_table.specs.declared.child.Child.TheVariants.{Node as below_at}
 use Rattle.congee_sync.specs.Lock.{IsFree}
 use Rattle.congee_protocol.specs.Calls.{key_of}
+use Rattle.congee_protocol.specs.Lists.{is_in}
+use Rattle.congee_protocol.specs.Local.{payload_in}
 use Rattle.congee_protocol.specs.Reading.{IsReading, child_for}
 use Rattle.congee_protocol.specs.declared.types.Seen.{Seen}
-use Rattle.congee_store.specs.inner.Tables.{IsSafe, Known, IsThere, OnWay, LedTo, CameFrom, OnPath, TestOf, Guarantees, Remains}
+use Rattle.congee_store.specs.inner.Tables.{IsSafe, Known, IsThere, OnWay, While, LedTo, CameFrom, OnPath, TestOf, Guarantees, PrivateStays, Remains}
+use Rattle.congee_store.specs.inner.TailFacts.{AreHeld, AtNode, AtPair, Below, HasCopy, HasLeaf, HasMiddle, HasOwn, HasOwnLeaf, IsAbove, IsHeld, IsLarge, IsMade, IsOut, IsSmall, LargeWork, SmallWork, TailFacts, Writes, grown_by, is_for, leaf_of, middle_of}
+use Rattle.congee_store.specs.inner.Tails.{both_slots, held_in, made_in, one_more}
 use Rattle.congee_store.specs.inner.Tasks.{Sees, Agrees, Saw, key_bytes}
-use Rattle.congee_store.specs.inner.Facts.{FactsAt, Facts}
+use Rattle.congee_store.specs.inner.Facts.{FactsAt, Facts, Holding}
 use Rattle.congee_store.specs.inner.Shown.{flight}
 use Rattle.congee_store.specs.inner.World.{Node, Table}
 use Rattle.congee_store.specs.declared.stage.Path.{Path}
@@ -18,7 +24,16 @@ use Rattle.congee_store.specs.declared.stage.Record.{Record}
 use Rattle.congee_store.specs.declared.stage.Spot.{Spot}
 use Rattle.congee_store.specs.declared.stage.Stage.{Stage}
 use Rattle.congee_store.specs.declared.stage.Stage.TheVariants.{TakeRoot, Read, Check, TakeBelow, CheckAbove, Finish}
+use Rattle.congee_store.specs.declared.stage.Stage.TheVariants as stage
 use Rattle.congee_store.specs.declared.stage.Task.{Task}
+use Rattle.congee_store.specs.declared.tail.Large.{Large}
+use Rattle.congee_store.specs.declared.tail.Large.TheVariants.{GrowLeaf, GrowInner, Split}
+use Rattle.congee_store.specs.declared.tail.Pair.{Pair}
+use Rattle.congee_store.specs.declared.tail.Small.{Small}
+use Rattle.congee_store.specs.declared.tail.Small.TheVariants.{Entry, Leaf}
+use Rattle.congee_store.specs.declared.tail.Tail.{Tail}
+use Rattle.congee_store.specs.declared.tail.Tail.TheVariants.{Upgrade, Write, MakeLeaf, Link, Unlock, UpgradeAbove, UpgradeBelow, MakeLeafBelow, Grow, MakeMiddle, Replace, Insert, Obsolete, UnlockBelow}
+use Rattle.congee_store.proofs.Holding.{first_in, next_in, not_free_now}
 use Rattle.congee_store.proofs.Options.{some_same}
 
 module _ {M : Type 0} (t t' : Table M) (Mine : ℕ → Type 0) (pin : ℕ) (g : Guarantees t t' Mine pin) where
@@ -69,6 +84,91 @@ module _ {M : Type 0} (t t' : Table M) (Mine : ℕ → Type 0) (pin : ℕ) (g : 
     way = way_lasts path.here k f.here f.way;
   }
 
+  -- an event of another call leaves what this one holds as it is
+  stays : (slot : ℕ) (a : Node M) → t slot ≡ Some a → IsSafe pin a.standing → (IsFree a.word → ⊥) → (Mine slot → ⊥) → t' slot ≡ Some a
+  stays slot a at safe locked off =
+      let r : Remains t' Mine pin slot a = g slot a at safe in
+      elim r.changed [
+        | inl same ↦ subst (λ z. t' slot ≡ Some z) same r.here
+        | inr (inl mine) ↦ absurd (off mine)
+        | inr (inr free) ↦ absurd (locked free)
+      ]
+
+  held_stays : (spot : Spot) (h : IsHeld t spot) → (Mine spot.slot → ⊥) → t' spot.slot ≡ Some h.node
+  held_stays spot h off =
+      stays spot.slot h.node h.linked.here (subst (IsSafe pin) (sym h.linked.standing) tt) (not_free_now h.node.word spot.word h.word h.free) off
+
+  out_stays : (spot : Spot) (h : IsOut t spot) → (Mine spot.slot → ⊥) → t' spot.slot ≡ Some h.node
+  out_stays spot h off =
+      stays spot.slot h.node h.here (subst (IsSafe pin) (sym h.standing) tt) (not_free_now h.node.word spot.word h.word h.free) off
+
+  abbrev held_lasts : (spot : Spot) → IsHeld t spot → (Mine spot.slot → ⊥) → IsHeld t' spot
+  held_lasts spot h off = record {
+    node = h.node;
+    linked = record { here = held_stays spot h off; standing = h.linked.standing };
+    word = h.word;
+    free = h.free;
+    room = h.room;
+  }
+
+  out_lasts : (spot : Spot) → IsOut t spot → (Mine spot.slot → ⊥) → IsOut t' spot
+  out_lasts spot h off = record { node = h.node; here = out_stays spot h off; standing = h.standing; word = h.word; free = h.free }
+
+  -- the way of a node that is safe
+  way_stays : (slot : ℕ) (k : List ℕ) → IsThere t pin slot → OnWay t slot k → OnWay t' slot k
+  way_stays slot k there f b bt = prefix_lasts slot (λ z. Begins z k) there.node there.here there.safe (f there.node there.here) b bt
+
+  held_there : (spot : Spot) → IsHeld t spot → IsThere t pin spot.slot
+  held_there spot h = record { node = h.node; here = h.linked.here; safe = subst (IsSafe pin) (sym h.linked.standing) tt }
+
+  known_there : (spot : Spot) → Known t pin spot → IsThere t pin spot.slot
+  known_there spot kn = record { node = kn.node; here = kn.here; safe = kn.safe }
+
+  above_lasts : (pair : Pair) (k : List ℕ) → IsThere t pin pair.above.slot → IsAbove t pair k → IsAbove t' pair k
+  above_lasts pair k there f = record { way = way_stays pair.above.slot k there f.way; apart = f.apart }
+
+  abbrev both_last : (pair : Pair) (k : List ℕ) → AreHeld t pair k → (Mine pair.here.slot → ⊥) → (Mine pair.above.slot → ⊥) → AreHeld t' pair k
+  both_last pair k h off_here off_above = record {
+    over = above_lasts pair k (held_there pair.above h.above) h.over;
+    above = held_lasts pair.above h.above off_above;
+    here = held_lasts pair.here h.here off_here;
+    leads = h.leads;
+  }
+
+  -- a private node of the call
+  module _ (privates : PrivateStays t t' Mine) where
+    made_lasts : (slot : ℕ) (a : TableNode M) → (Mine slot → ⊥) → IsMade t slot a → IsMade t' slot a
+    made_lasts slot a off h = record { node = h.node; here = privates slot h.node h.here h.standing off; standing = h.standing; word = h.word; is = h.is }
+
+    leaf_lasts : (task : Task M) (leaf : ℕ) → (Mine leaf → ⊥) → HasLeaf t task leaf → HasLeaf t' task leaf
+    leaf_lasts task leaf off h = record { value = h.value; stores = h.stores; made = made_lasts leaf (leaf_of (key_bytes task) h.value) off h.made }
+
+    -- the leaf of a copy, where it has one
+    abbrev AllOff : Option ℕ → Type 0
+    AllOff leaf = (s : ℕ) → IsTrue (is_in s (one_more leaf)) → Mine s → ⊥
+
+    own_leaf_lasts : (task : Task M) (leaf : Option ℕ) → AllOff leaf → HasOwnLeaf t task leaf → HasOwnLeaf t' task leaf
+    own_leaf_lasts task None off h = h
+    own_leaf_lasts task (Some leaf) off h = leaf_lasts task leaf (off leaf (first_in leaf [])) h
+
+    own_lasts : (task : Task M) (leaf : Option ℕ) (child : Child M) → AllOff leaf → HasOwn t task leaf child → HasOwn t' task leaf child
+    own_lasts task None child off h = h
+    own_lasts task (Some leaf) child off h = (leaf_lasts task leaf (off leaf (first_in leaf [])) h.0, h.1)
+
+    copy_lasts : (task : Task M) (a : Node M) (copy : ℕ) (leaf : Option ℕ) → (Mine copy → ⊥) → AllOff leaf → HasCopy t task a copy leaf → HasCopy t' task a copy leaf
+    copy_lasts task a copy leaf off rest h = record {
+      child = h.child;
+      own = own_lasts task leaf h.child rest h.own;
+      made = made_lasts copy (grown_by a (key_bytes task) h.child) off h.made;
+    }
+
+    middle_lasts : (task : Task M) (a : Node M) (slot middle leaf : ℕ) → (Mine middle → ⊥) → HasMiddle t task a slot middle leaf → HasMiddle t' task a slot middle leaf
+    middle_lasts task a slot middle leaf off h = record {
+      prefix = h.prefix;
+      fork = h.fork;
+      made = made_lasts middle (middle_of h.prefix a slot (key_bytes task) leaf) off h.made;
+    }
+
   module _ (Granted : Type 0) where
     -- what agrees with a node, by the node alone
     agreed : (task : Task M) (stage : Stage) (s : Seen M) (a b : Node M) → b.node ≡ a.node → Agrees Granted task stage pin a s → Agrees Granted task stage pin b s
@@ -88,30 +188,142 @@ module _ {M : Type 0} (t t' : Table M) (Mine : ℕ → Type 0) (pin : ℕ) (g : 
           agreed task (Check path) f.seen found.0 b (sym found.1) found.2;
     }
 
-    at_lasts : (root : ℕ) (task : Task M) (stage : Stage) → FactsAt Granted t root pin task stage → FactsAt Granted t' root pin task stage
-    at_lasts root task TakeRoot f = f
-    at_lasts root task (Read path) f = (f.0, path_lasts root (key_bytes task) path f.1)
-    at_lasts root task (Check path) f = (f.0, path_lasts root (key_bytes task) path f.1, saw_lasts path task f.1.here f.2)
-    at_lasts root task (TakeBelow path slot) f = (
-      f.0,
-      path_lasts root (key_bytes task) path f.1,
-      led_lasts path.here (key_bytes task) slot f.1.here f.2,
-      f.3,
-      there_lasts slot f.4,
-      f.5,
-      f.6,
-    )
-    at_lasts root task (CheckAbove path spot fits) f = (
-      f.0,
-      path_lasts root (key_bytes task) path f.1,
-      led_lasts path.here (key_bytes task) spot.slot f.1.here f.2,
-      f.3,
-      known_lasts spot f.4,
-      test_lasts spot (key_bytes task) fits f.4 f.5,
-      f.6,
-    )
-    at_lasts root task Finish f = f
+    -- what is to be done at a node, by the node alone
+    same_small : (small : Small) (a b : Node M) (k : List ℕ) → b.node ≡ a.node → IsSmall small a k → IsSmall small b k
+    same_small Entry a b k same h =
+        subst (λ (n : TableNode M). (length n.prefix ≡ 7) × (lookup n.children (next_byte n.prefix k) ≡ None → Fits n.form (length n.children + 1))) (sym same) h
+    same_small Leaf a b k same h =
+        subst (λ (n : TableNode M). (length n.prefix < 7) × (lookup n.children (next_byte n.prefix k) ≡ None) × Fits n.form (length n.children + 1)) (sym same) h
 
-    -- the facts of a call last through any event that the call may rely on
-    pub facts_last : (root : ℕ) (r : Record M) → Facts Granted t root pin r → Facts Granted t' root pin r
-    facts_last root r f = record { small = f.small; at = at_lasts root r.task r.stage f.at }
+    same_large : (large : Large) (a b : Node M) (k : List ℕ) → b.node ≡ a.node → IsLarge large a k → IsLarge large b k
+    same_large GrowLeaf a b k same h =
+        subst (λ (n : TableNode M). Begins n.prefix k × (length n.prefix ≡ 7) × (lookup n.children (next_byte n.prefix k) ≡ None) × (Fits n.form (length n.children + 1) → ⊥)) (sym same) h
+    same_large GrowInner a b k same h =
+        subst (λ (n : TableNode M). Begins n.prefix k × (length n.prefix < 7) × (lookup n.children (next_byte n.prefix k) ≡ None) × (Fits n.form (length n.children + 1) → ⊥)) (sym same) h
+    same_large Split a b k same h = subst (λ (n : TableNode M). Begins n.prefix k → ⊥) (sym same) h
+
+    small_same : (small : Small) (task : Task M) (a b : Node M) → b.node ≡ a.node → SmallWork Granted small task a → SmallWork Granted small task b
+    small_same small task a b same h = record {
+      writes = subst (λ (n : TableNode M). Writes Granted task (payload_in (lookup n.children (next_byte n.prefix (key_bytes task))))) (sym same) h.writes;
+      is = same_small small a b (key_bytes task) same h.is;
+    }
+
+    large_same : (large : Large) (task : Task M) (a b : Node M) → b.node ≡ a.node → LargeWork Granted large task a → LargeWork Granted large task b
+    large_same large task a b same h = record { writes = h.writes; is = same_large large a b (key_bytes task) same h.is }
+
+    small_lasts : (spot : Spot) (small : Small) (task : Task M) → Known t pin spot → While t spot (SmallWork Granted small task) → While t' spot (SmallWork Granted small task)
+    small_lasts spot small task kn f b bt w =
+        let found : (a : Node M) × (a.node ≡ b.node) × SmallWork Granted small task a =
+        while_lasts spot (λ n. (a : Node M) × (a.node ≡ n) × SmallWork Granted small task a) kn (λ a at e. (a, refl, f a at e)) b bt w in
+        small_same small task found.0 b (sym found.1) found.2
+
+    large_lasts : (spot : Spot) (large : Large) (task : Task M) → Known t pin spot → While t spot (LargeWork Granted large task) → While t' spot (LargeWork Granted large task)
+    large_lasts spot large task kn f b bt w =
+        let found : (a : Node M) × (a.node ≡ b.node) × LargeWork Granted large task a =
+        while_lasts spot (λ n. (a : Node M) × (a.node ≡ n) × LargeWork Granted large task a) kn (λ a at e. (a, refl, f a at e)) b bt w in
+        large_same large task found.0 b (sym found.1) found.2
+
+    below_lasts : (task : Task M) (pair : Pair) (large : Large) → IsThere t pin pair.above.slot → Below Granted t pin task pair large → Below Granted t' pin task pair large
+    below_lasts task pair large there f = record {
+      over = above_lasts pair (key_bytes task) there f.over;
+      here = known_lasts pair.here f.here;
+      work = large_lasts pair.here large task f.here f.work;
+    }
+
+    at_node_lasts : (task : Task M) (spot : Spot) (small : Small) → (Mine spot.slot → ⊥) → AtNode Granted t task spot small → AtNode Granted t' task spot small
+    at_node_lasts task spot small off f = record {
+      way = way_stays spot.slot (key_bytes task) (held_there spot f.held) f.way;
+      held = held_lasts spot f.held off;
+      work = f.work;
+    }
+
+    abbrev at_pair_lasts : (task : Task M) (pair : Pair) (large : Large) → ((s : ℕ) → IsTrue (is_in s (both_slots pair)) → Mine s → ⊥)
+        → AtPair Granted t task pair large → AtPair Granted t' task pair large
+    at_pair_lasts task pair large off f = record {
+      held = both_last pair (key_bytes task) f.held
+          (off pair.here.slot (first_in pair.here.slot (pair.above.slot ∷ [])))
+          (off pair.above.slot (next_in pair.here.slot pair.above.slot (pair.above.slot ∷ []) (first_in pair.above.slot [])));
+      work = f.work;
+    }
+
+    module _ (privates : PrivateStays t t' Mine) where
+      tail_lasts : (root : ℕ) (task : Task M) (tail : Tail) → ((s : ℕ) → IsTrue (is_in s (held_in tail)) → Mine s → ⊥) → ((s : ℕ) → IsTrue (is_in s (made_in tail)) → Mine s → ⊥)
+          → TailFacts Granted t root pin task tail → TailFacts Granted t' root pin task tail
+      tail_lasts root task (Upgrade path small) held made f =
+          (path_lasts root (key_bytes task) path f.0, small_lasts path.here small task f.0.here f.1)
+      tail_lasts root task (Write spot) held made f = at_node_lasts task spot Entry (held spot.slot (first_in spot.slot [])) f
+      tail_lasts root task (MakeLeaf spot) held made f = at_node_lasts task spot Leaf (held spot.slot (first_in spot.slot [])) f
+      tail_lasts root task (Link spot leaf) held made f = (
+        at_node_lasts task spot Leaf (held spot.slot (first_in spot.slot [])) f.0,
+        leaf_lasts privates task leaf (made leaf (first_in leaf [])) f.1,
+      )
+      tail_lasts root task (Unlock spot) held made f = (held_lasts spot f.0 (held spot.slot (first_in spot.slot [])), f.1)
+      tail_lasts root task (UpgradeAbove pair large) held made f = (
+        below_lasts task pair large (known_there pair.above f.1) f.0,
+        known_lasts pair.above f.1,
+        led_lasts pair.above (key_bytes task) pair.here.slot f.1 f.2,
+      )
+      tail_lasts root task (UpgradeBelow pair large) held made f = (
+        below_lasts task pair large (held_there pair.above f.1) f.0,
+        held_lasts pair.above f.1 (held pair.above.slot (first_in pair.above.slot [])),
+        f.2,
+      )
+      tail_lasts root task (MakeLeafBelow pair large) held made f = (at_pair_lasts task pair large held f.0, f.1)
+      tail_lasts root task (Grow pair leaf) held made f = (
+        at_pair_lasts task pair (is_for leaf) held f.0,
+        own_leaf_lasts privates task leaf made f.1,
+      )
+      tail_lasts root task (MakeMiddle pair leaf) held made f = (
+        at_pair_lasts task pair Split held f.0,
+        leaf_lasts privates task leaf (made leaf (first_in leaf [])) f.1,
+      )
+      tail_lasts root task (Replace pair copy leaf) held made f = (
+        at_pair_lasts task pair (is_for leaf) held f.0,
+        copy_lasts privates task f.0.held.here.node copy leaf (made copy (first_in copy (one_more leaf))) (λ s mine. made s (next_in copy s (one_more leaf) mine)) f.1,
+      )
+      tail_lasts root task (Insert pair middle leaf) held made f = (
+        at_pair_lasts task pair Split held f.0,
+        leaf_lasts privates task leaf (made leaf (next_in middle leaf (leaf ∷ []) (first_in leaf []))) f.1,
+        middle_lasts privates task f.0.held.here.node pair.here.slot middle leaf (made middle (first_in middle (leaf ∷ []))) f.2,
+      )
+      tail_lasts root task (Obsolete pair) held made f = (
+        f.0,
+        held_lasts pair.above f.1 (held pair.above.slot (next_in pair.here.slot pair.above.slot (pair.above.slot ∷ []) (first_in pair.above.slot []))),
+        out_lasts pair.here f.2 (held pair.here.slot (first_in pair.here.slot (pair.above.slot ∷ []))),
+        f.3,
+      )
+      tail_lasts root task (UnlockBelow pair) held made f = (
+        f.0,
+        held_lasts pair.above f.1 (held pair.above.slot (next_in pair.here.slot pair.above.slot (pair.above.slot ∷ []) (first_in pair.above.slot []))),
+        held_lasts pair.here f.2 (held pair.here.slot (first_in pair.here.slot (pair.above.slot ∷ []))),
+        f.3,
+      )
+
+      at_lasts : (root : ℕ) (task : Task M) (stage : Stage) → ((s : ℕ) → Holding stage s → Mine s → ⊥) → FactsAt Granted t root pin task stage → FactsAt Granted t' root pin task stage
+      at_lasts root task TakeRoot off f = f
+      at_lasts root task (Read path) off f = (f.0, path_lasts root (key_bytes task) path f.1)
+      at_lasts root task (Check path) off f = (f.0, path_lasts root (key_bytes task) path f.1, saw_lasts path task f.1.here f.2)
+      at_lasts root task (TakeBelow path slot) off f = (
+        f.0,
+        path_lasts root (key_bytes task) path f.1,
+        led_lasts path.here (key_bytes task) slot f.1.here f.2,
+        f.3,
+        there_lasts slot f.4,
+        f.5,
+        f.6,
+      )
+      at_lasts root task (CheckAbove path spot fits) off f = (
+        f.0,
+        path_lasts root (key_bytes task) path f.1,
+        led_lasts path.here (key_bytes task) spot.slot f.1.here f.2,
+        f.3,
+        known_lasts spot f.4,
+        test_lasts spot (key_bytes task) fits f.4 f.5,
+        f.6,
+      )
+      at_lasts root task (stage.Tail tail) off f = tail_lasts root task tail (λ s h. off s (inl h)) (λ s h. off s (inr h)) f
+      at_lasts root task Finish off f = f
+
+      -- the facts of a call last through any event that the call may rely on, if nothing that it holds is the other's
+      pub facts_last : (root : ℕ) (r : Record M) → ((s : ℕ) → Holding r.stage s → Mine s → ⊥) → Facts Granted t root pin r → Facts Granted t' root pin r
+      facts_last root r off f = record { small = f.small; at = at_lasts root r.task r.stage off f.at }

@@ -80,6 +80,7 @@ pub record IsSound {M : Type 0} (Granted : Type 0) (w : World M) : Type 0 where
       → Facts Granted (table_of w) w.root pin r
   pub pinned : (id : ℕ) (r : Record M) → call_of w id ≡ Some r → IsSome (pin_of w.pins id)
   pub called : (id pin : ℕ) → pin_of w.pins id ≡ Some pin → IsSome (call_of w id)
+  pub numbered : (id : ℕ) (r : Record M) → call_of w id ≡ Some r → id < 2 ^ 64
   pub seated : (id : ℕ) → is_seated w.pins id ≡ true → IsSome (entry_at w.calls id)
   pub before : (id pin : ℕ) → pin_of w.pins id ≡ Some pin → pin ≤ w.pins.count
   pub apart : (i j s : ℕ) (r q : Record M) → call_of w i ≡ Some r → call_of w j ≡ Some q → i ≢ j
