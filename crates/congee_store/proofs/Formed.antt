@@ -23,10 +23,11 @@ use Rattle.congee_sync.specs.declared.epoch.Life.{Life}
 use Rattle.congee_store.specs.declared.stage.Record.{Record}
 use Rattle.congee_store.specs.declared.stage.Stored.{Stored}
 use Rattle.congee_store.specs.inner.Tables.{byte_at, IsLinked, IsBelow, IsPlaced}
-use Rattle.congee_store.specs.inner.Facts.{Holding, IsSound, sizes_of}
+use Rattle.congee_store.specs.inner.Facts.{Facts, Holding, IsSound, sizes_of}
 use Rattle.congee_store.specs.inner.Shown.{publicity, shown, nodes_from, flight, flight_in, held_at, made_at, state_of}
 use Rattle.congee_store.specs.inner.Turns.{Shows}
 use Rattle.congee_store.specs.inner.World.{World, Standing, is_private, is_linked, is_detached, is_retired, Node, Table, node_of, table_of, entry, call_of}
+use Rattle.congee_store.proofs.Holding.{StandsLocked, StandsPrivate, holds_at, made_at_slot}
 use Rattle.congee_store.proofs.Ways.{Begins-trans, Begins-both, get_or-begins, longer-begins, slots_same}
 use Rattle.congee_store.proofs.Reaching.{lookup-inside, last-byte, one, shown_at, reaches_linked, linked_reaches, onward}
 use Rattle.congee_store.proofs.Narrow.{nodes_narrow}
@@ -147,29 +148,18 @@ module _ {M : Type 0} where
   record_at (Some r) None call e = absurd (none_some call e)
   record_at (Some r) (Some n) call e = (r, n, refl, some_same call (flight n r) (sym e))
 
-  -- no stage holds a node or has made one
-  holds_none : (r : Record M) (slot : ℕ) → IsTrue (is_in slot (held_at r.stage)) → ⊥
-  holds_none r slot h = cc
-
-  made_none : (r : Record M) (slot : ℕ) → IsTrue (is_in slot (made_at r.stage)) → ⊥
-  made_none r slot h = cc
-
-  -- what the calls in flight hold, and what they have made
-  pub record HoldsWell (w : World M) : Type 0 where
-    pub small : (id slot : ℕ) (r : Record M) → call_of w id ≡ Some r → Holding r.stage slot → id < 2 ^ 64
-    pub holds : (id slot : ℕ) (r : Record M) → call_of w id ≡ Some r → IsTrue (is_in slot (held_at r.stage))
-        → (a : Node M) × (table_of w slot ≡ Some a) × (publicity a.standing ≡ published) × IsLocked a.word × (IsObsolete a.word → ⊥)
-    pub made : (id slot : ℕ) (r : Record M) → call_of w id ≡ Some r → IsTrue (is_in slot (made_at r.stage))
-        → (a : Node M) × (table_of w slot ≡ Some a) × (a.standing ≡ is_private) × (a.word ≡ 0)
-
-  holdings : (w : World M) → HoldsWell w
-  holdings w = record {
-    small = λ id slot r at h. elim h [ inl held ↦ absurd (holds_none r slot held) | inr made ↦ absurd (made_none r slot made) ];
-    holds = λ id slot r at h. absurd (holds_none r slot h);
-    made = λ id slot r at h. absurd (made_none r slot h);
-  }
-
 module _ {M : Type 0} (Granted : Type 0) (w : World M) (sound : IsSound Granted w) where
+  -- what a call in flight knows
+  known_of : (id : ℕ) (r : Record M) → call_of w id ≡ Some r → (pin : ℕ) × Facts Granted (table_of w) w.root pin r
+  known_of id r at = let p = some_of (pin_of w.pins id) (sound.pinned id r at) in (p.0, sound.facts id p.0 r at p.1)
+
+  -- the node that it holds, and the one that it has made
+  node_held : (id slot : ℕ) (r : Record M) → call_of w id ≡ Some r → IsTrue (is_in slot (held_at r.stage)) → StandsLocked (table_of w) slot
+  node_held id slot r at mine = let f = known_of id r at in holds_at (table_of w) Granted w.root f.0 r slot f.1 mine
+
+  node_made : (id slot : ℕ) (r : Record M) → call_of w id ≡ Some r → IsTrue (is_in slot (made_at r.stage)) → StandsPrivate (table_of w) slot
+  node_made id slot r at mine = let f = known_of id r at in made_at_slot (table_of w) Granted w.root f.0 r slot f.1 mine
+
   -- the record of a call that a reader sees
   seen_call : (id : ℕ) (call : Flight M) → lookup (state_of w).flights id ≡ Some call → (r : Record M) × (pin : ℕ) × (call_of w id ≡ Some r) × (call ≡ flight pin r)
   seen_call id call e =
@@ -236,13 +226,13 @@ module _ {M : Type 0} (Granted : Type 0) (w : World M) (sound : IsSound Granted 
   holds_locked : (slot : ℕ) (n : Node M) → table_of w slot ≡ Some n → (id : ℕ) → Holds (state_of w) id slot → (publicity n.standing ≡ published) × IsLocked n.word × (IsObsolete n.word → ⊥)
   holds_locked slot n at id h =
       let f = holder id slot h in
-      let k = (holdings w).holds id slot f.0 f.1 f.2 in
-      subst (λ (z : Node M). (publicity z.standing ≡ published) × IsLocked z.word × (IsObsolete z.word → ⊥)) (some_same k.0 n (sym k.1 ∙ at)) (k.2, k.3, k.4)
+      let k = node_held id slot f.0 f.1 f.2 in
+      subst (λ (z : Node M). (publicity z.standing ≡ published) × IsLocked z.word × (IsObsolete z.word → ⊥)) (some_same k.node n (sym k.here ∙ at)) (k.public, k.locked, k.live)
 
   made_free : (slot : ℕ) (n : Node M) → table_of w slot ≡ Some n → (id : ℕ) (r : Record M) → call_of w id ≡ Some r → IsTrue (is_in slot (made_at r.stage)) → (n.standing ≡ is_private) × (n.word ≡ 0)
   made_free slot n at id r is mine =
-      let k = (holdings w).made id slot r is mine in
-      subst (λ (z : Node M). (z.standing ≡ is_private) × (z.word ≡ 0)) (some_same k.0 n (sym k.1 ∙ at)) (k.2, k.3)
+      let k = node_made id slot r is mine in
+      subst (λ (z : Node M). (z.standing ≡ is_private) × (z.word ≡ 0)) (some_same k.node n (sym k.here ∙ at)) (k.standing, k.word)
 
   -- what the node in a slot, and the calls that hold it, say of one another
   kept_seen : (slot : ℕ) (n : Node M) → table_of w slot ≡ Some n → IsKept (state_of w) slot (one n)
@@ -263,7 +253,7 @@ module _ {M : Type 0} (Granted : Type 0) (w : World M) (sound : IsSound Granted 
         held = λ locked used.
             let h = sound.held slot (record { node = n; here = at; why = inr (locked, used) }) in
             elim h.3 [
-              | inl mine ↦ (h.0, holds_shown h.0 slot h.1 ((holdings w).small h.0 slot h.1 h.2 h.3) h.2 mine)
+              | inl mine ↦ (h.0, holds_shown h.0 slot h.1 (sound.numbered h.0 h.1 h.2) h.2 mine)
               | inr mine ↦ absurd (locked_word n.word (made_free slot n at h.0 h.1 h.2 mine).1 locked)
             ];
         holds = holds_locked slot n at;
@@ -271,17 +261,17 @@ module _ {M : Type 0} (Granted : Type 0) (w : World M) (sound : IsSound Granted 
             let h = sound.held slot (record { node = n; here = at; why = inl (standing_private n.standing e) }) in
             elim h.3 [
               | inl mine ↦
-                  let k = holds_locked slot n at h.0 (holds_shown h.0 slot h.1 ((holdings w).small h.0 slot h.1 h.2 h.3) h.2 mine) in
+                  let k = holds_locked slot n at h.0 (holds_shown h.0 slot h.1 (sound.numbered h.0 h.1 h.2) h.2 mine) in
                   absurd (not_yet_published (sym e ∙ k.0))
-              | inr mine ↦ (h.0, made_shown h.0 slot h.1 ((holdings w).small h.0 slot h.1 h.2 h.3) h.2 mine)
+              | inr mine ↦ (h.0, made_shown h.0 slot h.1 (sound.numbered h.0 h.1 h.2) h.2 mine)
             ];
       }
 
   made_seen : (id slot : ℕ) → HasMade (state_of w) id slot → (a : TableNode M) × (lookup (state_of w).nodes slot ≡ Some (unlinked a))
   made_seen id slot h =
       let f = maker id slot h in
-      let k = (holdings w).made id slot f.0 f.1 f.2 in
-      (k.0.node, shown_node w slot ∙ ap shown k.1 ∙ unlinked_is k.0 k.2 k.3)
+      let k = node_made id slot f.0 f.1 f.2 in
+      (k.node.node, shown_node w slot ∙ ap shown k.here ∙ unlinked_is k.node k.standing k.word)
     where
       unlinked_is : (n : Node M) → n.standing ≡ is_private → n.word ≡ 0 → Some (one n) ≡ Some (unlinked n.node)
       unlinked_is n standing word = rw (standing, word) refl
@@ -289,8 +279,8 @@ module _ {M : Type 0} (Granted : Type 0) (w : World M) (sound : IsSound Granted 
   held_seen : (id slot : ℕ) → Holds (state_of w) id slot → IsSome (lookup (state_of w).nodes slot)
   held_seen id slot h =
       let f = holder id slot h in
-      let k = (holdings w).holds id slot f.0 f.1 f.2 in
-      subst IsSome (sym (shown_node w slot ∙ ap shown k.1)) refl
+      let k = node_held id slot f.0 f.1 f.2 in
+      subst IsSome (sym (shown_node w slot ∙ ap shown k.here)) refl
 
   -- A SOUND INSIDE IS WELL FORMED
   pub well_formed : IsWellFormed (state_of w)
