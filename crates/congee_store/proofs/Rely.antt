@@ -82,6 +82,7 @@ module _ {M : Type 0} (t t' : Table M) (Mine : ℕ → Type 0) (pin : ℕ) (g : 
     above = came_lasts root k path.above path.here.slot f.above;
     here = known_lasts path.here f.here;
     way = way_lasts path.here k f.here f.way;
+    apart = f.apart;
   }
 
   -- an event of another call leaves what this one holds as it is
@@ -225,6 +226,7 @@ module _ {M : Type 0} (t t' : Table M) (Mine : ℕ → Type 0) (pin : ℕ) (g : 
 
     below_lasts : (task : Task M) (pair : Pair) (large : Large) → IsThere t pin pair.above.slot → Below Granted t pin task pair large → Below Granted t' pin task pair large
     below_lasts task pair large there f = record {
+      opened = f.opened;
       over = above_lasts pair (key_bytes task) there f.over;
       here = known_lasts pair.here f.here;
       work = large_lasts pair.here large task f.here f.work;
@@ -250,7 +252,7 @@ module _ {M : Type 0} (t t' : Table M) (Mine : ℕ → Type 0) (pin : ℕ) (g : 
       tail_lasts : (root : ℕ) (task : Task M) (tail : Tail) → ((s : ℕ) → IsTrue (is_in s (held_in tail)) → Mine s → ⊥) → ((s : ℕ) → IsTrue (is_in s (made_in tail)) → Mine s → ⊥)
           → TailFacts Granted t root pin task tail → TailFacts Granted t' root pin task tail
       tail_lasts root task (Upgrade path small) held made f =
-          (path_lasts root (key_bytes task) path f.0, small_lasts path.here small task f.0.here f.1)
+          (f.0, path_lasts root (key_bytes task) path f.1, small_lasts path.here small task f.1.here f.2)
       tail_lasts root task (Write spot) held made f = at_node_lasts task spot Entry (held spot.slot (first_in spot.slot [])) f
       tail_lasts root task (MakeLeaf spot) held made f = at_node_lasts task spot Leaf (held spot.slot (first_in spot.slot [])) f
       tail_lasts root task (Link spot leaf) held made f = (

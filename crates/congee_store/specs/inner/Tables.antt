@@ -1,5 +1,5 @@
 -- THE TABLE OF NODES: what holds of it after each event, what a call may know of a node, and what an event leaves to others.
-use Rattle.std.specs.Prelude.{◌≡◌, ℕ, ◌≤◌, Bool, IsTrue, List, [], ◌∷◌, ◌++◌, length, Option, Some, None, ◌⊎◌, ◌↔◌}
+use Rattle.std.specs.Prelude.{◌≡◌, ◌≢◌, ℕ, ◌≤◌, Bool, IsTrue, List, [], ◌∷◌, ◌++◌, length, Option, Some, None, ◌⊎◌, ◌↔◌}
 use Rattle.congee_base.specs.declared.base_node.NodeType.TheVariants.{N256}
 use Rattle.congee_map.specs.Map.{Rises}
 use Rattle.congee_node_table.specs.Key.{Begins, AreBytes, next_byte}
@@ -110,6 +110,7 @@ module _ {M : Type 0} where
     pub above : CameFrom t root pin k path.above path.here.slot
     pub here : Known t pin path.here
     pub way : OnWay t path.here.slot k
+    pub apart : (p : Spot) → path.above ≡ Some p → p.slot ≢ path.here.slot
 
   -- a test of the prefix of the node in this slot
   abbrev pub TestOf : Table M → ℕ → List ℕ → Bool → Type 0

@@ -8,8 +8,10 @@ use Rattle.congee_node_table.specs.Key.{Begins, next_byte}
 use Rattle.congee_node_table.specs.TableNode.{TableNode}
 use Rattle.congee_node_table.specs.declared.child.Child.{Child}
 use Rattle.congee_node_table.specs.declared.child.Child.TheVariants.{Payload, Node as below_at}
-use Rattle.congee_protocol.specs.Calls.{stored}
+use Rattle.congee_protocol.specs.Calls.{key_of, stored}
 use Rattle.congee_protocol.specs.Local.{payload_in, seen_payload}
+use Rattle.congee_protocol.specs.declared.types.Asking.TheVariants.{Fresh}
+use Rattle.congee_protocol.specs.declared.types.Op.TheVariants.{Insert as insert_of}
 use Rattle.congee_protocol.specs.declared.types.Progress.TheVariants as progress
 use Rattle.congee_sync.specs.Lock.{IsFree, version, last_version}
 use Rattle.congee_store.specs.declared.stage.Spot.{Spot}
@@ -162,6 +164,8 @@ module _ {M : Type 0} (Granted : Type 0) where
     pub opened : IsOpen task
     pub value : M
     pub stores : stores task ≡ Some value
+    pub inserts : opened.op ≡ insert_of (key_of task.outline) value
+    pub fresh : task.asking ≡ Fresh
     pub seen : Sees Granted task → seen_payload task.last ≡ stands
 
   -- what is to be done at a node, or at its parent
@@ -175,6 +179,7 @@ module _ {M : Type 0} (Granted : Type 0) where
 
   -- before the second upgrade: the node is known, and the parent led to it
   pub record Below (t : Table M) (pin : ℕ) (task : Task M) (pair : Pair) (large : Large) : Type 0 where
+    pub opened : IsOpen task
     pub over : IsAbove t pair (key_bytes task)
     pub here : Known t pin pair.here
     pub work : While t pair.here (LargeWork large task)
@@ -194,8 +199,8 @@ module _ {M : Type 0} (Granted : Type 0) where
   IsOver task = task.progress ≢ progress.Open
 
   abbrev pub TailFacts : Table M → ℕ → ℕ → Task M → Tail → Type 0
-  TailFacts t root pin task (Upgrade path small) =
-      OnPath t root pin (key_bytes task) path × While t path.here (SmallWork small task)
+  TailFacts t root pin task (Upgrade path small) = IsOpen task
+      × OnPath t root pin (key_bytes task) path × While t path.here (SmallWork small task)
   TailFacts t root pin task (Write spot) = AtNode t task spot Entry
   TailFacts t root pin task (MakeLeaf spot) = AtNode t task spot Leaf
   TailFacts t root pin task (Link spot leaf) = AtNode t task spot Leaf × HasLeaf t task leaf

@@ -25,7 +25,7 @@ use Rattle.congee_store.specs.declared.stage.Stage.TheVariants.{TakeRoot, Read, 
 use Rattle.congee_store.specs.inner.Tables.{Guarantees, NeedsHolder, IsIn}
 use Rattle.congee_store.specs.inner.Tasks.{SawNode}
 use Rattle.congee_store.specs.inner.Facts.{Holding, named_at, Facts, IsSound}
-use Rattle.congee_store.specs.inner.Shown.{shown, flight, spots_of, state_of}
+use Rattle.congee_store.specs.inner.Shown.{shown, flight, held_at, made_at, spots_of, state_of}
 use Rattle.congee_store.specs.inner.Tails.{tail_work}
 use Rattle.congee_store.specs.inner.World.{World, Node, Table, table_of, call_of}
 
@@ -108,6 +108,8 @@ module _ {M : Type 0} (Granted : Type 0) (same : M → M → Bool) where
   pub record IsRead (t : Table M) (root pin : ℕ) (call : Record M) (env : Env M) (next : Record M)
       (report : Report) (out : Outcome M) : Type 0 where
     pub facts : Facts Granted t root pin next
+    pub held : held_at next.stage ≡ []
+    pub made : made_at next.stage ≡ []
     pub course : IsCourse t t root call env next report out
     pub does : (s : State M) (id : ℕ) → Shows t root s → DoesAs Granted same s
         (with_call s id (flight pin next)) id (flight pin call) env report out report.kind
