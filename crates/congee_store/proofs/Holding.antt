@@ -14,12 +14,10 @@ use Rattle.congee_store.specs.declared.tail.Pair.{Pair}
 use Rattle.congee_store.specs.declared.tail.Tail.{Tail}
 use Rattle.congee_store.specs.declared.tail.Tail.TheVariants.{Upgrade, Write, MakeLeaf, Link, Unlock, UpgradeAbove, UpgradeBelow, MakeLeafBelow, Grow, MakeMiddle, Replace, Insert, Obsolete, UnlockBelow}
 use Rattle.congee_store.specs.inner.Facts.{Facts, FactsAt, Holding}
-use Rattle.congee_store.specs.inner.Moves.{NewlyHeld}
 use Rattle.congee_store.specs.inner.Shown.{held_at, made_at, publicity}
 use Rattle.congee_store.specs.inner.TailFacts.{AreHeld, IsHeld, IsMade, IsOut, TailFacts}
 use Rattle.congee_store.specs.inner.Tails.{held_in, made_in}
-use Rattle.congee_store.specs.inner.World.{is_private, is_linked, Node, Table}
-use Rattle.congee_store.proofs.Options.{none_some, some_same}
+use Rattle.congee_store.specs.inner.World.{is_private, Node, Table}
 
 -- the members of short lists
 pub first_in : (x : ℕ) (xs : List ℕ) → IsTrue (is_in x (x ∷ xs))
@@ -91,12 +89,6 @@ live_now word was is free obsolete = omega (arith, is, free, obsolete)
 
 pub not_free_now : (word was : ℕ) → word ≡ was + 2 → IsFree was → IsFree word → ⊥
 not_free_now word was is free still = omega (arith, is, free, still)
-
-not_both : (word : ℕ) → IsFree word → IsLocked word → ⊥
-not_both word free locked = omega (arith, free, locked)
-
-private_linked : is_private ≡ is_linked → ⊥
-private_linked e = cc
 
 module _ {M : Type 0} (t : Table M) where
   -- a locked node that a reader sees, and a private one
@@ -196,25 +188,3 @@ module _ {M : Type 0} (t : Table M) where
         at task (stage.CheckAbove path spot fits) x y = none_of slot y
         at task (stage.Tail tail) x y = tail_made task tail slot x y
         at task stage.Finish x y = none_of slot y
-
-    -- What a call holds isn't empty or free, so that no other call takes it.
-    pub newly_apart : (r : Record M) (slot : ℕ) → Facts Granted t root pin r → Holding r.stage slot → NewlyHeld t slot → ⊥
-    newly_apart r slot f h new =
-        elim new [
-          | inl empty ↦
-              elim h [
-                | inl held ↦ none_some (holds_at r slot f held).node (sym empty ∙ (holds_at r slot f held).here)
-                | inr made ↦ none_some (made_at_slot r slot f made).node (sym empty ∙ (made_at_slot r slot f made).here)
-              ]
-          | inr free ↦
-              elim h [
-                | inl held ↦
-                    let x = holds_at r slot f held in
-                    let same : x.node.word ≡ free.node.word = ap (λ (z : Node M). z.word) (some_same x.node free.node (sym x.here ∙ free.linked.here)) in
-                    not_both x.node.word (subst IsFree (sym same) free.free) x.locked
-                | inr made ↦
-                    let x = made_at_slot r slot f made in
-                    let same : x.node.standing ≡ free.node.standing = ap (λ (z : Node M). z.standing) (some_same x.node free.node (sym x.here ∙ free.linked.here)) in
-                    private_linked (sym x.standing ∙ (same ∙ free.linked.standing))
-              ]
-        ]
