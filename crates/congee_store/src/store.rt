@@ -50,7 +50,7 @@ impl<P: HasMeaning> Store<P> {
 
     /// Links a private node.
     pub fn publish(&mut self, slot: usize)
-        requires { (a : Node P.Meaning) × (meant_table P.meaning self.old slot ≡ Some a) }
+        requires at { (a : Node P.Meaning) × (meant_table P.meaning self.old slot ≡ Some a) }
         ensures sets { (a : Node P.Meaning) → meant_table P.meaning self.old slot ≡ Some a
             → SetsNode P.meaning self.old self.new slot (Some (record a { standing = is_linked })) }
         ensures sizes { sizes_of self.new.nodes.slots ≡ sizes_of self.old.nodes.slots }
@@ -64,7 +64,7 @@ impl<P: HasMeaning> Store<P> {
 
     /// Takes a linked node out of the tree.
     pub fn detach(&mut self, slot: usize)
-        requires { (a : Node P.Meaning) × (meant_table P.meaning self.old slot ≡ Some a) }
+        requires at { (a : Node P.Meaning) × (meant_table P.meaning self.old slot ≡ Some a) }
         ensures sets { (a : Node P.Meaning) → meant_table P.meaning self.old slot ≡ Some a
             → SetsNode P.meaning self.old self.new slot (Some (record a { standing = is_detached })) }
         ensures sizes { sizes_of self.new.nodes.slots ≡ sizes_of self.old.nodes.slots }
@@ -78,7 +78,7 @@ impl<P: HasMeaning> Store<P> {
 
     /// Puts a child under a byte of a node, and returns the one that stood there.
     pub fn put_child(&mut self, slot: usize, byte: u8, child: Child<P>) -> Option<Child<P>>
-        requires { (a : Node P.Meaning) × (meant_table P.meaning self.old slot ≡ Some a)
+        requires at { (a : Node P.Meaning) × (meant_table P.meaning self.old slot ≡ Some a)
             × MayHave a.node.prefix (child_of P.meaning child)
             × (lookup a.node.children byte ≡ None → Fits a.node.form (length a.node.children + 1)) }
         ensures sets { (a : Node P.Meaning) → meant_table P.meaning self.old slot ≡ Some a
@@ -102,7 +102,7 @@ impl<P: HasMeaning> Store<P> {
 
     /// Puts a new node into a free slot, where only its call knows of it. A refusal for want of memory changes nothing.
     pub fn add(&mut self, node: TreeNode<P>) -> Result<usize, OOMError>
-        requires { AllAdmitted (meant_table P.meaning self.old) self.old.pins.slots }
+        requires admitted { AllAdmitted (meant_table P.meaning self.old) self.old.pins.slots }
         ensures free { IfOk result (λ slot. meant_table P.meaning self.old slot ≡ None) }
         ensures sets { IfOk result (λ slot. SetsNode P.meaning self.old self.new slot
             (Some (made_node (meant_node P.meaning node)))) }

@@ -1,9 +1,9 @@
-use Rattle.std.proofs.Common.{◌≡◌, ◌≢◌, ℕ, Some, None, IsSome, refl, sym, subst, ap, ◌∙◌, slice_index_or}
+use Rattle.std.proofs.Common.{◌≡◌, Some, IsSome, refl, sym, subst, ap, ◌∙◌}
 use Rattle.slab.proofs.SlabLemmas.{Updates-with_value}
 use Rattle.slab.specs.Slab.{get}
 use Rattle.congee_store.specs.inner.World.{Node}
 use Rattle.congee_store.proofs.Options.{some_same}
-use Rattle.congee_store.proofs.Slots.{stored_as, table_has, table_same, sizes_kept}
+use Rattle.congee_store.proofs.Slots.{table_has, table_same, sizes_kept}
 use Rattle.congee_store.proofs.store.Store.set_word.Goals as goal
 
 pub returns-clause-here : goal.returns-clause-here
