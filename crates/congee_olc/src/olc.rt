@@ -1,13 +1,5 @@
 //! The machine.
 
-mod advance;
-mod calls;
-mod content;
-mod copies;
-pub mod machine;
-mod op;
-mod reading;
-pub mod replay;
-pub mod stage;
-pub mod trace;
-pub mod types;
+pub use congee_machine::machine;
+pub use congee_protocol::{payload, trace, types};
+pub use congee_replay::replay;

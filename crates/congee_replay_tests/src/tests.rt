@@ -1,2 +1,5 @@
+mod courses;
+mod insertions;
 mod machine;
+mod many_pairs;
 mod schedules;

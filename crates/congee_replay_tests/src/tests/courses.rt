@@ -3,34 +3,12 @@
 //! A test owns no machine, since the check expands the drop of each owned value at each assertion: one helper works on a
 //! machine that it borrows, and a second one makes that machine and returns a small value.
 
-use crate::olc::copies::copy_seen;
-use crate::olc::machine::Machine;
-use crate::olc::machine::tests::building::{BuildError, flat, of_pairs};
-use crate::olc::types::{Env, Kind, Op, Outcome, Reply, Report, Seen, StartError};
-use congee_map::payload::Payload;
-use congee_node_table::allocator::{Allocator, DefaultAllocator};
+use congee_machine::machine::Machine;
+use congee_node_table::allocator::DefaultAllocator;
 use congee_node_table::child::Child;
+use congee_protocol::types::{Env, Kind, Op, Outcome, Reply, Report, Seen, StartError};
 use std::alloc::{AllocError, Global};
 use std::test::Fail;
-
-mod building;
-mod many_pairs;
-
-// Gives the node in a slot the word that its next writer would leave, where its word is free and not of the last version.
-// Returns whether it did.
-fn renew<P: Payload, A: Allocator>(machine: &mut Machine<P, A>, slot: Option<usize>) -> bool {
-    let Some(slot) = slot else {
-        return false;
-    };
-    let Some(stored) = machine.nodes.get_mut(slot) else {
-        return false;
-    };
-    let Some(locked) = stored.word.upgraded(stored.word) else {
-        return false;
-    };
-    stored.word = locked.unlocked();
-    true
-}
 
 // What a Read reports of a node with one child.
 fn seen_of(child: Option<Child<u64>>) -> Seen<u64> {
@@ -66,11 +44,35 @@ fn plain() -> Env<u64> {
 }
 
 // A machine of numbers that no budget limits.
-type Numbers = Machine<u64, DefaultAllocator>;
+pub(super) type Numbers = Machine<u64, DefaultAllocator>;
+
+// Inserts a pair by a call of a number that nobody disturbs.
+fn insert(machine: &mut Numbers, id: u64, key: u64, value: u64) -> Result<(), StartError> {
+    let op = Op::Insert(key, value);
+    machine.start(id, &op)?;
+    for _ in 1..40 {
+        let (_, _) = machine.step(id, &op, plain());
+    }
+    Ok(())
+}
+
+fn insert_all(machine: &mut Numbers, pairs: &[(u64, u64)]) -> Result<(), StartError> {
+    for (key, value) in pairs {
+        insert(machine, 0, *key, *value)?;
+    }
+    Ok(())
+}
+
+// A machine that stores these pairs.
+pub(super) fn of_pairs(alloc: Global, pairs: &[(u64, u64)]) -> Result<Numbers, Fail> {
+    let mut machine = Machine::new(alloc, DefaultAllocator {})?;
+    insert_all(&mut machine, pairs)?;
+    Ok(machine)
+}
 
 // A machine that stores 42 at the key 1 alone.
-fn one_pair(alloc: Global) -> Result<Numbers, BuildError> {
-    of_pairs(alloc, DefaultAllocator {}, flat(), &[(1, 42)])
+fn one_pair(alloc: Global) -> Result<Numbers, Fail> {
+    of_pairs(alloc, &[(1, 42)])
 }
 
 // Whether the call of number 0 has read this child last.
@@ -119,10 +121,10 @@ fn answer(outcome: Outcome<u64>) -> Option<Option<u64>> {
 
 // The course of a Get.
 #[derive(Clone, Copy)]
-struct Course {
-    id: u64,
-    key: u64,
-    answer: Option<Option<u64>>,
+pub(super) struct Course {
+    pub(super) id: u64,
+    pub(super) key: u64,
+    pub(super) answer: Option<Option<u64>>,
     // What the last event was, and the slot that it touched.
     kind: Kind,
     slot: Option<usize>,
@@ -130,7 +132,7 @@ struct Course {
 
 impl Course {
     // Starts a Get.
-    fn start(machine: &mut Numbers, id: u64, key: u64) -> Result<Self, StartError> {
+    pub(super) fn start(machine: &mut Numbers, id: u64, key: u64) -> Result<Self, StartError> {
         let report = machine.start(id, &Op::Get(key))?;
         Ok(Course {
             id,
@@ -142,7 +144,7 @@ impl Course {
     }
 
     // Makes one more event.
-    fn step(&mut self, machine: &mut Numbers) {
+    pub(super) fn step(&mut self, machine: &mut Numbers) {
         let (report, outcome) = machine.step(self.id, &Op::Get(self.key), plain());
         self.kind = report.kind;
         self.slot = report.slot;
@@ -166,7 +168,7 @@ impl Course {
     }
 
     // Whether it was answered so, and has ended.
-    fn has_ended(&self, machine: &Numbers, value: Option<u64>) -> bool {
+    pub(super) fn has_ended(&self, machine: &Numbers, value: Option<u64>) -> bool {
         self.answer == Some(value) && !machine.is_in_flight(self.id)
     }
 }
@@ -233,24 +235,43 @@ fn goes_on(machine: &mut Numbers, env: Env<u64>) -> Option<Report> {
     }
 }
 
+// What a torn Read may report: a value that never stood there, nothing, or a node that isn't there.
+#[derive(Clone, Copy)]
+enum Tear {
+    Value,
+    Nothing,
+    Node,
+}
+
+impl Tear {
+    fn seen(self) -> Seen<u64> {
+        match self {
+            Tear::Value => seen_of(Some(Child::Payload(999))),
+            Tear::Nothing => seen_of(None),
+            Tear::Node => seen_of(Some(Child::Node(77))),
+        }
+    }
+}
+
 // Whether the Read of a leaf whose word is another reports this, and the Check after it fails.
-fn is_torn(machine: &mut Numbers, leaf: Option<usize>, read: &Seen<u64>) -> bool {
-    let whole = goes_on(machine, torn(copy_seen(read)));
-    if whole != Some(report_at(Kind::Read, leaf, true)) || !has_seen(machine, read) {
+fn is_torn(machine: &mut Numbers, leaf: Option<usize>, read: Tear) -> bool {
+    let whole = goes_on(machine, torn(read.seen()));
+    if whole != Some(report_at(Kind::Read, leaf, true)) || !has_seen(machine, &read.seen()) {
         return false;
     }
     goes_on(machine, plain()) == Some(report_at(Kind::Check, leaf, false))
 }
 
-// A Get whose leaf is written before it is read; a question mark where the Read isn't torn as it should be, or the answer
-// isn't the value that stands there.
-fn torn_course(machine: &mut Numbers, read: &Seen<u64>, letters: &mut String) -> Result<(), Fail> {
+// A Get whose leaf gets another pair before it is read; a question mark where the Read isn't torn as it should be, or the
+// answer isn't the value that stands there.
+fn torn_course(machine: &mut Numbers, read: Tear, letters: &mut String) -> Result<(), Fail> {
     let mut course = Course::start(machine, 0, 1)?;
     letters.push(letter(course.kind))?;
     course.go_on(machine, 4, letters)?;
     let leaf = course.slot;
     course.go_on(machine, 1, letters)?;
-    if !renew(machine, leaf) || !is_torn(machine, leaf, read) {
+    insert(machine, 1, 2, 2)?;
+    if !is_torn(machine, leaf, read) {
         letters.push('?')?;
     }
     course.go_on(machine, 8, letters)?;
@@ -260,23 +281,23 @@ fn torn_course(machine: &mut Numbers, read: &Seen<u64>, letters: &mut String) ->
     Ok(())
 }
 
-fn torn_on_one_pair(alloc: Global, read: &Seen<u64>, letters: &mut String) -> Result<(), Fail> {
+fn torn_on_one_pair(alloc: Global, read: Tear, letters: &mut String) -> Result<(), Fail> {
     let mut machine = one_pair(alloc)?;
     torn_course(&mut machine, read, letters)
 }
 
 // Whether a Get takes its course, from the root once more after its torn Read.
-fn is_not_believed(alloc: Global, child: Option<Child<u64>>) -> Result<bool, Fail> {
+fn is_not_believed(alloc: Global, read: Tear) -> Result<bool, Fail> {
     let mut letters = String::new(alloc);
-    torn_on_one_pair(alloc, &seen_of(child), &mut letters)?;
+    torn_on_one_pair(alloc, read, &mut letters)?;
     Ok(letters.as_str() == "STRCTCTRCTCRCF")
 }
 
 #[test]
 fn a_torn_read_is_not_believed(rt: HostRuntime) -> Result<(), Fail> {
-    assert!(rt; is_not_believed(rt.alloc(), Some(Child::Payload(999)))?);
-    assert!(rt; is_not_believed(rt.alloc(), None)?);
-    assert!(rt; is_not_believed(rt.alloc(), Some(Child::Node(77)))?);
+    assert!(rt; is_not_believed(rt.alloc(), Tear::Value)?);
+    assert!(rt; is_not_believed(rt.alloc(), Tear::Nothing)?);
+    assert!(rt; is_not_believed(rt.alloc(), Tear::Node)?);
     Ok(())
 }
 
@@ -345,7 +366,7 @@ fn seats_are_the_least_free_numbers(rt: HostRuntime) -> Result<(), Fail> {
     Ok(())
 }
 
-fn count_of_one_pair(alloc: Global) -> Result<u128, BuildError> {
+fn count_of_one_pair(alloc: Global) -> Result<u128, Fail> {
     let machine = one_pair(alloc)?;
     machine.is_well_formed();
     Ok(machine.entry_count())
@@ -357,32 +378,9 @@ fn one_pair_is_counted(rt: HostRuntime) -> Result<(), Fail> {
     Ok(())
 }
 
-// Whether a call that isn't served is refused at its Read, and then ends.
-fn refuses(machine: &mut Numbers, op: &Op<u64>) -> Result<bool, StartError> {
-    machine.start(0, op)?;
-    let (_, _) = machine.step(0, op, plain());
-    let (report, outcome) = machine.step(0, op, plain());
-    if report.kind != Kind::Read || !matches!(outcome, Outcome::Refused) {
-        return Ok(false);
-    }
-    let (_, outcome) = machine.step(0, op, plain());
-    Ok(matches!(outcome, Outcome::Done))
-}
-
-fn refuses_an_insert(alloc: Global) -> Result<bool, Fail> {
-    let mut machine = one_pair(alloc)?;
-    Ok(refuses(&mut machine, &Op::Insert(1, 43))?)
-}
-
-#[test]
-fn a_call_that_is_not_served_is_refused(rt: HostRuntime) -> Result<(), Fail> {
-    assert!(rt; refuses_an_insert(rt.alloc())?);
-    Ok(())
-}
-
 // Whether a machine that stores these pairs tells exactly them.
 fn tells(alloc: Global, pairs: &[(u64, u64)]) -> Result<bool, Fail> {
-    let machine = of_pairs(alloc, DefaultAllocator {}, flat(), pairs)?;
+    let machine = of_pairs(alloc, pairs)?;
     let content = machine.content(alloc)?;
     Ok(content.as_slice() == pairs)
 }

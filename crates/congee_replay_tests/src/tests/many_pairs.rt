@@ -1,9 +1,7 @@
 //! Gets on tables of many pairs, against a search of the plain list.
 
-use crate::olc::machine::tests::building::{BuildError, Layout, deep, flat, middle, of_pairs};
-use crate::olc::machine::tests::{Course, Numbers};
-use crate::olc::types::StartError;
-use congee_node_table::allocator::{Allocator, Budget, DefaultAllocator};
+use crate::tests::courses::{Course, Numbers, of_pairs};
+use congee_protocol::types::StartError;
 use std::alloc::Global;
 use std::test::Fail;
 
@@ -188,18 +186,16 @@ fn first_wrong(machine: &mut Numbers, pairs: &[(u64, u64)]) -> Result<Option<u64
 }
 
 // The same of a machine that stores these pairs.
-fn wrong_in(alloc: Global, layout: Layout, pairs: &[(u64, u64)]) -> Result<Option<u64>, Fail> {
-    let mut machine = of_pairs(alloc, DefaultAllocator {}, layout, pairs)?;
+fn wrong_in(alloc: Global, pairs: &[(u64, u64)]) -> Result<Option<u64>, Fail> {
+    let mut machine = of_pairs(alloc, pairs)?;
     Ok(first_wrong(&mut machine, pairs)?)
 }
 
 #[test]
 fn gets_find_what_the_list_has(rt: HostRuntime) -> Result<(), Fail> {
-    assert_eq!(rt; wrong_in(rt.alloc(), deep(), &any_keys())?, None);
-    assert_eq!(rt; wrong_in(rt.alloc(), deep(), &four_bytes_apart())?, None);
-    assert_eq!(rt; wrong_in(rt.alloc(), middle(), &four_bytes_apart())?, None);
-    assert_eq!(rt; wrong_in(rt.alloc(), middle(), &first_byte_apart())?, None);
-    assert_eq!(rt; wrong_in(rt.alloc(), flat(), &first_byte_apart())?, None);
+    assert_eq!(rt; wrong_in(rt.alloc(), &any_keys())?, None);
+    assert_eq!(rt; wrong_in(rt.alloc(), &four_bytes_apart())?, None);
+    assert_eq!(rt; wrong_in(rt.alloc(), &first_byte_apart())?, None);
     Ok(())
 }
 
@@ -253,7 +249,7 @@ fn wrong_of(
 
 fn wrong_in_turn(alloc: Global, keys: &[u64]) -> Result<Option<u64>, Fail> {
     let pairs = any_keys();
-    let mut machine = of_pairs(alloc, DefaultAllocator {}, deep(), &pairs)?;
+    let mut machine = of_pairs(alloc, &pairs)?;
     wrong_of(&mut machine, alloc, &pairs, keys)
 }
 
@@ -274,25 +270,6 @@ fn gets_in_turn_find_the_same(rt: HostRuntime) -> Result<(), Fail> {
     Ok(())
 }
 
-// How many pairs a flat machine stores that is built of these.
-fn built<A: Allocator>(alloc: Global, budget: A, pairs: &[(u64, u64)]) -> Result<u128, BuildError> {
-    let machine = of_pairs(alloc, budget, flat(), pairs)?;
-    Ok(machine.entry_count())
-}
-
-#[test]
-fn a_machine_is_not_built_where_a_key_has_no_place(rt: HostRuntime) -> Result<(), Fail> {
-    let apart = built(rt.alloc(), DefaultAllocator {}, &[(1, 42), (256, 43)]);
-    assert_eq!(rt; apart, Err(BuildError::NoPlace(256)));
-    let full = [(1, 1), (2, 2), (3, 3), (4, 4), (5, 5)];
-    let many = built(rt.alloc(), DefaultAllocator {}, &full);
-    assert_eq!(rt; many, Err(BuildError::NoPlace(5)));
-    assert_eq!(rt; built(rt.alloc(), Budget::new(2168), &[(1, 42)]), Ok(1));
-    let small = built(rt.alloc(), Budget::new(2167), &[(1, 42)]);
-    assert!(rt; matches!(small, Err(BuildError::Oom(_))));
-    Ok(())
-}
-
 // Whether the content is the list, in order: as many pairs, keys ascending, and each of them in the list.
 fn is_the_list(content: &[(u64, u64)], pairs: &[(u64, u64)]) -> bool {
     let mut before = None;
@@ -306,7 +283,7 @@ fn is_the_list(content: &[(u64, u64)], pairs: &[(u64, u64)]) -> bool {
 }
 
 fn tells_in_order(alloc: Global, pairs: &[(u64, u64)]) -> Result<bool, Fail> {
-    let machine = of_pairs(alloc, DefaultAllocator {}, deep(), pairs)?;
+    let machine = of_pairs(alloc, pairs)?;
     let content = machine.content(alloc)?;
     Ok(is_the_list(&content, pairs))
 }

@@ -1,5 +1,0 @@
-use Rattle.congee_olc.proofs.Begun.{starts}
-use Rattle.congee_olc.proofs.olc.reading.begins.Goals as goal
-
-pub returns : goal.returns
-returns c = starts c.args.prefix.now c.args.bytes.now c.starts_with.result c.starts_with.ensures.value

@@ -1,9 +1,0 @@
-pub mod Content
-pub mod Event
-pub mod Flight
-pub mod Run
-pub mod Table
-pub mod World
-pub mod inner
-pub use Rattle.congee_sync.specs.Epoch
-pub use Rattle.congee_sync.specs.Lock

@@ -1,5 +1,0 @@
-pub mod Calls
-pub mod Facts
-pub mod Found
-pub mod Played
-pub mod Walks

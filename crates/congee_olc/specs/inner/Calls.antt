@@ -1,9 +1,0 @@
--- The places of the machine's records, by number.
-use Rattle.std.specs.Prelude.{◌≡◌, ◌≢◌, ℕ, List, Option}
-use Rattle.congee_sync.specs.Epoch.{entry_at}
-use Rattle.congee_olc.specs.declared.olc.stage.Record.{Record}
-
--- the place of one number is so now, and all others are as they were
-pub record ChangesPlace {P : Type 0} (old new : List (ℕ × Option (Record P))) (id : ℕ) (place : Option (Option (Record P))) : Type 0 where
-  pub here : entry_at new id ≡ place
-  pub others : (other : ℕ) → other ≢ id → entry_at new other ≡ entry_at old other

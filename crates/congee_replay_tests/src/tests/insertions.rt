@@ -1,0 +1,351 @@
+//! Insertions, alone and two at a time: their events, their answers and what is stored then.
+//!
+//! A letter stands for an event, a small one where a word isn't free or not the remembered one, an upgrade fails, or memory is
+//! refused: Start, Take, Read, Check, Upgrade, mAke, Write, Obsolete, unLock, Finish.
+
+use congee_map::error::OOMError;
+use congee_node_table::allocator::Budget;
+use congee_protocol::trace::{Line, Trace};
+use congee_protocol::types::{Env, Event, Kind, Op, Outcome, Reply, Report, Seen};
+use congee_replay::replay::{replay, replay_with};
+use std::alloc::{AllocError, Global};
+use std::collections::BTreeMap;
+use std::test::Fail;
+
+// More events than a call takes that is alone.
+const MANY: usize = 41;
+
+fn letter(kind: Kind) -> char {
+    match kind {
+        Kind::Start => 'S',
+        Kind::Take => 'T',
+        Kind::Read => 'R',
+        Kind::Check => 'C',
+        Kind::Upgrade => 'U',
+        Kind::Make => 'A',
+        Kind::Write => 'W',
+        Kind::Obsolete => 'O',
+        Kind::Unlock => 'L',
+        Kind::Answer => 'Q',
+        Kind::Finish => 'F',
+        Kind::Reclaim => 'X',
+    }
+}
+
+// The letter of what an event did, if it wasn't skipped.
+fn told(line: &Line) -> Option<char> {
+    match line {
+        Line::Done(report, Outcome::Refused, _) => Some(letter(report.kind).to_ascii_lowercase()),
+        Line::Done(Report { kind, ok: false, .. }, _, _) => Some(letter(*kind).to_ascii_lowercase()),
+        Line::Done(report, _, _) => Some(letter(report.kind)),
+        Line::Skipped => None,
+    }
+}
+
+// An event of a number's call, whose Upgrade fails if it is one and is to fail.
+fn step(id: u64, fail: bool) -> Event<u64> {
+    let torn = Seen {
+        child: None,
+        count: 0,
+        full: false,
+    };
+    Event::Step(
+        id,
+        Env {
+            torn,
+            fail,
+            answer: None,
+        },
+    )
+}
+
+// So many events of a number's call.
+fn push_steps(events: &mut Vec<Event<u64>>, id: u64, steps: usize) -> Result<(), AllocError> {
+    for _ in 0..steps {
+        events.push(step(id, false))?;
+    }
+    Ok(())
+}
+
+// The start of an insertion, and so many events of it.
+fn push_insert(
+    events: &mut Vec<Event<u64>>,
+    id: u64,
+    pair: (u64, u64),
+    steps: usize,
+) -> Result<(), AllocError> {
+    events.push(Event::Start(id, Op::Insert(pair.0, pair.1)))?;
+    push_steps(events, id, steps)
+}
+
+// Insertions of these pairs, one after another.
+fn push_all(events: &mut Vec<Event<u64>>, pairs: &[(u64, u64)]) -> Result<(), AllocError> {
+    for pair in pairs {
+        push_insert(events, 0, *pair, MANY)?;
+    }
+    Ok(())
+}
+
+// The letters of the lines from one on.
+fn push_letters(trace: &Trace, from: usize, letters: &mut String) -> Result<(), AllocError> {
+    for line in trace.lines.iter().skip(from) {
+        if let Some(c) = told(line) {
+            letters.push(c)?;
+        }
+    }
+    Ok(())
+}
+
+// The events of these insertions and then of one more.
+fn events_of(
+    alloc: Global,
+    pairs: &[(u64, u64)],
+    last: (u64, u64),
+) -> Result<Vec<Event<u64>>, AllocError> {
+    let mut events = Vec::new(alloc);
+    push_all(&mut events, pairs)?;
+    push_insert(&mut events, 0, last, MANY)?;
+    Ok(events)
+}
+
+// Whether a trace ends with these letters, after those of so many insertions, and with this content.
+fn ends_so(
+    alloc: Global,
+    trace: &Trace,
+    before: usize,
+    course: &str,
+    content: &[(u64, u64)],
+) -> Result<bool, AllocError> {
+    let mut letters = String::new(alloc);
+    push_letters(trace, before.saturating_mul(MANY + 1), &mut letters)?;
+    Ok(letters.as_str() == course && trace.content.as_slice() == content)
+}
+
+// Whether an insertion after these takes this course, and leaves this content.
+fn takes_course(
+    alloc: Global,
+    pairs: &[(u64, u64)],
+    last: (u64, u64),
+    course: &str,
+    content: &[(u64, u64)],
+) -> Result<bool, OOMError> {
+    let events = events_of(alloc, pairs, last)?;
+    let trace = replay(alloc, &events)?;
+    Ok(ends_so(alloc, &trace, pairs.len(), course, content)?)
+}
+
+// The same with a budget of so many bytes.
+fn takes_course_within(
+    alloc: Global,
+    bytes: u64,
+    pairs: &[(u64, u64)],
+    last: (u64, u64),
+    course: &str,
+    content: &[(u64, u64)],
+) -> Result<bool, OOMError> {
+    let events = events_of(alloc, pairs, last)?;
+    let trace = replay_with(alloc, Budget::new(bytes), &events)?;
+    Ok(ends_so(alloc, &trace, pairs.len(), course, content)?)
+}
+
+#[test]
+fn a_leaf_with_room_takes_the_payload(rt: HostRuntime) -> Result<(), Fail> {
+    let one = [(1, 42)];
+    assert!(rt; takes_course(rt.alloc(), &one, (2, 2), "STRCTCRCUWLF", &[(1, 42), (2, 2)])?);
+    assert!(rt; takes_course(rt.alloc(), &one, (1, 43), "STRCTCRCUWLF", &[(1, 43)])?);
+    assert!(rt; takes_course(rt.alloc(), &one, (1, 42), "STRCTCRCF", &one)?);
+    Ok(())
+}
+
+#[test]
+fn an_inner_node_gets_a_leaf(rt: HostRuntime) -> Result<(), Fail> {
+    assert!(rt; takes_course(rt.alloc(), &[], (1, 42), "STRCUAWLF", &[(1, 42)])?);
+    Ok(())
+}
+
+#[test]
+fn a_prefix_is_split(rt: HostRuntime) -> Result<(), Fail> {
+    let both = [(1, 42), (256, 2)];
+    assert!(rt; takes_course(rt.alloc(), &[(1, 42)], (256, 2), "STRCTCUUAAWLLF", &both)?);
+    Ok(())
+}
+
+// Four keys of one leaf, and of one inner node.
+fn four(step: u64) -> [(u64, u64); 4] {
+    [
+        (0, 0),
+        (step, 1),
+        (step.wrapping_mul(2), 2),
+        (step.wrapping_mul(3), 3),
+    ]
+}
+
+// And one more.
+fn five(step: u64) -> [(u64, u64); 5] {
+    [
+        (0, 0),
+        (step, 1),
+        (step.wrapping_mul(2), 2),
+        (step.wrapping_mul(3), 3),
+        (step.wrapping_mul(4), 4),
+    ]
+}
+
+#[test]
+fn a_full_node_grows(rt: HostRuntime) -> Result<(), Fail> {
+    let leaf = takes_course(rt.alloc(), &four(1), (4, 4), "STRCTCRCUUAWOLF", &five(1))?;
+    assert!(rt; leaf);
+    let inner = takes_course(
+        rt.alloc(),
+        &four(256),
+        (1024, 4),
+        "STRCTCRCUUAAWOLF",
+        &five(256),
+    )?;
+    assert!(rt; inner);
+    Ok(())
+}
+
+#[test]
+fn a_refused_node_gives_the_others_back(rt: HostRuntime) -> Result<(), Fail> {
+    let first = [(0, 0)];
+    let refused = takes_course_within(rt.alloc(), 2232, &first, (256, 2), "STRCTCUUAaLLF", &first)?;
+    assert!(rt; refused);
+    let earlier = takes_course_within(rt.alloc(), 2168, &first, (256, 2), "STRCTCUUaLLF", &first)?;
+    assert!(rt; earlier);
+    let both = [(0, 0), (256, 2)];
+    let far = (72057594037927936, 5);
+    let after = [(0, 0), (72057594037927936, 5)];
+    assert!(rt; takes_course_within(rt.alloc(), 2232, &both, far, "STRCUAWLF", &after)?);
+    Ok(())
+}
+
+// Whether the replies are those of the map that has the decided insertions one after another, and the content is that map.
+fn is_history(alloc: Global, trace: &Trace) -> Result<bool, AllocError> {
+    let mut map = BTreeMap::new(alloc);
+    for decision in &trace.decided {
+        let (Op::Insert(key, value), Reply::Old(before)) = (&decision.op, &decision.reply) else {
+            return Ok(false);
+        };
+        if map.insert(*key, *value)? != *before {
+            return Ok(false);
+        }
+    }
+    Ok(is_content(&map, &trace.content))
+}
+
+fn is_content(map: &BTreeMap<u64, u64>, content: &[(u64, u64)]) -> bool {
+    for (key, value) in content {
+        if map.get(key) != Some(value) {
+            return false;
+        }
+    }
+    map.len() == content.len()
+}
+
+// Whether so many insertions were decided, with the replies and the content of the map.
+fn are_decided(alloc: Global, events: &[Event<u64>], count: usize) -> Result<bool, OOMError> {
+    let trace = replay(alloc, events)?;
+    Ok(trace.decided.len() == count && is_history(alloc, &trace)?)
+}
+
+// An insertion after these, of which one event is to fail.
+fn fails_at(
+    alloc: Global,
+    pairs: &[(u64, u64)],
+    last: (u64, u64),
+    at: usize,
+) -> Result<bool, OOMError> {
+    let mut events = Vec::new(alloc);
+    push_all(&mut events, pairs)?;
+    push_insert(&mut events, 0, last, at)?;
+    events.push(step(0, true))?;
+    push_steps(&mut events, 0, MANY)?;
+    are_decided(alloc, &events, pairs.len().saturating_add(1))
+}
+
+// The first event at which that goes wrong.
+fn wrong_failure(
+    alloc: Global,
+    pairs: &[(u64, u64)],
+    last: (u64, u64),
+) -> Result<Option<usize>, OOMError> {
+    for at in 0..16 {
+        if !fails_at(alloc, pairs, last, at)? {
+            return Ok(Some(at));
+        }
+    }
+    Ok(None)
+}
+
+#[test]
+fn an_upgrade_that_fails_is_made_again(rt: HostRuntime) -> Result<(), Fail> {
+    assert_eq!(rt; wrong_failure(rt.alloc(), &[(1, 42)], (2, 2))?, None);
+    assert_eq!(rt; wrong_failure(rt.alloc(), &[], (1, 42))?, None);
+    assert_eq!(rt; wrong_failure(rt.alloc(), &[(1, 42)], (256, 2))?, None);
+    assert_eq!(rt; wrong_failure(rt.alloc(), &four(1), (4, 4))?, None);
+    assert_eq!(rt; wrong_failure(rt.alloc(), &four(256), (1024, 4))?, None);
+    Ok(())
+}
+
+// Two insertions after these, the second one whole after so many events of the first.
+fn are_interleaved(
+    alloc: Global,
+    pairs: &[(u64, u64)],
+    first: (u64, u64),
+    second: (u64, u64),
+    at: usize,
+) -> Result<bool, OOMError> {
+    let mut events = Vec::new(alloc);
+    push_all(&mut events, pairs)?;
+    push_insert(&mut events, 1, first, at)?;
+    push_insert(&mut events, 2, second, MANY)?;
+    push_steps(&mut events, 1, MANY)?;
+    push_steps(&mut events, 2, MANY)?;
+    push_steps(&mut events, 1, MANY)?;
+    are_decided(alloc, &events, pairs.len().saturating_add(2))
+}
+
+// The first place at which that goes wrong.
+fn wrong_place(
+    alloc: Global,
+    pairs: &[(u64, u64)],
+    first: (u64, u64),
+    second: (u64, u64),
+) -> Result<Option<usize>, OOMError> {
+    for at in 0..18 {
+        if !are_interleaved(alloc, pairs, first, second, at)? {
+            return Ok(Some(at));
+        }
+    }
+    Ok(None)
+}
+
+#[test]
+fn two_insertions_in_one_leaf(rt: HostRuntime) -> Result<(), Fail> {
+    let one = [(1, 42)];
+    assert_eq!(rt; wrong_place(rt.alloc(), &one, (2, 2), (3, 3))?, None);
+    assert_eq!(rt; wrong_place(rt.alloc(), &one, (2, 2), (2, 3))?, None);
+    assert_eq!(rt; wrong_place(rt.alloc(), &one, (1, 43), (1, 44))?, None);
+    assert_eq!(rt; wrong_place(rt.alloc(), &[], (1, 42), (2, 2))?, None);
+    Ok(())
+}
+
+#[test]
+fn two_insertions_in_full_nodes(rt: HostRuntime) -> Result<(), Fail> {
+    assert_eq!(rt; wrong_place(rt.alloc(), &four(1), (4, 4), (5, 5))?, None);
+    assert_eq!(rt; wrong_place(rt.alloc(), &four(1), (4, 4), (1, 7))?, None);
+    assert_eq!(rt; wrong_place(rt.alloc(), &four(256), (1024, 4), (1280, 5))?, None);
+    assert_eq!(rt; wrong_place(rt.alloc(), &four(256), (1024, 4), (1, 7))?, None);
+    Ok(())
+}
+
+#[test]
+fn two_insertions_at_a_split(rt: HostRuntime) -> Result<(), Fail> {
+    let one = [(1, 42)];
+    assert_eq!(rt; wrong_place(rt.alloc(), &one, (256, 2), (2, 3))?, None);
+    assert_eq!(rt; wrong_place(rt.alloc(), &one, (256, 2), (512, 3))?, None);
+    assert_eq!(rt; wrong_place(rt.alloc(), &one, (256, 2), (65536, 3))?, None);
+    assert_eq!(rt; wrong_place(rt.alloc(), &one, (2, 2), (256, 3))?, None);
+    Ok(())
+}
