@@ -1,17 +1,20 @@
 -- What the events that only read make of a call's stage.
-use Rattle.std.proofs.Common.{◌≡◌, ◌≢◌, ℕ, ◌+◌, ◌-◌, ◌*◌, ◌/◌, ◌%◌, ◌<◌, ◌≤◌, List, length, Option, Some, inl, inr, sym, subst, ap, ◌∙◌, arith}
+use Rattle.std.proofs.Common.{◌≡◌, ◌≢◌, ℕ, ◌+◌, ◌-◌, ◌*◌, ◌/◌, ◌%◌, ◌<◌, ◌≤◌, IsTrue, List, [], length, Option, Some, inl, inr, sym, subst, ap, ◌∙◌, arith}
 use Rattle.congee_sync.specs.Lock.{IsFree, IsLocked, IsObsolete}
 use Rattle.congee_map.specs.Map.{lookup, put}
 use Rattle.congee_store.specs.declared.stage.Path.{Path}
 use Rattle.congee_store.specs.declared.stage.Stage.{Stage}
 use Rattle.congee_store.specs.declared.stage.Stage.TheVariants.{TakeBelow}
-use Rattle.congee_store.specs.inner.Tables.{byte_at, IsLinked, IsBelow, IsPlaced, LedTo, OnPath}
-use Rattle.congee_store.specs.inner.Shown.{spots_of}
-use Rattle.congee_store.specs.inner.Turns.{depth_in, IsCurrent, NoneHeld}
+use Rattle.congee_protocol.specs.Lists.{is_in}
+use Rattle.congee_protocol.specs.State.{Flight}
+use Rattle.congee_protocol.specs.declared.types.Env.{Env}
+use Rattle.congee_store.specs.inner.Tables.{byte_at, IsLinked, IsBelow, IsPlaced, LedTo, NeedsHolder, OnPath}
+use Rattle.congee_store.specs.inner.Shown.{spots_of, held_at, made_at}
+use Rattle.congee_store.specs.inner.Turns.{depth_in, IsCurrent, IsUndisturbed}
 use Rattle.congee_store.specs.inner.World.{Node, Table, is_linked, is_retired}
 use Rattle.congee_store.proofs.Options.{some_same}
 use Rattle.congee_store.proofs.Ways.{known_linked, longer-begins}
-use Rattle.congee_reading.proofs.Events.{Within}
+use Rattle.congee_reading.proofs.Events.{Within, false_true}
 use Rattle.congee_reading.proofs.Spots.{here_known, put_known}
 
 linked_retired : (stamp : Option ℕ) → is_linked ≡ is_retired stamp → ⊥
@@ -21,6 +24,22 @@ neither : (word : ℕ) → (IsLocked word → ⊥) → (IsObsolete word → ⊥)
 neither word locked obsolete =
     let l : word / 2 % 2 ≢ 1 = locked in
     let o : word % 2 ≢ 1 = obsolete in omega arith
+
+-- a call that holds and has made so much
+pub holding_as : {M : Type 0} (call : Flight M) (held made : List ℕ) → call.held ≡ held → call.made ≡ made → call ≡ record call { held = held; made = made }
+holding_as call held made h m = ap (λ (x : List ℕ). record call { held = x }) h ∙ ap (λ (x : List ℕ). record call { held = held; made = x }) m
+
+-- no node is held
+abbrev pub NoneHeld : {M : Type 0} → Table M → Type 0
+NoneHeld t = (s : ℕ) → NeedsHolder t s → ⊥
+
+-- where nobody disturbs a call that holds nothing
+pub none_held : {M : Type 0} (t : Table M) (stage : Stage) (env : Env M) → held_at stage ≡ [] → made_at stage ≡ [] → IsUndisturbed t stage env → NoneHeld t
+none_held t stage env held made calm s needs =
+    elim (calm.alone s needs) [
+      | inl h ↦ false_true (subst (λ (z : List ℕ). IsTrue (is_in s z)) held h)
+      | inr h ↦ false_true (subst (λ (z : List ℕ). IsTrue (is_in s z)) made h)
+    ]
 
 module _ {M : Type 0} (t : Table M) where
   -- words that stand still stand where fewer are remembered

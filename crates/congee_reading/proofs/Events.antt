@@ -23,7 +23,7 @@ use Rattle.congee_protocol.specs.declared.types.Progress.TheVariants as progress
 use Rattle.congee_protocol.specs.declared.types.Reply.TheVariants.{Old}
 use Rattle.congee_protocol.specs.declared.types.Seen.{Seen}
 use Rattle.congee_sync.specs.Lock.{IsFree}
-use Rattle.congee_store.specs.inner.Turns.{IsServedCall}
+use Rattle.congee_reading.specs.inner.Found.{IsGet}
 use Rattle.congee_store.proofs.Options.{none_some}
 
 pub false_true : false ≡ true → ⊥
@@ -205,16 +205,16 @@ module _ {M : Type 0} (Granted : Type 0) (same : M → M → Bool) (call : Fligh
         refl,
       )
 
--- a call that is served is a Get
+-- a Get
 module _ {M : Type 0} where
-  pub get_is : (op : Op M) (o : Outline) → outline_of op ≡ o → IsServedCall o → op ≡ Get (key_of o)
+  pub get_is : (op : Op M) (o : Outline) → outline_of op ≡ o → IsGet o → op ≡ Get (key_of o)
   get_is (Get k) o e served = subst (λ (z : Outline). let x : Op M = Get k in x ≡ Get (key_of z)) e refl
-  get_is (Insert k v) o e served = absurd (subst (λ (z : Outline). IsServedCall z) (sym e) served)
-  get_is (Remove k) o e served = absurd (subst (λ (z : Outline). IsServedCall z) (sym e) served)
-  get_is (ComputeIfPresent k) o e served = absurd (subst (λ (z : Outline). IsServedCall z) (sym e) served)
-  get_is (ComputeOrInsert k v) o e served = absurd (subst (λ (z : Outline). IsServedCall z) (sym e) served)
-  get_is (CompareExchange k old new) o e served = absurd (subst (λ (z : Outline). IsServedCall z) (sym e) served)
-  get_is (Range a b n) o e served = absurd (subst (λ (z : Outline). IsServedCall z) (sym e) served)
+  get_is (Insert k v) o e served = absurd (subst (λ (z : Outline). IsGet z) (sym e) served)
+  get_is (Remove k) o e served = absurd (subst (λ (z : Outline). IsGet z) (sym e) served)
+  get_is (ComputeIfPresent k) o e served = absurd (subst (λ (z : Outline). IsGet z) (sym e) served)
+  get_is (ComputeOrInsert k v) o e served = absurd (subst (λ (z : Outline). IsGet z) (sym e) served)
+  get_is (CompareExchange k old new) o e served = absurd (subst (λ (z : Outline). IsGet z) (sym e) served)
+  get_is (Range a b n) o e served = absurd (subst (λ (z : Outline). IsGet z) (sym e) served)
 
   -- and leads from a content to itself
   pub get_leads : (same : M → M → Bool) (call : Flight M) (key : ℕ) (reply : Option M) (m : Pairs M) → call.op ≡ Some (Get key) → call.asking ≡ Fresh → lookup m key ≡ reply
@@ -227,7 +227,7 @@ module _ {M : Type 0} where
     after = refl;
   }
 
-pub get_point : (o : Outline) → IsServedCall o → IsPoint o
+pub get_point : (o : Outline) → IsGet o → IsPoint o
 get_point (Get k) served = tt
 get_point (Insert k v) served = absurd served
 get_point (Remove k) served = absurd served
@@ -237,7 +237,7 @@ get_point (CompareExchange k old new) served = absurd served
 get_point (Range a b n) served = absurd served
 
 -- it sees payloads
-pub get_shares : (o : Outline) → IsServedCall o → SharesNone o None → ⊥
+pub get_shares : (o : Outline) → IsGet o → SharesNone o None → ⊥
 get_shares (Get k) served h = h
 get_shares (Insert k v) served h = served
 get_shares (Remove k) served h = served

@@ -4,6 +4,7 @@ pub mod Checks
 pub mod Courses
 pub mod Events
 pub mod Findings
+pub mod Inserts
 pub mod Looks
 pub mod Spots
 pub mod Takes

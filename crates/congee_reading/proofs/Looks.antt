@@ -140,6 +140,8 @@ module _ {M : Type 0} (Granted : Type 0) (same : M → M → Bool) (t : Table M)
             record { seen = env.torn; is = refl; agrees = λ b h e. absurd (gone b h e) },
           );
         };
+        held = refl;
+        made = refl;
         course = record {
           touches = λ z e make. inr (inl (some_same path.here.slot z e));
           names = λ z h. inr (inl h);
@@ -177,6 +179,8 @@ module _ {M : Type 0} (Granted : Type 0) (same : M → M → Bool) (t : Table M)
               },
             );
           };
+          held = refl;
+          made = refl;
           course = record {
             touches = λ z e make. inr (inl (some_same path.here.slot z e));
             names = λ z h. inr (inl h);
@@ -196,6 +200,8 @@ module _ {M : Type 0} (Granted : Type 0) (same : M → M → Bool) (t : Table M)
         let f = facts.at in
         record {
           facts = record { small = facts.small; at = refused_open };
+          held = refl;
+          made = refl;
           course = record {
             touches = λ z e make. inr (inl (some_same path.here.slot z e));
             names = λ z h. absurd h;

@@ -2,8 +2,8 @@
 use Rattle.std.proofs.Common.{◌≡◌, ℕ, ◌<◌, ◌^◌, Bool, true, false, IsTrue, ◌↔◌, [], Option, Some, None, ◌⊎◌, inl, inr, refl, sym, subst, ap, ◌∙◌, arith}
 use Rattle.congee_node_table.specs.Key.{Begins}
 use Rattle.congee_protocol.specs.Calls.{key_of}
-use Rattle.congee_protocol.specs.Kinds.{report_of}
-use Rattle.congee_protocol.specs.State.{State, back}
+use Rattle.congee_protocol.specs.Kinds.{DoesAs, report_of}
+use Rattle.congee_protocol.specs.State.{State, Flight, back, with_call}
 use Rattle.congee_protocol.specs.declared.types.Asking.{Asking}
 use Rattle.congee_protocol.specs.declared.types.Asking.TheVariants.{Fresh}
 use Rattle.congee_protocol.specs.declared.types.Env.{Env}
@@ -20,12 +20,12 @@ use Rattle.congee_store.specs.declared.stage.Task.{Task}
 use Rattle.congee_store.specs.inner.Tables.{IsSafe, IsPlaced, IsThere, IsIn}
 use Rattle.congee_store.specs.inner.Tasks.{IsFreshly, key_bytes}
 use Rattle.congee_store.specs.inner.Facts.{Facts, named_at}
-use Rattle.congee_store.specs.inner.Shown.{flight}
-use Rattle.congee_store.specs.inner.Turns.{IsCurrent, IsRead, NoneHeld, Shows}
+use Rattle.congee_store.specs.inner.Shown.{flight, held_at, made_at}
+use Rattle.congee_store.specs.inner.Turns.{IsCurrent, IsRead, IsUndisturbed, Shows}
 use Rattle.congee_store.specs.inner.World.{Node, Standing, Table, is_linked}
 use Rattle.congee_store.proofs.Options.{none_some, some_same}
 use Rattle.congee_store.proofs.Reaching.{one, seen_at}
-use Rattle.congee_reading.proofs.Courses.{taken_current, root_free, below_free}
+use Rattle.congee_reading.proofs.Courses.{NoneHeld, none_held, holding_as, taken_current, root_free, below_free}
 use Rattle.congee_reading.proofs.Events.{take_ok, take_fails}
 
 -- a call at a stage, and what is left of it when it goes back to the root
@@ -67,9 +67,12 @@ module _ {M : Type 0} (Granted : Type 0) (same : M → M → Bool) (t : Table M)
               above = refl;
               here = record { node = a; here = here; safe = subst (λ (z : Standing). IsSafe pin z) (sym standing) tt; free = free; word = omega arith };
               way = λ (b : Node M) (h : t root ≡ Some b). subst (λ (z : Node M). Begins z.node.prefix (key_bytes task)) (some_same a b (sym here ∙ h)) (rw prefix (record { holds = refl }));
+              apart = λ (p : Spot) (e : None ≡ Some p). absurd (none_some p e);
             },
           );
         };
+        held = refl;
+        made = refl;
         course = record {
           touches = λ slot e make. inl (sym (some_same root slot e));
           names = λ slot h. elim h [ inl e ↦ inl (sym e) | inr never ↦ absurd never ];
@@ -83,22 +86,28 @@ module _ {M : Type 0} (Granted : Type 0) (same : M → M → Bool) (t : Table M)
       }
 
   -- a Take that fails
-  take_restarts : (stage : Stage) (slot : ℕ) (a : Node M) → key_of task.outline < 2 ^ 64 → IsFreshly task → t slot ≡ Some a → (IsFree a.word → ⊥)
+  take_restarts : (stage : Stage) (slot : ℕ) (a : Node M) → held_at stage ≡ [] → made_at stage ≡ [] → key_of task.outline < 2 ^ 64 → IsFreshly task → t slot ≡ Some a → (IsFree a.word → ⊥)
       → (slot ≡ root) ⊎ IsIn slot (named_at stage) → (IsCurrent t stage → NoneHeld t → IsFree a.word)
       → ((s : State M) → Shows t root s → slot ≡ s.root → flight pin (at stage task) ≡ back (flight pin (at stage task)))
       → IsRead Granted same t root pin (at stage task) env (at TakeRoot (restart task)) (report_of kind.Take (Some slot) a.word false) Going
-  take_restarts stage slot a small fresh here free known frees anew =
+  take_restarts stage slot a held made small fresh here free known frees anew =
+      let next : Record M = at TakeRoot (restart task) in
       record {
         facts = record { small = small; at = (restarted_fresh fresh, refl) };
+        held = refl;
+        made = refl;
         course = record {
           touches = λ z e make. subst (λ (x : ℕ). (x ≡ root) ⊎ IsIn x (named_at stage)) (some_same slot z e) known;
           names = λ z h. absurd h;
           reads = λ z h. absurd h;
           outline = refl;
           keeps = λ current z w h. absurd (none_some w h);
-          falls = λ served. inl (refl, (λ current none. free (frees current none)));
+          falls = λ served. inl (record { forgotten = refl; work = omega arith }, (λ current calm. free (frees current (none_held t stage env held made calm))));
         };
-        does = λ s id shows. take_fails Granted same s id (flight pin (at stage task)) env (inl fresh.opened.undecided) slot (one a) (seen_at t root s shows slot a here) (anew s shows) free;
+        does = λ s id shows.
+            subst (λ (z : Flight M). DoesAs Granted same s (with_call s id z) id (flight pin (at stage task)) env (report_of kind.Take (Some slot) a.word false) Going kind.Take)
+            (holding_as (back (flight pin (at stage task))) [] [] held made)
+            (take_fails Granted same s id (flight pin (at stage task)) env (inl fresh.opened.undecided) slot (one a) (seen_at t root s shows slot a here) (anew s shows) free);
         carries = λ s shows m content. refl;
       }
 
@@ -106,7 +115,7 @@ module _ {M : Type 0} (Granted : Type 0) (same : M → M → Bool) (t : Table M)
       → IsRead Granted same t root pin (at TakeRoot task) env (at TakeRoot (restart task)) (report_of kind.Take (Some root) a.word false) Going
   root_restarts a facts here free =
       let f = facts.at in
-      take_restarts TakeRoot root a facts.small f.0 here free (inl refl) (λ current none. root_free t root placed a none here) (λ s shows e. is_new f.0 f.1)
+      take_restarts TakeRoot root a refl refl facts.small f.0 here free (inl refl) (λ current none. root_free t root placed a none here) (λ s shows e. is_new f.0 f.1)
 
   pub below_ok : (path : Path) (slot : ℕ) (a : Node M) (fits : Bool) → Facts Granted t root pin (at (TakeBelow path slot) task) → t slot ≡ Some a → IsFree a.word
       → (IsTrue fits ↔ Begins a.node.prefix (key_bytes task))
@@ -129,6 +138,8 @@ module _ {M : Type 0} (Granted : Type 0) (same : M → M → Bool) (t : Table M)
             f.6,
           );
         };
+        held = refl;
+        made = refl;
         course = record {
           touches = λ z e make. inr (inl (some_same slot z e));
           names = λ z h. inr (inl h);
@@ -146,6 +157,6 @@ module _ {M : Type 0} (Granted : Type 0) (same : M → M → Bool) (t : Table M)
       → IsRead Granted same t root pin (at (TakeBelow path slot) task) env (at TakeRoot (restart task)) (report_of kind.Take (Some slot) a.word false) Going
   below_restarts path slot a facts here free =
       let f = facts.at in
-      take_restarts (TakeBelow path slot) slot a facts.small f.0 here free (inr (inl refl))
+      take_restarts (TakeBelow path slot) slot a refl refl facts.small f.0 here free (inr (inl refl))
       (λ current none. below_free t root placed pin (key_bytes task) path f.1 slot f.2 a current none here)
       (λ s shows e. absurd (f.5 (e ∙ shows.root_is)))

@@ -1,3 +1,4 @@
+pub mod Chosen
 pub mod Found
 pub mod Looked
 pub mod Reads

@@ -1,6 +1,6 @@
 //! The next event of a call, by its stage.
 
-ghost use Rattle.std.specs.Prelude.{◌≡◌, Some, None, true};
+ghost use Rattle.std.specs.Prelude.{◌≡◌, ◌≢◌, Some, None, true};
 ghost use Rattle.congee_protocol.specs.Kinds.{report_of};
 ghost use Rattle.congee_protocol.specs.Meaning.{env_of, in_some, outcome_of};
 ghost use Rattle.congee_store.specs.inner.Tables.{IsPlaced};
@@ -16,6 +16,7 @@ use congee_protocol::payload::HasMeaning;
 use congee_protocol::types::{Env, Kind, Outcome, Report};
 use congee_store::stage::{Record, Stage};
 use congee_store::store::Store;
+use congee_store::tail::Tail;
 
 /// A call after an event, if it is still in flight, and what the event says.
 #[derive(Drop)]
@@ -65,8 +66,8 @@ fn finished<P>() -> Advanced<P>
     }
 }
 
-/// Makes the next event of a call. An event uses of `env` what its kind takes. A range doesn't read so far: it checks the
-/// root again and again.
+/// Makes the next event of a call that hasn't found yet that it has to write. An event uses of `env` what its kind takes.
+/// A range doesn't read so far: it checks the root again and again.
 pub fn advance<P: HasMeaning>(
     store: &Store<P>,
     pin: u64,
@@ -75,6 +76,7 @@ pub fn advance<P: HasMeaning>(
 ) -> Advanced<P>
     requires placed { IsPlaced (meant_table P.meaning store.now) store.now.root }
     requires facts { Knows P.always_shared P.meaning store.now pin call }
+    requires reads { (tail : Tail) → call.stage ≢ Stage.Tail tail }
     ensures { IsAdvance P.always_shared P.same_meaning (meant_table P.meaning store.now)
         store.now.root pin (meant_record P.meaning call) (env_of P.meaning env)
         (in_some (meant_record P.meaning) result.call) result.report
@@ -95,6 +97,7 @@ pub fn advance<P: HasMeaning>(
         Stage::CheckAbove(path, below, fits) => {
             on(check_above(store, pin, task, path, below, fits))
         }
+        Stage::Tail(_) => unreachable!(),
         Stage::Finish => finished(),
     }
 }

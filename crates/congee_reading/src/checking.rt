@@ -5,10 +5,10 @@ ghost use Rattle.congee_protocol.specs.Calls.{IsPoint};
 ghost use Rattle.congee_protocol.specs.declared.types.Env.{Env};
 ghost use Rattle.congee_store.specs.inner.Tables.{IsPlaced};
 ghost use Rattle.congee_store.specs.inner.Meant.{meant_table};
-ghost use Rattle.congee_store.specs.inner.Turns.{IsServedCall};
-ghost use Rattle.congee_reading.specs.inner.Found.{IsFollowed, IsFound};
+ghost use Rattle.congee_reading.specs.inner.Found.{IsFollowed, IsFound, IsGet, IsInsert};
 ghost use Rattle.congee_reading.specs.inner.Reads.{Knows, Reads};
 
+use crate::inserting::insert_here;
 use congee_store::stepped::{
     Stepped, decided_absent, decided_present, going, node_at, report, restarted, stands,
 };
@@ -17,8 +17,10 @@ use congee_protocol::payload::HasMeaning;
 use congee_protocol::types::{Kind, Op, Seen};
 use congee_store::stage::{Path, Spot, Stage, Task};
 use congee_store::store::Store;
+use congee_store::tail::{Large, Pair, Tail};
 
-/// Check of the current node after a Read, which decides a Get that ends there. A call of another kind reads again.
+/// Check of the current node after a Read, which decides a Get that ends there, and finds what an Insert has to do. A call
+/// of another kind reads again.
 pub(crate) fn check<P: HasMeaning>(
     store: &Store<P>,
     pin: u64,
@@ -36,6 +38,9 @@ pub(crate) fn check<P: HasMeaning>(
     if !stands(node_at(store, slot), path.here) {
         let report = report(Kind::Check, slot, 0, false);
         return restarted(task, report);
+    }
+    if is_insert(&task.outline) {
+        return insert_here(store, pin, task, path);
     }
     let report = report(Kind::Check, slot, 0, true);
     let found = told(&task.last);
@@ -79,7 +84,7 @@ fn told<P>(last: &Option<Seen<P>>) -> Found
     }
 }
 
-// Whether a call of this kind is served further: each point call goes down, and a Get ends.
+// Whether a call of this kind, which isn't an Insert, is served further: each point call goes down, and a Get ends.
 fn is_followed(outline: &Op<()>, found: Found) -> bool
     ensures { IsTrue result ↔ IsFollowed outline.now found }
 {
@@ -100,10 +105,19 @@ pub(crate) fn is_point(outline: &Op<()>) -> bool
 }
 
 fn is_get(outline: &Op<()>) -> bool
-    ensures { IsTrue result ↔ IsServedCall outline.now }
+    ensures { IsTrue result ↔ IsGet outline.now }
 {
     match outline {
         Op::Get(_) => true,
+        _ => false,
+    }
+}
+
+fn is_insert(outline: &Op<()>) -> bool
+    ensures { IsTrue result ↔ IsInsert outline.now }
+{
+    match outline {
+        Op::Insert(..) => true,
         _ => false,
     }
 }
@@ -133,8 +147,8 @@ pub(crate) fn check_still<P: HasMeaning>(
     }
 }
 
-/// Check of the node that led to the child that was taken, which decides a Get whose key the child leaves. A call of
-/// another kind then looks again.
+/// Check of the node that led to the child that was taken, which decides a Get whose key the child leaves, and after which
+/// an Insert puts a node between. A call of another kind then looks again.
 pub(crate) fn check_above<P: HasMeaning>(
     store: &Store<P>,
     pin: u64,
@@ -161,6 +175,12 @@ pub(crate) fn check_above<P: HasMeaning>(
         going(task, Stage::Read(Path { above, here: below }), report)
     } else if is_get(&task.outline) {
         decided_absent(task, report)
+    } else if is_insert(&task.outline) {
+        let pair = Pair {
+            above: path.here,
+            here: below,
+        };
+        going(task, Stage::Tail(Tail::UpgradeAbove(pair, Large::Split)), report)
     } else {
         going(task, Stage::CheckAbove(path, below, fits), report)
     }

@@ -6,5 +6,6 @@
 
 pub mod advance;
 mod checking;
+mod inserting;
 mod looking;
 mod taking;

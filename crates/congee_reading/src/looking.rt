@@ -97,7 +97,7 @@ fn look<P: HasMeaning>(node: &TreeNode<P>, outline: &Op<()>) -> Option<Looked<P>
     }
 }
 
-fn child_at<'a, P: Drop>(node: &'a TreeNode<P>, key: u64) -> Option<ChildRef<'a, P>>
+pub(crate) fn child_at<'a, P: Drop>(node: &'a TreeNode<P>, key: u64) -> Option<ChildRef<'a, P>>
     ensures { seen result ≡ lookup node.now.children (next_byte node.now.prefix (bytes_of key)) }
 {
     let bytes = key.to_be_bytes();

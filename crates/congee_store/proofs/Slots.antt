@@ -18,7 +18,7 @@ use Rattle.congee_store.specs.declared.store.Store.{Store}
 use Rattle.congee_store.specs.inner.Facts.{sizes_of, AllAdmitted, IsAdmitted}
 use Rattle.congee_store.specs.inner.Meant.{meant_node, meant_stored, meant_slots, meant_table}
 use Rattle.congee_store.specs.inner.Slots.{SetsNode}
-use Rattle.congee_store.specs.inner.World.{Node, Table, entry, is_retired, standing_of, node_of, table_on}
+use Rattle.congee_store.specs.inner.World.{Node, Table, entry, standing_of, node_of, table_on}
 use Rattle.congee_store.proofs.Entries.{lookup-mapped}
 use Rattle.congee_store.proofs.Options.{some_same}
 use Rattle.congee_store.proofs.Sizes.{size_at, size_in, sizes_more, sizes_same}
@@ -92,6 +92,10 @@ module _ {P M : Type 0} (meaning : P → M) (store : Store P) (slot : ℕ) (n : 
       ∙ ap (λ (x : Node M). with_child x byte (child_of meaning child)) (sym (stood a found)) in
       subst (λ (x : Node M). SetsNode meaning store (with_stored (record n { node = b })) slot (Some x)) now (sets_stored (record n { node = b }))
 
+  pub sizes_child : (byte : ℕ) (child : Child P) (b : TableNode P) → b ≡ record n.node { children = put n.node.children byte child }
+      → sizes_of (with_value store.nodes slot (record n { node = b })).slots ≡ sizes_of store.nodes.slots
+  sizes_child byte child b is = sizes_stored (record n { node = b }) (ap (λ (x : TableNode P). x.form) is)
+
   -- what stood under the byte
   pub stood_under : (byte : ℕ) (a : Node M) → meant_table meaning store slot ≡ Some a → entry a byte ≡ in_some (child_of meaning) (lookup n.node.children byte)
   stood_under byte a found = ap (λ (x : Node M). entry x byte) (stood a found) ∙ lookup-mapped (child_of meaning) n.node.children byte
@@ -107,14 +111,7 @@ pub seen_nothing : {P : Type 0} (r : Option (ChildRef P)) → false ≡ is_some 
 seen_nothing None e = refl
 seen_nothing (Some x) e = absurd (cc)
 
--- a slot with a node that isn't retired is in use, and one without a node isn't admitted
-pub in_use : {M : Type 0} (a : Node M) (life : Option Life) → IsAdmitted (Some a) life → ((stamp : Option ℕ) → a.standing ≢ is_retired stamp) → life ≡ Some InUse
-in_use a life is not =
-    elim is [
-      | inl here ↦ here
-      | inr out ↦ absurd (not out.0 out.1)
-    ]
-
+-- what is admitted of a slot
 pub at_slot : {M : Type 0} (t : Table M) (lives : List (ℕ × Life)) (slot : ℕ) (o : Option (Node M)) → AllAdmitted t lives → t slot ≡ o → IsAdmitted o (entry_at lives slot)
 at_slot t lives slot o all here = subst (λ x. IsAdmitted x (entry_at lives slot)) here (all slot)
 

@@ -1,13 +1,13 @@
 //! The nodes in their slots, and the changes that events make there.
 
-ghost use Rattle.std.specs.Prelude.{◌≡◌, ◌≢◌, ◌+◌, ℕ, None, Some, IsSome, IfOk, OnErr, length, ◌⊎◌};
+ghost use Rattle.std.specs.Prelude.{◌≡◌, ◌≢◌, ◌+◌, ℕ, None, Some, IsSome, IfOk, OnErr, length};
 ghost use Rattle.slab.specs.Slab.{get};
 ghost use Rattle.congee_base.specs.Form.{Fits, stated_size};
 ghost use Rattle.congee_map.specs.Map.{lookup, put};
 ghost use Rattle.congee_node_table.specs.TableNode.{MayHave};
 ghost use Rattle.congee_protocol.specs.Meaning.{child_of, in_some};
 ghost use Rattle.congee_store.specs.inner.Facts.{sizes_of, AllAdmitted};
-ghost use Rattle.congee_store.specs.inner.Meant.{meant_node, meant_stored, meant_table};
+ghost use Rattle.congee_store.specs.inner.Meant.{meant_node, meant_table};
 ghost use Rattle.congee_store.specs.inner.Slots.{SetsNode, made_node};
 ghost use Rattle.congee_store.specs.inner.World.{Node, entry, is_detached, is_linked, is_private, is_retired};
 ghost use Rattle.congee_sync.specs.Epoch.{count_after, stamp_at};

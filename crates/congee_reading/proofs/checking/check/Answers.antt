@@ -1,10 +1,9 @@
 use Rattle.std.proofs.Common.{rules, ◌≡◌, subst}
-use Rattle.congee_store.specs.inner.Turns.{IsServedCall}
-use Rattle.congee_reading.specs.inner.Found.{IsFollowed, IsFound}
+use Rattle.congee_reading.specs.inner.Found.{IsFollowed, IsFound, IsGet, IsInsert}
 use Rattle.congee_reading.specs.declared.checking.Found.{Found}
 use Rattle.congee_reading.proofs.Checks.{check_restarts, check_again, check_nothing, check_payload, check_goes_down}
 use Rattle.congee_reading.proofs.Events.{test_false}
-use Rattle.congee_reading.proofs.Findings.{get_followed, nothing_meant, payload_meant, node_meant}
+use Rattle.congee_reading.proofs.Findings.{get_followed, neither_served, nothing_meant, payload_meant, node_meant}
 use Rattle.congee_reading.proofs.checking.check.Goals as goal
 
 pub returns-then-not-stands : goal.returns-then-not-stands
@@ -20,7 +19,8 @@ returns-then-not-is_followed g c = record {
   reads = λ env.
       rw (c.going.ensures, c.report-report-2.ensures)
       (check_again g.P.Payload.always_shared g.P.HasMeaning.same_meaning _ c.args.store.now.root c.args.pin _ _ c.requires.placed c.args.path _ c.node_at.ensures (c.stands.ensures.0 (search rules)) c.requires.facts
-      (λ (s : IsServedCall c.args.task.outline). test_false c.is_followed.result (search rules) (c.is_followed.ensures.1 (get_followed c.args.task.outline c.told-found.result s))));
+      (neither_served c.args.task.outline (λ (s : IsGet c.args.task.outline). test_false c.is_followed.result (search rules) (c.is_followed.ensures.1 (get_followed c.args.task.outline c.told-found.result s)))
+      (λ (s : IsInsert c.args.task.outline). test_false c.is_insert.result (search rules) (c.is_insert.ensures.1 s))));
 }
 
 pub returns-in-Nothing : goal.returns-in-Nothing

@@ -1,9 +1,11 @@
 use Rattle.std.proofs.Common.{rules, ◌≡◌, Bool, subst}
-use Rattle.congee_store.specs.inner.Turns.{IsServedCall}
 use Rattle.congee_store.specs.declared.stage.Stage.TheVariants.{CheckAbove}
+use Rattle.congee_reading.specs.inner.Found.{IsGet, IsInsert}
 use Rattle.congee_reading.specs.inner.Reads.{Knows}
 use Rattle.congee_reading.proofs.Checks.{above_restarts, above_again, above_goes, above_decides}
 use Rattle.congee_reading.proofs.Events.{test_false}
+use Rattle.congee_reading.proofs.Findings.{neither_served}
+use Rattle.congee_reading.proofs.Inserts.{above_splits}
 use Rattle.congee_reading.proofs.checking.check_above.Goals as goal
 
 pub returns-then-not-stands : goal.returns-then-not-stands
@@ -31,10 +33,20 @@ returns-then-is_get g c = record {
       (c.is_get.ensures.0 c.if-is_get.true));
 }
 
-pub returns-else-is_get : goal.returns-else-is_get
-returns-else-is_get g c = record {
+pub returns-then-is_insert : goal.returns-then-is_insert
+returns-then-is_insert g c = record {
   reads = λ env.
-      rw (c.going-else-is_get.ensures, c.report-report-2.ensures)
+      rw (c.going-then-is_insert.ensures, c.report-report-2.ensures, c.if-fits.false)
+      (above_splits g.P.Payload.always_shared g.P.HasMeaning.same_meaning _ c.args.store.now.root c.args.pin _ _ c.requires.placed c.args.path _ c.node_at.ensures (c.stands.ensures.0 (search rules)) c.args.below
+      (subst (λ (fits : Bool). Knows g.P.Payload.always_shared g.P.HasMeaning.meaning c.args.store.now c.args.pin (record { stage = CheckAbove c.args.path c.args.below fits; task = c.args.task })) c.if-fits.false c.requires.facts)
+      (c.is_insert.ensures.0 c.if-is_insert.true));
+}
+
+pub returns-else-is_insert : goal.returns-else-is_insert
+returns-else-is_insert g c = record {
+  reads = λ env.
+      rw (c.going-else-is_insert.ensures, c.report-report-2.ensures)
       (above_again g.P.Payload.always_shared g.P.HasMeaning.same_meaning _ c.args.store.now.root c.args.pin _ _ c.requires.placed c.args.path _ c.node_at.ensures (c.stands.ensures.0 (search rules)) c.args.below c.args.fits c.requires.facts
-      (λ (s : IsServedCall c.args.task.outline). test_false _ c.if-is_get.false (c.is_get.ensures.1 s)));
+      (neither_served c.args.task.outline (λ (s : IsGet c.args.task.outline). test_false _ c.if-is_get.false (c.is_get.ensures.1 s))
+      (λ (s : IsInsert c.args.task.outline). test_false _ c.if-is_insert.false (c.is_insert.ensures.1 s))));
 }
