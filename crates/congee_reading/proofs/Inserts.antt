@@ -1,23 +1,23 @@
 -- What a Check finds that an Insert has to do.
-use Rattle.std.proofs.Common.{◌≡◌, ◌≢◌, ℕ, ◌+◌, ◌^◌, ◌<◌, ◌≤◌, Bool, true, false, List, [], ◌∷◌, length, Option, Some, None, inl, inr, refl, sym, subst, ap, ◌∙◌, arith}
+use Rattle.std.proofs.Common.{◌≡◌, ℕ, ◌+◌, ◌^◌, ◌≤◌, Bool, true, false, List, [], ◌∷◌, length, Option, Some, None, inl, inr, refl, sym, subst, ap, ◌∙◌, arith}
 use Rattle.std.proofs.lemmas.Bool.{eq-eqb}
 use Rattle.std.proofs.lemmas.Bool.Decides.{eqb_tells}
 use Rattle.congee_base.specs.Form.{Fits}
 use Rattle.congee_base.specs.declared.base_node.NodeType.{NodeType}
+use Rattle.congee_base.specs.declared.base_node.NodeType.TheVariants.{N256}
 use Rattle.congee_map.specs.Call.{old_value}
-use Rattle.congee_map.specs.Map.{Pairs, Rises, lookup, put}
+use Rattle.congee_map.specs.Map.{Rises, lookup, put}
 use Rattle.congee_map.proofs.MapLaws.{Rises-put, lookup-put_same, lookup-put_other, same_from_lookups}
 use Rattle.congee_node_table.specs.Key.{Begins, next_byte}
 use Rattle.congee_node_table.specs.TableNode.{TableNode}
 use Rattle.congee_node_table.specs.declared.child.Child.{Child}
 use Rattle.congee_node_table.specs.declared.child.Child.TheVariants.{Payload, Node as below_at}
-use Rattle.congee_protocol.specs.Calls.{Outline, IsPoint, asked_of, key_of, outline_of}
-use Rattle.congee_protocol.specs.Content.{IsContent}
+use Rattle.congee_protocol.specs.Calls.{Outline, asked_of, key_of, outline_of}
 use Rattle.congee_protocol.specs.Kinds.{Finds, report_of}
 use Rattle.congee_protocol.specs.Local.{only_at, payload_in, seen_payload}
 use Rattle.congee_protocol.specs.Meaning.{in_some, child_of, op_of}
 use Rattle.congee_protocol.specs.Reading.{IsSeenOf, child_for}
-use Rattle.congee_protocol.specs.State.{State, Flight, settled}
+use Rattle.congee_protocol.specs.State.{State, settled}
 use Rattle.congee_protocol.specs.declared.types.Asking.{Asking}
 use Rattle.congee_protocol.specs.declared.types.Env.{Env}
 use Rattle.congee_protocol.specs.declared.types.Kind.TheVariants as kind
@@ -26,7 +26,6 @@ use Rattle.congee_protocol.specs.declared.types.Op.TheVariants.{Get, Insert, Rem
 use Rattle.congee_protocol.specs.declared.types.Outcome.TheVariants.{Going, Decided}
 use Rattle.congee_protocol.specs.declared.types.Progress.TheVariants as progress
 use Rattle.congee_protocol.specs.declared.types.Reply.TheVariants.{Old}
-use Rattle.congee_protocol.specs.declared.types.Seen.{Seen}
 use Rattle.congee_store.specs.declared.stage.Path.{Path}
 use Rattle.congee_store.specs.declared.stage.Spot.{Spot}
 use Rattle.congee_store.specs.declared.stage.Stage.TheVariants.{Check, TakeBelow, CheckAbove, Tail, Finish}
@@ -41,11 +40,11 @@ use Rattle.congee_store.specs.inner.Facts.{Facts}
 use Rattle.congee_store.specs.inner.Meant.{meant_node}
 use Rattle.congee_store.specs.inner.Shown.{flight}
 use Rattle.congee_store.specs.inner.Slots.{made_node}
-use Rattle.congee_store.specs.inner.Tables.{IsIn, IsPlaced, CameFrom, Known, LedTo, OnPath}
+use Rattle.congee_store.specs.inner.Tables.{IsIn, IsPlaced, CameFrom, Known, OnPath}
 use Rattle.congee_store.specs.inner.TailFacts.{IsLarge, IsSmall, LargeWork, SmallWork, Writes, found}
 use Rattle.congee_store.specs.inner.Tails.{above_slots, above_spots, large_work, small_work}
 use Rattle.congee_store.specs.inner.Tasks.{IsFreshly, Agrees, Saw, SawNode, Sees, key_bytes}
-use Rattle.congee_store.specs.inner.Turns.{IsRead, Shows}
+use Rattle.congee_store.specs.inner.Turns.{IsRead}
 use Rattle.congee_store.specs.inner.World.{Node, Table}
 use Rattle.congee_store.proofs.Contents.{kept_there}
 use Rattle.congee_store.proofs.Options.{none_some, some_same}
@@ -192,11 +191,22 @@ module _ {M : Type 0} where
   large_at GrowInner a k h = h
   large_at Split a k h = h
 
-  -- a full node isn't the root
+  -- a full node has no room
   full_form : (large : Large) (a : Node M) (k : List ℕ) → IsLarge large a k → Begins a.node.prefix k → Fits a.node.form (length a.node.children + 1) → ⊥
   full_form GrowLeaf a k h begins room = h.3 room
   full_form GrowInner a k h begins room = h.3 room
   full_form Split a k h begins room = h begins
+
+-- a full node on the way has a parent
+module _ {M : Type 0} (Granted : Type 0) (t : Table M) (root pin : ℕ) (task : Task M) (placed : IsPlaced t root) (path : Path) (a : Node M) (here : t path.here.slot ≡ Some a)
+    (facts : Facts Granted t root pin (at (Check path) task)) where
+  pub full_above : (large : Large) → IsLarge large (made_node a.node) (key_bytes task) → path.above ≡ None → ⊥
+  full_above large is none =
+      let on : OnPath t root pin (key_bytes task) path = facts.at.1 in
+      let at_root : path.here.slot ≡ root = subst (λ (z : Option Spot). CameFrom t root pin (key_bytes task) z path.here.slot) none on.above in
+      let top : placed.top ≡ a = some_same placed.top a (sym placed.top_linked.here ∙ subst (λ (z : ℕ). t z ≡ Some a) at_root here) in
+      let form : a.node.form ≡ N256 = subst (λ (z : Node M). z.node.form ≡ N256) top placed.top_form in
+      full_form large a (key_bytes task) (large_at large a (key_bytes task) is) (on.way a here) (subst (λ (z : NodeType). Fits z (length a.node.children + 1)) (sym form) tt)
 
 -- WHERE THE NODE'S WORD STANDS
 module _ {M : Type 0} (Granted : Type 0) (same : M → M → Bool) (t : Table M) (root pin : ℕ) (task : Task M) (env : Env M) (placed : IsPlaced t root) (path : Path) (a : Node M)
@@ -246,15 +256,6 @@ module _ {M : Type 0} (Granted : Type 0) (same : M → M → Bool) (t : Table M)
   pub insert_new : (small : Small) → IsSmall small (made_node a.node) (key_bytes task)
       → IsRead Granted same t root pin (at (Check path) task) env (at (Tail (Upgrade path small)) task) (report_of kind.Check (Some path.here.slot) 0 true) Going
   insert_new small is = insert_small small (small_at small a (key_bytes task) is)
-
-  -- the node is full, and has a parent
-  pub full_above : (large : Large) → IsLarge large (made_node a.node) (key_bytes task) → path.above ≡ None → ⊥
-  full_above large is none =
-      let at_root : path.here.slot ≡ root = subst (λ (z : Option Spot). CameFrom t root pin (key_bytes task) z path.here.slot) none on_here.above in
-      let top : placed.top ≡ a = some_same placed.top a (sym placed.top_linked.here ∙ subst (λ (z : ℕ). t z ≡ Some a) at_root here) in
-      let room : (form : NodeType) → placed.top.node.form ≡ form → a.node.form ≡ form = λ form e. subst (λ (z : Node M). z.node.form ≡ form) top e in
-      full_form large a (key_bytes task) (large_at large a (key_bytes task) is) (on_here.way a here)
-      (subst (λ (form : NodeType). Fits form (length a.node.children + 1)) (sym (room _ placed.top_form)) tt)
 
   pub insert_full : (large : Large) (above : Spot) → path.above ≡ Some above → under a.node (key_bytes task) ≡ None → IsLarge large (made_node a.node) (key_bytes task)
       → IsRead Granted same t root pin (at (Check path) task) env (at (Tail (UpgradeAbove (record { above = above; here = path.here }) large)) task) (report_of kind.Check (Some path.here.slot) 0 true) Going

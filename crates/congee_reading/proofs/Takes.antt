@@ -21,7 +21,7 @@ use Rattle.congee_store.specs.inner.Tables.{IsSafe, IsPlaced, IsThere, IsIn}
 use Rattle.congee_store.specs.inner.Tasks.{IsFreshly, key_bytes}
 use Rattle.congee_store.specs.inner.Facts.{Facts, named_at}
 use Rattle.congee_store.specs.inner.Shown.{flight, held_at, made_at}
-use Rattle.congee_store.specs.inner.Turns.{IsCurrent, IsRead, IsUndisturbed, Shows}
+use Rattle.congee_store.specs.inner.Turns.{IsCurrent, IsRead, Shows}
 use Rattle.congee_store.specs.inner.World.{Node, Standing, Table, is_linked}
 use Rattle.congee_store.proofs.Options.{none_some, some_same}
 use Rattle.congee_store.proofs.Reaching.{one, seen_at}

@@ -10,11 +10,11 @@ ghost use Rattle.congee_reading.specs.inner.Reads.{Knows};
 
 use crate::checking::{check, check_above, check_still, is_point};
 use crate::looking::read;
-use congee_store::stepped::Stepped;
 use crate::taking::{take_below, take_root};
 use congee_protocol::payload::HasMeaning;
 use congee_protocol::types::{Env, Kind, Outcome, Report};
 use congee_store::stage::{Record, Stage};
+use congee_store::stepped::Stepped;
 use congee_store::store::Store;
 use congee_store::tail::Tail;
 
@@ -66,8 +66,8 @@ fn finished<P>() -> Advanced<P>
     }
 }
 
-/// Makes the next event of a call that hasn't found yet that it has to write. An event uses of `env` what its kind takes.
-/// A range doesn't read so far: it checks the root again and again.
+/// Makes the next event of a call that hasn't found yet that it has to write. An event uses of `env` what its kind
+/// takes. A range doesn't read so far: it checks the root again and again.
 pub fn advance<P: HasMeaning>(
     store: &Store<P>,
     pin: u64,

@@ -9,18 +9,18 @@ ghost use Rattle.congee_reading.specs.inner.Found.{IsFollowed, IsFound, IsGet, I
 ghost use Rattle.congee_reading.specs.inner.Reads.{Knows, Reads};
 
 use crate::inserting::insert_here;
-use congee_store::stepped::{
-    Stepped, decided_absent, decided_present, going, node_at, report, restarted, stands,
-};
 use congee_node_table::child::Child;
 use congee_protocol::payload::HasMeaning;
 use congee_protocol::types::{Kind, Op, Seen};
 use congee_store::stage::{Path, Spot, Stage, Task};
+use congee_store::stepped::{
+    Stepped, decided_absent, decided_present, going, node_at, report, restarted, stands,
+};
 use congee_store::store::Store;
 use congee_store::tail::{Large, Pair, Tail};
 
-/// Check of the current node after a Read, which decides a Get that ends there, and finds what an Insert has to do. A call
-/// of another kind reads again.
+/// Check of the current node after a Read, which decides a Get that ends there, and finds what an Insert has to do. A
+/// call of another kind reads again.
 pub(crate) fn check<P: HasMeaning>(
     store: &Store<P>,
     pin: u64,
@@ -147,8 +147,8 @@ pub(crate) fn check_still<P: HasMeaning>(
     }
 }
 
-/// Check of the node that led to the child that was taken, which decides a Get whose key the child leaves, and after which
-/// an Insert puts a node between. A call of another kind then looks again.
+/// Check of the node that led to the child that was taken, which decides a Get whose key the child leaves, and after
+/// which an Insert puts a node between. A call of another kind then looks again.
 pub(crate) fn check_above<P: HasMeaning>(
     store: &Store<P>,
     pin: u64,
@@ -180,7 +180,11 @@ pub(crate) fn check_above<P: HasMeaning>(
             above: path.here,
             here: below,
         };
-        going(task, Stage::Tail(Tail::UpgradeAbove(pair, Large::Split)), report)
+        going(
+            task,
+            Stage::Tail(Tail::UpgradeAbove(pair, Large::Split)),
+            report,
+        )
     } else {
         going(task, Stage::CheckAbove(path, below, fits), report)
     }

@@ -13,13 +13,13 @@ ghost use Rattle.congee_store.specs.inner.Meant.{meant_node, meant_record, meant
 ghost use Rattle.congee_reading.specs.inner.Looked.{HasPayload, IsFull, IsLooking, IsUnseen, IsWholeRead};
 ghost use Rattle.congee_reading.specs.inner.Reads.{Knows, Reads};
 
-use congee_store::stepped::{Stepped, node_at, refused, report, saw, stands};
 use congee_map::error::OOMError;
 use congee_node_table::child::{Child, ChildRef};
 use congee_node_table::tree_node::TreeNode;
 use congee_protocol::payload::HasMeaning;
 use congee_protocol::types::{Kind, Op, Report, Seen};
 use congee_store::stage::{Path, Stage, Task};
+use congee_store::stepped::{Stepped, node_at, refused, report, saw, stands};
 use congee_store::store::Store;
 
 /// Read of the current node by a point call, which reports `torn` where the node's word isn't the remembered one.

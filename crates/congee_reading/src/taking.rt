@@ -8,11 +8,11 @@ ghost use Rattle.congee_store.specs.inner.Tables.{IsPlaced};
 ghost use Rattle.congee_store.specs.inner.Meant.{meant_table};
 ghost use Rattle.congee_reading.specs.inner.Reads.{Knows, Reads};
 
-use congee_store::stepped::{Stepped, going, node_at, report, restarted};
 use congee_node_table::tree_node::TreeNode;
 use congee_protocol::payload::HasMeaning;
 use congee_protocol::types::Kind;
 use congee_store::stage::{Path, Spot, Stage, Task};
+use congee_store::stepped::{Stepped, going, node_at, report, restarted};
 use congee_store::store::Store;
 
 /// Take of the root.

@@ -11,7 +11,7 @@ use Rattle.congee_store.specs.inner.Slots.{made_node}
 use Rattle.congee_store.specs.inner.TailFacts.{IsLarge, IsSmall}
 use Rattle.congee_reading.specs.inner.Looked.{HasPayload}
 use Rattle.congee_reading.specs.declared.inserting.Choice.{Choice}
-use Rattle.congee_reading.specs.declared.inserting.Choice.TheVariants.{Below, Same, Other, Small, Large}
+use Rattle.congee_reading.specs.declared.inserting.Choice.TheVariants as choice
 
 module _ {P : Type 0} where
   -- the payload that an Insert stores
@@ -24,8 +24,8 @@ module _ {P : Type 0} where
   under a k = lookup a.children (next_byte a.prefix k)
 
   abbrev pub IsChosen : TableNode P → List ℕ → Option (Op P) → Choice → Type 0
-  IsChosen a k op (Below slot) = under a k ≡ Some (below_at slot)
-  IsChosen a k op Same = (v : P) × (handed op ≡ Some v) × (under a k ≡ Some (Payload v))
-  IsChosen a k op Other = HasPayload (under a k)
-  IsChosen a k op (Small small) = (under a k ≡ None) × IsSmall small (made_node a) k
-  IsChosen a k op (Large large) = (under a k ≡ None) × IsLarge large (made_node a) k
+  IsChosen a k op (choice.Below slot) = under a k ≡ Some (below_at slot)
+  IsChosen a k op choice.Same = (v : P) × (handed op ≡ Some v) × (under a k ≡ Some (Payload v))
+  IsChosen a k op choice.Other = HasPayload (under a k)
+  IsChosen a k op (choice.Small small) = (under a k ≡ None) × IsSmall small (made_node a) k
+  IsChosen a k op (choice.Large large) = (under a k ≡ None) × IsLarge large (made_node a) k

@@ -1,17 +1,14 @@
 -- What an event makes of a call, over the code's own payloads.
-use Rattle.std.specs.Prelude.{◌≡◌, ℕ, Bool, Some}
+use Rattle.std.specs.Prelude.{ℕ, Bool}
 use Rattle.congee_protocol.specs.Meaning.{env_of, outcome_of}
 use Rattle.congee_protocol.specs.declared.types.Env.{Env}
 use Rattle.congee_protocol.specs.declared.types.Outcome.{Outcome}
 use Rattle.congee_protocol.specs.declared.types.Report.{Report}
-use Rattle.congee_sync.specs.Epoch.{entry_at}
 use Rattle.congee_store.specs.declared.stage.Record.{Record}
-use Rattle.congee_store.specs.declared.stage.Stored.{Stored}
 use Rattle.congee_store.specs.declared.store.Store.{Store}
 use Rattle.congee_store.specs.inner.Facts.{Facts}
-use Rattle.congee_store.specs.inner.Meant.{meant_record, meant_stored, meant_table}
+use Rattle.congee_store.specs.inner.Meant.{meant_record, meant_table}
 use Rattle.congee_store.specs.inner.Turns.{IsRead}
-use Rattle.congee_store.specs.inner.World.{node_of}
 
 module _ {P M : Type 0} where
   -- what a call with this pin knows

@@ -1,9 +1,9 @@
-use Rattle.std.proofs.Common.{sym, ◌∙◌}
+use Rattle.std.proofs.Common.{rules, sym, ◌∙◌}
 use Rattle.congee_protocol.specs.Meaning.{in_some}
 use Rattle.congee_store.specs.inner.Tasks.{key_bytes}
 use Rattle.congee_reading.specs.declared.inserting.Choice.TheVariants as choice
 use Rattle.congee_reading.specs.inner.Chosen.{handed}
-use Rattle.congee_reading.proofs.Inserts.{chosen_by, handed_means, insert_below, insert_full, insert_new, insert_other, insert_stands}
+use Rattle.congee_reading.proofs.Inserts.{chosen_by, handed_means, full_above, insert_below, insert_full, insert_new, insert_other, insert_stands}
 use Rattle.congee_reading.proofs.inserting.insert_here.Goals as goal
 
 pub chosen-requires : goal.chosen-requires
@@ -58,3 +58,8 @@ returns-in-Some g c =
           (insert_full g.P.Payload.always_shared g.P.HasMeaning.same_meaning _ c.args.store.now.root c.args.pin _ _ c.requires.placed c.args.path _ c.node_at-stored.ensures (c.requires.stands _ c.node_at-stored.ensures) c.requires.facts c.requires.insert
           c.in-Large.large c.in-Some.above c.in-Some.is h.0 h.1);
     }
+
+pub unreachable-requires : goal.unreachable-requires
+unreachable-requires g c =
+    let h = chosen_by g.P.HasMeaning.meaning c.node_at-stored.result.now.node (key_bytes c.args.task) c.args.task.op c.chosen.result (choice.Large c.in-Large.large) c.in-Large.is c.chosen.ensures in
+    full_above g.P.Payload.always_shared _ c.args.store.now.root c.args.pin _ c.requires.placed c.args.path _ c.node_at-stored.ensures c.requires.facts c.in-Large.large h.1 (search rules)
