@@ -1,14 +1,13 @@
--- The inside after an event that writes no node, and changes the seat and the call of one number.
-use Rattle.std.proofs.Common.{◌≡◌, ℕ, ◌≤◌, ◌^◌, Bool, true, List, Option, Some, IsSome, inl, inr, refl, sym, subst, ap, ◌∙◌}
-use Rattle.std.proofs.lemmas.Bool.{false≢true, cases_lt}
+-- The inside after an event that writes no node, and changes the seat and the call of one number, which holds what it held.
+use Rattle.std.proofs.Common.{◌≡◌, ◌↔◌, ℕ, ◌<◌, ◌≤◌, ◌^◌, Bool, true, List, Option, None, Some, IsSome, inl, inr, refl, sym, subst, ap, ◌∙◌}
+use Rattle.std.proofs.lemmas.Bool.{cases_lt}
 use Rattle.std.proofs.lemmas.Bool.Decides.{eqb_tells}
 use Rattle.congee_map.proofs.MapLaws.{same_from_lookups}
 use Rattle.congee_protocol.specs.Seats.{IsReseated}
 use Rattle.congee_sync.specs.Epoch.{PinsView, ChangesSeat, entry_at, pin_of, is_seated}
 use Rattle.congee_store.specs.declared.stage.Record.{Record}
-use Rattle.congee_store.specs.declared.stage.Stage.{Stage}
 use Rattle.congee_store.specs.inner.Tables.{IsPlaced, NeedsHolder}
-use Rattle.congee_store.specs.inner.Facts.{Facts, Holding, IsSound}
+use Rattle.congee_store.specs.inner.Facts.{Facts, Holding, IsSound, AllAdmitted}
 use Rattle.congee_store.specs.inner.Places.{ChangesPlace}
 use Rattle.congee_store.specs.inner.Shown.{nodes_from, flight_in, seats_on, state_of}
 use Rattle.congee_store.specs.inner.World.{World, table_on, table_of, record_in, call_of}
@@ -17,9 +16,28 @@ use Rattle.congee_map.proofs.JoinLaws.{lookup-above}
 use Rattle.congee_store.proofs.Seats.{seats_same}
 use Rattle.congee_store.proofs.States.{SameButCalls, OtherCallsStay, shown_flight, shown_seat, flights_map, state_is}
 
--- a call that only reads holds nothing
-pub holds_none : (stage : Stage) (s : ℕ) → Holding stage s → ⊥
-holds_none stage s h = elim h [ inl x ↦ false≢true x | inr x ↦ false≢true x ]
+module _ {M : Type 0} where
+  -- the nodes that a record holds, and none does where there is no record
+  abbrev pub HeldBy : Option (Record M) → ℕ → Type 0
+  HeldBy None s = ⊥
+  HeldBy (Some r) s = Holding r.stage s
+
+  abbrev pub SameHeld : Option (Record M) → Option (Record M) → Type 0
+  SameHeld x y = (s : ℕ) → HeldBy x s ↔ HeldBy y s
+
+  pub held_record : (x : Option (Record M)) (s : ℕ) → HeldBy x s → (r : Record M) × (x ≡ Some r) × Holding r.stage s
+  held_record None s h = absurd h
+  held_record (Some r) s h = (r, refl, h)
+
+  pub record_held : (x : Option (Record M)) (r : Record M) (s : ℕ) → x ≡ Some r → Holding r.stage s → HeldBy x s
+  record_held x r s e h = subst (λ (y : Option (Record M)). HeldBy y s) (sym e) h
+
+  pub same_held : (x y : Option (Record M)) → x ≡ y → SameHeld x y
+  same_held x y e s = subst (λ (z : Option (Record M)). HeldBy x s ↔ HeldBy z s) e ((λ h. h), (λ h. h))
+
+  -- where both hold nothing
+  pub none_held : (x y : Option (Record M)) → ((s : ℕ) → HeldBy x s → ⊥) → ((s : ℕ) → HeldBy y s → ⊥) → SameHeld x y
+  none_held x y nx ny s = ((λ h. absurd (nx s h)), (λ h. absurd (ny s h)))
 
 module _ {M : Type 0} (w : World M) (pins : PinsView) (calls : List (ℕ × Option (Record M))) (id : ℕ)
     (seated : Bool) (pin : Option ℕ) (place : Option (Option (Record M)))
@@ -30,9 +48,17 @@ module _ {M : Type 0} (w : World M) (pins : PinsView) (calls : List (ℕ × Opti
       → ((p : ℕ) → pin ≡ Some p → IsSome (record_in place))
       → (seated ≡ true → IsSome place)
       → ((p : ℕ) → pin ≡ Some p → p ≤ w.pins.count)
+      → SameHeld (record_in place) (call_of w id)
+      → ((r : Record M) → record_in place ≡ Some r → id < 2 ^ 64)
       → IsSound Granted (record w { pins = pins; calls = calls })
-  changed_sound Granted sound facts pinned called room before =
+  changed_sound Granted sound facts pinned called room before holds small =
       let here = ap record_in places.here in
+      let all : (o : ℕ) → SameHeld (record_in (entry_at calls o)) (call_of w o) = λ o.
+          elim (eqb_tells o id) [
+            | inl same ↦ subst (λ z. SameHeld (record_in (entry_at calls z)) (call_of w z)) (sym same.1)
+                (subst (λ (x : Option (Record M)). SameHeld x (call_of w id)) (sym here) holds)
+            | inr off ↦ same_held (record_in (entry_at calls o)) (call_of w o) (ap record_in (places.others o off.1))
+          ] in
       record {
         placed = subst (λ l. IsPlaced (table_on w.slots l) w.root) (sym seat.slots) sound.placed;
         facts = λ o p r e f. subst (λ l. Facts Granted (table_on w.slots l) w.root p r) (sym seat.slots)
@@ -54,6 +80,11 @@ module _ {M : Type 0} (w : World M) (pins : PinsView) (calls : List (ℕ × Opti
                   subst (λ z. IsSome (record_in (entry_at calls z))) (sym same.1) (subst (λ (x : Option (Record M)). IsSome x) (sym here) is)
               | inr off ↦ subst (λ (x : Option (Option (Record M))). IsSome (record_in x)) (sym (places.others o off.1)) (sound.called o p (sym (seat.other_pins o off.1) ∙ f))
             ];
+        numbered = λ o r e.
+            elim (eqb_tells o id) [
+              | inl same ↦ subst (λ z. z < 2 ^ 64) (sym same.1) (small r (sym here ∙ subst (λ z. record_in (entry_at calls z) ≡ Some r) same.1 e))
+              | inr off ↦ sound.numbered o r (sym (ap record_in (places.others o off.1)) ∙ e)
+            ];
         seated = λ o f.
             elim (eqb_tells o id) [
               | inl same ↦
@@ -66,11 +97,16 @@ module _ {M : Type 0} (w : World M) (pins : PinsView) (calls : List (ℕ × Opti
               | inl same ↦ before p (sym seat.pinned ∙ subst (λ z. pin_of pins z ≡ Some p) same.1 f)
               | inr off ↦ sound.before o p (sym (seat.other_pins o off.1) ∙ f)
             ]);
-        apart = λ i j s r q e f ne mine yours. holds_none r.stage s mine;
+        apart = λ i j s r q e f ne mine yours.
+            let a = held_record (call_of w i) s ((all i s).0 (record_held (record_in (entry_at calls i)) r s e mine)) in
+            let b = held_record (call_of w j) s ((all j s).0 (record_held (record_in (entry_at calls j)) q s f yours)) in
+            sound.apart i j s a.0 b.0 a.1 b.1 ne a.2 b.2;
         held = λ s need.
             let old : NeedsHolder (table_of w) s = subst (λ l. NeedsHolder (table_on w.slots l) s) seat.slots need in
             let h = sound.held s old in
-            absurd (holds_none h.1.stage s h.3);
+            let now = held_record (record_in (entry_at calls h.0)) s ((all h.0 s).1 (record_held (call_of w h.0) h.1 s h.2 h.3)) in
+            (h.0, now.0, now.1, now.2);
+        admitted = subst (λ l. AllAdmitted (table_on w.slots l) l) (sym seat.slots) sound.admitted;
         narrow = λ s a e. sound.narrow s a (subst (λ l. table_on w.slots l s ≡ Some a) seat.slots e);
         charged = sound.charged;
         counted = λ m c. sound.counted m
@@ -115,6 +151,8 @@ module _ {M : Type 0} (w : World M) (pins : PinsView) (calls : List (ℕ × Opti
       (λ p f. subst (λ (x : Option (Record M)). IsSome x) (sym stays) (sound.called id p f))
       room
       (λ p f. sound.before id p f)
+      (same_held (record_in place) (call_of w id) stays)
+      (λ r e. sound.numbered id r (sym stays ∙ e))
 
   same_flight : (o : ℕ) → flight_in (record_in (entry_at calls o)) (pin_of pins o) ≡ flight_in (call_of w o) (pin_of w.pins o)
   same_flight o =

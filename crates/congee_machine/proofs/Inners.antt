@@ -1,5 +1,5 @@
 -- The laws of changed insides, where payloads stand for what they mean.
-use Rattle.std.proofs.Common.{◌≡◌, ℕ, ◌<◌, ◌^◌, Bool, true, false, List, Option, Some, None, IsSome, inl, inr, refl, sym, subst, ap, ◌∙◌}
+use Rattle.std.proofs.Common.{◌≡◌, ℕ, ◌<◌, ◌^◌, Bool, true, false, List, [], Option, Some, None, IsSome, inl, inr, refl, sym, subst, ap, ◌∙◌}
 use Rattle.std.proofs.lemmas.Bool.{false≢true}
 use Rattle.congee_map.specs.Map.{lookup}
 use Rattle.congee_protocol.specs.Calls.{key_of}
@@ -16,7 +16,7 @@ use Rattle.congee_store.specs.declared.stage.Record.{Record}
 use Rattle.congee_store.specs.inner.Facts.{IsSound}
 use Rattle.congee_store.specs.inner.Meant.{meant_calls, meant_record, meant_world}
 use Rattle.congee_store.specs.inner.Places.{ChangesPlace}
-use Rattle.congee_store.specs.inner.Shown.{state_of}
+use Rattle.congee_store.specs.inner.Shown.{held_at, state_of}
 use Rattle.congee_store.specs.inner.Turns.{IsAdvance, IsBegun, IsTurn}
 use Rattle.congee_store.specs.inner.World.{World, record_in, call_of, table_of}
 use Rattle.congee_store.proofs.States.{meant_call, meant_place, shown_seat}
@@ -45,7 +45,7 @@ pub then_changes : {P : Type 0} (old mid new : List (ℕ × Option (Record P))) 
 then_changes old mid new id x y a b = record { here = b.here; others = λ o ne. b.others o ne ∙ a.others o ne }
 
 module _ {P M : Type 0} (meaning : P → M) where
-  meant_changes : (old new : List (ℕ × Option (Record P))) (id : ℕ) (place : Option (Option (Record P)))
+  pub meant_changes : (old new : List (ℕ × Option (Record P))) (id : ℕ) (place : Option (Option (Record P)))
       → ChangesPlace old new id place
       → ChangesPlace (meant_calls meaning old) (meant_calls meaning new) id (in_some (in_some (meant_record meaning)) place)
   meant_changes old new id place ch = record {
@@ -139,7 +139,8 @@ module _ {P M : Type 0} (meaning : P → M) where
           let there : ChangesPlace (meant_calls meaning w.calls) (meant_calls meaning calls) id (Some (Some (begun_record op))) =
           subst (λ (q : Record M). ChangesPlace (meant_calls meaning w.calls) (meant_calls meaning calls) id (Some (Some q))) is (meant_changes w.calls calls id (Some (Some r)) places)
           in (
-            begun_sound Granted (meant_world meaning w) pins (meant_calls meaning calls) id sound small op least enters there,
+            begun_sound Granted (meant_world meaning w) pins (meant_calls meaning calls) id sound small op least
+                (meant_call meaning w id ∙ ap (in_some (meant_record meaning)) none) enters there,
             begun_turn Granted (meant_world meaning w) pins (meant_calls meaning calls) id sound small same op least
                 (meant_call meaning w id ∙ ap (in_some (meant_record meaning)) none) enters there,
           )
@@ -174,12 +175,12 @@ module _ {P M : Type 0} (meaning : P → M) where
         meant_found : call_of (meant_world meaning w) id ≡ Some (meant_record meaning r)
         meant_found = meant_call meaning w id ∙ ap (in_some (meant_record meaning)) found
 
-        pub goes_on : (next : Record P) → pins ≡ w.pins → ChangesPlace mid calls id (Some (Some next))
+        pub goes_on : (next : Record P) → held_at r.stage ≡ [] → pins ≡ w.pins → ChangesPlace mid calls id (Some (Some next))
             → IsAdvance Granted same (table_of (meant_world meaning w)) w.root pin (meant_record meaning r) env (Some (meant_record meaning next)) report out
             → IsTurn Granted same (meant_world meaning w) (meant_world meaning (record w { pins = pins; calls = calls })) id env report out
-        goes_on next same_pins puts advance =
+        goes_on next held same_pins puts advance =
             on_turn Granted (meant_world meaning w) pins (meant_calls meaning calls) id sound small same (meant_record meaning r) pin env report out meant_found pinned
-            (meant_record meaning next)
+            (meant_record meaning next) held
             (record {
               seat = ap (λ p. is_seated p id) same_pins;
               pinned = ap (λ p. pin_of p id) same_pins ∙ pinned;

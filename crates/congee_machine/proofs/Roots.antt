@@ -16,13 +16,15 @@ use Rattle.congee_protocol.specs.Runs.{bare_root, fresh}
 use Rattle.congee_protocol.specs.Meaning.{in_some}
 use Rattle.congee_protocol.specs.State.{State}
 use Rattle.congee_protocol.specs.State as state
-use Rattle.congee_sync.specs.Epoch.{PinsView}
+use Rattle.congee_sync.specs.Epoch.{ChangesLife, PinsView, admitted, entry_at, life_of}
+use Rattle.congee_sync.specs.declared.epoch.Life.{Life}
+use Rattle.congee_sync.specs.declared.epoch.Life.TheVariants.{InUse}
 use Rattle.congee_sync.specs.Lock.{IsLocked, IsObsolete}
 use Rattle.congee_store.specs.declared.stage.Place.TheVariants.{Linked}
 use Rattle.congee_store.specs.declared.stage.Record.{Record}
 use Rattle.congee_store.specs.declared.stage.Stored.{Stored}
 use Rattle.congee_store.specs.inner.Tables.{IsPlaced, NeedsHolder}
-use Rattle.congee_store.specs.inner.Facts.{IsSound, sizes_of}
+use Rattle.congee_store.specs.inner.Facts.{IsAdmitted, IsSound, sizes_of}
 use Rattle.congee_store.specs.inner.Meant.{meant_node, meant_slots, meant_stored, meant_world}
 use Rattle.congee_store.specs.inner.Shown.{shown, state_of}
 use Rattle.congee_store.specs.inner.World.{World, Node, Table, entry, is_linked, is_private, is_retired, node_of}
@@ -134,57 +136,70 @@ module _ {X : Type 0} where
   none_counted root charge [] c = refl
   none_counted root charge (e ∷ m) c = absurd (none_stands root charge e.0 e.1 ((c.pairs e.0 e.1).0 (first_is e m)))
 
-abbrev none_in_flight : PinsView
-none_in_flight = record { seats = []; slots = []; count = 0 }
+abbrev none_in_flight : List (ℕ × Life) → PinsView
+none_in_flight lives = record { seats = []; slots = lives; count = 0 }
 
-abbrev pub alone : {X : Type 0} → List (Option (Stored X)) → ℕ → Option ℕ → World X
-alone slots root charge = record { slots = slots; root = root; pins = none_in_flight; calls = []; entries = 0; charge = charge }
+abbrev pub alone : {X : Type 0} → List (Option (Stored X)) → List (ℕ × Life) → ℕ → Option ℕ → World X
+alone slots lives root charge = record { slots = slots; root = root; pins = none_in_flight lives; calls = []; entries = 0; charge = charge }
 
 pub alone_is : {X : Type 0} (slots : List (Option (Stored X))) (root : ℕ) (pins : PinsView) (calls : List (ℕ × Option (Record X))) (charge stated : Option ℕ)
-    → pins ≡ record { seats = []; slots = []; count = 0 } → calls ≡ [] → charge ≡ stated
-    → record { slots = slots; root = root; pins = pins; calls = calls; entries = 0; charge = charge } ≡ alone slots root stated
-alone_is slots root pins calls charge stated p q e = cc
+    → pins.seats ≡ [] → pins.count ≡ 0 → calls ≡ [] → charge ≡ stated
+    → record { slots = slots; root = root; pins = pins; calls = calls; entries = 0; charge = charge } ≡ alone slots pins.slots root stated
+alone_is {X} slots root pins calls charge stated seats count none same =
+    let w : World X = record { slots = slots; root = root; pins = pins; calls = calls; entries = 0; charge = charge } in
+    let none_seated : PinsView = record pins { seats = [] } in
+    ap (λ l. record w { pins = record pins { seats = l } }) seats
+    ∙ ap (λ n. record w { pins = record none_seated { count = n } }) count
+    ∙ ap (λ l. record w { pins = none_in_flight pins.slots; calls = l }) none
+    ∙ ap (λ c. record w { pins = none_in_flight pins.slots; calls = []; charge = c }) same
 
-module _ {X : Type 0} (slots : List (Option (Stored X))) (root : ℕ) (n : Stored X)
+module _ {X : Type 0} (slots : List (Option (Stored X))) (lives : List (ℕ × Life)) (root : ℕ) (n : Stored X)
     (here : slice_index_or slots root None ≡ Some n) (others : (o : ℕ) → o ≢ root → slice_index_or slots o None ≡ None)
     (word : n.word ≡ 0) (place : n.place ≡ Linked) (node : n.node ≡ record { form = N256; prefix = []; children = [] }) where
-  node_top : node_of None (Some n) ≡ Some top
-  node_top = rw (word, place, node) refl
+  node_top : (life : Option Life) → node_of life (Some n) ≡ Some top
+  node_top life = rw (word, place, node) refl
 
-  at_top : node_of None (slice_index_or slots root None) ≡ Some top
-  at_top = ap (node_of None) here ∙ node_top
+  at_top : node_of (entry_at lives root) (slice_index_or slots root None) ≡ Some top
+  at_top = ap (node_of (entry_at lives root)) here ∙ node_top (entry_at lives root)
 
-  off_top : (o : ℕ) → o ≢ root → node_of None (slice_index_or slots o None) ≡ None
-  off_top o off = ap (node_of None) (others o off)
+  off_top : (o : ℕ) → o ≢ root → node_of (entry_at lives o) (slice_index_or slots o None) ≡ None
+  off_top o off = ap (node_of (entry_at lives o)) (others o off)
 
-  root_lookup : (charge : Option ℕ) (s : ℕ) → lookup (state_of (alone slots root charge)).nodes s ≡ lookup ((root, bare_root) ∷ []) s
+  root_lookup : (charge : Option ℕ) (s : ℕ) → lookup (state_of (alone slots lives root charge)).nodes s ≡ lookup ((root, bare_root) ∷ []) s
   root_lookup charge s =
       elim (eqb_tells root s) [
-        | inl at ↦ rw at.0 (shown_node (alone slots root charge) s ∙ ap shown (subst (λ z. node_of None (slice_index_or slots z None) ≡ Some top) at.1 at_top))
-        | inr far ↦ rw far.0 (shown_node (alone slots root charge) s ∙ ap shown (off_top s (λ e. far.1 (sym e))))
+        | inl at ↦ rw at.0 (shown_node (alone slots lives root charge) s ∙ ap shown (subst (λ z. node_of (entry_at lives z) (slice_index_or slots z None) ≡ Some top) at.1 at_top))
+        | inr far ↦ rw far.0 (shown_node (alone slots lives root charge) s ∙ ap shown (off_top s (λ e. far.1 (sym e))))
       ]
 
   -- it is fresh
-  pub root_fresh : (charge : Option ℕ) → state_of (alone slots root charge) ≡ fresh root charge
+  pub root_fresh : (charge : Option ℕ) → state_of (alone slots lives root charge) ≡ fresh root charge
   root_fresh charge =
-      let w : World X = alone slots root charge in
+      let w : World X = alone slots lives root charge in
       ap (λ ns. record (fresh root charge) { nodes = ns })
       (same_from_lookups 0 (length slots) 0 (root + 1) (state_of w).nodes ((root, bare_root) ∷ []) (nodes_rise w) (omega arith, omega arith, tt) (root_lookup charge))
 
   -- and sound
-  pub root_sound : (Granted : Type 0) (before : Option ℕ) → root < 2 ^ 64 → IsSound Granted (alone slots root (add_charge before 2104))
-  root_sound Granted before narrow =
+  pub root_sound : (Granted : Type 0) (before : Option ℕ) → root < 2 ^ 64 → entry_at lives root ≡ Some InUse → ((o : ℕ) → o ≢ root → entry_at lives o ≡ None)
+      → IsSound Granted (alone slots lives root (add_charge before 2104))
+  root_sound Granted before narrow life bare =
       let charge = add_charge before 2104 in
-      let t : Table X = λ s. node_of None (slice_index_or slots s None) in
+      let t : Table X = λ s. node_of (entry_at lives s) (slice_index_or slots s None) in
       record {
         placed = root_placed t root at_top off_top;
         facts = λ id pin r e f. absurd (none_some r e);
         pinned = λ id r e. absurd (none_some r e);
         called = λ id pin e. absurd (none_some pin e);
+        numbered = λ id r e. absurd (none_some r e);
         seated = λ id e. absurd (false≢true e);
         before = λ id pin e. absurd (none_some pin e);
         apart = λ i j s r q e f. absurd (none_some r e);
         held = λ s h. absurd (none_needed t root at_top off_top s h);
+        admitted = λ s.
+            elim (eqb_tells s root) [
+              | inl at ↦ subst (λ z. IsAdmitted (t z) (entry_at lives z)) (sym at.1) (subst (λ (x : Option (Node X)). IsAdmitted x (entry_at lives root)) (sym at_top) (inl life))
+              | inr off ↦ subst (λ (x : Option (Node X)). IsAdmitted x (entry_at lives s)) (sym (off_top s off.1)) (bare s off.1)
+            ];
         narrow = λ s a e. subst (λ z. z < 2 ^ 64) (sym (only t root at_top off_top s a e).0) narrow;
         charged =
             let size : sizes_of slots ≡ 2104 = sizes_one slots root n here others ∙ ap (λ (z : TableNode X). stated_size z.form) node in
@@ -193,12 +208,25 @@ module _ {X : Type 0} (slots : List (Option (Stored X))) (root : ℕ) (n : Store
       }
 
 -- the meaning of its nodes, where payloads are replaced by what they stand for
-module _ {P M : Type 0} (meaning : P → M) (slots : List (Option (Stored P))) (root : ℕ) (n : Stored P)
+module _ {P M : Type 0} (meaning : P → M) (slots : List (Option (Stored P))) (lives : List (ℕ × Life)) (root : ℕ) (n : Stored P)
     (here : slice_index_or slots root None ≡ Some n) (others : (o : ℕ) → o ≢ root → slice_index_or slots o None ≡ None)
     (word : n.word ≡ 0) (place : n.place ≡ Linked) (node : n.node ≡ record { form = N256; prefix = []; children = [] }) where
-  pub meant_sound : (Granted : Type 0) (before : Option ℕ) → root < 2 ^ 64 → IsSound Granted (meant_world meaning (alone slots root (add_charge before 2104)))
-  meant_sound Granted before narrow =
-      root_sound (meant_slots meaning slots) root (meant_stored meaning n)
+  pub meant_sound : (Granted : Type 0) (before : Option ℕ) → root < 2 ^ 64 → entry_at lives root ≡ Some InUse → ((o : ℕ) → o ≢ root → entry_at lives o ≡ None)
+      → IsSound Granted (meant_world meaning (alone slots lives root (add_charge before 2104)))
+  meant_sound Granted before narrow life bare =
+      root_sound (meant_slots meaning slots) lives root (meant_stored meaning n)
       (meant_slot meaning slots root ∙ ap (in_some (meant_stored meaning)) here)
       (λ o off. meant_slot meaning slots o ∙ ap (in_some (meant_stored meaning)) (others o off))
-      word place (ap (meant_node meaning) node) Granted before narrow
+      word place (ap (meant_node meaning) node) Granted before narrow life bare
+
+-- where the root's slot alone was admitted
+module _ (before after : PinsView) (root : ℕ) (empty : before ≡ record { seats = []; slots = []; count = 0 })
+    (admits : ChangesLife before after root (Some (admitted (life_of before root)))) where
+  pub root_admitted : entry_at after.slots root ≡ Some InUse
+  root_admitted = admits.here ∙ ap (λ p. Some (admitted (life_of p root))) empty
+
+  pub none_admitted : (o : ℕ) → o ≢ root → entry_at after.slots o ≡ None
+  none_admitted o off = admits.others o off ∙ ap (λ p. life_of p o) empty
+
+  pub none_seated : after.seats ≡ []
+  none_seated = admits.seats ∙ ap (λ (p : PinsView). p.seats) empty

@@ -1,5 +1,5 @@
 -- What an event of a call is to the inside as a whole: a Start, an event after which the call goes on, and its last.
-use Rattle.std.proofs.Common.{◌≡◌, ℕ, ◌<◌, ◌^◌, Bool, true, List, Option, Some, None, IsSome, inl, refl, sym, subst, ap, ◌∙◌, arith}
+use Rattle.std.proofs.Common.{◌≡◌, ℕ, ◌<◌, ◌^◌, Bool, true, List, [], Option, Some, None, IsSome, inl, refl, sym, subst, ap, ◌∙◌, arith}
 use Rattle.congee_map.specs.Map.{lookup, without}
 use Rattle.congee_protocol.specs.Calls.{key_of, outline_of}
 use Rattle.congee_protocol.specs.Content.{IsContent}
@@ -15,18 +15,19 @@ use Rattle.congee_protocol.specs.declared.types.Report.{Report}
 use Rattle.congee_sync.specs.Epoch.{PinsView, ChangesSeat, pin_of, is_seated}
 use Rattle.congee_store.specs.declared.stage.Record.{Record}
 use Rattle.congee_store.specs.declared.stage.Stage.{Stage}
-use Rattle.congee_store.specs.declared.stage.Stage.TheVariants.{Finish}
+use Rattle.congee_store.specs.declared.stage.Stage.TheVariants.{TakeRoot, Finish}
 use Rattle.congee_store.specs.inner.Tables.{Guarantees}
 use Rattle.congee_store.specs.inner.Facts.{Facts, FactsAt, Holding, IsSound}
 use Rattle.congee_store.specs.inner.Places.{ChangesPlace}
-use Rattle.congee_store.specs.inner.Shown.{flight, flight_in, state_of}
+use Rattle.congee_store.specs.inner.Shown.{flight, flight_in, held_at, made_at, state_of}
 use Rattle.congee_store.specs.inner.Turns.{IsAdvance, IsBegun, IsCourse, IsRead, IsTurn}
 use Rattle.congee_store.specs.inner.World.{World, Table, table_on, table_of, record_in, call_of}
 use Rattle.congee_store.proofs.Changes.{same_content}
+use Rattle.congee_store.proofs.Holding.{holds_nothing}
 use Rattle.congee_store.proofs.Options.{none_some, some_same}
 use Rattle.congee_store.proofs.States.{shows, shown_flight, call_put, call_gone}
 use Rattle.congee_machine.specs.inner.Inside.{begun_record}
-use Rattle.congee_machine.proofs.Changing.{changed_sound, others_stay, rest_stays}
+use Rattle.congee_machine.proofs.Changing.{HeldBy, changed_sound, held_record, none_held, others_stay, rest_stays}
 
 module _ {M : Type 0} where
   -- the call in flight of a number with a record and a pin
@@ -65,11 +66,11 @@ module _ {M : Type 0} where
 module _ {M : Type 0} (Granted : Type 0) (w : World M) (pins : PinsView) (calls : List (ℕ × Option (Record M))) (id : ℕ)
     (sound : IsSound Granted w) (small : id < 2 ^ 64) where
   -- A CALL BEGINS.
-  pub begun_sound : (op : Op M) → key_of op < 2 ^ 64
+  pub begun_sound : (op : Op M) → key_of op < 2 ^ 64 → call_of w id ≡ None
       → ChangesSeat w.pins pins id (is_seated w.pins id) (Some w.pins.count)
       → ChangesPlace w.calls calls id (Some (Some (begun_record op)))
       → IsSound Granted (record w { pins = pins; calls = calls })
-  begun_sound op least enters places =
+  begun_sound op least free enters places =
       let facts : Facts Granted (table_of w) w.root w.pins.count (begun_record op) = record {
         small = subst (λ k. k < 2 ^ 64) (sym (key_outline op)) least;
         at = (record { opened = record { undecided = refl; op = op; op_is = refl; outline = refl }; fresh = refl }, refl);
@@ -81,6 +82,8 @@ module _ {M : Type 0} (Granted : Type 0) (w : World M) (pins : PinsView) (calls 
       (λ p f. refl)
       (λ e. refl)
       (λ p f. let e : w.pins.count ≡ p = some_same w.pins.count p f in omega arith)
+      (none_held (Some (begun_record op)) (call_of w id) (holds_nothing TakeRoot refl) (λ s h. let held = held_record (call_of w id) s h in absurd (none_some held.0 (sym free ∙ held.1))))
+      (λ q e. small)
 
   pub begun_turn : (same : M → M → Bool) (op : Op M) → key_of op < 2 ^ 64 → call_of w id ≡ None
       → ChangesSeat w.pins pins id (is_seated w.pins id) (Some w.pins.count)
@@ -92,7 +95,7 @@ module _ {M : Type 0} (Granted : Type 0) (w : World M) (pins : PinsView) (calls 
       let place : Option (Option (Record M)) = Some (Some (begun_record op)) in
       record {
         before = sound;
-        after = begun_sound op least enters places;
+        after = begun_sound op least free enters places;
         others = λ o ne. ap record_in (places.others o ne);
         nodes = λ s. ap (λ l. table_on w.slots l s) enters.slots;
         root = refl;
@@ -113,13 +116,20 @@ module _ {M : Type 0} (Granted : Type 0) (w : World M) (pins : PinsView) (calls 
   -- AN EVENT of a call in flight
   module _ (same : M → M → Bool) (r : Record M) (pin : ℕ) (env : Env M) (report : Report) (out : Outcome M)
       (found : call_of w id ≡ Some r) (pinned : pin_of w.pins id ≡ Some pin) where
+    -- where its stage holds nothing
+    nothing_held : held_at r.stage ≡ [] → (s : ℕ) → HeldBy (call_of w id) s → ⊥
+    nothing_held held s h =
+        let there = held_record (call_of w id) s h in
+        let is : there.0 ≡ r = some_same there.0 r (sym there.1 ∙ found) in
+        holds_nothing r.stage held s (subst (λ (q : Record M). Holding q.stage s) is there.2)
+
     -- after which it goes on
-    pub on_turn : (next : Record M)
+    pub on_turn : (next : Record M) → held_at r.stage ≡ []
         → ChangesSeat w.pins pins id (is_seated w.pins id) (Some pin)
         → ChangesPlace w.calls calls id (Some (Some next))
         → IsRead Granted same (table_of w) w.root pin r env next report out
         → IsTurn Granted same w (record w { pins = pins; calls = calls }) id env report out
-    on_turn next stays places read =
+    on_turn next held stays places read =
         let now : World M = record w { pins = pins; calls = calls } in
         let place : Option (Option (Record M)) = Some (Some next) in
         let nodes : (s : ℕ) → table_of now s ≡ table_of w s = λ s. ap (λ l. table_on w.slots l s) stays.slots in
@@ -136,7 +146,9 @@ module _ {M : Type 0} (Granted : Type 0) (w : World M) (pins : PinsView) (calls 
               (λ q e. refl)
               (λ p f. refl)
               (λ e. refl)
-              (λ p f. sound.before id p (pinned ∙ f));
+              (λ p f. sound.before id p (pinned ∙ f))
+              (none_held (Some next) (call_of w id) (holds_nothing next.stage read.held) (nothing_held held))
+              (λ q e. small);
           call = r;
           pin = pin;
           found = found;
@@ -144,8 +156,8 @@ module _ {M : Type 0} (Granted : Type 0) (w : World M) (pins : PinsView) (calls 
           others = λ o ne. ap record_in (places.others o ne);
           root = refl;
           leaves = λ p le. nothing_leaves (table_of w) (table_of now) nodes (Holding r.stage) p;
-          course = λ q e. subst (λ (x : Record M). IsCourse (table_of w) (table_of now) w.root r x report out) (some_same next q (sym (ap record_in places.here) ∙ e))
-              (subst (λ l. IsCourse (table_of w) (table_on w.slots l) w.root r next report out) (sym stays.slots) read.course);
+          course = λ q e. subst (λ (x : Record M). IsCourse (table_of w) (table_of now) w.root r env x report out) (some_same next q (sym (ap record_in places.here) ∙ e))
+              (subst (λ l. IsCourse (table_of w) (table_on w.slots l) w.root r env next report out) (sym stays.slots) read.course);
           ends = λ e. absurd (none_some next (sym e ∙ ap record_in places.here));
           step = record {
             call = flight pin r;
@@ -188,7 +200,10 @@ module _ {M : Type 0} (Granted : Type 0) (w : World M) (pins : PinsView) (calls 
               (λ q e. absurd (none_some q (sym gone ∙ e)))
               (λ p f. absurd (none_some p f))
               room
-              (λ p f. absurd (none_some p f));
+              (λ p f. absurd (none_some p f))
+              (none_held (record_in place) (call_of w id) (λ s h. let there = held_record (record_in place) s h in none_some there.0 (sym gone ∙ there.1))
+              (nothing_held (ap held_at advance.0)))
+              (λ q e. small);
           call = r;
           pin = pin;
           found = found;
@@ -202,7 +217,7 @@ module _ {M : Type 0} (Granted : Type 0) (w : World M) (pins : PinsView) (calls 
             call = flight pin r;
             in_flight = flown w id pin r small found pinned;
             event = subst (λ (x : Report). DoesAs Granted same (state_of w) (state_of now) id (flight pin r) env x out x.kind) (sym advance.1)
-                (record { says = (refl, advance.2); may = inl facts; held = refl; made = refl; after = after });
+                (record { says = (refl, advance.2); may = inl facts; held = ap held_at advance.0; made = ap made_at advance.0; after = after });
           };
           carries = λ m c. record {
             call = flight pin r;

@@ -27,19 +27,20 @@ use congee_reading::advance::{Advanced, advance};
 use congee_store::calls::Calls;
 use congee_store::content::content;
 use congee_store::stage::{Place, Record, Stage, Stored, Task};
+use congee_store::stepped::Stepped;
+use congee_store::stock::Stock;
 use congee_store::store::Store;
 use congee_sync::epoch::Pins;
 use congee_sync::lock::Word64;
+use congee_writing::writing::write_on;
 use slab::Slab;
 use std::alloc::Global;
 
-/// The nodes, the calls in flight, how many pairs are stored, and the budget. A machine shows none of it.
+/// What the events of all calls change, and the calls in flight. A machine shows none of it.
 #[derive(Drop)]
 pub struct Inner<P, A> {
-    pub store: Store<P>,
+    pub stock: Stock<P, A>,
     pub calls: Calls<P>,
-    pub entries: u128,
-    pub budget: A,
 }
 
 // What a start reports.
@@ -88,15 +89,16 @@ impl<P: HasMeaning, A: Allocator> Inner<P, A> {
             place: Place::Linked,
             node: TreeNode::root(alloc)?,
         });
+        let mut pins = Pins::new(alloc);
+        pins.admit(root)?;
         Ok(Inner {
-            store: Store {
-                nodes,
-                root,
-                pins: Pins::new(alloc),
+            stock: Stock {
+                store: Store { nodes, root, pins },
+                entries: 0,
+                alloc,
+                budget,
             },
             calls: Calls::new(alloc),
-            entries: 0,
-            budget,
         })
     }
 
@@ -119,7 +121,7 @@ impl<P: HasMeaning, A: Allocator> Inner<P, A> {
         requires sound { IsSound P.always_shared (meant_in P.meaning A.charge self.now) }
         ensures { IsTrue result ↔ IsTaken (state_in A.charge self.now) id }
     {
-        self.store.pins.is_seated(id) || self.is_in_flight(id)
+        self.stock.store.pins.is_seated(id) || self.is_in_flight(id)
     }
 
     // The least number that is neither seated nor in flight, if there is one.
@@ -164,7 +166,7 @@ impl<P: HasMeaning, A: Allocator> Inner<P, A> {
         ensures err { OnErr result (state_in A.charge self.new ≡ state_in A.charge self.old) }
     {
         self.calls.reserve(id)?;
-        let Ok(()) = self.store.pins.seat(id) else {
+        let Ok(()) = self.stock.store.pins.seat(id) else {
             self.calls.forget(id);
             return Err(OOMError::new());
         };
@@ -179,10 +181,10 @@ impl<P: HasMeaning, A: Allocator> Inner<P, A> {
             false }
     {
         if self.is_in_flight(id) {
-            self.store.pins.unseat(id);
+            self.stock.store.pins.unseat(id);
             return;
         }
-        self.store.pins.unseat(id);
+        self.stock.store.pins.unseat(id);
         self.calls.forget(id);
     }
 
@@ -195,12 +197,12 @@ impl<P: HasMeaning, A: Allocator> Inner<P, A> {
             (meant_in P.meaning A.charge self.old) (meant_in P.meaning A.charge self.new) id
             (op_of P.meaning op) report) }
         ensures err { OnErr result (state_in A.charge self.new ≡ state_in A.charge self.old) }
-        ensures granted { is_seated self.old.store.pins id ≡ true → IsOk result }
+        ensures granted { is_seated self.old.stock.store.pins id ≡ true → IsOk result }
     {
-        self.store.pins.enter(id)?;
+        self.stock.store.pins.enter(id)?;
         let call = begun(op);
         let Ok(()) = self.calls.put(id, call) else {
-            self.store.pins.leave(id);
+            self.stock.store.pins.leave(id);
             return Err(OOMError::new());
         };
         Ok(started())
@@ -234,7 +236,7 @@ impl<P: HasMeaning, A: Allocator> Inner<P, A> {
         ensures { IfOk result (λ pairs. IsContent
             (meant P.meaning (state_in A.charge self.now)) (mapped P.meaning pairs.items)) }
     {
-        let pairs = content(&self.store, alloc)?;
+        let pairs = content(&self.stock.store, alloc)?;
         Ok(pairs)
     }
 
@@ -246,23 +248,34 @@ impl<P: HasMeaning, A: Allocator> Inner<P, A> {
             (meant_in P.meaning A.charge self.old) (meant_in P.meaning A.charge self.new) id
             (env_of P.meaning env) result.0 (outcome_of P.meaning result.1) }
     {
-        let Some(pin) = self.store.pins.pin(id) else {
+        let Some(pin) = self.stock.store.pins.pin(id) else {
             unreachable!()
         };
-        let call = self.calls.take(id);
+        let Record { stage, task } = self.calls.take(id);
+        if let Stage::Tail(tail) = stage {
+            let Stepped {
+                call,
+                report,
+                outcome,
+            } = write_on(&mut self.stock, pin, task, tail, env.fail);
+            let Ok(()) = self.calls.put(id, call) else {
+                unreachable!()
+            };
+            return (report, outcome);
+        }
         let Advanced {
             call,
             report,
             outcome,
-        } = advance(&self.store, pin, call, env);
+        } = advance(&self.stock.store, pin, Record { stage, task }, env);
         if let Some(call) = call {
             let Ok(()) = self.calls.put(id, call) else {
                 unreachable!()
             };
             return (report, outcome);
         }
-        self.store.pins.leave(id);
-        if self.store.pins.is_seated(id) {
+        self.stock.store.pins.leave(id);
+        if self.stock.store.pins.is_seated(id) {
             return (report, outcome);
         }
         self.calls.forget(id);

@@ -156,7 +156,7 @@ impl<P: HasMeaning, A: Allocator> Machine<P, A> {
         ensures content { (m : Pairs P.Meaning)
             × IsContent (meant P.meaning self.now) m × (result ≡ length m) }
     {
-        self.inner.entries
+        self.inner.stock.entries
     }
 
     /// All pairs that are stored, keys ascending, each with a share of its payload.

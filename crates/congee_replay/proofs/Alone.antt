@@ -3,6 +3,7 @@ use Rattle.std.proofs.Common.{◌≡◌, ◌≢◌, ℕ, true, false, ◌+◌, �
 use Rattle.std.proofs.lemmas.Bool.Decides.{eqb_tells}
 use Rattle.congee_map.specs.Map.{Pairs, lookup}
 use Rattle.congee_protocol.specs.Alone.{Passes, EndsWithin, AllEnd}
+use Rattle.congee_protocol.specs.Alone.{IsUndisturbed as AreAlone}
 use Rattle.congee_protocol.specs.Calls.{Outline, IsPoint, outline_of}
 use Rattle.congee_protocol.specs.Runs.{IsServed, same_number}
 use Rattle.congee_protocol.specs.State.{Flight}
@@ -15,73 +16,152 @@ use Rattle.congee_protocol.specs.declared.types.Op.{Op}
 use Rattle.congee_protocol.specs.declared.types.Op.TheVariants.{Get, Insert, Remove, ComputeIfPresent, ComputeOrInsert, CompareExchange, Range}
 use Rattle.congee_protocol.specs.declared.types.Outcome.{Outcome}
 use Rattle.congee_protocol.specs.declared.types.Outcome.TheVariants.{Done}
+use Rattle.congee_protocol.specs.declared.types.Progress.{Progress}
+use Rattle.congee_protocol.specs.declared.types.Progress.TheVariants.{Open, Decided, Refused}
 use Rattle.congee_protocol.specs.declared.types.Report.{Report}
 use Rattle.congee_store.specs.declared.stage.Record.{Record}
 use Rattle.congee_store.specs.declared.stage.Stage.{Stage}
-use Rattle.congee_store.specs.declared.stage.Stage.TheVariants.{TakeRoot, Read, Check, TakeBelow, CheckAbove, Finish}
+use Rattle.congee_store.specs.declared.stage.Stage.TheVariants.{TakeRoot, Read, Check, TakeBelow, CheckAbove, Tail, Finish}
+use Rattle.congee_store.specs.declared.tail.Large.{Large}
+use Rattle.congee_store.specs.declared.tail.Large.TheVariants.{GrowLeaf, GrowInner, Split}
+use Rattle.congee_store.specs.declared.tail.Small.{Small}
+use Rattle.congee_store.specs.declared.tail.Small.TheVariants.{Entry, Leaf}
+use Rattle.congee_store.specs.declared.tail.Tail.{Tail as AnyTail}
+use Rattle.congee_store.specs.declared.tail.Tail.TheVariants.{Upgrade, Write, MakeLeaf, Link, Unlock, UpgradeAbove, UpgradeBelow, MakeLeafBelow, Grow, MakeMiddle, Replace, Insert as Insertion, Obsolete, UnlockBelow}
 use Rattle.congee_store.specs.inner.Facts.{Holding, IsSound}
-use Rattle.congee_store.specs.inner.Shown.{flight, state_of}
-use Rattle.congee_store.specs.inner.Turns.{IsServedCall, depth_in, work, IsCurrent, NoneHeld, IsCourse, IsBegun, IsTurn}
+use Rattle.congee_store.specs.inner.Shown.{flight, shown, spots_of, state_of}
+use Rattle.congee_store.specs.inner.Tails.{large_work, small_work, tail_work, unlock_work}
+use Rattle.congee_store.specs.inner.Turns.{IsServedCall, depth_in, work, work_of, IsCurrent, IsUndisturbed, IsCourse, IsBegun, IsTurn}
 use Rattle.congee_store.specs.inner.World.{World, Table, table_of, call_of}
+use Rattle.congee_store.proofs.Holding.{holds_nothing}
 use Rattle.congee_store.proofs.Options.{none_some, some_same}
+use Rattle.congee_store.proofs.States.{shown_node}
 use Rattle.congee_replay.specs.inner.Played.{Plays, Move, entries_of, AreMoves}
 use Rattle.congee_replay.proofs.Flying.{in_flight, flies, no_call}
 use Rattle.congee_replay.proofs.Playing.{sound_next}
 
-some_work : (t : Table ℕ) (stage : Stage) → 0 < work t stage
-some_work t TakeRoot = omega arith
-some_work t (Read path) = omega arith
-some_work t (Check path) = omega arith
-some_work t (TakeBelow path slot) = omega arith
-some_work t (CheckAbove path spot fits) = omega arith
-some_work t Finish = omega arith
+-- a tail has some events left, and few
+few_small : (small : Small) → 1 + small_work small ≤ 40
+few_small Entry = omega arith
+few_small Leaf = omega arith
 
-most_work : (t : Table ℕ) (stage : Stage) → work t stage ≤ 39
-most_work t TakeRoot = omega arith
-most_work t (Read path) = omega arith
-most_work t (Check path) = omega arith
-most_work t (TakeBelow path slot) = omega arith
-most_work t (CheckAbove path spot fits) = omega arith
-most_work t Finish = omega arith
+few_large : (large : Large) → 2 + large_work large ≤ 40
+few_large GrowLeaf = omega arith
+few_large GrowInner = omega arith
+few_large Split = omega arith
+
+some_unlock : (progress : Progress) → 0 < unlock_work progress
+some_unlock Open = omega arith
+some_unlock Decided = omega arith
+some_unlock Refused = omega arith
+
+few_unlock : (progress : Progress) → unlock_work progress ≤ 40
+few_unlock Open = omega arith
+few_unlock Decided = omega arith
+few_unlock Refused = omega arith
+
+some_tail : (progress : Progress) (tail : AnyTail) → 0 < tail_work progress tail
+some_tail progress (Upgrade path small) = omega arith
+some_tail progress (Write spot) = omega arith
+some_tail progress (MakeLeaf spot) = omega arith
+some_tail progress (Link spot leaf) = omega arith
+some_tail progress (Unlock spot) = some_unlock progress
+some_tail progress (UpgradeAbove pair large) = omega arith
+some_tail progress (UpgradeBelow pair large) = omega arith
+some_tail progress (MakeLeafBelow pair large) = omega arith
+some_tail progress (Grow pair leaf) = omega arith
+some_tail progress (MakeMiddle pair leaf) = omega arith
+some_tail progress (Replace pair copy leaf) = omega arith
+some_tail progress (Insertion pair middle leaf) = omega arith
+some_tail progress (Obsolete pair) = omega arith
+some_tail progress (UnlockBelow pair) = omega arith
+
+few_tail : (progress : Progress) (tail : AnyTail) → tail_work progress tail ≤ 40
+few_tail progress (Upgrade path small) = few_small small
+few_tail progress (Write spot) = omega arith
+few_tail progress (MakeLeaf spot) = omega arith
+few_tail progress (Link spot leaf) = omega arith
+few_tail progress (Unlock spot) = few_unlock progress
+few_tail progress (UpgradeAbove pair large) = few_large large
+few_tail progress (UpgradeBelow pair large) = let few = few_large large in omega arith
+few_tail progress (MakeLeafBelow pair large) = omega arith
+few_tail progress (Grow pair leaf) = omega arith
+few_tail progress (MakeMiddle pair leaf) = omega arith
+few_tail progress (Replace pair copy leaf) = omega arith
+few_tail progress (Insertion pair middle leaf) = omega arith
+few_tail progress (Obsolete pair) = omega arith
+few_tail progress (UnlockBelow pair) = omega arith
+
+some_work : (t : Table ℕ) (progress : Progress) (stage : Stage) → 0 < work t progress stage
+some_work t progress TakeRoot = omega arith
+some_work t progress (Read path) = omega arith
+some_work t progress (Check path) = omega arith
+some_work t progress (TakeBelow path slot) = omega arith
+some_work t progress (CheckAbove path spot fits) = omega arith
+some_work t progress (Tail tail) = some_tail progress tail
+some_work t progress Finish = omega arith
+
+most_work : (t : Table ℕ) (progress : Progress) (stage : Stage) → work t progress stage ≤ 40
+most_work t progress TakeRoot = omega arith
+most_work t progress (Read path) = omega arith
+most_work t progress (Check path) = omega arith
+most_work t progress (TakeBelow path slot) = omega arith
+most_work t progress (CheckAbove path spot fits) = omega arith
+most_work t progress (Tail tail) = few_tail progress tail
+most_work t progress Finish = omega arith
 
 -- where all nodes are the same
 module _ (t t' : Table ℕ) (same : (s : ℕ) → t' s ≡ t s) where
-  work_same : (stage : Stage) → work t' stage ≡ work t stage
-  work_same TakeRoot = refl
-  work_same (Read path) = ap (λ a. 4 * (7 - depth_in a) + 10) (same path.here.slot)
-  work_same (Check path) = ap (λ a. 4 * (7 - depth_in a) + 9) (same path.here.slot)
-  work_same (TakeBelow path slot) = ap (λ a. 4 * (7 - depth_in a) + 8) (same path.here.slot)
-  work_same (CheckAbove path spot fits) = ap (λ a. 4 * (7 - depth_in a) + 7) (same path.here.slot)
-  work_same Finish = refl
+  work_same : (progress : Progress) (stage : Stage) → work t' progress stage ≡ work t progress stage
+  work_same progress TakeRoot = refl
+  work_same progress (Read path) = ap (λ a. 4 * (7 - depth_in a) + 10) (same path.here.slot)
+  work_same progress (Check path) = ap (λ a. 4 * (7 - depth_in a) + 9) (same path.here.slot)
+  work_same progress (TakeBelow path slot) = ap (λ a. 4 * (7 - depth_in a) + 8) (same path.here.slot)
+  work_same progress (CheckAbove path spot fits) = ap (λ a. 4 * (7 - depth_in a) + 7) (same path.here.slot)
+  work_same progress (Tail tail) = refl
+  work_same progress Finish = refl
 
   current_same : (stage : Stage) → IsCurrent t stage → IsCurrent t' stage
   current_same stage c = λ slot word known a here. c slot word known a (sym (same slot) ∙ here)
 
--- no call that only reads holds a node
-holds_none : (stage : Stage) (s : ℕ) → Holding stage s → ⊥
-holds_none stage s h = elim h [ inl x ↦ false_true x | inr x ↦ false_true x ]
-  where
-    false_true : false ≡ true → ⊥
-    false_true e = cc
-
-none_held : (w : World ℕ) → IsSound (Unit {0}) w → NoneHeld (table_of w)
-none_held w sound s need = let h = sound.held s need in holds_none h.1.stage s h.3
+-- Where no other call holds a node, each that needs a holder is this call's.
+undisturbed_inside : (w : World ℕ) (id : ℕ) (call : Record ℕ) (env : Env ℕ) → IsSound (Unit {0}) w → call_of w id ≡ Some call → env.fail ≡ false → AreAlone (state_of w) id
+    → IsUndisturbed (table_of w) call.stage env
+undisturbed_inside w id call env sound found whole alone = record {
+  whole = whole;
+  versions = λ s a here. alone.versions s _ (shown_node w s ∙ ap shown here);
+  alone = λ s need.
+      let h = sound.held s need in
+      elim (eqb_tells h.0 id) [
+        | inl same ↦
+            let is : h.1 ≡ call = some_same h.1 call (sym h.2 ∙ subst (λ (z : ℕ). call_of w z ≡ Some call) (sym same.1) found) in
+            subst (λ (r : Record ℕ). Holding r.stage s) is h.3
+        | inr off ↦
+            let f = in_flight w h.0 h.1 sound (sound.numbered h.0 h.1 h.2) h.2 in
+            absurd (holds_nothing h.1.stage (alone.others h.0 (flight f.0 h.1) f.2 off.1) s h.3)
+      ];
+}
 
 -- So many events are left at most: of a call whose words stand, its work; of another, a whole attempt more.
-abbrev pub IsLeft : Table ℕ → Stage → ℕ → Type 0
-IsLeft t stage n = (IsCurrent t stage × (work t stage ≤ n)) ⊎ (work t stage + 40 ≤ n)
+abbrev pub IsLeft : Table ℕ → Record ℕ → ℕ → Type 0
+IsLeft t call n = (IsCurrent t call.stage × (work_of t call ≤ n)) ⊎ (work_of t call + 40 ≤ n)
 
-left_same : (t t' : Table ℕ) → ((s : ℕ) → t' s ≡ t s) → (stage : Stage) (n : ℕ) → IsLeft t stage n → IsLeft t' stage n
-left_same t t' same stage n l =
-    let e : work t' stage ≡ work t stage = work_same t t' same stage in
+left_same : (t t' : Table ℕ) → ((s : ℕ) → t' s ≡ t s) → (call : Record ℕ) (n : ℕ) → IsLeft t call n → IsLeft t' call n
+left_same t t' same call n l =
+    let e : work_of t' call ≡ work_of t call = work_same t t' same call.task.progress call.stage in
     elim l [
-      | inl now ↦ inl (current_same t t' same stage now.0, omega (arith, e, now.1))
+      | inl now ↦ inl (current_same t t' same call.stage now.0, omega (arith, e, now.1))
       | inr late ↦ inr (omega (arith, e, late))
     ]
 
--- at the root nothing is remembered
-left_at_root : (t : Table ℕ) (stage : Stage) (n : ℕ) → stage ≡ TakeRoot → 39 ≤ n → IsLeft t stage n
-left_at_root t stage n e h = subst (λ (s : Stage). IsLeft t s n) (sym e) (inl ((λ slot word known a here. absurd (none_some word known)), h))
+-- where nothing is remembered
+left_anew : (t : Table ℕ) (call : Record ℕ) (n : ℕ) → spots_of call.stage ≡ [] → work_of t call ≤ n → IsLeft t call n
+left_anew t call n forgotten h =
+    inl ((λ slot word known a here. absurd (none_some word (subst (λ (l : List (ℕ × ℕ)). lookup l slot ≡ Some word) forgotten known))), h)
+
+left_at_root : (t : Table ℕ) (call : Record ℕ) → call.stage ≡ TakeRoot → IsLeft t call 39
+left_at_root t call e =
+    left_anew t call 39 (ap spots_of e) (subst (λ (s : Stage). work t call.task.progress s ≤ 39) (sym e) (omega arith))
 
 -- every call in flight is one that ends so far
 abbrev pub AllServed : World ℕ → Type 0
@@ -89,7 +169,7 @@ AllServed w = (id : ℕ) → id < 2 ^ 64 → (r : Record ℕ) → call_of w id �
 
 served_outline : (id : ℕ) (op : Op ℕ) → IsServed (Start id op) → IsServedCall (outline_of op)
 served_outline id (Get k) h = tt
-served_outline id (Insert k v) h = h
+served_outline id (Insert k v) h = tt
 served_outline id (Remove k) h = h
 served_outline id (ComputeIfPresent k) h = h
 served_outline id (ComputeOrInsert k v) h = h
@@ -109,7 +189,7 @@ served_turned : (w after : World ℕ) (id : ℕ) (env : Env ℕ) (report : Repor
 served_turned w after id env report out all turn o small r found =
     elim (eqb_tells o id) [
       | inl same ↦
-          let course : IsCourse (table_of w) (table_of after) w.root turn.call r report out = turn.course r (subst (λ (z : ℕ). call_of after z ≡ Some r) same.1 found) in
+          let course : IsCourse (table_of w) (table_of after) w.root turn.call env r report out = turn.course r (subst (λ (z : ℕ). call_of after z ≡ Some r) same.1 found) in
           subst (λ (l : Outline). IsServedCall l) (sym course.outline) (all o small turn.call (subst (λ (z : ℕ). call_of w z ≡ Some turn.call) (sym same.1) turn.found))
       | inr off ↦ all o small r (sym (turn.others o off.1) ∙ found)
     ]
@@ -126,19 +206,20 @@ module _ (id : ℕ) (small : id < 2 ^ 64) where
   pub record Has (w : World ℕ) (n : ℕ) : Type 0 where
     pub call : Record ℕ
     pub found : call_of w id ≡ Some call
-    pub left : IsLeft (table_of w) call.stage n
+    pub left : IsLeft (table_of w) call n
 
   module _ (w after : World ℕ) (env : Env ℕ) (report : Report) (out : Outcome ℕ) (n : ℕ) (sound : IsSound (Unit {0}) w) (all : AllServed w) (has : Has w n)
       (turn : IsTurn (Unit {0}) same_number w after id env report out) where
-    less : (next : Record ℕ) → IsLeft (table_of w) turn.call.stage n → IsCourse (table_of w) (table_of after) w.root turn.call next report out
-        → (1 < n) × IsLeft (table_of after) next.stage (n - 1)
-    less next l course =
-        let some : 0 < work (table_of after) next.stage = some_work (table_of after) next.stage in
+    less : (next : Record ℕ) → env.fail ≡ false → AreAlone (state_of w) id → IsLeft (table_of w) turn.call n → IsCourse (table_of w) (table_of after) w.root turn.call env next report out
+        → (1 < n) × IsLeft (table_of after) next (n - 1)
+    less next whole alone l course =
+        let some : 0 < work_of (table_of after) next = some_work (table_of after) next.task.progress next.stage in
+        let was : 0 < work_of (table_of w) turn.call = some_work (table_of w) turn.call.task.progress turn.call.stage in
         elim (course.falls (all id small turn.call turn.found)) [
           | inl back ↦
               elim l [
-                | inl now ↦ absurd (back.1 now.0 (none_held w sound))
-                | inr late ↦ (omega (arith, late), left_at_root (table_of after) next.stage (n - 1) back.0 (omega (arith, late)))
+                | inl now ↦ absurd (back.1 now.0 (undisturbed_inside w id turn.call env sound turn.found whole alone))
+                | inr late ↦ (omega (arith, late, was), left_anew (table_of after) next (n - 1) back.0.forgotten (let most = back.0.work in omega (arith, late, was, most)))
               ]
           | inr falls ↦
               elim l [
@@ -147,15 +228,15 @@ module _ (id : ℕ) (small : id < 2 ^ 64) where
               ]
         ]
 
-    turn_at : (next : Option (Record ℕ)) → call_of after id ≡ next → (out ≡ Done) ⊎ ((1 < n) × Has after (n - 1))
-    turn_at None e = inl (turn.ends e).0
-    turn_at (Some next) e =
+    turn_at : (next : Option (Record ℕ)) → env.fail ≡ false → AreAlone (state_of w) id → call_of after id ≡ next → (out ≡ Done) ⊎ ((1 < n) × Has after (n - 1))
+    turn_at None whole alone e = inl (turn.ends e).0
+    turn_at (Some next) whole alone e =
         let same : has.call ≡ turn.call = some_same has.call turn.call (sym has.found ∙ turn.found) in
-        let l = less next (subst (λ (r : Record ℕ). IsLeft (table_of w) r.stage n) same has.left) (turn.course next e) in
+        let l = less next whole alone (subst (λ (r : Record ℕ). IsLeft (table_of w) r n) same has.left) (turn.course next e) in
         inr (l.0, record { call = next; found = e; left = l.1 })
 
-    turned : (out ≡ Done) ⊎ ((1 < n) × Has after (n - 1))
-    turned = turn_at (call_of after id) refl
+    turned : env.fail ≡ false → AreAlone (state_of w) id → (out ≡ Done) ⊎ ((1 < n) × Has after (n - 1))
+    turned whole alone = turn_at (call_of after id) whole alone refl
 
   -- what it has left is what it had before another's Start
   begun_has : (w after : World ℕ) (i : ℕ) (op : Op ℕ) (report : Report) (n : ℕ) → IsSound (Unit {0}) w → Has w n → IsBegun (Unit {0}) same_number w after i op report → Has after n
@@ -164,7 +245,7 @@ module _ (id : ℕ) (small : id < 2 ^ 64) where
         | inl same ↦
             let f = in_flight w id has.call sound small has.found in
             absurd (none_some (flight f.0 has.call) (sym (subst (λ (z : ℕ). lookup (state_of w).flights z ≡ None) (sym same.1) begun.start.free) ∙ f.2))
-        | inr off ↦ record { call = has.call; found = begun.others id off.1 ∙ has.found; left = left_same (table_of w) (table_of after) begun.nodes has.call.stage n has.left }
+        | inr off ↦ record { call = has.call; found = begun.others id off.1 ∙ has.found; left = left_same (table_of w) (table_of after) begun.nodes has.call n has.left }
       ]
 
   passes : (w after : World ℕ) (event : Event ℕ) (line : Line) (n : ℕ) (rest : ℕ → Type 0) → IsSound (Unit {0}) w → AllServed w → Has w n → Plays w event line after
@@ -176,7 +257,7 @@ module _ (id : ℕ) (small : id < 2 ^ 64) where
   passes w after (Reclaim slot) (Made report out seen) n rest sound all has p then = absurd p
   passes w after (Step i env) (Made report out seen) n rest sound all has p then = λ mine whole granted undisturbed.
       let turn : IsTurn (Unit {0}) same_number w after id env report out = subst (λ (z : ℕ). IsTurn (Unit {0}) same_number w after z env report out) mine p.0 in
-      elim (turned w after env report out n sound all has turn) [
+      elim (turned w after env report out n sound all has turn whole undisturbed) [
         | inl done ↦ inl done
         | inr more ↦ inr (more.0, then (n - 1) more.1)
       ]
@@ -195,7 +276,7 @@ module _ (id : ℕ) (small : id < 2 ^ 64) where
       elim (eqb_tells id i) [
         | inl same ↦
             let here : call_of after id ≡ Some p.1.record_is = subst (λ (z : ℕ). call_of after z ≡ Some p.1.record_is) (sym same.1) p.1.here in
-            record { call = p.1.record_is; found = here; left = left_at_root (table_of after) p.1.record_is.stage 39 p.1.stage (omega arith) }
+            record { call = p.1.record_is; found = here; left = left_at_root (table_of after) p.1.record_is p.1.stage }
         | inr off ↦ absurd (none_some r (sym none ∙ (sym (p.1.others id off.1) ∙ found)))
       ]
   begins w after (Step i env) (Made report out seen) r none found p =
@@ -208,7 +289,7 @@ module _ (id : ℕ) (small : id < 2 ^ 64) where
 -- from anywhere on, whatever it remembers
 has_some : (w : World ℕ) (id : ℕ) (small : id < 2 ^ 64) (r : Record ℕ) → call_of w id ≡ Some r → Has id small w 80
 has_some w id small r found =
-    let most : work (table_of w) r.stage ≤ 39 = most_work (table_of w) r.stage in
+    let most : work_of (table_of w) r ≤ 40 = most_work (table_of w) r.task.progress r.stage in
     record { call = r; found = found; left = inr (omega (arith, most)) }
 
 -- Each point call that is alone ends: within 40 events from its start on, within 80 from any event on.

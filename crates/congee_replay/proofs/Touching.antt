@@ -26,11 +26,17 @@ use Rattle.congee_store.specs.declared.stage.Path.{Path}
 use Rattle.congee_store.specs.declared.stage.Record.{Record}
 use Rattle.congee_store.specs.declared.stage.Spot.{Spot}
 use Rattle.congee_store.specs.declared.stage.Stage.{Stage}
-use Rattle.congee_store.specs.declared.stage.Stage.TheVariants.{TakeRoot, Read, Check, TakeBelow, CheckAbove, Finish}
+use Rattle.congee_store.specs.declared.stage.Stage.TheVariants.{TakeRoot, Read, Check, TakeBelow, CheckAbove, Tail, Finish}
+use Rattle.congee_store.specs.declared.stage.Task.{Task}
+use Rattle.congee_store.specs.declared.tail.Pair.{Pair}
+use Rattle.congee_store.specs.declared.tail.Tail.{Tail as AnyTail}
+use Rattle.congee_store.specs.declared.tail.Tail.TheVariants.{Upgrade, Write, MakeLeaf, Link, Unlock, UpgradeAbove, UpgradeBelow, MakeLeafBelow, Grow, MakeMiddle, Replace, Insert as Insertion, Obsolete, UnlockBelow}
 use Rattle.congee_store.specs.inner.Tables.{IsIn, IsBelow, IsPlaced, IsSafe, Known, IsThere, CameFrom, OnPath, Guarantees}
-use Rattle.congee_store.specs.inner.Tasks.{SawNode, Saw}
-use Rattle.congee_store.specs.inner.Facts.{above_slots, path_slots, named_at, Facts, FactsAt, IsSound}
+use Rattle.congee_store.specs.inner.Tasks.{SawNode, Saw, key_bytes}
+use Rattle.congee_store.specs.inner.Facts.{named_at, Facts, FactsAt, IsSound}
 use Rattle.congee_store.specs.inner.Shown.{shown, flight, state_of}
+use Rattle.congee_store.specs.inner.TailFacts.{AreHeld, IsHeld, IsOut, TailFacts}
+use Rattle.congee_store.specs.inner.Tails.{above_slots, path_slots, both_slots, named_in}
 use Rattle.congee_store.specs.inner.Turns.{Stays, MayFollow, IsCourse, IsTurn}
 use Rattle.congee_store.specs.inner.World.{World, Node, Table, table_of, entry, call_of}
 use Rattle.congee_store.proofs.States.{shown_node}
@@ -76,6 +82,42 @@ module _ (t : Table ℕ) (root pin : ℕ) (k : List ℕ) where
   path_there path slot on h =
       elim h [ inl e ↦ known_there path.here slot on.here e | inr more ↦ above_there path.above path.here.slot slot on.above more ]
 
+module _ (t : Table ℕ) (pin : ℕ) where
+  -- a node that a call holds or has taken out
+  held_there : (s : Spot) → IsHeld t s → IsThere t pin s.slot
+  held_there s h = record { node = h.node; here = h.linked.here; safe = subst (λ z. IsSafe pin z) (sym h.linked.standing) tt }
+
+  out_there : (s : Spot) → IsOut t s → IsThere t pin s.slot
+  out_there s h = record { node = h.node; here = h.here; safe = subst (λ z. IsSafe pin z) (sym h.standing) tt }
+
+  still_there : (s : Spot) → Known t pin s → IsThere t pin s.slot
+  still_there s kn = record { node = kn.node; here = kn.here; safe = kn.safe }
+
+  one_there : (one slot : ℕ) → IsThere t pin one → IsIn slot (one ∷ []) → IsThere t pin slot
+  one_there one slot there h = elim h [ inl e ↦ subst (λ (z : ℕ). IsThere t pin z) e there | inr never ↦ absurd never ]
+
+  two_there : (pair : Pair) (slot : ℕ) → IsThere t pin pair.here.slot → IsThere t pin pair.above.slot → IsIn slot (both_slots pair) → IsThere t pin slot
+  two_there pair slot here above h = elim h [ inl e ↦ subst (λ (z : ℕ). IsThere t pin z) e here | inr more ↦ one_there pair.above.slot slot above more ]
+
+  both_there : (k : List ℕ) (pair : Pair) (slot : ℕ) → AreHeld t pair k → IsIn slot (both_slots pair) → IsThere t pin slot
+  both_there k pair slot h = two_there pair slot (held_there pair.here h.here) (held_there pair.above h.above)
+
+  tail_there : (root : ℕ) (task : Task ℕ) (tail : AnyTail) (slot : ℕ) → TailFacts (Unit {0}) t root pin task tail → IsIn slot (named_in tail) → IsThere t pin slot
+  tail_there root task (Upgrade path small) slot f h = path_there t root pin (key_bytes task) path slot f.1 h
+  tail_there root task (Write spot) slot f h = one_there spot.slot slot (held_there spot f.held) h
+  tail_there root task (MakeLeaf spot) slot f h = one_there spot.slot slot (held_there spot f.held) h
+  tail_there root task (Link spot leaf) slot f h = one_there spot.slot slot (held_there spot f.0.held) h
+  tail_there root task (Unlock spot) slot f h = one_there spot.slot slot (held_there spot f.0) h
+  tail_there root task (UpgradeAbove pair large) slot f h = two_there pair slot (still_there pair.here f.0.here) (still_there pair.above f.1) h
+  tail_there root task (UpgradeBelow pair large) slot f h = two_there pair slot (still_there pair.here f.0.here) (held_there pair.above f.1) h
+  tail_there root task (MakeLeafBelow pair large) slot f h = both_there (key_bytes task) pair slot f.0.held h
+  tail_there root task (Grow pair leaf) slot f h = both_there (key_bytes task) pair slot f.0.held h
+  tail_there root task (MakeMiddle pair leaf) slot f h = both_there (key_bytes task) pair slot f.0.held h
+  tail_there root task (Replace pair copy leaf) slot f h = both_there (key_bytes task) pair slot f.0.held h
+  tail_there root task (Insertion pair middle leaf) slot f h = both_there (key_bytes task) pair slot f.0.held h
+  tail_there root task (Obsolete pair) slot f h = two_there pair slot (out_there pair.here f.2) (held_there pair.above f.1) h
+  tail_there root task (UnlockBelow pair) slot f h = two_there pair slot (held_there pair.here f.2) (held_there pair.above f.1) h
+
 module _ (t : Table ℕ) (root pin : ℕ) (r : Record ℕ) (placed : IsPlaced t root) where
   abbrev key : List ℕ
   key = bytes_of (key_of r.task.outline)
@@ -88,6 +130,7 @@ module _ (t : Table ℕ) (root pin : ℕ) (r : Record ℕ) (placed : IsPlaced t 
       elim h [ inl e ↦ subst (λ (z : ℕ). IsThere t pin z) e f.4 | inr more ↦ path_there t root pin key path slot f.1 more ]
   named_there (CheckAbove path spot fits) slot f h =
       elim h [ inl e ↦ known_there t root pin key spot slot f.4 e | inr more ↦ path_there t root pin key path slot f.1 more ]
+  named_there (Tail tail) slot f h = tail_there t pin root r.task tail slot f h
   named_there Finish slot f h = absurd h
 
   -- a slot that was read where the word still stands has one
@@ -106,6 +149,7 @@ module _ (t : Table ℕ) (root pin : ℕ) (r : Record ℕ) (placed : IsPlaced t 
       record { node = below.node; here = below.linked.here; safe = subst (λ z. IsSafe pin z) (sym below.linked.standing) tt }
   follow_there (TakeBelow path below) slot f h = absurd h
   follow_there (CheckAbove path spot fits) slot f h = absurd h
+  follow_there (Tail tail) slot f h = absurd h
   follow_there Finish slot f h = absurd h
 
 -- the slots that a call may touch next, or after its next event
@@ -137,6 +181,7 @@ module _ (t t' : Table ℕ) (root pin : ℕ) (Mine : ℕ → Type 0) (leaves : G
   followed (Check path) slot f h = (h.0, stayed path.here f.1.here h.1)
   followed (TakeBelow path below) slot f h = h
   followed (CheckAbove path spot fits) slot f h = h
+  followed (Tail tail) slot f h = h
   followed Finish slot f h = h
 
 same_follows : (t t' : Table ℕ) (same : (s : ℕ) → t' s ≡ t s) (stage : Stage) (last : Option (Seen ℕ)) (slot : ℕ) → MayFollow t' stage last slot → MayFollow t stage last slot
@@ -145,6 +190,7 @@ same_follows t t' same (Read path) last slot h = h
 same_follows t t' same (Check path) last slot h = (h.0, record { node = h.1.node; here = sym (same path.here.slot) ∙ h.1.here; word = h.1.word })
 same_follows t t' same (TakeBelow path below) last slot h = h
 same_follows t t' same (CheckAbove path spot fits) last slot h = h
+same_follows t t' same (Tail tail) last slot h = h
 same_follows t t' same Finish last slot h = h
 
 -- a slot that may be followed was seen
@@ -154,6 +200,7 @@ saw_of t (Read path) last slot h = absurd h
 saw_of t (Check path) last slot h = h.0
 saw_of t (TakeBelow path below) last slot h = absurd h
 saw_of t (CheckAbove path spot fits) last slot h = absurd h
+saw_of t (Tail tail) last slot h = absurd h
 saw_of t Finish last slot h = absurd h
 
 -- the entries before tell of the slot, or it is the root's
@@ -191,7 +238,7 @@ module _ (root : ℕ) (w : World ℕ) (past : List Entry) (sound : IsSound (Unit
     goes_vouched : (next : Record ℕ) (slot : ℕ) → call_of after id ≡ Some next → Trusts (table_of after) next slot → Told root (now ∷ past) id slot
     goes_vouched next slot found h =
         let used : IsSome (lookup (state_of after).nodes slot) = in_use after id next slot turn.after small found h in
-        let course : IsCourse (table_of w) (table_of after) w.root turn.call next report out = turn.course next found in
+        let course : IsCourse (table_of w) (table_of after) w.root turn.call env next report out = turn.course next found in
         elim h [
           | inl named ↦ longer now id slot used (λ v. inr v) (own slot (course.names slot named))
           | inr follows ↦ inr (used, inl (refl, read_names next slot found (course.reads slot follows) (saw_of (table_of after) next.stage next.task.last slot follows)))
@@ -218,7 +265,7 @@ module _ (root : ℕ) (w : World ℕ) (past : List Entry) (sound : IsSound (Unit
     -- what it touches
     touched_at : (next : Option (Record ℕ)) → call_of after id ≡ next → report.kind ≢ kind.Make → (slot : ℕ) → report.slot ≡ Some slot → Told root past id slot
     touched_at (Some next) e other slot t =
-        let course : IsCourse (table_of w) (table_of after) w.root turn.call next report out = turn.course next e in
+        let course : IsCourse (table_of w) (table_of after) w.root turn.call env next report out = turn.course next e in
         own slot (elim (course.touches slot t other) [ inl top ↦ inl top | inr named ↦ inr (inl named) ])
     touched_at None e other slot t = absurd (none_some slot (sym (turn.ends e).1 ∙ t))
 

@@ -16,12 +16,12 @@ module _ {P A : Type 0} where
   -- what is inside, with what the budget has charged
   abbrev pub inside : (A → Option ℕ) → Inner P A → World P
   inside charge m = record {
-    slots = m.store.nodes.slots;
-    root = m.store.root;
-    pins = m.store.pins;
+    slots = m.stock.store.nodes.slots;
+    root = m.stock.store.root;
+    pins = m.stock.store.pins;
     calls = m.calls;
-    entries = m.entries;
-    charge = charge m.budget;
+    entries = m.stock.entries;
+    charge = charge m.stock.budget;
   }
 
   -- what a reader sees of it

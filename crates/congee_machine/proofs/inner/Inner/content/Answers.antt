@@ -10,5 +10,5 @@ pub returns : goal.returns
 returns g c =
     let w = inside g.A.Allocator.charge c.args.self.now in
     let meaning = g.P.HasMeaning.meaning in
-    let shown = subst (λ (s : State g.P.HasMeaning.Meaning). Shows (meant_table meaning c.args.self.now.store) w.root s) (sym (meant_state meaning w)) (shows (meant_world meaning w)) in
+    let shown = subst (λ (s : State g.P.HasMeaning.Meaning). Shows (meant_table meaning c.args.self.now.stock.store) w.root s) (sym (meant_state meaning w)) (shows (meant_world meaning w)) in
     c.in_ok-pairs.ensures _ shown

@@ -3,13 +3,11 @@ use Rattle.congee_map.specs.Map.{Pairs}
 use Rattle.congee_protocol.specs.Content.{IsContent}
 use Rattle.congee_protocol.specs.Meaning.{meant}
 use Rattle.congee_protocol.specs.State.{State}
-use Rattle.congee_protocol.specs.WellFormed.{IsWellFormed}
 use Rattle.congee_store.specs.inner.Meant.{meant_table, meant_world}
 use Rattle.congee_store.specs.inner.Turns.{Shows}
-use Rattle.congee_store.proofs.Formed.{well_formed}
 use Rattle.congee_store.proofs.States.{meant_state, shows}
 use Rattle.congee_store.proofs.Walked.{placed_content}
-use Rattle.congee_machine.specs.inner.Inside.{inside, state_in}
+use Rattle.congee_machine.specs.inner.Inside.{inside}
 use Rattle.congee_machine.proofs.machine.Machine.entry_count.Goals as goal
 
 pub returns-clause-content : goal.returns-clause-content
@@ -18,8 +16,8 @@ returns-clause-content g c =
     let w = inside g.A.Allocator.charge inner in
     let meaning = g.P.HasMeaning.meaning in
     let M = g.P.HasMeaning.Meaning in
-    let formed : IsWellFormed (meant meaning (state_in g.A.Allocator.charge inner)) = subst (λ (s : State M). IsWellFormed s) (sym (meant_state meaning w)) (well_formed g.P.Payload.always_shared (meant_world meaning w) c.self.invariant) in
-    let shown = subst (λ (s : State M). Shows (meant_table meaning inner.store) w.root s) (sym (meant_state meaning w)) (shows (meant_world meaning w)) in
+    let shown = subst (λ (s : State M). Shows (meant_table meaning inner.stock.store) w.root s) (sym (meant_state meaning w)) (shows (meant_world meaning w)) in
     let there = placed_content meaning w.slots w.pins.slots w.root c.self.invariant.placed _ shown in
-    subst (λ (s : State g.row.P.Denot). (m : Pairs M) × IsContent (meant meaning s) m × (inner.entries ≡ length m)) c.self.view_is
-    (there.0, there.1, formed.counted there.0 there.1)
+    let counted = c.self.invariant.counted there.0 (subst (λ (s : State M). IsContent s there.0) (meant_state meaning w) there.1) in
+    subst (λ (s : State g.row.P.Denot). (m : Pairs M) × IsContent (meant meaning s) m × (inner.stock.entries ≡ length m)) c.self.view_is
+    (there.0, there.1, counted)

@@ -1,0 +1,93 @@
+-- What an event that writes may rely on, and that the inside stays sound by it.
+use Rattle.std.proofs.Common.{◌≡◌, ◌≢◌, ℕ, ◌+◌, ◌<◌, ◌≤◌, ◌^◌, Bool, List, [], ◌∷◌, length, Option, Some, None, refl, sym, subst, ap, ◌∙◌, arith}
+use Rattle.congee_base.specs.Form.{stated_size}
+use Rattle.congee_map.specs.Map.{Pairs}
+use Rattle.congee_map.proofs.ByteMapLaws.{length-from_Rises}
+use Rattle.congee_node_table.specs.Charge.{Covers}
+use Rattle.congee_protocol.specs.Content.{IsContent}
+use Rattle.congee_protocol.specs.Meaning.{env_of, in_some, outcome_of}
+use Rattle.congee_protocol.specs.declared.types.Env.{Env}
+use Rattle.congee_protocol.specs.declared.types.Outcome.{Outcome}
+use Rattle.congee_protocol.specs.declared.types.Report.{Report}
+use Rattle.congee_sync.specs.Epoch.{pin_of}
+use Rattle.congee_store.specs.declared.stage.Record.{Record}
+use Rattle.congee_store.specs.declared.stage.Stage.{Stage}
+use Rattle.congee_store.specs.declared.stage.Stage.TheVariants.{TakeRoot, Read, Check, TakeBelow, CheckAbove, Tail, Finish}
+use Rattle.congee_store.specs.declared.stage.Stored.{Stored}
+use Rattle.congee_store.specs.declared.stock.Stock.{Stock}
+use Rattle.congee_store.specs.declared.tail.Tail.{Tail as AnyTail}
+use Rattle.congee_store.specs.inner.Facts.{IsSound, sizes_of}
+use Rattle.congee_store.specs.inner.Meant.{meant_calls, meant_record, meant_slots, meant_world}
+use Rattle.congee_store.specs.inner.Places.{ChangesPlace}
+use Rattle.congee_store.specs.inner.Shown.{held_at, state_of}
+use Rattle.congee_store.specs.inner.Stocks.{IsKept, Moves}
+use Rattle.congee_store.specs.inner.Turns.{IsTurn}
+use Rattle.congee_store.specs.inner.World.{World, Node, call_of, table_of}
+use Rattle.congee_store.proofs.States.{meant_call, shows}
+use Rattle.congee_store.proofs.Walked.{placed_content}
+use Rattle.congee_machine.specs.inner.Inside.{inside}
+use Rattle.congee_machine.proofs.Inners.{meant_changes, then_changes}
+use Rattle.congee_machine.proofs.Moving.{moved_turn}
+
+-- a stage that isn't a tail's holds nothing
+pub reads_free : (stage : Stage) → ((tail : AnyTail) → stage ≢ Tail tail) → held_at stage ≡ []
+reads_free TakeRoot reads = refl
+reads_free (Read path) reads = refl
+reads_free (Check path) reads = refl
+reads_free (TakeBelow path slot) reads = refl
+reads_free (CheckAbove path spot fits) reads = refl
+reads_free (Tail tail) reads = absurd (reads tail refl)
+reads_free Finish reads = refl
+
+-- the sizes of nodes are those of their meanings
+meant_sizes : {P M : Type 0} (meaning : P → M) (slots : List (Option (Stored P))) → sizes_of (meant_slots meaning slots) ≡ sizes_of slots
+meant_sizes meaning [] = refl
+meant_sizes meaning (None ∷ slots) = meant_sizes meaning slots
+meant_sizes meaning (Some n ∷ slots) = ap (λ size. stated_size n.node.form + size) (meant_sizes meaning slots)
+
+some_there : {X : Type 0} (x : Option X) → x ≢ None → (a : X) × (x ≡ Some a)
+some_there None h = absurd (h refl)
+some_there (Some a) h = (a, refl)
+
+module _ {P A M : Type 0} (meaning : P → M) (charge : A → Option ℕ) (Granted : Type 0) (stock : Stock P A) (calls : List (ℕ × Option (Record P)))
+    (sound : IsSound Granted (meant_world meaning (inside charge (record { stock = stock; calls = calls })))) where
+  abbrev before : World M
+  before = meant_world meaning (inside charge (record { stock = stock; calls = calls }))
+
+  -- the nodes are kept, there is a content, and it is small
+  pub sound_kept : IsKept meaning charge stock
+  sound_kept = record {
+    placed = sound.placed;
+    admitted = sound.admitted;
+    narrow = λ s some. let a = some_there (table_of before s) some in sound.narrow s a.0 a.1;
+    covered = subst (λ size. Covers (charge stock.budget) size) (meant_sizes meaning stock.store.nodes.slots) sound.charged;
+  }
+
+  sound_content : (m : Pairs M) × IsContent (state_of before) m
+  sound_content = placed_content meaning stock.store.nodes.slots stock.store.pins.slots stock.store.root sound.placed (state_of before) (shows before)
+
+  pub sound_few : stock.entries ≤ 2 ^ 64
+  sound_few =
+      let counted = sound.counted sound_content.0 sound_content.1 in
+      let few = length-from_Rises 0 (2 ^ 64) sound_content.0 (omega arith) sound_content.1.map in omega (arith, counted, few)
+
+  -- AN EVENT that writes, after which its call goes on
+  module _ (same : M → M → Bool) (id : ℕ) (small : id < 2 ^ 64) (r next : Record P) (pin : ℕ) (env : Env P) (report : Report) (out : Outcome P)
+      (found : call_of (inside charge (record { stock = stock; calls = calls })) id ≡ Some r) (pinned : pin_of stock.store.pins id ≡ Some pin) where
+    pub moves_on : (now : Stock P A) (mid after : List (ℕ × Option (Record P))) → ChangesPlace calls mid id (Some None) → ChangesPlace mid after id (Some (Some next))
+        → Moves meaning charge Granted same stock now pin r env next report out
+        → IsTurn Granted same before (meant_world meaning (inside charge (record { stock = now; calls = after }))) id (env_of meaning env) report (outcome_of meaning out)
+    moves_on now mid after takes puts moves =
+        moved_turn Granted same before (meant_world meaning (inside charge (record { stock = now; calls = after }))) id pin small (meant_record meaning r) (meant_record meaning next)
+        (env_of meaning env) report (outcome_of meaning out) sound
+        (meant_call meaning (inside charge (record { stock = stock; calls = calls })) id ∙ ap (in_some (meant_record meaning)) found) pinned
+        (record {
+          places = meant_changes meaning calls after id (Some (Some next)) (then_changes calls mid after id (Some None) (Some (Some next)) takes puts);
+          seats = moves.seats;
+          root = moves.root;
+          placed = moves.kept.placed;
+          admitted = moves.kept.admitted;
+          narrow = moves.kept.narrow;
+          covered = subst (λ size. Covers (charge now.budget) size) (sym (meant_sizes meaning now.store.nodes.slots)) moves.kept.covered;
+        })
+        moves.move sound_content
