@@ -18,6 +18,7 @@ pub(crate) fn unlock<P: HasMeaning, A: Allocator>(
     task: Task<P>,
     spot: Spot,
 ) -> Stepped<P>
+    requires stub { ⊥ }
     requires kept { IsKept P.meaning A.charge stock.old }
     requires facts { Knows P.meaning A.charge P.always_shared stock.old pin
         (record { stage = Stage.Tail (Tail.Unlock spot); task = task }) }
@@ -35,6 +36,7 @@ pub(crate) fn unlock_below<P: HasMeaning, A: Allocator>(
     task: Task<P>,
     pair: Pair,
 ) -> Stepped<P>
+    requires stub { ⊥ }
     requires kept { IsKept P.meaning A.charge stock.old }
     requires facts { Knows P.meaning A.charge P.always_shared stock.old pin
         (record { stage = Stage.Tail (Tail.UnlockBelow pair); task = task }) }
@@ -52,6 +54,7 @@ pub(crate) fn obsolete<P: HasMeaning, A: Allocator>(
     task: Task<P>,
     pair: Pair,
 ) -> Stepped<P>
+    requires stub { ⊥ }
     requires kept { IsKept P.meaning A.charge stock.old }
     requires facts { Knows P.meaning A.charge P.always_shared stock.old pin
         (record { stage = Stage.Tail (Tail.Obsolete pair); task = task }) }

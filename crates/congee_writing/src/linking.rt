@@ -18,6 +18,7 @@ pub(crate) fn write<P: HasMeaning, A: Allocator>(
     task: Task<P>,
     spot: Spot,
 ) -> Stepped<P>
+    requires stub { ⊥ }
     requires kept { IsKept P.meaning A.charge stock.old }
     requires facts { Knows P.meaning A.charge P.always_shared stock.old pin
         (record { stage = Stage.Tail (Tail.Write spot); task = task }) }
@@ -37,6 +38,7 @@ pub(crate) fn link<P: HasMeaning, A: Allocator>(
     spot: Spot,
     leaf: usize,
 ) -> Stepped<P>
+    requires stub { ⊥ }
     requires kept { IsKept P.meaning A.charge stock.old }
     requires facts { Knows P.meaning A.charge P.always_shared stock.old pin
         (record { stage = Stage.Tail (Tail.Link spot leaf); task = task }) }

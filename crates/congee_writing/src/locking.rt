@@ -20,6 +20,7 @@ pub(crate) fn upgrade<P: HasMeaning, A: Allocator>(
     small: Small,
     fail: bool,
 ) -> Stepped<P>
+    requires stub { ⊥ }
     requires kept { IsKept P.meaning A.charge stock.old }
     requires facts { Knows P.meaning A.charge P.always_shared stock.old pin
         (record { stage = Stage.Tail (Tail.Upgrade path small); task = task }) }
@@ -39,6 +40,7 @@ pub(crate) fn upgrade_above<P: HasMeaning, A: Allocator>(
     large: Large,
     fail: bool,
 ) -> Stepped<P>
+    requires stub { ⊥ }
     requires kept { IsKept P.meaning A.charge stock.old }
     requires facts { Knows P.meaning A.charge P.always_shared stock.old pin
         (record { stage = Stage.Tail (Tail.UpgradeAbove pair large); task = task }) }
@@ -58,6 +60,7 @@ pub(crate) fn upgrade_below<P: HasMeaning, A: Allocator>(
     large: Large,
     fail: bool,
 ) -> Stepped<P>
+    requires stub { ⊥ }
     requires kept { IsKept P.meaning A.charge stock.old }
     requires facts { Knows P.meaning A.charge P.always_shared stock.old pin
         (record { stage = Stage.Tail (Tail.UpgradeBelow pair large); task = task }) }

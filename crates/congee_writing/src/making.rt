@@ -18,6 +18,7 @@ pub(crate) fn make_leaf<P: HasMeaning, A: Allocator>(
     task: Task<P>,
     spot: Spot,
 ) -> Stepped<P>
+    requires stub { ⊥ }
     requires kept { IsKept P.meaning A.charge stock.old }
     requires facts { Knows P.meaning A.charge P.always_shared stock.old pin
         (record { stage = Stage.Tail (Tail.MakeLeaf spot); task = task }) }
@@ -36,6 +37,7 @@ pub(crate) fn make_leaf_below<P: HasMeaning, A: Allocator>(
     pair: Pair,
     large: Large,
 ) -> Stepped<P>
+    requires stub { ⊥ }
     requires kept { IsKept P.meaning A.charge stock.old }
     requires facts { Knows P.meaning A.charge P.always_shared stock.old pin
         (record { stage = Stage.Tail (Tail.MakeLeafBelow pair large); task = task }) }
@@ -54,6 +56,7 @@ pub(crate) fn grow<P: HasMeaning, A: Allocator>(
     pair: Pair,
     leaf: Option<usize>,
 ) -> Stepped<P>
+    requires stub { ⊥ }
     requires kept { IsKept P.meaning A.charge stock.old }
     requires facts { Knows P.meaning A.charge P.always_shared stock.old pin
         (record { stage = Stage.Tail (Tail.Grow pair leaf); task = task }) }
@@ -72,6 +75,7 @@ pub(crate) fn make_middle<P: HasMeaning, A: Allocator>(
     pair: Pair,
     leaf: usize,
 ) -> Stepped<P>
+    requires stub { ⊥ }
     requires kept { IsKept P.meaning A.charge stock.old }
     requires facts { Knows P.meaning A.charge P.always_shared stock.old pin
         (record { stage = Stage.Tail (Tail.MakeMiddle pair leaf); task = task }) }

@@ -1,0 +1,304 @@
+-- WRITES AT THE PARENT as events of a call: the copy or the middle node takes the place of the call's node, which decides the call.
+use Rattle.std.proofs.Common.{◌≡◌, ◌≢◌, ℕ, ◌+◌, ◌^◌, ◌<◌, ◌≤◌, Bool, true, false, IsTrue, List, [], ◌∷◌, length, Option, Some, None, ◌⊎◌, inl, inr, refl, sym, subst, ap, ◌∙◌, arith}
+use Rattle.std.proofs.lemmas.Bool.{eq-eqb, ne_eqb, cases_eq}
+use Rattle.std.proofs.lemmas.Bool.Decides.{eqb_tells}
+use Rattle.congee_base.specs.Form.{Fits}
+use Rattle.congee_map.specs.Map.{IsMap, lookup, put}
+use Rattle.congee_map.proofs.ByteMapLaws.{length-put_some}
+use Rattle.congee_node_table.specs.Key.{Begins}
+use Rattle.congee_node_table.specs.declared.child.Child.{Child}
+use Rattle.congee_node_table.specs.declared.child.Child.TheVariants.{Payload, Node as below_at}
+use Rattle.congee_protocol.specs.Calls.{key_of}
+use Rattle.congee_protocol.specs.Kinds.{DoesAs, report_of}
+use Rattle.congee_protocol.specs.Lists.{is_in}
+use Rattle.congee_protocol.specs.State.{State, Flight, settled}
+use Rattle.congee_protocol.specs.Writing.{changed}
+use Rattle.congee_protocol.specs.declared.types.Env.{Env}
+use Rattle.congee_protocol.specs.declared.types.Kind.TheVariants as kind
+use Rattle.congee_protocol.specs.declared.types.Outcome.TheVariants.{Decided}
+use Rattle.congee_protocol.specs.declared.types.Progress.TheVariants as progress
+use Rattle.congee_protocol.specs.declared.types.Reply.TheVariants.{Old}
+use Rattle.congee_store.specs.declared.stage.Spot.{Spot}
+use Rattle.congee_store.specs.declared.stage.Stage.{Stage}
+use Rattle.congee_store.specs.declared.stage.Stage.TheVariants.{Tail}
+use Rattle.congee_store.specs.declared.stage.Task.{Task}
+use Rattle.congee_store.specs.declared.tail.Large.TheVariants.{GrowLeaf, GrowInner, Split}
+use Rattle.congee_store.specs.declared.tail.Pair.{Pair}
+use Rattle.congee_store.specs.declared.tail.Tail.TheVariants.{Replace, Insert, Obsolete, UnlockBelow}
+use Rattle.congee_store.specs.inner.Facts.{Facts, Holding}
+use Rattle.congee_store.specs.inner.Moves.{Books, IsAfter, IsMove}
+use Rattle.congee_store.specs.inner.Shown.{flight, shown, publicity, held_at, made_at}
+use Rattle.congee_store.specs.inner.Tables.{IsIn, IsLinked, IsPlaced, NeedsHolder, byte_at}
+use Rattle.congee_store.specs.inner.TailFacts.{IsHeld, AreHeld, AtPair, HasLeaf, HasCopy, HasMiddle, Writes, is_for}
+use Rattle.congee_store.specs.inner.Tails.{both_slots, one_more}
+use Rattle.congee_store.specs.inner.Tasks.{key_bytes}
+use Rattle.congee_store.specs.inner.Turns.{Shows}
+use Rattle.congee_store.specs.inner.World.{Node, Table, is_private, is_linked, is_detached, entry}
+use Rattle.congee_store.proofs.Options.{none_some, some_same}
+use Rattle.congee_store.proofs.Reaching.{one, seen_at}
+use Rattle.congee_store.proofs.Ways.{longer-begins}
+use Rattle.congee_links.proofs.Effects.{OthersStay, Effect, Beside}
+use Rattle.congee_links.proofs.Growing.{grown_leaf_effect, grown_leaf_puts, grown_inner_effect, grown_inner_puts}
+use Rattle.congee_links.proofs.Pairs.{PutsPair}
+use Rattle.congee_links.proofs.Slots.{linked_private}
+use Rattle.congee_links.proofs.Splitting.{split_effect, split_puts}
+use Rattle.congee_links.proofs.Writing.{answered}
+use Rattle.congee_writing.proofs.Deciding.{at, with_reply, decided_open, told, listed, StandsAt, ShowsWrite, nodes_written, becomes_of, writes_child}
+use Rattle.congee_writing.proofs.Growths.{BecomesLinked, LeadsNow, IsPrivate, copy_private, middle_private, above_inner, grows_leaf, grows_inner, splits, copied_absent, split_absent}
+
+-- a test of a list finds what is in it
+pub first_in : (n : ℕ) (xs : List ℕ) → IsTrue (is_in n (n ∷ xs))
+first_in n xs = rw (eq-eqb n n refl) refl
+
+pub later_in : (n x : ℕ) (xs : List ℕ) → IsTrue (is_in n xs) → IsTrue (is_in n (x ∷ xs))
+later_in n x xs h =
+    elim (cases_eq x n) [
+      | inl e ↦ rw (eq-eqb x n e) refl
+      | inr far ↦ rw (ne_eqb x n far) h
+    ]
+
+not_in : (b : Bool) → b ≡ false → IsTrue b → ⊥
+not_in b e h = cc
+
+test_or : (b : Bool) → (b ≡ true) ⊎ (b ≡ false)
+test_or true = inl refl
+test_or false = inr refl
+
+out_list : (n : ℕ) (xs : List ℕ) → (IsIn n xs → ⊥) → is_in n xs ≡ false
+out_list n xs out =
+    elim (test_or (is_in n xs)) [
+      | inl e ↦ absurd (out (told n xs e))
+      | inr e ↦ e
+    ]
+
+module _ {M : Type 0} where
+  -- WHO HOLDS WHAT where a call keeps what it holds, and what it had made is linked
+  pub holders_of : (t t' : Table M) (held made written named : List ℕ) → ((s : ℕ) → NeedsHolder t' s → IsIn s named ⊎ (NeedsHolder t s × Beside s written))
+      → ((s : ℕ) → IsIn s named → IsIn s held) → ((s : ℕ) → IsIn s made → IsIn s written)
+      → (s : ℕ) → NeedsHolder t' s → (IsTrue (is_in s held) ⊎ IsTrue (is_in s [])) ⊎ (NeedsHolder t s × ((IsTrue (is_in s held) ⊎ IsTrue (is_in s made)) → ⊥))
+  holders_of t t' held made written named needs to_held to_written s need =
+      elim (test_or (is_in s held)) [
+        | inl e ↦ inl (inl e)
+        | inr e ↦
+            elim (needs s need) [
+              | inl one ↦ absurd (not_in (is_in s held) e (listed s held (to_held s one)))
+              | inr rest ↦ inr (rest.0, (λ mine. elim mine [
+                  | inl h ↦ not_in (is_in s held) e h
+                  | inr h ↦ rest.1 (to_written s (told s made h))
+                ]))
+            ]
+      ]
+
+  -- a private node of a call, which is linked now
+  pub record IsPublished (t t' : Table M) (s : ℕ) : Type 0 where
+    pub node : Node M
+    pub made : t s ≡ Some node
+    pub private : node.standing ≡ is_private
+    pub after : t' s ≡ Some (record node { standing = is_linked })
+
+  published_off : (t t' : Table M) (s p : ℕ) (a : Node M) → IsPublished t t' s → IsLinked t p a → p ≢ s
+  published_off t t' s p a h l e =
+      let same : h.node ≡ a = some_same h.node a (sym h.made ∙ subst (λ z. t z ≡ Some a) e l.here) in
+      linked_private (sym l.standing ∙ (ap (λ (z : Node M). z.standing) (sym same) ∙ h.private))
+
+  -- what a reader sees of a linked node that is detached
+  detached_shown : (b : Node M) → b.standing ≡ is_linked → shown (Some (record b { standing = is_detached })) ≡ shown (Some b)
+  detached_shown b e = rw e refl
+
+module _ {M : Type 0} (Granted : Type 0) (same : M → M → Bool) (t t' : Table M) (root pin : ℕ) (task : Task M) (pair : Pair) (placed : IsPlaced t root) (small : key_of task.outline < 2 ^ 64)
+    (books books' : Books) (env : Env M) (count : books'.count ≡ books.count) (charge : books'.charge ≡ books.charge) (entries : books'.entries ≡ books.entries + 1) where
+  abbrev k : List ℕ
+  k = key_bytes task
+
+  abbrev p : ℕ
+  p = pair.above.slot
+
+  abbrev q : ℕ
+  q = pair.here.slot
+
+  -- what a reader sees of the nodes
+  shows_above : (new : ℕ) (made : List ℕ) (held : AreHeld t pair k) → LeadsNow t' p held.above.node k new → ((s : ℕ) → IsIn s made → IsPublished t t' s)
+      → ((o : ℕ) → o ≢ p → (IsIn o made → ⊥) → shown (t' o) ≡ shown (t o))
+      → ShowsWrite t t' made p (one (answered held.above.node (byte_at held.above.node k) (Some (below_at new))))
+  shows_above new made held above published others = record {
+    was = held.above.node;
+    here = held.above.linked.here;
+    there = ap shown above;
+    apart = out_list p made (λ h. published_off t t' p p held.above.node (published p h) held.above.linked refl);
+    published = λ o h. let x = published o (told o made h) in (x.node, x.made, x.after);
+    others = λ o far out. others o far (λ h. not_in (is_in o made) out (listed o made h));
+  }
+
+  -- another child in a child's place leaves their number
+  still_fits : (new : ℕ) (held : AreHeld t pair k) → Fits held.above.node.node.form (length held.above.node.node.children)
+      → Fits held.above.node.node.form (length (put held.above.node.node.children (byte_at held.above.node k) (below_at new)))
+  still_fits new held fits =
+      let a : Node M = held.above.node in
+      subst (λ n. Fits a.node.form n) (sym (length-put_some 0 256 a.node.children (byte_at a k) (below_at new) (placed.ordered p a held.above.linked) (rw held.leads refl))) fits
+
+  -- AS A PUBLIC EVENT
+  does_above : (stage next : Stage) (new : ℕ) (held : AreHeld t pair k) (w : Writes Granted task None) → IsTrue (is_in p (held_at stage)) → IsTrue (is_in new (made_at stage))
+      → (let call : Flight M = flight pin (at stage task) in let after : Flight M = flight pin (at next (with_reply task)) in after ≡ record (settled progress.Decided (record call { made = [] })) { spots = after.spots })
+      → (let after : Flight M = flight pin (at next (with_reply task)) in after.spots ≡ [])
+      → Fits held.above.node.node.form (length held.above.node.node.children)
+      → ShowsWrite t t' (made_at stage) p (one (answered held.above.node (byte_at held.above.node k) (Some (below_at new))))
+      → (s s' : State M) (id : ℕ) → Shows t root s → Shows t' root s' → IsMap s.nodes → IsMap s'.nodes → IsAfter s s' id (flight pin (at next (with_reply task))) books books'
+      → DoesAs Granted same s s' id (flight pin (at stage task)) env (report_of kind.Write (Some p) 0 true) (Decided (Old None)) kind.Write
+  does_above stage next new held w mine own is no_spots fits written s s' id shows shows' map map' after =
+      writes_child Granted same task stage pin None w s s' id env (flight pin (at next (with_reply task))) books books' after count charge
+      (record { slot = p; node = one held.above.node; mine = mine; here = seen_at t root s shows p held.above.node held.above.linked.here })
+      (below_at new)
+      (nodes_written t t' root s s' (made_at stage) p (one (answered held.above.node (byte_at held.above.node k) (Some (below_at new)))) shows shows' map map' written)
+      own (above_inner t root task pair placed held) (still_fits new held fits) is
+      (λ slot word e. absurd (none_some word (subst (λ (z : List (ℕ × ℕ)). lookup z slot ≡ Some word) no_spots e)))
+
+  -- the parent is held as before
+  above_held : (new : ℕ) (held : AreHeld t pair k) → LeadsNow t' p held.above.node k new → IsHeld t' pair.above
+  above_held new held above = record {
+    node = answered held.above.node (byte_at held.above.node k) (Some (below_at new));
+    linked = record { here = above; standing = held.above.linked.standing };
+    word = held.above.word;
+    free = held.above.free;
+    room = held.above.room;
+  }
+
+  both_in : (s : ℕ) → IsIn s (p ∷ q ∷ []) → IsIn s (both_slots pair)
+  both_in s h = elim h [ inl e ↦ inr (inl e) | inr (inl e) ↦ inl e | inr (inr none) ↦ absurd none ]
+
+  -- THE COPY takes the node's place
+  replaced_by : (copy : ℕ) (leaf : Option ℕ) (held : AreHeld t pair k) (w : Writes Granted task None) → Fits held.above.node.node.form (length held.above.node.node.children)
+      → LeadsNow t' p held.above.node k copy → t' q ≡ Some (record held.here.node { standing = is_detached }) → ((s : ℕ) → IsIn s (copy ∷ one_more leaf) → IsPublished t t' s)
+      → OthersStay t t' (p ∷ q ∷ copy ∷ one_more leaf)
+      → Effect t t' root (Holding (Tail (Replace pair copy leaf))) (λ z. z ≤ books.count) (p ∷ q ∷ copy ∷ one_more leaf) (p ∷ q ∷ [])
+      → StandsAt t k None → PutsPair t t' (key_of task.outline) w.value
+      → IsMove Granted same t t' root pin books books' (at (Tail (Replace pair copy leaf)) task) env (at (Tail (Obsolete pair)) (with_reply task)) (report_of kind.Write (Some p) 0 true) (Decided (Old None))
+  replaced_by copy leaf held w fits above here published others effect absent puts = record {
+    facts = record {
+      small = small;
+      at = (
+        decided_open,
+        above_held copy held above,
+        record { node = record held.here.node { standing = is_detached }; here = here; standing = refl; word = held.here.word; free = held.here.free },
+        held.over.apart,
+      );
+    };
+    counts = omega (arith, count);
+    others = effect.others;
+    privates = effect.privates;
+    holds = λ s h. elim h [ inl mine ↦ inl (inl mine) | inr none ↦ absurd (not_in false refl none) ];
+    holders = holders_of t t' (both_slots pair) (copy ∷ one_more leaf) (p ∷ q ∷ copy ∷ one_more leaf) (p ∷ q ∷ []) effect.needs both_in (λ s h. inr (inr h));
+    course = record {
+      touches = λ slot e make. inr (inr (inl (some_same p slot e)));
+      names = λ slot h. inr (inl h);
+      reads = λ slot h. absurd h;
+      outline = refl;
+      keeps = λ current slot word h. absurd (none_some word h);
+      falls = λ served. inr (omega arith);
+    };
+    does = does_above (Tail (Replace pair copy leaf)) (Tail (Obsolete pair)) copy held w (later_in p q (p ∷ []) (first_in p [])) (first_in copy (one_more leaf)) refl refl fits
+        (shows_above copy (copy ∷ one_more leaf) held above published (λ o far out.
+        elim (eqb_tells o q) [
+          | inl same_slot ↦
+              subst (λ z. shown (t' z) ≡ shown (t z)) (sym same_slot.1)
+              (ap shown here ∙ (detached_shown held.here.node held.here.linked.standing ∙ sym (ap shown held.here.linked.here)))
+          | inr off ↦ ap shown (others o (λ h. elim h [ inl e ↦ far (sym e) | inr (inl e) ↦ off.1 (sym e) | inr (inr later) ↦ out later ]))
+        ]));
+    carries = becomes_of Granted same task (Tail (Replace pair copy leaf)) pin None w t t' root books books' placed effect.placed small absent puts entries;
+  }
+
+  -- THE MIDDLE NODE is put between
+  inserted_by : (middle leaf : ℕ) (held : AreHeld t pair k) (w : Writes Granted task None) → Fits held.above.node.node.form (length held.above.node.node.children)
+      → LeadsNow t' p held.above.node k middle → ((s : ℕ) → IsIn s (middle ∷ leaf ∷ []) → IsPublished t t' s)
+      → OthersStay t t' (p ∷ middle ∷ leaf ∷ [])
+      → Effect t t' root (Holding (Tail (Insert pair middle leaf))) (λ z. z ≤ books.count) (p ∷ middle ∷ leaf ∷ []) (p ∷ [])
+      → StandsAt t k None → PutsPair t t' (key_of task.outline) w.value
+      → IsMove Granted same t t' root pin books books' (at (Tail (Insert pair middle leaf)) task) env (at (Tail (UnlockBelow pair)) (with_reply task)) (report_of kind.Write (Some p) 0 true) (Decided (Old None))
+  inserted_by middle leaf held w fits above published others effect absent puts =
+      let off : (o : ℕ) → o ≢ p → (IsIn o (middle ∷ leaf ∷ []) → ⊥) → t' o ≡ t o = λ o far out. others o (λ h. elim h [ inl e ↦ far (sym e) | inr later ↦ out later ]) in
+      let here : t' q ≡ Some held.here.node =
+      off q (λ e. held.over.apart (sym e)) (λ h. published_off t t' q q held.here.node (published q h) held.here.linked refl) ∙ held.here.linked.here in
+      record {
+        facts = record {
+          small = small;
+          at = (
+            decided_open,
+            above_held middle held above,
+            record {
+              node = held.here.node;
+              linked = record { here = here; standing = held.here.linked.standing };
+              word = held.here.word;
+              free = held.here.free;
+              room = held.here.room;
+            },
+            held.over.apart,
+          );
+        };
+        counts = omega (arith, count);
+        others = effect.others;
+        privates = effect.privates;
+        holds = λ s h. elim h [ inl mine ↦ inl (inl mine) | inr none ↦ absurd (not_in false refl none) ];
+        holders = holders_of t t' (both_slots pair) (middle ∷ leaf ∷ []) (p ∷ middle ∷ leaf ∷ []) (p ∷ []) effect.needs
+            (λ s h. elim h [ inl e ↦ inr (inl e) | inr none ↦ absurd none ]) (λ s h. inr h);
+        course = record {
+          touches = λ slot e make. inr (inr (inl (some_same p slot e)));
+          names = λ slot h. inr (inl h);
+          reads = λ slot h. absurd h;
+          outline = refl;
+          keeps = λ current slot word h. absurd (none_some word h);
+          falls = λ served. inr (omega arith);
+        };
+        does = does_above (Tail (Insert pair middle leaf)) (Tail (UnlockBelow pair)) middle held w (later_in p q (p ∷ []) (first_in p [])) (first_in middle (leaf ∷ [])) refl refl fits
+            (shows_above middle (middle ∷ leaf ∷ []) held above published (λ o far out. ap shown (off o far out)));
+        carries = becomes_of Granted same task (Tail (Insert pair middle leaf)) pin None w t t' root books books' placed effect.placed small absent puts entries;
+      }
+
+  published_by : (made : List ℕ) → ((s : ℕ) → IsIn s made → IsPrivate t s) → ((s : ℕ) → IsIn s made → BecomesLinked t t' s) → (s : ℕ) → IsIn s made → IsPublished t t' s
+  published_by made private linked s h =
+      let x = private s h in
+      record { node = x.node; made = x.here; private = x.standing; after = linked s h x.node x.here }
+
+  -- A REPLACE
+  pub copy_moves : (copy : ℕ) (leaf : Option ℕ) (own : AtPair Granted t task pair (is_for leaf)) (has : HasCopy t task own.held.here.node copy leaf)
+      → Fits own.held.above.node.node.form (length own.held.above.node.node.children)
+      → LeadsNow t' p own.held.above.node k copy → t' q ≡ Some (record own.held.here.node { standing = is_detached }) → ((s : ℕ) → IsIn s (copy ∷ one_more leaf) → BecomesLinked t t' s)
+      → OthersStay t t' (p ∷ q ∷ copy ∷ one_more leaf)
+      → IsPlaced t' root × IsMove Granted same t t' root pin books books' (at (Tail (Replace pair copy leaf)) task) env (at (Tail (Obsolete pair)) (with_reply task)) (report_of kind.Write (Some p) 0 true) (Decided (Old None))
+  copy_moves copy None own has fits above here linked others =
+      let mine : ℕ → Type 0 = Holding (Tail (Replace pair copy None)) in
+      let g = grows_leaf Granted t t' root task pair placed small copy own has above here (linked copy (inl refl)) others in
+      let effect = grown_leaf_effect g root placed mine (λ z. z ≤ books.count) (inl (later_in p q (p ∷ []) (first_in p []))) (inl (first_in q (p ∷ []))) (inr (first_in copy [])) in
+      let value : own.work.writes.value ≡ has.own.0 = some_same own.work.writes.value has.own.0 (sym own.work.writes.stores ∙ has.own.1) in (
+        effect.placed,
+        replaced_by copy None own.held own.work.writes fits above here (published_by (copy ∷ []) (copy_private t task own.held.here.node copy None has) linked) others effect
+        (copied_absent Granted t t' root task pair placed small own.held own.work.is.0 own.work.is.2)
+        (subst (λ v. PutsPair t t' (key_of task.outline) v) (sym value) (grown_leaf_puts g root placed)),
+      )
+  copy_moves copy (Some leaf) own has fits above here linked others =
+      let mine : ℕ → Type 0 = Holding (Tail (Replace pair copy (Some leaf))) in
+      let g = grows_inner Granted t t' root task pair placed small copy leaf own has above here (linked copy (inl refl)) (linked leaf (inr (inl refl))) others in
+      let effect = grown_inner_effect g root placed mine (λ z. z ≤ books.count) (inl (later_in p q (p ∷ []) (first_in p []))) (inl (first_in q (p ∷ []))) (inr (first_in copy (leaf ∷ [])))
+          (inr (later_in leaf copy (leaf ∷ []) (first_in leaf []))) in
+      let value : own.work.writes.value ≡ has.own.0.value = some_same own.work.writes.value has.own.0.value (sym own.work.writes.stores ∙ has.own.0.stores) in (
+        effect.placed,
+        replaced_by copy (Some leaf) own.held own.work.writes fits above here (published_by (copy ∷ leaf ∷ []) (copy_private t task own.held.here.node copy (Some leaf) has) linked) others effect
+        (copied_absent Granted t t' root task pair placed small own.held own.work.is.0 own.work.is.2)
+        (subst (λ v. PutsPair t t' (key_of task.outline) v) (sym value) (grown_inner_puts g root placed)),
+      )
+
+  -- AN INSERT of a node between
+  pub middle_moves : (middle leaf : ℕ) (own : AtPair Granted t task pair Split) (has_leaf : HasLeaf t task leaf) (has : HasMiddle t task own.held.here.node q middle leaf)
+      → Fits own.held.above.node.node.form (length own.held.above.node.node.children)
+      → LeadsNow t' p own.held.above.node k middle → ((s : ℕ) → IsIn s (middle ∷ leaf ∷ []) → BecomesLinked t t' s)
+      → OthersStay t t' (p ∷ middle ∷ leaf ∷ [])
+      → IsPlaced t' root × IsMove Granted same t t' root pin books books' (at (Tail (Insert pair middle leaf)) task) env (at (Tail (UnlockBelow pair)) (with_reply task)) (report_of kind.Write (Some p) 0 true) (Decided (Old None))
+  middle_moves middle leaf own has_leaf has fits above linked others =
+      let mine : ℕ → Type 0 = Holding (Tail (Insert pair middle leaf)) in
+      let g = splits Granted t t' root task pair placed small middle leaf own has_leaf has above (linked middle (inl refl)) (linked leaf (inr (inl refl))) others in
+      let effect = split_effect g root placed mine (λ z. z ≤ books.count) (inl (later_in p q (p ∷ []) (first_in p []))) (inr (first_in middle (leaf ∷ [])))
+          (inr (later_in leaf middle (leaf ∷ []) (first_in leaf []))) in
+      let value : own.work.writes.value ≡ has_leaf.value = some_same own.work.writes.value has_leaf.value (sym own.work.writes.stores ∙ has_leaf.stores) in (
+        effect.placed,
+        inserted_by middle leaf own.held own.work.writes fits above (published_by (middle ∷ leaf ∷ []) (middle_private t task q own.held.here.node middle leaf has_leaf has) linked) others effect
+        (split_absent Granted t t' root task pair placed small own.held own.work.is)
+        (subst (λ v. PutsPair t t' (key_of task.outline) v) (sym value) (split_puts g root placed)),
+      )
