@@ -54,11 +54,11 @@ module _ {M : Type 0} (w : World M) (pins : PinsView) (calls : List (ℕ × Opti
   changed_sound Granted sound facts pinned called room before holds small =
       let here = ap record_in places.here in
       let all : (o : ℕ) → SameHeld (record_in (entry_at calls o)) (call_of w o) = λ o.
-          elim (eqb_tells o id) [
-            | inl same ↦ subst (λ z. SameHeld (record_in (entry_at calls z)) (call_of w z)) (sym same.1)
-                (subst (λ (x : Option (Record M)). SameHeld x (call_of w id)) (sym here) holds)
-            | inr off ↦ same_held (record_in (entry_at calls o)) (call_of w o) (ap record_in (places.others o off.1))
-          ] in
+      elim (eqb_tells o id) [
+        | inl same ↦ subst (λ z. SameHeld (record_in (entry_at calls z)) (call_of w z)) (sym same.1)
+            (subst (λ (x : Option (Record M)). SameHeld x (call_of w id)) (sym here) holds)
+        | inr off ↦ same_held (record_in (entry_at calls o)) (call_of w o) (ap record_in (places.others o off.1))
+      ] in
       record {
         placed = subst (λ l. IsPlaced (table_on w.slots l) w.root) (sym seat.slots) sound.placed;
         facts = λ o p r e f. subst (λ l. Facts Granted (table_on w.slots l) w.root p r) (sym seat.slots)

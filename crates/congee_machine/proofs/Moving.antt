@@ -1,5 +1,5 @@
 -- AN EVENT that changes nodes: the inside stays sound by it, and it is a turn of its call.
-use Rattle.std.proofs.Common.{◌≡◌, ◌≢◌, ℕ, ◌+◌, ◌<◌, ◌≤◌, ◌^◌, Bool, List, length, Option, Some, None, IsSome, ◌⊎◌, inl, inr, refl, sym, subst, ap, ◌∙◌, arith}
+use Rattle.std.proofs.Common.{◌≡◌, ◌≢◌, ℕ, ◌<◌, ◌^◌, Bool, List, length, Option, Some, None, IsSome, inl, inr, refl, sym, subst, ap, ◌∙◌, arith}
 use Rattle.std.proofs.lemmas.Bool.Decides.{eqb_tells}
 use Rattle.congee_map.specs.Map.{Pairs, lookup, put, IsMap}
 use Rattle.congee_map.proofs.MapLaws.{Rises-put, lookup-put_same, lookup-put_other, same_from_lookups}
@@ -9,11 +9,11 @@ use Rattle.congee_protocol.specs.State.{State, Flight}
 use Rattle.congee_protocol.specs.declared.types.Env.{Env}
 use Rattle.congee_protocol.specs.declared.types.Outcome.{Outcome}
 use Rattle.congee_protocol.specs.declared.types.Report.{Report}
-use Rattle.congee_sync.specs.Epoch.{entry_at, pin_of, is_seated}
+use Rattle.congee_sync.specs.Epoch.{entry_at, pin_of}
 use Rattle.congee_sync.specs.Lock.{IsFree, IsLocked}
 use Rattle.congee_store.specs.declared.stage.Record.{Record}
 use Rattle.congee_store.specs.inner.Facts.{Facts, Holding, IsSound, AllAdmitted, sizes_of}
-use Rattle.congee_store.specs.inner.Moves.{Books, IsAfter, IsMove, NewlyHeld, WasFree}
+use Rattle.congee_store.specs.inner.Moves.{Books, IsAfter, IsMove, NewlyHeld}
 use Rattle.congee_store.specs.inner.Places.{ChangesPlace}
 use Rattle.congee_store.specs.inner.Shown.{flight, flight_in, seats_on, state_of}
 use Rattle.congee_store.specs.inner.Stocks.{IsNarrow}
@@ -25,7 +25,6 @@ use Rattle.congee_store.proofs.Narrow.{nodes_narrow}
 use Rattle.congee_store.proofs.Options.{none_some, some_same}
 use Rattle.congee_store.proofs.Rely.{facts_last}
 use Rattle.congee_store.proofs.States.{OtherCallsStay, flights_by, flights_map, shown_node, shows, state_is}
-use Rattle.congee_machine.proofs.Changing.{HeldBy, held_record, record_held}
 use Rattle.congee_machine.proofs.Turning.{flown}
 
 private_linked : is_private ≡ is_linked → ⊥

@@ -1,5 +1,5 @@
 -- What an event that writes may rely on, and that the inside stays sound by it.
-use Rattle.std.proofs.Common.{◌≡◌, ◌≢◌, ℕ, ◌+◌, ◌<◌, ◌≤◌, ◌^◌, Bool, List, [], ◌∷◌, length, Option, Some, None, refl, sym, subst, ap, ◌∙◌, arith}
+use Rattle.std.proofs.Common.{◌≡◌, ◌≢◌, ℕ, ◌+◌, ◌<◌, ◌≤◌, ◌^◌, Bool, List, [], ◌∷◌, Option, Some, None, refl, sym, subst, ap, ◌∙◌, arith}
 use Rattle.congee_base.specs.Form.{stated_size}
 use Rattle.congee_map.specs.Map.{Pairs}
 use Rattle.congee_map.proofs.ByteMapLaws.{length-from_Rises}
@@ -17,12 +17,12 @@ use Rattle.congee_store.specs.declared.stage.Stored.{Stored}
 use Rattle.congee_store.specs.declared.stock.Stock.{Stock}
 use Rattle.congee_store.specs.declared.tail.Tail.{Tail as AnyTail}
 use Rattle.congee_store.specs.inner.Facts.{IsSound, sizes_of}
-use Rattle.congee_store.specs.inner.Meant.{meant_calls, meant_record, meant_slots, meant_world}
+use Rattle.congee_store.specs.inner.Meant.{meant_record, meant_slots, meant_world}
 use Rattle.congee_store.specs.inner.Places.{ChangesPlace}
 use Rattle.congee_store.specs.inner.Shown.{held_at, state_of}
 use Rattle.congee_store.specs.inner.Stocks.{IsKept, Moves}
 use Rattle.congee_store.specs.inner.Turns.{IsTurn}
-use Rattle.congee_store.specs.inner.World.{World, Node, call_of, table_of}
+use Rattle.congee_store.specs.inner.World.{World, call_of, table_of}
 use Rattle.congee_store.proofs.States.{meant_call, shows}
 use Rattle.congee_store.proofs.Walked.{placed_content}
 use Rattle.congee_machine.specs.inner.Inside.{inside}

@@ -2,4 +2,5 @@ mod courses;
 mod insertions;
 mod machine;
 mod many_pairs;
+mod refusals;
 mod schedules;

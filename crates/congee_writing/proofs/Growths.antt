@@ -1,21 +1,18 @@
 -- WRITES AT THE PARENT of a call's node, over the table: what the call knows before and what is written there make
 -- a growth of a leaf, a growth of an inner node, or a split.
-use Rattle.std.proofs.Common.{◌≡◌, ◌≢◌, ℕ, ◌+◌, ◌^◌, ◌<◌, ◌≤◌, List, [], ◌∷◌, ◌++◌, length, get_or, take, drop, Option, Some, None, ◌⊎◌, inl, inr, refl, sym, subst, ap, ◌∙◌, arith}
+use Rattle.std.proofs.Common.{◌≡◌, ℕ, ◌^◌, ◌<◌, ◌≤◌, List, [], ◌∷◌, ◌++◌, length, get_or, Option, Some, None, inl, inr, refl, sym, subst, ap, ◌∙◌, arith}
 use Rattle.std.proofs.lemmas.Bool.{cases_lt}
 use Rattle.std.proofs.lemmas.Bool.Decides.{eqb_tells}
-use Rattle.std.proofs.lemmas.List.{take-append-drop}
 use Rattle.congee_node_table.specs.Key.{Begins, next_byte}
 use Rattle.congee_node_table.specs.TableNode.{TableNode}
-use Rattle.congee_node_table.proofs.BeginLaws.{begins_by}
 use Rattle.congee_node_table.specs.declared.child.Child.{Child}
 use Rattle.congee_node_table.specs.declared.child.Child.TheVariants.{Payload, Node as below_at}
-use Rattle.congee_protocol.specs.Calls.{bytes_of, key_of}
-use Rattle.congee_sync.specs.Lock.{IsFree, IsLocked}
-use Rattle.congee_store.specs.declared.stage.Spot.{Spot}
+use Rattle.congee_protocol.specs.Calls.{key_of}
+use Rattle.congee_sync.specs.Lock.{IsFree}
 use Rattle.congee_store.specs.declared.stage.Task.{Task}
 use Rattle.congee_store.specs.declared.tail.Large.TheVariants.{GrowLeaf, GrowInner, Split}
 use Rattle.congee_store.specs.declared.tail.Pair.{Pair}
-use Rattle.congee_store.specs.inner.Tables.{byte_at, IsIn, IsLinked, IsBelow, IsPlaced, Keeps}
+use Rattle.congee_store.specs.inner.Tables.{byte_at, IsIn, IsBelow, IsPlaced, Keeps}
 use Rattle.congee_store.specs.inner.Tails.{one_more}
 use Rattle.congee_store.specs.inner.TailFacts.{IsFork, IsHeld, IsMade, AreHeld, HasLeaf, HasCopy, HasMiddle, AtPair, grown_by, found, leaf_of}
 use Rattle.congee_store.specs.inner.TailFacts as spec
@@ -27,8 +24,9 @@ use Rattle.congee_links.proofs.Effects.{OthersStay}
 use Rattle.congee_links.proofs.Growing.{Swaps, GrowsLeaf, GrowsInner}
 use Rattle.congee_links.proofs.Prefixes.{byte_after, begins_before}
 use Rattle.congee_links.proofs.Splitting.{IsMiddle, middle_of, Splits}
-use Rattle.congee_links.proofs.Writing.{answered, WritesBelow, Publishes, Detaches, IsLeafFor}
+use Rattle.congee_links.proofs.Writing.{answered, WritesBelow}
 use Rattle.congee_writing.proofs.Deciding.{held_locked}
+use Rattle.congee_writing.proofs.Linked.{made_leaf, made_published}
 
 new_free : (word : ℕ) → word ≡ 0 → IsFree word
 new_free word e = omega (arith, e)
@@ -58,24 +56,6 @@ module _ {M : Type 0} where
   -- the parent has another node below
   abbrev pub LeadsNow : Table M → ℕ → Node M → List ℕ → ℕ → Type 0
   LeadsNow t' p a k new = t' p ≡ Some (answered a (byte_at a k) (Some (below_at new)))
-
-  pub publishes : (t t' : Table M) (task : Task M) (slot : ℕ) (leaf : HasLeaf t task slot) → BecomesLinked t t' slot → Publishes t t' slot leaf.made.node
-  publishes t t' task slot leaf after = record {
-    made = leaf.made.here;
-    private = leaf.made.standing;
-    free = new_free leaf.made.node.word leaf.made.word;
-    after = after leaf.made.node leaf.made.here;
-  }
-
-  -- the leaf that a call has made is one for its key
-  pub made_leaf : (t : Table M) (task : Task M) (slot : ℕ) (leaf : HasLeaf t task slot) → IsLeafFor leaf.made.node.node (key_of task.outline) leaf.value
-  made_leaf t task slot leaf =
-      let k = key_bytes task in
-      subst (λ (n : TableNode M). IsLeafFor n (key_of task.outline) leaf.value) (sym leaf.made.is) (record {
-        full = refl;
-        begins = begins_by (take 7 k) (drop 7 k) k (sym (take-append-drop 7 k));
-        children = refl;
-      })
 
   module _ (Granted : Type 0) (t t' : Table M) (root : ℕ) (task : Task M) (pair : Pair) (placed : IsPlaced t root) (small : key_of task.outline < 2 ^ 64) where
     abbrev key : ℕ
@@ -122,9 +102,10 @@ module _ {M : Type 0} where
     pub grows_leaf : (copy : ℕ) (at : AtPair Granted t task pair GrowLeaf) (has : HasCopy t task at.held.here.node copy None)
         → LeadsNow t' p at.held.above.node (key_bytes task) copy → t' q ≡ Some (record at.held.here.node { standing = is_detached }) → BecomesLinked t t' copy
         → OthersStay t t' (p ∷ q ∷ copy ∷ [])
-        → GrowsLeaf t t' p q copy key at.held.above.node at.held.here.node has.made.node has.own.0
+        → GrowsLeaf t t' p q copy key at.held.above.node at.held.here.node has.made.node at.work.writes.value
     grows_leaf copy at has above here linked others = record {
-      swap = subst (λ (c : Child M). Swaps t t' p q copy key at.held.above.node at.held.here.node has.made.node c) has.own.2
+      swap = subst (λ (c : Child M). Swaps t t' p q copy key at.held.above.node at.held.here.node has.made.node c)
+          (has.own.2 ∙ ap Payload (some_same has.own.0 at.work.writes.value (sym has.own.1 ∙ at.work.writes.stores)))
           (swaps copy has.child at.held has.made at.work.is.0 at.work.is.2 above here linked);
       full = at.work.is.1;
       others = others;
@@ -134,13 +115,13 @@ module _ {M : Type 0} where
     pub grows_inner : (copy leaf : ℕ) (at : AtPair Granted t task pair GrowInner) (has : HasCopy t task at.held.here.node copy (Some leaf))
         → LeadsNow t' p at.held.above.node (key_bytes task) copy → t' q ≡ Some (record at.held.here.node { standing = is_detached }) → BecomesLinked t t' copy → BecomesLinked t t' leaf
         → OthersStay t t' (p ∷ q ∷ copy ∷ leaf ∷ [])
-        → GrowsInner t t' p q copy leaf key at.held.above.node at.held.here.node has.made.node has.own.0.made.node has.own.0.value
+        → GrowsInner t t' p q copy leaf key at.held.above.node at.held.here.node has.made.node has.own.0.made.node at.work.writes.value
     grows_inner copy leaf at has above here linked also others = record {
       swap = subst (λ (c : Child M). Swaps t t' p q copy key at.held.above.node at.held.here.node has.made.node c) has.own.1
           (swaps copy has.child at.held has.made at.work.is.0 at.work.is.2 above here linked);
       inner = at.work.is.1;
-      leaf_new = publishes t t' task leaf has.own.0 also;
-      leaf = made_leaf t task leaf has.own.0;
+      leaf_new = made_published t t' task leaf has.own.0 (also has.own.0.made.node has.own.0.made.here);
+      leaf = made_leaf t t' task leaf at.work.writes.value at.work.writes.stores has.own.0;
       others = others;
     }
 
@@ -163,7 +144,7 @@ module _ {M : Type 0} where
     pub splits : (middle leaf : ℕ) (at : AtPair Granted t task pair Split) (own : HasLeaf t task leaf) (has : HasMiddle t task at.held.here.node q middle leaf)
         → LeadsNow t' p at.held.above.node (key_bytes task) middle → BecomesLinked t t' middle → BecomesLinked t t' leaf
         → OthersStay t t' (p ∷ middle ∷ leaf ∷ [])
-        → Splits t t' p q middle leaf key at.held.above.node at.held.here.node has.made.node own.made.node own.value
+        → Splits t t' p q middle leaf key at.held.above.node at.held.here.node has.made.node own.made.node at.work.writes.value
     splits middle leaf at own has above linked also others =
         let b : Node M = at.held.here.node in
         let longer : length at.held.above.node.node.prefix < length has.prefix = forks_below has.prefix at.held has.fork in
@@ -178,8 +159,8 @@ module _ {M : Type 0} where
           middle = subst (λ (n : TableNode M). IsMiddle n b.node key q leaf) (sym has.made.is)
               (middle_of (spec.middle_of has.prefix b q (key_bytes task) leaf) b.node key q leaf (omega (arith, short, has.fork.shorter)) (placed.bytes q b at.held.here.linked)
               has.fork.left has.fork.right has.fork.shorter has.fork.apart refl);
-          leaf_new = publishes t t' task leaf own also;
-          leaf = made_leaf t task leaf own;
+          leaf_new = made_published t t' task leaf own (also own.made.node own.made.here);
+          leaf = made_leaf t t' task leaf at.work.writes.value at.work.writes.stores own;
           small = small;
           others = others;
         }

@@ -5,38 +5,33 @@ use Rattle.std.proofs.lemmas.Bool.Decides.{eqb_tells}
 use Rattle.congee_base.specs.Form.{Fits}
 use Rattle.congee_map.specs.Map.{IsMap, lookup, put}
 use Rattle.congee_map.proofs.ByteMapLaws.{length-put_some}
-use Rattle.congee_node_table.specs.Key.{Begins}
-use Rattle.congee_node_table.specs.declared.child.Child.{Child}
-use Rattle.congee_node_table.specs.declared.child.Child.TheVariants.{Payload, Node as below_at}
+use Rattle.congee_node_table.specs.declared.child.Child.TheVariants.{Node as below_at}
 use Rattle.congee_protocol.specs.Calls.{key_of}
 use Rattle.congee_protocol.specs.Kinds.{DoesAs, report_of}
 use Rattle.congee_protocol.specs.Lists.{is_in}
 use Rattle.congee_protocol.specs.State.{State, Flight, settled}
-use Rattle.congee_protocol.specs.Writing.{changed}
 use Rattle.congee_protocol.specs.declared.types.Env.{Env}
 use Rattle.congee_protocol.specs.declared.types.Kind.TheVariants as kind
 use Rattle.congee_protocol.specs.declared.types.Outcome.TheVariants.{Decided}
 use Rattle.congee_protocol.specs.declared.types.Progress.TheVariants as progress
 use Rattle.congee_protocol.specs.declared.types.Reply.TheVariants.{Old}
-use Rattle.congee_store.specs.declared.stage.Spot.{Spot}
 use Rattle.congee_store.specs.declared.stage.Stage.{Stage}
 use Rattle.congee_store.specs.declared.stage.Stage.TheVariants.{Tail}
 use Rattle.congee_store.specs.declared.stage.Task.{Task}
-use Rattle.congee_store.specs.declared.tail.Large.TheVariants.{GrowLeaf, GrowInner, Split}
+use Rattle.congee_store.specs.declared.tail.Large.TheVariants.{Split}
 use Rattle.congee_store.specs.declared.tail.Pair.{Pair}
 use Rattle.congee_store.specs.declared.tail.Tail.TheVariants.{Replace, Insert, Obsolete, UnlockBelow}
-use Rattle.congee_store.specs.inner.Facts.{Facts, Holding}
+use Rattle.congee_store.specs.inner.Facts.{Holding}
 use Rattle.congee_store.specs.inner.Moves.{Books, IsAfter, IsMove}
-use Rattle.congee_store.specs.inner.Shown.{flight, shown, publicity, held_at, made_at}
+use Rattle.congee_store.specs.inner.Shown.{flight, shown, held_at, made_at}
 use Rattle.congee_store.specs.inner.Tables.{IsIn, IsLinked, IsPlaced, NeedsHolder, byte_at}
 use Rattle.congee_store.specs.inner.TailFacts.{IsHeld, AreHeld, AtPair, HasLeaf, HasCopy, HasMiddle, Writes, is_for}
 use Rattle.congee_store.specs.inner.Tails.{both_slots, one_more}
 use Rattle.congee_store.specs.inner.Tasks.{key_bytes}
 use Rattle.congee_store.specs.inner.Turns.{Shows}
-use Rattle.congee_store.specs.inner.World.{Node, Table, is_private, is_linked, is_detached, entry}
+use Rattle.congee_store.specs.inner.World.{Node, Table, is_private, is_linked, is_detached}
 use Rattle.congee_store.proofs.Options.{none_some, some_same}
 use Rattle.congee_store.proofs.Reaching.{one, seen_at}
-use Rattle.congee_store.proofs.Ways.{longer-begins}
 use Rattle.congee_links.proofs.Effects.{OthersStay, Effect, Beside}
 use Rattle.congee_links.proofs.Growing.{grown_leaf_effect, grown_leaf_puts, grown_inner_effect, grown_inner_puts}
 use Rattle.congee_links.proofs.Pairs.{PutsPair}
@@ -82,10 +77,13 @@ module _ {M : Type 0} where
         | inr e ↦
             elim (needs s need) [
               | inl one ↦ absurd (not_in (is_in s held) e (listed s held (to_held s one)))
-              | inr rest ↦ inr (rest.0, (λ mine. elim mine [
+              | inr rest ↦ inr (
+                rest.0,
+                (λ mine. elim mine [
                   | inl h ↦ not_in (is_in s held) e h
                   | inr h ↦ rest.1 (to_written s (told s made h))
-                ]))
+                ]),
+              )
             ]
       ]
 
@@ -266,23 +264,21 @@ module _ {M : Type 0} (Granted : Type 0) (same : M → M → Bool) (t t' : Table
   copy_moves copy None own has fits above here linked others =
       let mine : ℕ → Type 0 = Holding (Tail (Replace pair copy None)) in
       let g = grows_leaf Granted t t' root task pair placed small copy own has above here (linked copy (inl refl)) others in
-      let effect = grown_leaf_effect g root placed mine (λ z. z ≤ books.count) (inl (later_in p q (p ∷ []) (first_in p []))) (inl (first_in q (p ∷ []))) (inr (first_in copy [])) in
-      let value : own.work.writes.value ≡ has.own.0 = some_same own.work.writes.value has.own.0 (sym own.work.writes.stores ∙ has.own.1) in (
+      let effect = grown_leaf_effect g root placed mine (λ z. z ≤ books.count) (inl (later_in p q (p ∷ []) (first_in p []))) (inl (first_in q (p ∷ []))) (inr (first_in copy [])) in (
         effect.placed,
         replaced_by copy None own.held own.work.writes fits above here (published_by (copy ∷ []) (copy_private t task own.held.here.node copy None has) linked) others effect
-        (copied_absent Granted t t' root task pair placed small own.held own.work.is.0 own.work.is.2)
-        (subst (λ v. PutsPair t t' (key_of task.outline) v) (sym value) (grown_leaf_puts g root placed)),
+            (copied_absent Granted t t' root task pair placed small own.held own.work.is.0 own.work.is.2)
+            (grown_leaf_puts g root placed),
       )
   copy_moves copy (Some leaf) own has fits above here linked others =
       let mine : ℕ → Type 0 = Holding (Tail (Replace pair copy (Some leaf))) in
       let g = grows_inner Granted t t' root task pair placed small copy leaf own has above here (linked copy (inl refl)) (linked leaf (inr (inl refl))) others in
       let effect = grown_inner_effect g root placed mine (λ z. z ≤ books.count) (inl (later_in p q (p ∷ []) (first_in p []))) (inl (first_in q (p ∷ []))) (inr (first_in copy (leaf ∷ [])))
-          (inr (later_in leaf copy (leaf ∷ []) (first_in leaf []))) in
-      let value : own.work.writes.value ≡ has.own.0.value = some_same own.work.writes.value has.own.0.value (sym own.work.writes.stores ∙ has.own.0.stores) in (
+      (inr (later_in leaf copy (leaf ∷ []) (first_in leaf []))) in (
         effect.placed,
         replaced_by copy (Some leaf) own.held own.work.writes fits above here (published_by (copy ∷ leaf ∷ []) (copy_private t task own.held.here.node copy (Some leaf) has) linked) others effect
-        (copied_absent Granted t t' root task pair placed small own.held own.work.is.0 own.work.is.2)
-        (subst (λ v. PutsPair t t' (key_of task.outline) v) (sym value) (grown_inner_puts g root placed)),
+            (copied_absent Granted t t' root task pair placed small own.held own.work.is.0 own.work.is.2)
+            (grown_inner_puts g root placed),
       )
 
   -- AN INSERT of a node between
@@ -295,10 +291,9 @@ module _ {M : Type 0} (Granted : Type 0) (same : M → M → Bool) (t t' : Table
       let mine : ℕ → Type 0 = Holding (Tail (Insert pair middle leaf)) in
       let g = splits Granted t t' root task pair placed small middle leaf own has_leaf has above (linked middle (inl refl)) (linked leaf (inr (inl refl))) others in
       let effect = split_effect g root placed mine (λ z. z ≤ books.count) (inl (later_in p q (p ∷ []) (first_in p []))) (inr (first_in middle (leaf ∷ [])))
-          (inr (later_in leaf middle (leaf ∷ []) (first_in leaf []))) in
-      let value : own.work.writes.value ≡ has_leaf.value = some_same own.work.writes.value has_leaf.value (sym own.work.writes.stores ∙ has_leaf.stores) in (
+      (inr (later_in leaf middle (leaf ∷ []) (first_in leaf []))) in (
         effect.placed,
         inserted_by middle leaf own.held own.work.writes fits above (published_by (middle ∷ leaf ∷ []) (middle_private t task q own.held.here.node middle leaf has_leaf has) linked) others effect
-        (split_absent Granted t t' root task pair placed small own.held own.work.is)
-        (subst (λ v. PutsPair t t' (key_of task.outline) v) (sym value) (split_puts g root placed)),
+            (split_absent Granted t t' root task pair placed small own.held own.work.is)
+            (split_puts g root placed),
       )

@@ -1,23 +1,21 @@
 //! Writes at the parent of the call's node: a larger copy in its place, or a node put between.
 
-ghost use Rattle.std.specs.Prelude.{◌≡◌, ◌≤◌, ◌^◌, ℕ, length, None, Some, IsSome, true, ◌∷◌};
-ghost use Rattle.congee_base.specs.Form.{Fits};
-ghost use Rattle.congee_protocol.specs.Calls.{bytes_of};
-ghost use Rattle.congee_protocol.specs.Kinds.{report_of};
+ghost use Rattle.std.specs.Prelude.{◌≡◌, ◌≤◌, ◌^◌, ℕ, ◌∷◌, Some};
 ghost use Rattle.congee_protocol.specs.declared.types.Env.{Env};
 ghost use Rattle.congee_store.specs.inner.Facts.{sizes_of};
 ghost use Rattle.congee_store.specs.inner.Meant.{meant_table};
 ghost use Rattle.congee_store.specs.inner.Stocks.{IsKept, Knows, Moves};
-ghost use Rattle.congee_store.specs.inner.Tables.{IsIn, byte_at};
+ghost use Rattle.congee_store.specs.inner.Tables.{IsIn};
 ghost use Rattle.congee_store.specs.inner.Tails.{one_more};
 ghost use Rattle.congee_store.specs.inner.World.{Node, is_linked};
 
+use crate::linking::{byte_below, decided};
 use congee_node_table::allocator::Allocator;
 use congee_node_table::child::Child;
 use congee_protocol::payload::HasMeaning;
-use congee_protocol::types::{Asking, Kind, Outcome, Progress, Reply};
-use congee_store::stage::{Record, Stage, Task};
-use congee_store::stepped::{Stepped, node_at, report};
+use congee_protocol::types::Kind;
+use congee_store::stage::{Stage, Task};
+use congee_store::stepped::{Stepped, report};
 use congee_store::stock::Stock;
 use congee_store::store::Store;
 use congee_store::tail::{Pair, Tail};
@@ -35,16 +33,18 @@ pub(crate) fn replace<P: HasMeaning, A: Allocator>(
     requires facts { Knows P.meaning A.charge P.always_shared stock.old pin
         (record { stage = Stage.Tail (Tail.Replace pair copy leaf); task = task }) }
     requires few { stock.old.entries ≤ 2 ^ 64 }
-    ensures moves { (env : Env P) → Moves P.meaning A.charge P.always_shared
-        P.same_meaning stock.old stock.new pin (record { stage = Stage.Tail (Tail.Replace pair copy leaf); task = task }) env
-        result.call result.report result.outcome }
+    ensures moves { (env : Env P) → Moves P.meaning A.charge P.always_shared P.same_meaning
+        stock.old stock.new pin (record { stage = Stage.Tail (Tail.Replace pair copy leaf); task = task })
+        env result.call result.report result.outcome }
 {
-    let byte = byte_below(&stock.store, pair.above.slot, task.outline.key());
+    let slot = pair.above.slot;
+    let byte = byte_below(&stock.store, slot, task.outline.key());
     link_new(&mut stock.store, copy, leaf);
-    stock.store.put_child(pair.above.slot, byte, Child::Node(copy));
+    stock.store.put_child(slot, byte, Child::Node(copy));
     stock.store.detach(pair.here.slot);
     stock.entries += 1;
-    decided(task, Tail::Obsolete(pair), pair.above.slot)
+    let report = report(Kind::Write, slot, 0, true);
+    decided(task, Stage::Tail(Tail::Obsolete(pair)), report, None)
 }
 
 /// Puts the middle node between, which decides the call.
@@ -60,28 +60,17 @@ pub(crate) fn insert<P: HasMeaning, A: Allocator>(
     requires facts { Knows P.meaning A.charge P.always_shared stock.old pin
         (record { stage = Stage.Tail (Tail.Insert pair middle leaf); task = task }) }
     requires few { stock.old.entries ≤ 2 ^ 64 }
-    ensures moves { (env : Env P) → Moves P.meaning A.charge P.always_shared
-        P.same_meaning stock.old stock.new pin (record { stage = Stage.Tail (Tail.Insert pair middle leaf); task = task }) env
-        result.call result.report result.outcome }
+    ensures moves { (env : Env P) → Moves P.meaning A.charge P.always_shared P.same_meaning
+        stock.old stock.new pin (record { stage = Stage.Tail (Tail.Insert pair middle leaf); task = task })
+        env result.call result.report result.outcome }
 {
-    let byte = byte_below(&stock.store, pair.above.slot, task.outline.key());
+    let slot = pair.above.slot;
+    let byte = byte_below(&stock.store, slot, task.outline.key());
     link_new(&mut stock.store, middle, Some(leaf));
-    stock.store.put_child(pair.above.slot, byte, Child::Node(middle));
+    stock.store.put_child(slot, byte, Child::Node(middle));
     stock.entries += 1;
-    decided(task, Tail::UnlockBelow(pair), pair.above.slot)
-}
-
-// The byte under which a key goes on below the node in a slot, whose children fit its form.
-fn byte_below<P: HasMeaning>(store: &Store<P>, slot: usize, key: u64) -> u8
-    requires { IsSome (meant_table P.meaning store.now slot) }
-    ensures byte { (a : Node P.Meaning) → meant_table P.meaning store.now slot ≡ Some a
-        → result ≡ byte_at a (bytes_of key) }
-    ensures fits { (a : Node P.Meaning) → meant_table P.meaning store.now slot ≡ Some a
-        → Fits a.node.form (length a.node.children) }
-{
-    let bytes = key.to_be_bytes();
-    let base = node_at(store, slot).node.base();
-    bytes[base.prefix().len()]
+    let report = report(Kind::Write, slot, 0, true);
+    decided(task, Stage::Tail(Tail::UnlockBelow(pair)), report, None)
 }
 
 // Links the call's new node, and its new leaf where there is one.
@@ -100,47 +89,5 @@ fn link_new<P: HasMeaning>(store: &mut Store<P>, node: usize, leaf: Option<usize
     store.publish(node);
     if let Some(leaf) = leaf {
         store.publish(leaf);
-    }
-}
-
-// A Write in a slot that decides the call, at whose key nothing stood.
-fn decided<P: Drop>(task: Task<P>, next: Tail, slot: usize) -> Stepped<P>
-    ensures { result ≡ record {
-      call = record {
-        stage = Stage.Tail next;
-        task = record task {
-          op = None;
-          spare = None;
-          asking = Asking.Fresh;
-          progress = Progress.Decided;
-        };
-      };
-      report = report_of Kind.Write (Some slot) 0 true;
-      outcome = Outcome.Decided (Reply.Old None);
-    } }
-{
-    let Task {
-        outline,
-        op: _,
-        last,
-        spare: _,
-        asking: _,
-        progress: _,
-    } = task;
-    let task = Task {
-        outline,
-        op: None,
-        last,
-        spare: None,
-        asking: Asking::Fresh,
-        progress: Progress::Decided,
-    };
-    Stepped {
-        call: Record {
-            stage: Stage::Tail(next),
-            task,
-        },
-        report: report(Kind::Write, slot, 0, true),
-        outcome: Outcome::Decided(Reply::Old(None)),
     }
 }

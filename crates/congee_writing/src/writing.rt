@@ -24,7 +24,6 @@ pub fn write_on<P: HasMeaning, A: Allocator>(
     tail: Tail,
     fail: bool,
 ) -> Stepped<P>
-    requires stub { ⊥ }
     requires kept { IsKept P.meaning A.charge stock.old }
     requires facts { Knows P.meaning A.charge P.always_shared stock.old pin
         (record { stage = Stage.Tail tail; task = task }) }

@@ -13,7 +13,7 @@ use std::collections::BTreeMap;
 use std::test::Fail;
 
 // More events than a call takes that is alone.
-const MANY: usize = 41;
+pub(super) const MANY: usize = 41;
 
 fn letter(kind: Kind) -> char {
     match kind {
@@ -43,7 +43,7 @@ fn told(line: &Line) -> Option<char> {
 }
 
 // An event of a number's call, whose Upgrade fails if it is one and is to fail.
-fn step(id: u64, fail: bool) -> Event<u64> {
+pub(super) fn step(id: u64, fail: bool) -> Event<u64> {
     let torn = Seen {
         child: None,
         count: 0,
@@ -60,7 +60,7 @@ fn step(id: u64, fail: bool) -> Event<u64> {
 }
 
 // So many events of a number's call.
-fn push_steps(events: &mut Vec<Event<u64>>, id: u64, steps: usize) -> Result<(), AllocError> {
+pub(super) fn push_steps(events: &mut Vec<Event<u64>>, id: u64, steps: usize) -> Result<(), AllocError> {
     for _ in 0..steps {
         events.push(step(id, false))?;
     }
@@ -68,7 +68,7 @@ fn push_steps(events: &mut Vec<Event<u64>>, id: u64, steps: usize) -> Result<(),
 }
 
 // The start of an insertion, and so many events of it.
-fn push_insert(
+pub(super) fn push_insert(
     events: &mut Vec<Event<u64>>,
     id: u64,
     pair: (u64, u64),
@@ -79,7 +79,7 @@ fn push_insert(
 }
 
 // Insertions of these pairs, one after another.
-fn push_all(events: &mut Vec<Event<u64>>, pairs: &[(u64, u64)]) -> Result<(), AllocError> {
+pub(super) fn push_all(events: &mut Vec<Event<u64>>, pairs: &[(u64, u64)]) -> Result<(), AllocError> {
     for pair in pairs {
         push_insert(events, 0, *pair, MANY)?;
     }
@@ -171,7 +171,7 @@ fn a_prefix_is_split(rt: HostRuntime) -> Result<(), Fail> {
 }
 
 // Four keys of one leaf, and of one inner node.
-fn four(step: u64) -> [(u64, u64); 4] {
+pub(super) fn four(step: u64) -> [(u64, u64); 4] {
     [
         (0, 0),
         (step, 1),
@@ -221,7 +221,7 @@ fn a_refused_node_gives_the_others_back(rt: HostRuntime) -> Result<(), Fail> {
 }
 
 // Whether the replies are those of the map that has the decided insertions one after another, and the content is that map.
-fn is_history(alloc: Global, trace: &Trace) -> Result<bool, AllocError> {
+pub(super) fn is_history(alloc: Global, trace: &Trace) -> Result<bool, AllocError> {
     let mut map = BTreeMap::new(alloc);
     for decision in &trace.decided {
         let (Op::Insert(key, value), Reply::Old(before)) = (&decision.op, &decision.reply) else {

@@ -19,9 +19,15 @@ put_child-requires g c = record {
 pub returns : goal.returns
 returns g c = record {
   moves = λ env.
-      rw c.decided.ensures
-      (inserts g.P.HasMeaning.meaning g.A.Allocator.charge g.P.Payload.always_shared g.P.HasMeaning.same_meaning c.args.stock.now _ c.link_new.new.store c.link_new.new.store c.args.pin c.args.task c.args.pair c.byte_below-byte.result env
-      c.requires.kept refl (c.put_child.ensures.lives ∙ c.link_new.ensures.lives) (c.put_child.ensures.sizes ∙ c.link_new.ensures.sizes) c.link_new.ensures.root refl
-      (subst (λ (k : ℕ). ByteIn g.P.HasMeaning.meaning c.args.stock.now.store c.args.pair.above.slot (bytes_of k) c.byte_below-byte.result) c.key.ensures c.byte_below-byte.ensures.byte)
-      c.byte_below-byte.ensures.fits c.args.middle c.args.leaf c.requires.facts c.link_new.ensures.linked c.link_new.ensures.others c.put_child.ensures.sets);
+      rw (c.decided.ensures, c.report-report.ensures)
+      (inserts g.P.HasMeaning.meaning g.A.Allocator.charge g.P.Payload.always_shared g.P.HasMeaning.same_meaning c.args.stock.now _ c.args.pin c.args.task c.args.pair env c.requires.kept
+      refl (c.put_child.ensures.lives ∙ c.link_new.ensures.lives) (c.put_child.ensures.sizes ∙ c.link_new.ensures.sizes) refl c.byte_below-byte.ensures.within
+      c.link_new.new.store c.args.middle c.args.leaf c.requires.facts (record {
+        byte = c.byte_below-byte.result;
+        is = subst (λ (k : ℕ). ByteIn g.P.HasMeaning.meaning c.args.stock.now.store c.args.pair.above.slot (bytes_of k) c.byte_below-byte.result) c.key.ensures c.byte_below-byte.ensures.byte;
+        links = c.link_new.ensures.linked;
+        others = c.link_new.ensures.others;
+        root = c.link_new.ensures.root;
+        puts = c.put_child.ensures.sets;
+      }));
 }

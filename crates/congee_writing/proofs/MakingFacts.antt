@@ -1,0 +1,136 @@
+-- What a call knows after a Make, and after one that is refused.
+use Rattle.std.proofs.Common.{◌≡◌, ◌≢◌, ℕ, List, Option, Some, None, ◌⊎◌, inr, refl, sym, subst, ap, ◌∙◌}
+use Rattle.congee_node_table.specs.TableNode.{TableNode}
+use Rattle.congee_node_table.specs.declared.child.Child.{Child}
+use Rattle.congee_protocol.specs.declared.types.Progress.TheVariants as progress
+use Rattle.congee_store.specs.declared.stage.Spot.{Spot}
+use Rattle.congee_store.specs.declared.stage.Task.{Task}
+use Rattle.congee_store.specs.declared.tail.Large.{Large}
+use Rattle.congee_store.specs.declared.tail.Large.TheVariants.{Split}
+use Rattle.congee_store.specs.declared.tail.Pair.{Pair}
+use Rattle.congee_store.specs.declared.tail.Small.{Small}
+use Rattle.congee_store.specs.declared.tail.Small.TheVariants.{Leaf}
+use Rattle.congee_store.specs.inner.Slots.{made_node}
+use Rattle.congee_store.specs.inner.Tables.{IsLinked, OnWay}
+use Rattle.congee_store.specs.inner.TailFacts.{AreHeld, AtNode, AtPair, HasCopy, HasLeaf, HasMiddle, HasOwn, IsFork, IsHeld, IsMade, IsOver, grown_by, is_for, leaf_of, middle_of, stores}
+use Rattle.congee_store.specs.inner.Tasks.{key_bytes}
+use Rattle.congee_store.specs.inner.World.{Node, Table, is_linked, is_private}
+use Rattle.congee_store.proofs.Options.{none_some, some_same}
+use Rattle.congee_writing.specs.inner.Makings.{IsGivenUp, gone}
+
+linked_private : is_linked ≡ is_private → ⊥
+linked_private e = cc
+
+refused_open : progress.Refused ≡ progress.Open → ⊥
+refused_open e = cc
+
+module _ {M : Type 0} (t t' : Table M) where
+  -- a slot that has a node isn't the one that gets one
+  pub there_still : (slot s : ℕ) (a : Node M) → t slot ≡ None → ((o : ℕ) → o ≢ slot → t' o ≡ t o) → t s ≡ Some a → t' s ≡ t s
+  there_still slot s a empty others here = others s (λ e. none_some a (sym empty ∙ subst (λ (z : ℕ). t z ≡ Some a) e here))
+
+  -- a linked node isn't given back
+  pub linked_still : (made : Option ℕ) (charge charge' : Option ℕ) (s : ℕ) (a : Node M) → IsGivenUp t t' made charge charge' → IsLinked t s a → t' s ≡ t s
+  linked_still None charge charge' s a up here = up.nodes s
+  linked_still (Some slot) charge charge' s a up linked =
+      up.others s (λ e.
+      let same : a ≡ up.node = some_same a up.node (sym linked.here ∙ subst (λ (z : ℕ). t z ≡ Some up.node) (sym e) up.here) in
+      linked_private (sym linked.standing ∙ (ap (λ (z : Node M). z.standing) same ∙ up.private)))
+
+  abbrev pub held_still : (spot : Spot) → IsHeld t spot → t' spot.slot ≡ t spot.slot → IsHeld t' spot
+  held_still spot h same = record {
+    node = h.node;
+    linked = record { here = same ∙ h.linked.here; standing = h.linked.standing };
+    word = h.word;
+    free = h.free;
+    room = h.room;
+  }
+
+  pub way_still : (s : ℕ) (k : List ℕ) → t' s ≡ t s → OnWay t s k → OnWay t' s k
+  way_still s k same way a here = way a (sym same ∙ here)
+
+  pub leaf_still : (task : Task M) (leaf : ℕ) → HasLeaf t task leaf → t' leaf ≡ t leaf → HasLeaf t' task leaf
+  leaf_still task leaf h same = record {
+    value = h.value;
+    stores = h.stores;
+    made = record { node = h.made.node; here = same ∙ h.made.here; standing = h.made.standing; word = h.made.word; is = h.made.is };
+  }
+
+  abbrev pub pair_still : (pair : Pair) (k : List ℕ) → AreHeld t pair k → t' pair.above.slot ≡ t pair.above.slot → t' pair.here.slot ≡ t pair.here.slot → AreHeld t' pair k
+  pair_still pair k h above here = record {
+    over = record { way = way_still pair.above.slot k above h.over.way; apart = h.over.apart };
+    above = held_still pair.above h.above above;
+    here = held_still pair.here h.here here;
+    leads = h.leads;
+  }
+
+  module _ (Granted : Type 0) (task : Task M) where
+    abbrev pub at_node_still : (spot : Spot) (small : Small) → AtNode Granted t task spot small → t' spot.slot ≡ t spot.slot → AtNode Granted t' task spot small
+    at_node_still spot small at same = record { way = way_still spot.slot (key_bytes task) same at.way; held = held_still spot at.held same; work = at.work }
+
+    abbrev pub at_pair_still : (pair : Pair) (large : Large) → AtPair Granted t task pair large → t' pair.above.slot ≡ t pair.above.slot → t' pair.here.slot ≡ t pair.here.slot → AtPair Granted t' task pair large
+    at_pair_still pair large at above here = record { held = pair_still pair (key_bytes task) at.held above here; work = at.work }
+
+  made_is : (slot : ℕ) (a b : TableNode M) → t' slot ≡ Some (made_node a) → a ≡ b → IsMade t' slot b
+  made_is slot a b here is = record { node = made_node a; here = here; standing = refl; word = refl; is = is }
+
+  -- A NODE HAS COME into a slot that was empty
+  module _ (Granted : Type 0) (task : Task M) (slot : ℕ) (a : TableNode M) (empty : t slot ≡ None) (there : t' slot ≡ Some (made_node a)) (others : (o : ℕ) → o ≢ slot → t' o ≡ t o) where
+    abbrev pub still : (s : ℕ) (b : Node M) → t s ≡ Some b → t' s ≡ t s
+    still s b here = there_still slot s b empty others here
+
+    new_leaf : (v : M) → stores task ≡ Some v → a ≡ leaf_of (key_bytes task) v → HasLeaf t' task slot
+    new_leaf v stores is = record { value = v; stores = stores; made = made_is slot a (leaf_of (key_bytes task) v) there is }
+
+    pub leaf_made : (spot : Spot) (at : AtNode Granted t task spot Leaf) → a ≡ leaf_of (key_bytes task) at.work.writes.value → AtNode Granted t' task spot Leaf × HasLeaf t' task slot
+    leaf_made spot at is = (
+      at_node_still Granted task spot Leaf at (still spot.slot at.held.node at.held.linked.here),
+      new_leaf at.work.writes.value at.work.writes.stores is,
+    )
+
+    abbrev pub pair_on : (pair : Pair) (large : Large) → AtPair Granted t task pair large → AtPair Granted t' task pair large
+    pair_on pair large at =
+        at_pair_still Granted task pair large at (still pair.above.slot at.held.above.node at.held.above.linked.here) (still pair.here.slot at.held.here.node at.held.here.linked.here)
+
+    pub leaf_made_below : (pair : Pair) (large : Large) (at : AtPair Granted t task pair large) → a ≡ leaf_of (key_bytes task) at.work.writes.value → AtPair Granted t' task pair large × HasLeaf t' task slot
+    leaf_made_below pair large at is = (pair_on pair large at, new_leaf at.work.writes.value at.work.writes.stores is)
+
+    leaf_on : (leaf : ℕ) → HasLeaf t task leaf → HasLeaf t' task leaf
+    leaf_on leaf h = leaf_still task leaf h (still leaf h.made.node h.made.here)
+
+    pub middle_made : (pair : Pair) (leaf : ℕ) (at : AtPair Granted t task pair Split) → HasLeaf t task leaf → (prefix : List ℕ) → IsFork prefix at.held.here.node.node.prefix (key_bytes task)
+        → a ≡ middle_of prefix at.held.here.node pair.here.slot (key_bytes task) leaf
+        → (now : AtPair Granted t' task pair Split) × HasLeaf t' task leaf × HasMiddle t' task now.held.here.node pair.here.slot slot leaf
+    middle_made pair leaf at has prefix fork is = (
+      pair_on pair Split at,
+      leaf_on leaf has,
+      record { prefix = prefix; fork = fork; made = made_is slot a (middle_of prefix at.held.here.node pair.here.slot (key_bytes task) leaf) there is },
+    )
+
+    own_on : (leaf : Option ℕ) (child : Child M) → HasOwn t task leaf child → HasOwn t' task leaf child
+    own_on None child own = own
+    own_on (Some leaf) child own = (leaf_on leaf own.0, own.1)
+
+    pub copy_made : (pair : Pair) (leaf : Option ℕ) (at : AtPair Granted t task pair (is_for leaf)) → (child : Child M) → HasOwn t task leaf child
+        → a ≡ grown_by at.held.here.node (key_bytes task) child
+        → (now : AtPair Granted t' task pair (is_for leaf)) × HasCopy t' task now.held.here.node slot leaf
+    copy_made pair leaf at child own is = (
+      pair_on pair (is_for leaf) at,
+      record { child = child; own = own_on leaf child own; made = made_is slot a (grown_by at.held.here.node (key_bytes task) child) there is },
+    )
+
+  -- WHAT WAS MADE HAS GONE: the held nodes stay
+  module _ (Granted : Type 0) (task : Task M) (made charge charge' : Option ℕ) (up : IsGivenUp t t' made charge charge') where
+    pub over : IsOver Granted (gone task)
+    over e = refused_open e
+
+    pub one_left : (spot : Spot) → IsHeld t spot → IsHeld t' spot × (⊥ ⊎ IsOver Granted (gone task))
+    one_left spot h = (held_still spot h (linked_still made charge charge' spot.slot h.node up h.linked), inr over)
+
+    pub both_left : (pair : Pair) (k : List ℕ) → AreHeld t pair k → IsOver Granted (gone task) × IsHeld t' pair.above × IsHeld t' pair.here × (pair.above.slot ≢ pair.here.slot)
+    both_left pair k h = (
+      over,
+      held_still pair.above h.above (linked_still made charge charge' pair.above.slot h.above.node up h.above.linked),
+      held_still pair.here h.here (linked_still made charge charge' pair.here.slot h.here.node up h.here.linked),
+      h.over.apart,
+    )
