@@ -2,3 +2,4 @@ pub mod LaneLaws
 pub mod MarkLaws
 pub mod MoveLaws
 pub mod RowLaws
+pub mod WordLaws

@@ -1,6 +1,7 @@
 //! What all forms of nodes have, the size that each is charged, and the one contract that they meet.
 
-ghost use Rattle.std.specs.Prelude.{◌≡◌, ℕ, ◌+◌, ◌<◌, ◌≤◌, List, [], ◌∷◌, length, IsTrue, false, IsSome, Some, None, option_copied};
+ghost use Rattle.std.specs.Prelude.{◌≡◌, ◌↔◌, ℕ, ◌+◌, ◌<◌, ◌≤◌, List, [], ◌∷◌, length, take, IsTrue, false, IsSome, Some, None, option_copied};
+ghost use Rattle.std.specs.Int.{w64, to_be_bytes};
 ghost use Rattle.congee_map.specs.Map.{lookup, put, without, between, Rises};
 ghost use Rattle.congee_base.specs.Form.{Fits, stated_size};
 ghost use Rattle.congee_base.specs.Rest.{rest};
@@ -61,21 +62,31 @@ impl NodeSize {
 /// The prefix is all key bytes from the root down to the node, seven at most, and never changes.
 #[derive(Drop)]
 pub struct BaseNode {
-    bytes: [u8; 7],
-    length: u8,
+    // the prefix, and its length in the last byte: one word, which `begins` compares
+    bytes: [u8; 8],
     count: u16,
     form: NodeType,
 }
 
 impl Model for BaseNode {
-    ghost use Rattle.std.specs.Prelude.{◌≡◌, ◌≤◌, take};
+    ghost use Rattle.std.specs.Prelude.{◌≡◌, ◌≤◌, take, slice_index};
     ghost use Rattle.congee_base.specs.NodeView.{BaseView};
 
     ghost Value = { BaseView };
 
-    ghost view = { λ n. record { prefix = take n.length n.bytes; count = n.count; form = n.form } };
+    ghost view = { λ n. record { prefix = take (slice_index n.bytes 7) n.bytes; count = n.count; form = n.form } };
 
-    ghost invariant = { λ n. (n.length ≤ 7) × (n.count ≤ 256) };
+    ghost invariant = { λ n. (slice_index n.bytes 7 ≤ 7) × (n.count ≤ 256) };
+}
+
+// Whether the eight bytes and those of the key, most significant first, begin with the same bytes, so many.
+fn begin_alike(bytes: &[u8; 8], length: u8, key: u64) -> bool
+    requires { length ≤ 7 }
+    ensures { IsTrue result ↔ (take length bytes.now ≡ take length (to_be_bytes w64 key)) }
+{
+    // by two shifts, as none can be by all 64 bits
+    let rest = 56 - 8 * length as u32;
+    (u64::from_be_bytes(*bytes) >> 8) >> rest == (key >> 8) >> rest
 }
 
 impl BaseNode {
@@ -84,12 +95,12 @@ impl BaseNode {
         requires { length prefix.now ≤ 7 }
         ensures { result ≡ record { prefix = prefix.now; count = 0; form = form } }
     {
-        let mut bytes = [0u8; 7];
+        let mut bytes = [0u8; 8];
         let length = prefix.len();
         bytes[..length].copy_from_slice(prefix);
+        bytes[7] = length as u8;
         BaseNode {
             bytes,
-            length: length as u8,
             count: 0,
             form,
         }
@@ -100,7 +111,14 @@ impl BaseNode {
         ensures bytes { result.now ≡ self.now.prefix }
         ensures short { length result.now ≤ 7 }
     {
-        &self.bytes[..self.length as usize]
+        &self.bytes[..self.bytes[7] as usize]
+    }
+
+    /// Whether a key of these eight bytes, most significant first, begins with the prefix: one comparison.
+    pub fn begins(&self, key: u64) -> bool
+        ensures { IsTrue result ↔ (take (length self.now.prefix) (to_be_bytes w64 key) ≡ self.now.prefix) }
+    {
+        begin_alike(&self.bytes, self.bytes[7], key)
     }
 
     /// How many children the node has: 0 to 256.

@@ -1,5 +1,7 @@
 -- What it is that a list begins with another.
-use Rattle.std.proofs.Common.{◌≡◌, ◌≢◌, ℕ, true, false, List, [], ◌∷◌, ◌++◌, eqb, refl, ap, sym, subst, ◌∙◌, inl, inr, append-nil}
+use Rattle.std.proofs.Common.{◌≡◌, ◌≢◌, ℕ, true, false, List, [], ◌∷◌, ◌++◌, eqb, refl, ap, sym, subst, ◌∙◌, inl, inr, append-nil, length, take, drop}
+use Rattle.std.proofs.Math.Seq.{take-append_seam}
+use Rattle.std.proofs.lemmas.List.{take-append-drop}
 use Rattle.std.proofs.lemmas.Bool.{eq-eqb, ne_eqb, cases_eq, and_parts, eqb-true}
 use Rattle.congee_node_table.specs.Key.{begins, Begins}
 
@@ -32,6 +34,13 @@ after_true (b ∷ p) (c ∷ q) h =
 
 pub after : {p q : List ℕ} → Begins p q → After p q
 after {p} {q} h = after_true p q h.holds
+
+-- as many bytes of q as p has are p
+pub begins_taken : (p q : List ℕ) → take (length p) q ≡ p → Begins p q
+begins_taken p q e = begins_by p (drop (length p) q) q (sym (take-append-drop (length p) q) ∙ ap (λ t. t ++ drop (length p) q) e)
+
+pub taken : (p q : List ℕ) → Begins p q → take (length p) q ≡ p
+taken p q h = let x = after h in rw x.is (take-append_seam p x.rest)
 
 pub begins_other : (p : List ℕ) (b c : ℕ) (r k : List ℕ) → b ≢ c → begins (p ++ b ∷ r) (p ++ c ∷ k) ≡ false
 begins_other [] b c r k d = rw (ne_eqb b c d) refl

@@ -1,6 +1,7 @@
 //! The path of a key from the root down, which all point calls take.
 
-ghost use Rattle.std.specs.Prelude.{◌≡◌, ◌+◌, ◌≤◌, length, IfSome, IfNone, option_copied};
+ghost use Rattle.std.specs.Prelude.{◌≡◌, ◌+◌, ◌≤◌, length, option_copied};
+ghost use Rattle.std.specs.Int.{w64, to_be_bytes};
 ghost use Rattle.congee_node_table.specs.Key.{Begins, IsFirstDifference};
 ghost use Rattle.congee_paths.specs.Path.{on_path};
 ghost use Rattle.congee_paths.specs.inner.Descent.{Meets, EndsAt};
@@ -35,17 +36,17 @@ pub struct Place<'a, P> {
 }
 
 // The first place at which the prefix and the key differ.
-fn first_difference(prefix: &[u8], key: &[u8; 8]) -> Option<usize>
-    requires { length prefix.now ≤ 7 }
-    ensures some { IfSome result (λ i. IsFirstDifference prefix.now key.now i) }
-    ensures none { IfNone result (Begins prefix.now key.now) }
+fn first_difference(prefix: &[u8], key: &[u8; 8]) -> usize
+    requires short { length prefix.now ≤ 7 }
+    requires differ { Begins prefix.now key.now → ⊥ }
+    ensures { IsFirstDifference prefix.now key.now result }
 {
     for i in 0..prefix.len() {
         if prefix[i] != key[i] {
-            return Some(i);
+            return i;
         }
     }
-    None
+    unreachable!()
 }
 
 /// What a key meets at a node.
@@ -57,14 +58,17 @@ enum Step<'a, P> {
     Stop(End<'a, P>),
 }
 
-// What the key meets at this node.
-fn look<'a, P: Drop>(node: &'a TreeNode<P>, key: &[u8; 8]) -> Step<'a, P>
+// What the key, and its bytes as a word, meet at this node.
+fn look<'a, P: Drop>(node: &'a TreeNode<P>, key: &[u8; 8], word: u64) -> Step<'a, P>
+    requires { to_be_bytes w64 word ≡ key.now }
     ensures { Meets key.now node.now result }
 {
-    let prefix = node.base().prefix();
+    let base = node.base();
+    let prefix = base.prefix();
     let level = prefix.len();
-    if let Some(at) = first_difference(prefix, key) {
-        return Step::Stop(End::Differs(at));
+    // a comparison of words; which byte differs is asked at the end of the path alone
+    if !base.begins(word) {
+        return Step::Stop(End::Differs(first_difference(prefix, key)));
     }
     let byte = key[level];
     match node.get_child(byte) {
@@ -89,12 +93,13 @@ pub fn descend<'a, P: Drop, L: Ledger>(
     let mut slot = root;
     let mut parent = root;
     let mut above = 0;
+    let word = u64::from_be_bytes(*key);
     'down: loop {
         let Some(node) = nodes.get(slot) else {
             unreachable!()
         };
         reads.tick();
-        match look(node, key) {
+        match look(node, key, word) {
             Step::Stop(end) => {
                 return Place {
                     slot,

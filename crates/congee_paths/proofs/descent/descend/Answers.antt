@@ -1,8 +1,13 @@
 use Rattle.std.proofs.Common.{arith, sym}
+use Rattle.std.proofs.lemmas.Nat.{be_bytes_8}
 use Rattle.congee_node_table.proofs.KeyLaws.{AreBytes-from_items}
 use Rattle.congee_paths.proofs.PathEndLaws.{leads_start, leads_step, leads_there}
 use Rattle.congee_paths.proofs.PathLaws.{path_length, path_short}
 use Rattle.congee_paths.proofs.descent.descend.Goals as goal
+
+-- the word has the key's bytes
+pub look-requires : goal.look-requires
+look-requires g c = be_bytes_8 _ _ c.told-key (λ k. c.fits-key k) c.from_be_bytes-word.ensures
 
 pub down-init : goal.down-init
 down-init g c = record { leads = leads_start _ _ _ c.requires; counted = omega arith }

@@ -1,11 +1,23 @@
-use Rattle.std.proofs.Common.{rules}
+use Rattle.std.proofs.Common.{◌≡◌, ◌↔◌, ℕ, Bool, true, false, IsTrue, List, length, take, subst, sym, rules}
+use Rattle.congee_node_table.specs.Key.{Begins}
+use Rattle.congee_node_table.proofs.BeginLaws.{begins_taken, taken}
 use Rattle.congee_paths.proofs.descent.look.Goals as goal
 
+-- what the comparison of words says of the node's prefix
+begun : {b : Bool} (q ks p key : List ℕ) → IsTrue b ↔ (take (length q) ks ≡ q) → q ≡ p → ks ≡ key → b ≡ true → Begins p key
+begun q ks p key h e f t = subst (λ x. Begins x key) e (subst (λ x. Begins q x) f (begins_taken q ks (h.0 t)))
+
+parted : {b : Bool} (q ks key : List ℕ) → IsTrue b ↔ (take (length q) ks ≡ q) → ks ≡ key → b ≡ false → Begins q key → ⊥
+parted {b} q ks key h f t k = let says : b ≡ true = h.1 (taken q ks (subst (λ x. Begins q x) (sym f) k)) in absurd (cc)
+
+pub first_difference-requires-clause-differ : goal.first_difference-requires-clause-differ
+first_difference-requires-clause-differ g c k = parted _ _ _ c.begins.ensures c.requires c.if-not-begins.true (subst (λ x. Begins x c.args.key.now) c.prefix-prefix.ensures.bytes k)
+
 pub returns-in-None : goal.returns-in-None
-returns-in-None g c = search rules
+returns-in-None g c = let here : Begins c.args.node.now.prefix c.args.key.now = begun _ _ _ _ c.begins.ensures c.base-base.ensures.prefix c.requires c.if-not-begins.false in search rules
 
 pub returns-in-Some-Payload : goal.returns-in-Some-Payload
-returns-in-Some-Payload g c = search rules
+returns-in-Some-Payload g c = let here : Begins c.args.node.now.prefix c.args.key.now = begun _ _ _ _ c.begins.ensures c.base-base.ensures.prefix c.requires c.if-not-begins.false in search rules
 
 pub returns-in-Some-Node : goal.returns-in-Some-Node
-returns-in-Some-Node g c = search rules
+returns-in-Some-Node g c = let here : Begins c.args.node.now.prefix c.args.key.now = begun _ _ _ _ c.begins.ensures c.base-base.ensures.prefix c.requires c.if-not-begins.false in search rules
