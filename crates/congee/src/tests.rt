@@ -5,6 +5,7 @@ mod both;
 mod budgets;
 mod computation;
 mod faces;
+mod hostile;
 mod rows;
 mod scans;
 mod shared_values;

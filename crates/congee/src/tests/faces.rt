@@ -16,7 +16,7 @@ use std::test::Fail;
 
 /// Written as its value divided by two; n is read back as 2n.
 #[derive(Clone, Copy, Debug, PartialEq, Eq)]
-struct Half(u64);
+pub(super) struct Half(pub(super) u64);
 
 impl Word for Half {
     ghost number = { λ h. h.0 / 2 };

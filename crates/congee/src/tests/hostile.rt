@@ -1,0 +1,127 @@
+//! Faces under hostile use: conversions that lose something, and the least budgets.
+
+use super::asserts::assert_test;
+use super::faces::Half;
+use crate::{Budget, Congee, DefaultAllocator, OOMError, Word};
+use std::alloc::Global;
+use std::test::Fail;
+
+// Whether values come back as their numbers are read, and out of an exchange as they were handed in.
+fn reads_back(map: &mut Congee<u64, Half>) -> bool {
+    matches!(map.insert(1, Half(7)), Ok(None))
+        && matches!(map.get(&1), Some(Half(6)))
+        && matches!(
+            map.compare_exchange(&1, &Half(6), Some(Half(9))),
+            Ok(Some(Half(9)))
+        )
+        && matches!(map.get(&1), Some(Half(8)))
+        && matches!(map.compare_exchange(&1, &Half(7), None), Err(Some(Half(8))))
+}
+
+fn new_map_reads_back(alloc: Global) -> Result<bool, OOMError> {
+    Ok(reads_back(&mut Congee::new(alloc, DefaultAllocator {})?))
+}
+
+#[test]
+fn halves_are_read_back(rt: HostRuntime) -> Result<(), Fail> {
+    assert_test(&rt, new_map_reads_back(rt.alloc())?, true);
+    Ok(())
+}
+
+/// Each is written as 0.
+#[derive(Clone, Copy)]
+struct Zero(u64);
+
+impl Word for Zero {
+    ghost number = { λ _. 0 };
+
+    ghost of_number = { λ n. record { 0 = n } };
+
+    fn from_u64(n: u64) -> Zero {
+        Zero(n)
+    }
+
+    fn into_u64(self) -> u64 {
+        0
+    }
+}
+
+// How many pairs two ranges hold, one of them the other way round.
+fn in_ranges(map: &Congee<Zero, u64>) -> [usize; 2] {
+    let mut buffer = [(0, 0); 2];
+    let first = map.range(&Zero(0), &Zero(9), &mut buffer);
+    [first, map.range(&Zero(9), &Zero(0), &mut buffer)]
+}
+
+// Whether all keys are one key, which no range holds.
+fn has_one_key(map: &mut Congee<Zero, u64>) -> bool {
+    matches!(map.insert(Zero(1), 10), Ok(None))
+        && matches!(map.insert(Zero(2), 20), Ok(Some(10)))
+        && matches!(map.get(&Zero(3)), Some(20))
+        && matches!(in_ranges(map), [0, 0])
+        && map.value_count() == 1
+}
+
+fn new_map_has_one_key(alloc: Global) -> Result<bool, OOMError> {
+    Ok(has_one_key(&mut Congee::new(alloc, DefaultAllocator {})?))
+}
+
+#[test]
+fn keys_of_one_number_are_one(rt: HostRuntime) -> Result<(), Fail> {
+    assert_test(&rt, new_map_has_one_key(rt.alloc())?, true);
+    Ok(())
+}
+
+type Budgeted = Congee<u64, u64, Budget>;
+
+fn stores_four(map: &mut Budgeted) -> bool {
+    for key in 0..4 {
+        if map.insert(key, key).is_err() {
+            return false;
+        }
+    }
+    true
+}
+
+// Whether a full node takes no fifth key where the budget has no larger one, and takes it in another's place.
+fn takes_a_place(map: &mut Budgeted) -> bool {
+    stores_four(map)
+        && map.insert(4, 4).is_err()
+        && matches!(map.insert(3, 9), Ok(Some(3)))
+        && matches!(map.remove(&0), Some(0))
+        && matches!(map.insert(4, 4), Ok(None))
+        && matches!(map.get(&3), Some(9))
+}
+
+fn takes_a_place_within(alloc: Global, limit: u64) -> Result<bool, OOMError> {
+    Ok(takes_a_place(&mut Congee::new(alloc, Budget::new(limit))?))
+}
+
+#[test]
+fn full_node_takes_a_key_in_anothers_place(rt: HostRuntime) -> Result<(), Fail> {
+    assert_test(&rt, takes_a_place_within(rt.alloc(), 2335)?, true);
+    assert_test(&rt, takes_a_place_within(rt.alloc(), 2336)?, false);
+    Ok(())
+}
+
+// Puts the number of the closure's own calls at key 1. Returns that number, and what stands there then.
+fn numbered(map: &mut Budgeted) -> (u64, Option<u64>) {
+    let mut calls = 0u64;
+    let mut number = |_standing: Option<u64>| -> u64 {
+        calls = calls.wrapping_add(1);
+        calls
+    };
+    let _ = map.compute_or_insert(1, &mut number);
+    (calls, map.get(&1))
+}
+
+fn numbered_within(alloc: Global, limit: u64) -> Result<(u64, Option<u64>), OOMError> {
+    Ok(numbered(&mut Congee::new(alloc, Budget::new(limit))?))
+}
+
+#[test]
+fn closure_counts_its_calls(rt: HostRuntime) -> Result<(), Fail> {
+    assert_eq!(rt; numbered_within(rt.alloc(), 2168)?, (1, Some(1)));
+    assert_eq!(rt; numbered_within(rt.alloc(), 2167)?, (0, None));
+    Ok(())
+}
