@@ -6,6 +6,7 @@ mod budgets;
 mod computation;
 mod faces;
 mod hostile;
+mod leaks;
 mod rows;
 mod scans;
 mod shared_values;

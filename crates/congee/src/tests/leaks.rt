@@ -1,0 +1,221 @@
+//! What maps give back: the sizes of their nodes to an allocator whose count outlives them, and the owners that they hold.
+
+ghost use Rattle.std.specs.Prelude.{None};
+
+use crate::{Allocator, Budget, Congee, CongeeArc, Drainer, NodeSize, OOMError, U64Congee};
+use congee_tree::fresh;
+use congee_tree::tree::RawCongee;
+use std::alloc::Global;
+use std::marker::Brand;
+use std::sync::Arc;
+use std::sync::atomic::{AtomicU64, Ordering};
+use std::sync::ledger::Blank;
+use std::test::Fail;
+
+/// Grants so many requests, and refuses the ones after them. Counts the bytes that are granted and not given back.
+#[derive(Drop)]
+struct Metered<'a> {
+    held: &'a AtomicU64,
+    requests: u64,
+}
+
+impl Allocator for Metered<'_> {
+    ghost charge = { λ _. None };
+
+    fn allocate(&mut self, size: NodeSize) -> Result<(), OOMError> {
+        if self.requests == 0 {
+            return Err(OOMError::new());
+        }
+        self.requests -= 1;
+        self.held.fetch_add(size.bytes(), Ordering::Relaxed);
+        Ok(())
+    }
+
+    fn deallocate(&mut self, size: NodeSize) {
+        self.held.fetch_sub(size.bytes(), Ordering::Relaxed);
+    }
+}
+
+/// Counts the pairs that it is told of.
+#[derive(Drop)]
+struct Tally<'a> {
+    told: &'a AtomicU64,
+}
+
+impl Drainer<u64, u64> for Tally<'_> {
+    ghost can_drain = { λ _. Unit {0} };
+
+    fn drain(&self, _k: u64, _v: u64) {
+        self.told.fetch_add(1, Ordering::Relaxed);
+    }
+}
+
+type MeteredMap<'a> = Congee<u64, u64, Metered<'a>, Tally<'a>>;
+
+// A map over an allocator that grants so many requests; its drainer counts.
+fn map_over<'a>(
+    alloc: Global,
+    held: &'a AtomicU64,
+    told: &'a AtomicU64,
+    requests: u64,
+) -> Result<MeteredMap<'a>, OOMError> {
+    Congee::new_with_drainer(alloc, Metered { held, requests }, Tally { told })
+}
+
+// Stores so many keys of one leaf after another. Returns whether one was refused, after which none is tried.
+fn is_refused(map: &mut MeteredMap<'_>, keys: u64) -> bool {
+    for key in 0..keys {
+        if map.insert(key, key).is_err() {
+            return true;
+        }
+    }
+    false
+}
+
+// Makes a map with so many keys, and drops it, also where it is refused a key. Returns whether it was.
+fn dropped(
+    alloc: Global,
+    held: &AtomicU64,
+    told: &AtomicU64,
+    requests: u64,
+    keys: u64,
+) -> Result<bool, OOMError> {
+    let mut map = map_over(alloc, held, told, requests)?;
+    Ok(is_refused(&mut map, keys))
+}
+
+// The same of a map that is drained. Returns how many pairs the closure is handed.
+fn drained(alloc: Global, held: &AtomicU64, told: &AtomicU64, keys: u64) -> Result<u64, OOMError> {
+    let mut map = map_over(alloc, held, told, 100)?;
+    is_refused(&mut map, keys);
+    let mut count = 0u64;
+    map.drain(&mut |_key: u64, _value: u64| count = count.wrapping_add(1));
+    Ok(count)
+}
+
+// What is still held, and how many pairs were told, after the drop of a map with so many keys.
+fn after_drop(alloc: Global, requests: u64, keys: u64) -> (Option<bool>, u64, u64) {
+    let held = AtomicU64::new(0);
+    let told = AtomicU64::new(0);
+    let refused = dropped(alloc, &held, &told, requests, keys).ok();
+    let left = held.load(Ordering::Relaxed);
+    (refused, left, told.load(Ordering::Relaxed))
+}
+
+// The same after its drain, with how many pairs the closure was handed.
+fn after_drain(alloc: Global, keys: u64) -> (Option<u64>, u64, u64) {
+    let held = AtomicU64::new(0);
+    let told = AtomicU64::new(0);
+    let handed = drained(alloc, &held, &told, keys).ok();
+    let left = held.load(Ordering::Relaxed);
+    (handed, left, told.load(Ordering::Relaxed))
+}
+
+#[test]
+fn drop_gives_sizes_back(rt: HostRuntime) {
+    let rows = [
+        // no pairs, one, and more than any buffer holds
+        (100, 0, (Some(false), 0, 0)),
+        (100, 1, (Some(false), 0, 1)),
+        (100, 2000, (Some(false), 0, 2000)),
+        // the root, the leaf, and its growth refused
+        (0, 1, (None, 0, 0)),
+        (1, 1, (Some(true), 0, 0)),
+        (2, 5, (Some(true), 0, 4)),
+    ];
+    for (requests, keys, wanted) in rows {
+        assert_eq!(rt; after_drop(rt.alloc(), requests, keys), wanted);
+    }
+}
+
+#[test]
+fn drain_gives_sizes_back(rt: HostRuntime) {
+    for keys in [0, 1, 2000] {
+        assert_eq!(rt; after_drain(rt.alloc(), keys), (Some(keys), 0, 0));
+    }
+}
+
+// Drops a map from numbers with these many keys.
+fn numbers_dropped(alloc: Global, held: &AtomicU64, keys: u64) -> Result<(), OOMError> {
+    let mut map: U64Congee<u64, Metered<'_>> = U64Congee::new_in(
+        alloc,
+        Metered {
+            held,
+            requests: 100,
+        },
+    )?;
+    for key in 0..keys {
+        map.insert(key, key)?;
+    }
+    Ok(())
+}
+
+// What is still held then.
+fn held_by_numbers(alloc: Global, keys: u64) -> Option<u64> {
+    let held = AtomicU64::new(0);
+    match numbers_dropped(alloc, &held, keys) {
+        Ok(()) => Some(held.load(Ordering::Relaxed)),
+        Err(_) => None,
+    }
+}
+
+#[test]
+fn map_from_numbers_gives_sizes_back(rt: HostRuntime) {
+    assert_eq!(rt; held_by_numbers(rt.alloc(), 300), Some(0));
+}
+
+// Owners of one value go in and come out again. Returns how many there are beside the first after each step.
+fn owners_within(map: &mut CongeeArc<u64, u64>, owner: &Arc<u64>) -> Result<[usize; 5], OOMError> {
+    for key in 0..300u64 {
+        map.insert(key, owner.clone()?)?;
+    }
+    let filled = Arc::strong_count(owner);
+    map.insert(1, owner.clone()?)?;
+    let replaced = Arc::strong_count(owner);
+    map.remove(2);
+    let removed = Arc::strong_count(owner);
+    map.compute_if_present(3, &mut |_standing: &Arc<u64>| None);
+    let taken = Arc::strong_count(owner);
+    map.get(4);
+    Ok([filled, replaced, removed, taken, Arc::strong_count(owner)])
+}
+
+fn owners_until_dropped(alloc: Global, owner: &Arc<u64>) -> Result<[usize; 5], OOMError> {
+    owners_within(&mut CongeeArc::new(alloc)?, owner)
+}
+
+fn owners(alloc: Global) -> Result<([usize; 5], usize), OOMError> {
+    let owner = Arc::new(alloc, 7u64)?;
+    let counts = owners_until_dropped(alloc, &owner)?;
+    Ok((counts, Arc::strong_count(&owner)))
+}
+
+#[test]
+fn owners_are_given_back(rt: HostRuntime) -> Result<(), Fail> {
+    assert_eq!(rt; owners(rt.alloc())?, ([301, 301, 300, 299, 299], 1));
+    Ok(())
+}
+
+// Hands an owner to a tree whose budget has no leaf for it. Returns whether it was refused.
+fn is_owner_refused(
+    tree: &mut RawCongee<Arc<u64>, Budget>,
+    owner: &Arc<u64>,
+) -> Result<bool, OOMError> {
+    let given = owner.clone()?;
+    let answer = fresh::insert::<Brand, Arc<u64>, Budget>(tree, 1, given, Blank::new(1));
+    Ok(answer.is_err())
+}
+
+// Whether it was, and how many owners there are while the tree stands.
+fn owners_after_refusal(alloc: Global) -> Result<(bool, usize), OOMError> {
+    let owner = Arc::new(alloc, 7u64)?;
+    let mut tree = RawCongee::new(alloc, Budget::new(2104))?;
+    let refused = is_owner_refused(&mut tree, &owner)?;
+    Ok((refused, Arc::strong_count(&owner)))
+}
+
+#[test]
+fn refused_owner_is_dropped(rt: HostRuntime) -> Result<(), Fail> {
+    assert_eq!(rt; owners_after_refusal(rt.alloc())?, (true, 1));
+    Ok(())
+}
