@@ -9,6 +9,7 @@ ghost use Rattle.congee_stats.specs.LevelCounts.{capped};
 ghost use Rattle.congee_map.specs.Refusal.{NeedsNode};
 ghost use Rattle.congee_stats.specs.Stats.{IsTally};
 ghost use Rattle.congee_stats.specs.StatsText.{all_nodes, all_entries};
+ghost use Rattle.congee_stats.specs.Stays.{NoCountStays};
 ghost use Rattle.congee_stats.specs.Visits.{visits_below};
 ghost use Rattle.congee_supply.specs.Charge.{charge_of};
 
@@ -125,8 +126,9 @@ impl<K: Word, V: Word, A: Allocator, D: Drainer<K, V>> Congee<K, V, A, D> {
         ensures levels { IfOk result
             (λ stats. IsTally (visits_below 0 self.now.nodes) stats.levels) }
         ensures pairs { IfOk result (λ stats. stats.kv_pairs ≡ capped (length self.now.pairs)) }
-        ensures entries { length self.now.pairs + length self.now.nodes < 2 ^ 64 → IfOk result
-            (λ stats. all_entries stats.levels + 1 ≡ stats.kv_pairs + all_nodes stats.levels) }
+        ensures entries { IfOk result (λ stats.
+            NoCountStays stats.levels → stats.kv_pairs + 1 < 2 ^ 64
+            → all_entries stats.levels + 1 ≡ stats.kv_pairs + all_nodes stats.levels) }
     {
         self.tree.stats()
     }

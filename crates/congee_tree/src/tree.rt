@@ -16,6 +16,7 @@ ghost use Rattle.congee_changes.specs.Reduce.{Reduces, Recomputes};
 ghost use Rattle.congee_stats.specs.LevelCounts.{capped};
 ghost use Rattle.congee_stats.specs.Stats.{IsTally};
 ghost use Rattle.congee_stats.specs.StatsText.{all_nodes, all_entries};
+ghost use Rattle.congee_stats.specs.Stays.{NoCountStays};
 ghost use Rattle.congee_stats.specs.Visits.{visits_below};
 ghost use Rattle.congee_node_table.specs.Charge.{add_charge};
 ghost use Rattle.congee_supply.specs.Charge.{charge_of};
@@ -260,9 +261,9 @@ impl<P: Payload, A: Allocator> RawCongee<P, A> {
         ensures levels { IfOk result (λ stats.
             IsTally (visits_below 0 self.now.nodes) stats.levels) }
         ensures pairs { IfOk result (λ stats. stats.kv_pairs ≡ capped (length self.now.pairs)) }
-        ensures entries { length self.now.pairs + length self.now.nodes < 2 ^ 64
-            → IfOk result (λ stats.
-            all_entries stats.levels + 1 ≡ stats.kv_pairs + all_nodes stats.levels) }
+        ensures entries { IfOk result (λ stats.
+            NoCountStays stats.levels → stats.kv_pairs + 1 < 2 ^ 64
+            → all_entries stats.levels + 1 ≡ stats.kv_pairs + all_nodes stats.levels) }
     {
         let mut stats = NodeStats::empty(self.supply.memory());
         count_subtree(&self.nodes, self.root, 0, &mut stats)?;

@@ -19,7 +19,8 @@ use Rattle.congee_map.proofs.MapLaws.{Rises-between}
 use Rattle.congee_map.proofs.RangeLaws.{between-all}
 use Rattle.congee_node_table.proofs.NodesLaws.{below, under_begin, all_greater, leaf_nodes, AreUnder-from, AreUnder-append}
 use Rattle.congee_node_table.proofs.TableLaws.{open_subtree}
-use Rattle.congee_stats.proofs.TallySums.{nodes_complete, entries_complete}
+use Rattle.congee_stats.proofs.TallySums.{nodes_told, entries_told}
+use Rattle.congee_stats.specs.Stays.{NoCountStays}
 use Rattle.congee_stats.proofs.VisitLaws.{visits-node, visits-append}
 use Rattle.congee_walks.specs.inner.Count.{AddsVisits, AddsSubtree}
 use Rattle.congee_paths.specs.inner.Root.{depth}
@@ -160,10 +161,10 @@ entries_of_visits above all (n ∷ nodes) =
     ∙ sym (sum_by-cons (λ m. m.count) n nodes)
 
 pub whole_sums : (pairs kv : ℕ) (nodes : List NodeInfo) (levels : List LevelStats) → IsTally (visits_below 0 nodes) levels → sum_by (λ n. n.count) nodes + 1 ≡ pairs + length nodes → kv ≡ capped pairs
-    → pairs + length nodes < 2 ^ 64 → all_entries levels + 1 ≡ kv + all_nodes levels
-whole_sums pairs kv nodes levels tally counted cut few =
+    → NoCountStays levels → kv + 1 < 2 ^ 64 → all_entries levels + 1 ≡ kv + all_nodes levels
+whole_sums pairs kv nodes levels tally counted cut stays few =
     let sum = entries_of_visits 0 nodes nodes in
     let as_many : length (visits_below 0 nodes) ≡ length nodes = length-map nodes (λ n. visit (0 + nodes_above nodes n) n.form n.count) in
-    let entries = entries_complete (visits_below 0 nodes) levels tally (omega (arith, sum, counted, few)) in
-    let all = nodes_complete (visits_below 0 nodes) levels tally (omega (arith, as_many, few)) in
+    let entries = entries_told (visits_below 0 nodes) levels tally stays in
+    let all = nodes_told (visits_below 0 nodes) levels tally stays in
     omega (arith, sum, as_many, entries, all, counted, cut, few)

@@ -17,7 +17,7 @@ pub returns-clause-pairs : goal.returns-clause-pairs
 returns-clause-pairs g c = search rules
 
 pub returns-clause-entries : goal.returns-clause-entries
-returns-clause-entries g c few =
+returns-clause-entries g c stays few =
     let counted = entries_counted c.self.inside.nodes.slots depth [] c.self.inside.root c.self.invariant.0 in
     whole_sums _ _ c.args.self.now.nodes _ (returns-clause-levels g c)
-    (subst (λ (t : Tree g.row.P.Denot g.row.A.Denot). sum_by (λ n. n.count) t.nodes + 1 ≡ length t.pairs + length t.nodes) c.self.view_is counted) (returns-clause-pairs g c) few
+    (subst (λ (t : Tree g.row.P.Denot g.row.A.Denot). sum_by (λ n. n.count) t.nodes + 1 ≡ length t.pairs + length t.nodes) c.self.view_is counted) (returns-clause-pairs g c) stays few
