@@ -11,6 +11,9 @@ use std::process::Abort;
 use std::sync::atomic::{AtomicU64, Ordering};
 use std::test::Fail;
 
+// A call with what it has to return.
+type Row = (Call<u64, u64>, Wanted<'static, u64, u64>);
+
 /// An insertion that takes memory, and the least limit with which it succeeds.
 #[derive(Clone, Copy)]
 struct Least {
@@ -84,17 +87,18 @@ fn least_limit(count: u64, step: u64, key: u64, limit: u64, before: u128, after:
 
 #[test]
 fn least_limits(rt: HostRuntime) -> Result<(), Fail> {
-    let rows = [
-        least_limit(0, 1, 0, 2168, 2104, 2168),
-        least_limit(1, 1, 256, 2296, 2168, 2296),
-        least_limit(4, 1, 4, 2336, 2168, 2272),
-        least_limit(4, 256, 1024, 2656, 2424, 2592),
-        least_limit(16, 1, 16, 2944, 2272, 2776),
-        least_limit(48, 1, 48, 4880, 2776, 4208),
+    const ROWS: [(u64, u64, u64, u64, u128, u128); 6] = [
+        (0, 1, 0, 2168, 2104, 2168),
+        (1, 1, 256, 2296, 2168, 2296),
+        (4, 1, 4, 2336, 2168, 2272),
+        (4, 256, 1024, 2656, 2424, 2592),
+        (16, 1, 16, 2944, 2272, 2776),
+        (48, 1, 48, 4880, 2776, 4208),
     ];
-    for row in &rows {
-        assert_at(&rt, rt.alloc(), row, row.limit, true)?;
-        assert_at(&rt, rt.alloc(), row, row.limit.wrapping_sub(1), false)?;
+    for (count, step, key, limit, before, after) in ROWS {
+        let row = least_limit(count, step, key, limit, before, after);
+        assert_at(&rt, rt.alloc(), &row, limit, true)?;
+        assert_at(&rt, rt.alloc(), &row, limit.wrapping_sub(1), false)?;
     }
     Ok(())
 }
@@ -114,12 +118,12 @@ fn assert_charged(
 #[test]
 fn no_memory_for_a_second_path(rt: HostRuntime) -> Result<(), Fail> {
     let mut map = Congee::new(rt.alloc(), Budget::new(2168))?;
-    let rows = [
+    const ROWS: [Row; 3] = [
         (Call::Insert(0, 100), Wanted::Old(None)),
         (Call::Insert(u64::MAX, 100), Wanted::Refused),
         (Call::Get(0), Wanted::Old(Some(100))),
     ];
-    assert_charged(&rt, rt.alloc(), &mut map, &rows, 2168);
+    assert_charged(&rt, rt.alloc(), &mut map, &ROWS, 2168);
     Ok(())
 }
 
@@ -134,11 +138,11 @@ fn no_memory_for_a_leaf(rt: HostRuntime) -> Result<(), Fail> {
     let answer = map.compute_or_insert(100, &mut note);
     assert_put(&rt, 100, answer, Err(OOMError::new()));
     assert_test(&rt, called, false);
-    let rows = [
+    const ROWS: [Row; 2] = [
         (Call::Insert(100, 100), Wanted::Refused),
         (Call::IsEmpty, Wanted::Tested(true)),
     ];
-    assert_charged(&rt, rt.alloc(), &mut map, &rows, 2104);
+    assert_charged(&rt, rt.alloc(), &mut map, &ROWS, 2104);
     Ok(())
 }
 
@@ -154,36 +158,36 @@ fn no_memory_for_the_root(rt: HostRuntime) {
 #[test]
 fn a_split_needs_two_nodes(rt: HostRuntime) -> Result<(), Fail> {
     let mut map = Congee::new(rt.alloc(), Budget::new(2232))?;
-    let rows = [
+    const REFUSED: [Row; 2] = [
         (Call::Insert(1, 1), Wanted::Old(None)),
         (Call::Insert(256, 2), Wanted::Refused),
     ];
-    assert_charged(&rt, rt.alloc(), &mut map, &rows, 2168);
-    let rows = [
+    assert_charged(&rt, rt.alloc(), &mut map, &REFUSED, 2168);
+    const GRANTED: [Row; 3] = [
         (Call::Get(256), Wanted::Old(None)),
         (Call::Insert(2, 2), Wanted::Old(None)),
         (Call::Insert(72057594037927936, 3), Wanted::Old(None)),
     ];
-    assert_charged(&rt, rt.alloc(), &mut map, &rows, 2232);
+    assert_charged(&rt, rt.alloc(), &mut map, &GRANTED, 2232);
     Ok(())
 }
 
 #[test]
 fn removal_gives_a_leaf_back(rt: HostRuntime) -> Result<(), Fail> {
     let mut map = Congee::new(rt.alloc(), Budget::new(2168))?;
-    let rows = [
+    const REMOVED: [Row; 3] = [
         (Call::Insert(0, 1), Wanted::Old(None)),
         (Call::Insert(1, 2), Wanted::Old(None)),
         (Call::Remove(0), Wanted::Old(Some(1))),
     ];
-    assert_charged(&rt, rt.alloc(), &mut map, &rows, 2168);
-    let rows = [(
+    assert_charged(&rt, rt.alloc(), &mut map, &REMOVED, 2168);
+    const COMPUTED: [Row; 1] = [(
         Call::ComputeIfPresent(1, None),
         Wanted::Computed(Some((2, None))),
     )];
-    assert_charged(&rt, rt.alloc(), &mut map, &rows, 2104);
-    let rows = [(Call::Insert(u64::MAX, 3), Wanted::Old(None))];
-    assert_charged(&rt, rt.alloc(), &mut map, &rows, 2168);
+    assert_charged(&rt, rt.alloc(), &mut map, &COMPUTED, 2104);
+    const INSERTED: [Row; 1] = [(Call::Insert(u64::MAX, 3), Wanted::Old(None))];
+    assert_charged(&rt, rt.alloc(), &mut map, &INSERTED, 2168);
     Ok(())
 }
 
@@ -304,7 +308,7 @@ fn requests_of(
 // Insertions that take each kind of memory, and calls that take none.
 fn assert_requests(rt: &impl Abort, map: &mut CountedMap<'_>, counts: &Counts, computes: bool) {
     // a leaf; none; a split; a leaf in a node with room, which is then full; a leaf and growth; growth of a leaf
-    let rows = [
+    const ROWS: [(u64, u64); 9] = [
         (0, 1),
         (1, 0),
         (256, 2),
@@ -315,7 +319,7 @@ fn assert_requests(rt: &impl Abort, map: &mut CountedMap<'_>, counts: &Counts, c
         (3, 0),
         (4, 1),
     ];
-    for (key, wanted) in rows {
+    for (key, wanted) in ROWS {
         let asked = requests_of(rt, map, counts, key, computes);
         assert_old(rt, key, Some(asked), Some(wanted));
     }
@@ -324,7 +328,7 @@ fn assert_requests(rt: &impl Abort, map: &mut CountedMap<'_>, counts: &Counts, c
 // What takes no memory is never refused.
 fn assert_never_refused(rt: &impl Abort, alloc: Global, map: &mut CountedMap<'_>, counts: &Counts) {
     counts.grant(0);
-    let rows = [
+    const ROWS: [Row; 4] = [
         (Call::Insert(2, 9), Wanted::Old(Some(2))),
         (
             Call::CompareExchange(2, 9, Some(2)),
@@ -336,7 +340,7 @@ fn assert_never_refused(rt: &impl Abort, alloc: Global, map: &mut CountedMap<'_>
         ),
         (Call::Remove(1024), Wanted::Old(Some(1024))),
     ];
-    assert_rows(rt, alloc, map, &rows);
+    assert_rows(rt, alloc, map, &ROWS);
     assert_number(rt, map.charged(), u128::from(counts.charged()));
 }
 

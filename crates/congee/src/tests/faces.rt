@@ -14,6 +14,9 @@ use std::alloc::Global;
 use std::process::Abort;
 use std::test::Fail;
 
+// A call with what it has to return. Rows are constants: where a test makes them, each part of each is dear to prove.
+type Row = (Call<u64, u64>, Wanted<'static, u64, u64>);
+
 /// Written as its value divided by two; n is read back as 2n.
 #[derive(Clone, Copy, Debug, PartialEq, Eq)]
 pub(super) struct Half(pub(super) u64);
@@ -52,7 +55,7 @@ impl Word for Tens {
 
 #[test]
 fn calls_by_numbers(rt: HostRuntime) -> Result<(), Fail> {
-    let rows = [
+    const ROWS: [(U64Call<u64>, Option<u64>); 18] = [
         (U64Call::Insert(1, 42), None),
         (U64Call::Get(1), Some(42)),
         (U64Call::Insert(1, 43), Some(42)),
@@ -73,25 +76,25 @@ fn calls_by_numbers(rt: HostRuntime) -> Result<(), Fail> {
         (U64Call::Insert(7, 72), Some(71)),
         (U64Call::Get(7), Some(72)),
     ];
-    assert_number_run::<u64>(&rt, rt.alloc(), &rows)?;
+    assert_number_run::<u64>(&rt, rt.alloc(), &ROWS)?;
     Ok(())
 }
 
 #[test]
 fn reads_values_back_from_their_numbers(rt: HostRuntime) -> Result<(), Fail> {
-    let rows = [
+    const ROWS: [(U64Call<Half>, Option<Half>); 4] = [
         (U64Call::Insert(1, Half(7)), None),
         (U64Call::Get(1), Some(Half(6))),
         (U64Call::Insert(1, Half(9)), Some(Half(6))),
         (U64Call::Get(1), Some(Half(8))),
     ];
-    assert_number_run::<Half>(&rt, rt.alloc(), &rows)?;
+    assert_number_run::<Half>(&rt, rt.alloc(), &ROWS)?;
     Ok(())
 }
 
 #[test]
 fn several_keys_stand_beside_each_other(rt: HostRuntime) -> Result<(), Fail> {
-    let rows = [
+    const ROWS: [Row; 13] = [
         (Call::Insert(1, 4), Wanted::Old(None)),
         (Call::Insert(2, 7), Wanted::Old(None)),
         (Call::Insert(300, 300 ^ 5), Wanted::Old(None)),
@@ -106,13 +109,13 @@ fn several_keys_stand_beside_each_other(rt: HostRuntime) -> Result<(), Fail> {
         (Call::Get(70_000), Wanted::Old(Some(70_000 ^ 5))),
         (Call::Get(u64::MAX), Wanted::Old(Some(u64::MAX ^ 5))),
     ];
-    assert_run::<u64, u64>(&rt, rt.alloc(), &rows)?;
+    assert_run::<u64, u64>(&rt, rt.alloc(), &ROWS)?;
     Ok(())
 }
 
 #[test]
 fn keys_with_one_number_are_one_key(rt: HostRuntime) -> Result<(), Fail> {
-    let rows = [
+    const ROWS: [(Call<Tens, u64>, Wanted<'static, Tens, u64>); 7] = [
         (Call::Insert(Tens(12), 1), Wanted::Old(None)),
         (Call::Insert(Tens(17), 2), Wanted::Old(Some(1))),
         (Call::Keys, Wanted::Listed(&[Tens(10)])),
@@ -121,13 +124,13 @@ fn keys_with_one_number_are_one_key(rt: HostRuntime) -> Result<(), Fail> {
         (Call::Remove(Tens(10)), Wanted::Old(Some(2))),
         (Call::IsEmpty, Wanted::Tested(true)),
     ];
-    assert_run::<Tens, u64>(&rt, rt.alloc(), &rows)?;
+    assert_run::<Tens, u64>(&rt, rt.alloc(), &ROWS)?;
     Ok(())
 }
 
 #[test]
 fn empty_where_an_emptied_node_stays(rt: HostRuntime) -> Result<(), Fail> {
-    let rows = [
+    const ROWS: [Row; 11] = [
         (Call::IsEmpty, Wanted::Tested(true)),
         (Call::Insert(1, 1), Wanted::Old(None)),
         (Call::Insert(256, 2), Wanted::Old(None)),
@@ -140,13 +143,13 @@ fn empty_where_an_emptied_node_stays(rt: HostRuntime) -> Result<(), Fail> {
         (Call::IsEmpty, Wanted::Tested(true)),
         (Call::Keys, Wanted::Listed(&[])),
     ];
-    assert_run::<u64, u64>(&rt, rt.alloc(), &rows)?;
+    assert_run::<u64, u64>(&rt, rt.alloc(), &ROWS)?;
     Ok(())
 }
 
 #[test]
 fn exchanges_where_the_value_stands(rt: HostRuntime) -> Result<(), Fail> {
-    let rows = [
+    const ROWS: [Row; 8] = [
         (
             Call::CompareExchange(1, 42, Some(43)),
             Wanted::Exchanged(Err(None)),
@@ -168,25 +171,26 @@ fn exchanges_where_the_value_stands(rt: HostRuntime) -> Result<(), Fail> {
         ),
         (Call::Get(1), Wanted::Old(None)),
     ];
-    assert_run::<u64, u64>(&rt, rt.alloc(), &rows)?;
+    assert_run::<u64, u64>(&rt, rt.alloc(), &ROWS)?;
     Ok(())
 }
 
 #[test]
 fn exchange_returns_the_handed_value(rt: HostRuntime) -> Result<(), Fail> {
-    let (old, new) = (Half(6), Some(Half(9)));
-    let rows = [
+    const OLD: Half = Half(6);
+    const NEW: Option<Half> = Some(Half(9));
+    const ROWS: [(Call<u64, Half>, Wanted<'static, u64, Half>); 3] = [
         (Call::Insert(1, Half(7)), Wanted::Old(None)),
         (
-            Call::CompareExchange(1, old, new),
-            Wanted::Exchanged(Ok(new)),
+            Call::CompareExchange(1, OLD, NEW),
+            Wanted::Exchanged(Ok(NEW)),
         ),
         (
-            Call::CompareExchange(1, old, new),
+            Call::CompareExchange(1, OLD, NEW),
             Wanted::Exchanged(Err(Some(Half(8)))),
         ),
     ];
-    assert_run::<u64, Half>(&rt, rt.alloc(), &rows)?;
+    assert_run::<u64, Half>(&rt, rt.alloc(), &ROWS)?;
     Ok(())
 }
 
@@ -213,7 +217,7 @@ fn assert_raised(
 
 #[test]
 fn computes_where_a_key_is_present(rt: HostRuntime) -> Result<(), Fail> {
-    let rows = [
+    const ROWS: [(Option<(u64, Option<u64>)>, Option<u64>); 3] = [
         (Some((u64::MAX - 1, Some(u64::MAX))), Some(u64::MAX)),
         (Some((u64::MAX, None)), None),
         (None, None),
@@ -222,7 +226,7 @@ fn computes_where_a_key_is_present(rt: HostRuntime) -> Result<(), Fail> {
     let mut map: Congee<u64, u64> = Congee::new(rt.alloc(), DefaultAllocator {})?;
     assert_raised(&rt, &mut map, &mut calls, None, None);
     assert_put(&rt, 1, map.insert(1, u64::MAX - 1), Ok(None));
-    for (raised, standing) in rows {
+    for (raised, standing) in ROWS {
         assert_raised(&rt, &mut map, &mut calls, raised, standing);
     }
     assert_number(&rt, u128::from(calls), 2);
@@ -259,7 +263,7 @@ fn assert_first_example(rt: &impl Abort, alloc: Global, map: &mut Congee<u64, u6
     assert_put(rt, 1, begun, Ok(None));
     let raised = map.compute_if_present(&1, &mut |old: u64| old.checked_add(1));
     assert_eq!(rt; raised, Some((41, Some(42))));
-    let rows = [
+    const ROWS: [Row; 3] = [
         (
             Call::CompareExchange(1, 41, Some(43)),
             Wanted::Exchanged(Err(Some(42))),
@@ -270,7 +274,7 @@ fn assert_first_example(rt: &impl Abort, alloc: Global, map: &mut Congee<u64, u6
         ),
         (Call::IsEmpty, Wanted::Tested(true)),
     ];
-    assert_rows(rt, alloc, map, &rows);
+    assert_rows(rt, alloc, map, &ROWS);
 }
 
 #[test]
@@ -282,51 +286,55 @@ fn first_example(rt: HostRuntime) -> Result<(), Fail> {
 
 #[test]
 fn runs_a_list_of_calls(rt: HostRuntime) -> Result<(), Fail> {
-    let (key, other) = (Tens(50), Tens(41));
-    let rows = [
+    const KEY: Tens = Tens(50);
+    const OTHER: Tens = Tens(41);
+    const ROWS: [(Call<Tens, Half>, Wanted<'static, Tens, Half>); 19] = [
         (Call::IsEmpty, Wanted::Tested(true)),
-        (Call::Get(key), Wanted::Old(None)),
-        (Call::Insert(key, Half(3)), Wanted::Old(None)),
-        (Call::Insert(other, Half(1)), Wanted::Old(None)),
+        (Call::Get(KEY), Wanted::Old(None)),
+        (Call::Insert(KEY, Half(3)), Wanted::Old(None)),
+        (Call::Insert(OTHER, Half(1)), Wanted::Old(None)),
         (Call::Insert(Tens(55), Half(5)), Wanted::Old(Some(Half(2)))),
-        (Call::Get(other), Wanted::Old(Some(Half(0)))),
+        (Call::Get(OTHER), Wanted::Old(Some(Half(0)))),
         (
-            Call::CompareExchange(key, Half(9), None),
+            Call::CompareExchange(KEY, Half(9), None),
             Wanted::Exchanged(Err(Some(Half(4)))),
         ),
         (
-            Call::CompareExchange(key, Half(4), Some(Half(7))),
+            Call::CompareExchange(KEY, Half(4), Some(Half(7))),
             Wanted::Exchanged(Ok(Some(Half(7)))),
         ),
         (
-            Call::ComputeIfPresent(key, Some(100)),
+            Call::ComputeIfPresent(KEY, Some(100)),
             Wanted::Computed(Some((3, Some(100)))),
         ),
-        (Call::ComputeOrInsert(key, 6), Wanted::Old(Some(Half(200)))),
+        (Call::ComputeOrInsert(KEY, 6), Wanted::Old(Some(Half(200)))),
         (
             Call::ComputeIfPresent(Tens(0), None),
             Wanted::Computed(None),
         ),
         (
-            Call::ComputeIfPresent(key, None),
+            Call::ComputeIfPresent(KEY, None),
             Wanted::Computed(Some((6, None))),
         ),
-        (Call::ComputeOrInsert(key, 8), Wanted::Old(None)),
-        (Call::Remove(other), Wanted::Old(Some(Half(0)))),
-        (Call::Remove(other), Wanted::Old(None)),
+        (Call::ComputeOrInsert(KEY, 8), Wanted::Old(None)),
+        (Call::Remove(OTHER), Wanted::Old(Some(Half(0)))),
+        (Call::Remove(OTHER), Wanted::Old(None)),
         (Call::IsEmpty, Wanted::Tested(false)),
-        (Call::Insert(other, Half(9)), Wanted::Old(None)),
+        (Call::Insert(OTHER, Half(9)), Wanted::Old(None)),
         (Call::Keys, Wanted::Listed(&[Tens(40), Tens(50)])),
-        (Call::Range(other, Tens(60), 1), Wanted::Ranged(&[(4, 4)])),
+        (Call::Range(OTHER, Tens(60), 1), Wanted::Ranged(&[(4, 4)])),
     ];
-    assert_list::<Tens, Half>(&rt, rt.alloc(), &rows)?;
+    assert_list::<Tens, Half>(&rt, rt.alloc(), &ROWS)?;
     Ok(())
 }
 
 #[test]
 fn runs_a_list_of_calls_by_numbers(rt: HostRuntime) -> Result<(), Fail> {
-    let pairs = [([0, 0, 0, 0, 0, 0, 0, 4], 0), ([0, 0, 0, 0, 0, 0, 0, 5], 4)];
-    let rows = [
+    const PAIRS: [([u8; 8], u64); 2] = [
+        ([0, 0, 0, 0, 0, 0, 0, 4], 0),
+        ([0, 0, 0, 0, 0, 0, 0, 5], 4),
+    ];
+    const ROWS: [(U64Call<Half>, NumberWanted<'static, Half>); 10] = [
         (U64Call::Get(5), NumberWanted::Old(None)),
         (U64Call::Insert(5, Half(3)), NumberWanted::Old(None)),
         (U64Call::Insert(4, Half(1)), NumberWanted::Old(None)),
@@ -339,9 +347,9 @@ fn runs_a_list_of_calls_by_numbers(rt: HostRuntime) -> Result<(), Fail> {
         (U64Call::Get(5), NumberWanted::Old(None)),
         (U64Call::Insert(6, Half(9)), NumberWanted::Old(None)),
         (U64Call::Insert(5, Half(9)), NumberWanted::Old(None)),
-        (U64Call::Range(4, 6, 8), NumberWanted::Ranged(&pairs)),
+        (U64Call::Range(4, 6, 8), NumberWanted::Ranged(&PAIRS)),
     ];
-    assert_number_list::<Half>(&rt, rt.alloc(), &rows)?;
+    assert_number_list::<Half>(&rt, rt.alloc(), &ROWS)?;
     Ok(())
 }
 

@@ -7,60 +7,54 @@ use std::alloc::Global;
 use std::process::Abort;
 use std::test::Fail;
 
-/// The keys of a map, a range of it into a buffer of some size, and how many pairs there are.
-#[derive(Clone, Copy)]
-struct Scan<'a> {
-    keys: &'a [u64],
-    start: u64,
-    end: u64,
-    size: usize,
-    count: usize,
+/// The keys of a map, how many of them are put there, a range of it into a buffer of some size, and how many pairs that is.
+type Scan = ([u64; 3], usize, (u64, u64), usize, usize);
+
+const NEAR: [u64; 3] = [4294967295, 4294967247, 0];
+
+const LOW: u64 = 4294967179;
+
+// Numbers alone: a call for each row would be dear to prove.
+const SCANS: [Scan; 14] = [
+    ([1, 0, 0], 1, (1, 2), 2, 1),
+    ([0, 0, 0], 1, (0, 10), 8, 1),
+    ([5, 0, 0], 1, (0, 5), 8, 0),
+    ([5, 0, 0], 1, (0, 6), 8, 1),
+    ([54227, 0, 0], 1, (0, 0), 255, 0),
+    ([54227, 0, 0], 1, (54227, 54227), 255, 0),
+    ([54227, 0, 0], 1, (54228, 54227), 255, 0),
+    (NEAR, 2, (4294967066, 4294967319), 256, 2),
+    (NEAR, 2, (4294967000, 4294967253), 256, 1),
+    ([u64::MAX, 0, 0], 1, (0, u64::MAX), 8, 0),
+    ([1, 0, 0], 1, (0, 10), 0, 0),
+    ([LOW, 0, 0], 1, (1895772415, 1895772670), 256, 0),
+    ([LOW, 0, 0], 1, (LOW, 4294967434), 256, 1),
+    ([3, 1, 2], 3, (1, 4), 2, 2),
+];
+
+fn assert_scan_of(
+    rt: &impl Abort,
+    alloc: Global,
+    both: &mut Both,
+    scan: &Scan,
+) -> Result<(), OOMError> {
+    let (keys, len, (start, end), size, wanted) = *scan;
+    for key in keys.iter().take(len) {
+        both.insert(rt, *key, key ^ 9);
+    }
+    let count = both.assert_range(rt, alloc, start, end, size)?;
+    assert_number(rt, count as u128, wanted as u128);
+    Ok(())
 }
 
-impl<'a> Scan<'a> {
-    fn new(keys: &'a [u64], start: u64, end: u64, size: usize, count: usize) -> Self {
-        Scan {
-            keys,
-            start,
-            end,
-            size,
-            count,
-        }
-    }
-
-    fn assert(&self, rt: &impl Abort, alloc: Global, both: &mut Both) -> Result<(), OOMError> {
-        for key in self.keys {
-            both.insert(rt, *key, key ^ 9);
-        }
-        let count = both.assert_range(rt, alloc, self.start, self.end, self.size)?;
-        assert_number(rt, count as u128, self.count as u128);
-        Ok(())
-    }
+fn assert_scan(rt: &impl Abort, alloc: Global, scan: &Scan) -> Result<(), OOMError> {
+    assert_scan_of(rt, alloc, &mut Both::new(alloc)?, scan)
 }
 
 #[test]
 fn half_open_ranges(rt: HostRuntime) -> Result<(), Fail> {
-    let near = [4294967295, 4294967247];
-    let low = [4294967179];
-    let scans = [
-        Scan::new(&[1], 1, 2, 2, 1),
-        Scan::new(&[0], 0, 10, 8, 1),
-        Scan::new(&[5], 0, 5, 8, 0),
-        Scan::new(&[5], 0, 6, 8, 1),
-        Scan::new(&[54227], 0, 0, 255, 0),
-        Scan::new(&[54227], 54227, 54227, 255, 0),
-        Scan::new(&[54227], 54228, 54227, 255, 0),
-        Scan::new(&near, 4294967066, 4294967319, 256, 2),
-        Scan::new(&near, 4294967000, 4294967253, 256, 1),
-        Scan::new(&[u64::MAX], 0, u64::MAX, 8, 0),
-        Scan::new(&[1], 0, 10, 0, 0),
-        Scan::new(&low, 1895772415, 1895772670, 256, 0),
-        Scan::new(&low, low[0], 4294967434, 256, 1),
-        Scan::new(&[3, 1, 2], 1, 4, 2, 2),
-    ];
-    for scan in &scans {
-        let mut both = Both::new(rt.alloc())?;
-        scan.assert(&rt, rt.alloc(), &mut both)?;
+    for scan in &SCANS {
+        assert_scan(&rt, rt.alloc(), scan)?;
     }
     Ok(())
 }

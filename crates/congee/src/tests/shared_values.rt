@@ -115,7 +115,7 @@ fn assert_run(rt: &impl Abort, alloc: Global, rows: &[(Said, Wanted)]) -> Result
 
 #[test]
 fn gives_back_what_is_replaced(rt: HostRuntime) -> Result<(), Fail> {
-    let rows = [
+    const ROWS: [(Said, Wanted); 9] = [
         (Said::IsEmpty, Wanted::Tested(true)),
         (Said::Insert(1, "test1"), Wanted::Old(None)),
         (Said::Insert(1, "test2"), Wanted::Old(Some("test1"))),
@@ -126,8 +126,8 @@ fn gives_back_what_is_replaced(rt: HostRuntime) -> Result<(), Fail> {
         (Said::Get(1), Wanted::Seen(None)),
         (Said::Remove(1), Wanted::Old(None)),
     ];
-    assert_run(&rt, rt.alloc(), &rows)?;
-    let rows = [
+    assert_run(&rt, rt.alloc(), &ROWS)?;
+    const CHANGES: [(Said, Wanted); 7] = [
         (Said::Insert(1, "a"), Wanted::Old(None)),
         (Said::Get(1), Wanted::Seen(Some("a"))),
         (Said::Change(1, "b"), Wanted::Old(Some("a"))),
@@ -136,7 +136,7 @@ fn gives_back_what_is_replaced(rt: HostRuntime) -> Result<(), Fail> {
         (Said::Remove(1), Wanted::Old(Some("b"))),
         (Said::IsEmpty, Wanted::Tested(true)),
     ];
-    assert_run(&rt, rt.alloc(), &rows)?;
+    assert_run(&rt, rt.alloc(), &CHANGES)?;
     Ok(())
 }
 

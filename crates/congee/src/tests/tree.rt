@@ -145,7 +145,7 @@ fn splits_at_each_byte_and_grows_through_all_forms(rt: HostRuntime) -> Result<()
 
 #[test]
 fn long_and_short_paths(rt: HostRuntime) -> Result<(), Fail> {
-    let rows = [
+    const ROWS: [(U64Call<u64>, Option<u64>); 7] = [
         (U64Call::Insert(1, 1), None),
         (U64Call::Insert(256, 2), None),
         (U64Call::Insert(u64::MAX, 3), None),
@@ -154,6 +154,6 @@ fn long_and_short_paths(rt: HostRuntime) -> Result<(), Fail> {
         (U64Call::Get(u64::MAX), Some(3)),
         (U64Call::Get(0), None),
     ];
-    assert_number_run::<u64>(&rt, rt.alloc(), &rows)?;
+    assert_number_run::<u64>(&rt, rt.alloc(), &ROWS)?;
     Ok(())
 }
