@@ -129,19 +129,28 @@ pub fn saw<P: Drop>(
     going(task, Stage::Check(path), report)
 }
 
-// What is left of a call that only ends, and the share that was kept for its reply.
-fn ended<P: Drop>(task: Task<P>, progress: Progress) -> (Record<P>, Option<P>)
-    ensures call { result.0 ≡ record {
-      stage = Stage.Finish;
-      task = record task { op = None; spare = None; asking = Asking.Fresh; progress = progress };
+/// An event after which a call without work only unlocks what it holds, and ends.
+pub fn ended<P: Drop>(
+    task: Task<P>,
+    stage: Stage,
+    progress: Progress,
+    report: Report,
+    outcome: Outcome<P>,
+) -> Stepped<P>
+    ensures { result ≡ record {
+      call = record {
+        stage = stage;
+        task = record task { op = None; spare = None; asking = Asking.Fresh; progress = progress };
+      };
+      report = report;
+      outcome = outcome;
     } }
-    ensures spare { result.1 ≡ task.spare }
 {
     let Task {
         outline,
         op: _,
         last,
-        spare,
+        spare: _,
         asking: _,
         progress: _,
     } = task;
@@ -153,11 +162,36 @@ fn ended<P: Drop>(task: Task<P>, progress: Progress) -> (Record<P>, Option<P>)
         asking: Asking::Fresh,
         progress,
     };
-    let call = Record {
-        stage: Stage::Finish,
-        task,
-    };
-    (call, spare)
+    Stepped {
+        call: Record { stage, task },
+        report,
+        outcome,
+    }
+}
+
+/// An event that decides a call: what stood at its key is the reply.
+pub fn decided<P: Drop>(
+    task: Task<P>,
+    stage: Stage,
+    report: Report,
+    before: Option<P>,
+) -> Stepped<P>
+    ensures { result ≡ record {
+      call = record {
+        stage = stage;
+        task = record task {
+          op = None;
+          spare = None;
+          asking = Asking.Fresh;
+          progress = Progress.Decided;
+        };
+      };
+      report = report;
+      outcome = Outcome.Decided (Reply.Old before);
+    } }
+{
+    let outcome = Outcome::Decided(Reply::Old(before));
+    ended(task, stage, Progress::Decided, report, outcome)
 }
 
 /// An event that is refused: the call only ends.
@@ -176,12 +210,8 @@ pub fn refused<P: Drop>(task: Task<P>, report: Report) -> Stepped<P>
       outcome = Outcome.Refused;
     } }
 {
-    let (call, _) = ended(task, Progress::Refused);
-    Stepped {
-        call,
-        report,
-        outcome: Outcome::Refused,
-    }
+    let outcome = Outcome::Refused;
+    ended(task, Stage::Finish, Progress::Refused, report, outcome)
 }
 
 /// An event that decides a Get for whose key nothing stands.
@@ -200,12 +230,7 @@ pub fn decided_absent<P: Drop>(task: Task<P>, report: Report) -> Stepped<P>
       outcome = Outcome.Decided (Reply.Old None);
     } }
 {
-    let (call, _) = ended(task, Progress::Decided);
-    Stepped {
-        call,
-        report,
-        outcome: Outcome::Decided(Reply::Old(None)),
-    }
+    decided(task, Stage::Finish, report, None)
 }
 
 /// An event that decides a Get with the share that its Read kept.
@@ -224,10 +249,7 @@ pub fn decided_present<P: Drop>(task: Task<P>, report: Report) -> Stepped<P>
       outcome = Outcome.Decided (Reply.Old task.spare);
     } }
 {
-    let (call, spare) = ended(task, Progress::Decided);
-    Stepped {
-        call,
-        report,
-        outcome: Outcome::Decided(Reply::Old(spare)),
-    }
+    let mut task = task;
+    let spare = task.spare.take();
+    decided(task, Stage::Finish, report, spare)
 }
