@@ -6,10 +6,7 @@ use Rattle.congee_node_table.proofs.BeginLaws.{after, begins_append}
 use Rattle.congee_node_table.proofs.KeyLaws.{goes_on, key_number_at, key_number-be_bytes, Begins-snoc}
 use Rattle.congee_protocol.specs.Calls.{bytes_of}
 use Rattle.congee_store.proofs.Ways.{length-begins, Begins-both, Begins-trans, get_or-begins}
-
-last-byte : (p : List ℕ) (b : ℕ) → get_or (p ++ b ∷ []) (length p) 0 ≡ b
-last-byte [] b = refl
-last-byte (a ∷ p) b = last-byte p b
+use Rattle.congee_store.proofs.Reaching.{bytes-of_key, key-of_bytes, last-byte}
 
 byte-here : (p : List ℕ) (b : ℕ) (r : List ℕ) → get_or (p ++ b ∷ r) (length p) 0 ≡ b
 byte-here [] b r = refl
@@ -69,15 +66,9 @@ same_beginning p q k b c l =
     let y = after c in
     same-front p q x.rest y.rest (sym x.is ∙ y.is) l
 
--- the bytes of a key, and the key of eight bytes
-pub bytes-of_key : (key : ℕ) → AreBytes (bytes_of key)
-bytes-of_key key = (omega arith, (omega arith, (omega arith, (omega arith, (omega arith, (omega arith, (omega arith, (omega arith, tt))))))))
-
+-- the bytes of a key
 pub length-of_key : (key : ℕ) → length (bytes_of key) ≡ 8
 length-of_key key = refl
-
-pub key-of_bytes : (key : ℕ) → key < 2 ^ 64 → key_number (bytes_of key) ≡ key
-key-of_bytes key small = key_number-be_bytes (bytes_of key) refl ∙ from_be_bytes-to_be_bytes_8 key small
 
 -- the byte of a key is a byte
 pub key_byte : (p : List ℕ) (key : ℕ) → Begins p (bytes_of key) → length p ≤ 7 → next_byte p (bytes_of key) < 256

@@ -4,6 +4,7 @@ use Rattle.congee_sync.specs.Lock.{IsFree, IsLocked, IsObsolete}
 use Rattle.congee_store.specs.inner.World.{is_private, is_linked, is_detached, is_retired, Node, Table}
 use Rattle.congee_store.specs.inner.Tables.{IsSafe, Kept, Remains, NeedsHolder}
 use Rattle.congee_store.proofs.Options.{some_same, none_some}
+use Rattle.congee_store.proofs.Unlike.{linked_private, linked_retired, private_retired, detached_retired}
 use Rattle.congee_links.proofs.Trees.{IsWorded}
 
 pub free_obsolete : (word : ℕ) → IsFree word → IsObsolete word → ⊥
@@ -11,18 +12,6 @@ free_obsolete word free obsolete = omega (arith, free, obsolete)
 
 pub free_locked : (word : ℕ) → IsFree word → IsLocked word → ⊥
 free_locked word free locked = omega (arith, free, locked)
-
-pub linked_private : is_linked ≡ is_private → ⊥
-linked_private e = cc
-
-pub linked_retired : (stamp : Option ℕ) → is_linked ≡ is_retired stamp → ⊥
-linked_retired stamp e = cc
-
-pub private_retired : (stamp : Option ℕ) → is_private ≡ is_retired stamp → ⊥
-private_retired stamp e = cc
-
-pub detached_retired : (stamp : Option ℕ) → is_detached ≡ is_retired stamp → ⊥
-detached_retired stamp e = cc
 
 pub detached_private : is_detached ≡ is_private → ⊥
 detached_private e = cc

@@ -3,9 +3,10 @@ use Rattle.std.proofs.Common.{◌≡◌, ℕ, suc, ◌+◌, ◌≤◌, [], ◌�
 use Rattle.congee_sync.specs.Lock.{IsFree, IsLocked, IsObsolete}
 use Rattle.congee_store.specs.inner.World.{is_private, is_linked, is_detached, is_retired, Node, Table}
 use Rattle.congee_store.specs.inner.Tables.{IsSafe, IsLinked, IsPlaced, NeedsHolder}
+use Rattle.congee_store.proofs.Unlike.{linked_private, linked_retired, detached_retired}
 use Rattle.congee_links.proofs.Effects.{OthersStay, Effect, SameTree, same_tree_effect, same_tree_pairs}
 use Rattle.congee_links.proofs.Pairs.{SamePairs}
-use Rattle.congee_links.proofs.Slots.{changes, worded_here, free_obsolete, unretired, linked_private, linked_retired, detached_private, detached_retired, free_needs, retired_needs}
+use Rattle.congee_links.proofs.Slots.{changes, worded_here, free_obsolete, unretired, detached_private, free_needs, retired_needs}
 use Rattle.congee_links.proofs.Trees.{linked_in, when_linked, placed_worded}
 
 up_two : (word : ℕ) → word ≤ word + 2

@@ -15,11 +15,13 @@ use Rattle.congee_sync.specs.Lock.{IsFree, IsLocked, IsObsolete}
 use Rattle.congee_store.specs.inner.World.{is_private, is_linked, is_detached, Node, Table, entry}
 use Rattle.congee_store.specs.inner.Tables.{IsSafe, byte_at, IsLinked, IsPlaced, NeedsHolder}
 use Rattle.congee_store.proofs.Options.{some_same, none_some}
+use Rattle.congee_store.proofs.Unlike.{linked_private, linked_retired}
+use Rattle.congee_store.proofs.Reaching.{bytes-of_key}
 use Rattle.congee_links.proofs.Below.{ChangesChild}
 use Rattle.congee_links.proofs.Effects.{OthersStay, AllIn, all_in, in_or}
 use Rattle.congee_links.proofs.Pairs.{Elsewhere, OtherPays}
-use Rattle.congee_links.proofs.Prefixes.{key_byte, bytes-of_key}
-use Rattle.congee_links.proofs.Slots.{StepsAt, changes, owned, worded_here, worded_detached, unretired, free_obsolete, free_locked, linked_private, linked_retired, free_needs}
+use Rattle.congee_links.proofs.Prefixes.{key_byte}
+use Rattle.congee_links.proofs.Slots.{StepsAt, changes, owned, worded_here, worded_detached, unretired, free_obsolete, free_locked, free_needs}
 use Rattle.congee_links.proofs.Trees.{Tree, Pays, IsShaped, IsWorded, tree_of, linked_in, when_linked, tree_at, placed_tree, placed_worded}
 use Rattle.congee_links.proofs.TreeLeaves.{HasNoNodes}
 

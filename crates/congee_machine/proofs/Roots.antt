@@ -30,15 +30,10 @@ use Rattle.congee_store.specs.inner.Shown.{shown, state_of}
 use Rattle.congee_store.specs.inner.World.{World, Node, Table, entry, is_linked, is_private, is_retired, node_of}
 use Rattle.congee_store.proofs.Options.{none_some, some_same}
 use Rattle.congee_store.proofs.States.{meant_slot, nodes_rise, shown_node}
+use Rattle.congee_store.proofs.Unlike.{linked_private, linked_retired}
 
 abbrev pub top : {X : Type 0} → Node X
 top = record { word = 0; node = record { form = N256; prefix = []; children = [] }; standing = is_linked }
-
-linked_private : is_linked ≡ is_private → ⊥
-linked_private e = cc
-
-linked_retired : (stamp : Option ℕ) → is_linked ≡ is_retired stamp → ⊥
-linked_retired stamp e = cc
 
 not_odd : let n : ℕ = 0 in n ≡ 1 → ⊥
 not_odd e = absurd (omega arith)

@@ -34,14 +34,13 @@ use Rattle.congee_store.proofs.Contents.{kept_there, none_there}
 use Rattle.congee_store.proofs.Options.{none_some, some_same}
 use Rattle.congee_store.proofs.Reaching.{one, seen_at}
 use Rattle.congee_store.proofs.Ways.{check_absent, check_present, check_below, check_mismatch}
+use Rattle.congee_store.proofs.Unlike.{decided_open}
+use Rattle.congee_store.proofs.Records.{at, restart}
 use Rattle.congee_reading.specs.inner.Found.{IsGet}
 use Rattle.congee_reading.proofs.Courses.{holding_as, still_current, below_other, below_not_root, descends}
 use Rattle.congee_reading.proofs.Events.{Within, check_ok, check_fails, looks_on, get_finds, get_is, get_leads, get_point, get_shares}
 use Rattle.congee_reading.proofs.Spots.{here_known, above_known, step_down}
-use Rattle.congee_reading.proofs.Takes.{at, restart, restarted_fresh}
-
-pub decided_open : progress.Decided ≡ progress.Open → ⊥
-decided_open e = cc
+use Rattle.congee_reading.proofs.Takes.{restarted_fresh}
 
 -- a call that only ends
 abbrev pub decided : {M : Type 0} → Task M → Task M

@@ -14,11 +14,9 @@ use Rattle.congee_store.specs.inner.Turns.{depth_in, IsCurrent, IsUndisturbed}
 use Rattle.congee_store.specs.inner.World.{Node, Table, is_linked, is_retired}
 use Rattle.congee_store.proofs.Options.{some_same}
 use Rattle.congee_store.proofs.Ways.{known_linked, longer-begins}
-use Rattle.congee_reading.proofs.Events.{Within, false_true}
+use Rattle.congee_store.proofs.Unlike.{linked_retired, false_true}
+use Rattle.congee_reading.proofs.Events.{Within}
 use Rattle.congee_reading.proofs.Spots.{here_known, put_known}
-
-linked_retired : (stamp : Option ℕ) → is_linked ≡ is_retired stamp → ⊥
-linked_retired stamp e = cc
 
 neither : (word : ℕ) → (IsLocked word → ⊥) → (IsObsolete word → ⊥) → IsFree word
 neither word locked obsolete =

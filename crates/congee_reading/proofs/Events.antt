@@ -25,12 +25,7 @@ use Rattle.congee_protocol.specs.declared.types.Seen.{Seen}
 use Rattle.congee_sync.specs.Lock.{IsFree}
 use Rattle.congee_reading.specs.inner.Found.{IsGet}
 use Rattle.congee_store.proofs.Options.{none_some}
-
-pub false_true : false ≡ true → ⊥
-false_true e = cc
-
-true_false : true ≡ false → ⊥
-true_false e = cc
+use Rattle.congee_store.proofs.Unlike.{false_true, true_false}
 
 pub test_false : (b : Bool) → b ≡ false → b ≡ true → ⊥
 test_false b e f = cc

@@ -50,17 +50,18 @@ use Rattle.congee_store.proofs.Contents.{kept_there}
 use Rattle.congee_store.proofs.Options.{none_some, some_same}
 use Rattle.congee_store.proofs.Reaching.{lookup-inside, one, seen_at}
 use Rattle.congee_store.proofs.Ways.{check_present, known_linked}
+use Rattle.congee_store.proofs.Unlike.{decided_open}
+use Rattle.congee_store.proofs.Records.{at}
 use Rattle.congee_reading.specs.declared.inserting.Choice.{Choice}
 use Rattle.congee_reading.specs.declared.inserting.Choice.TheVariants as choice
 use Rattle.congee_reading.specs.inner.Chosen.{IsChosen, handed, under}
 use Rattle.congee_reading.specs.inner.Found.{IsInsert}
-use Rattle.congee_reading.proofs.Checks.{child_point, seen_exact, decided, decided_open, goes, check_goes_down}
+use Rattle.congee_reading.proofs.Checks.{child_point, seen_exact, decided, goes, check_goes_down}
 use Rattle.congee_reading.proofs.Courses.{descends}
 use Rattle.congee_reading.proofs.Events.{check_ok, test_false}
 use Rattle.congee_reading.proofs.Findings.{insert_point}
 use Rattle.congee_reading.proofs.Looks.{child_means, length-meant}
 use Rattle.congee_reading.proofs.Spots.{above_known, here_known, step_down}
-use Rattle.congee_reading.proofs.Takes.{at}
 
 module _ {M : Type 0} where
   -- an Insert has the payload that it stores

@@ -31,15 +31,13 @@ use Rattle.congee_store.specs.inner.Turns.{IsRead}
 use Rattle.congee_store.specs.inner.World.{Node, Table}
 use Rattle.congee_store.proofs.Options.{none_some, some_same}
 use Rattle.congee_store.proofs.Reaching.{one, seen_at}
+use Rattle.congee_store.proofs.Unlike.{refused_open}
+use Rattle.congee_store.proofs.Records.{at}
 use Rattle.congee_reading.specs.inner.Looked.{HasPayload, IsFull, IsLooking, IsUnseen, IsWholeRead, SeesAll, refused}
 use Rattle.congee_reading.proofs.Checks.{child_point}
 use Rattle.congee_reading.proofs.Courses.{still_current}
 use Rattle.congee_reading.proofs.Events.{read_whole, read_torn, read_refused}
 use Rattle.congee_reading.proofs.Spots.{here_known}
-use Rattle.congee_reading.proofs.Takes.{at}
-
-refused_open : progress.Refused ≡ progress.Open → ⊥
-refused_open e = cc
 
 lookup-mapped : {C D : Type 0} (f : C → D) (es : List (ℕ × C)) (k : ℕ) → lookup (mapped f es) k ≡ in_some f (lookup es k)
 lookup-mapped f [] k = refl

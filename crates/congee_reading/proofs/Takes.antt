@@ -25,15 +25,9 @@ use Rattle.congee_store.specs.inner.Turns.{IsCurrent, IsRead, Shows}
 use Rattle.congee_store.specs.inner.World.{Node, Standing, Table, is_linked}
 use Rattle.congee_store.proofs.Options.{none_some, some_same}
 use Rattle.congee_store.proofs.Reaching.{one, seen_at}
+use Rattle.congee_store.proofs.Records.{at, restart}
 use Rattle.congee_reading.proofs.Courses.{NoneHeld, none_held, holding_as, taken_current, root_free, below_free}
 use Rattle.congee_reading.proofs.Events.{take_ok, take_fails}
-
--- a call at a stage, and what is left of it when it goes back to the root
-abbrev pub at : {M : Type 0} → Stage → Task M → Record M
-at stage task = record { stage = stage; task = task }
-
-abbrev pub restart : {M : Type 0} → Task M → Task M
-restart task = record task { last = None; spare = None; asking = Fresh }
 
 abbrev pub top_path : ℕ → ℕ → Path
 top_path root word = record { above = None; here = record { slot = root; word = word } }

@@ -15,13 +15,14 @@ use crate::looking::child_at;
 use congee_node_table::child::ChildRef;
 use congee_node_table::tree_node::TreeNode;
 use congee_protocol::payload::HasMeaning;
-use congee_protocol::types::{Asking, Kind, Op, Outcome, Progress, Reply, Report};
-use congee_store::stage::{Path, Record, Stage, Task};
-use congee_store::stepped::{Stepped, going, node_at, report};
+use congee_protocol::types::{Kind, Op, Report};
+use congee_store::stage::{Path, Stage, Task};
+use congee_store::stepped::{Stepped, decided, going, node_at, report};
 use congee_store::store::Store;
 use congee_store::tail::{Large, Pair, Small, Tail};
 
-/// Check of the current node by an Insert: it goes down, it has to write, or the same payload stands there already.
+/// Check of the current node by an Insert: it goes down, it has to write, or the same payload stands
+/// there already.
 pub(crate) fn insert_here<P: HasMeaning>(
     store: &Store<P>,
     pin: u64,
@@ -74,6 +75,7 @@ enum Choice {
     Large(Large),
 }
 
+// What an Insert does next, by what stands under its key's byte and by the node's room.
 fn chosen<P: HasMeaning>(node: &TreeNode<P>, task: &Task<P>) -> Choice
     requires { Begins node.now.prefix (key_bytes task.now) }
     ensures { IsChosen node.now (key_bytes task.now) task.now.op result }
@@ -140,29 +142,7 @@ fn decided_standing<P: Drop>(task: Task<P>, report: Report) -> Stepped<P>
       outcome = Outcome.Decided (Reply.Old (handed task.op));
     } }
 {
-    let Task {
-        outline,
-        op,
-        last,
-        spare: _,
-        asking: _,
-        progress: _,
-    } = task;
-    let standing = payload_of(op);
-    let task = Task {
-        outline,
-        op: None,
-        last,
-        spare: None,
-        asking: Asking::Fresh,
-        progress: Progress::Decided,
-    };
-    Stepped {
-        call: Record {
-            stage: Stage::Finish,
-            task,
-        },
-        report,
-        outcome: Outcome::Decided(Reply::Old(standing)),
-    }
+    let mut task = task;
+    let standing = payload_of(task.op.take());
+    decided(task, Stage::Finish, report, standing)
 }

@@ -46,6 +46,7 @@ use Rattle.congee_replay.proofs.Flying.{in_flight, small_at}
 use Rattle.congee_replay.proofs.Playing.{sound_next}
 use Rattle.congee_store.proofs.Reaching.{lookup-inside}
 use Rattle.congee_store.proofs.Options.{none_some, some_same}
+use Rattle.congee_store.proofs.Unlike.{false_true}
 
 -- a child that a Read finds stands under some byte
 first_entry : {C : Type 0} (a b byte : ℕ) (es : List (ℕ × C)) (c : C) → Rises a b es → first_from byte es ≡ Some c → (x : ℕ) × (lookup es x ≡ Some c)
@@ -326,11 +327,8 @@ abbrev is_make : Kind → Bool
 is_make kind.Make = true
 is_make _ = false
 
-true_false : false ≡ true → ⊥
-true_false e = cc
-
 not_make : (k : Kind) → is_make k ≡ false → k ≢ kind.Make
-not_make k e is = true_false (sym e ∙ ap is_make is)
+not_make k e is = false_true (sym e ∙ ap is_make is)
 
 may_touch : (root id : ℕ) (past : List Entry) (done : Kind) (slot : Option ℕ) → (done ≢ kind.Make → (s : ℕ) → slot ≡ Some s → Told root past id s) → MayTouch root id past done slot
 may_touch root id past kind.Start None known = tt

@@ -6,11 +6,13 @@ pub mod Holding
 pub mod Narrow
 pub mod Options
 pub mod Reaching
+pub mod Records
 pub mod Rely
 pub mod Seats
 pub mod Sizes
 pub mod Slots
 pub mod States
+pub mod Unlike
 pub mod Ways
 pub mod WalkLaws
 pub mod Walked

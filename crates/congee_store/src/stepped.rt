@@ -1,4 +1,4 @@
-//! A call after an event.
+//! A call after an event: it goes on, goes back to the root, or has no work left.
 
 ghost use Rattle.std.specs.Prelude.{◌≡◌, ◌↔◌, IsTrue, Some, None, IsSome};
 ghost use Rattle.congee_protocol.specs.Kinds.{report_of};

@@ -66,7 +66,8 @@ impl<P: HasMeaning> Store<P> {
     pub fn detach(&mut self, slot: usize)
         requires at { (a : Node P.Meaning) × (meant_table P.meaning self.old slot ≡ Some a) }
         ensures sets { (a : Node P.Meaning) → meant_table P.meaning self.old slot ≡ Some a
-            → SetsNode P.meaning self.old self.new slot (Some (record a { standing = is_detached })) }
+            → SetsNode P.meaning self.old self.new slot
+            (Some (record a { standing = is_detached })) }
         ensures sizes { sizes_of self.new.nodes.slots ≡ sizes_of self.old.nodes.slots }
         ensures lives { self.new.pins ≡ self.old.pins }
     {
@@ -82,9 +83,11 @@ impl<P: HasMeaning> Store<P> {
             × MayHave a.node.prefix (child_of P.meaning child)
             × (lookup a.node.children byte ≡ None → Fits a.node.form (length a.node.children + 1)) }
         ensures sets { (a : Node P.Meaning) → meant_table P.meaning self.old slot ≡ Some a
-            → SetsNode P.meaning self.old self.new slot (Some (record a { node = record a.node {
-              children = put a.node.children byte (child_of P.meaning child);
-            } })) }
+            → SetsNode P.meaning self.old self.new slot (Some (record a {
+              node = record a.node {
+                children = put a.node.children byte (child_of P.meaning child);
+              };
+            })) }
         ensures before { (a : Node P.Meaning) → meant_table P.meaning self.old slot ≡ Some a
             → in_some (child_of P.meaning) result ≡ entry a byte }
         ensures sizes { sizes_of self.new.nodes.slots ≡ sizes_of self.old.nodes.slots }
@@ -116,11 +119,13 @@ impl<P: HasMeaning> Store<P> {
         self.nodes.reserve(1)?;
         let slot = self.nodes.vacant_key();
         self.pins.admit(slot)?;
-        Ok(self.nodes.insert_reserved(Stored {
-            word: Word64::from_number(0),
-            place: Place::Private,
-            node,
-        }))
+        Ok(
+            self.nodes.insert_reserved(Stored {
+                word: Word64::from_number(0),
+                place: Place::Private,
+                node,
+            }),
+        )
     }
 
     /// Takes a private node back, whose slot is free then.

@@ -1,4 +1,5 @@
-//! What a call does once its Check has found that it has to write: the tails of the protocol, event by event.
+//! What a call does once its Check has found that it has to write: the tails of the protocol, event
+//! by event.
 //!
 //! | The case at the node | Events |
 //! |---|---|
@@ -8,7 +9,8 @@
 //! | a full inner node | `UpgradeAbove`, `UpgradeBelow`, `MakeLeafBelow`, `Grow`, `Replace`, `Obsolete`, `Unlock` |
 //! | a prefix that leaves the key | `UpgradeAbove`, `UpgradeBelow`, `MakeLeafBelow`, `MakeMiddle`, `Insert`, `UnlockBelow`, `Unlock` |
 //!
-//! After the last `Unlock` the call ends; where the second upgrade has failed, it goes back to the root.
+//! After the last `Unlock` the call ends; where the second upgrade has failed, it goes back to the
+//! root.
 
 use crate::stage::{Path, Spot};
 

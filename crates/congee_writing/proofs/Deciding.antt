@@ -41,15 +41,11 @@ use Rattle.congee_sync.specs.Lock.{IsFree, IsLocked}
 use Rattle.congee_store.proofs.Contents.{kept_there, none_there}
 use Rattle.congee_store.proofs.Options.{some_same}
 use Rattle.congee_store.proofs.Reaching.{one, seen_at, lookup-inside}
+use Rattle.congee_store.proofs.Unlike.{false_true}
+use Rattle.congee_store.proofs.Records.{at}
 use Rattle.congee_links.proofs.Contents.{content_put}
 use Rattle.congee_links.proofs.Pairs.{PutsPair}
 use Rattle.congee_writing.proofs.Showing.{Among, lookup-linked, nodes_are, published_there, Rises-linked}
-
-pub decided_open : progress.Decided ≡ progress.Open → ⊥
-decided_open e = cc
-
-false_true : false ≡ true → ⊥
-false_true e = cc
 
 true_or_false : (b : Bool) → (b ≡ true) ⊎ (b ≡ false)
 true_or_false true = inl refl
@@ -72,10 +68,7 @@ told s (x ∷ slots) h =
       | inr far ↦ inr (told s slots (subst (λ b. IsTrue (b || is_in s slots)) far.0 h))
     ]
 
--- a call at a stage, and what is left of it once it has its reply
-abbrev pub at : {M : Type 0} → Stage → Task M → Record M
-at stage task = record { stage = stage; task = task }
-
+-- what is left of a call once it has its reply
 abbrev pub with_reply : {M : Type 0} → Task M → Task M
 with_reply task = record task { op = None; spare = None; asking = Fresh; progress = progress.Decided }
 

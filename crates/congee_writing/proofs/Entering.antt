@@ -25,10 +25,12 @@ use Rattle.congee_store.specs.inner.World.{Node, Table}
 use Rattle.congee_store.proofs.Options.{none_some, some_same}
 use Rattle.congee_store.proofs.Reaching.{one, seen_at}
 use Rattle.congee_store.proofs.Ways.{absent_here, present_here, longer-begins}
+use Rattle.congee_store.proofs.Unlike.{decided_open}
+use Rattle.congee_store.proofs.Records.{at}
 use Rattle.congee_links.proofs.Effects.{Effect, beside_one}
 use Rattle.congee_links.proofs.Entries.{WritesPayload, entry_effect, entry_puts}
 use Rattle.congee_links.proofs.Writing.{answered}
-use Rattle.congee_writing.proofs.Deciding.{StandsAt, at, becomes_of, decided_open, entries_after, held_locked, listed, nodes_written, put_fits, told, with_reply, writes_child}
+use Rattle.congee_writing.proofs.Deciding.{StandsAt, becomes_of, entries_after, held_locked, listed, nodes_written, put_fits, told, with_reply, writes_child}
 
 module _ {M : Type 0} where
   -- what stands under a key's byte of a linked leaf stands at the key

@@ -22,10 +22,10 @@ use Rattle.congee_store.specs.inner.Tails.{unlock_work}
 use Rattle.congee_store.specs.inner.Tasks.{IsOpen}
 use Rattle.congee_store.specs.inner.World.{Table, is_retired}
 use Rattle.congee_store.proofs.Holding.{first_in, first_or, locked_now, next_in, none_of}
+use Rattle.congee_store.proofs.Records.{at, restart}
 use Rattle.congee_links.proofs.Effects.{beside_one}
 use Rattle.congee_links.proofs.Words.{Retires, Unlocks}
 use Rattle.congee_writing.proofs.Frees.{none_back, none_kept, off_one, off_two, retires, unlocked_open, unlocked_over, unlocks, work_open, work_over}
-use Rattle.congee_writing.proofs.Moving.{at, restart}
 
 -- what a call holds beside the node that it lets go
 alone_held : (next : Stage) (spot : Spot) (s : ℕ) → Holding (tail_at (Unlock spot)) s → s ≢ spot.slot → Holding next s

@@ -27,10 +27,11 @@ use Rattle.congee_store.specs.inner.World.{Node, Table, is_retired}
 use Rattle.congee_store.proofs.Holding.{none_of}
 use Rattle.congee_store.proofs.Options.{none_some, some_same}
 use Rattle.congee_store.proofs.Reaching.{one, seen_at}
+use Rattle.congee_store.proofs.Records.{at}
 use Rattle.congee_links.proofs.Effects.{Effect}
 use Rattle.congee_links.proofs.Pairs.{SamePairs}
 use Rattle.congee_links.proofs.Words.{Retires, Unlocks, retired_effect, retired_pairs, unlocked_effect, unlocked_pairs}
-use Rattle.congee_writing.proofs.Moving.{Does, at, quiet_move}
+use Rattle.congee_writing.proofs.Moving.{Does, quiet_move}
 use Rattle.congee_writing.proofs.Showing.{after_nodes, after_with, nodes_put}
 
 -- a list without its first number

@@ -29,10 +29,12 @@ use Rattle.congee_store.specs.inner.World.{Node, Table, is_linked}
 use Rattle.congee_store.proofs.Options.{none_some, some_same}
 use Rattle.congee_store.proofs.Reaching.{one, seen_at}
 use Rattle.congee_store.proofs.Ways.{absent_here}
+use Rattle.congee_store.proofs.Unlike.{decided_open}
+use Rattle.congee_store.proofs.Records.{at}
 use Rattle.congee_links.proofs.Effects.{Effect, beside_two}
 use Rattle.congee_links.proofs.Linking.{Links, link_effect, link_puts}
 use Rattle.congee_links.proofs.Writing.{IsLeafFor, Publishes, answered, published_new}
-use Rattle.congee_writing.proofs.Deciding.{at, becomes_of, decided_open, held_locked, listed, nodes_written, put_fits, told, with_reply, writes_child}
+use Rattle.congee_writing.proofs.Deciding.{becomes_of, held_locked, listed, nodes_written, put_fits, told, with_reply, writes_child}
 
 not_both : {b : Bool} → b ≡ false → b ≡ true → ⊥
 not_both e f = cc

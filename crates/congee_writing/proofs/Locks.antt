@@ -27,16 +27,12 @@ use Rattle.congee_store.specs.inner.World.{Node, Table}
 use Rattle.congee_store.proofs.Holding.{first_in, first_or, next_in, none_of}
 use Rattle.congee_store.proofs.Options.{none_some, some_same}
 use Rattle.congee_store.proofs.Reaching.{one, seen_at}
+use Rattle.congee_store.proofs.Unlike.{false_true, true_false}
+use Rattle.congee_store.proofs.Records.{at, restart}
 use Rattle.congee_sync.specs.Lock.{IsFree, MayUpgrade}
 use Rattle.congee_links.proofs.Words.{Upgrades, upgraded_effect, upgraded_pairs}
-use Rattle.congee_writing.proofs.Moving.{Does, at, no_effect, quiet_move, restart, same_pairs_here}
+use Rattle.congee_writing.proofs.Moving.{Does, no_effect, quiet_move, same_pairs_here}
 use Rattle.congee_writing.proofs.Showing.{Among, after_nodes, nodes_put, nodes_same}
-
-pub false_true : false ≡ true → ⊥
-false_true e = cc
-
-true_false : true ≡ false → ⊥
-true_false e = cc
 
 -- a call goes back at once only if it holds nothing
 goes_back : {M : Type 0} (held : List ℕ) (call : Flight M) → held ≡ [] → not_locked held call ≡ back call

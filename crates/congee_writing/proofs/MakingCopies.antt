@@ -34,6 +34,7 @@ use Rattle.congee_store.specs.inner.World.{Node, Standing, Table}
 use Rattle.congee_store.proofs.Options.{none_some, some_same}
 use Rattle.congee_store.proofs.Reaching.{one, seen_at}
 use Rattle.congee_store.proofs.Ways.{longer-begins}
+use Rattle.congee_store.proofs.Unlike.{cons_none}
 use Rattle.congee_writing.specs.inner.Makings.{AddsBuilt, AreOfKind, IsBetween, IsGrownFor, IsOwnOf}
 use Rattle.congee_writing.proofs.Copies.{copy_new, middle_new}
 use Rattle.congee_writing.proofs.CopyLaws.{may_from}
@@ -41,9 +42,6 @@ use Rattle.congee_writing.proofs.MakingEvents.{granted_moves}
 use Rattle.congee_writing.proofs.MakingFacts.{copy_made, middle_made}
 use Rattle.congee_writing.proofs.MakingMoves.{at}
 use Rattle.congee_writing.proofs.MakingTurns.{built_is}
-
-cons_none : (x : ℕ) (xs : List ℕ) → (x ∷ xs) ≢ []
-cons_none x xs e = cc
 
 first-in : (s : ℕ) (xs : List ℕ) → IsTrue (is_in s (s ∷ xs))
 first-in s xs = rw (eq-eqb s s refl) refl

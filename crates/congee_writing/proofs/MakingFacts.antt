@@ -16,13 +16,8 @@ use Rattle.congee_store.specs.inner.TailFacts.{AreHeld, AtNode, AtPair, HasCopy,
 use Rattle.congee_store.specs.inner.Tasks.{key_bytes}
 use Rattle.congee_store.specs.inner.World.{Node, Table, is_linked, is_private}
 use Rattle.congee_store.proofs.Options.{none_some, some_same}
+use Rattle.congee_store.proofs.Unlike.{linked_private, refused_open}
 use Rattle.congee_writing.specs.inner.Makings.{IsGivenUp, gone}
-
-linked_private : is_linked ≡ is_private → ⊥
-linked_private e = cc
-
-refused_open : progress.Refused ≡ progress.Open → ⊥
-refused_open e = cc
 
 module _ {M : Type 0} (t t' : Table M) where
   -- a slot that has a node isn't the one that gets one

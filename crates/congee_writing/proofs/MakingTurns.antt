@@ -19,14 +19,12 @@ use Rattle.congee_store.specs.inner.Stocks.{IsKept, Knows, Moves, table_in}
 use Rattle.congee_store.specs.inner.TailFacts.{leaf_of}
 use Rattle.congee_store.specs.inner.Tasks.{key_bytes}
 use Rattle.congee_store.proofs.Options.{none_some, some_same}
+use Rattle.congee_store.proofs.Unlike.{cons_none}
 use Rattle.congee_writing.specs.inner.Makings.{AddsBuilt, GivesUp, IsLeafOf, next_make}
 use Rattle.congee_writing.proofs.Copies.{leaf_new}
 use Rattle.congee_writing.proofs.MakingEvents.{ends, granted_moves, refused_moves}
 use Rattle.congee_writing.proofs.MakingFacts.{both_left, held_still, leaf_made, leaf_made_below, linked_still, over}
 use Rattle.congee_writing.proofs.MakingMoves.{at}
-
-cons_none : (x : ℕ) (xs : List ℕ) → (x ∷ xs) ≢ []
-cons_none x xs e = cc
 
 -- what holds of each node that was built holds of this one
 pub built_is : {X : Type 0} (Q : X → Type 0) (built : Option X) (x : X) → IfSome built Q → built ≡ Some x → Q x

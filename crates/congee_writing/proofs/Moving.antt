@@ -18,16 +18,10 @@ use Rattle.congee_store.specs.inner.Shown.{flight, held_at, made_at}
 use Rattle.congee_store.specs.inner.Tables.{IsIn, IsPlaced}
 use Rattle.congee_store.specs.inner.Turns.{IsCourse, Shows}
 use Rattle.congee_store.specs.inner.World.{Table}
+use Rattle.congee_store.proofs.Records.{at}
 use Rattle.congee_links.proofs.Contents.{content_same}
 use Rattle.congee_links.proofs.Effects.{Beside, Effect, same_tree_effect}
 use Rattle.congee_links.proofs.Pairs.{SamePairs}
-
--- a call at a stage, and what is left of it when it goes back to the root
-abbrev pub at : {M : Type 0} → Stage → Task M → Record M
-at stage task = record { stage = stage; task = task }
-
-abbrev pub restart : {M : Type 0} → Task M → Task M
-restart task = record task { last = None; spare = None; asking = Fresh }
 
 true_or_not : (b : Bool) → IsTrue b ⊎ (IsTrue b → ⊥)
 true_or_not true = inl refl

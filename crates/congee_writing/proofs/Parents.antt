@@ -32,13 +32,14 @@ use Rattle.congee_store.specs.inner.Turns.{Shows}
 use Rattle.congee_store.specs.inner.World.{Node, Table, is_private, is_linked, is_detached}
 use Rattle.congee_store.proofs.Options.{none_some, some_same}
 use Rattle.congee_store.proofs.Reaching.{one, seen_at}
+use Rattle.congee_store.proofs.Unlike.{linked_private, decided_open}
+use Rattle.congee_store.proofs.Records.{at}
 use Rattle.congee_links.proofs.Effects.{OthersStay, Effect, Beside}
 use Rattle.congee_links.proofs.Growing.{grown_leaf_effect, grown_leaf_puts, grown_inner_effect, grown_inner_puts}
 use Rattle.congee_links.proofs.Pairs.{PutsPair}
-use Rattle.congee_links.proofs.Slots.{linked_private}
 use Rattle.congee_links.proofs.Splitting.{split_effect, split_puts}
 use Rattle.congee_links.proofs.Writing.{answered}
-use Rattle.congee_writing.proofs.Deciding.{at, with_reply, decided_open, told, listed, StandsAt, ShowsWrite, nodes_written, becomes_of, writes_child}
+use Rattle.congee_writing.proofs.Deciding.{with_reply, told, listed, StandsAt, ShowsWrite, nodes_written, becomes_of, writes_child}
 use Rattle.congee_writing.proofs.Growths.{BecomesLinked, LeadsNow, IsPrivate, copy_private, middle_private, above_inner, grows_leaf, grows_inner, splits, copied_absent, split_absent}
 
 -- a test of a list finds what is in it

@@ -26,8 +26,8 @@ use Rattle.congee_store.specs.inner.TailFacts.{AreHeld}
 use Rattle.congee_store.specs.inner.Tails.{one_more}
 use Rattle.congee_store.specs.inner.World.{Node, Table, is_linked, is_detached}
 use Rattle.congee_store.proofs.Options.{none_some, some_same}
+use Rattle.congee_store.proofs.Unlike.{linked_private, linked_retired, private_retired}
 use Rattle.congee_links.proofs.Effects.{OthersStay}
-use Rattle.congee_links.proofs.Slots.{linked_private, linked_retired, private_retired}
 use Rattle.congee_links.proofs.Writing.{answered}
 use Rattle.congee_writing.proofs.Deciding.{with_reply}
 use Rattle.congee_writing.proofs.Growths.{BecomesLinked, LeadsNow, IsPrivate, copy_private, middle_private, above_inner}

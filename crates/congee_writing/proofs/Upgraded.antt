@@ -30,10 +30,10 @@ use Rattle.congee_store.specs.inner.Tasks.{key_bytes}
 use Rattle.congee_store.specs.inner.World.{Node, Table}
 use Rattle.congee_store.proofs.Options.{none_some, some_same}
 use Rattle.congee_store.proofs.Ways.{known_linked}
+use Rattle.congee_store.proofs.Records.{at, restart}
 use Rattle.congee_links.proofs.Effects.{beside_one}
 use Rattle.congee_links.proofs.Words.{Upgrades}
 use Rattle.congee_writing.proofs.Locks.{fails_back, fails_held, locks}
-use Rattle.congee_writing.proofs.Moving.{at, restart}
 use Rattle.congee_writing.proofs.Showing.{Among, among_last, among_none}
 
 -- the next event once the node is locked

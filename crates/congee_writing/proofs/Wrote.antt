@@ -31,15 +31,12 @@ use Rattle.congee_store.specs.inner.Tasks.{key_bytes}
 use Rattle.congee_store.specs.inner.World.{Node, entry, is_linked}
 use Rattle.congee_store.proofs.Options.{none_some, some_same}
 use Rattle.congee_store.proofs.Slots.{stored_as}
-use Rattle.congee_links.proofs.Slots.{linked_retired, private_retired}
+use Rattle.congee_store.proofs.Unlike.{linked_retired, private_retired, true_false}
 use Rattle.congee_links.proofs.Writing.{answered, published_new}
 use Rattle.congee_writing.proofs.Deciding.{entries_after, op_is, with_reply}
 use Rattle.congee_writing.proofs.Entering.{entry_move, entry_placed}
 use Rattle.congee_writing.proofs.Keeping.{StoreKeeps, keeps_then, kept_by, sets_keeps}
 use Rattle.congee_writing.proofs.Linked.{link_move, link_placed, made_published}
-
-true_false : true ≡ false → ⊥
-true_false e = cc
 
 -- a call that isn't an Insert
 module _ {M : Type 0} where

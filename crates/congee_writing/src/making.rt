@@ -25,9 +25,9 @@ use congee_node_table::allocator::Allocator;
 use congee_node_table::child::{Child, ChildRef};
 use congee_node_table::tree_node::TreeNode;
 use congee_protocol::payload::HasMeaning;
-use congee_protocol::types::{Asking, Kind, Op, Outcome, Progress, Report};
-use congee_store::stage::{Record, Spot, Stage, Task};
-use congee_store::stepped::{Stepped, going, node_at};
+use congee_protocol::types::{Kind, Op, Outcome, Progress, Report};
+use congee_store::stage::{Spot, Stage, Task};
+use congee_store::stepped::{Stepped, ended, going, node_at};
 use congee_store::stock::Stock;
 use congee_store::tail::{Large, Pair, Tail};
 use std::alloc::Global;
@@ -65,33 +65,14 @@ fn gives_up<P: Drop>(task: Task<P>, tail: Tail) -> Stepped<P>
       outcome = Outcome.Refused;
     } }
 {
-    let Task {
-        outline,
-        op: _,
-        last,
-        spare: _,
-        asking: _,
-        progress: _,
-    } = task;
-    let task = Task {
-        outline,
-        op: None,
-        last,
-        spare: None,
-        asking: Asking::Fresh,
-        progress: Progress::Refused,
+    let report = Report {
+        kind: Kind::Make,
+        slot: None,
+        word: 0,
+        ok: true,
     };
     let stage = Stage::Tail(tail);
-    Stepped {
-        call: Record { stage, task },
-        report: Report {
-            kind: Kind::Make,
-            slot: None,
-            word: 0,
-            ok: true,
-        },
-        outcome: Outcome::Refused,
-    }
+    ended(task, stage, Progress::Refused, report, Outcome::Refused)
 }
 
 // Charges a node and puts it into a free slot. A refusal changes no node and no charge.

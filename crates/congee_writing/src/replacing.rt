@@ -9,13 +9,13 @@ ghost use Rattle.congee_store.specs.inner.Tables.{IsIn};
 ghost use Rattle.congee_store.specs.inner.Tails.{one_more};
 ghost use Rattle.congee_store.specs.inner.World.{Node, is_linked};
 
-use crate::linking::{byte_below, decided};
+use crate::linking::byte_below;
 use congee_node_table::allocator::Allocator;
 use congee_node_table::child::Child;
 use congee_protocol::payload::HasMeaning;
 use congee_protocol::types::Kind;
 use congee_store::stage::{Stage, Task};
-use congee_store::stepped::{Stepped, report};
+use congee_store::stepped::{Stepped, decided, report};
 use congee_store::stock::Stock;
 use congee_store::store::Store;
 use congee_store::tail::{Pair, Tail};
@@ -34,7 +34,8 @@ pub(crate) fn replace<P: HasMeaning, A: Allocator>(
         (record { stage = Stage.Tail (Tail.Replace pair copy leaf); task = task }) }
     requires few { stock.old.entries ≤ 2 ^ 64 }
     ensures moves { (env : Env P) → Moves P.meaning A.charge P.always_shared P.same_meaning
-        stock.old stock.new pin (record { stage = Stage.Tail (Tail.Replace pair copy leaf); task = task })
+        stock.old stock.new pin
+        (record { stage = Stage.Tail (Tail.Replace pair copy leaf); task = task })
         env result.call result.report result.outcome }
 {
     let slot = pair.above.slot;
@@ -61,7 +62,8 @@ pub(crate) fn insert<P: HasMeaning, A: Allocator>(
         (record { stage = Stage.Tail (Tail.Insert pair middle leaf); task = task }) }
     requires few { stock.old.entries ≤ 2 ^ 64 }
     ensures moves { (env : Env P) → Moves P.meaning A.charge P.always_shared P.same_meaning
-        stock.old stock.new pin (record { stage = Stage.Tail (Tail.Insert pair middle leaf); task = task })
+        stock.old stock.new pin
+        (record { stage = Stage.Tail (Tail.Insert pair middle leaf); task = task })
         env result.call result.report result.outcome }
 {
     let slot = pair.above.slot;

@@ -32,7 +32,8 @@ SeesAll Granted o = SharesNone o None → Granted
 
 module _ {M : Type 0} (Granted : Type 0) where
   -- a call of this kind sees this, and keeps this for its reply
-  pub record IsLooking (a : TableNode M) (o : Outline) (s : Seen M) (spare : Option M) : Type 0 where
+  pub record IsLooking (a : TableNode M) (o : Outline) (s : Seen M) (spare : Option M)
+      : Type 0 where
     pub child : IsSeenOf (SeesAll Granted o) (child_for o (key_of o) a) s.child
     pub count : s.count ≡ length a.children
     pub full : IsFull a.form (length a.children) s.full

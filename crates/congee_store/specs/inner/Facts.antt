@@ -1,4 +1,5 @@
--- What holds of the machine's inside after each event: the place facts of its nodes, and what each call in flight knows.
+-- What holds of the machine's inside after each event: the place facts of its nodes, and what each
+-- call in flight knows.
 -- Payloads stand for what they mean.
 use Rattle.std.specs.Prelude.{◌≡◌, ◌≢◌, ℕ, ◌+◌, ◌^◌, ◌<◌, ◌≤◌, true, IsTrue, List, [], ◌∷◌, length, Option, Some, None, IsSome, ◌⊎◌}
 use Rattle.congee_base.specs.Form.{stated_size}
@@ -22,6 +23,7 @@ use Rattle.congee_store.specs.inner.Tables.{IsPlaced, IsThere, Known, LedTo, Nee
 use Rattle.congee_store.specs.inner.TailFacts.{TailFacts}
 use Rattle.congee_store.specs.inner.Tails.{path_slots, named_in}
 use Rattle.congee_store.specs.inner.Tasks.{IsFreshly, Saw, SawNode, key_bytes}
+
 -- the nodes that a call holds or has made before its next event
 abbrev pub Holding : Stage → ℕ → Type 0
 Holding stage s = IsTrue (is_in s (held_at stage)) ⊎ IsTrue (is_in s (made_at stage))
@@ -68,7 +70,8 @@ sizes_of (Some n ∷ slots) = stated_size n.node.form + sizes_of slots
 -- A slot with a node is admitted, so that the node can be retired, and one without isn't.
 abbrev pub IsAdmitted : {M : Type 0} → Option (Node M) → Option Life → Type 0
 IsAdmitted None life = life ≡ None
-IsAdmitted (Some a) life = (life ≡ Some InUse) ⊎ ((stamp : Option ℕ) × (a.standing ≡ is_retired stamp))
+IsAdmitted (Some a) life =
+    (life ≡ Some InUse) ⊎ ((stamp : Option ℕ) × (a.standing ≡ is_retired stamp))
 
 abbrev pub AllAdmitted : {M : Type 0} → Table M → List (ℕ × Life) → Type 0
 AllAdmitted t lives = (s : ℕ) → IsAdmitted (t s) (entry_at lives s)

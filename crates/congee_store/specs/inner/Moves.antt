@@ -1,5 +1,6 @@
--- ONE EVENT OF A CALL over the table of nodes: what it leaves to the call, to all others and of the content, and what it does
--- to what a reader sees. Each kind of events is proved to be of this form, and a machine stays sound by it.
+-- ONE EVENT OF A CALL over the table of nodes: what it leaves to the call, to all others and of the
+-- content, and what it does to what a reader sees. Each kind of events is proved to be of this form,
+-- and a machine stays sound by it.
 use Rattle.std.specs.Prelude.{◌≡◌, ℕ, ◌≤◌, Bool, length, Option, None, ◌⊎◌}
 use Rattle.congee_map.specs.Map.{Pairs, IsMap, put}
 use Rattle.congee_protocol.specs.Content.{IsContent}
@@ -37,7 +38,8 @@ module _ {M : Type 0} where
   NewlyHeld t s = (t s ≡ None) ⊎ WasFree t s
 
   -- the state before, with other nodes and books, and with this call of a number
-  pub record IsAfter (s s' : State M) (id : ℕ) (next : Flight M) (books books' : Books) : Type 0 where
+  pub record IsAfter (s s' : State M) (id : ℕ) (next : Flight M) (books books' : Books)
+      : Type 0 where
     pub was : books_of s ≡ books
     pub is : s' ≡ record s {
       nodes = s'.nodes;

@@ -1,4 +1,5 @@
--- AN EVENT OF A CALL as the code makes it: what it may rely on, and what it makes of the stock of nodes.
+-- AN EVENT OF A CALL as the code makes it: what it may rely on, and what it makes of the stock of
+-- nodes.
 use Rattle.std.specs.Prelude.{◌≡◌, ◌≢◌, ℕ, ◌^◌, ◌<◌, Bool, Option, None}
 use Rattle.congee_node_table.specs.Charge.{Covers}
 use Rattle.congee_protocol.specs.Meaning.{env_of, outcome_of}
@@ -42,7 +43,8 @@ module _ {P A M : Type 0} (meaning : P → M) (charge : A → Option ℕ) where
 
   -- THE EVENT
   pub record Moves (Granted : Type 0) (same : M → M → Bool) (old new : Stock P A) (pin : ℕ)
-      (call : Record P) (env : Env P) (next : Record P) (report : Report) (out : Outcome P) : Type 0 where
+      (call : Record P) (env : Env P) (next : Record P) (report : Report) (out : Outcome P)
+      : Type 0 where
     pub kept : IsKept new
     pub move : IsMove Granted same (table_in old) (table_in new) old.store.root pin
         (books_in old) (books_in new) (meant_record meaning call) (env_of meaning env)

@@ -103,7 +103,8 @@ module _ {M : Type 0} where
   middle_of prefix a slot k leaf = record {
     form = N4;
     prefix = prefix;
-    children = put ((next_byte prefix a.node.prefix, below_at slot) ∷ []) (next_byte prefix k) (below_at leaf);
+    children = put ((next_byte prefix a.node.prefix, below_at slot) ∷ []) (next_byte prefix k)
+        (below_at leaf);
   }
 
   -- WHAT IS TO BE DONE at a node that is on the key's way, or, at a split, isn't
@@ -146,20 +147,23 @@ module _ {M : Type 0} where
   HasOwnLeaf t task (Some leaf) = HasLeaf t task leaf
 
   -- the copy with one entry more
-  pub record HasCopy (t : Table M) (task : Task M) (a : Node M) (copy : ℕ) (leaf : Option ℕ) : Type 0 where
+  pub record HasCopy (t : Table M) (task : Task M) (a : Node M) (copy : ℕ) (leaf : Option ℕ)
+      : Type 0 where
     pub child : Child M
     pub own : HasOwn t task leaf child
     pub made : IsMade t copy (grown_by a (key_bytes task) child)
 
   -- the node that is put between
-  pub record HasMiddle (t : Table M) (task : Task M) (a : Node M) (slot middle leaf : ℕ) : Type 0 where
+  pub record HasMiddle (t : Table M) (task : Task M) (a : Node M) (slot middle leaf : ℕ)
+      : Type 0 where
     pub prefix : List ℕ
     pub fork : IsFork prefix a.node.prefix (key_bytes task)
     pub made : IsMade t middle (middle_of prefix a slot (key_bytes task) leaf)
 
 -- Shares are granted always, if `Granted` holds.
 module _ {M : Type 0} (Granted : Type 0) where
-  -- A CALL THAT WRITES: it has no reply, stores this payload, and its last Read reported that this one stands at its key
+  -- A CALL THAT WRITES: it has no reply, stores this payload, and its last Read reported that this
+  -- one stands at its key
   pub record Writes (task : Task M) (stands : Option M) : Type 0 where
     pub opened : IsOpen task
     pub value : M
@@ -178,7 +182,8 @@ module _ {M : Type 0} (Granted : Type 0) where
     pub is : IsLarge large a (key_bytes task)
 
   -- before the second upgrade: the node is known, and the parent led to it
-  pub record Below (t : Table M) (pin : ℕ) (task : Task M) (pair : Pair) (large : Large) : Type 0 where
+  pub record Below (t : Table M) (pin : ℕ) (task : Task M) (pair : Pair) (large : Large)
+      : Type 0 where
     pub opened : IsOpen task
     pub over : IsAbove t pair (key_bytes task)
     pub here : Known t pin pair.here

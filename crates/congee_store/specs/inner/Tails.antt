@@ -1,4 +1,5 @@
--- THE TAILS: what a call holds, has made and remembers before each event that writes, and how many events it has left.
+-- THE TAILS: what a call holds, has made and remembers before each event that writes, and how many
+-- events it has left.
 use Rattle.std.specs.Prelude.{ℕ, ◌+◌, List, [], ◌∷◌, Option, Some, None}
 use Rattle.congee_map.specs.Map.{put}
 use Rattle.congee_protocol.specs.declared.types.Progress.{Progress}

@@ -15,6 +15,7 @@ use Rattle.congee_store.specs.declared.stage.Task.{Task}
 use Rattle.congee_store.specs.inner.Shown.{flight}
 use Rattle.congee_store.specs.inner.World.{Node, Table}
 use Rattle.congee_store.specs.inner.Tables.{While}
+
 module _ {M : Type 0} where
   -- the last Read reported this slot
   pub record SawNode (last : Option (Seen M)) (slot : ℕ) : Type 0 where
@@ -47,8 +48,10 @@ module _ {M : Type 0} (Granted : Type 0) where
   IsSpare task s spare = Sees task → (v : M) → s.child ≡ Some (Payload v) → spare ≡ Some v
 
   -- what the last Read reported stands there
-  pub record Agrees (task : Task M) (stage : Stage) (pin : ℕ) (a : Node M) (s : Seen M) : Type 0 where
-    pub reading : IsReading (Sees task) (flight pin (record { stage = stage; task = task })) a.node s
+  pub record Agrees (task : Task M) (stage : Stage) (pin : ℕ) (a : Node M) (s : Seen M)
+      : Type 0 where
+    pub reading : IsReading (Sees task) (flight pin (record { stage = stage; task = task }))
+        a.node s
     pub spare : IsSpare task s task.spare
     pub below : (slot : ℕ) → s.child ≡ Some (below_at slot)
         → child_for task.outline (key_of task.outline) a.node ≡ Some (below_at slot)

@@ -1,5 +1,6 @@
--- ONE EVENT as the machine's inside has it: what it leaves to its own call and to all others, and what it does to what a
--- reader sees. The kinds of events are proved to be of this form, and the theorem on runs is proved from it.
+-- ONE EVENT as the machine's inside has it: what it leaves to its own call and to all others, and
+-- what it does to what a reader sees. The kinds of events are proved to be of this form, and the
+-- theorem on runs is proved from it.
 use Rattle.std.specs.Prelude.{[], false, true, ◌≡◌, ◌≢◌, ℕ, ◌+◌, ◌-◌, ◌*◌, ◌<◌, ◌≤◌, Bool, length, Option, Some, None, ◌⊎◌}
 use Rattle.congee_map.specs.Map.{Pairs, lookup}
 use Rattle.congee_protocol.specs.Calls.{outline_of}
@@ -29,7 +30,7 @@ use Rattle.congee_store.specs.inner.Shown.{shown, flight, held_at, made_at, spot
 use Rattle.congee_store.specs.inner.Tails.{tail_work}
 use Rattle.congee_store.specs.inner.World.{World, Node, Table, table_of, call_of}
 
--- The calls that end so far: those that are served. Another that is begun looks for its key again and again.
+-- The calls that are served, which end. Another that is begun looks for its key again and again.
 abbrev pub IsServedCall : {X : Type 0} → Op X → Type 0
 IsServedCall (Get k) = Unit {0}
 IsServedCall (Insert k v) = Unit {0}

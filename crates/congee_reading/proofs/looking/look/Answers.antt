@@ -1,7 +1,8 @@
 use Rattle.std.proofs.Common.{ap, ◌∙◌}
 use Rattle.congee_protocol.specs.Meaning.{in_some, child_of, seen_of}
 use Rattle.congee_store.specs.inner.Meant.{meant_node}
-use Rattle.congee_reading.proofs.Events.{false_true, test_false}
+use Rattle.congee_store.proofs.Unlike.{false_true}
+use Rattle.congee_reading.proofs.Events.{test_false}
 use Rattle.congee_reading.proofs.Looks.{looks_shared, looks_open, looks_refused, found_means, payload_means, count_means, full_means}
 use Rattle.congee_reading.proofs.looking.look.Goals as goal
 

@@ -4,14 +4,12 @@ use Rattle.congee_protocol.specs.declared.types.Event.TheVariants.{Start}
 use Rattle.congee_protocol.specs.declared.types.Op.{Op}
 use Rattle.congee_machine.specs.inner.Inside.{inside}
 use Rattle.congee_store.specs.inner.Turns.{IsBegun}
+use Rattle.congee_store.proofs.Unlike.{false_true}
 use Rattle.congee_replay.specs.declared.replay.Happened.{Happened}
 use Rattle.congee_replay.specs.inner.Played.{IsHappening}
 use Rattle.congee_replay.proofs.Happening.{start_unserved, start_in_flight, start_made}
 use Rattle.congee_replay.proofs.Numbers.{sound_meant, begun_itself}
 use Rattle.congee_replay.proofs.replay.start.Goals as goal
-
-false_true : false ≡ true → ⊥
-false_true e = cc
 
 pub returns-then-not-is_served : goal.returns-then-not-is_served
 returns-then-not-is_served g c =

@@ -1,6 +1,6 @@
 use Rattle.std.proofs.Common.{inl, inr, sym, ◌∙◌}
+use Rattle.congee_store.proofs.Unlike.{false_true}
 use Rattle.congee_writing.proofs.Freed.{unlock_ends, unlock_restarts}
-use Rattle.congee_writing.proofs.Locks.{false_true}
 use Rattle.congee_writing.proofs.Stocked.{frees_moves}
 use Rattle.congee_writing.proofs.freeing.unlock.Goals as goal
 

@@ -1,5 +1,5 @@
 use Rattle.std.proofs.Common.{sym, ◌∙◌}
-use Rattle.congee_writing.proofs.Locks.{false_true}
+use Rattle.congee_store.proofs.Unlike.{false_true}
 use Rattle.congee_writing.proofs.Stocked.{locks_moves, same_moves}
 use Rattle.congee_writing.proofs.Upgraded.{above_fails, above_locks}
 use Rattle.congee_writing.proofs.locking.upgrade_above.Goals as goal

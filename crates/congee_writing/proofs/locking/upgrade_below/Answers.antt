@@ -1,5 +1,5 @@
 use Rattle.std.proofs.Common.{◌≡◌, sym, ap, ◌∙◌}
-use Rattle.congee_writing.proofs.Locks.{false_true}
+use Rattle.congee_store.proofs.Unlike.{false_true}
 use Rattle.congee_writing.proofs.Stocked.{locks_moves, same_moves}
 use Rattle.congee_writing.proofs.Upgraded.{below_fails, below_locks, large_next, makes_leaf}
 use Rattle.congee_writing.proofs.locking.upgrade_below.Goals as goal
