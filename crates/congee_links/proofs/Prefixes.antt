@@ -1,9 +1,8 @@
 -- Lists of bytes that begin with others, and the bytes of keys.
 use Rattle.std.proofs.Common.{◌≡◌, ℕ, ◌+◌, ◌^◌, ◌<◌, ◌≤◌, Bool, true, false, List, [], ◌∷◌, ◌++◌, length, get_or, ◌⊎◌, inl, inr, sym, refl, ap, ◌∙◌, subst, arith, length-append, append-nil}
-use Rattle.std.proofs.lemmas.Nat.{from_be_bytes-to_be_bytes_8}
-use Rattle.congee_node_table.specs.Key.{begins, Begins, AreBytes, next_byte, key_number}
+use Rattle.congee_node_table.specs.Key.{begins, Begins, next_byte, key_number}
 use Rattle.congee_node_table.proofs.BeginLaws.{after, begins_append}
-use Rattle.congee_node_table.proofs.KeyLaws.{goes_on, key_number_at, key_number-be_bytes, Begins-snoc}
+use Rattle.congee_node_table.proofs.KeyLaws.{goes_on, key_number_at, Begins-snoc}
 use Rattle.congee_protocol.specs.Calls.{bytes_of}
 use Rattle.congee_store.proofs.Ways.{length-begins, Begins-both, Begins-trans, get_or-begins}
 use Rattle.congee_store.proofs.Reaching.{bytes-of_key, key-of_bytes, last-byte}

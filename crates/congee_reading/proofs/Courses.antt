@@ -1,4 +1,4 @@
--- What the events that only read make of a call's stage.
+-- What the events that write no node make of a call's stage.
 use Rattle.std.proofs.Common.{◌≡◌, ◌≢◌, ℕ, ◌+◌, ◌-◌, ◌*◌, ◌/◌, ◌%◌, ◌<◌, ◌≤◌, IsTrue, List, [], length, Option, Some, inl, inr, sym, subst, ap, ◌∙◌, arith}
 use Rattle.congee_sync.specs.Lock.{IsFree, IsLocked, IsObsolete}
 use Rattle.congee_map.specs.Map.{lookup, put}

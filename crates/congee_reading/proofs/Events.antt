@@ -1,4 +1,4 @@
--- How the events that only read are events of their kinds.
+-- How the events that write no node are events of their kinds.
 use Rattle.std.proofs.Common.{◌≡◌, ◌≢◌, ℕ, Bool, true, false, IsTrue, ◌↔◌, List, [], Option, Some, None, inl, refl, sym, subst, ap, ◌∙◌, arith}
 use Rattle.std.proofs.lemmas.Bool.{eq-eqb}
 use Rattle.congee_map.proofs.MapLaws.{lookup-put_same}

@@ -66,8 +66,8 @@ fn finished<P>() -> Advanced<P>
     }
 }
 
-/// Makes the next event of a call that hasn't found yet that it has to write. An event uses of `env` what its kind
-/// takes. A range doesn't read so far: it checks the root again and again.
+/// Makes the next event of a call that hasn't found yet that it has to write. An event uses of `env`
+/// what its kind takes. A range is not served: it checks the root again and again.
 pub fn advance<P: HasMeaning>(
     store: &Store<P>,
     pin: u64,

@@ -15,7 +15,7 @@ use crate::looking::child_at;
 use congee_node_table::child::ChildRef;
 use congee_node_table::tree_node::TreeNode;
 use congee_protocol::payload::HasMeaning;
-use congee_protocol::types::{Kind, Op, Report};
+use congee_protocol::types::{Asking, Kind, Op, Outcome, Progress, Reply, Report};
 use congee_store::stage::{Path, Stage, Task};
 use congee_store::stepped::{Stepped, decided, going, node_at, report};
 use congee_store::store::Store;

@@ -163,7 +163,7 @@ left_at_root : (t : Table ℕ) (call : Record ℕ) → call.stage ≡ TakeRoot �
 left_at_root t call e =
     left_anew t call 39 (ap spots_of e) (subst (λ (s : Stage). work t call.task.progress s ≤ 39) (sym e) (omega arith))
 
--- every call in flight is one that ends so far
+-- every call in flight is one that is served
 abbrev pub AllServed : World ℕ → Type 0
 AllServed w = (id : ℕ) → id < 2 ^ 64 → (r : Record ℕ) → call_of w id ≡ Some r → IsServedCall r.task.outline
 

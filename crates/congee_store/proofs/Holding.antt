@@ -1,5 +1,5 @@
 -- What stands in the slots that a call holds or has made.
-use Rattle.std.proofs.Common.{◌≡◌, ◌≢◌, ℕ, ◌+◌, IsTrue, List, [], ◌∷◌, Option, Some, None, inl, inr, refl, sym, subst, ap, ◌∙◌, arith}
+use Rattle.std.proofs.Common.{◌≡◌, ◌≢◌, ℕ, ◌+◌, IsTrue, List, [], ◌∷◌, Some, None, inl, inr, refl, subst, ap, arith}
 use Rattle.std.proofs.lemmas.Bool.{false≢true, eq-eqb, ne_eqb, cases_eq}
 use Rattle.congee_node_table.specs.TableNode.{TableNode}
 use Rattle.congee_protocol.specs.Lists.{is_in}

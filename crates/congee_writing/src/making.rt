@@ -25,7 +25,7 @@ use congee_node_table::allocator::Allocator;
 use congee_node_table::child::{Child, ChildRef};
 use congee_node_table::tree_node::TreeNode;
 use congee_protocol::payload::HasMeaning;
-use congee_protocol::types::{Kind, Op, Outcome, Progress, Report};
+use congee_protocol::types::{Asking, Kind, Op, Outcome, Progress, Report};
 use congee_store::stage::{Spot, Stage, Task};
 use congee_store::stepped::{Stepped, ended, going, node_at};
 use congee_store::stock::Stock;

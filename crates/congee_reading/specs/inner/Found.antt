@@ -13,7 +13,7 @@ IsFound {P} last Payload =
     (s : Seen P) × (v : P) × (last ≡ Some s) × (s.child ≡ Some (child.Payload v))
 IsFound {P} last (Node slot) = (s : Seen P) × (last ≡ Some s) × (s.child ≡ Some (child.Node slot))
 
--- the kinds of calls that end so far
+-- the kinds of calls that are served
 abbrev pub IsGet : Outline → Type 0
 IsGet (Get k) = Unit {0}
 IsGet _ = ⊥

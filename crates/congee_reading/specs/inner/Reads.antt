@@ -16,7 +16,7 @@ module _ {P M : Type 0} where
   Knows Granted meaning store pin call =
       Facts Granted (meant_table meaning store) store.root pin (meant_record meaning call)
 
-  -- an event that only reads
+  -- an event that writes no node
   abbrev pub Reads : Type 0 → (M → M → Bool) → (P → M) → Store P → ℕ → Record P → Env P
       → Record P → Report → Outcome P → Type 0
   Reads Granted same meaning store pin call env next report out =

@@ -14,7 +14,7 @@ use Rattle.congee_sync.specs.Lock.{IsFree}
 use Rattle.congee_store.specs.declared.stage.Record.{Record}
 use Rattle.congee_store.specs.inner.Facts.{Holding, Facts}
 use Rattle.congee_store.specs.inner.Shown.{flight}
-use Rattle.congee_store.specs.inner.Tables.{IsLinked, IsPlaced, Guarantees, PrivateStays, NeedsHolder}
+use Rattle.congee_store.specs.inner.Tables.{IsLinked, Guarantees, PrivateStays, NeedsHolder}
 use Rattle.congee_store.specs.inner.Turns.{IsCourse, Shows}
 use Rattle.congee_store.specs.inner.World.{Node, Table}
 
