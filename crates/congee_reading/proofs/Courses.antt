@@ -1,5 +1,5 @@
 -- What the events that write no node make of a call's stage.
-use Rattle.std.proofs.Common.{◌≡◌, ◌≢◌, ℕ, ◌+◌, ◌-◌, ◌*◌, ◌/◌, ◌%◌, ◌<◌, ◌≤◌, IsTrue, List, [], length, Option, Some, inl, inr, sym, subst, ap, ◌∙◌, arith}
+use Rattle.std.proofs.Common.{◌≡◌, ◌≢◌, ℕ, ◌+◌, ◌-◌, ◌*◌, ◌/◌, ◌%◌, ◌<◌, ◌≤◌, IsTrue, List, [], length, Some, inl, inr, sym, subst, ap, ◌∙◌, arith}
 use Rattle.congee_sync.specs.Lock.{IsFree, IsLocked, IsObsolete}
 use Rattle.congee_map.specs.Map.{lookup, put}
 use Rattle.congee_store.specs.declared.stage.Path.{Path}
@@ -11,7 +11,7 @@ use Rattle.congee_protocol.specs.declared.types.Env.{Env}
 use Rattle.congee_store.specs.inner.Tables.{byte_at, IsLinked, IsBelow, IsPlaced, LedTo, NeedsHolder, OnPath}
 use Rattle.congee_store.specs.inner.Shown.{spots_of, held_at, made_at}
 use Rattle.congee_store.specs.inner.Turns.{depth_in, IsCurrent, IsUndisturbed}
-use Rattle.congee_store.specs.inner.World.{Node, Table, is_linked, is_retired}
+use Rattle.congee_store.specs.inner.World.{Node, Table, is_linked}
 use Rattle.congee_store.proofs.Options.{some_same}
 use Rattle.congee_store.proofs.Ways.{known_linked, longer-begins}
 use Rattle.congee_store.proofs.Unlike.{linked_retired, false_true}

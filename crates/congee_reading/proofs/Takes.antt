@@ -5,7 +5,6 @@ use Rattle.congee_protocol.specs.Calls.{key_of}
 use Rattle.congee_protocol.specs.Kinds.{DoesAs, report_of}
 use Rattle.congee_protocol.specs.State.{State, Flight, back, with_call}
 use Rattle.congee_protocol.specs.declared.types.Asking.{Asking}
-use Rattle.congee_protocol.specs.declared.types.Asking.TheVariants.{Fresh}
 use Rattle.congee_protocol.specs.declared.types.Env.{Env}
 use Rattle.congee_protocol.specs.declared.types.Kind.TheVariants as kind
 use Rattle.congee_protocol.specs.declared.types.Outcome.TheVariants.{Going}

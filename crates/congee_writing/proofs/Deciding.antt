@@ -27,7 +27,6 @@ use Rattle.congee_protocol.specs.declared.types.Op.TheVariants.{Insert}
 use Rattle.congee_protocol.specs.declared.types.Outcome.TheVariants.{Decided}
 use Rattle.congee_protocol.specs.declared.types.Progress.TheVariants as progress
 use Rattle.congee_protocol.specs.declared.types.Reply.TheVariants.{Old}
-use Rattle.congee_store.specs.declared.stage.Record.{Record}
 use Rattle.congee_store.specs.declared.stage.Stage.{Stage}
 use Rattle.congee_store.specs.declared.stage.Task.{Task}
 use Rattle.congee_store.specs.inner.Moves.{Books, IsAfter, IsOutcome}

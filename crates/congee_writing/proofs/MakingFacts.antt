@@ -2,7 +2,6 @@
 use Rattle.std.proofs.Common.{◌≡◌, ◌≢◌, ℕ, List, Option, Some, None, ◌⊎◌, inr, refl, sym, subst, ap, ◌∙◌}
 use Rattle.congee_node_table.specs.TableNode.{TableNode}
 use Rattle.congee_node_table.specs.declared.child.Child.{Child}
-use Rattle.congee_protocol.specs.declared.types.Progress.TheVariants as progress
 use Rattle.congee_store.specs.declared.stage.Spot.{Spot}
 use Rattle.congee_store.specs.declared.stage.Task.{Task}
 use Rattle.congee_store.specs.declared.tail.Large.{Large}
@@ -14,7 +13,7 @@ use Rattle.congee_store.specs.inner.Slots.{made_node}
 use Rattle.congee_store.specs.inner.Tables.{IsLinked, OnWay}
 use Rattle.congee_store.specs.inner.TailFacts.{AreHeld, AtNode, AtPair, HasCopy, HasLeaf, HasMiddle, HasOwn, IsFork, IsHeld, IsMade, IsOver, grown_by, is_for, leaf_of, middle_of, stores}
 use Rattle.congee_store.specs.inner.Tasks.{key_bytes}
-use Rattle.congee_store.specs.inner.World.{Node, Table, is_linked, is_private}
+use Rattle.congee_store.specs.inner.World.{Node, Table}
 use Rattle.congee_store.proofs.Options.{none_some, some_same}
 use Rattle.congee_store.proofs.Unlike.{linked_private, refused_open}
 use Rattle.congee_writing.specs.inner.Makings.{IsGivenUp, gone}

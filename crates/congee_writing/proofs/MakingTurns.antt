@@ -1,5 +1,5 @@
 -- The four Makes, each granted and refused, from what their call knows and from what was built.
-use Rattle.std.proofs.Common.{◌≡◌, ◌≢◌, ℕ, Bool, true, List, [], ◌∷◌, Option, Some, None, IfSome, inr, refl, sym, subst, arith}
+use Rattle.std.proofs.Common.{◌≡◌, ℕ, Bool, true, [], ◌∷◌, Option, Some, None, IfSome, inr, refl, sym, subst, arith}
 use Rattle.congee_node_table.specs.TableNode.{TableNode}
 use Rattle.congee_protocol.specs.Kinds.{report_of}
 use Rattle.congee_protocol.specs.Writing.{IsNew}

@@ -1,24 +1,21 @@
 -- AN EVENT THAT LEAVES THE PAIRS, put together from what it does to the table, to its call, and to what a reader sees.
-use Rattle.std.proofs.Common.{◌≡◌, ℕ, ◌≤◌, Bool, true, false, IsTrue, List, [], None, ◌⊎◌, inl, inr, refl, ◌∙◌}
+use Rattle.std.proofs.Common.{◌≡◌, ℕ, ◌≤◌, Bool, true, false, IsTrue, List, [], ◌⊎◌, inl, inr, refl, ◌∙◌}
 use Rattle.congee_map.specs.Map.{Pairs, IsMap}
 use Rattle.congee_protocol.specs.Deciding.{Carries}
 use Rattle.congee_protocol.specs.Kinds.{DoesAs}
 use Rattle.congee_protocol.specs.Lists.{is_in}
 use Rattle.congee_protocol.specs.State.{State}
-use Rattle.congee_protocol.specs.declared.types.Asking.TheVariants.{Fresh}
 use Rattle.congee_protocol.specs.declared.types.Env.{Env}
 use Rattle.congee_protocol.specs.declared.types.Outcome.{Outcome}
 use Rattle.congee_protocol.specs.declared.types.Report.{Report}
 use Rattle.congee_store.specs.declared.stage.Record.{Record}
 use Rattle.congee_store.specs.declared.stage.Stage.{Stage}
-use Rattle.congee_store.specs.declared.stage.Task.{Task}
 use Rattle.congee_store.specs.inner.Facts.{Facts, Holding}
 use Rattle.congee_store.specs.inner.Moves.{Books, IsAfter, IsMove, NewlyHeld}
 use Rattle.congee_store.specs.inner.Shown.{flight, held_at, made_at}
 use Rattle.congee_store.specs.inner.Tables.{IsIn, IsPlaced}
 use Rattle.congee_store.specs.inner.Turns.{IsCourse, Shows}
 use Rattle.congee_store.specs.inner.World.{Table}
-use Rattle.congee_store.proofs.Records.{at}
 use Rattle.congee_links.proofs.Contents.{content_same}
 use Rattle.congee_links.proofs.Effects.{Beside, Effect, same_tree_effect}
 use Rattle.congee_links.proofs.Pairs.{SamePairs}
