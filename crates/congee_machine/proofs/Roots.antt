@@ -27,7 +27,7 @@ use Rattle.congee_store.specs.inner.Tables.{IsPlaced, NeedsHolder}
 use Rattle.congee_store.specs.inner.Facts.{IsAdmitted, IsSound, sizes_of}
 use Rattle.congee_store.specs.inner.Meant.{meant_node, meant_slots, meant_stored, meant_world}
 use Rattle.congee_store.specs.inner.Shown.{shown, state_of}
-use Rattle.congee_store.specs.inner.World.{World, Node, Table, entry, is_linked, is_private, is_retired, node_of}
+use Rattle.congee_store.specs.inner.World.{World, Node, Table, entry, is_linked, node_of}
 use Rattle.congee_store.proofs.Options.{none_some, some_same}
 use Rattle.congee_store.proofs.States.{meant_slot, nodes_rise, shown_node}
 use Rattle.congee_store.proofs.Unlike.{linked_private, linked_retired}
