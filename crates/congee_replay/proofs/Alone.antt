@@ -1,12 +1,11 @@
 -- A call that is alone ends within the events that its work counts.
-use Rattle.std.proofs.Common.{◌≡◌, ◌≢◌, ℕ, true, false, ◌+◌, ◌-◌, ◌*◌, ◌<◌, ◌≤◌, ◌^◌, List, [], ◌∷◌, Option, Some, None, ◌⊎◌, inl, inr, refl, sym, subst, ap, ◌∙◌, arith}
+use Rattle.std.proofs.Common.{◌≡◌, ℕ, false, ◌+◌, ◌-◌, ◌*◌, ◌<◌, ◌≤◌, ◌^◌, List, [], ◌∷◌, Option, Some, None, ◌⊎◌, inl, inr, refl, sym, subst, ap, ◌∙◌, arith}
 use Rattle.std.proofs.lemmas.Bool.Decides.{eqb_tells}
 use Rattle.congee_map.specs.Map.{Pairs, lookup}
 use Rattle.congee_protocol.specs.Alone.{Passes, EndsWithin, AllEnd}
 use Rattle.congee_protocol.specs.Alone.{IsUndisturbed as AreAlone}
-use Rattle.congee_protocol.specs.Calls.{Outline, IsPoint, outline_of}
+use Rattle.congee_protocol.specs.Calls.{Outline, outline_of}
 use Rattle.congee_protocol.specs.Runs.{IsServed, same_number}
-use Rattle.congee_protocol.specs.State.{Flight}
 use Rattle.congee_protocol.specs.declared.trace.Line.{Line}
 use Rattle.congee_protocol.specs.declared.trace.Line.TheVariants.{Done as Made, Skipped}
 use Rattle.congee_protocol.specs.declared.types.Env.{Env}

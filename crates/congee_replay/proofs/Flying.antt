@@ -9,7 +9,7 @@ use Rattle.congee_store.specs.inner.Shown.{flight, flight_in, state_of}
 use Rattle.congee_store.specs.inner.World.{World, call_of}
 use Rattle.congee_store.proofs.States.{shown_flight, flights_map}
 use Rattle.congee_store.proofs.Reaching.{lookup-inside}
-use Rattle.congee_store.proofs.Options.{none_some, some_same}
+use Rattle.congee_store.proofs.Options.{none_some}
 
 no_number : let n : Option ℕ = None in IsSome n → ⊥
 no_number h = cc

@@ -1,5 +1,5 @@
 -- What one event of a schedule does, by what the machine's methods say of it.
-use Rattle.std.proofs.Common.{◌≡◌, ℕ, ◌^◌, ◌<◌, List, [], Option, Some, None, IsSome, refl, sym, subst, ap, ◌∙◌}
+use Rattle.std.proofs.Common.{◌≡◌, ℕ, ◌^◌, ◌<◌, [], Option, Some, None, IsSome, refl, sym, subst, ap, ◌∙◌}
 use Rattle.congee_map.specs.Map.{lookup}
 use Rattle.congee_protocol.specs.Calls.{asked_of}
 use Rattle.congee_protocol.specs.Runs.{IsEnabled, IsServed, same_number, read_by, decided_by, decided_at}
@@ -21,7 +21,7 @@ use Rattle.congee_store.specs.inner.Facts.{IsSound}
 use Rattle.congee_store.specs.inner.Shown.{flight, state_of}
 use Rattle.congee_store.specs.inner.Turns.{IsBegun, IsTurn}
 use Rattle.congee_store.specs.inner.World.{World, call_of}
-use Rattle.congee_store.proofs.Options.{none_some, some_same}
+use Rattle.congee_store.proofs.Options.{none_some}
 use Rattle.congee_replay.specs.inner.Played.{last_read, noted, IsHappening}
 use Rattle.congee_replay.proofs.Flying.{flies, in_flight, no_call, small_at}
 

@@ -1,5 +1,5 @@
 -- From what events make of the content to the decided history.
-use Rattle.std.proofs.Common.{◌≡◌, ℕ, List, [], ◌∷◌, ◌++◌, map, Option, Some, None, refl, sym, subst, ap}
+use Rattle.std.proofs.Common.{◌≡◌, ℕ, List, [], ◌∷◌, ◌++◌, map, Option, Some, refl, sym, subst, ap}
 use Rattle.congee_map.proofs.Runs.{IsLegal-append}
 use Rattle.congee_map.specs.Call.{Deed}
 use Rattle.congee_map.specs.Legal.{IsLegal}

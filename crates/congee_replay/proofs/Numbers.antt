@@ -23,7 +23,7 @@ use Rattle.congee_protocol.specs.declared.types.Seen.{Seen}
 use Rattle.congee_store.specs.declared.stage.Record.{Record}
 use Rattle.congee_store.specs.declared.stage.Stored.{Stored}
 use Rattle.congee_store.specs.declared.stage.Task.{Task}
-use Rattle.congee_store.specs.inner.Meant.{meant_node, meant_stored, meant_slots, meant_task, meant_record, meant_calls, meant_world}
+use Rattle.congee_store.specs.inner.Meant.{meant_stored, meant_task, meant_record, meant_calls, meant_world}
 use Rattle.congee_store.specs.inner.Facts.{IsSound}
 use Rattle.congee_store.specs.inner.Turns.{IsBegun, IsTurn}
 use Rattle.congee_store.specs.inner.World.{World}

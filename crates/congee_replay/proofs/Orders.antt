@@ -1,8 +1,8 @@
 -- That the lines of each number are in order: what a call in flight is, its lines tell.
-use Rattle.std.proofs.Common.{◌≡◌, ◌≢◌, ℕ, ◌+◌, ◌^◌, Bool, true, false, IsTrue, List, [], ◌∷◌, Option, Some, None, ◌⊎◌, if◌then◌else◌, inl, inr, refl, sym, subst, ap, ◌∙◌}
+use Rattle.std.proofs.Common.{◌≡◌, ℕ, ◌+◌, ◌^◌, Bool, true, false, IsTrue, List, [], ◌∷◌, Option, Some, None, if◌then◌else◌, inl, inr, refl, sym, subst, ap, ◌∙◌}
 use Rattle.std.proofs.lemmas.Bool.Decides.{eqb_tells}
-use Rattle.congee_map.proofs.MapLaws.{lookup-put_same, lookup-put_other, lookup-without_same, lookup-without_other}
-use Rattle.congee_map.specs.Map.{Pairs, IsMap, lookup, put, without}
+use Rattle.congee_map.proofs.MapLaws.{lookup-put_same, lookup-put_other, lookup-without_same}
+use Rattle.congee_map.specs.Map.{Pairs, IsMap, lookup, put}
 use Rattle.congee_node_table.specs.TableNode.{TableNode}
 use Rattle.congee_protocol.proofs.Steps.{others_stay}
 use Rattle.congee_protocol.specs.Calls.{Outline, IsPoint, outline_of}

@@ -1,8 +1,8 @@
 -- From what is inside after each event to a run.
-use Rattle.std.proofs.Common.{◌≡◌, ℕ, List, [], ◌∷◌, ◌++◌, Option, Some, None, IsSome, refl, sym, subst, ap, ◌∙◌, append_assoc}
-use Rattle.congee_map.specs.Map.{Pairs, lookup}
+use Rattle.std.proofs.Common.{◌≡◌, ℕ, List, [], ◌∷◌, ◌++◌, Option, IsSome, refl, sym, subst, ap, ◌∙◌, append_assoc}
+use Rattle.congee_map.specs.Map.{Pairs}
 use Rattle.congee_protocol.specs.Content.{IsContent}
-use Rattle.congee_protocol.specs.Runs.{Entry, Happens, IsRun, IsHistory, decided_at, decided_by, decided_in, events_of, lines_of}
+use Rattle.congee_protocol.specs.Runs.{Happens, IsRun, IsHistory, decided_at, decided_by, decided_in, events_of, lines_of}
 use Rattle.congee_protocol.specs.State.{State, Flight}
 use Rattle.congee_protocol.specs.declared.trace.Decision.{Decision}
 use Rattle.congee_protocol.specs.declared.trace.Line.{Line}
@@ -12,7 +12,7 @@ use Rattle.congee_protocol.specs.declared.types.Event.TheVariants.{Start, Step, 
 use Rattle.congee_store.specs.inner.Facts.{IsSound}
 use Rattle.congee_store.specs.inner.Shown.{state_of}
 use Rattle.congee_store.specs.inner.World.{World}
-use Rattle.congee_replay.specs.inner.Played.{Plays, Move, entry_of, entries_of, IsMove, AreMoves, SoFar}
+use Rattle.congee_replay.specs.inner.Played.{Plays, Move, entries_of, IsMove, AreMoves, SoFar}
 use Rattle.congee_replay.proofs.Histories.{carried}
 use Rattle.congee_store.proofs.Changes.{same_content}
 use Rattle.congee_store.proofs.Formed.{well_formed}

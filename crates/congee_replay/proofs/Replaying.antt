@@ -1,11 +1,11 @@
 -- From the events that were made one by one to the theorem on the whole run.
-use Rattle.std.proofs.Common.{◌≡◌, ℕ, ◌^◌, ◌<◌, List, [], ◌∷◌, Option, None, refl, sym, subst, ap, ◌∙◌}
+use Rattle.std.proofs.Common.{◌≡◌, ℕ, ◌^◌, ◌<◌, List, [], Option, None, refl, sym, subst, ap, ◌∙◌}
 use Rattle.congee_map.specs.Map.{Pairs, lookup}
 use Rattle.congee_protocol.specs.Alone.{AllEnd}
 use Rattle.congee_protocol.specs.Content.{IsContent}
 use Rattle.congee_protocol.specs.Orderly.{IsOrderly}
 use Rattle.congee_protocol.specs.Replay.{IsReplayed}
-use Rattle.congee_protocol.specs.Runs.{Entry, fresh, IsRun, IsHistory, events_of, lines_of, decided_in}
+use Rattle.congee_protocol.specs.Runs.{Entry, fresh, IsRun, IsHistory, lines_of, decided_in}
 use Rattle.congee_protocol.specs.State.{State}
 use Rattle.congee_protocol.specs.declared.trace.Decision.{Decision}
 use Rattle.congee_protocol.specs.declared.trace.Line.{Line}
@@ -14,7 +14,7 @@ use Rattle.congee_store.specs.inner.Facts.{IsSound}
 use Rattle.congee_store.specs.inner.Shown.{state_of}
 use Rattle.congee_store.specs.inner.World.{World, call_of}
 use Rattle.congee_store.proofs.Options.{none_some}
-use Rattle.congee_replay.specs.inner.Played.{Move, entries_of, AreMoves, SoFar}
+use Rattle.congee_replay.specs.inner.Played.{entries_of, SoFar}
 use Rattle.congee_replay.proofs.Alone.{all_end}
 use Rattle.congee_replay.proofs.Flying.{no_call}
 use Rattle.congee_replay.proofs.Histories.{decided_history}

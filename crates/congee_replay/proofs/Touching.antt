@@ -1,5 +1,5 @@
 -- What a call touches was named to it, and hasn't been free since.
-use Rattle.std.proofs.Common.{◌≡◌, ◌≢◌, ℕ, ◌+◌, ◌^◌, ◌<◌, ◌≤◌, Bool, true, false, List, [], ◌∷◌, Option, Some, None, IsSome, ◌⊎◌, inl, inr, refl, sym, subst, ap, ◌∙◌, arith, if◌then◌else◌, nat_lt}
+use Rattle.std.proofs.Common.{◌≡◌, ◌≢◌, ℕ, ◌+◌, ◌^◌, ◌<◌, Bool, true, false, List, [], ◌∷◌, Option, Some, None, IsSome, ◌⊎◌, inl, inr, refl, sym, subst, ap, ◌∙◌, arith}
 use Rattle.std.proofs.lemmas.Bool.Decides.{eqb_tells}
 use Rattle.std.proofs.lemmas.Bool.{eq-eqb, ne_eqb, cases_lt, lt-ltb, le-ltb}
 use Rattle.congee_map.specs.Map.{Pairs, lookup, Rises}
@@ -9,7 +9,6 @@ use Rattle.congee_node_table.specs.declared.child.Child.TheVariants.{Node as bel
 use Rattle.congee_protocol.specs.Calls.{Outline, bytes_of, key_of}
 use Rattle.congee_protocol.specs.Reading.{child_for, first_from, bound_at}
 use Rattle.congee_protocol.specs.Runs.{Entry, read_by, same_number}
-use Rattle.congee_protocol.specs.State.{Flight}
 use Rattle.congee_protocol.specs.Touching.{Names, Vouches, IsKnown, MayTouch, Touches, AllTouchKnown}
 use Rattle.congee_protocol.specs.declared.trace.Line.{Line}
 use Rattle.congee_protocol.specs.declared.trace.Line.TheVariants.{Done as Made, Skipped}
@@ -34,7 +33,7 @@ use Rattle.congee_store.specs.declared.tail.Tail.TheVariants.{Upgrade, Write, Ma
 use Rattle.congee_store.specs.inner.Tables.{IsIn, IsBelow, IsPlaced, IsSafe, Known, IsThere, CameFrom, OnPath, Guarantees}
 use Rattle.congee_store.specs.inner.Tasks.{SawNode, Saw, key_bytes}
 use Rattle.congee_store.specs.inner.Facts.{named_at, Facts, FactsAt, IsSound}
-use Rattle.congee_store.specs.inner.Shown.{shown, flight, state_of}
+use Rattle.congee_store.specs.inner.Shown.{shown, state_of}
 use Rattle.congee_store.specs.inner.TailFacts.{AreHeld, IsHeld, IsOut, TailFacts}
 use Rattle.congee_store.specs.inner.Tails.{above_slots, path_slots, both_slots, named_in}
 use Rattle.congee_store.specs.inner.Turns.{Stays, MayFollow, IsCourse, IsTurn}

@@ -13,9 +13,9 @@ ghost use Rattle.congee_store.specs.inner.World.{Node};
 use congee_node_table::allocator::Allocator;
 use congee_node_table::child::Child;
 use congee_protocol::payload::HasMeaning;
-use congee_protocol::types::{Kind, Op};
-use congee_store::stage::{Spot, Stage, Task};
-use congee_store::stepped::{Stepped, decided, node_at, report};
+use congee_protocol::types::{Asking, Kind, Op, Outcome, Progress, Reply, Report};
+use congee_store::stage::{Record, Spot, Stage, Task};
+use congee_store::stepped::{Stepped, node_at, report};
 use congee_store::stock::Stock;
 use congee_store::store::Store;
 use congee_store::tail::Tail;
@@ -106,5 +106,49 @@ fn payload_of<P: Drop>(child: Option<Child<P>>) -> Option<P>
     match child {
         Some(Child::Payload(payload)) => Some(payload),
         _ => None,
+    }
+}
+
+/// A write that decides its call: what stood at the key is the reply.
+pub(crate) fn decided<P: Drop>(
+    task: Task<P>,
+    stage: Stage,
+    report: Report,
+    before: Option<P>,
+) -> Stepped<P>
+    ensures { result ≡ record {
+      call = record {
+        stage = stage;
+        task = record task {
+          op = None;
+          spare = None;
+          asking = Asking.Fresh;
+          progress = Progress.Decided;
+        };
+      };
+      report = report;
+      outcome = Outcome.Decided (Reply.Old before);
+    } }
+{
+    let Task {
+        outline,
+        op: _,
+        last,
+        spare: _,
+        asking: _,
+        progress: _,
+    } = task;
+    let task = Task {
+        outline,
+        op: None,
+        last,
+        spare: None,
+        asking: Asking::Fresh,
+        progress: Progress::Decided,
+    };
+    Stepped {
+        call: Record { stage, task },
+        report,
+        outcome: Outcome::Decided(Reply::Old(before)),
     }
 }

@@ -9,13 +9,13 @@ ghost use Rattle.congee_store.specs.inner.Tables.{IsIn};
 ghost use Rattle.congee_store.specs.inner.Tails.{one_more};
 ghost use Rattle.congee_store.specs.inner.World.{Node, is_linked};
 
-use crate::linking::byte_below;
+use crate::linking::{byte_below, decided};
 use congee_node_table::allocator::Allocator;
 use congee_node_table::child::Child;
 use congee_protocol::payload::HasMeaning;
 use congee_protocol::types::Kind;
 use congee_store::stage::{Stage, Task};
-use congee_store::stepped::{Stepped, decided, report};
+use congee_store::stepped::{Stepped, report};
 use congee_store::stock::Stock;
 use congee_store::store::Store;
 use congee_store::tail::{Pair, Tail};

@@ -10,7 +10,6 @@ use Rattle.congee_protocol.specs.declared.types.Event.{Event}
 use Rattle.congee_protocol.specs.declared.types.Event.TheVariants.{Start, Step, Reclaim}
 use Rattle.congee_protocol.specs.declared.types.Kind.{Kind}
 use Rattle.congee_protocol.specs.declared.types.Kind.TheVariants as kind
-use Rattle.congee_protocol.specs.declared.types.Outcome.{Outcome}
 use Rattle.congee_protocol.specs.declared.types.Outcome.TheVariants.{Going}
 use Rattle.congee_protocol.specs.declared.types.Seen.{Seen}
 use Rattle.congee_store.specs.declared.stage.Record.{Record}

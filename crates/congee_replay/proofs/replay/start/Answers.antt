@@ -1,4 +1,4 @@
-use Rattle.std.proofs.Common.{◌≡◌, ℕ, true, false, sym, subst, ◌∙◌}
+use Rattle.std.proofs.Common.{ℕ, sym, subst, ◌∙◌}
 use Rattle.congee_protocol.specs.Runs.{same_number}
 use Rattle.congee_protocol.specs.declared.types.Event.TheVariants.{Start}
 use Rattle.congee_protocol.specs.declared.types.Op.{Op}
