@@ -6,7 +6,6 @@
 
 /// The machine, whole schedules on it, and what both are told and say.
 pub mod olc;
-
 #[cfg(test)]
 mod tests;
 

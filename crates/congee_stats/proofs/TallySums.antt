@@ -181,6 +181,7 @@ nodes_told nodes levels tally stays =
   where
     below : (form : NodeType) (level : ℕ) → node_count form (level_of level nodes) + 1 < 2 ^ 64
     below form level = subst (λ l. node_count form l + 1 < 2 ^ 64) (tally.sums level) (stays.nodes level form)
+
     nodes_at : (form : NodeType) (level : ℕ) → node_count form (level_of level nodes) ≡ part (λ n. 1) level nodes form
     nodes_at N4 level = count-told nodes N4 level (below N4 level)
     nodes_at N16 level = count-told nodes N16 level (below N16 level)
@@ -194,6 +195,7 @@ entries_told nodes levels tally stays =
   where
     below : (form : NodeType) (level : ℕ) → entry_count form (level_of level nodes) + 1 < 2 ^ 64
     below form level = subst (λ l. entry_count form l + 1 < 2 ^ 64) (tally.sums level) (stays.entries level form)
+
     entries_here : (form : NodeType) (level : ℕ) → entry_count form (level_of level nodes) ≡ part (λ n. n.entries) level nodes form
     entries_here N4 level = entries-told nodes N4 level (below N4 level)
     entries_here N16 level = entries-told nodes N16 level (below N16 level)

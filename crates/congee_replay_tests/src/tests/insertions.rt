@@ -36,7 +36,15 @@ fn letter(kind: Kind) -> char {
 fn told(line: &Line) -> Option<char> {
     match line {
         Line::Done(report, Outcome::Refused, _) => Some(letter(report.kind).to_ascii_lowercase()),
-        Line::Done(Report { kind, ok: false, .. }, _, _) => Some(letter(*kind).to_ascii_lowercase()),
+        Line::Done(
+            Report {
+                kind,
+                ok: false,
+                ..
+            },
+            _,
+            _,
+        ) => Some(letter(*kind).to_ascii_lowercase()),
         Line::Done(report, _, _) => Some(letter(report.kind)),
         Line::Skipped => None,
     }
@@ -60,7 +68,11 @@ pub(super) fn step(id: u64, fail: bool) -> Event<u64> {
 }
 
 // So many events of a number's call.
-pub(super) fn push_steps(events: &mut Vec<Event<u64>>, id: u64, steps: usize) -> Result<(), AllocError> {
+pub(super) fn push_steps(
+    events: &mut Vec<Event<u64>>,
+    id: u64,
+    steps: usize,
+) -> Result<(), AllocError> {
     for _ in 0..steps {
         events.push(step(id, false))?;
     }
@@ -79,7 +91,10 @@ pub(super) fn push_insert(
 }
 
 // Insertions of these pairs, one after another.
-pub(super) fn push_all(events: &mut Vec<Event<u64>>, pairs: &[(u64, u64)]) -> Result<(), AllocError> {
+pub(super) fn push_all(
+    events: &mut Vec<Event<u64>>,
+    pairs: &[(u64, u64)],
+) -> Result<(), AllocError> {
     for pair in pairs {
         push_insert(events, 0, *pair, MANY)?;
     }
@@ -335,8 +350,14 @@ fn two_insertions_in_one_leaf(rt: HostRuntime) -> Result<(), Fail> {
 fn two_insertions_in_full_nodes(rt: HostRuntime) -> Result<(), Fail> {
     assert_eq!(rt; wrong_place(rt.alloc(), &four(1), (4, 4), (5, 5))?, None);
     assert_eq!(rt; wrong_place(rt.alloc(), &four(1), (4, 4), (1, 7))?, None);
-    assert_eq!(rt; wrong_place(rt.alloc(), &four(256), (1024, 4), (1280, 5))?, None);
-    assert_eq!(rt; wrong_place(rt.alloc(), &four(256), (1024, 4), (1, 7))?, None);
+    assert_eq!(rt;
+        wrong_place(rt.alloc(), &four(256), (1024, 4), (1280, 5))?,
+        None
+    );
+    assert_eq!(rt;
+        wrong_place(rt.alloc(), &four(256), (1024, 4), (1, 7))?,
+        None
+    );
     Ok(())
 }
 
