@@ -25,7 +25,7 @@ use Rattle.congee_node_table.proofs.DownLaws.{KeepsOthers}
 use Rattle.congee_node_table.proofs.WriteLaws.{KeepsSlots, Are-same, pairs-same, write}
 use Rattle.congee_changes.proofs.SplitLaws.{relevel, split}
 use Rattle.congee_map.proofs.LocalLaws.{put_local}
-use Rattle.congee_paths.proofs.PathEndLaws.{along}
+use Rattle.congee_paths.proofs.PathEndLaws.{along, ends_in}
 
 module _ {P : Type 0} (s t : Table P) (root : ℕ) (key : List ℕ) (bytes : AreBytes key) (full : length key ≡ 8) (v : P) where
   pub keeps_others : (levels : ℕ) (q : List ℕ) (slot : ℕ) (h : IsTree s (suc levels) q slot) → KeepsSlots slot s t → KeepsOthers q s t
@@ -126,47 +126,20 @@ module _ {P : Type 0} (s t : Table P) (root : ℕ) (key : List ℕ) (bytes : Are
         (leaf_sound x.leaf x.is_leaf) x.is_leaf.prefix x.is_leaf.children)
 
   -- the same from the place where the key's path ends
-  add_from : (above levels slot : ℕ) (q : List ℕ) (n : TableNode P) (b : ℕ) → node_at s slot ≡ Some n → PathTo s root key above levels q slot → IsTree s levels q slot → above ≤ length q → above + levels ≡ 8
-      → Finds key n (Absent b) → Adds s t slot key b v → Whole
-  add_from above zero slot q n b here path h deep sum e adds = absurd h
-  add_from above (suc levels) slot q n b here path h deep sum e adds =
-      let both : Some n ≡ Some h.node = sym here ∙ h.here in
-      let is : n ≡ h.node = cc in
-      let d : Finds key h.node (Absent b) = subst (λ m. Finds key m (Absent b)) is e in
-      add_at above levels slot q path h deep sum adds.0 b d.0 d.1 d.2 adds
-
   pub add_whole : (place : Place P) → EndsAt s root key place → (b : ℕ) → place.end ≡ Absent b → Adds s t place.slot key b v → Whole
   add_whole place a b is adds =
-      let w = a.leads in
-      add_from place.above w.levels place.slot w.q a.node b a.here w.path w.tree w.deep w.sum (subst (λ e. Finds key a.node e) is a.end) adds
-
-  change_from : (above levels slot : ℕ) (q : List ℕ) (n : TableNode P) (b : ℕ) (w : Bor P) → node_at s slot ≡ Some n → PathTo s root key above levels q slot → IsTree s levels q slot → above ≤ length q → above + levels ≡ 8
-      → Finds key n (Present b w) → SameElsewhere slot s t → WritesChild s t slot b (Payload v) → Whole
-  change_from above zero slot q n b w here path h deep sum e keeps writes = absurd h
-  change_from above (suc levels) slot q n b w here path h deep sum e keeps writes =
-      let both : Some n ≡ Some h.node = sym here ∙ h.here in
-      let is : n ≡ h.node = cc in
-      let d : Finds key h.node (Present b w) = subst (λ m. Finds key m (Present b w)) is e in
-      change_at above levels slot q path h deep sum (λ i m o there. keeps i o ∙ there) b w.now d.0 d.1 d.2 writes
+      let o = ends_in s root key place a (Absent b) is in
+      add_at place.above o.levels place.slot o.q o.path o.tree o.deep o.sum adds.0 b o.end.0 o.end.1 o.end.2 adds
 
   pub change_whole : (place : Place P) → EndsAt s root key place → (b : ℕ) (w : Bor P) → place.end ≡ Present b w → SameElsewhere place.slot s t → WritesChild s t place.slot b (Payload v) → Whole
   change_whole place a b w is keeps writes =
-      let k = a.leads in
-      change_from place.above k.levels place.slot k.q a.node b w a.here k.path k.tree k.deep k.sum (subst (λ e. Finds key a.node e) is a.end) keeps writes
-
-  split_from : (above levels slot : ℕ) (q : List ℕ) (n : TableNode P) (at : ℕ) → node_at s slot ≡ Some n → PathTo s root key above levels q slot → IsTree s levels q slot → Begins q key → above ≤ length q → above + levels ≡ 8
-      → Finds key n (Differs at) → Splits s t slot key at v → Whole
-  split_from above zero slot q n at here path h begins deep sum e x = absurd h
-  split_from above (suc levels) slot q n at here path h begins deep sum e x =
-      let both : Some n ≡ Some h.node = sym here ∙ h.here in
-      let is : n ≡ h.node = cc in
-      let d : Finds key h.node (Differs at) = subst (λ m. Finds key m (Differs at)) is e in
-      split_at_node above levels slot q path h deep sum x.keeps at d begins x
+      let o = ends_in s root key place a (Present b w) is in
+      change_at place.above o.levels place.slot o.q o.path o.tree o.deep o.sum (λ i m x there. keeps i x ∙ there) b w.now o.end.0 o.end.1 o.end.2 writes
 
   pub split_whole : (place : Place P) → EndsAt s root key place → (at : ℕ) → place.end ≡ Differs at → Splits s t place.slot key at v → Whole
   split_whole place a at is x =
-      let w = a.leads in
-      split_from place.above w.levels place.slot w.q a.node at a.here w.path w.tree w.begins w.deep w.sum (subst (λ e. Finds key a.node e) is a.end) x
+      let o = ends_in s root key place a (Differs at) is in
+      split_at_node place.above o.levels place.slot o.q o.path o.tree o.deep o.sum x.keeps at o.end o.begins x
 
 module _ {P : Type 0} (s : Table P) (root : ℕ) (key : List ℕ) (place : Place P) (a : EndsAt s root key place) where
   pub ready_change : (b : ℕ) (w : Bor P) (v : P) → place.end ≡ Present b w → HasChildUnder s place.slot b (Payload v)

@@ -20,11 +20,12 @@ use Rattle.congee_node_table.proofs.DownLaws.{KeepsOthers}
 use Rattle.congee_node_table.proofs.WriteLaws.{KeepsSlots, kept_children, AreChildren-put}
 use Rattle.congee_node_table.proofs.NodesLaws.{below, all_below, Replaces-trans, Replaces-all, down_nodes, kept_nodes, relevel_nodes, leaf_nodes, leaf_alone, put_among}
 use Rattle.congee_node_table.specs.Key.{next_byte}
-use Rattle.congee_paths.specs.inner.Descent.{PathTo, Finds, EndsAt}
+use Rattle.congee_paths.specs.inner.Descent.{PathTo, EndsAt}
 use Rattle.congee_paths.specs.inner.Root.{depth}
 use Rattle.congee_changes.specs.inner.Writes.{SameElsewhere, WritesChild, IsLeafOf, StandsFor, Adds, Splits}
 use Rattle.congee_paths.specs.declared.descent.End.TheVariants.{Differs, Absent, Present}
 use Rattle.congee_paths.specs.declared.descent.Place.{Place}
+use Rattle.congee_paths.proofs.PathEndLaws.{ends_in}
 use Rattle.congee_changes.proofs.DetachLaws.{nodes-same}
 use Rattle.congee_changes.proofs.InsertLaws.{keeps_others, leaf_here}
 
@@ -194,50 +195,34 @@ module _ {P : Type 0} (s t : Table P) (root : ℕ) (key : List ℕ) (bytes : Are
             ]
 
   -- a payload in place of one: the nodes stay
-  change_from : (above levels slot : ℕ) (q : List ℕ) (n : TableNode P) (b : ℕ) (w : Bor P) → node_at s slot ≡ Some n → PathTo s root key above levels q slot → IsTree s levels q slot → Finds key n (Present b w)
-      → SameElsewhere slot s t → WritesChild s t slot b (Payload v) → new ≡ old
-  change_from above zero slot q n b w here path h e keeps writes = absurd h
-  change_from above (suc levels) slot q n b w here path h e keeps writes =
-      let both : Some n ≡ Some h.node = sym here ∙ h.here in
-      let is : n ≡ h.node = cc in
-      let d : Finds key h.node (Present b w) = subst (λ m. Finds key m (Present b w)) is e in
+  pub change_shape : (place : Place P) → EndsAt s root key place → (b : ℕ) (w : Bor P) → place.end ≡ Present b w → SameElsewhere place.slot s t → WritesChild s t place.slot b (Payload v) → new ≡ old
+  change_shape place a b w is keeps writes =
+      let o = ends_in s root key place a (Present b w) is in
+      let h = o.tree in
       let p = h.node.prefix in
       let es = h.node.children in
       let x = writes h.node h.here in
-      let keeps' : KeepsSlots slot s t = λ i m o there. keeps i o ∙ there in
-      let seven : length p ≡ 7 = IsChild-found s levels p es b (Payload w.now) h.children d.2 in
-      let kept = kept_children s t levels slot h.node h.here keeps' es h.children in
-      let all = AreChildren-put (λ r j. IsTree t levels r j) p es b (Payload v) kept.0 seven in
-      let empty = leaf_nodes t levels p (put es b (Payload v)) seven all in
-      let present : IsSome (lookup es b) = rw d.2 refl in
-      let info : node_info q x.0 ≡ node_info q h.node =
-      info-same q x.0.prefix p x.0.form h.node.form (length x.0.children) (length es) x.2 x.4 (ap length x.3 ∙ length-put_some 0 256 es b (Payload v) h.sound.ordered present) in
-      let now : nodes_at t (suc levels) q slot ≡ node_info q h.node ∷ [] =
-      rw x.1 (ap (λ z. node_info q x.0 ∷ z) (nodes-same (below t levels) x.0.prefix p x.0.children (put es b (Payload v)) x.2 x.3 ∙ empty)) ∙ ap (λ i. i ∷ []) info in
-      let was = leaf_alone s (suc levels) q slot h.node h h.here seven in
-      let r = along_nodes s t root key above (suc levels) slot q path (keeps_others s t root key bytes full v levels q slot h keeps') in
+      let keeps' : KeepsSlots place.slot s t = λ i m apart there. keeps i apart ∙ there in
+      let seven : length p ≡ 7 = IsChild-found s o.levels p es b (Payload w.now) h.children o.end.2 in
+      let kept = kept_children s t o.levels place.slot h.node h.here keeps' es h.children in
+      let all = AreChildren-put (λ r j. IsTree t o.levels r j) p es b (Payload v) kept.0 seven in
+      let empty = leaf_nodes t o.levels p (put es b (Payload v)) seven all in
+      let present : IsSome (lookup es b) = rw o.end.2 refl in
+      let info : node_info o.q x.0 ≡ node_info o.q h.node =
+      info-same o.q x.0.prefix p x.0.form h.node.form (length x.0.children) (length es) x.2 x.4 (ap length x.3 ∙ length-put_some 0 256 es b (Payload v) h.sound.ordered present) in
+      let now : nodes_at t (suc o.levels) o.q place.slot ≡ node_info o.q h.node ∷ [] =
+      rw x.1 (ap (λ z. node_info o.q x.0 ∷ z) (nodes-same (below t o.levels) x.0.prefix p x.0.children (put es b (Payload v)) x.2 x.3 ∙ empty)) ∙ ap (λ i. i ∷ []) info in
+      let was = leaf_alone s (suc o.levels) o.q place.slot h.node h h.here seven in
+      let r = along_nodes s t root key place.above (suc o.levels) place.slot o.q o.path (keeps_others s t root key bytes full v o.levels o.q place.slot h keeps') in
       r.is ∙ ap (λ z. r.before ++ (z ++ r.after)) (now ∙ sym was) ∙ sym r.was
-
-  pub change_shape : (place : Place P) → EndsAt s root key place → (b : ℕ) (w : Bor P) → place.end ≡ Present b w → SameElsewhere place.slot s t → WritesChild s t place.slot b (Payload v) → new ≡ old
-  change_shape place a b w is keeps writes =
-      let k = a.leads in
-      change_from place.above k.levels place.slot k.q a.node b w a.here k.path k.tree (subst (λ e. Finds key a.node e) is a.end) keeps writes
-
-  add_from : (above levels slot : ℕ) (q : List ℕ) (n : TableNode P) (b : ℕ) → node_at s slot ≡ Some n → PathTo s root key above levels q slot → IsTree s levels q slot → above ≤ length q → above + levels ≡ 8
-      → Finds key n (Absent b) → Adds s t slot key b v → FillsAt n ⊎ AddsAt n
-  add_from above zero slot q n b here path h deep sum e adds = absurd h
-  add_from above (suc levels) slot q n b here path h deep sum e adds =
-      let both : Some n ≡ Some h.node = sym here ∙ h.here in
-      let is : n ≡ h.node = cc in
-      let d : Finds key h.node (Absent b) = subst (λ m. Finds key m (Absent b)) is e in
-      let x = adds.1 h.node h.here in
-      subst (λ m. FillsAt m ⊎ AddsAt m) (sym is)
-      (add_here above levels slot q path h deep sum adds.0 x.0 x.1 d.1 (subst (λ y. lookup h.node.children y ≡ None) d.0 d.2) x.2 x.3 (subst (λ y. x.1.children ≡ put h.node.children y x.0) d.0 x.4) x.5 x.6)
 
   pub add_at : (place : Place P) (a : EndsAt s root key place) (b : ℕ) → place.end ≡ Absent b → Adds s t place.slot key b v → FillsAt a.node ⊎ AddsAt a.node
   add_at place a b is adds =
-      let w = a.leads in
-      add_from place.above w.levels place.slot w.q a.node b a.here w.path w.tree w.deep w.sum (subst (λ e. Finds key a.node e) is a.end) adds
+      let o = ends_in s root key place a (Absent b) is in
+      let h = o.tree in
+      let x = adds.1 h.node h.here in
+      subst (λ m. FillsAt m ⊎ AddsAt m) (sym o.is)
+      (add_here place.above o.levels place.slot o.q o.path h o.deep o.sum adds.0 x.0 x.1 o.end.1 (subst (λ y. lookup h.node.children y ≡ None) o.end.0 o.end.2) x.2 x.3 (subst (λ y. x.1.children ≡ put h.node.children y x.0) o.end.0 x.4) x.5 x.6)
 
   pub add_shape : (place : Place P) → EndsAt s root key place → (b : ℕ) → place.end ≡ Absent b → Adds s t place.slot key b v → FillsLeaf old key new ⊎ (AddsLeaf old key new ⊎ SplitsNode old key new)
   add_shape place a b is adds =
@@ -246,19 +231,10 @@ module _ {P : Type 0} (s t : Table P) (root : ℕ) (key : List ℕ) (bytes : Are
         | inr x ↦ inr (inl x.shape)
       ]
 
-  split_from : (above levels slot : ℕ) (q : List ℕ) (n : TableNode P) (at : ℕ) → node_at s slot ≡ Some n → PathTo s root key above levels q slot → IsTree s levels q slot → Begins q key → above ≤ length q → above + levels ≡ 8
-      → Finds key n (Differs at) → Splits s t slot key at v → SplitsNode old key new
-  split_from above zero slot q n at here path h begins deep sum e x = absurd h
-  split_from above (suc levels) slot q n at here path h begins deep sum e x =
-      let both : Some n ≡ Some h.node = sym here ∙ h.here in
-      let is : n ≡ h.node = cc in
-      let d : Finds key h.node (Differs at) = subst (λ m. Finds key m (Differs at)) is e in
-      split_here above levels slot q path h deep sum x.keeps at d begins x
-
   pub split_at : (place : Place P) → EndsAt s root key place → (at : ℕ) → place.end ≡ Differs at → Splits s t place.slot key at v → SplitsNode old key new
   split_at place a at is x =
-      let w = a.leads in
-      split_from place.above w.levels place.slot w.q a.node at a.here w.path w.tree w.begins w.deep w.sum (subst (λ e. Finds key a.node e) is a.end) x
+      let o = ends_in s root key place a (Differs at) is in
+      split_here place.above o.levels place.slot o.q o.path o.tree o.deep o.sum x.keeps at o.end o.begins x
 
   pub split_shape : (place : Place P) → EndsAt s root key place → (at : ℕ) → place.end ≡ Differs at → Splits s t place.slot key at v → FillsLeaf old key new ⊎ (AddsLeaf old key new ⊎ SplitsNode old key new)
   split_shape place a at is x = inr (inr (split_at place a at is x))

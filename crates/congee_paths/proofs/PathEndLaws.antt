@@ -69,6 +69,38 @@ module _ {P : Type 0} (s : Table P) (root : ℕ) (key : List ℕ) where
   pub leads_short : (above slot parent : ℕ) → LeadsTo s root key above slot parent → above < 8
   leads_short above slot parent w = let l = levels_left w.levels slot w.q w.tree in omega (arith, w.sum)
 
+  -- the subtree at the end of the key's path, below this node, and what was found there
+  pub record EndsIn (place : Place P) (n : TableNode P) (e : End P) : Type 0 where
+    pub levels : ℕ
+    pub q : List ℕ
+    pub path : PathTo s root key place.above (suc levels) q place.slot
+    pub tree : IsTree s (suc levels) q place.slot
+    pub is : n ≡ tree.node
+    pub begins : Begins q key
+    pub deep : place.above ≤ length q
+    pub sum : place.above + suc levels ≡ 8
+    pub end : Finds key tree.node e
+
+  pub ends_in : (place : Place P) (a : EndsAt s root key place) (e : End P) → place.end ≡ e → EndsIn place a.node e
+  ends_in place a e found = let w = a.leads in at w.levels w.q w.path w.tree w.begins w.deep w.sum
+    where
+      at : (levels : ℕ) (q : List ℕ) → PathTo s root key place.above levels q place.slot → IsTree s levels q place.slot → Begins q key → place.above ≤ length q → place.above + levels ≡ 8 → EndsIn place a.node e
+      at zero q path h begins deep sum = absurd h
+      at (suc levels) q path h begins deep sum =
+          let both : Some a.node ≡ Some h.node = sym a.here ∙ h.here in
+          let is : a.node ≡ h.node = cc in
+          record {
+            levels = levels;
+            q = q;
+            path = path;
+            tree = h;
+            is = is;
+            begins = begins;
+            deep = deep;
+            sum = sum;
+            end = subst (λ m. Finds key m e) is (subst (λ x. Finds key a.node x) found a.end);
+          }
+
   module _ (bytes : AreBytes key) (full : length key ≡ 8) where
     -- what is found in the whole is found at the end of the path
     pub lookup_along : (above levels slot : ℕ) (q : List ℕ) → PathTo s root key above levels q slot → lookup (pairs_at s depth root) (key_number key) ≡ lookup (pairs_at s levels slot) (key_number key)

@@ -3,8 +3,7 @@ use Rattle.std.proofs.Common.{◌≡◌, ◌≢◌, ℕ, zero, suc, ◌+◌, ◌
 use Rattle.std.proofs.lemmas.Bool.{eq-eqb, ne_eqb, cases_eq, cases_Bool}
 use Rattle.congee_map.specs.Map.{lookup, Rises}
 use Rattle.congee_node_table.specs.Key.{Begins, AreBytes, IsFirstDifference}
-use Rattle.congee_node_table.specs.Table.{Table, NodeInfo, node_at, nodes_under, nodes_of, nodes_at, IsChild, AreChildren, IsTree}
-use Rattle.congee_node_table.specs.TableNode.{TableNode}
+use Rattle.congee_node_table.specs.Table.{Table, NodeInfo, nodes_under, nodes_of, nodes_at, IsChild, AreChildren, IsTree}
 use Rattle.congee_node_table.specs.declared.child.Child.{Child}
 use Rattle.congee_node_table.specs.declared.child.Child.TheVariants.{Payload, Node}
 use Rattle.congee_map.proofs.MapLaws.{lookup-below}
@@ -21,7 +20,7 @@ use Rattle.congee_paths.specs.inner.Root.{depth}
 use Rattle.congee_paths.specs.declared.descent.End.{End}
 use Rattle.congee_paths.specs.declared.descent.End.TheVariants.{Differs, Absent, Present}
 use Rattle.congee_paths.specs.declared.descent.Place.{Place}
-use Rattle.congee_paths.proofs.PathEndLaws.{leads_short}
+use Rattle.congee_paths.proofs.PathEndLaws.{ends_in, leads_short}
 
 -- no node below bytes that the key leaves is on its path
 on_path-off : (q : List ℕ) (ns : List NodeInfo) (key : List ℕ) → AllBegin q ns → begins q key ≡ false → on_path ns key ≡ 0
@@ -94,37 +93,27 @@ module _ {P : Type 0} (s : Table P) where
         let same : on_path (nodes_at s levels (p ++ b ∷ []) slot) key ≡ on_path (nodes_at s levels q slot) key = ap (λ r. on_path (nodes_at s levels r slot) key) (sym path.is) in
         omega (arith, ih, one', same)
 
-    last : (levels slot : ℕ) (q : List ℕ) (n : TableNode P) (e : End P) → Begins q key → IsTree s levels q slot → node_at s slot ≡ Some n → Finds key n e → on_path (nodes_at s levels q slot) key ≡ 1
-    last zero slot q n e begins h here end = absurd h
-    last (suc levels) slot q n (Differs at) goes h here d =
-        let both : Some n ≡ Some h.node = sym here ∙ h.here in
-        let is : n ≡ h.node = cc in
-        let d' : IsFirstDifference h.node.prefix key at = subst (λ (m : TableNode P). IsFirstDifference m.prefix key at) is d in
-        let none = on_path-off h.node.prefix (nodes_of (below s levels) h.node.prefix h.node.children) key (all_below s levels h.node.prefix h.node.children h.children) (differs_begins h.node.prefix key at d') in
+    last : (levels slot : ℕ) (q : List ℕ) (h : IsTree s (suc levels) q slot) (e : End P) → Begins q key → Finds key h.node e → on_path (nodes_at s (suc levels) q slot) key ≡ 1
+    last levels slot q h (Differs at) goes d =
+        let none = on_path-off h.node.prefix (nodes_of (below s levels) h.node.prefix h.node.children) key (all_below s levels h.node.prefix h.node.children h.children) (differs_begins h.node.prefix key at d) in
         rw (h.here, goes.holds) (ap (λ x. 1 + x) none)
-    last (suc levels) slot q n (Absent b) goes h here d =
-        let both : Some n ≡ Some h.node = sym here ∙ h.here in
-        let is : n ≡ h.node = cc in
-        let d' : Finds key h.node (Absent b) = subst (λ m. Finds key m (Absent b)) is d in
-        let none : lookup h.node.children (next_byte h.node.prefix key) ≡ None = subst (λ x. lookup h.node.children x ≡ None) d'.0 d'.2 in
-        let one = at_node levels q slot h d'.1 in
+    last levels slot q h (Absent b) goes d =
+        let none : lookup h.node.children (next_byte h.node.prefix key) ≡ None = subst (λ x. lookup h.node.children x ≡ None) d.0 d.2 in
+        let one = at_node levels q slot h d.1 in
         let one' = rw none at one in
         omega (arith, one')
-    last (suc levels) slot q n (Present b w) goes h here d =
-        let both : Some n ≡ Some h.node = sym here ∙ h.here in
-        let is : n ≡ h.node = cc in
-        let d' : Finds key h.node (Present b w) = subst (λ m. Finds key m (Present b w)) is d in
-        let found : lookup h.node.children (next_byte h.node.prefix key) ≡ Some (Payload w.now) = subst (λ x. lookup h.node.children x ≡ Some (Payload w.now)) d'.0 d'.2 in
-        let one = at_node levels q slot h d'.1 in
+    last levels slot q h (Present b w) goes d =
+        let found : lookup h.node.children (next_byte h.node.prefix key) ≡ Some (Payload w.now) = subst (λ x. lookup h.node.children x ≡ Some (Payload w.now)) d.0 d.2 in
+        let one = at_node levels q slot h d.1 in
         let one' = rw found at one in
         omega (arith, one')
 
     -- the nodes on the key's path are the last one and those above it
     pub path_length : (place : Place P) → EndsAt s root key place → on_path (nodes_at s depth [] root) key ≡ place.above + 1
     path_length place a =
-        let w = a.leads in
-        let x = along place.above w.levels place.slot w.q w.path in
-        let y = last w.levels place.slot w.q a.node place.end w.begins w.tree a.here a.end in
+        let o = ends_in s root key place a place.end refl in
+        let x = along place.above (suc o.levels) place.slot o.q o.path in
+        let y = last o.levels place.slot o.q o.tree place.end o.begins o.end in
         omega (arith, x, y)
 
     pub path_short : (place : Place P) → EndsAt s root key place → on_path (nodes_at s depth [] root) key ≤ 8

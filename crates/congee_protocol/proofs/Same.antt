@@ -12,28 +12,28 @@ use Rattle.congee_protocol.specs.declared.types.Op.TheVariants.{Get, Insert, Rem
 use Rattle.congee_protocol.specs.declared.types.Seen.{Seen}
 
 module _ {X : Type 0} where
-  some_same : (f : X → X) → ((x : X) → f x ≡ x) → (o : Option X) → in_some f o ≡ o
+  pub some_same : (f : X → X) → ((x : X) → f x ≡ x) → (o : Option X) → in_some f o ≡ o
   some_same f h None = refl
   some_same f h (Some x) = ap Some (h x)
 
-  list_same : (f : X → X) → ((x : X) → f x ≡ x) → (es : List (ℕ × X)) → mapped f es ≡ es
+  pub list_same : (f : X → X) → ((x : X) → f x ≡ x) → (es : List (ℕ × X)) → mapped f es ≡ es
   list_same f h [] = refl
   list_same f h (e ∷ es) = ap (λ x. (e.0, x) ∷ mapped f es) (h e.1) ∙ ap (λ t. e ∷ t) (list_same f h es)
 
-abbrev itself : ℕ → ℕ
+abbrev pub itself : ℕ → ℕ
 itself x = x
 
-child_same : (c : Child ℕ) → child_of itself c ≡ c
+pub child_same : (c : Child ℕ) → child_of itself c ≡ c
 child_same (Payload v) = refl
 child_same (node slot) = refl
 
-number_same : (o : Option ℕ) → in_some itself o ≡ o
+pub number_same : (o : Option ℕ) → in_some itself o ≡ o
 number_same = some_same itself (λ x. refl)
 
-seen_same : (s : Seen ℕ) → seen_of itself s ≡ s
+pub seen_same : (s : Seen ℕ) → seen_of itself s ≡ s
 seen_same s = ap (λ (c : Option (Child ℕ)). record s { child = c }) (some_same (child_of itself) child_same s.child)
 
-op_same : (op : Op ℕ) → op_of itself op ≡ op
+pub op_same : (op : Op ℕ) → op_of itself op ≡ op
 op_same (Get k) = refl
 op_same (Insert k v) = refl
 op_same (Remove k) = refl
@@ -42,7 +42,7 @@ op_same (ComputeOrInsert k v) = refl
 op_same (CompareExchange k old new) = ap (CompareExchange k old) (number_same new)
 op_same (Range a b n) = refl
 
-asking_same : (a : Asking ℕ) → asking_of itself a ≡ a
+pub asking_same : (a : Asking ℕ) → asking_of itself a ≡ a
 asking_same Fresh = refl
 asking_same (Wants old) = ap Wants (number_same old)
 asking_same (Given old answer) = ap (λ o. Given o (in_some itself answer)) (number_same old) ∙ ap (Given old) (number_same answer)

@@ -1,5 +1,6 @@
-pub mod Events
 pub mod Pieces
+pub mod Events
+pub mod Descending
 pub mod Inserting
 pub mod Growing
 pub mod Splitting

@@ -37,13 +37,13 @@ refused_not_open e = cc
 pub cons_nil : {X : Type 0} (x : X) (xs : List X) → (x ∷ xs) ≡ [] → ⊥
 cons_nil x xs e = cc
 
-false_true : IsTrue false → ⊥
+pub false_true : IsTrue false → ⊥
 false_true e = cc
 
-some_is : {X : Type 0} (x y : X) → Some x ≡ Some y → x ≡ y
+pub some_is : {X : Type 0} (x y : X) → Some x ≡ Some y → x ≡ y
 some_is x y e = cc
 
-no_some : {X : Type 0} (x : X) → None ≡ Some x → ⊥
+pub no_some : {X : Type 0} (x : X) → None ≡ Some x → ⊥
 no_some x e = cc
 
 pub five_four : 5 ≤ 4 → ⊥

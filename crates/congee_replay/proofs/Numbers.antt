@@ -1,18 +1,15 @@
 -- The meaning of a number is the number, so what is inside over numbers is what it means.
-use Rattle.std.proofs.Common.{◌≡◌, ℕ, List, [], ◌∷◌, map, Option, Some, None, Result, Ok, Err, refl, sym, subst, ap, ◌∙◌}
+use Rattle.std.proofs.Common.{◌≡◌, ℕ, List, [], ◌∷◌, map, Option, Result, Ok, Err, refl, sym, subst, ap, ◌∙◌}
 use Rattle.congee_map.specs.Map.{Pairs}
 use Rattle.congee_node_table.specs.inner.Kinds.{mapped}
 use Rattle.congee_node_table.specs.declared.child.Child.{Child}
-use Rattle.congee_node_table.specs.declared.child.Child.TheVariants.{Payload, Node as node}
 use Rattle.congee_protocol.specs.Meaning.{in_some, child_of, seen_of, op_of, asking_of, both_of, exchanged_of, reply_of, outcome_of, env_of, meant}
 use Rattle.congee_protocol.specs.declared.types.Asking.{Asking}
-use Rattle.congee_protocol.specs.declared.types.Asking.TheVariants.{Fresh, Wants, Given}
 use Rattle.congee_protocol.specs.declared.types.Env.{Env}
 use Rattle.congee_protocol.specs.declared.types.Op.{Op}
-use Rattle.congee_protocol.specs.declared.types.Op.TheVariants.{Get, Insert, Remove, ComputeIfPresent, ComputeOrInsert, CompareExchange, Range}
 use Rattle.congee_protocol.specs.declared.types.Outcome.{Outcome}
 use Rattle.congee_protocol.specs.declared.types.Outcome.TheVariants.{Going, Ask, Pair, Decided, Refused, Done, Unknown}
-use Rattle.congee_protocol.proofs.Same.{state_same}
+use Rattle.congee_protocol.proofs.Same.{some_same, list_same, itself, child_same, number_same, seen_same, op_same, asking_same, state_same}
 use Rattle.congee_protocol.specs.Content.{IsContent}
 use Rattle.congee_protocol.specs.Runs.{same_number}
 use Rattle.congee_protocol.specs.State.{State}
@@ -28,45 +25,9 @@ use Rattle.congee_store.specs.inner.Facts.{IsSound}
 use Rattle.congee_store.specs.inner.Turns.{IsBegun, IsTurn}
 use Rattle.congee_store.specs.inner.World.{World}
 
-module _ {X : Type 0} (f : X → X) (h : (x : X) → f x ≡ x) where
-  in_same : (o : Option X) → in_some f o ≡ o
-  in_same None = refl
-  in_same (Some x) = ap Some (h x)
-
-  each_same : (xs : List X) → map f xs ≡ xs
-  each_same [] = refl
-  each_same (x ∷ xs) = ap (λ y. y ∷ map f xs) (h x) ∙ ap (λ t. x ∷ t) (each_same xs)
-
-  mapped_same : (es : List (ℕ × X)) → mapped f es ≡ es
-  mapped_same [] = refl
-  mapped_same (e ∷ es) = ap (λ x. (e.0, x) ∷ mapped f es) (h e.1) ∙ ap (λ t. e ∷ t) (mapped_same es)
-
-abbrev pub itself : ℕ → ℕ
-itself x = x
-
-number_same : (o : Option ℕ) → in_some itself o ≡ o
-number_same = in_same itself (λ x. refl)
-
-child_same : (c : Child ℕ) → child_of itself c ≡ c
-child_same (Payload v) = refl
-child_same (node slot) = refl
-
-seen_same : (s : Seen ℕ) → seen_of itself s ≡ s
-seen_same s = ap (λ (c : Option (Child ℕ)). record s { child = c }) (in_same (child_of itself) child_same s.child)
-
-pub op_same : (op : Op ℕ) → op_of itself op ≡ op
-op_same (Get k) = refl
-op_same (Insert k v) = refl
-op_same (Remove k) = refl
-op_same (ComputeIfPresent k) = refl
-op_same (ComputeOrInsert k v) = refl
-op_same (CompareExchange k old new) = ap (CompareExchange k old) (number_same new)
-op_same (Range a b n) = refl
-
-asking_same : (a : Asking ℕ) → asking_of itself a ≡ a
-asking_same Fresh = refl
-asking_same (Wants old) = ap Wants (number_same old)
-asking_same (Given old answer) = ap (λ o. Given o (in_some itself answer)) (number_same old) ∙ ap (Given old) (number_same answer)
+each_same : {X : Type 0} (f : X → X) → ((x : X) → f x ≡ x) → (xs : List X) → map f xs ≡ xs
+each_same f h [] = refl
+each_same f h (x ∷ xs) = ap (λ y. y ∷ map f xs) (h x) ∙ ap (λ t. x ∷ t) (each_same f h xs)
 
 pub env_same : (env : Env ℕ) → env_of itself env ≡ env
 env_same env =
@@ -82,7 +43,7 @@ exchanged_same (Err standing) = ap Err (number_same standing)
 
 reply_same : (r : Reply ℕ) → reply_of itself r ≡ r
 reply_same (Old before) = ap Old (number_same before)
-reply_same (Computed both) = ap Computed (in_same (both_of itself) both_same both)
+reply_same (Computed both) = ap Computed (some_same (both_of itself) both_same both)
 reply_same (Exchanged r) = ap Exchanged (exchanged_same r)
 
 pub outcome_same : (out : Outcome ℕ) → outcome_of itself out ≡ out
@@ -96,8 +57,8 @@ outcome_same Unknown = refl
 
 task_same : (t : Task ℕ) → meant_task itself t ≡ t
 task_same t =
-    ap (λ (o : Option (Op ℕ)). record t { op = o; last = in_some (seen_of itself) t.last; spare = in_some itself t.spare; asking = asking_of itself t.asking }) (in_same (op_of itself) op_same t.op)
-    ∙ (ap (λ (s : Option (Seen ℕ)). record t { last = s; spare = in_some itself t.spare; asking = asking_of itself t.asking }) (in_same (seen_of itself) seen_same t.last)
+    ap (λ (o : Option (Op ℕ)). record t { op = o; last = in_some (seen_of itself) t.last; spare = in_some itself t.spare; asking = asking_of itself t.asking }) (some_same (op_of itself) op_same t.op)
+    ∙ (ap (λ (s : Option (Seen ℕ)). record t { last = s; spare = in_some itself t.spare; asking = asking_of itself t.asking }) (some_same (seen_of itself) seen_same t.last)
     ∙ (ap (λ (o : Option ℕ). record t { spare = o; asking = asking_of itself t.asking }) (number_same t.spare)
     ∙ ap (λ (a : Asking ℕ). record t { asking = a }) (asking_same t.asking)))
 
@@ -105,16 +66,16 @@ record_same : (r : Record ℕ) → meant_record itself r ≡ r
 record_same r = ap (λ (t : Task ℕ). record r { task = t }) (task_same r.task)
 
 stored_same : (n : Stored ℕ) → meant_stored itself n ≡ n
-stored_same n = ap (λ (cs : List (ℕ × Child ℕ)). record n { node = record n.node { children = cs } }) (mapped_same (child_of itself) child_same n.node.children)
+stored_same n = ap (λ (cs : List (ℕ × Child ℕ)). record n { node = record n.node { children = cs } }) (list_same (child_of itself) child_same n.node.children)
 
 -- WHAT IS INSIDE over numbers is its meaning.
 pub world_same : (w : World ℕ) → meant_world itself w ≡ w
 world_same w =
-    ap (λ (slots : List (Option (Stored ℕ))). record w { slots = slots; calls = meant_calls itself w.calls }) (each_same (in_some (meant_stored itself)) (in_same (meant_stored itself) stored_same) w.slots)
-    ∙ ap (λ (calls : List (ℕ × Option (Record ℕ))). record w { calls = calls }) (mapped_same (in_some (meant_record itself)) (in_same (meant_record itself) record_same) w.calls)
+    ap (λ (slots : List (Option (Stored ℕ))). record w { slots = slots; calls = meant_calls itself w.calls }) (each_same (in_some (meant_stored itself)) (some_same (meant_stored itself) stored_same) w.slots)
+    ∙ ap (λ (calls : List (ℕ × Option (Record ℕ))). record w { calls = calls }) (list_same (in_some (meant_record itself)) (some_same (meant_record itself) record_same) w.calls)
 
 pub pairs_same : (m : Pairs ℕ) → mapped itself m ≡ m
-pairs_same m = mapped_same itself (λ x. refl) m
+pairs_same m = list_same itself (λ x. refl) m
 
 -- So what the machine's methods say of meanings, they say of what is inside.
 pub sound_itself : (w : World ℕ) → IsSound (Unit {0}) (meant_world itself w) → IsSound (Unit {0}) w
