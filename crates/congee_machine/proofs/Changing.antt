@@ -42,16 +42,16 @@ module _ {M : Type 0} where
 module _ {M : Type 0} (w : World M) (pins : PinsView) (calls : List (ℕ × Option (Record M))) (id : ℕ)
     (seated : Bool) (pin : Option ℕ) (place : Option (Option (Record M)))
     (seat : ChangesSeat w.pins pins id seated pin) (places : ChangesPlace w.calls calls id place) where
-  pub changed_sound : (Granted : Type 0) → IsSound Granted w
-      → ((r : Record M) (p : ℕ) → record_in place ≡ Some r → pin ≡ Some p → Facts Granted (table_of w) w.root p r)
+  pub changed_sound : (Granted : Type 0) (same : M → M → Bool) → IsSound Granted same w
+      → ((r : Record M) (p : ℕ) → record_in place ≡ Some r → pin ≡ Some p → Facts Granted same (table_of w) w.root p r)
       → ((r : Record M) → record_in place ≡ Some r → IsSome pin)
       → ((p : ℕ) → pin ≡ Some p → IsSome (record_in place))
       → (seated ≡ true → IsSome place)
       → ((p : ℕ) → pin ≡ Some p → p ≤ w.pins.count)
       → SameHeld (record_in place) (call_of w id)
       → ((r : Record M) → record_in place ≡ Some r → id < 2 ^ 64)
-      → IsSound Granted (record w { pins = pins; calls = calls })
-  changed_sound Granted sound facts pinned called room before holds small =
+      → IsSound Granted same (record w { pins = pins; calls = calls })
+  changed_sound Granted same sound facts pinned called room before holds small =
       let here = ap record_in places.here in
       let all : (o : ℕ) → SameHeld (record_in (entry_at calls o)) (call_of w o) = λ o.
       elim (eqb_tells o id) [
@@ -61,7 +61,7 @@ module _ {M : Type 0} (w : World M) (pins : PinsView) (calls : List (ℕ × Opti
       ] in
       record {
         placed = subst (λ l. IsPlaced (table_on w.slots l) w.root) (sym seat.slots) sound.placed;
-        facts = λ o p r e f. subst (λ l. Facts Granted (table_on w.slots l) w.root p r) (sym seat.slots)
+        facts = λ o p r e f. subst (λ l. Facts Granted same (table_on w.slots l) w.root p r) (sym seat.slots)
             (elim (eqb_tells o id) [
               | inl same ↦ facts r p (sym here ∙ subst (λ z. record_in (entry_at calls z) ≡ Some r) same.1 e) (sym seat.pinned ∙ subst (λ z. pin_of pins z ≡ Some p) same.1 f)
               | inr off ↦ sound.facts o p r (sym (ap record_in (places.others o off.1)) ∙ e) (sym (seat.other_pins o off.1) ∙ f)
@@ -143,9 +143,9 @@ module _ {M : Type 0} (w : World M) (pins : PinsView) (calls : List (ℕ × Opti
     (seated : Bool) (place : Option (Option (Record M)))
     (seat : ChangesSeat w.pins pins id seated (pin_of w.pins id)) (places : ChangesPlace w.calls calls id place)
     (stays : record_in place ≡ call_of w id) where
-  pub reseated_sound : (Granted : Type 0) → IsSound Granted w → (seated ≡ true → IsSome place) → IsSound Granted (record w { pins = pins; calls = calls })
-  reseated_sound Granted sound room =
-      changed_sound w pins calls id seated (pin_of w.pins id) place seat places Granted sound
+  pub reseated_sound : (Granted : Type 0) (same : M → M → Bool) → IsSound Granted same w → (seated ≡ true → IsSome place) → IsSound Granted same (record w { pins = pins; calls = calls })
+  reseated_sound Granted same sound room =
+      changed_sound w pins calls id seated (pin_of w.pins id) place seat places Granted same sound
       (λ r p e f. sound.facts id p r (sym stays ∙ e) f)
       (λ r e. sound.pinned id r (sym stays ∙ e))
       (λ p f. subst (λ (x : Option (Record M)). IsSome x) (sym stays) (sound.called id p f))

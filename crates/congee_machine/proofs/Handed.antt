@@ -43,8 +43,8 @@ module _ {X : Type 0} where
   pub absent : (x : Option X) → x ≡ None → IsSome x → ⊥
   absent x e h = nothing_there X (subst (λ (z : Option X). IsSome z) e h)
 
-module _ {P M : Type 0} (meaning : P → M) (Granted : Type 0) (w : World P) (id : ℕ) (small : id < 2 ^ 64)
-    (sound : IsSound Granted (meant_world meaning w)) where
+module _ {P M : Type 0} (meaning : P → M) (Granted : Type 0) (same : M → M → Bool) (w : World P) (id : ℕ) (small : id < 2 ^ 64)
+    (sound : IsSound Granted same (meant_world meaning w)) where
   -- a call in flight has a pin
   pub pin_there : (r : Record P) → call_of w id ≡ Some r → (pin : ℕ) × (pin_of w.pins id ≡ Some pin)
   pin_there r found =
@@ -108,11 +108,11 @@ refusal_known progress.Decided e = going_unknown e
 refusal_known progress.Refused e = going_unknown e
 
 -- no call of a number that isn't in flight is handed
-module _ {P M : Type 0} (meaning : P → M) (Granted : Type 0) (w : World P) (id : ℕ) (small : id < 2 ^ 64)
-    (sound : IsSound Granted (meant_world meaning w)) where
+module _ {P M : Type 0} (meaning : P → M) (Granted : Type 0) (same : M → M → Bool) (w : World P) (id : ℕ) (small : id < 2 ^ 64)
+    (sound : IsSound Granted same (meant_world meaning w)) where
   pub unhanded : call_of w id ≡ None → (op : Op P) → IsHanded (state_of w) id op → ⊥
   unhanded none op h =
-      absent (lookup (state_of w).flights id) (unflown meaning Granted w id small sound none) (subst (λ (x : Option (Flight P)). IsSome x) (sym h.in_flight) refl)
+      absent (lookup (state_of w).flights id) (unflown meaning Granted same w id small sound none) (subst (λ (x : Option (Flight P)). IsSome x) (sym h.in_flight) refl)
 
 -- what a Start does, by what a reader sees
 module _ {P M : Type 0} (meaning : P → M) (w w' : World P) (id : ℕ) where

@@ -53,10 +53,10 @@ module _ {P M : Type 0} (meaning : P → M) where
     others = λ o ne. meant_place meaning new o ∙ (ap (in_some (in_some (meant_record meaning))) (ch.others o ne) ∙ sym (meant_place meaning old o));
   }
 
-  module _ (Granted : Type 0) (w : World P) (id : ℕ) (small : id < 2 ^ 64) (sound : IsSound Granted (meant_world meaning w)) where
+  module _ (Granted : Type 0) (same : M → M → Bool) (w : World P) (id : ℕ) (small : id < 2 ^ 64) (sound : IsSound Granted same (meant_world meaning w)) where
     -- a number that isn't taken has no record, and isn't seated
     freed : (IsTaken (state_of w) id → ⊥) → call_of w id ≡ None
-    freed free = unrecorded meaning Granted w id small sound (none_there (lookup (state_of w).flights id) (λ h. free (inr h)))
+    freed free = unrecorded meaning Granted same w id small sound (none_there (lookup (state_of w).flights id) (λ h. free (inr h)))
 
     unseated : (IsTaken (state_of w) id → ⊥) → is_seated w.pins id ≡ true → ⊥
     unseated free e = free (inl (shown_seat w id ∙ e))
@@ -73,17 +73,17 @@ module _ {P M : Type 0} (meaning : P → M) where
       reseats : (seated : Bool) (place : Option (Option (Record P)))
           → ChangesSeat w.pins pins id seated (pin_of w.pins id) → ChangesPlace w.calls calls id place
           → record_in place ≡ call_of w id → (seated ≡ true → IsSome place)
-          → IsSound Granted (meant_world meaning (record w { pins = pins; calls = calls }))
+          → IsSound Granted same (meant_world meaning (record w { pins = pins; calls = calls }))
       reseats seated place seat places stays room =
           reseated_sound (meant_world meaning w) pins (meant_calls meaning calls) id seated (in_some (in_some (meant_record meaning)) place) seat
           (meant_changes w.calls calls id place places)
           (in_record (meant_record meaning) place ∙ (ap (in_some (meant_record meaning)) stays ∙ sym (meant_call meaning w id)))
-          Granted sound (λ e. some_mapped (in_some (meant_record meaning)) place (room e))
+          Granted same sound (λ e. some_mapped (in_some (meant_record meaning)) place (room e))
 
       -- A SEAT IS KEPT, or isn't.
       pub keeps_room : (IsTaken (state_of w) id → ⊥) → ChangesPlace w.calls calls id (Some None)
           → ChangesSeat w.pins pins id true (pin_of w.pins id)
-          → IsSound Granted (meant_world meaning (record w { pins = pins; calls = calls }))
+          → IsSound Granted same (meant_world meaning (record w { pins = pins; calls = calls }))
           × IsReseated (state_of w) (state_of (record w { pins = pins; calls = calls })) id true
       keeps_room free places seat = (
         reseats true (Some None) seat places (sym (freed free)) (λ e. refl),
@@ -92,7 +92,7 @@ module _ {P M : Type 0} (meaning : P → M) where
 
       pub keeps_none : (mid : List (ℕ × Option (Record P))) → (IsTaken (state_of w) id → ⊥) → ChangesPlace w.calls mid id (Some None)
           → pins ≡ w.pins → ChangesPlace mid calls id None
-          → IsSound Granted (meant_world meaning (record w { pins = pins; calls = calls }))
+          → IsSound Granted same (meant_world meaning (record w { pins = pins; calls = calls }))
           × (state_of (record w { pins = pins; calls = calls }) ≡ state_of w)
       keeps_none mid free reserves same forgets =
           let places : ChangesPlace w.calls calls id None = then_changes w.calls mid calls id (Some None) None reserves forgets in
@@ -110,7 +110,7 @@ module _ {P M : Type 0} (meaning : P → M) where
 
       -- A SEAT IS GIVEN BACK.
       pub unseats : call_of w id ≡ None → ChangesSeat w.pins pins id false (pin_of w.pins id) → ChangesPlace w.calls calls id None
-          → IsSound Granted (meant_world meaning (record w { pins = pins; calls = calls }))
+          → IsSound Granted same (meant_world meaning (record w { pins = pins; calls = calls }))
           × IsReseated (state_of w) (state_of (record w { pins = pins; calls = calls })) id false
       unseats none seat places = (
         reseats false None seat places (sym none) (λ e. absurd (false≢true e)),
@@ -118,7 +118,7 @@ module _ {P M : Type 0} (meaning : P → M) where
       )
 
       pub unseats_flying : calls ≡ w.calls → ChangesSeat w.pins pins id false (pin_of w.pins id)
-          → IsSound Granted (meant_world meaning (record w { pins = pins; calls = calls }))
+          → IsSound Granted same (meant_world meaning (record w { pins = pins; calls = calls }))
           × IsReseated (state_of w) (state_of (record w { pins = pins; calls = calls })) id false
       unseats_flying same seat =
           let place = entry_at w.calls id in
@@ -131,24 +131,24 @@ module _ {P M : Type 0} (meaning : P → M) where
           )
 
       -- A CALL BEGINS, or doesn't.
-      pub begins : (same : M → M → Bool) (op : Op M) (r : Record P) → key_of op < 2 ^ 64 → meant_record meaning r ≡ begun_record op → call_of w id ≡ None
+      pub begins : (op : Op M) (r : Record P) → key_of op < 2 ^ 64 → meant_record meaning r ≡ begun_record op → call_of w id ≡ None
           → ChangesSeat w.pins pins id (is_seated w.pins id) (Some w.pins.count) → ChangesPlace w.calls calls id (Some (Some r))
-          → IsSound Granted (meant_world meaning (record w { pins = pins; calls = calls }))
+          → IsSound Granted same (meant_world meaning (record w { pins = pins; calls = calls }))
           × IsBegun Granted same (meant_world meaning w) (meant_world meaning (record w { pins = pins; calls = calls })) id op (report_of kind.Start None 0 true)
-      begins same op r least is none enters places =
+      begins op r least is none enters places =
           let there : ChangesPlace (meant_calls meaning w.calls) (meant_calls meaning calls) id (Some (Some (begun_record op))) =
           subst (λ (q : Record M). ChangesPlace (meant_calls meaning w.calls) (meant_calls meaning calls) id (Some (Some q))) is (meant_changes w.calls calls id (Some (Some r)) places)
           in (
-            begun_sound Granted (meant_world meaning w) pins (meant_calls meaning calls) id sound small op least
+            begun_sound Granted same (meant_world meaning w) pins (meant_calls meaning calls) id sound small op least
                 (meant_call meaning w id ∙ ap (in_some (meant_record meaning)) none) enters there,
-            begun_turn Granted (meant_world meaning w) pins (meant_calls meaning calls) id sound small same op least
+            begun_turn Granted same (meant_world meaning w) pins (meant_calls meaning calls) id sound small op least
                 (meant_call meaning w id ∙ ap (in_some (meant_record meaning)) none) enters there,
           )
 
       pub begins_none : (mid : PinsView) → call_of w id ≡ None → pin_of w.pins id ≡ None
           → ChangesSeat w.pins mid id (is_seated w.pins id) (Some w.pins.count) → ChangesSeat mid pins id (is_seated mid id) None
           → calls ≡ w.calls
-          → IsSound Granted (meant_world meaning (record w { pins = pins; calls = calls }))
+          → IsSound Granted same (meant_world meaning (record w { pins = pins; calls = calls }))
           × (state_of (record w { pins = pins; calls = calls }) ≡ state_of w)
       begins_none mid none unpinned enters leaves same =
           let place = entry_at w.calls id in
@@ -169,7 +169,7 @@ module _ {P M : Type 0} (meaning : P → M) where
           )
 
       -- AN EVENT of a call in flight, after which it goes on, and its last
-      module _ (same : M → M → Bool) (r : Record P) (pin : ℕ) (env : Env M) (report : Report) (out : Outcome M)
+      module _ (r : Record P) (pin : ℕ) (env : Env M) (report : Report) (out : Outcome M)
           (found : call_of w id ≡ Some r) (pinned : pin_of w.pins id ≡ Some pin) (mid : List (ℕ × Option (Record P)))
           (takes : ChangesPlace w.calls mid id (Some None)) where
         meant_found : call_of (meant_world meaning w) id ≡ Some (meant_record meaning r)
@@ -179,7 +179,7 @@ module _ {P M : Type 0} (meaning : P → M) where
             → IsAdvance Granted same (table_of (meant_world meaning w)) w.root pin (meant_record meaning r) env (Some (meant_record meaning next)) report out
             → IsTurn Granted same (meant_world meaning w) (meant_world meaning (record w { pins = pins; calls = calls })) id env report out
         goes_on next held same_pins puts advance =
-            on_turn Granted (meant_world meaning w) pins (meant_calls meaning calls) id sound small same (meant_record meaning r) pin env report out meant_found pinned
+            on_turn Granted same (meant_world meaning w) pins (meant_calls meaning calls) id sound small (meant_record meaning r) pin env report out meant_found pinned
             (meant_record meaning next) held
             (record {
               seat = ap (λ p. is_seated p id) same_pins;
@@ -197,7 +197,7 @@ module _ {P M : Type 0} (meaning : P → M) where
             → IsAdvance Granted same (table_of (meant_world meaning w)) w.root pin (meant_record meaning r) env None report out
             → IsTurn Granted same (meant_world meaning w) (meant_world meaning (record w { pins = pins; calls = calls })) id env report out
         is_last place leaves places gone room advance =
-            gone_turn Granted (meant_world meaning w) pins (meant_calls meaning calls) id sound small same (meant_record meaning r) pin env report out meant_found pinned
+            gone_turn Granted same (meant_world meaning w) pins (meant_calls meaning calls) id sound small (meant_record meaning r) pin env report out meant_found pinned
             (in_some (in_some (meant_record meaning)) place) leaves
             (meant_changes w.calls calls id place places)
             (in_record (meant_record meaning) place ∙ ap (in_some (meant_record meaning)) gone)

@@ -1,7 +1,9 @@
 pub mod Changing
+pub mod Counted
 pub mod Handed
 pub mod Inners
 pub mod Moving
+pub mod Reclaiming
 pub mod Roots
 pub mod Stocked
 pub mod Turning

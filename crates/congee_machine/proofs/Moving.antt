@@ -75,15 +75,15 @@ pub record IsMoved {M : Type 0} (w w' : World M) (id : ℕ) (next : Record M) : 
   pub covered : Covers w'.charge (sizes_of w'.slots)
 
 -- what a call holds needs a holder
-holding_needs : {M : Type 0} (t : Table M) (Granted : Type 0) (root pin : ℕ) (r : Record M) (s : ℕ) → Facts Granted t root pin r → Holding r.stage s → NeedsHolder t s
-holding_needs t Granted root pin r s f h =
+holding_needs : {M : Type 0} (t : Table M) (Granted : Type 0) (same : M → M → Bool) (root pin : ℕ) (r : Record M) (s : ℕ) → Facts Granted same t root pin r → Holding r.stage s → NeedsHolder t s
+holding_needs t Granted same root pin r s f h =
     elim h [
-      | inl held ↦ let is = holds_at t Granted root pin r s f held in record { node = is.node; here = is.here; why = inr (is.locked, is.live) }
-      | inr made ↦ let is = made_at_slot t Granted root pin r s f made in record { node = is.node; here = is.here; why = inl is.standing }
+      | inl held ↦ let is = holds_at t Granted same root pin r s f held in record { node = is.node; here = is.here; why = inr (is.locked, is.live) }
+      | inr made ↦ let is = made_at_slot t Granted same root pin r s f made in record { node = is.node; here = is.here; why = inl is.standing }
     ]
 
 module _ {M : Type 0} (Granted : Type 0) (same : M → M → Bool) (w w' : World M) (id pin : ℕ) (small : id < 2 ^ 64) (r next : Record M)
-    (env : Env M) (report : Report) (out : Outcome M) (sound : IsSound Granted w) (found : call_of w id ≡ Some r) (pinned : pin_of w.pins id ≡ Some pin)
+    (env : Env M) (report : Report) (out : Outcome M) (sound : IsSound Granted same w) (found : call_of w id ≡ Some r) (pinned : pin_of w.pins id ≡ Some pin)
     (moved : IsMoved w w' id next)
     (move : IsMove Granted same (table_of w) (table_of w') w.root pin (books_at w) (books_at w') r env next report out)
     (there : (m : Pairs M) × IsContent (state_of w) m) where
@@ -96,18 +96,18 @@ module _ {M : Type 0} (Granted : Type 0) (same : M → M → Bool) (w w' : World
   other_call : (o : ℕ) → o ≢ id → call_of w' o ≡ call_of w o
   other_call o off = ap record_in (moved.places.others o off)
 
-  facts_now : (o p : ℕ) (q : Record M) → call_of w' o ≡ Some q → pin_of w'.pins o ≡ Some p → Facts Granted (table_of w') w'.root p q
+  facts_now : (o p : ℕ) (q : Record M) → call_of w' o ≡ Some q → pin_of w'.pins o ≡ Some p → Facts Granted same (table_of w') w'.root p q
   facts_now o p q e f =
-      subst (λ z. Facts Granted (table_of w') z p q) (sym moved.root)
+      subst (λ z. Facts Granted same (table_of w') z p q) (sym moved.root)
       (elim (eqb_tells o id) [
         | inl at ↦
             let is : next ≡ q = some_same next q (sym now_found ∙ subst (λ z. call_of w' z ≡ Some q) at.1 e) in
             let is_pin : pin ≡ p = some_same pin p (sym pinned ∙ (sym (same_pin id) ∙ subst (λ z. pin_of w'.pins z ≡ Some p) at.1 f)) in
-            subst (λ (x : Record M). Facts Granted (table_of w') w.root p x) is (subst (λ n. Facts Granted (table_of w') w.root n next) is_pin move.facts)
+            subst (λ (x : Record M). Facts Granted same (table_of w') w.root p x) is (subst (λ n. Facts Granted same (table_of w') w.root n next) is_pin move.facts)
         | inr off ↦
             let old : call_of w o ≡ Some q = sym (other_call o off.1) ∙ e in
             let old_pin : pin_of w.pins o ≡ Some p = sym (same_pin o) ∙ f in
-            facts_last (table_of w) (table_of w') (Holding r.stage) p (move.others p (sound.before o p old_pin)) Granted move.privates w.root q (λ s theirs mine. sound.apart o id s q r old found off.1 theirs mine) (sound.facts o p q old old_pin)
+            facts_last (table_of w) (table_of w') (Holding r.stage) p (move.others p (sound.before o p old_pin)) Granted same move.privates w.root q (λ s theirs mine. sound.apart o id s q r old found off.1 theirs mine) (sound.facts o p q old old_pin)
       ])
 
   -- what the call holds now no other one does
@@ -118,7 +118,7 @@ module _ {M : Type 0} (Granted : Type 0) (same : M → M → Bool) (w w' : World
         | inl before ↦ sound.apart o id s q r old found off theirs before
         | inr new ↦
             let p = pin_there (pin_of w.pins o) (sound.pinned o q old) in
-            not_newly (table_of w) s (holding_needs (table_of w) Granted w.root p.0 q s (sound.facts o p.0 q old p.1) theirs) new
+            not_newly (table_of w) s (holding_needs (table_of w) Granted same w.root p.0 q s (sound.facts o p.0 q old p.1) theirs) new
       ]
     where
       pin_there : (x : Option ℕ) → IsSome x → (n : ℕ) × (x ≡ Some n)
@@ -162,7 +162,7 @@ module _ {M : Type 0} (Granted : Type 0) (same : M → M → Bool) (w w' : World
       let become = move.carries (state_of w) (state_of w') (shows w) shows_now there.0 there.1 in
       become.counted (sound.counted there.0 there.1) ∙ ap length (one_content (state_of w') become.content m become.content_is c)
 
-  pub moved_sound : IsSound Granted w'
+  pub moved_sound : IsSound Granted same w'
   moved_sound = record {
     placed = moved.placed;
     facts = facts_now;

@@ -1,5 +1,5 @@
 -- The machine of the root alone.
-use Rattle.std.proofs.Common.{◌≡◌, ◌≢◌, ℕ, zero, suc, ◌+◌, ◌<◌, ◌≤◌, ◌^◌, List, [], ◌∷◌, length, Option, Some, None, inl, inr, refl, sym, subst, ap, ◌∙◌, arith, slice_index_or}
+use Rattle.std.proofs.Common.{Bool, ◌≡◌, ◌≢◌, ℕ, zero, suc, ◌+◌, ◌<◌, ◌≤◌, ◌^◌, List, [], ◌∷◌, length, Option, Some, None, inl, inr, refl, sym, subst, ap, ◌∙◌, arith, slice_index_or}
 use Rattle.std.proofs.lemmas.Bool.{eq-eqb, false≢true}
 use Rattle.std.proofs.lemmas.Bool.Decides.{eqb_tells}
 use Rattle.congee_base.specs.Form.{stated_size}
@@ -175,9 +175,9 @@ module _ {X : Type 0} (slots : List (Option (Stored X))) (lives : List (ℕ × L
       (same_from_lookups 0 (length slots) 0 (root + 1) (state_of w).nodes ((root, bare_root) ∷ []) (nodes_rise w) (omega arith, omega arith, tt) (root_lookup charge))
 
   -- and sound
-  pub root_sound : (Granted : Type 0) (before : Option ℕ) → root < 2 ^ 64 → entry_at lives root ≡ Some InUse → ((o : ℕ) → o ≢ root → entry_at lives o ≡ None)
-      → IsSound Granted (alone slots lives root (add_charge before 2104))
-  root_sound Granted before narrow life bare =
+  pub root_sound : (Granted : Type 0) (same : X → X → Bool) (before : Option ℕ) → root < 2 ^ 64 → entry_at lives root ≡ Some InUse → ((o : ℕ) → o ≢ root → entry_at lives o ≡ None)
+      → IsSound Granted same (alone slots lives root (add_charge before 2104))
+  root_sound Granted same before narrow life bare =
       let charge = add_charge before 2104 in
       let t : Table X = λ s. node_of (entry_at lives s) (slice_index_or slots s None) in
       record {
@@ -206,13 +206,13 @@ module _ {X : Type 0} (slots : List (Option (Stored X))) (lives : List (ℕ × L
 module _ {P M : Type 0} (meaning : P → M) (slots : List (Option (Stored P))) (lives : List (ℕ × Life)) (root : ℕ) (n : Stored P)
     (here : slice_index_or slots root None ≡ Some n) (others : (o : ℕ) → o ≢ root → slice_index_or slots o None ≡ None)
     (word : n.word ≡ 0) (place : n.place ≡ Linked) (node : n.node ≡ record { form = N256; prefix = []; children = [] }) where
-  pub meant_sound : (Granted : Type 0) (before : Option ℕ) → root < 2 ^ 64 → entry_at lives root ≡ Some InUse → ((o : ℕ) → o ≢ root → entry_at lives o ≡ None)
-      → IsSound Granted (meant_world meaning (alone slots lives root (add_charge before 2104)))
-  meant_sound Granted before narrow life bare =
+  pub meant_sound : (Granted : Type 0) (same : M → M → Bool) (before : Option ℕ) → root < 2 ^ 64 → entry_at lives root ≡ Some InUse → ((o : ℕ) → o ≢ root → entry_at lives o ≡ None)
+      → IsSound Granted same (meant_world meaning (alone slots lives root (add_charge before 2104)))
+  meant_sound Granted same before narrow life bare =
       root_sound (meant_slots meaning slots) lives root (meant_stored meaning n)
       (meant_slot meaning slots root ∙ ap (in_some (meant_stored meaning)) here)
       (λ o off. meant_slot meaning slots o ∙ ap (in_some (meant_stored meaning)) (others o off))
-      word place (ap (meant_node meaning) node) Granted before narrow life bare
+      word place (ap (meant_node meaning) node) Granted same before narrow life bare
 
 -- where the root's slot alone was admitted
 module _ (before after : PinsView) (root : ℕ) (empty : before ≡ record { seats = []; slots = []; count = 0 })

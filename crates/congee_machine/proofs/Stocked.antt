@@ -1,7 +1,7 @@
 -- What an event that writes may rely on, and that the inside stays sound by it.
-use Rattle.std.proofs.Common.{◌≡◌, ◌≢◌, ℕ, ◌+◌, ◌<◌, ◌≤◌, ◌^◌, Bool, List, [], ◌∷◌, Option, Some, None, refl, sym, subst, ap, ◌∙◌, arith}
+use Rattle.std.proofs.Common.{◌≡◌, ◌≢◌, ℕ, ◌+◌, ◌<◌, ◌≤◌, ◌^◌, Bool, List, [], ◌∷◌, length, Option, Some, None, refl, sym, subst, ap, ◌∙◌, arith}
 use Rattle.congee_base.specs.Form.{stated_size}
-use Rattle.congee_map.specs.Map.{Pairs}
+use Rattle.congee_map.specs.Map.{Pairs, lookup}
 use Rattle.congee_map.proofs.ByteMapLaws.{length-from_Rises}
 use Rattle.congee_node_table.specs.Charge.{Covers}
 use Rattle.congee_protocol.specs.Content.{IsContent}
@@ -12,7 +12,7 @@ use Rattle.congee_protocol.specs.declared.types.Report.{Report}
 use Rattle.congee_sync.specs.Epoch.{pin_of}
 use Rattle.congee_store.specs.declared.stage.Record.{Record}
 use Rattle.congee_store.specs.declared.stage.Stage.{Stage}
-use Rattle.congee_store.specs.declared.stage.Stage.TheVariants.{TakeRoot, Read, Check, TakeBelow, CheckAbove, Tail, Finish}
+use Rattle.congee_store.specs.declared.stage.Stage.TheVariants.{TakeRoot, Read, Check, TakeBelow, CheckAbove, Answer, Confirm, Tail, Finish}
 use Rattle.congee_store.specs.declared.stage.Stored.{Stored}
 use Rattle.congee_store.specs.declared.stock.Stock.{Stock}
 use Rattle.congee_store.specs.declared.tail.Tail.{Tail as AnyTail}
@@ -20,9 +20,11 @@ use Rattle.congee_store.specs.inner.Facts.{IsSound, sizes_of}
 use Rattle.congee_store.specs.inner.Meant.{meant_record, meant_slots, meant_world}
 use Rattle.congee_store.specs.inner.Places.{ChangesPlace}
 use Rattle.congee_store.specs.inner.Shown.{held_at, state_of}
-use Rattle.congee_store.specs.inner.Stocks.{IsKept, Moves}
+use Rattle.congee_store.specs.inner.Stocks.{IsCounted, IsKept, Moves}
 use Rattle.congee_store.specs.inner.Turns.{IsTurn}
 use Rattle.congee_store.specs.inner.World.{World, call_of, table_of}
+use Rattle.congee_store.proofs.Contents.{kept_there}
+use Rattle.congee_store.proofs.Options.{none_some}
 use Rattle.congee_store.proofs.States.{meant_call, shows}
 use Rattle.congee_store.proofs.Walked.{placed_content}
 use Rattle.congee_machine.specs.inner.Inside.{inside}
@@ -36,21 +38,28 @@ reads_free (Read path) reads = refl
 reads_free (Check path) reads = refl
 reads_free (TakeBelow path slot) reads = refl
 reads_free (CheckAbove path spot fits) reads = refl
+reads_free (Answer case) reads = refl
+reads_free (Confirm spot) reads = refl
 reads_free (Tail tail) reads = absurd (reads tail refl)
 reads_free Finish reads = refl
 
 -- the sizes of nodes are those of their meanings
-meant_sizes : {P M : Type 0} (meaning : P → M) (slots : List (Option (Stored P))) → sizes_of (meant_slots meaning slots) ≡ sizes_of slots
+pub meant_sizes : {P M : Type 0} (meaning : P → M) (slots : List (Option (Stored P))) → sizes_of (meant_slots meaning slots) ≡ sizes_of slots
 meant_sizes meaning [] = refl
 meant_sizes meaning (None ∷ slots) = meant_sizes meaning slots
 meant_sizes meaning (Some n ∷ slots) = ap (λ size. stated_size n.node.form + size) (meant_sizes meaning slots)
+
+-- a list in which something is found isn't empty
+found_some : {X : Type 0} (m : Pairs X) (key : ℕ) (v : X) → lookup m key ≡ Some v → 1 ≤ length m
+found_some [] key v e = absurd (none_some v e)
+found_some (x ∷ m) key v e = omega arith
 
 some_there : {X : Type 0} (x : Option X) → x ≢ None → (a : X) × (x ≡ Some a)
 some_there None h = absurd (h refl)
 some_there (Some a) h = (a, refl)
 
-module _ {P A M : Type 0} (meaning : P → M) (charge : A → Option ℕ) (Granted : Type 0) (stock : Stock P A) (calls : List (ℕ × Option (Record P)))
-    (sound : IsSound Granted (meant_world meaning (inside charge (record { stock = stock; calls = calls })))) where
+module _ {P A M : Type 0} (meaning : P → M) (charge : A → Option ℕ) (Granted : Type 0) (same : M → M → Bool) (stock : Stock P A) (calls : List (ℕ × Option (Record P)))
+    (sound : IsSound Granted same (meant_world meaning (inside charge (record { stock = stock; calls = calls })))) where
   abbrev before : World M
   before = meant_world meaning (inside charge (record { stock = stock; calls = calls }))
 
@@ -66,13 +75,19 @@ module _ {P A M : Type 0} (meaning : P → M) (charge : A → Option ℕ) (Grant
   sound_content : (m : Pairs M) × IsContent (state_of before) m
   sound_content = placed_content meaning stock.store.nodes.slots stock.store.pins.slots stock.store.root sound.placed (state_of before) (shows before)
 
-  pub sound_few : stock.entries ≤ 2 ^ 64
-  sound_few =
-      let counted = sound.counted sound_content.0 sound_content.1 in
-      let few = length-from_Rises 0 (2 ^ 64) sound_content.0 (omega arith) sound_content.1.map in omega (arith, counted, few)
+  -- the number of pairs is that of a content
+  pub sound_counted : IsCounted meaning charge stock
+  sound_counted = record {
+    few =
+        let counted = sound.counted sound_content.0 sound_content.1 in
+        let few = length-from_Rises 0 (2 ^ 64) sound_content.0 (omega arith) sound_content.1.map in omega (arith, counted, few);
+    some = λ key v small keeps.
+        let there = kept_there (table_of before) before.root (state_of before) sound.placed (shows before) sound_content.0 sound_content.1 key v small keeps in
+        subst (λ n. 1 ≤ n) (sym (sound.counted sound_content.0 sound_content.1)) (found_some sound_content.0 key v there);
+  }
 
   -- AN EVENT that writes, after which its call goes on
-  module _ (same : M → M → Bool) (id : ℕ) (small : id < 2 ^ 64) (r next : Record P) (pin : ℕ) (env : Env P) (report : Report) (out : Outcome P)
+  module _ (id : ℕ) (small : id < 2 ^ 64) (r next : Record P) (pin : ℕ) (env : Env P) (report : Report) (out : Outcome P)
       (found : call_of (inside charge (record { stock = stock; calls = calls })) id ≡ Some r) (pinned : pin_of stock.store.pins id ≡ Some pin) where
     pub moves_on : (now : Stock P A) (mid after : List (ℕ × Option (Record P))) → ChangesPlace calls mid id (Some None) → ChangesPlace mid after id (Some (Some next))
         → Moves meaning charge Granted same stock now pin r env next report out

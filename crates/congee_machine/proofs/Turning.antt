@@ -25,6 +25,7 @@ use Rattle.congee_store.specs.inner.World.{World, Table, table_on, table_of, rec
 use Rattle.congee_store.proofs.Changes.{same_content}
 use Rattle.congee_store.proofs.Holding.{holds_nothing}
 use Rattle.congee_store.proofs.Options.{none_some, some_same}
+use Rattle.congee_store.proofs.Replies.{returned_first}
 use Rattle.congee_store.proofs.States.{shows, shown_flight, call_put, call_gone}
 use Rattle.congee_machine.specs.inner.Inside.{begun_record}
 use Rattle.congee_machine.proofs.Changing.{HeldBy, changed_sound, held_record, none_held, others_stay, rest_stays}
@@ -63,21 +64,21 @@ module _ {M : Type 0} where
     changed = inl refl;
   }
 
-module _ {M : Type 0} (Granted : Type 0) (w : World M) (pins : PinsView) (calls : List (ℕ × Option (Record M))) (id : ℕ)
-    (sound : IsSound Granted w) (small : id < 2 ^ 64) where
+module _ {M : Type 0} (Granted : Type 0) (same : M → M → Bool) (w : World M) (pins : PinsView) (calls : List (ℕ × Option (Record M))) (id : ℕ)
+    (sound : IsSound Granted same w) (small : id < 2 ^ 64) where
   -- A CALL BEGINS.
   pub begun_sound : (op : Op M) → key_of op < 2 ^ 64 → call_of w id ≡ None
       → ChangesSeat w.pins pins id (is_seated w.pins id) (Some w.pins.count)
       → ChangesPlace w.calls calls id (Some (Some (begun_record op)))
-      → IsSound Granted (record w { pins = pins; calls = calls })
+      → IsSound Granted same (record w { pins = pins; calls = calls })
   begun_sound op least free enters places =
-      let facts : Facts Granted (table_of w) w.root w.pins.count (begun_record op) = record {
+      let facts : Facts Granted same (table_of w) w.root w.pins.count (begun_record op) = record {
         small = subst (λ k. k < 2 ^ 64) (sym (key_outline op)) least;
-        at = (record { opened = record { undecided = refl; op = op; op_is = refl; outline = refl }; fresh = refl }, refl);
+        at = (record { opened = record { undecided = refl; op = op; op_is = refl; outline = refl; returned = returned_first op }; fresh = refl }, refl);
       } in
-      changed_sound w pins calls id (is_seated w.pins id) (Some w.pins.count) (Some (Some (begun_record op))) enters places Granted sound
-      (λ q p e f. subst (λ (x : Record M). Facts Granted (table_of w) w.root p x) (some_same (begun_record op) q e)
-      (subst (λ n. Facts Granted (table_of w) w.root n (begun_record op)) (some_same w.pins.count p f) facts))
+      changed_sound w pins calls id (is_seated w.pins id) (Some w.pins.count) (Some (Some (begun_record op))) enters places Granted same sound
+      (λ q p e f. subst (λ (x : Record M). Facts Granted same (table_of w) w.root p x) (some_same (begun_record op) q e)
+      (subst (λ n. Facts Granted same (table_of w) w.root n (begun_record op)) (some_same w.pins.count p f) facts))
       (λ q e. refl)
       (λ p f. refl)
       (λ e. refl)
@@ -85,11 +86,11 @@ module _ {M : Type 0} (Granted : Type 0) (w : World M) (pins : PinsView) (calls 
       (none_held (Some (begun_record op)) (call_of w id) (holds_nothing TakeRoot refl) (λ s h. let held = held_record (call_of w id) s h in absurd (none_some held.0 (sym free ∙ held.1))))
       (λ q e. small)
 
-  pub begun_turn : (same : M → M → Bool) (op : Op M) → key_of op < 2 ^ 64 → call_of w id ≡ None
+  pub begun_turn : (op : Op M) → key_of op < 2 ^ 64 → call_of w id ≡ None
       → ChangesSeat w.pins pins id (is_seated w.pins id) (Some w.pins.count)
       → ChangesPlace w.calls calls id (Some (Some (begun_record op)))
       → IsBegun Granted same w (record w { pins = pins; calls = calls }) id op (report_of kind.Start None 0 true)
-  begun_turn same op least free enters places =
+  begun_turn op least free enters places =
       let now : World M = record w { pins = pins; calls = calls } in
       let pin = w.pins.count in
       let place : Option (Option (Record M)) = Some (Some (begun_record op)) in
@@ -114,7 +115,7 @@ module _ {M : Type 0} (Granted : Type 0) (w : World M) (pins : PinsView) (calls 
       }
 
   -- AN EVENT of a call in flight
-  module _ (same : M → M → Bool) (r : Record M) (pin : ℕ) (env : Env M) (report : Report) (out : Outcome M)
+  module _ (r : Record M) (pin : ℕ) (env : Env M) (report : Report) (out : Outcome M)
       (found : call_of w id ≡ Some r) (pinned : pin_of w.pins id ≡ Some pin) where
     -- where its stage holds nothing
     nothing_held : held_at r.stage ≡ [] → (s : ℕ) → HeldBy (call_of w id) s → ⊥
@@ -140,9 +141,9 @@ module _ {M : Type 0} (Granted : Type 0) (w : World M) (pins : PinsView) (calls 
         in
         record {
           before = sound;
-          after = changed_sound w pins calls id (is_seated w.pins id) (Some pin) place stays places Granted sound
-              (λ q p e f. subst (λ (x : Record M). Facts Granted (table_of w) w.root p x) (some_same next q e)
-              (subst (λ n. Facts Granted (table_of w) w.root n next) (some_same pin p f) read.facts))
+          after = changed_sound w pins calls id (is_seated w.pins id) (Some pin) place stays places Granted same sound
+              (λ q p e f. subst (λ (x : Record M). Facts Granted same (table_of w) w.root p x) (some_same next q e)
+              (subst (λ n. Facts Granted same (table_of w) w.root n next) (some_same pin p f) read.facts))
               (λ q e. refl)
               (λ p f. refl)
               (λ e. refl)
@@ -190,12 +191,12 @@ module _ {M : Type 0} (Granted : Type 0) (w : World M) (pins : PinsView) (calls 
         (others_stay w pins calls id (is_seated w.pins id) None place leaves places)
         (rest_stays w pins calls id (is_seated w.pins id) None place leaves places refl)
         in
-        let facts : FactsAt Granted (table_of w) w.root pin r.task Finish =
-        subst (λ (stage : Stage). FactsAt Granted (table_of w) w.root pin r.task stage) advance.0 (sound.facts id pin r found pinned).at
+        let facts : FactsAt Granted same (table_of w) w.root pin r.task Finish =
+        subst (λ (stage : Stage). FactsAt Granted same (table_of w) w.root pin r.task stage) advance.0 (sound.facts id pin r found pinned).at
         in
         record {
           before = sound;
-          after = changed_sound w pins calls id (is_seated w.pins id) None place leaves places Granted sound
+          after = changed_sound w pins calls id (is_seated w.pins id) None place leaves places Granted same sound
               (λ q p e f. absurd (none_some p f))
               (λ q e. absurd (none_some q (sym gone ∙ e)))
               (λ p f. absurd (none_some p f))

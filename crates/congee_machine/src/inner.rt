@@ -1,29 +1,39 @@
 //! What a machine has inside, and the events of one call.
 
-ghost use Rattle.std.specs.Prelude.{◌≡◌, ◌↔◌, ℕ, ◌<◌, ◌^◌, true, false, None, IsSome, IfSome, IfOk, IsOk, OnOk, OnErr, IsTrue, option_copied};
+ghost use Rattle.std.specs.Prelude.{◌≡◌, ◌↔◌, ℕ, ◌+◌, ◌<◌, ◌^◌, true, false, Some, None, IsSome, IfSome, IfNone, IfOk, IsOk, OnOk, OnErr, IsTrue, option_copied};
 ghost use Rattle.congee_map.specs.Map.{lookup};
 ghost use Rattle.congee_node_table.specs.Charge.{add_charge};
 ghost use Rattle.congee_node_table.specs.inner.Kinds.{mapped};
 ghost use Rattle.congee_protocol.specs.Calls.{key_of};
 ghost use Rattle.congee_protocol.specs.Content.{IsContent};
-ghost use Rattle.congee_protocol.specs.Kinds.{report_of};
-ghost use Rattle.congee_protocol.specs.Meaning.{env_of, meant, op_of, outcome_of};
+ghost use Rattle.congee_protocol.specs.Kinds.{MayReclaim, report_of};
+ghost use Rattle.congee_protocol.specs.Meaning.{env_of, in_some, meant, op_of, outcome_of};
 ghost use Rattle.congee_protocol.specs.Runs.{fresh};
 ghost use Rattle.congee_protocol.specs.Seats.{IsHanded, IsTaken, IsReseated, IsSeating, seen_in};
 ghost use Rattle.congee_store.specs.inner.Facts.{IsSound};
+ghost use Rattle.congee_store.specs.inner.Effects.{returned_at};
 ghost use Rattle.congee_store.specs.inner.Meant.{meant_record};
-ghost use Rattle.congee_store.specs.inner.Turns.{IsBegun, IsTurn};
+ghost use Rattle.congee_store.specs.inner.Shown.{state_of};
+ghost use Rattle.congee_store.specs.inner.Turns.{IsBegun, IsFreed, IsTurn};
 ghost use Rattle.congee_store.specs.inner.World.{call_of};
 ghost use Rattle.congee_sync.specs.Epoch.{is_seated};
+ghost use Rattle.congee_stats.specs.LevelCounts.{capped};
+ghost use Rattle.congee_stats.specs.Stats.{IsTally};
+ghost use Rattle.congee_stats.specs.StatsText.{all_entries, all_nodes};
+ghost use Rattle.congee_stats.specs.Stays.{NoCountStays};
+ghost use Rattle.congee_stats.specs.Visits.{visits_below};
+ghost use Rattle.congee_machine.specs.Shape.{reachable};
 ghost use Rattle.congee_machine.specs.inner.Inside.{begun_record, inside, state_in, meant_in};
 
+use crate::counting::count;
 use congee_base::base_node::{NodeSize, NodeType};
+use congee_finding::advance::{Advanced, advance};
 use congee_map::error::OOMError;
 use congee_node_table::allocator::Allocator;
 use congee_node_table::tree_node::TreeNode;
 use congee_protocol::payload::HasMeaning;
 use congee_protocol::types::{Asking, Env, Kind, Op, Outcome, Progress, Report, Seen};
-use congee_reading::advance::{Advanced, advance};
+use congee_stats::NodeStats;
 use congee_store::calls::Calls;
 use congee_store::content::content;
 use congee_store::stage::{Place, Record, Stage, Stored, Task};
@@ -56,7 +66,8 @@ fn started() -> Report
 }
 
 // The record of a call that begins.
-fn begun<P: HasMeaning>(op: Op<P>) -> Record<P>
+fn begun<P: HasMeaning>(op: Op<P>, returns: Option<P>) -> Record<P>
+    requires { in_some P.meaning returns ≡ returned_at (op_of P.meaning op) }
     ensures begins { meant_record P.meaning result ≡ begun_record (op_of P.meaning op) }
     ensures small { key_of (op_of P.meaning op) < 2 ^ 64 }
 {
@@ -68,6 +79,8 @@ fn begun<P: HasMeaning>(op: Op<P>) -> Record<P>
             op: Some(op),
             last: None,
             spare: None,
+            question: None,
+            returns,
             asking: Asking::Fresh,
             progress: Progress::Open,
         },
@@ -77,7 +90,7 @@ fn begun<P: HasMeaning>(op: Op<P>) -> Record<P>
 impl<P: HasMeaning, A: Allocator> Inner<P, A> {
     /// The root alone, which the budget is charged for; `OOMError` where that is refused.
     pub fn new(alloc: Global, mut budget: A) -> Result<Self, OOMError>
-        ensures sound { IfOk result (λ m. IsSound P.always_shared (meant_in P.meaning A.charge m)) }
+        ensures sound { IfOk result (λ m. IsSound P.always_shared P.same_meaning (meant_in P.meaning A.charge m)) }
         ensures fresh { IfOk result (λ m. (root : ℕ)
             × (state_in A.charge m ≡ fresh root (add_charge (A.charge budget) 2104))) }
     {
@@ -118,7 +131,7 @@ impl<P: HasMeaning, A: Allocator> Inner<P, A> {
 
     // Whether a number is seated or has a call in flight.
     fn is_taken(&self, id: u64) -> bool
-        requires sound { IsSound P.always_shared (meant_in P.meaning A.charge self.now) }
+        requires sound { IsSound P.always_shared P.same_meaning (meant_in P.meaning A.charge self.now) }
         ensures { IsTrue result ↔ IsTaken (state_in A.charge self.now) id }
     {
         self.stock.store.pins.is_seated(id) || self.is_in_flight(id)
@@ -126,7 +139,7 @@ impl<P: HasMeaning, A: Allocator> Inner<P, A> {
 
     // The least number that is neither seated nor in flight, if there is one.
     fn least_free(&self) -> Option<u64>
-        requires sound { IsSound P.always_shared (meant_in P.meaning A.charge self.now) }
+        requires sound { IsSound P.always_shared P.same_meaning (meant_in P.meaning A.charge self.now) }
         ensures free { IfSome result (λ id. IsTaken (state_in A.charge self.now) id → ⊥) }
         ensures least { IfSome result (λ id. (lesser : ℕ) → lesser < id
             → IsTaken (state_in A.charge self.now) lesser) }
@@ -143,8 +156,8 @@ impl<P: HasMeaning, A: Allocator> Inner<P, A> {
 
     /// Keeps room for the calls of the least number that is neither seated nor in flight, and returns it.
     pub fn seat(&mut self) -> Result<u64, OOMError>
-        requires sound { IsSound P.always_shared (meant_in P.meaning A.charge self.old) }
-        ensures stays { IsSound P.always_shared (meant_in P.meaning A.charge self.new) }
+        requires sound { IsSound P.always_shared P.same_meaning (meant_in P.meaning A.charge self.old) }
+        ensures stays { IsSound P.always_shared P.same_meaning (meant_in P.meaning A.charge self.new) }
         ensures ok { IfOk result (λ id.
             IsSeating (state_in A.charge self.old) (state_in A.charge self.new) id) }
         ensures err { OnErr result (state_in A.charge self.new ≡ state_in A.charge self.old) }
@@ -158,9 +171,9 @@ impl<P: HasMeaning, A: Allocator> Inner<P, A> {
 
     // Seats a number that isn't taken.
     fn keep_room(&mut self, id: u64) -> Result<(), OOMError>
-        requires sound { IsSound P.always_shared (meant_in P.meaning A.charge self.old) }
+        requires sound { IsSound P.always_shared P.same_meaning (meant_in P.meaning A.charge self.old) }
         requires free { IsTaken (state_in A.charge self.old) id → ⊥ }
-        ensures stays { IsSound P.always_shared (meant_in P.meaning A.charge self.new) }
+        ensures stays { IsSound P.always_shared P.same_meaning (meant_in P.meaning A.charge self.new) }
         ensures ok { OnOk result
             (IsReseated (state_in A.charge self.old) (state_in A.charge self.new) id true) }
         ensures err { OnErr result (state_in A.charge self.new ≡ state_in A.charge self.old) }
@@ -175,8 +188,8 @@ impl<P: HasMeaning, A: Allocator> Inner<P, A> {
 
     /// Gives a number's room back. A call in flight goes on.
     pub fn unseat(&mut self, id: u64)
-        requires sound { IsSound P.always_shared (meant_in P.meaning A.charge self.old) }
-        ensures stays { IsSound P.always_shared (meant_in P.meaning A.charge self.new) }
+        requires sound { IsSound P.always_shared P.same_meaning (meant_in P.meaning A.charge self.old) }
+        ensures stays { IsSound P.always_shared P.same_meaning (meant_in P.meaning A.charge self.new) }
         ensures seats { IsReseated (state_in A.charge self.old) (state_in A.charge self.new) id
             false }
     {
@@ -188,11 +201,13 @@ impl<P: HasMeaning, A: Allocator> Inner<P, A> {
         self.calls.forget(id);
     }
 
-    /// Takes a number's pin and makes its record; all room is made before anything changes.
-    pub fn begin(&mut self, id: u64, op: Op<P>) -> Result<Report, OOMError>
-        requires sound { IsSound P.always_shared (meant_in P.meaning A.charge self.old) }
+    /// Takes a number's pin and makes its record; all room is made before anything changes. `returns` is a share of what the
+    /// reply to the call will tell.
+    pub fn begin(&mut self, id: u64, op: Op<P>, returns: Option<P>) -> Result<Report, OOMError>
+        requires sound { IsSound P.always_shared P.same_meaning (meant_in P.meaning A.charge self.old) }
         requires free { call_of (inside A.charge self.old) id ≡ None }
-        ensures stays { IsSound P.always_shared (meant_in P.meaning A.charge self.new) }
+        requires returns { in_some P.meaning returns ≡ returned_at (op_of P.meaning op) }
+        ensures stays { IsSound P.always_shared P.same_meaning (meant_in P.meaning A.charge self.new) }
         ensures ok { IfOk result (λ report. IsBegun P.always_shared P.same_meaning
             (meant_in P.meaning A.charge self.old) (meant_in P.meaning A.charge self.new) id
             (op_of P.meaning op) report) }
@@ -200,7 +215,7 @@ impl<P: HasMeaning, A: Allocator> Inner<P, A> {
         ensures granted { is_seated self.old.stock.store.pins id ≡ true → IsOk result }
     {
         self.stock.store.pins.enter(id)?;
-        let call = begun(op);
+        let call = begun(op, returns);
         let Ok(()) = self.calls.put(id, call) else {
             self.stock.store.pins.leave(id);
             return Err(OOMError::new());
@@ -210,7 +225,7 @@ impl<P: HasMeaning, A: Allocator> Inner<P, A> {
 
     /// Whether a call of the handed one's kind and key is in flight under a number.
     pub fn is_handed(&self, id: u64, op: &Op<P>) -> bool
-        requires sound { IsSound P.always_shared (meant_in P.meaning A.charge self.now) }
+        requires sound { IsSound P.always_shared P.same_meaning (meant_in P.meaning A.charge self.now) }
         ensures { IsTrue result ↔ IsHanded (state_in A.charge self.now) id op.now }
     {
         match self.calls.get(id) {
@@ -221,7 +236,7 @@ impl<P: HasMeaning, A: Allocator> Inner<P, A> {
 
     /// What the last Read of a number's call has reported since the call last went back to the root.
     pub fn seen(&self, id: u64) -> Option<&Seen<P>>
-        requires sound { IsSound P.always_shared (meant_in P.meaning A.charge self.now) }
+        requires sound { IsSound P.always_shared P.same_meaning (meant_in P.meaning A.charge self.now) }
         ensures { option_copied result ≡ seen_in (lookup (state_in A.charge self.now).flights id) }
     {
         match self.calls.get(id) {
@@ -232,7 +247,7 @@ impl<P: HasMeaning, A: Allocator> Inner<P, A> {
 
     /// All pairs that are stored, keys ascending, each with a share of its payload.
     pub fn content(&self, alloc: Global) -> Result<Vec<(u64, P)>, OOMError>
-        requires sound { IsSound P.always_shared (meant_in P.meaning A.charge self.now) }
+        requires sound { IsSound P.always_shared P.same_meaning (meant_in P.meaning A.charge self.now) }
         ensures { IfOk result (λ pairs. IsContent
             (meant P.meaning (state_in A.charge self.now)) (mapped P.meaning pairs.items)) }
     {
@@ -240,9 +255,24 @@ impl<P: HasMeaning, A: Allocator> Inner<P, A> {
         Ok(pairs)
     }
 
+    /// The statistics of the reachable nodes.
+    pub fn stats(&self) -> Result<NodeStats, OOMError>
+        requires sound { IsSound P.always_shared P.same_meaning (meant_in P.meaning A.charge self.now) }
+        ensures levels { IfOk result (λ stats. IsTally (visits_below 0
+            (reachable (state_of (meant_in P.meaning A.charge self.now)))) stats.levels) }
+        ensures pairs { IfOk result (λ stats. stats.kv_pairs ≡ capped self.now.stock.entries) }
+        ensures entries { IfOk result (λ stats.
+            NoCountStays stats.levels → stats.kv_pairs + 1 < 2 ^ 64
+            → all_entries stats.levels + 1 ≡ stats.kv_pairs + all_nodes stats.levels) }
+    {
+        let mut stats = count(&self.stock.store, self.stock.alloc)?;
+        stats.add_pairs(u64::try_from(self.stock.entries).unwrap_or(u64::MAX));
+        Ok(stats)
+    }
+
     /// The next event of the call of a number in flight. The calls of all other numbers stay as they are.
     pub fn proceed(&mut self, id: u64, env: Env<P>) -> (Report, Outcome<P>)
-        requires sound { IsSound P.always_shared (meant_in P.meaning A.charge self.old) }
+        requires sound { IsSound P.always_shared P.same_meaning (meant_in P.meaning A.charge self.old) }
         requires flies { IsSome (call_of (inside A.charge self.old) id) }
         ensures { IsTurn P.always_shared P.same_meaning
             (meant_in P.meaning A.charge self.old) (meant_in P.meaning A.charge self.new) id
@@ -280,5 +310,53 @@ impl<P: HasMeaning, A: Allocator> Inner<P, A> {
         }
         self.calls.forget(id);
         (report, outcome)
+    }
+
+    /// Gives the slot of a retired node back, with the node and what was charged for it, if no call in flight may step on
+    /// it any more.
+    pub fn reclaim(&mut self, slot: usize) -> bool
+        requires sound { IsSound P.always_shared P.same_meaning
+            (meant_in P.meaning A.charge self.old) }
+        ensures stays { IsSound P.always_shared P.same_meaning (meant_in P.meaning A.charge self.new) }
+        ensures exactly { IsTrue result ↔ MayReclaim
+            (state_of (meant_in P.meaning A.charge self.old)) slot }
+        ensures freed { IsTrue result → IsFreed P.always_shared P.same_meaning
+            (meant_in P.meaning A.charge self.old) (meant_in P.meaning A.charge self.new) slot
+            (report_of Kind.Reclaim (Some slot) 0 true) }
+        ensures other { result ≡ false → self.new ≡ self.old }
+    {
+        if !self.stock.store.pins.may_reclaim(slot) {
+            return false;
+        }
+        self.free(slot);
+        true
+    }
+
+    /// A slot that may be reclaimed, if there is one.
+    pub fn reclaimable(&self) -> Option<usize>
+        requires sound { IsSound P.always_shared P.same_meaning
+            (meant_in P.meaning A.charge self.now) }
+        ensures some { IfSome result (λ slot. MayReclaim
+            (state_of (meant_in P.meaning A.charge self.now)) slot) }
+        ensures none { IfNone result ((slot : ℕ)
+            → MayReclaim
+            (state_of (meant_in P.meaning A.charge self.now)) slot → ⊥) }
+    {
+        self.stock.store.pins.reclaimable()
+    }
+
+    // Takes a retired node out of its slot.
+    fn free(&mut self, slot: usize)
+        requires sound { IsSound P.always_shared P.same_meaning
+            (meant_in P.meaning A.charge self.old) }
+        requires may { MayReclaim
+            (state_of (meant_in P.meaning A.charge self.old)) slot }
+        ensures freed { IsFreed P.always_shared P.same_meaning
+            (meant_in P.meaning A.charge self.old) (meant_in P.meaning A.charge self.new) slot
+            (report_of Kind.Reclaim (Some slot) 0 true) }
+    {
+        let node = self.stock.store.free(slot);
+        let size = NodeSize::of(node.base().get_type());
+        self.stock.budget.deallocate(size);
     }
 }

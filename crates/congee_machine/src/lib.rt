@@ -1,5 +1,6 @@
 //! A machine of the tree's protocol: it makes one event of one call at a time.
 #![tactic(auto)]
 
+mod counting;
 pub mod inner;
 pub mod machine;

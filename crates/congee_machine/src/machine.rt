@@ -1,23 +1,31 @@
 //! The machine: nodes, calls in flight, pins and a budget.
 
-ghost use Rattle.std.specs.Prelude.{◌≡◌, ◌↔◌, ℕ, false, None, IsSome, Err, IfOk, IsOk, OnErr, IsTrue, option_copied, length};
+ghost use Rattle.std.specs.Prelude.{◌≡◌, ◌↔◌, ◌+◌, ◌<◌, ◌^◌, ℕ, true, false, Some, None, IsSome, Err, IfOk, IsOk, OnErr, IsTrue, option_copied, length};
 ghost use Rattle.congee_map.specs.Map.{Pairs, lookup};
 ghost use Rattle.congee_node_table.specs.Charge.{add_charge};
 ghost use Rattle.congee_node_table.specs.inner.Kinds.{mapped};
 ghost use Rattle.congee_protocol.specs.Content.{IsContent};
 ghost use Rattle.congee_protocol.specs.Deciding.{IsCarried};
-ghost use Rattle.congee_protocol.specs.Kinds.{IsStart, IsStep};
+ghost use Rattle.congee_protocol.specs.Kinds.{IsReclaim, IsStart, IsStep, MayReclaim, report_of};
 ghost use Rattle.congee_protocol.specs.Lists.{is_in};
-ghost use Rattle.congee_protocol.specs.Meaning.{env_of, meant, op_of, outcome_of};
+ghost use Rattle.congee_protocol.specs.Meaning.{env_of, in_some, meant, op_of, outcome_of};
 ghost use Rattle.congee_protocol.specs.Runs.{fresh};
 ghost use Rattle.congee_protocol.specs.Seats.{IsHanded, IsReseated, IsSeating, seen_in};
 ghost use Rattle.congee_protocol.specs.WellFormed.{IsWellFormed};
+ghost use Rattle.congee_stats.specs.LevelCounts.{capped};
+ghost use Rattle.congee_stats.specs.Stats.{IsTally};
+ghost use Rattle.congee_stats.specs.StatsText.{all_entries, all_nodes};
+ghost use Rattle.congee_stats.specs.Stays.{NoCountStays};
+ghost use Rattle.congee_stats.specs.Visits.{visits_below};
+ghost use Rattle.congee_machine.specs.Shape.{reachable};
+ghost use Rattle.congee_store.specs.inner.Effects.{returned_at};
 
 use crate::inner::Inner;
 use congee_map::error::OOMError;
 use congee_node_table::allocator::Allocator;
 use congee_protocol::payload::HasMeaning;
 use congee_protocol::types::{Env, Kind, Op, Outcome, Report, Seen, StartError};
+use congee_stats::NodeStats;
 use std::alloc::Global;
 use std::marker::Model;
 
@@ -28,6 +36,18 @@ fn unknown() -> Report {
         slot: None,
         word: 0,
         ok: false,
+    }
+}
+
+// A share of what the reply to a call will tell, beside what it finds: of the value that a CompareExchange stores.
+fn returned<P: HasMeaning>(op: &Op<P>) -> Result<Option<P>, OOMError>
+    ensures meaning { IfOk result (λ returns.
+        in_some P.meaning returns ≡ returned_at (op_of P.meaning op.now)) }
+    ensures granted { P.always_shared → IsOk result }
+{
+    match op {
+        Op::CompareExchange(_, _, Some(new)) => Ok(Some(new.share()?)),
+        _ => Ok(None),
     }
 }
 
@@ -48,7 +68,7 @@ impl<P: HasMeaning, A: Allocator> Model for Machine<P, A> {
 
     ghost view = { λ m. state_in A.charge m.inner };
 
-    ghost invariant = { λ m. IsSound P.always_shared (meant_in P.meaning A.charge m.inner) };
+    ghost invariant = { λ m. IsSound P.always_shared P.same_meaning (meant_in P.meaning A.charge m.inner) };
 }
 
 impl<P: HasMeaning, A: Allocator> Machine<P, A> {
@@ -106,7 +126,11 @@ impl<P: HasMeaning, A: Allocator> Machine<P, A> {
             Ok(op) => op,
             Err(error) => return Err(StartError::Oom(error)),
         };
-        let report = match self.inner.begin(id, op) {
+        let returns = match returned(&op) {
+            Ok(returns) => returns,
+            Err(error) => return Err(StartError::Oom(error)),
+        };
+        let report = match self.inner.begin(id, op, returns) {
             Ok(report) => report,
             Err(error) => return Err(StartError::Oom(error)),
         };
@@ -150,6 +174,39 @@ impl<P: HasMeaning, A: Allocator> Machine<P, A> {
         self.inner.seen(id)
     }
 
+    /// Gives a retired node's slot back, with the node and what was charged for it: true exactly where its retirement was
+    /// counted and every call in flight has started after it. Else nothing changes.
+    ///
+    /// Looks at the pin of each call in flight.
+    pub fn reclaim(&mut self, slot: usize) -> bool
+        ensures exactly { IsTrue result ↔ MayReclaim (meant P.meaning self.old) slot }
+        ensures event { IsTrue result → IsReclaim (meant P.meaning self.old)
+            (meant P.meaning self.new) slot (report_of Kind.Reclaim (Some slot) 0 true) }
+        ensures content { IsTrue result → (m : Pairs P.Meaning)
+            → IsContent (meant P.meaning self.old) m → IsContent (meant P.meaning self.new) m }
+        ensures other { result ≡ false → self.new ≡ self.old }
+    {
+        self.inner.reclaim(slot)
+    }
+
+    /// Gives one slot back that may be reclaimed, if there is one; else nothing changes.
+    ///
+    /// Looks at the slots in turn until one may be reclaimed, so at all nodes where none may.
+    pub fn reclaim_next(&mut self) -> bool
+        ensures some { IsTrue result → (slot : ℕ) × IsReclaim (meant P.meaning self.old)
+            (meant P.meaning self.new) slot (report_of Kind.Reclaim (Some slot) 0 true) }
+        ensures content { IsTrue result → (m : Pairs P.Meaning)
+            → IsContent (meant P.meaning self.old) m → IsContent (meant P.meaning self.new) m }
+        ensures none { result ≡ false → (slot : ℕ)
+            → MayReclaim (meant P.meaning self.old) slot → ⊥ }
+        ensures other { result ≡ false → self.new ≡ self.old }
+    {
+        match self.inner.reclaimable() {
+            Some(slot) => self.inner.reclaim(slot),
+            None => false,
+        }
+    }
+
     /// How many pairs are stored.
     pub fn entry_count(&self) -> u128
         ensures count { result ≡ self.now.entries }
@@ -168,6 +225,21 @@ impl<P: HasMeaning, A: Allocator> Machine<P, A> {
             IsContent (meant P.meaning self.now) (mapped P.meaning pairs.items)) }
     {
         self.inner.content(alloc)
+    }
+
+    /// The sums over the reachable nodes by level and form, and the pairs.
+    ///
+    /// One walk over all reachable nodes, at most eight of them below one another. `OOMError` where memory for the levels is
+    /// missing.
+    pub fn stats(&self) -> Result<NodeStats, OOMError>
+        ensures levels { IfOk result (λ stats.
+            IsTally (visits_below 0 (reachable (meant P.meaning self.now))) stats.levels) }
+        ensures pairs { IfOk result (λ stats. stats.kv_pairs ≡ capped self.now.entries) }
+        ensures entries { IfOk result (λ stats.
+            NoCountStays stats.levels → stats.kv_pairs + 1 < 2 ^ 64
+            → all_entries stats.levels + 1 ≡ stats.kv_pairs + all_nodes stats.levels) }
+    {
+        self.inner.stats()
     }
 
     /// The law that a machine is well formed, whatever its calls have done.

@@ -7,46 +7,92 @@ use Rattle.congee_node_table.specs.declared.child.Child.{Child}
 use Rattle.congee_node_table.specs.declared.child.Child.TheVariants.{Payload, Node as below_at}
 use Rattle.congee_protocol.specs.Calls.{Outline, IsPoint, bytes_of, key_of}
 use Rattle.congee_protocol.specs.Content.{IsContent}
+use Rattle.congee_protocol.specs.Deciding.{Leads}
 use Rattle.congee_protocol.specs.Kinds.{DoesAs, report_of}
-use Rattle.congee_protocol.specs.Local.{payload_in, seen_payload}
+use Rattle.congee_protocol.specs.Local.{AsksWith, SharesNone, payload_in, seen_payload}
 use Rattle.congee_protocol.specs.Reading.{IsSeenOf, child_for}
 use Rattle.congee_protocol.specs.State.{State, Flight, back, settled, with_call}
-use Rattle.congee_protocol.specs.declared.types.Asking.TheVariants.{Fresh}
+use Rattle.congee_protocol.specs.declared.types.Asking.TheVariants.{Wants}
 use Rattle.congee_protocol.specs.declared.types.Env.{Env}
 use Rattle.congee_protocol.specs.declared.types.Kind.TheVariants as kind
 use Rattle.congee_protocol.specs.declared.types.Op.TheVariants.{Get, Insert, Remove, ComputeIfPresent, ComputeOrInsert, CompareExchange, Range}
-use Rattle.congee_protocol.specs.declared.types.Outcome.TheVariants.{Going, Decided}
+use Rattle.congee_protocol.specs.declared.types.Outcome.TheVariants.{Going, Ask, Decided}
 use Rattle.congee_protocol.specs.declared.types.Progress.TheVariants as progress
-use Rattle.congee_protocol.specs.declared.types.Reply.TheVariants.{Old}
+use Rattle.congee_protocol.specs.declared.types.Reply.{Reply}
 use Rattle.congee_protocol.specs.declared.types.Seen.{Seen}
 use Rattle.congee_store.specs.declared.stage.Path.{Path}
 use Rattle.congee_store.specs.declared.stage.Spot.{Spot}
 use Rattle.congee_store.specs.declared.stage.Stage.{Stage}
-use Rattle.congee_store.specs.declared.stage.Stage.TheVariants.{TakeRoot, Read, Check, TakeBelow, CheckAbove, Finish}
+use Rattle.congee_store.specs.declared.stage.Stage.TheVariants.{TakeRoot, Read, Check, TakeBelow, CheckAbove, Answer, Finish}
 use Rattle.congee_store.specs.declared.stage.Task.{Task}
-use Rattle.congee_store.specs.inner.Tables.{IsPlaced, IsIn, LedTo, OnPath, byte_at}
-use Rattle.congee_store.specs.inner.Tasks.{IsFreshly, Agrees, Saw, SawNode, Sees, key_bytes}
+use Rattle.congee_store.specs.declared.tail.Case.{Case}
+use Rattle.congee_store.specs.inner.Effects.{HasClosure, IsChange, IsLeft, IsOrInsert, reply_with}
+use Rattle.congee_store.specs.inner.Tables.{IsPlaced, IsIn, LedTo, OnPath}
+use Rattle.congee_store.specs.inner.TailFacts.{Waits, WaitsFor, found}
+use Rattle.congee_store.specs.inner.Tails.{case_slots, case_spots, case_work}
+use Rattle.congee_store.specs.inner.Tasks.{IsFreshly, IsOpen, Agrees, Saw, SawNode, Sees, closed, key_bytes, restarted}
 use Rattle.congee_store.specs.inner.Facts.{Facts, named_at}
 use Rattle.congee_store.specs.inner.Shown.{flight, spots_of, held_at, made_at}
-use Rattle.congee_store.specs.inner.Turns.{IsRead, IsServedCall, MayFollow, Shows, work_of}
-use Rattle.congee_store.specs.inner.World.{Node, Table, entry}
+use Rattle.congee_store.specs.inner.Turns.{IsRead, MayFollow, Shows, work_of}
+use Rattle.congee_store.specs.inner.World.{Node, Table}
 use Rattle.congee_store.proofs.Contents.{kept_there, none_there}
 use Rattle.congee_store.proofs.Options.{none_some, some_same}
 use Rattle.congee_store.proofs.Reaching.{one, seen_at}
 use Rattle.congee_store.proofs.Ways.{check_absent, check_present, check_below, check_mismatch}
 use Rattle.congee_store.proofs.Unlike.{decided_open}
-use Rattle.congee_store.proofs.Records.{at, restart}
-use Rattle.congee_reading.specs.inner.Found.{IsGet}
+use Rattle.congee_store.proofs.Records.{at}
+use Rattle.congee_store.proofs.Replies.{returned_wants}
 use Rattle.congee_reading.proofs.Courses.{holding_as, still_current, below_other, below_not_root, descends}
-use Rattle.congee_reading.proofs.Events.{Within, check_ok, check_fails, looks_on, get_finds, get_is, get_leads, get_point, get_shares}
+use Rattle.congee_reading.proofs.Events.{Within, check_ok, check_fails, looks_on}
 use Rattle.congee_reading.proofs.Spots.{here_known, above_known, step_down}
 use Rattle.congee_reading.proofs.Takes.{restarted_fresh}
+use Rattle.congee_reading.proofs.Unchanged.{Tells, left_tells, left_leads, same_tells, same_leads}
 
--- a call that only ends
-abbrev pub decided : {M : Type 0} → Task M → Task M
-decided task = record task { op = None; spare = None; asking = Fresh; progress = progress.Decided }
+-- a call that asks its closure with this
+abbrev pub asking : {M : Type 0} → Task M → Option M → Task M
+asking task old = record task { spare = None; question = None; asking = Wants old }
+
+-- a call with a closure sees payloads
+pub closure_shares : (o : Outline) → HasClosure o → SharesNone o None → ⊥
+closure_shares (Get k) asks shares = asks
+closure_shares (Insert k v) asks shares = asks
+closure_shares (Remove k) asks shares = asks
+closure_shares (ComputeIfPresent k) asks shares = shares
+closure_shares (ComputeOrInsert k v) asks shares = shares
+closure_shares (CompareExchange k old new) asks shares = asks
+closure_shares (Range a b n) asks shares = asks
+
+-- a ComputeOrInsert has a closure
+pub inserts_asks : (o : Outline) → IsOrInsert o → HasClosure o
+inserts_asks (Get k) h = absurd h
+inserts_asks (Insert k v) h = absurd h
+inserts_asks (Remove k) h = absurd h
+inserts_asks (ComputeIfPresent k) h = absurd h
+inserts_asks (ComputeOrInsert k v) h = tt
+inserts_asks (CompareExchange k old new) h = absurd h
+inserts_asks (Range a b n) h = absurd h
 
 module _ {M : Type 0} where
+  -- a closure is asked with a payload that was seen
+  pub asks_present : (o : Outline) (seen : Option M) (v : M) → HasClosure o → seen ≡ Some v → AsksWith o seen seen
+  asks_present (Get k) seen v h is = absurd h
+  asks_present (Insert k x) seen v h is = absurd h
+  asks_present (Remove k) seen v h is = absurd h
+  asks_present (ComputeIfPresent k) seen v h is = (v, is, is)
+  asks_present (ComputeOrInsert k x) seen v h is = refl
+  asks_present (CompareExchange k old new) seen v h is = absurd h
+  asks_present (Range a b n) seen v h is = absurd h
+
+  -- the one of a ComputeOrInsert also where nothing was seen
+  pub asks_inserts : (o : Outline) (seen : Option M) → IsOrInsert o → AsksWith o seen seen
+  asks_inserts (Get k) seen h = absurd h
+  asks_inserts (Insert k x) seen h = absurd h
+  asks_inserts (Remove k) seen h = absurd h
+  asks_inserts (ComputeIfPresent k) seen h = absurd h
+  asks_inserts (ComputeOrInsert k x) seen h = refl
+  asks_inserts (CompareExchange k old new) seen h = absurd h
+  asks_inserts (Range a b n) seen h = absurd h
+
   -- a point call looks under its key's byte
   pub child_point : (o : Outline) → IsPoint o → (key : ℕ) (n : TableNode M) → child_for o key n ≡ lookup n.children (next_byte n.prefix (bytes_of key))
   child_point (Get k) point key n = refl
@@ -66,10 +112,10 @@ module _ {M : Type 0} where
 module _ {M : Type 0} (Granted : Type 0) (same : M → M → Bool) (t : Table M) (root pin : ℕ) (task : Task M) (env : Env M) (placed : IsPlaced t root) (path : Path) (a : Node M)
     (here : t path.here.slot ≡ Some a) where
   -- a Check that fails
-  restarts : (stage : Stage) → held_at stage ≡ [] → made_at stage ≡ [] → key_of task.outline < 2 ^ 64 → IsFreshly task → lookup (spots_of stage) path.here.slot ≡ Some path.here.word → IsIn path.here.slot (named_at stage) → a.word ≢ path.here.word
-      → IsRead Granted same t root pin (at stage task) env (at TakeRoot (restart task)) (report_of kind.Check (Some path.here.slot) 0 false) Going
-  restarts stage held made small fresh known named other = record {
-    facts = record { small = small; at = (restarted_fresh Granted same t root pin task env placed fresh, refl) };
+  pub restarts : (stage : Stage) → held_at stage ≡ [] → made_at stage ≡ [] → key_of task.outline < 2 ^ 64 → IsOpen task → lookup (spots_of stage) path.here.slot ≡ Some path.here.word → IsIn path.here.slot (named_at stage) → a.word ≢ path.here.word
+      → IsRead Granted same t root pin (at stage task) env (at TakeRoot (restarted task)) (report_of kind.Check (Some path.here.slot) 0 false) Going
+  restarts stage held made small opened known named other = record {
+    facts = record { small = small; at = (restarted_fresh task opened, refl) };
     held = refl;
     made = refl;
     course = record {
@@ -83,27 +129,27 @@ module _ {M : Type 0} (Granted : Type 0) (same : M → M → Bool) (t : Table M)
     does = λ s id shows.
         subst (λ (z : Flight M). DoesAs Granted same s (with_call s id z) id (flight pin (at stage task)) env (report_of kind.Check (Some path.here.slot) 0 false) Going kind.Check)
         (holding_as (back (flight pin (at stage task))) [] [] held made)
-        (check_fails Granted same s id (flight pin (at stage task)) env (inl fresh.opened.undecided) path.here.slot path.here.word (one a) (seen_at t root s shows path.here.slot a here) known other);
+        (check_fails Granted same s id (flight pin (at stage task)) env (inl opened.undecided) path.here.slot path.here.word (one a) (seen_at t root s shows path.here.slot a here) known other);
     carries = λ s shows m content. refl;
   }
 
-  pub check_restarts : Facts Granted t root pin (at (Check path) task) → a.word ≢ path.here.word
-      → IsRead Granted same t root pin (at (Check path) task) env (at TakeRoot (restart task)) (report_of kind.Check (Some path.here.slot) 0 false) Going
-  check_restarts facts other = let f = facts.at in restarts (Check path) refl refl facts.small f.0 (here_known path) (inl refl) other
+  pub check_restarts : Facts Granted same t root pin (at (Check path) task) → a.word ≢ path.here.word
+      → IsRead Granted same t root pin (at (Check path) task) env (at TakeRoot (restarted task)) (report_of kind.Check (Some path.here.slot) 0 false) Going
+  check_restarts facts other = let f = facts.at in restarts (Check path) refl refl facts.small f.0.opened (here_known path) (inl refl) other
 
-  pub still_restarts : Facts Granted t root pin (at (Read path) task) → a.word ≢ path.here.word
-      → IsRead Granted same t root pin (at (Read path) task) env (at TakeRoot (restart task)) (report_of kind.Check (Some path.here.slot) 0 false) Going
-  still_restarts facts other = let f = facts.at in restarts (Read path) refl refl facts.small f.0 (here_known path) (inl refl) other
+  pub still_restarts : Facts Granted same t root pin (at (Read path) task) → a.word ≢ path.here.word
+      → IsRead Granted same t root pin (at (Read path) task) env (at TakeRoot (restarted task)) (report_of kind.Check (Some path.here.slot) 0 false) Going
+  still_restarts facts other = let f = facts.at in restarts (Read path) refl refl facts.small f.0.opened (here_known path) (inl refl) other
 
-  pub above_restarts : (below : Spot) (fits : Bool) → Facts Granted t root pin (at (CheckAbove path below fits) task) → a.word ≢ path.here.word
-      → IsRead Granted same t root pin (at (CheckAbove path below fits) task) env (at TakeRoot (restart task)) (report_of kind.Check (Some path.here.slot) 0 false) Going
-  above_restarts below fits facts other = let f = facts.at in restarts (CheckAbove path below fits) refl refl facts.small f.0 (above_known path below f.6) (inr (inl refl)) other
+  pub above_restarts : (below : Spot) (fits : Bool) → Facts Granted same t root pin (at (CheckAbove path below fits) task) → a.word ≢ path.here.word
+      → IsRead Granted same t root pin (at (CheckAbove path below fits) task) env (at TakeRoot (restarted task)) (report_of kind.Check (Some path.here.slot) 0 false) Going
+  above_restarts below fits facts other = let f = facts.at in restarts (CheckAbove path below fits) refl refl facts.small f.0.opened (above_known path below f.6) (inr (inl refl)) other
 
   module _ (word : a.word ≡ path.here.word) where
     -- a Check that passes, after which the call goes on
     pub goes : (stage next : Stage) → held_at stage ≡ [] → made_at stage ≡ [] → held_at next ≡ [] → made_at next ≡ [] → IsFreshly task → lookup (spots_of stage) path.here.slot ≡ Some path.here.word → IsIn path.here.slot (named_at stage) → Within (spots_of next) (spots_of stage)
-        → Facts Granted t root pin (at next task) → ((slot : ℕ) → IsIn slot (named_at next) → (slot ≡ root) ⊎ (IsIn slot (named_at stage) ⊎ MayFollow t stage task.last slot))
-        → ((slot : ℕ) → MayFollow t next task.last slot → ⊥) → (IsServedCall task.outline → work_of t (at next task) < work_of t (at stage task))
+        → Facts Granted same t root pin (at next task) → ((slot : ℕ) → IsIn slot (named_at next) → (slot ≡ root) ⊎ (IsIn slot (named_at stage) ⊎ MayFollow t stage task.last slot))
+        → ((slot : ℕ) → MayFollow t next task.last slot → ⊥) → (IsPoint task.outline → work_of t (at next task) < work_of t (at stage task))
         → IsRead Granted same t root pin (at stage task) env (at next task) (report_of kind.Check (Some path.here.slot) 0 true) Going
     goes stage next held made held_next made_next fresh known named within facts names reads falls = record {
       facts = facts;
@@ -125,11 +171,11 @@ module _ {M : Type 0} (Granted : Type 0) (same : M → M → Bool) (t : Table M)
       carries = λ s shows m content. refl;
     }
 
-    pub check_goes_down : (slot : ℕ) → Facts Granted t root pin (at (Check path) task) → IsPoint task.outline → SawNode task.last slot
+    pub check_goes_down : (slot : ℕ) → Facts Granted same t root pin (at (Check path) task) → IsPoint task.outline → SawNode task.last slot
         → IsRead Granted same t root pin (at (Check path) task) env (at (TakeBelow path slot) task) (report_of kind.Check (Some path.here.slot) 0 true) Going
     check_goes_down slot facts point saw_node =
         let f = facts.at in
-        let saw : Saw Granted t pin path task = f.2 in
+        let saw : Saw Granted same t pin path task = f.2 in
         let one_seen : saw.seen ≡ saw_node.seen = some_same saw.seen saw_node.seen (sym saw.is ∙ saw_node.is) in
         let child : saw.seen.child ≡ Some (below_at slot) = ap (λ (z : Seen M). z.child) one_seen ∙ saw_node.child in
         let led : LedTo t path.here (key_bytes task) slot = λ (b : Node M) (h : t path.here.slot ≡ Some b) (e : b.word ≡ path.here.word).
@@ -150,21 +196,21 @@ module _ {M : Type 0} (Granted : Type 0) (same : M → M → Bool) (t : Table M)
         (λ z h. elim h [ inl e ↦ inr (inr (subst (λ (x : ℕ). SawNode task.last x) e saw_node, record { node = a; here = here; word = word })) | inr e ↦ inr (inl e) ])
         (λ z h. h) (λ served. omega arith)
 
-    -- a call that isn't served further reads again
-    pub check_again : Facts Granted t root pin (at (Check path) task) → (IsServedCall task.outline → ⊥)
+    -- a range reads again
+    pub check_again : Facts Granted same t root pin (at (Check path) task) → (IsPoint task.outline → ⊥)
         → IsRead Granted same t root pin (at (Check path) task) env (at (Read path) task) (report_of kind.Check (Some path.here.slot) 0 true) Going
     check_again facts other =
         let f = facts.at in
         goes (Check path) (Read path) refl refl refl refl f.0 (here_known path) (inl refl) (λ z w h. h) (record { small = facts.small; at = (f.0, f.1) }) (λ z h. inr (inl h)) (λ z h. h) (λ served. absurd (other served))
 
-    -- and so does one that isn't served before it reads
-    pub still_again : Facts Granted t root pin (at (Read path) task) → (IsServedCall task.outline → ⊥)
+    -- and so does one before it reads
+    pub still_again : Facts Granted same t root pin (at (Read path) task) → (IsPoint task.outline → ⊥)
         → IsRead Granted same t root pin (at (Read path) task) env (at (Read path) task) (report_of kind.Check (Some path.here.slot) 0 true) Going
     still_again facts other =
         let f = facts.at in
         goes (Read path) (Read path) refl refl refl refl f.0 (here_known path) (inl refl) (λ z w h. h) facts (λ z h. inr (inl h)) (λ z h. h) (λ served. absurd (other served))
 
-    pub above_goes : (below : Spot) → Facts Granted t root pin (at (CheckAbove path below true) task)
+    pub above_goes : (below : Spot) → Facts Granted same t root pin (at (CheckAbove path below true) task)
         → IsRead Granted same t root pin (at (CheckAbove path below true) task) env (at (Read (record { above = Some path.here; here = below })) task) (report_of kind.Check (Some path.here.slot) 0 true) Going
     above_goes below facts =
         let f = facts.at in
@@ -174,79 +220,151 @@ module _ {M : Type 0} (Granted : Type 0) (same : M → M → Bool) (t : Table M)
         (λ z h. elim h [ inl e ↦ inr (inl (inl e)) | inr more ↦ elim more [ inl e ↦ inr (inl (inr (inl e))) | inr never ↦ absurd never ] ])
         (λ z h. h) (λ served. descends t root placed pin (key_bytes task) path on below.slot f.2 a here word)
 
-    -- a call that isn't served further looks again
-    pub above_again : (below : Spot) (fits : Bool) → Facts Granted t root pin (at (CheckAbove path below fits) task) → (IsServedCall task.outline → ⊥)
+    -- a range looks again
+    pub above_again : (below : Spot) (fits : Bool) → Facts Granted same t root pin (at (CheckAbove path below fits) task) → (IsPoint task.outline → ⊥)
         → IsRead Granted same t root pin (at (CheckAbove path below fits) task) env (at (CheckAbove path below fits) task) (report_of kind.Check (Some path.here.slot) 0 true) Going
     above_again below fits facts other =
         let f = facts.at in
         goes (CheckAbove path below fits) (CheckAbove path below fits) refl refl refl refl f.0 (above_known path below f.6) (inr (inl refl)) (λ z w h. h) facts (λ z h. inr (inl h)) (λ z h. h) (λ served. absurd (other served))
 
-    -- a Get is decided with this reply
-    ends : (old : Option M) (stage : Stage) → held_at stage ≡ [] → made_at stage ≡ [] → key_of task.outline < 2 ^ 64 → IsFreshly task → IsGet task.outline → lookup (spots_of stage) path.here.slot ≡ Some path.here.word → IsIn path.here.slot (named_at stage)
-        → 1 < work_of t (at stage task) → seen_payload task.last ≡ old
-        → ((s : State M) → Shows t root s → (m : Pairs M) → IsContent s m → lookup m (key_of task.outline) ≡ old)
-        → IsRead Granted same t root pin (at stage task) env (at Finish (decided task)) (report_of kind.Check (Some path.here.slot) 0 true) (Decided (Old old))
-    ends old stage held made small fresh served known named more payload there =
-        let get : task.op ≡ Some (Get (key_of task.outline)) = fresh.opened.op_is ∙ ap Some (get_is fresh.opened.op task.outline fresh.opened.outline served) in
-        record {
-          facts = record { small = small; at = decided_open };
-          held = refl;
-          made = refl;
-          course = record {
-            touches = λ z e make. inr (subst (λ (x : ℕ). IsIn x (named_at stage)) (some_same path.here.slot z e) named);
-            names = λ z h. absurd h;
-            reads = λ z h. absurd h;
-            outline = refl;
-            keeps = λ current z w h. absurd (none_some w h);
-            falls = λ served. inr more;
-          };
-          does = λ s id shows.
-              subst (λ (z : Flight M). DoesAs Granted same s (with_call s id z) id (flight pin (at stage task)) env (report_of kind.Check (Some path.here.slot) 0 true) (Decided (Old old)) kind.Check)
-              (holding_as (record (settled progress.Decided (flight pin (at stage task))) { spots = [] }) [] [] held made)
-              (check_ok Granted same s id (flight pin (at stage task)) env (inl fresh.opened.undecided) path.here.slot path.here.word (one a) (seen_at t root s shows path.here.slot a here) known
-              (settled progress.Decided (flight pin (at stage task))) [] (Decided (Old old)) word
-              (get_finds Granted same (flight pin (at stage task)) (key_of task.outline) old s get fresh.opened.undecided fresh.fresh refl payload) (λ z w h. absurd (none_some w h)));
-          carries = λ s shows m content. get_leads same (flight pin (at stage task)) (key_of task.outline) old m get fresh.fresh (there s shows m content);
-        }
+    -- THE CALL ASKS its closure with what the last Read reported
+    pub asks_at : (stage : Stage) (case : Case) (old : Option M) → held_at stage ≡ [] → made_at stage ≡ [] → IsFreshly task → lookup (spots_of stage) path.here.slot ≡ Some path.here.word → IsIn path.here.slot (named_at stage)
+        → Within (case_spots case) (spots_of stage) → AsksWith task.outline (seen_payload task.last) old → Facts Granted same t root pin (at (Answer case) (asking task old))
+        → ((slot : ℕ) → IsIn slot (case_slots case) → (slot ≡ root) ⊎ (IsIn slot (named_at stage) ⊎ MayFollow t stage task.last slot))
+        → (IsPoint task.outline → case_work case < work_of t (at stage task))
+        → IsRead Granted same t root pin (at stage task) env (at (Answer case) (asking task old)) (report_of kind.Check (Some path.here.slot) 0 true) (Ask old)
+    asks_at stage case old held made fresh known named within asks facts names falls = record {
+      facts = facts;
+      held = refl;
+      made = refl;
+      course = record {
+        touches = λ z e make. inr (subst (λ (x : ℕ). IsIn x (named_at stage)) (some_same path.here.slot z e) named);
+        names = names;
+        reads = λ z h. absurd h;
+        outline = refl;
+        keeps = still_current t stage (Answer case) within;
+        falls = λ point. inr (falls point);
+      };
+      does = λ s id shows.
+          subst (λ (z : Flight M). DoesAs Granted same s (with_call s id z) id (flight pin (at stage task)) env (report_of kind.Check (Some path.here.slot) 0 true) (Ask old) kind.Check)
+          (holding_as (record (flight pin (at stage task)) { spots = case_spots case; asking = Wants old }) [] [] held made)
+          (check_ok Granted same s id (flight pin (at stage task)) env (inl fresh.opened.undecided) path.here.slot path.here.word (one a) (seen_at t root s shows path.here.slot a here) known
+          (record (flight pin (at stage task)) { asking = Wants old }) (case_spots case) (Ask old) word
+          (record { undecided = fresh.opened.undecided; fresh = fresh.fresh; is = asks }, refl) within);
+      carries = λ s shows m content. refl;
+    }
 
-    module _ (facts : Facts Granted t root pin (at (Check path) task)) (served : IsGet task.outline) where
-      -- what a Get saw stands there
-      stands_there : (s : Seen M) → task.last ≡ Some s → s.child ≡ entry a (byte_at a (key_bytes task))
-      stands_there s is =
-          let saw : Saw Granted t pin path task = facts.at.2 in
-          let one_seen : saw.seen ≡ s = some_same saw.seen s (sym saw.is ∙ is) in
-          let agrees : Agrees Granted task (Check path) pin a s = subst (λ (z : Seen M). Agrees Granted task (Check path) pin a z) one_seen (saw.agrees a here word) in
-          seen_exact (Sees Granted task) _ s.child agrees.reading.child (λ h. absurd (get_shares task.outline served h)) ∙ child_point task.outline (get_point task.outline served) (key_of task.outline) a.node
+    -- THE CALL IS DECIDED with a reply that leaves all
+    module _ (stage : Stage) (held : held_at stage ≡ []) (made : made_at stage ≡ []) (small : key_of task.outline < 2 ^ 64) (known : lookup (spots_of stage) path.here.slot ≡ Some path.here.word) (named : IsIn path.here.slot (named_at stage))
+        (more : IsPoint task.outline → 1 < work_of t (at stage task)) where
+      pub ends : (reply : Reply M) → Tells Granted same (flight pin (at stage task)) reply
+          → ((s : State M) → Shows t root s → (m : Pairs M) → IsContent s m → Leads same m m (flight pin (at stage task)) reply)
+          → IsRead Granted same t root pin (at stage task) env (at Finish (closed progress.Decided task)) (report_of kind.Check (Some path.here.slot) 0 true) (Decided reply)
+      ends reply tells leads = record {
+        facts = record { small = small; at = decided_open };
+        held = refl;
+        made = refl;
+        course = record {
+          touches = λ z e make. inr (subst (λ (x : ℕ). IsIn x (named_at stage)) (some_same path.here.slot z e) named);
+          names = λ z h. absurd h;
+          reads = λ z h. absurd h;
+          outline = refl;
+          keeps = λ current z w h. absurd (none_some w h);
+          falls = λ point. inr (more point);
+        };
+        does = λ s id shows.
+            subst (λ (z : Flight M). DoesAs Granted same s (with_call s id z) id (flight pin (at stage task)) env (report_of kind.Check (Some path.here.slot) 0 true) (Decided reply) kind.Check)
+            (holding_as (record (settled progress.Decided (flight pin (at stage task))) { spots = [] }) [] [] held made)
+            (check_ok Granted same s id (flight pin (at stage task)) env (inl tells.0.undecided) path.here.slot path.here.word (one a) (seen_at t root s shows path.here.slot a here) known
+            (settled progress.Decided (flight pin (at stage task))) [] (Decided reply) word (tells.0, tells.1, refl) (λ z w h. absurd (none_some w h)));
+        carries = λ s shows m content. leads s shows m content;
+      }
 
-      pub check_nothing : ((s : Seen M) → task.last ≡ Some s → s.child ≡ None)
-          → IsRead Granted same t root pin (at (Check path) task) env (at Finish (decided task)) (report_of kind.Check (Some path.here.slot) 0 true) (Decided (Old None))
-      check_nothing none =
+      -- what stands at the key, as the call has seen it
+      module _ (stands : Option M) (seen : Sees Granted same task → seen_payload task.last ≡ stands)
+          (there : (s : State M) → Shows t root s → (m : Pairs M) → IsContent s m → lookup m (key_of task.outline) ≡ stands) where
+        -- it changes nothing
+        pub ends_left : (fresh : IsFreshly task) (reply : Reply M) → IsLeft same fresh.opened.op stands reply
+            → IsRead Granted same t root pin (at stage task) env (at Finish (closed progress.Decided task)) (report_of kind.Check (Some path.here.slot) 0 true) (Decided reply)
+        ends_left fresh reply left =
+            ends reply (left_tells Granted same pin stage task fresh.opened stands reply fresh.fresh left seen)
+            (λ s shows m content. left_leads Granted same pin stage task fresh.opened stands reply fresh.fresh left m (there s shows m content))
+
+        -- what it would store stands there already
+        pub ends_changed : (opened : IsOpen task) → IsChange same opened.op task.asking stands stands
+            → IsRead Granted same t root pin (at stage task) env (at Finish (closed progress.Decided task)) (report_of kind.Check (Some path.here.slot) 0 true) (Decided (reply_with task.outline stands task.returns))
+        ends_changed opened change =
+            ends (reply_with task.outline stands task.returns) (same_tells Granted same pin stage task opened stands change seen)
+            (λ s shows m content. same_leads Granted same pin stage task opened stands change m content.map (there s shows m content))
+
+    -- WHAT A POINT CALL HAS SEEN at a node on its key's way
+    module _ (facts : Facts Granted same t root pin (at (Check path) task)) (point : IsPoint task.outline) where
+      saw_here : Saw Granted same t pin path task
+      saw_here = facts.at.2
+
+      agrees_here : Agrees Granted same task (Check path) pin a saw_here.seen
+      agrees_here = saw_here.agrees a here word
+
+      child_here : child_for task.outline (key_of task.outline) a.node ≡ found a (key_bytes task)
+      child_here = child_point task.outline point (key_of task.outline) a.node
+
+      -- a node under the key's byte is seen by all
+      pub sees_below : (slot : ℕ) → found a (key_bytes task) ≡ Some (below_at slot) → SawNode task.last slot
+      sees_below slot there = record {
+        seen = saw_here.seen;
+        is = saw_here.is;
+        child = subst (λ (c : Option (Child M)). IsSeenOf (Sees Granted same task) c saw_here.seen.child) (child_here ∙ there) agrees_here.reading.child;
+      }
+
+      -- nothing there, too
+      pub sees_none : found a (key_bytes task) ≡ None → seen_payload task.last ≡ None
+      sees_none there =
+          ap seen_payload saw_here.is
+          ∙ ap payload_in (subst (λ (c : Option (Child M)). IsSeenOf (Sees Granted same task) c saw_here.seen.child) (child_here ∙ there) agrees_here.reading.child)
+
+      -- a payload by those that see payloads
+      pub sees_found : Sees Granted same task → seen_payload task.last ≡ payload_in (found a (key_bytes task))
+      sees_found sees = ap seen_payload saw_here.is ∙ ap payload_in (seen_exact (Sees Granted same task) _ saw_here.seen.child agrees_here.reading.child sees ∙ child_here)
+
+      -- which keep one more share of it
+      pub keeps_spare : Sees Granted same task → task.spare ≡ payload_in (found a (key_bytes task))
+      keeps_spare sees = agrees_here.spare sees ∙ (sym (ap seen_payload saw_here.is) ∙ sees_found sees)
+
+      -- so that a closure's question is kept
+      pub keeps_old : HasClosure task.outline → task.spare ≡ seen_payload task.last
+      keeps_old asks = agrees_here.spare (λ shares. absurd (closure_shares task.outline asks shares)) ∙ sym (ap seen_payload saw_here.is)
+
+      -- and a third one to ask it with
+      pub keeps_question : HasClosure task.outline → task.question ≡ seen_payload task.last
+      keeps_question asks = agrees_here.question asks ∙ sym (ap seen_payload saw_here.is)
+
+      -- what that says of the content
+      pub absent_there : found a (key_bytes task) ≡ None → (s : State M) → Shows t root s → (m : Pairs M) → IsContent s m → lookup m (key_of task.outline) ≡ None
+      absent_there empty s shows m content = none_there t root s placed shows m content (key_of task.outline) (check_absent t root (key_bytes task) placed pin path a facts.at.1 here word empty)
+
+      pub present_there : (v : M) → found a (key_bytes task) ≡ Some (Payload v) → (s : State M) → Shows t root s → (m : Pairs M) → IsContent s m → lookup m (key_of task.outline) ≡ Some v
+      present_there v payload s shows m content =
+          kept_there t root s placed shows m content (key_of task.outline) v facts.small (check_present t root (key_bytes task) placed pin path a facts.at.1 here word v payload)
+
+    -- NOTHING STANDS at the key of a call that was led to a node which leaves it
+    module _ (below : Spot) (facts : Facts Granted same t root pin (at (CheckAbove path below false) task)) where
+      pub above_none : seen_payload task.last ≡ None
+      above_none = let saw_node : SawNode task.last below.slot = facts.at.3 in ap seen_payload saw_node.is ∙ ap payload_in saw_node.child
+
+      pub above_absent : (s : State M) → Shows t root s → (m : Pairs M) → IsContent s m → lookup m (key_of task.outline) ≡ None
+      above_absent s shows m content =
           let f = facts.at in
-          let saw : Saw Granted t pin path task = f.2 in
-          let child : saw.seen.child ≡ None = none saw.seen saw.is in
-          let empty : entry a (byte_at a (key_bytes task)) ≡ None = sym (stands_there saw.seen saw.is) ∙ child in
-          let payload : seen_payload task.last ≡ None = ap seen_payload saw.is ∙ ap payload_in child in
-          ends None (Check path) refl refl facts.small f.0 served (here_known path) (inl refl) (omega arith) payload
-          (λ s shows m content. none_there t root s placed shows m content (key_of task.outline) (check_absent t root (key_bytes task) placed pin path a f.1 here word empty))
+          none_there t root s placed shows m content (key_of task.outline) (check_mismatch t root (key_bytes task) placed pin path a f.1 here word below false f.2 f.4 f.5 refl)
 
-      pub check_payload : (s : Seen M) (v : M) → task.last ≡ Some s → s.child ≡ Some (Payload v)
-          → IsRead Granted same t root pin (at (Check path) task) env (at Finish (decided task)) (report_of kind.Check (Some path.here.slot) 0 true) (Decided (Old task.spare))
-      check_payload s v is child =
-          let f = facts.at in
-          let saw : Saw Granted t pin path task = f.2 in
-          let one_seen : saw.seen ≡ s = some_same saw.seen s (sym saw.is ∙ is) in
-          let agrees : Agrees Granted task (Check path) pin a s = subst (λ (z : Seen M). Agrees Granted task (Check path) pin a z) one_seen (saw.agrees a here word) in
-          let spare : task.spare ≡ Some v = agrees.spare (λ h. absurd (get_shares task.outline served h)) v child in
-          let there : entry a (byte_at a (key_bytes task)) ≡ Some (Payload v) = sym (stands_there s is) ∙ child in
-          let payload : seen_payload task.last ≡ Some v = ap seen_payload is ∙ ap payload_in child in
-          ends task.spare (Check path) refl refl facts.small f.0 served (here_known path) (inl refl) (omega arith) (payload ∙ sym spare)
-          (λ s shows m content. kept_there t root s placed shows m content (key_of task.outline) v facts.small (check_present t root (key_bytes task) placed pin path a f.1 here word v there) ∙ sym spare)
+-- WHAT A CALL KNOWS that asks
+module _ {M : Type 0} (Granted : Type 0) (same : M → M → Bool) (task : Task M) (old : Option M) (fresh : IsFreshly task) where
+  pub asking_open : IsOpen (asking task old)
+  asking_open =
+      let o = fresh.opened in
+      record { undecided = o.undecided; op = o.op; op_is = o.op_is; outline = o.outline; returned = returned_wants o.op task.asking old task.returns o.returned }
 
-    pub above_decides : (below : Spot) → Facts Granted t root pin (at (CheckAbove path below false) task) → IsGet task.outline
-        → IsRead Granted same t root pin (at (CheckAbove path below false) task) env (at Finish (decided task)) (report_of kind.Check (Some path.here.slot) 0 true) (Decided (Old None))
-    above_decides below facts served =
-        let f = facts.at in
-        let saw_node : SawNode task.last below.slot = f.3 in
-        let payload : seen_payload task.last ≡ None = ap seen_payload saw_node.is ∙ ap payload_in saw_node.child in
-        ends None (CheckAbove path below false) refl refl facts.small f.0 served (above_known path below f.6) (inr (inl refl)) (omega arith) payload
-        (λ s shows m content. none_there t root s placed shows m content (key_of task.outline) (check_mismatch t root (key_bytes task) placed pin path a f.1 here word below false f.2 f.4 f.5 refl))
+  pub asking_waits : HasClosure task.outline → old ≡ seen_payload task.last → Waits Granted same (asking task old)
+  asking_waits closure is = record { opened = asking_open; closure = closure; wants = ap (λ (z : Option M). Wants z) is }
+
+  pub asking_waits_for : IsOrInsert task.outline → old ≡ seen_payload task.last → seen_payload task.last ≡ None → WaitsFor Granted same (asking task old)
+  asking_waits_for inserts is none = record { waits = asking_waits (inserts_asks task.outline inserts) is; inserts = inserts; none = none }

@@ -1,29 +1,21 @@
 -- How the events that write no node are events of their kinds.
-use Rattle.std.proofs.Common.{◌≡◌, ◌≢◌, ℕ, Bool, true, false, IsTrue, ◌↔◌, List, [], Option, Some, None, inl, refl, sym, subst, ap, ◌∙◌, arith}
-use Rattle.std.proofs.lemmas.Bool.{eq-eqb}
+use Rattle.std.proofs.Common.{◌≡◌, ◌≢◌, ℕ, Bool, true, false, IsTrue, ◌↔◌, List, [], Some, inl, refl, arith}
 use Rattle.congee_map.proofs.MapLaws.{lookup-put_same}
-use Rattle.congee_map.specs.Call.{old_value}
-use Rattle.congee_map.specs.Map.{Pairs, lookup, put}
+use Rattle.congee_map.specs.Map.{lookup, put}
 use Rattle.congee_node_table.specs.declared.child.Child.TheVariants.{Payload}
-use Rattle.congee_protocol.specs.Calls.{Outline, IsPoint, key_of, outline_of, asked_of}
-use Rattle.congee_protocol.specs.Deciding.{Leads}
+use Rattle.congee_protocol.specs.Calls.{Outline}
 use Rattle.congee_protocol.specs.Kinds.{DoesAs, Finds, IsAtWork, report_of}
-use Rattle.congee_protocol.specs.Local.{SharesNone, SeesPayloads, only_at, seen_payload}
+use Rattle.congee_protocol.specs.Local.{SharesNone, SeesPayloads}
 use Rattle.congee_protocol.specs.Reading.{IsReading, LooksOn, child_for}
 use Rattle.congee_protocol.specs.State.{State, Node, Flight, with_call, back, settled}
-use Rattle.congee_protocol.specs.declared.types.Asking.{Asking}
-use Rattle.congee_protocol.specs.declared.types.Asking.TheVariants.{Fresh}
 use Rattle.congee_protocol.specs.declared.types.Env.{Env}
 use Rattle.congee_protocol.specs.declared.types.Kind.TheVariants as kind
-use Rattle.congee_protocol.specs.declared.types.Op.{Op}
 use Rattle.congee_protocol.specs.declared.types.Op.TheVariants.{Get, Insert, Remove, ComputeIfPresent, ComputeOrInsert, CompareExchange, Range}
 use Rattle.congee_protocol.specs.declared.types.Outcome.{Outcome}
-use Rattle.congee_protocol.specs.declared.types.Outcome.TheVariants.{Going, Decided, Refused}
+use Rattle.congee_protocol.specs.declared.types.Outcome.TheVariants.{Going, Refused}
 use Rattle.congee_protocol.specs.declared.types.Progress.TheVariants as progress
-use Rattle.congee_protocol.specs.declared.types.Reply.TheVariants.{Old}
 use Rattle.congee_protocol.specs.declared.types.Seen.{Seen}
 use Rattle.congee_sync.specs.Lock.{IsFree}
-use Rattle.congee_reading.specs.inner.Found.{IsGet}
 use Rattle.congee_store.proofs.Options.{none_some}
 use Rattle.congee_store.proofs.Unlike.{false_true, true_false}
 
@@ -40,12 +32,6 @@ is_by q = ((λ e. q), (λ x. refl))
 -- the words of the first are among those of the second
 abbrev pub Within : List (ℕ × ℕ) → List (ℕ × ℕ) → Type 0
 Within fewer spots = (slot word : ℕ) → lookup fewer slot ≡ Some word → lookup spots slot ≡ Some word
-
-pub within_all : (spots : List (ℕ × ℕ)) → Within spots spots
-within_all spots slot word h = h
-
-pub within_none : (spots : List (ℕ × ℕ)) → Within [] spots
-within_none spots slot word h = absurd (none_some word h)
 
 module _ {M : Type 0} (Granted : Type 0) (same : M → M → Bool) (s : State M) (id : ℕ) (call : Flight M) (env : Env M) (work : IsAtWork call) where
   pub take_ok : (slot : ℕ) (a : Node M) → lookup s.nodes slot ≡ Some a → (slot ≡ s.root → call ≡ back call) → IsFree a.word
@@ -176,67 +162,3 @@ module _ {M : Type 0} (s : State M) where
     passed = λ key value low high stands. absurd (omega (arith, low, high));
     next_is = inl refl;
   }
-
--- the local reply of a Get is what it saw
-module _ {M : Type 0} (Granted : Type 0) (same : M → M → Bool) (call : Flight M) (key : ℕ) (reply : Option M) where
-  found_alone : (v : Option M) → lookup (only_at key v) key ≡ v
-  found_alone None = refl
-  found_alone (Some v) = rw (eq-eqb key key refl) refl
-
-  pub get_finds : (s : State M) → call.op ≡ Some (Get key) → call.progress ≡ progress.Open → call.asking ≡ Fresh → call.cursor ≡ key → seen_payload call.seen ≡ reply
-      → Finds Granted same s call (settled progress.Decided call) (Decided (Old reply))
-  get_finds s op_is undecided fresh cursor payload =
-      let found : lookup (only_at call.cursor (seen_payload call.seen)) key ≡ reply =
-      subst (λ (k : ℕ). lookup (only_at k (seen_payload call.seen)) key ≡ reply) (sym cursor) (found_alone (seen_payload call.seen) ∙ payload) in (
-        record {
-          op = Get key;
-          op_is = op_is;
-          undecided = undecided;
-          point = tt;
-          asked = λ sees. ap (λ (a : Asking M). asked_of a) fresh;
-          reply = λ sees. ap old_value (sym found);
-        },
-        (λ sees. refl),
-        refl,
-      )
-
--- a Get
-module _ {M : Type 0} where
-  pub get_is : (op : Op M) (o : Outline) → outline_of op ≡ o → IsGet o → op ≡ Get (key_of o)
-  get_is (Get k) o e served = subst (λ (z : Outline). let x : Op M = Get k in x ≡ Get (key_of z)) e refl
-  get_is (Insert k v) o e served = absurd (subst (λ (z : Outline). IsGet z) (sym e) served)
-  get_is (Remove k) o e served = absurd (subst (λ (z : Outline). IsGet z) (sym e) served)
-  get_is (ComputeIfPresent k) o e served = absurd (subst (λ (z : Outline). IsGet z) (sym e) served)
-  get_is (ComputeOrInsert k v) o e served = absurd (subst (λ (z : Outline). IsGet z) (sym e) served)
-  get_is (CompareExchange k old new) o e served = absurd (subst (λ (z : Outline). IsGet z) (sym e) served)
-  get_is (Range a b n) o e served = absurd (subst (λ (z : Outline). IsGet z) (sym e) served)
-
-  -- and leads from a content to itself
-  pub get_leads : (same : M → M → Bool) (call : Flight M) (key : ℕ) (reply : Option M) (m : Pairs M) → call.op ≡ Some (Get key) → call.asking ≡ Fresh → lookup m key ≡ reply
-      → Leads same m m call (Old reply)
-  get_leads same call key reply m op_is fresh there = record {
-    op = Get key;
-    op_is = op_is;
-    asked = ap (λ (a : Asking M). asked_of a) fresh;
-    replied = ap old_value (sym there);
-    after = refl;
-  }
-
-pub get_point : (o : Outline) → IsGet o → IsPoint o
-get_point (Get k) served = tt
-get_point (Insert k v) served = absurd served
-get_point (Remove k) served = absurd served
-get_point (ComputeIfPresent k) served = absurd served
-get_point (ComputeOrInsert k v) served = absurd served
-get_point (CompareExchange k old new) served = absurd served
-get_point (Range a b n) served = absurd served
-
--- it sees payloads
-pub get_shares : (o : Outline) → IsGet o → SharesNone o None → ⊥
-get_shares (Get k) served h = h
-get_shares (Insert k v) served h = served
-get_shares (Remove k) served h = served
-get_shares (ComputeIfPresent k) served h = h
-get_shares (ComputeOrInsert k v) served h = h
-get_shares (CompareExchange k old new) served h = h
-get_shares (Range a b n) served h = h

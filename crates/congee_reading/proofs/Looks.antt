@@ -21,6 +21,7 @@ use Rattle.congee_store.specs.declared.stage.Path.{Path}
 use Rattle.congee_store.specs.declared.stage.Record.{Record}
 use Rattle.congee_store.specs.declared.stage.Stage.TheVariants.{Read, Check}
 use Rattle.congee_store.specs.declared.stage.Task.{Task}
+use Rattle.congee_store.specs.inner.Effects.{HasClosure}
 use Rattle.congee_store.specs.inner.Tables.{IsPlaced}
 use Rattle.congee_store.specs.inner.Tasks.{Agrees}
 use Rattle.congee_store.specs.inner.Facts.{Facts}
@@ -33,7 +34,7 @@ use Rattle.congee_store.proofs.Reaching.{one, seen_at}
 use Rattle.congee_store.proofs.Unlike.{refused_open}
 use Rattle.congee_store.proofs.Records.{at}
 use Rattle.congee_reading.specs.inner.Looked.{HasPayload, IsFull, IsLooking, IsUnseen, IsWholeRead, SeesAll, refused}
-use Rattle.congee_reading.proofs.Checks.{child_point}
+use Rattle.congee_reading.proofs.Checks.{child_point, closure_shares}
 use Rattle.congee_reading.proofs.Courses.{still_current}
 use Rattle.congee_reading.proofs.Events.{read_whole, read_torn, read_refused}
 use Rattle.congee_reading.proofs.Spots.{here_known}
@@ -81,39 +82,38 @@ module _ {M : Type 0} where
   exact_seen Q (Some (Payload v)) seen e = λ q. e
   exact_seen Q (Some (below_at s)) seen e = e
 
-  kept_seen : (c : Option (Child M)) (v : M) → c ≡ Some (Payload v) → payload_in c ≡ Some v
-  kept_seen c v e = ap payload_in e
-
 none_below : {M : Type 0} (slot : ℕ) → let c : Child M = below_at slot in None ≡ Some c → ⊥
 none_below slot e = none_some (below_at slot) e
 
-module _ {M : Type 0} (Granted : Type 0) (a : TableNode M) (o : Outline) (point : IsPoint o) (c : Option (Child M)) (there : lookup a.children (next_byte a.prefix (bytes_of (key_of o))) ≡ c)
-    (s : Seen M) (spare : Option M) (count : s.count ≡ length a.children) (full : IsFull a.form (length a.children) s.full) where
+module _ {M : Type 0} (Granted : Type 0) (same : M → M → Bool) (a : TableNode M) (o : Outline) (point : IsPoint o) (c : Option (Child M)) (there : lookup a.children (next_byte a.prefix (bytes_of (key_of o))) ≡ c)
+    (s : Seen M) (spare question : Option M) (count : s.count ≡ length a.children) (full : IsFull a.form (length a.children) s.full) where
   child_is : child_for o (key_of o) a ≡ c
   child_is = child_point o point (key_of o) a ∙ there
 
   -- it was shared
-  pub looks_shared : s.child ≡ c → spare ≡ payload_in c → IsLooking Granted a o s spare
-  looks_shared child kept = record {
+  pub looks_shared : s.child ≡ c → spare ≡ payload_in c → (HasClosure o → question ≡ payload_in c) → IsLooking Granted same a o s spare question
+  looks_shared child kept asks = record {
     child = exact_seen (SeesAll Granted o) (child_for o (key_of o) a) s.child (child ∙ sym child_is);
     count = count;
     full = full;
-    kept = λ sees v e. kept ∙ kept_seen c v (sym child ∙ e);
+    kept = λ sees. kept ∙ ap payload_in (sym child);
+    asks = λ h. asks h ∙ ap payload_in (sym child);
     below = λ slot e. child_is ∙ (sym child ∙ e);
   }
 
   -- a call that shares nothing leaves it open
-  pub looks_open : SharesNone o None → (Granted → ⊥) → HasPayload c → s.child ≡ None → IsLooking Granted a o s spare
+  pub looks_open : SharesNone o None → (Granted → ⊥) → HasPayload c → s.child ≡ None → IsLooking Granted same a o s spare question
   looks_open shares granted payload none = record {
     child = subst (λ (x : Option (Child M)). IsSeenOf (SeesAll Granted o) x s.child) (sym (child_is ∙ payload.1)) (λ (sees : SeesAll Granted o). absurd (granted (sees shares)));
     count = count;
     full = full;
-    kept = λ sees v e. absurd (none_some (Payload v) (sym none ∙ e));
+    kept = λ sees. absurd (granted (sees shares));
+    asks = λ h. absurd (closure_shares o h shares);
     below = λ slot e. absurd (none_below slot (sym none ∙ e));
   }
 
-module _ {M : Type 0} (Granted : Type 0) (a : TableNode M) (o : Outline) (point : IsPoint o) (c : Option (Child M)) (there : lookup a.children (next_byte a.prefix (bytes_of (key_of o))) ≡ c) where
-  pub looks_refused : (SharesNone o None → ⊥) → (Granted → ⊥) → HasPayload c → IsUnseen Granted a o
+module _ {M : Type 0} (Granted : Type 0) (same : M → M → Bool) (a : TableNode M) (o : Outline) (point : IsPoint o) (c : Option (Child M)) (there : lookup a.children (next_byte a.prefix (bytes_of (key_of o))) ≡ c) where
+  pub looks_refused : (SharesNone o None → ⊥) → (Granted → ⊥) → HasPayload c → IsUnseen Granted same a o
   looks_refused shares granted payload = record {
     payload = (payload.0, child_point o point (key_of o) a ∙ there ∙ payload.1);
     shares = shares;
@@ -121,18 +121,18 @@ module _ {M : Type 0} (Granted : Type 0) (a : TableNode M) (o : Outline) (point 
   }
 
 module _ {M : Type 0} (Granted : Type 0) (same : M → M → Bool) (t : Table M) (root pin : ℕ) (task : Task M) (env : Env M) (placed : IsPlaced t root) (path : Path) (a : Node M)
-    (here : t path.here.slot ≡ Some a) (facts : Facts Granted t root pin (at (Read path) task)) where
+    (here : t path.here.slot ≡ Some a) (facts : Facts Granted same t root pin (at (Read path) task)) where
   pub torn_read : (torn : Seen M) → env.torn ≡ torn → a.word ≢ path.here.word
-      → IsRead Granted same t root pin (at (Read path) task) env (at (Check path) (record task { last = Some torn; spare = None })) (report_of kind.Read (Some path.here.slot) 0 true) Going
+      → IsRead Granted same t root pin (at (Read path) task) env (at (Check path) (record task { last = Some torn; spare = None; question = None })) (report_of kind.Read (Some path.here.slot) 0 true) Going
   torn_read torn is other =
       let f = facts.at in
       let gone : (b : Node M) → t path.here.slot ≡ Some b → b.word ≡ path.here.word → ⊥ = λ b h e. other (ap (λ (z : Node M). z.word) (some_same a b (sym here ∙ h)) ∙ e) in
-      subst (λ (x : Seen M). IsRead Granted same t root pin (at (Read path) task) env (at (Check path) (record task { last = Some x; spare = None })) (report_of kind.Read (Some path.here.slot) 0 true) Going) is
+      subst (λ (x : Seen M). IsRead Granted same t root pin (at (Read path) task) env (at (Check path) (record task { last = Some x; spare = None; question = None })) (report_of kind.Read (Some path.here.slot) 0 true) Going) is
       (record {
         facts = record {
           small = facts.small;
           at = (
-            record { opened = record { undecided = f.0.opened.undecided; op = f.0.opened.op; op_is = f.0.opened.op_is; outline = f.0.opened.outline }; fresh = f.0.fresh },
+            record { opened = record { undecided = f.0.opened.undecided; op = f.0.opened.op; op_is = f.0.opened.op_is; outline = f.0.opened.outline; returned = f.0.opened.returned }; fresh = f.0.fresh },
             f.1,
             record { seen = env.torn; is = refl; agrees = λ b h e. absurd (gone b h e) },
           );
@@ -152,27 +152,28 @@ module _ {M : Type 0} (Granted : Type 0) (same : M → M → Bool) (t : Table M)
       })
 
   module _ (word : a.word ≡ path.here.word) where
-    whole : (seen : Seen M) (spare : Option M) → IsLooking Granted a.node task.outline seen spare
-        → IsRead Granted same t root pin (at (Read path) task) env (at (Check path) (record task { last = Some seen; spare = spare })) (report_of kind.Read (Some path.here.slot) 0 true) Going
-    whole seen spare looks =
+    whole : (seen : Seen M) (spare question : Option M) → IsLooking Granted same a.node task.outline seen spare question
+        → IsRead Granted same t root pin (at (Read path) task) env (at (Check path) (record task { last = Some seen; spare = spare; question = question })) (report_of kind.Read (Some path.here.slot) 0 true) Going
+    whole seen spare question looks =
         let f = facts.at in
-        let next : Task M = record task { last = Some seen; spare = spare } in
-        let agrees : Agrees Granted next (Check path) pin a seen = record {
+        let next : Task M = record task { last = Some seen; spare = spare; question = question } in
+        let agrees : Agrees Granted same next (Check path) pin a seen = record {
           reading = record { child = looks.child; count = looks.count; full = looks.full };
           spare = looks.kept;
+          question = looks.asks;
           below = looks.below;
         } in
         record {
           facts = record {
             small = facts.small;
             at = (
-              record { opened = record { undecided = f.0.opened.undecided; op = f.0.opened.op; op_is = f.0.opened.op_is; outline = f.0.opened.outline }; fresh = f.0.fresh },
+              record { opened = record { undecided = f.0.opened.undecided; op = f.0.opened.op; op_is = f.0.opened.op_is; outline = f.0.opened.outline; returned = f.0.opened.returned }; fresh = f.0.fresh },
               f.1,
               record {
                 seen = seen;
                 is = refl;
                 agrees = λ (b : Node M) (h : t path.here.slot ≡ Some b) (e : b.word ≡ path.here.word).
-                    subst (λ (z : Node M). Agrees Granted next (Check path) pin z seen) (some_same a b (sym here ∙ h)) agrees;
+                    subst (λ (z : Node M). Agrees Granted same next (Check path) pin z seen) (some_same a b (sym here ∙ h)) agrees;
               },
             );
           };
@@ -191,8 +192,8 @@ module _ {M : Type 0} (Granted : Type 0) (same : M → M → Bool) (t : Table M)
           carries = λ s shows m content. refl;
         }
 
-    unseen : IsUnseen Granted a.node task.outline
-        → IsRead Granted same t root pin (at (Read path) task) env (refused Granted task) (report_of kind.Read (Some path.here.slot) 0 true) Refused
+    unseen : IsUnseen Granted same a.node task.outline
+        → IsRead Granted same t root pin (at (Read path) task) env (refused Granted same task) (report_of kind.Read (Some path.here.slot) 0 true) Refused
     unseen denied =
         let f = facts.at in
         record {
@@ -213,10 +214,10 @@ module _ {M : Type 0} (Granted : Type 0) (same : M → M → Bool) (t : Table M)
         }
 
     -- a Read of a node whose word is the remembered one
-    pub whole_or_refused : (next : Record M) (out : Outcome M) → IsWholeRead Granted a.node path task next out
+    pub whole_or_refused : (next : Record M) (out : Outcome M) → IsWholeRead Granted same a.node path task next out
         → IsRead Granted same t root pin (at (Read path) task) env next (report_of kind.Read (Some path.here.slot) 0 true) out
     whole_or_refused next Going h =
-        subst (λ (n : Record M). IsRead Granted same t root pin (at (Read path) task) env n (report_of kind.Read (Some path.here.slot) 0 true) Going) (sym h.is) (whole h.seen h.spare h.looking)
+        subst (λ (n : Record M). IsRead Granted same t root pin (at (Read path) task) env n (report_of kind.Read (Some path.here.slot) 0 true) Going) (sym h.is) (whole h.seen h.spare h.question h.looking)
     whole_or_refused next Refused h =
         subst (λ (n : Record M). IsRead Granted same t root pin (at (Read path) task) env n (report_of kind.Read (Some path.here.slot) 0 true) Refused) (sym h.1) (unseen h.0)
     whole_or_refused next (Ask old) h = absurd h

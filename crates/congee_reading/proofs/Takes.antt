@@ -17,19 +17,33 @@ use Rattle.congee_store.specs.declared.stage.Stage.{Stage}
 use Rattle.congee_store.specs.declared.stage.Stage.TheVariants.{TakeRoot, Read, TakeBelow, CheckAbove}
 use Rattle.congee_store.specs.declared.stage.Task.{Task}
 use Rattle.congee_store.specs.inner.Tables.{IsSafe, IsPlaced, IsThere, IsIn}
-use Rattle.congee_store.specs.inner.Tasks.{IsFreshly, key_bytes}
+use Rattle.congee_store.specs.inner.Tasks.{IsFreshly, IsOpen, key_bytes, restarted}
 use Rattle.congee_store.specs.inner.Facts.{Facts, named_at}
 use Rattle.congee_store.specs.inner.Shown.{flight, held_at, made_at}
 use Rattle.congee_store.specs.inner.Turns.{IsCurrent, IsRead, Shows}
 use Rattle.congee_store.specs.inner.World.{Node, Standing, Table, is_linked}
 use Rattle.congee_store.proofs.Options.{none_some, some_same}
 use Rattle.congee_store.proofs.Reaching.{one, seen_at}
-use Rattle.congee_store.proofs.Records.{at, restart}
+use Rattle.congee_store.proofs.Records.{at}
+use Rattle.congee_store.proofs.Replies.{returned_fresh}
 use Rattle.congee_reading.proofs.Courses.{NoneHeld, none_held, holding_as, taken_current, root_free, below_free}
 use Rattle.congee_reading.proofs.Events.{take_ok, take_fails}
 
 abbrev pub top_path : ℕ → ℕ → Path
 top_path root word = record { above = None; here = record { slot = root; word = word } }
+
+-- a call that goes back hasn't asked
+pub restarted_fresh : {M : Type 0} (task : Task M) → IsOpen task → IsFreshly (restarted task)
+restarted_fresh task o = record {
+  opened = record {
+    undecided = o.undecided;
+    op = o.op;
+    op_is = o.op_is;
+    outline = o.outline;
+    returned = returned_fresh o.op task.asking task.returns o.returned;
+  };
+  fresh = refl;
+}
 
 module _ {M : Type 0} (Granted : Type 0) (same : M → M → Bool) (t : Table M) (root pin : ℕ) (task : Task M) (env : Env M) (placed : IsPlaced t root) where
   -- at the root all is new
@@ -38,13 +52,7 @@ module _ {M : Type 0} (Granted : Type 0) (same : M → M → Bool) (t : Table M)
       ap (λ (x : Option (Seen M)). record (flight pin (at TakeRoot task)) { seen = x }) none
       ∙ ap (λ (x : Asking M). record (flight pin (at TakeRoot task)) { seen = None; asking = x }) fresh.fresh
 
-  pub restarted_fresh : IsFreshly task → IsFreshly (restart task)
-  restarted_fresh f = record {
-    opened = record { undecided = f.opened.undecided; op = f.opened.op; op_is = f.opened.op_is; outline = f.opened.outline };
-    fresh = refl;
-  }
-
-  pub root_ok : (a : Node M) → Facts Granted t root pin (at TakeRoot task) → t root ≡ Some a → IsFree a.word
+  pub root_ok : (a : Node M) → Facts Granted same t root pin (at TakeRoot task) → t root ≡ Some a → IsFree a.word
       → IsRead Granted same t root pin (at TakeRoot task) env (at (Read (top_path root a.word)) task) (report_of kind.Take (Some root) a.word true) Going
   root_ok a facts here free =
       let f = facts.at in
@@ -82,11 +90,11 @@ module _ {M : Type 0} (Granted : Type 0) (same : M → M → Bool) (t : Table M)
   take_restarts : (stage : Stage) (slot : ℕ) (a : Node M) → held_at stage ≡ [] → made_at stage ≡ [] → key_of task.outline < 2 ^ 64 → IsFreshly task → t slot ≡ Some a → (IsFree a.word → ⊥)
       → (slot ≡ root) ⊎ IsIn slot (named_at stage) → (IsCurrent t stage → NoneHeld t → IsFree a.word)
       → ((s : State M) → Shows t root s → slot ≡ s.root → flight pin (at stage task) ≡ back (flight pin (at stage task)))
-      → IsRead Granted same t root pin (at stage task) env (at TakeRoot (restart task)) (report_of kind.Take (Some slot) a.word false) Going
+      → IsRead Granted same t root pin (at stage task) env (at TakeRoot (restarted task)) (report_of kind.Take (Some slot) a.word false) Going
   take_restarts stage slot a held made small fresh here free known frees anew =
-      let next : Record M = at TakeRoot (restart task) in
+      let next : Record M = at TakeRoot (restarted task) in
       record {
-        facts = record { small = small; at = (restarted_fresh fresh, refl) };
+        facts = record { small = small; at = (restarted_fresh task fresh.opened, refl) };
         held = refl;
         made = refl;
         course = record {
@@ -104,13 +112,13 @@ module _ {M : Type 0} (Granted : Type 0) (same : M → M → Bool) (t : Table M)
         carries = λ s shows m content. refl;
       }
 
-  pub root_restarts : (a : Node M) → Facts Granted t root pin (at TakeRoot task) → t root ≡ Some a → (IsFree a.word → ⊥)
-      → IsRead Granted same t root pin (at TakeRoot task) env (at TakeRoot (restart task)) (report_of kind.Take (Some root) a.word false) Going
+  pub root_restarts : (a : Node M) → Facts Granted same t root pin (at TakeRoot task) → t root ≡ Some a → (IsFree a.word → ⊥)
+      → IsRead Granted same t root pin (at TakeRoot task) env (at TakeRoot (restarted task)) (report_of kind.Take (Some root) a.word false) Going
   root_restarts a facts here free =
       let f = facts.at in
       take_restarts TakeRoot root a refl refl facts.small f.0 here free (inl refl) (λ current none. root_free t root placed a none here) (λ s shows e. is_new f.0 f.1)
 
-  pub below_ok : (path : Path) (slot : ℕ) (a : Node M) (fits : Bool) → Facts Granted t root pin (at (TakeBelow path slot) task) → t slot ≡ Some a → IsFree a.word
+  pub below_ok : (path : Path) (slot : ℕ) (a : Node M) (fits : Bool) → Facts Granted same t root pin (at (TakeBelow path slot) task) → t slot ≡ Some a → IsFree a.word
       → (IsTrue fits ↔ Begins a.node.prefix (key_bytes task))
       → IsRead Granted same t root pin (at (TakeBelow path slot) task) env (at (CheckAbove path (record { slot = slot; word = a.word }) fits) task) (report_of kind.Take (Some slot) a.word true) Going
   below_ok path slot a fits facts here free test =
@@ -146,8 +154,8 @@ module _ {M : Type 0} (Granted : Type 0) (same : M → M → Bool) (t : Table M)
         carries = λ s shows m content. refl;
       }
 
-  pub below_restarts : (path : Path) (slot : ℕ) (a : Node M) → Facts Granted t root pin (at (TakeBelow path slot) task) → t slot ≡ Some a → (IsFree a.word → ⊥)
-      → IsRead Granted same t root pin (at (TakeBelow path slot) task) env (at TakeRoot (restart task)) (report_of kind.Take (Some slot) a.word false) Going
+  pub below_restarts : (path : Path) (slot : ℕ) (a : Node M) → Facts Granted same t root pin (at (TakeBelow path slot) task) → t slot ≡ Some a → (IsFree a.word → ⊥)
+      → IsRead Granted same t root pin (at (TakeBelow path slot) task) env (at TakeRoot (restarted task)) (report_of kind.Take (Some slot) a.word false) Going
   below_restarts path slot a facts here free =
       let f = facts.at in
       take_restarts (TakeBelow path slot) slot a refl refl facts.small f.0 here free (inr (inl refl))

@@ -1,6 +1,6 @@
 //! Read: what stands under the key's byte of the current node, with a share more of a payload.
 
-ghost use Rattle.std.specs.Prelude.{◌≡◌, ◌↔◌, IsTrue, None, IsOk, IfOk, IfErr, IfSome, IfNone, length};
+ghost use Rattle.std.specs.Prelude.{◌≡◌, ◌↔◌, IsTrue, Some, None, IsOk, IfOk, IfErr, IfSome, IfNone, length};
 ghost use Rattle.congee_map.specs.Map.{lookup};
 ghost use Rattle.congee_node_table.specs.Key.{next_byte};
 ghost use Rattle.congee_node_table.specs.TableNode.{seen};
@@ -8,6 +8,7 @@ ghost use Rattle.congee_protocol.specs.Calls.{IsPoint, bytes_of};
 ghost use Rattle.congee_protocol.specs.Local.{SharesNone, payload_in};
 ghost use Rattle.congee_protocol.specs.Meaning.{in_some, child_of, seen_of, outcome_of};
 ghost use Rattle.congee_protocol.specs.declared.types.Env.{Env};
+ghost use Rattle.congee_store.specs.inner.Effects.{HasClosure};
 ghost use Rattle.congee_store.specs.inner.Tables.{IsPlaced};
 ghost use Rattle.congee_store.specs.inner.Meant.{meant_node, meant_record, meant_table, meant_task};
 ghost use Rattle.congee_reading.specs.inner.Looked.{HasPayload, IsFull, IsLooking, IsUnseen, IsWholeRead};
@@ -23,7 +24,7 @@ use congee_store::stepped::{Stepped, node_at, refused, report, saw, stands};
 use congee_store::store::Store;
 
 /// Read of the current node by a point call, which reports `torn` where the node's word isn't the remembered one.
-pub(crate) fn read<P: HasMeaning>(
+pub fn read<P: HasMeaning>(
     store: &Store<P>,
     pin: u64,
     task: Task<P>,
@@ -31,7 +32,7 @@ pub(crate) fn read<P: HasMeaning>(
     torn: Seen<P>,
 ) -> Stepped<P>
     requires placed { IsPlaced (meant_table P.meaning store.now) store.now.root }
-    requires facts { Knows P.always_shared P.meaning store.now pin
+    requires facts { Knows P.always_shared P.same_meaning P.meaning store.now pin
         (record { stage = Stage.Read path; task = task }) }
     requires point { IsPoint task.outline }
     ensures reads { (env : Env P) → env.torn ≡ torn
@@ -45,7 +46,7 @@ pub(crate) fn read<P: HasMeaning>(
     if stands(node, path.here) {
         read_whole(&node.node, task, path, torn, report)
     } else {
-        saw(task, path, torn, None, report)
+        saw(task, path, torn, None, None, report)
     }
 }
 
@@ -59,37 +60,46 @@ fn read_whole<P: HasMeaning>(
 ) -> Stepped<P>
     requires { IsPoint task.outline }
     ensures report { result.report ≡ report }
-    ensures says { IsWholeRead P.always_shared (meant_node P.meaning node.now) path
+    ensures says { IsWholeRead P.always_shared P.same_meaning (meant_node P.meaning node.now) path
         (meant_task P.meaning task) (meant_record P.meaning result.call)
         (outcome_of P.meaning result.outcome) }
 {
     match look(node, &task.outline) {
-        Some(found) => saw(task, path, found.seen, found.spare, report),
+        Some(found) => saw(task, path, found.seen, found.spare, found.question, report),
         None => refused(task, report),
     }
 }
 
-/// What a Read found, and a share more of the payload, if it found one.
+/// What a Read found, and, if that is a payload, a share more of it, and one for a closure.
 #[derive(Drop)]
 struct Looked<P> {
     seen: Seen<P>,
     spare: Option<P>,
+    question: Option<P>,
 }
 
 // What stands under the key's byte of a node. Where a share is refused a call that needs none leaves it open, and
 // another one gets nothing.
 fn look<P: HasMeaning>(node: &TreeNode<P>, outline: &Op<()>) -> Option<Looked<P>>
     requires { IsPoint outline.now }
-    ensures some { IfSome result (λ x. IsLooking P.always_shared (meant_node P.meaning node.now)
-        outline.now (seen_of P.meaning x.seen) (in_some P.meaning x.spare)) }
+    ensures some { IfSome result (λ x. IsLooking P.always_shared P.same_meaning (meant_node P.meaning node.now)
+        outline.now (seen_of P.meaning x.seen) (in_some P.meaning x.spare)
+        (in_some P.meaning x.question)) }
     ensures none { IfNone result
-        (IsUnseen P.always_shared (meant_node P.meaning node.now) outline.now) }
+        (IsUnseen P.always_shared P.same_meaning (meant_node P.meaning node.now) outline.now) }
 {
-    match shared(child_at(node, outline.key())) {
-        Ok((child, spare)) => Some(noted(node, child, spare)),
+    match shared(child_at(node, outline.key()), has_closure(outline)) {
+        Ok(shares) => Some(noted(node, shares)),
         Err(_) => {
             if shares_none(outline) {
-                Some(noted(node, None, None))
+                Some(noted(
+                    node,
+                    Shares {
+                        child: None,
+                        spare: None,
+                        question: None,
+                    },
+                ))
             } else {
                 None
             }
@@ -97,7 +107,8 @@ fn look<P: HasMeaning>(node: &TreeNode<P>, outline: &Op<()>) -> Option<Looked<P>
     }
 }
 
-pub(crate) fn child_at<'a, P: Drop>(node: &'a TreeNode<P>, key: u64) -> Option<ChildRef<'a, P>>
+/// The child under a key's byte of a node.
+pub fn child_at<'a, P: Drop>(node: &'a TreeNode<P>, key: u64) -> Option<ChildRef<'a, P>>
     ensures { seen result ≡ lookup node.now.children (next_byte node.now.prefix (bytes_of key)) }
 {
     let bytes = key.to_be_bytes();
@@ -105,41 +116,94 @@ pub(crate) fn child_at<'a, P: Drop>(node: &'a TreeNode<P>, key: u64) -> Option<C
     node.get_child(byte)
 }
 
-// The child and a share more of its payload.
-fn shared<P: HasMeaning>(
-    child: Option<ChildRef<'_, P>>,
-) -> Result<(Option<Child<P>>, Option<P>), OOMError>
-    ensures child { IfOk result (λ x. in_some (child_of P.meaning) x.0
+/// A child, with the shares of its payload that a call keeps.
+#[derive(Drop)]
+struct Shares<P> {
+    child: Option<Child<P>>,
+    spare: Option<P>,
+    question: Option<P>,
+}
+
+// The child and a share more of its payload, and a third one where the call has a closure.
+fn shared<P: HasMeaning>(child: Option<ChildRef<'_, P>>, asks: bool) -> Result<Shares<P>, OOMError>
+    ensures child { IfOk result (λ x. in_some (child_of P.meaning) x.child
         ≡ in_some (child_of P.meaning) (seen child.entry)) }
-    ensures spare { IfOk result (λ x. in_some P.meaning x.1
+    ensures spare { IfOk result (λ x. in_some P.meaning x.spare
+        ≡ payload_in (in_some (child_of P.meaning) (seen child.entry))) }
+    ensures question { IfOk result (λ x. IsTrue asks → in_some P.meaning x.question
         ≡ payload_in (in_some (child_of P.meaning) (seen child.entry))) }
     ensures payload { IfErr result (λ e. HasPayload (seen child.entry)) }
     ensures granted { P.always_shared → IsOk result }
 {
     match child {
-        None => Ok((None, None)),
-        Some(ChildRef::Node(slot)) => Ok((Some(Child::Node(slot)), None)),
+        None => Ok(Shares {
+            child: None,
+            spare: None,
+            question: None,
+        }),
+        Some(ChildRef::Node(slot)) => Ok(Shares {
+            child: Some(Child::Node(slot)),
+            spare: None,
+            question: None,
+        }),
         Some(ChildRef::Payload(payload)) => {
             let shown = payload.share()?;
             let spare = payload.share()?;
-            Ok((Some(Child::Payload(shown)), Some(spare)))
+            let question = share_if(payload, asks)?;
+            Ok(Shares {
+                child: Some(Child::Payload(shown)),
+                spare: Some(spare),
+                question,
+            })
         }
     }
 }
 
+// A share of a payload, if one is asked for.
+fn share_if<P: HasMeaning>(payload: &P, asks: bool) -> Result<Option<P>, OOMError>
+    ensures meaning { IfOk result (λ x. IsTrue asks → in_some P.meaning x ≡ Some (P.meaning payload.now)) }
+    ensures granted { P.always_shared → IsOk result }
+{
+    if asks {
+        Ok(Some(payload.share()?))
+    } else {
+        Ok(None)
+    }
+}
+
 // The count of a node's children, and whether it is full, beside what was found.
-fn noted<P: Drop>(node: &TreeNode<P>, child: Option<Child<P>>, spare: Option<P>) -> Looked<P>
-    ensures child { result.seen.child ≡ child }
-    ensures spare { result.spare ≡ spare }
+fn noted<P: Drop>(node: &TreeNode<P>, shares: Shares<P>) -> Looked<P>
+    ensures child { result.seen.child ≡ shares.child }
+    ensures spare { result.spare ≡ shares.spare }
+    ensures question { result.question ≡ shares.question }
     ensures count { result.seen.count ≡ length node.now.children }
     ensures full { IsFull node.now.form (length node.now.children) result.seen.full }
 {
+    let Shares {
+        child,
+        spare,
+        question,
+    } = shares;
     let seen = Seen {
         child,
         count: node.base().value_count(),
         full: node.is_full(),
     };
-    Looked { seen, spare }
+    Looked {
+        seen,
+        spare,
+        question,
+    }
+}
+
+// Whether a call of this kind has a closure.
+fn has_closure(outline: &Op<()>) -> bool
+    ensures { IsTrue result ↔ HasClosure outline.now }
+{
+    match outline {
+        Op::ComputeIfPresent(_) | Op::ComputeOrInsert(..) => true,
+        _ => false,
+    }
 }
 
 // Whether a call of this kind shares no payload.

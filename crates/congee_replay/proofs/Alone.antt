@@ -1,11 +1,15 @@
 -- A call that is alone ends within the events that its work counts.
-use Rattle.std.proofs.Common.{◌≡◌, ℕ, false, ◌+◌, ◌-◌, ◌*◌, ◌<◌, ◌≤◌, ◌^◌, List, [], ◌∷◌, Option, Some, None, ◌⊎◌, inl, inr, refl, sym, subst, ap, ◌∙◌, arith}
+use Rattle.std.proofs.Common.{◌≡◌, ℕ, false, ◌+◌, ◌-◌, ◌*◌, ◌<◌, ◌≤◌, ◌^◌, List, [], ◌∷◌, length, Option, Some, None, ◌⊎◌, inl, inr, refl, sym, subst, ap, ◌∙◌, arith}
 use Rattle.std.proofs.lemmas.Bool.Decides.{eqb_tells}
-use Rattle.congee_map.specs.Map.{Pairs, lookup}
+use Rattle.congee_map.proofs.MapLaws.{lookup-without_same, lookup-without_other}
+use Rattle.congee_map.specs.Map.{Pairs, lookup, without}
 use Rattle.congee_protocol.specs.Alone.{Passes, EndsWithin, AllEnd}
 use Rattle.congee_protocol.specs.Alone.{IsUndisturbed as AreAlone}
-use Rattle.congee_protocol.specs.Calls.{Outline, outline_of}
+use Rattle.congee_protocol.specs.Calls.{Outline, IsPoint, outline_of}
+use Rattle.congee_protocol.specs.Kinds.{IsReclaim}
 use Rattle.congee_protocol.specs.Runs.{IsServed, same_number}
+use Rattle.congee_protocol.specs.State.{State}
+use Rattle.congee_protocol.specs.State as state
 use Rattle.congee_protocol.specs.declared.trace.Line.{Line}
 use Rattle.congee_protocol.specs.declared.trace.Line.TheVariants.{Done as Made, Skipped}
 use Rattle.congee_protocol.specs.declared.types.Env.{Env}
@@ -19,22 +23,27 @@ use Rattle.congee_protocol.specs.declared.types.Progress.{Progress}
 use Rattle.congee_protocol.specs.declared.types.Progress.TheVariants.{Open, Decided, Refused}
 use Rattle.congee_protocol.specs.declared.types.Report.{Report}
 use Rattle.congee_store.specs.declared.stage.Record.{Record}
+use Rattle.congee_store.specs.declared.stage.Task.{Task}
 use Rattle.congee_store.specs.declared.stage.Stage.{Stage}
-use Rattle.congee_store.specs.declared.stage.Stage.TheVariants.{TakeRoot, Read, Check, TakeBelow, CheckAbove, Tail, Finish}
+use Rattle.congee_store.specs.declared.stage.Stage.TheVariants.{TakeRoot, Read, Check, TakeBelow, CheckAbove, Answer, Confirm, Tail, Finish}
+use Rattle.congee_store.specs.declared.stage.Spot.{Spot}
+use Rattle.congee_store.specs.declared.tail.Case.{Case}
+use Rattle.congee_store.specs.declared.tail.Case.TheVariants as case
 use Rattle.congee_store.specs.declared.tail.Large.{Large}
-use Rattle.congee_store.specs.declared.tail.Large.TheVariants.{GrowLeaf, GrowInner, Split}
+use Rattle.congee_store.specs.declared.tail.Large.TheVariants.{GrowLeaf, GrowInner, Split, Detach}
 use Rattle.congee_store.specs.declared.tail.Small.{Small}
 use Rattle.congee_store.specs.declared.tail.Small.TheVariants.{Entry, Leaf}
 use Rattle.congee_store.specs.declared.tail.Tail.{Tail as AnyTail}
-use Rattle.congee_store.specs.declared.tail.Tail.TheVariants.{Upgrade, Write, MakeLeaf, Link, Unlock, UpgradeAbove, UpgradeBelow, MakeLeafBelow, Grow, MakeMiddle, Replace, Insert as Insertion, Obsolete, UnlockBelow}
-use Rattle.congee_store.specs.inner.Facts.{Holding, IsSound}
+use Rattle.congee_store.specs.declared.tail.Tail.TheVariants.{Upgrade, Write, MakeLeaf, Link, Unlock, UpgradeAbove, UpgradeBelow, MakeLeafBelow, Grow, MakeMiddle, Replace, Insert as Insertion, Detach as Detaching, Obsolete, UnlockBelow}
+use Rattle.congee_store.specs.inner.Facts.{Facts, FactsAt, Holding, IsSound}
 use Rattle.congee_store.specs.inner.Shown.{flight, shown, spots_of, state_of}
-use Rattle.congee_store.specs.inner.Tails.{large_work, small_work, tail_work, unlock_work}
-use Rattle.congee_store.specs.inner.Turns.{IsServedCall, depth_in, work, work_of, IsCurrent, IsUndisturbed, IsCourse, IsBegun, IsTurn}
-use Rattle.congee_store.specs.inner.World.{World, Table, table_of, call_of}
+use Rattle.congee_store.specs.inner.Tables.{Guarantees, Known}
+use Rattle.congee_store.specs.inner.Tails.{case_work, large_work, small_work, tail_work, unlock_work}
+use Rattle.congee_store.specs.inner.Turns.{depth_in, work, work_of, IsCurrent, IsUndisturbed, IsCourse, IsBegun, IsFreed, IsTurn}
+use Rattle.congee_store.specs.inner.World.{World, Node, Table, table_of, call_of}
 use Rattle.congee_store.proofs.Holding.{holds_nothing}
 use Rattle.congee_store.proofs.Options.{none_some, some_same}
-use Rattle.congee_store.proofs.States.{shown_node}
+use Rattle.congee_store.proofs.States.{nodes_rise, shown_node}
 use Rattle.congee_replay.specs.inner.Played.{Plays, Move, entries_of, AreMoves}
 use Rattle.congee_replay.proofs.Flying.{in_flight, flies, no_call}
 use Rattle.congee_replay.proofs.Playing.{sound_next}
@@ -48,6 +57,21 @@ few_large : (large : Large) → 2 + large_work large ≤ 40
 few_large GrowLeaf = omega arith
 few_large GrowInner = omega arith
 few_large Split = omega arith
+few_large Detach = omega arith
+
+some_case : (case : Case) → 0 < case_work case
+some_case (case.Present pair only) = omega arith
+some_case (case.Small path small) = omega arith
+some_case (case.Large pair large) = omega arith
+
+few_case : (case : Case) → case_work case ≤ 40
+few_case (case.Present pair only) = omega arith
+few_case (case.Small path Entry) = omega arith
+few_case (case.Small path Leaf) = omega arith
+few_case (case.Large pair GrowLeaf) = omega arith
+few_case (case.Large pair GrowInner) = omega arith
+few_case (case.Large pair Split) = omega arith
+few_case (case.Large pair Detach) = omega arith
 
 some_unlock : (progress : Progress) → 0 < unlock_work progress
 some_unlock Open = omega arith
@@ -72,6 +96,7 @@ some_tail progress (Grow pair leaf) = omega arith
 some_tail progress (MakeMiddle pair leaf) = omega arith
 some_tail progress (Replace pair copy leaf) = omega arith
 some_tail progress (Insertion pair middle leaf) = omega arith
+some_tail progress (Detaching pair) = omega arith
 some_tail progress (Obsolete pair) = omega arith
 some_tail progress (UnlockBelow pair) = omega arith
 
@@ -88,6 +113,7 @@ few_tail progress (Grow pair leaf) = omega arith
 few_tail progress (MakeMiddle pair leaf) = omega arith
 few_tail progress (Replace pair copy leaf) = omega arith
 few_tail progress (Insertion pair middle leaf) = omega arith
+few_tail progress (Detaching pair) = omega arith
 few_tail progress (Obsolete pair) = omega arith
 few_tail progress (UnlockBelow pair) = omega arith
 
@@ -97,6 +123,8 @@ some_work t progress (Read path) = omega arith
 some_work t progress (Check path) = omega arith
 some_work t progress (TakeBelow path slot) = omega arith
 some_work t progress (CheckAbove path spot fits) = omega arith
+some_work t progress (Answer case) = some_case case
+some_work t progress (Confirm spot) = omega arith
 some_work t progress (Tail tail) = some_tail progress tail
 some_work t progress Finish = omega arith
 
@@ -106,6 +134,8 @@ most_work t progress (Read path) = omega arith
 most_work t progress (Check path) = omega arith
 most_work t progress (TakeBelow path slot) = omega arith
 most_work t progress (CheckAbove path spot fits) = omega arith
+most_work t progress (Answer case) = few_case case
+most_work t progress (Confirm spot) = omega arith
 most_work t progress (Tail tail) = few_tail progress tail
 most_work t progress Finish = omega arith
 
@@ -117,14 +147,60 @@ module _ (t t' : Table ℕ) (same : (s : ℕ) → t' s ≡ t s) where
   work_same progress (Check path) = ap (λ a. 4 * (7 - depth_in a) + 9) (same path.here.slot)
   work_same progress (TakeBelow path slot) = ap (λ a. 4 * (7 - depth_in a) + 8) (same path.here.slot)
   work_same progress (CheckAbove path spot fits) = ap (λ a. 4 * (7 - depth_in a) + 7) (same path.here.slot)
+  work_same progress (Answer case) = refl
+  work_same progress (Confirm spot) = refl
   work_same progress (Tail tail) = refl
   work_same progress Finish = refl
 
   current_same : (stage : Stage) → IsCurrent t stage → IsCurrent t' stage
   current_same stage c = λ slot word known a here. c slot word known a (sym (same slot) ∙ here)
 
+-- What another's event leaves of the nodes that a call knows, leaves its work.
+module _ (t t' : Table ℕ) (root pin : ℕ) (Mine : ℕ → Type 0) (leaves : Guarantees t t' Mine pin) (task : Task ℕ) where
+  depth_kept : (spot : Spot) → Known t pin spot → depth_in (t' spot.slot) ≡ depth_in (t spot.slot)
+  depth_kept spot kn =
+      let m = leaves spot.slot kn.node kn.here kn.safe in
+      ap depth_in m.here ∙ (ap length m.kept.prefix ∙ sym (ap depth_in kn.here))
+
+  work_kept : (progress : Progress) (stage : Stage) → FactsAt (Unit {0}) same_number t root pin task stage → work t' progress stage ≡ work t progress stage
+  work_kept progress TakeRoot f = refl
+  work_kept progress (Read path) f = ap (λ a. 4 * (7 - a) + 10) (depth_kept path.here f.1.here)
+  work_kept progress (Check path) f = ap (λ a. 4 * (7 - a) + 9) (depth_kept path.here f.1.here)
+  work_kept progress (TakeBelow path slot) f = ap (λ a. 4 * (7 - a) + 8) (depth_kept path.here f.1.here)
+  work_kept progress (CheckAbove path spot fits) f = ap (λ a. 4 * (7 - a) + 7) (depth_kept path.here f.1.here)
+  work_kept progress (Answer case) f = refl
+  work_kept progress (Confirm spot) f = refl
+  work_kept progress (Tail tail) f = refl
+  work_kept progress Finish f = refl
+
+-- A node in a slot that wasn't reclaimed has its word.
+pub record HadWord (t : Table ℕ) (s word : ℕ) : Type 0 where
+  pub node : Node ℕ
+  pub here : t s ≡ Some node
+  pub is : node.word ≡ word
+
+had_word : (t : Table ℕ) (s : ℕ) (x : Option (Node ℕ)) (n : state.Node ℕ) → t s ≡ x → shown x ≡ Some n → HadWord t s n.word
+had_word t s None n here e = absurd (none_some n e)
+had_word t s (Some a) n here e = record { node = a; here = here; is = ap (λ (z : state.Node ℕ). z.word) (some_same _ n e) }
+
+words_left : (w after : World ℕ) (slot : ℕ) (report : Report) → IsReclaim (state_of w) (state_of after) slot report → (s : ℕ) (a : Node ℕ) → table_of after s ≡ Some a → HadWord (table_of w) s a.word
+words_left w after slot report r s a here =
+    let there : lookup (state_of after).nodes s ≡ shown (Some a) = shown_node after s ∙ ap shown here in
+    let rest : lookup (without (state_of w).nodes slot) s ≡ shown (Some a) = sym (ap (λ (z : State ℕ). lookup z.nodes s) r.after) ∙ there in
+    elim (eqb_tells s slot) [
+      | inl same ↦
+          let gone : lookup (without (state_of w).nodes slot) slot ≡ None = lookup-without_same 0 (length w.slots) (state_of w).nodes slot (nodes_rise w) in
+          absurd (none_some _ (sym (subst (λ (z : ℕ). lookup (without (state_of w).nodes slot) z ≡ None) (sym same.1) gone) ∙ rest))
+      | inr off ↦
+          had_word (table_of w) s (table_of w s) _ refl (sym (shown_node w s) ∙ (sym (lookup-without_other (state_of w).nodes slot s off.1) ∙ rest))
+    ]
+
+current_left : (w after : World ℕ) (slot : ℕ) (report : Report) → IsReclaim (state_of w) (state_of after) slot report → (stage : Stage) → IsCurrent (table_of w) stage → IsCurrent (table_of after) stage
+current_left w after slot report r stage c = λ s word known a here.
+    let had = words_left w after slot report r s a here in sym had.is ∙ c s word known had.node had.here
+
 -- Where no other call holds a node, each that needs a holder is this call's.
-undisturbed_inside : (w : World ℕ) (id : ℕ) (call : Record ℕ) (env : Env ℕ) → IsSound (Unit {0}) w → call_of w id ≡ Some call → env.fail ≡ false → AreAlone (state_of w) id
+undisturbed_inside : (w : World ℕ) (id : ℕ) (call : Record ℕ) (env : Env ℕ) → IsSound (Unit {0}) same_number w → call_of w id ≡ Some call → env.fail ≡ false → AreAlone (state_of w) id
     → IsUndisturbed (table_of w) call.stage env
 undisturbed_inside w id call env sound found whole alone = record {
   whole = whole;
@@ -145,13 +221,15 @@ undisturbed_inside w id call env sound found whole alone = record {
 abbrev pub IsLeft : Table ℕ → Record ℕ → ℕ → Type 0
 IsLeft t call n = (IsCurrent t call.stage × (work_of t call ≤ n)) ⊎ (work_of t call + 40 ≤ n)
 
-left_same : (t t' : Table ℕ) → ((s : ℕ) → t' s ≡ t s) → (call : Record ℕ) (n : ℕ) → IsLeft t call n → IsLeft t' call n
-left_same t t' same call n l =
-    let e : work_of t' call ≡ work_of t call = work_same t t' same call.task.progress call.stage in
+left_by : (t t' : Table ℕ) (call : Record ℕ) (n : ℕ) → work_of t' call ≡ work_of t call → (IsCurrent t call.stage → IsCurrent t' call.stage) → IsLeft t call n → IsLeft t' call n
+left_by t t' call n e current l =
     elim l [
-      | inl now ↦ inl (current_same t t' same call.stage now.0, omega (arith, e, now.1))
+      | inl now ↦ inl (current now.0, omega (arith, e, now.1))
       | inr late ↦ inr (omega (arith, e, late))
     ]
+
+left_same : (t t' : Table ℕ) → ((s : ℕ) → t' s ≡ t s) → (call : Record ℕ) (n : ℕ) → IsLeft t call n → IsLeft t' call n
+left_same t t' same call n = left_by t t' call n (work_same t t' same call.task.progress call.stage) (current_same t t' same call.stage)
 
 -- where nothing is remembered
 left_anew : (t : Table ℕ) (call : Record ℕ) (n : ℕ) → spots_of call.stage ≡ [] → work_of t call ≤ n → IsLeft t call n
@@ -162,17 +240,17 @@ left_at_root : (t : Table ℕ) (call : Record ℕ) → call.stage ≡ TakeRoot �
 left_at_root t call e =
     left_anew t call 39 (ap spots_of e) (subst (λ (s : Stage). work t call.task.progress s ≤ 39) (sym e) (omega arith))
 
--- every call in flight is one that is served
+-- every call in flight is a point call
 abbrev pub AllServed : World ℕ → Type 0
-AllServed w = (id : ℕ) → id < 2 ^ 64 → (r : Record ℕ) → call_of w id ≡ Some r → IsServedCall r.task.outline
+AllServed w = (id : ℕ) → id < 2 ^ 64 → (r : Record ℕ) → call_of w id ≡ Some r → IsPoint r.task.outline
 
-served_outline : (id : ℕ) (op : Op ℕ) → IsServed (Start id op) → IsServedCall (outline_of op)
+served_outline : (id : ℕ) (op : Op ℕ) → IsServed (Start id op) → IsPoint (outline_of op)
 served_outline id (Get k) h = tt
 served_outline id (Insert k v) h = tt
-served_outline id (Remove k) h = h
-served_outline id (ComputeIfPresent k) h = h
-served_outline id (ComputeOrInsert k v) h = h
-served_outline id (CompareExchange k old new) h = h
+served_outline id (Remove k) h = tt
+served_outline id (ComputeIfPresent k) h = tt
+served_outline id (ComputeOrInsert k v) h = tt
+served_outline id (CompareExchange k old new) h = tt
 served_outline id (Range a b n) h = h
 
 served_begun : (w after : World ℕ) (id : ℕ) (op : Op ℕ) (report : Report) → AllServed w → IsServed (Start id op) → IsBegun (Unit {0}) same_number w after id op report → AllServed after
@@ -180,7 +258,7 @@ served_begun w after id op report all served begun o small r found =
     elim (eqb_tells o id) [
       | inl same ↦
           let is : begun.record_is ≡ r = some_same begun.record_is r (sym begun.here ∙ subst (λ (z : ℕ). call_of after z ≡ Some r) same.1 found) in
-          subst (λ (l : Outline). IsServedCall l) (sym begun.outline ∙ ap (λ (q : Record ℕ). q.task.outline) is) (served_outline id op served)
+          subst (λ (l : Outline). IsPoint l) (sym begun.outline ∙ ap (λ (q : Record ℕ). q.task.outline) is) (served_outline id op served)
       | inr off ↦ all o small r (sym (begun.others o off.1) ∙ found)
     ]
 
@@ -189,7 +267,7 @@ served_turned w after id env report out all turn o small r found =
     elim (eqb_tells o id) [
       | inl same ↦
           let course : IsCourse (table_of w) (table_of after) w.root turn.call env r report out = turn.course r (subst (λ (z : ℕ). call_of after z ≡ Some r) same.1 found) in
-          subst (λ (l : Outline). IsServedCall l) (sym course.outline) (all o small turn.call (subst (λ (z : ℕ). call_of w z ≡ Some turn.call) (sym same.1) turn.found))
+          subst (λ (l : Outline). IsPoint l) (sym course.outline) (all o small turn.call (subst (λ (z : ℕ). call_of w z ≡ Some turn.call) (sym same.1) turn.found))
       | inr off ↦ all o small r (sym (turn.others o off.1) ∙ found)
     ]
 
@@ -197,7 +275,7 @@ served_next : (w after : World ℕ) (event : Event ℕ) (line : Line) → AllSer
 served_next w after event Skipped all p = subst (λ (z : World ℕ). AllServed z) (sym p.1) all
 served_next w after (Start id op) (Made report out seen) all p = served_begun w after id op report all p.0 p.1
 served_next w after (Step id env) (Made report out seen) all p = served_turned w after id env report out all p.0
-served_next w after (Reclaim slot) (Made report out seen) all p = absurd p
+served_next w after (Reclaim slot) (Made report out seen) all p = λ id small r found. all id small r (sym (p.0.calls id) ∙ found)
 
 -- the call of one number
 module _ (id : ℕ) (small : id < 2 ^ 64) where
@@ -207,7 +285,7 @@ module _ (id : ℕ) (small : id < 2 ^ 64) where
     pub found : call_of w id ≡ Some call
     pub left : IsLeft (table_of w) call n
 
-  module _ (w after : World ℕ) (env : Env ℕ) (report : Report) (out : Outcome ℕ) (n : ℕ) (sound : IsSound (Unit {0}) w) (all : AllServed w) (has : Has w n)
+  module _ (w after : World ℕ) (env : Env ℕ) (report : Report) (out : Outcome ℕ) (n : ℕ) (sound : IsSound (Unit {0}) same_number w) (all : AllServed w) (has : Has w n)
       (turn : IsTurn (Unit {0}) same_number w after id env report out) where
     less : (next : Record ℕ) → env.fail ≡ false → AreAlone (state_of w) id → IsLeft (table_of w) turn.call n → IsCourse (table_of w) (table_of after) w.root turn.call env next report out
         → (1 < n) × IsLeft (table_of after) next (n - 1)
@@ -238,7 +316,7 @@ module _ (id : ℕ) (small : id < 2 ^ 64) where
     turned whole alone = turn_at (call_of after id) whole alone refl
 
   -- what it has left is what it had before another's Start
-  begun_has : (w after : World ℕ) (i : ℕ) (op : Op ℕ) (report : Report) (n : ℕ) → IsSound (Unit {0}) w → Has w n → IsBegun (Unit {0}) same_number w after i op report → Has after n
+  begun_has : (w after : World ℕ) (i : ℕ) (op : Op ℕ) (report : Report) (n : ℕ) → IsSound (Unit {0}) same_number w → Has w n → IsBegun (Unit {0}) same_number w after i op report → Has after n
   begun_has w after i op report n sound has begun =
       elim (eqb_tells id i) [
         | inl same ↦
@@ -247,13 +325,26 @@ module _ (id : ℕ) (small : id < 2 ^ 64) where
         | inr off ↦ record { call = has.call; found = begun.others id off.1 ∙ has.found; left = left_same (table_of w) (table_of after) begun.nodes has.call n has.left }
       ]
 
-  passes : (w after : World ℕ) (event : Event ℕ) (line : Line) (n : ℕ) (rest : ℕ → Type 0) → IsSound (Unit {0}) w → AllServed w → Has w n → Plays w event line after
+  -- what it has left is what it had before a Reclaim: no node that it knows is reclaimed
+  freed_has : (w after : World ℕ) (slot : ℕ) (report : Report) (n : ℕ) → IsSound (Unit {0}) same_number w → Has w n → IsFreed (Unit {0}) same_number w after slot report → Has after n
+  freed_has w after slot report n sound has freed =
+      let p = in_flight w id has.call sound small has.found in
+      let facts : Facts (Unit {0}) same_number (table_of w) w.root p.0 has.call = sound.facts id p.0 has.call has.found p.1 in
+      let same : work_of (table_of after) has.call ≡ work_of (table_of w) has.call =
+      work_kept (table_of w) (table_of after) w.root p.0 _ (freed.leaves id p.0 p.1) has.call.task has.call.task.progress has.call.stage facts.at in
+      record {
+        call = has.call;
+        found = freed.calls id ∙ has.found;
+        left = left_by (table_of w) (table_of after) has.call n same (current_left w after slot report freed.reclaim has.call.stage) has.left;
+      }
+
+  passes : (w after : World ℕ) (event : Event ℕ) (line : Line) (n : ℕ) (rest : ℕ → Type 0) → IsSound (Unit {0}) same_number w → AllServed w → Has w n → Plays w event line after
       → ((k : ℕ) → Has after k → rest k) → Passes id (state_of w) event line n rest
   passes w after (Start i op) Skipped n rest sound all has p then = then n (subst (λ (z : World ℕ). Has z n) (sym p.1) has)
   passes w after (Step i env) Skipped n rest sound all has p then = then n (subst (λ (z : World ℕ). Has z n) (sym p.1) has)
   passes w after (Reclaim slot) Skipped n rest sound all has p then = then n (subst (λ (z : World ℕ). Has z n) (sym p.1) has)
   passes w after (Start i op) (Made report out seen) n rest sound all has p then = then n (begun_has w after i op report n sound has p.1)
-  passes w after (Reclaim slot) (Made report out seen) n rest sound all has p then = absurd p
+  passes w after (Reclaim slot) (Made report out seen) n rest sound all has p then = then n (freed_has w after slot report n sound has p.0)
   passes w after (Step i env) (Made report out seen) n rest sound all has p then = λ mine whole granted undisturbed.
       let turn : IsTurn (Unit {0}) same_number w after id env report out = subst (λ (z : ℕ). IsTurn (Unit {0}) same_number w after z env report out) mine p.0 in
       elim (turned w after env report out n sound all has turn whole undisturbed) [
@@ -261,7 +352,7 @@ module _ (id : ℕ) (small : id < 2 ^ 64) where
         | inr more ↦ inr (more.0, then (n - 1) more.1)
       ]
 
-  ends_within : (w : World ℕ) (m : Pairs ℕ) (xs : List Move) (last : World ℕ) (k : Pairs ℕ) (n : ℕ) → IsSound (Unit {0}) w → AllServed w → Has w n → AreMoves w m xs last k
+  ends_within : (w : World ℕ) (m : Pairs ℕ) (xs : List Move) (last : World ℕ) (k : Pairs ℕ) (n : ℕ) → IsSound (Unit {0}) same_number w → AllServed w → Has w n → AreMoves w m xs last k
       → EndsWithin id (entries_of xs) (state_of w) n
   ends_within w m [] last k n sound all has are = tt
   ends_within w m (x ∷ xs) last k n sound all has are =
@@ -283,7 +374,7 @@ module _ (id : ℕ) (small : id < 2 ^ 64) where
         | inl same ↦ absurd (none_some p.0.call (sym none ∙ subst (λ (z : ℕ). call_of w z ≡ Some p.0.call) (sym same.1) p.0.found))
         | inr off ↦ absurd (none_some r (sym none ∙ (sym (p.0.others id off.1) ∙ found)))
       ]
-  begins w after (Reclaim slot) (Made report out seen) r none found p = absurd p
+  begins w after (Reclaim slot) (Made report out seen) r none found p = absurd (none_some r (sym none ∙ (sym (p.0.calls id) ∙ found)))
 
 -- from anywhere on, whatever it remembers
 has_some : (w : World ℕ) (id : ℕ) (small : id < 2 ^ 64) (r : Record ℕ) → call_of w id ≡ Some r → Has id small w 80
@@ -292,11 +383,11 @@ has_some w id small r found =
     record { call = r; found = found; left = inr (omega (arith, most)) }
 
 -- Each point call that is alone ends: within 40 events from its start on, within 80 from any event on.
-pub all_end : (w : World ℕ) (m : Pairs ℕ) (xs : List Move) (last : World ℕ) (n : Pairs ℕ) → IsSound (Unit {0}) w → AllServed w → AreMoves w m xs last n
+pub all_end : (w : World ℕ) (m : Pairs ℕ) (xs : List Move) (last : World ℕ) (n : Pairs ℕ) → IsSound (Unit {0}) same_number w → AllServed w → AreMoves w m xs last n
     → AllEnd (state_of w) (entries_of xs)
 all_end w m [] last n sound all are = tt
 all_end w m (x ∷ xs) last n sound all are =
-    let next : IsSound (Unit {0}) x.inside = sound_next w x.inside x.event x.line sound are.0.plays in
+    let next : IsSound (Unit {0}) same_number x.inside = sound_next w x.inside x.event x.line sound are.0.plays in
     let served : AllServed x.inside = served_next w x.inside x.event x.line all are.0.plays in (
       (λ id call point. (
         (λ here. let f = flies w id call here in ends_within id f.small w m (x ∷ xs) last n 80 sound all (has_some w id f.small f.call f.found) are),

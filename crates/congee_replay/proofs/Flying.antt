@@ -1,6 +1,7 @@
 -- The calls in flight that a reader sees, and the records inside.
 use Rattle.std.proofs.Common.{◌≡◌, ℕ, ◌^◌, ◌<◌, Option, Some, None, IsSome, refl, sym, ap, ◌∙◌}
 use Rattle.congee_map.specs.Map.{lookup}
+use Rattle.congee_protocol.specs.Runs.{same_number}
 use Rattle.congee_protocol.specs.State.{Flight}
 use Rattle.congee_sync.specs.Epoch.{pin_of}
 use Rattle.congee_store.specs.declared.stage.Record.{Record}
@@ -23,7 +24,7 @@ pub small_at : (w : World ℕ) (id : ℕ) (call : Flight ℕ) → lookup (state_
 small_at w id call e = (lookup-inside 0 (2 ^ 64) (state_of w).flights id call (flights_map w) e).1
 
 -- a number with a record is in flight
-pub in_flight : (w : World ℕ) (id : ℕ) (r : Record ℕ) → IsSound (Unit {0}) w → id < 2 ^ 64 → call_of w id ≡ Some r
+pub in_flight : (w : World ℕ) (id : ℕ) (r : Record ℕ) → IsSound (Unit {0}) same_number w → id < 2 ^ 64 → call_of w id ≡ Some r
     → (pin : ℕ) × (pin_of w.pins id ≡ Some pin) × (lookup (state_of w).flights id ≡ Some (flight pin r))
 in_flight w id r sound small found =
     let p = pinned_at (pin_of w.pins id) (sound.pinned id r found) in
@@ -44,11 +45,11 @@ flies w id f e =
     let small : id < 2 ^ 64 = small_at w id f e in
     flies_at w id f (call_of w id) (pin_of w.pins id) small refl (sym (shown_flight w id small) ∙ e)
 
-no_call_at : (w : World ℕ) (id : ℕ) (x : Option (Record ℕ)) → IsSound (Unit {0}) w → id < 2 ^ 64 → lookup (state_of w).flights id ≡ None → call_of w id ≡ x → call_of w id ≡ None
+no_call_at : (w : World ℕ) (id : ℕ) (x : Option (Record ℕ)) → IsSound (Unit {0}) same_number w → id < 2 ^ 64 → lookup (state_of w).flights id ≡ None → call_of w id ≡ x → call_of w id ≡ None
 no_call_at w id None sound small none e = e
 no_call_at w id (Some r) sound small none e =
     let f = in_flight w id r sound small e in absurd (none_some (flight f.0 r) (sym none ∙ f.2))
 
 -- one that isn't has none
-pub no_call : (w : World ℕ) (id : ℕ) → IsSound (Unit {0}) w → id < 2 ^ 64 → lookup (state_of w).flights id ≡ None → call_of w id ≡ None
+pub no_call : (w : World ℕ) (id : ℕ) → IsSound (Unit {0}) same_number w → id < 2 ^ 64 → lookup (state_of w).flights id ≡ None → call_of w id ≡ None
 no_call w id sound small none = no_call_at w id (call_of w id) sound small none refl

@@ -2,6 +2,7 @@
 use Rattle.std.proofs.Common.{◌≡◌, ℕ, ◌^◌, ◌<◌, [], Option, Some, None, IsSome, refl, sym, subst, ap, ◌∙◌}
 use Rattle.congee_map.specs.Map.{lookup}
 use Rattle.congee_protocol.specs.Calls.{asked_of}
+use Rattle.congee_protocol.specs.Kinds.{MayReclaim}
 use Rattle.congee_protocol.specs.Runs.{IsEnabled, IsServed, same_number, read_by, decided_by, decided_at}
 use Rattle.congee_protocol.specs.State.{Flight}
 use Rattle.congee_protocol.specs.declared.trace.Decision.{Decision}
@@ -19,7 +20,7 @@ use Rattle.congee_protocol.specs.declared.types.Seen.{Seen}
 use Rattle.congee_store.specs.declared.stage.Record.{Record}
 use Rattle.congee_store.specs.inner.Facts.{IsSound}
 use Rattle.congee_store.specs.inner.Shown.{flight, state_of}
-use Rattle.congee_store.specs.inner.Turns.{IsBegun, IsTurn}
+use Rattle.congee_store.specs.inner.Turns.{IsBegun, IsFreed, IsTurn}
 use Rattle.congee_store.specs.inner.World.{World, call_of}
 use Rattle.congee_store.proofs.Options.{none_some}
 use Rattle.congee_replay.specs.inner.Played.{last_read, noted, IsHappening}
@@ -41,7 +42,7 @@ pub skipped_event : (w : World ℕ) (event : Event ℕ) → (IsEnabled (state_of
 skipped_event w event never = record { plays = (never, refl); decided_is = sym (skips w event) }
 
 -- a Start of a number that has a record
-pub start_in_flight : (w : World ℕ) (id : ℕ) (op : Op ℕ) → id < 2 ^ 64 → IsSound (Unit {0}) w → IsSome (call_of w id) → IsHappening w (Start id op) Skipped None w
+pub start_in_flight : (w : World ℕ) (id : ℕ) (op : Op ℕ) → id < 2 ^ 64 → IsSound (Unit {0}) same_number w → IsSome (call_of w id) → IsHappening w (Start id op) Skipped None w
 start_in_flight w id op small sound some =
     skipped_event w (Start id op) (λ enabled served. no_record (subst (λ (x : Option (Record ℕ)). IsSome x) (no_call w id sound small enabled) some))
 
@@ -51,6 +52,14 @@ start_unserved w id op unserved = skipped_event w (Start id op) (λ enabled serv
 pub start_made : (w after : World ℕ) (id : ℕ) (op : Op ℕ) (report : Report) → IsServed (Start id op) → IsBegun (Unit {0}) same_number w after id op report
     → IsHappening w (Start id op) (Made report Going None) None after
 start_made w after id op report served begun = record { plays = (served, begun, refl, refl); decided_is = refl }
+
+-- a Reclaim of a slot that may not be reclaimed
+pub reclaim_too_early : (w after : World ℕ) (slot : ℕ) → (MayReclaim (state_of w) slot → ⊥) → after ≡ w → IsHappening w (Reclaim slot) Skipped None after
+reclaim_too_early w after slot never same = record { plays = ((λ enabled served. never enabled), same); decided_is = refl }
+
+-- one that is done
+pub reclaim_made : (w after : World ℕ) (slot : ℕ) (report : Report) → IsFreed (Unit {0}) same_number w after slot report → IsHappening w (Reclaim slot) (Made report Going None) None after
+reclaim_made w after slot report freed = record { plays = (freed, refl, refl); decided_is = refl }
 
 -- a Step of a number that has no record
 not_flying : (w : World ℕ) (id : ℕ) (f : Option (Flight ℕ)) → lookup (state_of w).flights id ≡ f → call_of w id ≡ None → IsSome f → ⊥
@@ -93,7 +102,7 @@ not_seen : (w : World ℕ) (id : ℕ) (f : Option (Flight ℕ)) → lookup (stat
 not_seen w id None e none = refl
 not_seen w id (Some f) e none = let has = flies w id f e in absurd (none_some has.call (sym none ∙ has.found))
 
-read_at : (w : World ℕ) (id : ℕ) (k : Kind) (x : Option (Record ℕ)) → IsSound (Unit {0}) w → id < 2 ^ 64 → call_of w id ≡ x → last_read k x ≡ read_by k (lookup (state_of w).flights id)
+read_at : (w : World ℕ) (id : ℕ) (k : Kind) (x : Option (Record ℕ)) → IsSound (Unit {0}) same_number w → id < 2 ^ 64 → call_of w id ≡ x → last_read k x ≡ read_by k (lookup (state_of w).flights id)
 read_at w id k None sound small e = sym (ap (read_by k) (not_seen w id (lookup (state_of w).flights id) refl e) ∙ read_none k)
 read_at w id k (Some r) sound small e = let f = in_flight w id r sound small e in sym (ap (read_by k) f.2 ∙ read_in k f.0 r)
 

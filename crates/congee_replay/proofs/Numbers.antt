@@ -1,12 +1,16 @@
 -- The meaning of a number is the number, so what is inside over numbers is what it means.
-use Rattle.std.proofs.Common.{◌≡◌, ℕ, List, [], ◌∷◌, map, Option, Result, Ok, Err, refl, sym, subst, ap, ◌∙◌}
+use Rattle.std.proofs.Common.{◌≡◌, ℕ, List, [], ◌∷◌, map, Option, Some, None, Result, Ok, Err, refl, sym, subst, ap, ◌∙◌}
 use Rattle.congee_map.specs.Map.{Pairs}
 use Rattle.congee_node_table.specs.inner.Kinds.{mapped}
 use Rattle.congee_node_table.specs.declared.child.Child.{Child}
+use Rattle.congee_node_table.specs.declared.child.Child.TheVariants.{Payload, Node as node}
+use Rattle.congee_protocol.specs.Kinds.{MayReclaim}
 use Rattle.congee_protocol.specs.Meaning.{in_some, child_of, seen_of, op_of, asking_of, both_of, exchanged_of, reply_of, outcome_of, env_of, meant}
 use Rattle.congee_protocol.specs.declared.types.Asking.{Asking}
+use Rattle.congee_protocol.specs.declared.types.Asking.TheVariants.{Fresh, Wants, Given}
 use Rattle.congee_protocol.specs.declared.types.Env.{Env}
 use Rattle.congee_protocol.specs.declared.types.Op.{Op}
+use Rattle.congee_protocol.specs.declared.types.Op.TheVariants.{Get, Insert, Remove, ComputeIfPresent, ComputeOrInsert, CompareExchange, Range}
 use Rattle.congee_protocol.specs.declared.types.Outcome.{Outcome}
 use Rattle.congee_protocol.specs.declared.types.Outcome.TheVariants.{Going, Ask, Pair, Decided, Refused, Done, Unknown}
 use Rattle.congee_protocol.proofs.Same.{some_same, list_same, itself, child_same, number_same, seen_same, op_same, asking_same, state_same}
@@ -22,7 +26,8 @@ use Rattle.congee_store.specs.declared.stage.Stored.{Stored}
 use Rattle.congee_store.specs.declared.stage.Task.{Task}
 use Rattle.congee_store.specs.inner.Meant.{meant_stored, meant_task, meant_record, meant_calls, meant_world}
 use Rattle.congee_store.specs.inner.Facts.{IsSound}
-use Rattle.congee_store.specs.inner.Turns.{IsBegun, IsTurn}
+use Rattle.congee_store.specs.inner.Shown.{state_of}
+use Rattle.congee_store.specs.inner.Turns.{IsBegun, IsFreed, IsTurn}
 use Rattle.congee_store.specs.inner.World.{World}
 
 each_same : {X : Type 0} (f : X → X) → ((x : X) → f x ≡ x) → (xs : List X) → map f xs ≡ xs
@@ -57,10 +62,12 @@ outcome_same Unknown = refl
 
 task_same : (t : Task ℕ) → meant_task itself t ≡ t
 task_same t =
-    ap (λ (o : Option (Op ℕ)). record t { op = o; last = in_some (seen_of itself) t.last; spare = in_some itself t.spare; asking = asking_of itself t.asking }) (some_same (op_of itself) op_same t.op)
-    ∙ (ap (λ (s : Option (Seen ℕ)). record t { last = s; spare = in_some itself t.spare; asking = asking_of itself t.asking }) (some_same (seen_of itself) seen_same t.last)
-    ∙ (ap (λ (o : Option ℕ). record t { spare = o; asking = asking_of itself t.asking }) (number_same t.spare)
-    ∙ ap (λ (a : Asking ℕ). record t { asking = a }) (asking_same t.asking)))
+    ap (λ (o : Option (Op ℕ)). record (meant_task itself t) { op = o }) (some_same (op_of itself) op_same t.op)
+    ∙ (ap (λ (s : Option (Seen ℕ)). record (meant_task itself t) { op = t.op; last = s }) (some_same (seen_of itself) seen_same t.last)
+    ∙ (ap (λ (o : Option ℕ). record (meant_task itself t) { op = t.op; last = t.last; spare = o }) (number_same t.spare)
+    ∙ (ap (λ (o : Option ℕ). record t { question = o; returns = in_some itself t.returns; asking = asking_of itself t.asking }) (number_same t.question)
+    ∙ (ap (λ (o : Option ℕ). record t { returns = o; asking = asking_of itself t.asking }) (number_same t.returns)
+    ∙ ap (λ (a : Asking ℕ). record t { asking = a }) (asking_same t.asking)))))
 
 record_same : (r : Record ℕ) → meant_record itself r ≡ r
 record_same r = ap (λ (t : Task ℕ). record r { task = t }) (task_same r.task)
@@ -78,11 +85,11 @@ pub pairs_same : (m : Pairs ℕ) → mapped itself m ≡ m
 pairs_same m = list_same itself (λ x. refl) m
 
 -- So what the machine's methods say of meanings, they say of what is inside.
-pub sound_itself : (w : World ℕ) → IsSound (Unit {0}) (meant_world itself w) → IsSound (Unit {0}) w
-sound_itself w h = subst (λ (z : World ℕ). IsSound (Unit {0}) z) (world_same w) h
+pub sound_itself : (w : World ℕ) → IsSound (Unit {0}) same_number (meant_world itself w) → IsSound (Unit {0}) same_number w
+sound_itself w h = subst (λ (z : World ℕ). IsSound (Unit {0}) same_number z) (world_same w) h
 
-pub sound_meant : (w : World ℕ) → IsSound (Unit {0}) w → IsSound (Unit {0}) (meant_world itself w)
-sound_meant w h = subst (λ (z : World ℕ). IsSound (Unit {0}) z) (sym (world_same w)) h
+pub sound_meant : (w : World ℕ) → IsSound (Unit {0}) same_number w → IsSound (Unit {0}) same_number (meant_world itself w)
+sound_meant w h = subst (λ (z : World ℕ). IsSound (Unit {0}) same_number z) (sym (world_same w)) h
 
 pub begun_itself : (w after : World ℕ) (id : ℕ) (op : Op ℕ) (report : Report) → IsBegun (Unit {0}) same_number (meant_world itself w) (meant_world itself after) id (op_of itself op) report
     → IsBegun (Unit {0}) same_number w after id op report
@@ -90,6 +97,15 @@ begun_itself w after id op report h =
     subst (λ (z : World ℕ). IsBegun (Unit {0}) same_number z after id op report) (world_same w)
     (subst (λ (z : World ℕ). IsBegun (Unit {0}) same_number (meant_world itself w) z id op report) (world_same after)
     (subst (λ (o : Op ℕ). IsBegun (Unit {0}) same_number (meant_world itself w) (meant_world itself after) id o report) (op_same op) h))
+
+pub may_itself : (w : World ℕ) (slot : ℕ) → MayReclaim (state_of w) slot → MayReclaim (state_of (meant_world itself w)) slot
+may_itself w slot h = subst (λ (z : World ℕ). MayReclaim (state_of z) slot) (sym (world_same w)) h
+
+pub freed_itself : (w after : World ℕ) (slot : ℕ) (report : Report) → IsFreed (Unit {0}) same_number (meant_world itself w) (meant_world itself after) slot report
+    → IsFreed (Unit {0}) same_number w after slot report
+freed_itself w after slot report h =
+    subst (λ (z : World ℕ). IsFreed (Unit {0}) same_number z after slot report) (world_same w)
+    (subst (λ (z : World ℕ). IsFreed (Unit {0}) same_number (meant_world itself w) z slot report) (world_same after) h)
 
 pub turn_itself : (w after : World ℕ) (id : ℕ) (env : Env ℕ) (report : Report) (out : Outcome ℕ)
     → IsTurn (Unit {0}) same_number (meant_world itself w) (meant_world itself after) id (env_of itself env) report (outcome_of itself out) → IsTurn (Unit {0}) same_number w after id env report out

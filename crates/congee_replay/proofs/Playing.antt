@@ -2,7 +2,7 @@
 use Rattle.std.proofs.Common.{◌≡◌, ℕ, List, [], ◌∷◌, ◌++◌, Option, IsSome, refl, sym, subst, ap, ◌∙◌, append_assoc}
 use Rattle.congee_map.specs.Map.{Pairs}
 use Rattle.congee_protocol.specs.Content.{IsContent}
-use Rattle.congee_protocol.specs.Runs.{Happens, IsRun, IsHistory, decided_at, decided_by, decided_in, events_of, lines_of}
+use Rattle.congee_protocol.specs.Runs.{Happens, IsRun, IsHistory, same_number, decided_at, decided_by, decided_in, events_of, lines_of}
 use Rattle.congee_protocol.specs.State.{State, Flight}
 use Rattle.congee_protocol.specs.declared.trace.Decision.{Decision}
 use Rattle.congee_protocol.specs.declared.trace.Line.{Line}
@@ -18,18 +18,18 @@ use Rattle.congee_store.proofs.Changes.{same_content}
 use Rattle.congee_store.proofs.Formed.{well_formed}
 
 -- what is inside after an event is sound if it was before
-pub sound_next : (old new : World ℕ) (event : Event ℕ) (line : Line) → IsSound (Unit {0}) old → Plays old event line new → IsSound (Unit {0}) new
-sound_next old new event Skipped sound p = subst (λ (w : World ℕ). IsSound (Unit {0}) w) (sym p.1) sound
+pub sound_next : (old new : World ℕ) (event : Event ℕ) (line : Line) → IsSound (Unit {0}) same_number old → Plays old event line new → IsSound (Unit {0}) same_number new
+sound_next old new event Skipped sound p = subst (λ (w : World ℕ). IsSound (Unit {0}) same_number w) (sym p.1) sound
 sound_next old new (Start id op) (Made report out seen) sound p = p.1.after
 sound_next old new (Step id env) (Made report out seen) sound p = p.0.after
-sound_next old new (Reclaim slot) (Made report out seen) sound p = absurd p
+sound_next old new (Reclaim slot) (Made report out seen) sound p = p.0.after
 
 pub happens : (old new : World ℕ) (event : Event ℕ) (line : Line) → Plays old event line new → Happens (state_of old) event line (state_of new)
 happens old new event Skipped p = (p.0, ap state_of p.1)
 happens old new (Start id op) (Made report out seen) p = (p.1.start.free, p.0, (p.1.start, p.2, p.3))
 happens old new (Step id env) (Made report out seen) p =
     (subst (λ (f : Option (Flight ℕ)). IsSome f) (sym p.0.step.in_flight) refl, tt, (p.0.step, p.1))
-happens old new (Reclaim slot) (Made report out seen) p = absurd p
+happens old new (Reclaim slot) (Made report out seen) p = (p.0.reclaim.may, tt, (p.0.reclaim, p.1, p.2))
 
 -- what an event makes of the content
 pub record Told (m : Pairs ℕ) (decided : List Decision) (new : World ℕ) : Type 0 where
@@ -56,7 +56,7 @@ tells old new (Step id env) (Made report out seen) m c p =
       history = subst (λ (f : Option (Flight ℕ)). IsHistory m (decided_by id f out) k.content) (sym k.in_flight) (carried m k.content id k.call out k.carries);
       content = k.content_is;
     }
-tells old new (Reclaim slot) (Made report out seen) m c p = absurd p
+tells old new (Reclaim slot) (Made report out seen) m c p = record { after = m; history = refl; content = p.0.carries m c }
 
 -- one event more
 moves_more : (old : World ℕ) (m : Pairs ℕ) (xs : List Move) (now : World ℕ) (n : Pairs ℕ) (x : Move) → AreMoves old m xs now n → IsMove now n x → AreMoves old m (xs ++ x ∷ []) x.inside x.content
@@ -100,19 +100,19 @@ so_far_more first now new events events' lines lines' decided decided' event lin
           ∙ (ap (λ l. l ++ decided_at (state_of now) event line) so_far.decided_are ∙ sym decided_are);
     }
 
-sound_last : (old : World ℕ) (m : Pairs ℕ) (xs : List Move) (new : World ℕ) (n : Pairs ℕ) → IsSound (Unit {0}) old → AreMoves old m xs new n → IsSound (Unit {0}) new
-sound_last old m [] new n sound are = subst (λ (w : World ℕ). IsSound (Unit {0}) w) (sym are.0) sound
+sound_last : (old : World ℕ) (m : Pairs ℕ) (xs : List Move) (new : World ℕ) (n : Pairs ℕ) → IsSound (Unit {0}) same_number old → AreMoves old m xs new n → IsSound (Unit {0}) same_number new
+sound_last old m [] new n sound are = subst (λ (w : World ℕ). IsSound (Unit {0}) same_number w) (sym are.0) sound
 sound_last old m (x ∷ xs) new n sound are = sound_last x.inside x.content xs new n (sound_next old x.inside x.event x.line sound are.0.plays) are.1
 
 -- what is inside so far is sound
-pub sound_so_far : (first now : World ℕ) (events : List (Event ℕ)) (lines : List Line) (decided : List Decision) → IsSound (Unit {0}) first → SoFar first events lines decided now → IsSound (Unit {0}) now
+pub sound_so_far : (first now : World ℕ) (events : List (Event ℕ)) (lines : List Line) (decided : List Decision) → IsSound (Unit {0}) same_number first → SoFar first events lines decided now → IsSound (Unit {0}) same_number now
 sound_so_far first now events lines decided sound so_far = sound_last first [] so_far.moves now so_far.content sound so_far.are_moves
 
 -- A RUN: what is sound inside is well formed.
-pub run_of : (old : World ℕ) (m : Pairs ℕ) (xs : List Move) (new : World ℕ) (n : Pairs ℕ) → IsSound (Unit {0}) old → AreMoves old m xs new n → IsRun (state_of old) m (entries_of xs) n
+pub run_of : (old : World ℕ) (m : Pairs ℕ) (xs : List Move) (new : World ℕ) (n : Pairs ℕ) → IsSound (Unit {0}) same_number old → AreMoves old m xs new n → IsRun (state_of old) m (entries_of xs) n
 run_of old m [] new n sound are = are.1
 run_of old m (x ∷ xs) new n sound are =
-    let next : IsSound (Unit {0}) x.inside = sound_next old x.inside x.event x.line sound are.0.plays in (
-      record { happens = happens old x.inside x.event x.line are.0.plays; history = are.0.history; content = are.0.content; well_formed = well_formed (Unit {0}) x.inside next },
+    let next : IsSound (Unit {0}) same_number x.inside = sound_next old x.inside x.event x.line sound are.0.plays in (
+      record { happens = happens old x.inside x.event x.line are.0.plays; history = are.0.history; content = are.0.content; well_formed = well_formed (Unit {0}) same_number x.inside next },
       run_of x.inside x.content xs new n next are.1,
     )

@@ -5,7 +5,7 @@ use Rattle.congee_protocol.specs.Alone.{AllEnd}
 use Rattle.congee_protocol.specs.Content.{IsContent}
 use Rattle.congee_protocol.specs.Orderly.{IsOrderly}
 use Rattle.congee_protocol.specs.Replay.{IsReplayed}
-use Rattle.congee_protocol.specs.Runs.{Entry, fresh, IsRun, IsHistory, lines_of, decided_in}
+use Rattle.congee_protocol.specs.Runs.{Entry, fresh, IsRun, IsHistory, same_number, lines_of, decided_in}
 use Rattle.congee_protocol.specs.State.{State}
 use Rattle.congee_protocol.specs.declared.trace.Decision.{Decision}
 use Rattle.congee_protocol.specs.declared.trace.Line.{Line}
@@ -38,7 +38,7 @@ so_far_fresh first root charge events lines decided is no_event no_line no_decis
 
 -- THE THEOREM ON RUNS: what was made one by one from a fresh machine on is a replay.
 pub replayed : (first last : World ℕ) (root : ℕ) (charge : Option ℕ) (events : List (Event ℕ)) (lines : List Line) (decided : List Decision) (content : Pairs ℕ)
-    → state_of first ≡ fresh root charge → IsSound (Unit {0}) first → SoFar first events lines decided last → IsContent (state_of last) content → IsReplayed events lines decided content
+    → state_of first ≡ fresh root charge → IsSound (Unit {0}) same_number first → SoFar first events lines decided last → IsContent (state_of last) content → IsReplayed events lines decided content
 replayed first last root charge events lines decided content is sound so_far stands =
     let entries : List Entry = entries_of so_far.moves in
     let same : so_far.content ≡ content = content_once (state_of last) so_far.content content so_far.content_is stands in

@@ -21,21 +21,24 @@ use Rattle.congee_protocol.specs.declared.types.Op.TheVariants.{Get, Insert, Rem
 use Rattle.congee_protocol.specs.declared.types.Outcome.{Outcome}
 use Rattle.congee_protocol.specs.declared.types.Report.{Report}
 use Rattle.congee_protocol.specs.declared.types.Seen.{Seen}
+use Rattle.congee_sync.specs.Epoch.{pin_of}
 use Rattle.congee_store.specs.declared.stage.Path.{Path}
 use Rattle.congee_store.specs.declared.stage.Record.{Record}
 use Rattle.congee_store.specs.declared.stage.Spot.{Spot}
 use Rattle.congee_store.specs.declared.stage.Stage.{Stage}
-use Rattle.congee_store.specs.declared.stage.Stage.TheVariants.{TakeRoot, Read, Check, TakeBelow, CheckAbove, Tail, Finish}
+use Rattle.congee_store.specs.declared.stage.Stage.TheVariants.{TakeRoot, Read, Check, TakeBelow, CheckAbove, Answer, Confirm, Tail, Finish}
 use Rattle.congee_store.specs.declared.stage.Task.{Task}
+use Rattle.congee_store.specs.declared.tail.Case.{Case}
+use Rattle.congee_store.specs.declared.tail.Case.TheVariants as case
 use Rattle.congee_store.specs.declared.tail.Pair.{Pair}
 use Rattle.congee_store.specs.declared.tail.Tail.{Tail as AnyTail}
-use Rattle.congee_store.specs.declared.tail.Tail.TheVariants.{Upgrade, Write, MakeLeaf, Link, Unlock, UpgradeAbove, UpgradeBelow, MakeLeafBelow, Grow, MakeMiddle, Replace, Insert as Insertion, Obsolete, UnlockBelow}
+use Rattle.congee_store.specs.declared.tail.Tail.TheVariants.{Upgrade, Write, MakeLeaf, Link, Unlock, UpgradeAbove, UpgradeBelow, MakeLeafBelow, Grow, MakeMiddle, Replace, Insert as Insertion, Detach, Obsolete, UnlockBelow}
 use Rattle.congee_store.specs.inner.Tables.{IsIn, IsBelow, IsPlaced, IsSafe, Known, IsThere, CameFrom, OnPath, Guarantees}
 use Rattle.congee_store.specs.inner.Tasks.{SawNode, Saw, key_bytes}
 use Rattle.congee_store.specs.inner.Facts.{named_at, Facts, FactsAt, IsSound}
 use Rattle.congee_store.specs.inner.Shown.{shown, state_of}
-use Rattle.congee_store.specs.inner.TailFacts.{AreHeld, IsHeld, IsOut, TailFacts}
-use Rattle.congee_store.specs.inner.Tails.{above_slots, path_slots, both_slots, named_in}
+use Rattle.congee_store.specs.inner.TailFacts.{AreHeld, CaseFacts, IsHeld, IsOut, TailFacts, path_to}
+use Rattle.congee_store.specs.inner.Tails.{above_slots, path_slots, both_slots, case_slots, named_in}
 use Rattle.congee_store.specs.inner.Turns.{Stays, MayFollow, IsCourse, IsTurn}
 use Rattle.congee_store.specs.inner.World.{World, Node, Table, table_of, entry, call_of}
 use Rattle.congee_store.proofs.States.{shown_node}
@@ -102,7 +105,7 @@ module _ (t : Table ℕ) (pin : ℕ) where
   both_there : (k : List ℕ) (pair : Pair) (slot : ℕ) → AreHeld t pair k → IsIn slot (both_slots pair) → IsThere t pin slot
   both_there k pair slot h = two_there pair slot (held_there pair.here h.here) (held_there pair.above h.above)
 
-  tail_there : (root : ℕ) (task : Task ℕ) (tail : AnyTail) (slot : ℕ) → TailFacts (Unit {0}) t root pin task tail → IsIn slot (named_in tail) → IsThere t pin slot
+  tail_there : (root : ℕ) (task : Task ℕ) (tail : AnyTail) (slot : ℕ) → TailFacts (Unit {0}) same_number t root pin task tail → IsIn slot (named_in tail) → IsThere t pin slot
   tail_there root task (Upgrade path small) slot f h = path_there t root pin (key_bytes task) path slot f.1 h
   tail_there root task (Write spot) slot f h = one_there spot.slot slot (held_there spot f.held) h
   tail_there root task (MakeLeaf spot) slot f h = one_there spot.slot slot (held_there spot f.held) h
@@ -115,14 +118,20 @@ module _ (t : Table ℕ) (pin : ℕ) where
   tail_there root task (MakeMiddle pair leaf) slot f h = both_there (key_bytes task) pair slot f.0.held h
   tail_there root task (Replace pair copy leaf) slot f h = both_there (key_bytes task) pair slot f.0.held h
   tail_there root task (Insertion pair middle leaf) slot f h = both_there (key_bytes task) pair slot f.0.held h
+  tail_there root task (Detach pair) slot f h = both_there (key_bytes task) pair slot f.held h
   tail_there root task (Obsolete pair) slot f h = two_there pair slot (out_there pair.here f.2) (held_there pair.above f.1) h
   tail_there root task (UnlockBelow pair) slot f h = two_there pair slot (held_there pair.here f.2) (held_there pair.above f.1) h
+
+  case_there : (root : ℕ) (task : Task ℕ) (case : Case) (slot : ℕ) → CaseFacts (Unit {0}) same_number t root pin task case → IsIn slot (case_slots case) → IsThere t pin slot
+  case_there root task (case.Present pair only) slot f h = path_there t root pin (key_bytes task) (path_to pair) slot f.1 h
+  case_there root task (case.Small path small) slot f h = path_there t root pin (key_bytes task) path slot f.1 h
+  case_there root task (case.Large pair large) slot f h = two_there pair slot (still_there pair.here f.2) (still_there pair.above f.4) h
 
 module _ (t : Table ℕ) (root pin : ℕ) (r : Record ℕ) (placed : IsPlaced t root) where
   abbrev key : List ℕ
   key = bytes_of (key_of r.task.outline)
 
-  named_there : (stage : Stage) (slot : ℕ) → FactsAt (Unit {0}) t root pin r.task stage → IsIn slot (named_at stage) → IsThere t pin slot
+  named_there : (stage : Stage) (slot : ℕ) → FactsAt (Unit {0}) same_number t root pin r.task stage → IsIn slot (named_at stage) → IsThere t pin slot
   named_there TakeRoot slot f h = absurd h
   named_there (Read path) slot f h = path_there t root pin key path slot f.1 h
   named_there (Check path) slot f h = path_there t root pin key path slot f.1 h
@@ -130,15 +139,17 @@ module _ (t : Table ℕ) (root pin : ℕ) (r : Record ℕ) (placed : IsPlaced t 
       elim h [ inl e ↦ subst (λ (z : ℕ). IsThere t pin z) e f.4 | inr more ↦ path_there t root pin key path slot f.1 more ]
   named_there (CheckAbove path spot fits) slot f h =
       elim h [ inl e ↦ known_there t root pin key spot slot f.4 e | inr more ↦ path_there t root pin key path slot f.1 more ]
+  named_there (Answer case) slot f h = case_there t pin root r.task case slot f h
+  named_there (Confirm spot) slot f h = one_there t pin spot.slot slot (still_there t pin spot f.1) h
   named_there (Tail tail) slot f h = tail_there t pin root r.task tail slot f h
   named_there Finish slot f h = absurd h
 
   -- a slot that was read where the word still stands has one
-  follow_there : (stage : Stage) (slot : ℕ) → FactsAt (Unit {0}) t root pin r.task stage → MayFollow t stage r.task.last slot → IsThere t pin slot
+  follow_there : (stage : Stage) (slot : ℕ) → FactsAt (Unit {0}) same_number t root pin r.task stage → MayFollow t stage r.task.last slot → IsThere t pin slot
   follow_there TakeRoot slot f h = absurd h
   follow_there (Read path) slot f h = absurd h
   follow_there (Check path) slot f h =
-      let s : Saw (Unit {0}) t pin path r.task = f.2 in
+      let s : Saw (Unit {0}) same_number t pin path r.task = f.2 in
       let one_seen : s.seen ≡ h.0.seen = some_same s.seen h.0.seen (sym s.is ∙ h.0.is) in
       let child : s.seen.child ≡ Some (below_at slot) = ap (λ (z : Seen ℕ). z.child) one_seen ∙ h.0.child in
       let stands : Stays t path.here = h.1 in
@@ -149,6 +160,8 @@ module _ (t : Table ℕ) (root pin : ℕ) (r : Record ℕ) (placed : IsPlaced t 
       record { node = below.node; here = below.linked.here; safe = subst (λ z. IsSafe pin z) (sym below.linked.standing) tt }
   follow_there (TakeBelow path below) slot f h = absurd h
   follow_there (CheckAbove path spot fits) slot f h = absurd h
+  follow_there (Answer case) slot f h = absurd h
+  follow_there (Confirm spot) slot f h = absurd h
   follow_there (Tail tail) slot f h = absurd h
   follow_there Finish slot f h = absurd h
 
@@ -156,10 +169,10 @@ module _ (t : Table ℕ) (root pin : ℕ) (r : Record ℕ) (placed : IsPlaced t 
 abbrev pub Trusts : Table ℕ → Record ℕ → ℕ → Type 0
 Trusts t r slot = IsIn slot (named_at r.stage) ⊎ MayFollow t r.stage r.task.last slot
 
-in_use : (w : World ℕ) (id : ℕ) (r : Record ℕ) (slot : ℕ) → IsSound (Unit {0}) w → id < 2 ^ 64 → call_of w id ≡ Some r → Trusts (table_of w) r slot → IsSome (lookup (state_of w).nodes slot)
+in_use : (w : World ℕ) (id : ℕ) (r : Record ℕ) (slot : ℕ) → IsSound (Unit {0}) same_number w → id < 2 ^ 64 → call_of w id ≡ Some r → Trusts (table_of w) r slot → IsSome (lookup (state_of w).nodes slot)
 in_use w id r slot sound small found h =
     let p = in_flight w id r sound small found in
-    let facts : Facts (Unit {0}) (table_of w) w.root p.0 r = sound.facts id p.0 r found p.1 in
+    let facts : Facts (Unit {0}) same_number (table_of w) w.root p.0 r = sound.facts id p.0 r found p.1 in
     let there : IsThere (table_of w) p.0 slot = elim h [
       | inl named ↦ named_there (table_of w) w.root p.0 r sound.placed r.stage slot facts.at named
       | inr follows ↦ follow_there (table_of w) w.root p.0 r sound.placed r.stage slot facts.at follows
@@ -175,12 +188,14 @@ module _ (t t' : Table ℕ) (root pin : ℕ) (Mine : ℕ → Type 0) (leaves : G
       let now : m.node.word ≡ spot.word = sym (ap (λ (a : Node ℕ). a.word) same) ∙ s.word in
       record { node = kn.node; here = kn.here; word = omega (arith, kn.word, m.kept.word, now) }
 
-  followed : (stage : Stage) (slot : ℕ) → FactsAt (Unit {0}) t root pin r.task stage → MayFollow t' stage r.task.last slot → MayFollow t stage r.task.last slot
+  followed : (stage : Stage) (slot : ℕ) → FactsAt (Unit {0}) same_number t root pin r.task stage → MayFollow t' stage r.task.last slot → MayFollow t stage r.task.last slot
   followed TakeRoot slot f h = h
   followed (Read path) slot f h = h
   followed (Check path) slot f h = (h.0, stayed path.here f.1.here h.1)
   followed (TakeBelow path below) slot f h = h
   followed (CheckAbove path spot fits) slot f h = h
+  followed (Answer case) slot f h = h
+  followed (Confirm spot) slot f h = h
   followed (Tail tail) slot f h = h
   followed Finish slot f h = h
 
@@ -190,6 +205,8 @@ same_follows t t' same (Read path) last slot h = h
 same_follows t t' same (Check path) last slot h = (h.0, record { node = h.1.node; here = sym (same path.here.slot) ∙ h.1.here; word = h.1.word })
 same_follows t t' same (TakeBelow path below) last slot h = h
 same_follows t t' same (CheckAbove path spot fits) last slot h = h
+same_follows t t' same (Answer case) last slot h = h
+same_follows t t' same (Confirm spot) last slot h = h
 same_follows t t' same (Tail tail) last slot h = h
 same_follows t t' same Finish last slot h = h
 
@@ -200,6 +217,8 @@ saw_of t (Read path) last slot h = absurd h
 saw_of t (Check path) last slot h = h.0
 saw_of t (TakeBelow path below) last slot h = absurd h
 saw_of t (CheckAbove path spot fits) last slot h = absurd h
+saw_of t (Answer case) last slot h = absurd h
+saw_of t (Confirm spot) last slot h = absurd h
 saw_of t (Tail tail) last slot h = absurd h
 saw_of t Finish last slot h = absurd h
 
@@ -211,10 +230,21 @@ Told root past id slot = (slot ≡ root) ⊎ IsKnown id slot past
 abbrev pub IsVouched : ℕ → World ℕ → List Entry → Type 0
 IsVouched root w past = (id : ℕ) → id < 2 ^ 64 → (r : Record ℕ) → call_of w id ≡ Some r → (slot : ℕ) → Trusts (table_of w) r slot → Told root past id slot
 
-module _ (root : ℕ) (w : World ℕ) (past : List Entry) (sound : IsSound (Unit {0}) w) (at : w.root ≡ root) (vouched : IsVouched root w past) where
+module _ (root : ℕ) (w : World ℕ) (past : List Entry) (sound : IsSound (Unit {0}) same_number w) (at : w.root ≡ root) (vouched : IsVouched root w past) where
   -- one more entry leaves to the earlier ones what it doesn't name
   longer : (x : Entry) (id slot : ℕ) → IsSome (lookup x.after.nodes slot) → (IsKnown id slot past → Vouches id slot x.event x.line (IsKnown id slot past)) → Told root past id slot → Told root (x ∷ past) id slot
   longer x id slot used leaves h = elim h [ inl e ↦ inl e | inr v ↦ inr (used, leaves v) ]
+
+  -- what a call trusts after the event of another, it trusted before
+  trusted : (after : World ℕ) (o : ℕ) (r : Record ℕ) (slot : ℕ) (Mine : ℕ → Type 0) → o < 2 ^ 64 → call_of w o ≡ Some r
+      → ((pin : ℕ) → pin_of w.pins o ≡ Some pin → Guarantees (table_of w) (table_of after) Mine pin) → Trusts (table_of after) r slot → Trusts (table_of w) r slot
+  trusted after o r slot Mine narrow was leaves h =
+      let p = in_flight w o r sound narrow was in
+      let facts : Facts (Unit {0}) same_number (table_of w) w.root p.0 r = sound.facts o p.0 r was p.1 in
+      elim h [
+        | inl named ↦ inl named
+        | inr follows ↦ inr (followed (table_of w) (table_of after) w.root p.0 Mine (leaves p.0 p.1) r r.stage slot facts.at follows)
+      ]
 
   module _ (id : ℕ) (env : Env ℕ) (report : Report) (out : Outcome ℕ) (seen : Option (Seen ℕ)) (after : World ℕ) (content : Pairs ℕ)
       (turn : IsTurn (Unit {0}) same_number w after id env report out) (is : seen ≡ read_by report.kind (lookup (state_of after).flights id)) where
@@ -247,12 +277,7 @@ module _ (root : ℕ) (w : World ℕ) (past : List Entry) (sound : IsSound (Unit
     stays_vouched : (o : ℕ) (r : Record ℕ) (slot : ℕ) → o < 2 ^ 64 → o ≢ id → call_of after o ≡ Some r → Trusts (table_of after) r slot → Told root (now ∷ past) o slot
     stays_vouched o r slot narrow off found h =
         let was : call_of w o ≡ Some r = sym (turn.others o off) ∙ found in
-        let p = in_flight w o r sound narrow was in
-        let facts : Facts (Unit {0}) (table_of w) w.root p.0 r = sound.facts o p.0 r was p.1 in
-        let before : Trusts (table_of w) r slot = elim h [
-          | inl named ↦ inl named
-          | inr follows ↦ inr (followed (table_of w) (table_of after) w.root p.0 _ (turn.leaves p.0 (sound.before o p.0 p.1)) r r.stage slot facts.at follows)
-        ] in
+        let before : Trusts (table_of w) r slot = trusted after o r slot _ narrow was (λ pin at. turn.leaves pin (sound.before o pin at)) h in
         longer now o slot (in_use after o r slot turn.after narrow found h) (λ v. inr v) (vouched o narrow r was slot before)
 
     pub turn_vouched : IsVouched root after (now ∷ past)
@@ -273,7 +298,7 @@ module _ (root : ℕ) (w : World ℕ) (past : List Entry) (sound : IsSound (Unit
     turn_touches other slot t = touched_at (call_of after id) refl other slot t
 
   -- after any event
-  vouched_next : (event : Event ℕ) (line : Line) (after : World ℕ) (content : Pairs ℕ) → IsSound (Unit {0}) after → Plays w event line after
+  vouched_next : (event : Event ℕ) (line : Line) (after : World ℕ) (content : Pairs ℕ) → IsSound (Unit {0}) same_number after → Plays w event line after
       → IsVouched root after (record { event = event; line = line; after = state_of after; content = content } ∷ past) × (after.root ≡ root)
   vouched_next (Start id op) Skipped after content next p = (
     (λ o narrow r found slot t. longer (record { event = Start id op; line = Skipped; after = state_of after; content = content }) o slot (in_use after o r slot next narrow found t) (λ v. v)
@@ -320,7 +345,14 @@ module _ (root : ℕ) (w : World ℕ) (past : List Entry) (sound : IsSound (Unit
     p.1.root ∙ at,
   )
   vouched_next (Step id env) (Made report out seen) after content next p = (turn_vouched id env report out seen after content p.0 p.1, p.0.root ∙ at)
-  vouched_next (Reclaim slot) (Made report out seen) after content next p = absurd p
+  vouched_next (Reclaim s) (Made report out seen) after content next p = (
+    (λ o narrow r found slot t.
+        let was : call_of w o ≡ Some r = sym (p.0.calls o) ∙ found in
+        let before : Trusts (table_of w) r slot = trusted after o r slot _ narrow was (λ pin pinned. p.0.leaves o pin pinned) t in
+        longer (record { event = Reclaim s; line = Made report out seen; after = state_of after; content = content }) o slot (in_use after o r slot next narrow found t) (λ v. v)
+        (vouched o narrow r was slot before)),
+    p.0.root ∙ at,
+  )
 
 abbrev is_make : Kind → Bool
 is_make kind.Make = true
@@ -354,7 +386,7 @@ may_touch root id past kind.Finish (Some s) known = known (not_make kind.Finish 
 may_touch root id past kind.Reclaim None known = tt
 may_touch root id past kind.Reclaim (Some s) known = known (not_make kind.Reclaim refl) s refl
 
-touches_next : (root : ℕ) (w after : World ℕ) (past : List Entry) (event : Event ℕ) (line : Line) (content : Pairs ℕ) → IsSound (Unit {0}) w → w.root ≡ root → IsVouched root w past
+touches_next : (root : ℕ) (w after : World ℕ) (past : List Entry) (event : Event ℕ) (line : Line) (content : Pairs ℕ) → IsSound (Unit {0}) same_number w → w.root ≡ root → IsVouched root w past
     → Plays w event line after → Touches root past event line
 touches_next root w after past (Start id op) Skipped content sound at vouched p = tt
 touches_next root w after past (Step id env) Skipped content sound at vouched p = tt
@@ -364,18 +396,18 @@ touches_next root w after past (Reclaim slot) (Made report out seen) content sou
 touches_next root w after past (Step id env) (Made report out seen) content sound at vouched p =
     may_touch root id past report.kind report.slot (turn_touches root w past sound at vouched id env report out seen after content p.0 p.1)
 
-all_touch_on : (root : ℕ) (w : World ℕ) (m : Pairs ℕ) (past : List Entry) (xs : List Move) (last : World ℕ) (n : Pairs ℕ) → IsSound (Unit {0}) w → w.root ≡ root → IsVouched root w past
+all_touch_on : (root : ℕ) (w : World ℕ) (m : Pairs ℕ) (past : List Entry) (xs : List Move) (last : World ℕ) (n : Pairs ℕ) → IsSound (Unit {0}) same_number w → w.root ≡ root → IsVouched root w past
     → AreMoves w m xs last n → AllTouchKnown root past (entries_of xs)
 all_touch_on root w m past [] last n sound at vouched are = tt
 all_touch_on root w m past (x ∷ xs) last n sound at vouched are =
-    let next : IsSound (Unit {0}) x.inside = sound_next w x.inside x.event x.line sound are.0.plays in
+    let next : IsSound (Unit {0}) same_number x.inside = sound_next w x.inside x.event x.line sound are.0.plays in
     let more = vouched_next root w past sound at vouched x.event x.line x.inside x.content next are.0.plays in (
       touches_next root w x.inside past x.event x.line x.content sound at vouched are.0.plays,
       all_touch_on root x.inside x.content (entry_of x ∷ past) xs last n next more.1 more.0 are.1,
     )
 
 -- In a machine without calls, all that its calls will touch is known to them.
-pub all_touch : (root : ℕ) (first : World ℕ) (m : Pairs ℕ) (xs : List Move) (last : World ℕ) (n : Pairs ℕ) → IsSound (Unit {0}) first → first.root ≡ root
+pub all_touch : (root : ℕ) (first : World ℕ) (m : Pairs ℕ) (xs : List Move) (last : World ℕ) (n : Pairs ℕ) → IsSound (Unit {0}) same_number first → first.root ≡ root
     → ((id : ℕ) → id < 2 ^ 64 → call_of first id ≡ None) → AreMoves first m xs last n → AllTouchKnown root [] (entries_of xs)
 all_touch root first m xs last n sound at none are =
     all_touch_on root first m [] xs last n sound at (λ id small r found. absurd (none_some r (sym (none id small) ∙ found))) are

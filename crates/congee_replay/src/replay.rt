@@ -3,19 +3,21 @@
 ghost use Rattle.std.specs.Prelude.{◌≡◌, ◌++◌, ℕ, IfOk, OnOk};
 ghost use Rattle.congee_protocol.specs.Calls.{asked_of};
 ghost use Rattle.congee_protocol.specs.Replay.{IsReplayed};
-ghost use Rattle.congee_protocol.specs.Runs.{decided_by};
+ghost use Rattle.congee_protocol.specs.Runs.{decided_by, same_number};
 ghost use Rattle.congee_protocol.specs.State.{Flight};
 ghost use Rattle.congee_protocol.specs.declared.types.Event.TheVariants as event;
 ghost use Rattle.congee_store.specs.inner.Facts.{IsSound};
 ghost use Rattle.congee_machine.specs.inner.Inside.{inside};
 ghost use Rattle.congee_replay.specs.inner.Played.{IsHappening, noted};
 
-use crate::copies::{asked_of, copy_env, copy_op, copy_reply, copy_some_op, last_read};
+use crate::copies::{
+    asked_of, copy_env, copy_op, copy_reply, copy_returned, copy_some_op, last_read,
+};
 use congee_machine::inner::Inner;
 use congee_map::error::OOMError;
 use congee_node_table::allocator::{Allocator, DefaultAllocator};
 use congee_protocol::trace::{Decision, Line, Trace};
-use congee_protocol::types::{Env, Event, Op, Outcome};
+use congee_protocol::types::{Env, Event, Kind, Op, Outcome, Report};
 use std::alloc::{AllocError, Global};
 
 /// What came of one event, and what it decided.
@@ -25,7 +27,7 @@ struct Happened {
     decided: Option<Decision>,
 }
 
-// An event that isn't enabled, or not served yet.
+// An event that isn't enabled, or the start of a call that isn't served yet.
 fn skipped() -> Happened
     ensures { result ≡ record { line = Line.Skipped; decided = None } }
 {
@@ -65,7 +67,7 @@ fn start<A: Allocator>(
     id: u64,
     op: &Op<u64>,
 ) -> Result<Happened, OOMError>
-    requires sound { IsSound (Unit {0}) (inside A.charge machine.old) }
+    requires sound { IsSound (Unit {0}) same_number (inside A.charge machine.old) }
     ensures { IfOk result (λ h. IsHappening (inside A.charge machine.old) (event.Start id op.now)
         h.line h.decided (inside A.charge machine.new)) }
 {
@@ -75,7 +77,7 @@ fn start<A: Allocator>(
     if machine.is_in_flight(id) {
         return Ok(skipped());
     }
-    let report = machine.begin(id, copy_op(op))?;
+    let report = machine.begin(id, copy_op(op), copy_returned(op))?;
     Ok(Happened {
         line: Line::Done(report, Outcome::Going, None),
         decided: None,
@@ -84,7 +86,7 @@ fn start<A: Allocator>(
 
 // A Step: skipped where the number is not in flight.
 fn step<A: Allocator>(machine: &mut Inner<u64, A>, id: u64, env: &Env<u64>) -> Happened
-    requires sound { IsSound (Unit {0}) (inside A.charge machine.old) }
+    requires sound { IsSound (Unit {0}) same_number (inside A.charge machine.old) }
     ensures { IsHappening (inside A.charge machine.old) (event.Step id env.now)
         result.line result.decided (inside A.charge machine.new) }
 {
@@ -102,19 +104,40 @@ fn step<A: Allocator>(machine: &mut Inner<u64, A>, id: u64, env: &Env<u64>) -> H
     }
 }
 
+// A Reclaim: skipped where the slot may not be reclaimed.
+fn reclaim<A: Allocator>(machine: &mut Inner<u64, A>, slot: usize) -> Happened
+    requires sound { IsSound (Unit {0}) same_number (inside A.charge machine.old) }
+    ensures { IsHappening (inside A.charge machine.old) (event.Reclaim slot)
+        result.line result.decided (inside A.charge machine.new) }
+{
+    if !machine.reclaim(slot) {
+        return skipped();
+    }
+    let report = Report {
+        kind: Kind::Reclaim,
+        slot: Some(slot),
+        word: 0,
+        ok: true,
+    };
+    Happened {
+        line: Line::Done(report, Outcome::Going, None),
+        decided: None,
+    }
+}
+
 // One event of the schedule.
 fn happen<A: Allocator>(
     machine: &mut Inner<u64, A>,
     event: &Event<u64>,
 ) -> Result<Happened, OOMError>
-    requires sound { IsSound (Unit {0}) (inside A.charge machine.old) }
+    requires sound { IsSound (Unit {0}) same_number (inside A.charge machine.old) }
     ensures { IfOk result (λ h. IsHappening (inside A.charge machine.old) event.now
         h.line h.decided (inside A.charge machine.new)) }
 {
     match event {
         Event::Start(id, op) => start(machine, *id, op),
         Event::Step(id, env) => Ok(step(machine, *id, env)),
-        Event::Reclaim(_) => Ok(skipped()),
+        Event::Reclaim(slot) => Ok(reclaim(machine, *slot)),
     }
 }
 
@@ -130,8 +153,8 @@ fn note(decided: &mut Vec<Decision>, decision: Option<Decision>) -> Result<(), A
 
 /// Runs a schedule on a fresh machine with this budget.
 ///
-/// An event that is not enabled, or not served yet, is `Skipped` and changes nothing. `OOMError` where memory is missing for
-/// the root, for a `Start` or for the trace itself; then there is no trace.
+/// An event that is not enabled, or starts a `Range`, which is not served yet, is `Skipped` and changes nothing. `OOMError`
+/// where memory is missing for the root, for a `Start` or for the trace itself; then there is no trace.
 pub fn replay_with<A: Allocator>(
     alloc: Global,
     budget: A,
@@ -158,8 +181,8 @@ pub fn replay_with<A: Allocator>(
 
 /// Runs a schedule on a fresh machine that no budget limits.
 ///
-/// An event that is not enabled, or not served yet, is `Skipped` and changes nothing. `OOMError` where memory is missing for
-/// the root, for a `Start` or for the trace itself; then there is no trace.
+/// An event that is not enabled, or starts a `Range`, which is not served yet, is `Skipped` and changes nothing. `OOMError`
+/// where memory is missing for the root, for a `Start` or for the trace itself; then there is no trace.
 pub fn replay(alloc: Global, events: &[Event<u64>]) -> Result<Trace, OOMError>
     ensures { IfOk result (λ trace. IsReplayed events.now trace.lines.items trace.decided.items
         trace.content.items) }

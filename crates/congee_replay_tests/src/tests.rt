@@ -1,6 +1,13 @@
+mod closures;
 mod courses;
 mod insertions;
+mod longest;
 mod machine;
 mod many_pairs;
+mod memory;
+mod pairs;
+mod parts;
+mod reclaiming;
 mod refusals;
+mod removals;
 mod schedules;

@@ -1,5 +1,5 @@
 -- What stands in the slots that a call holds or has made.
-use Rattle.std.proofs.Common.{◌≡◌, ◌≢◌, ℕ, ◌+◌, IsTrue, List, [], ◌∷◌, Some, None, inl, inr, refl, subst, ap, arith}
+use Rattle.std.proofs.Common.{Bool, ◌≡◌, ◌≢◌, ℕ, ◌+◌, IsTrue, List, [], ◌∷◌, Some, None, inl, inr, refl, subst, ap, arith}
 use Rattle.std.proofs.lemmas.Bool.{false≢true, eq-eqb, ne_eqb, cases_eq}
 use Rattle.congee_node_table.specs.TableNode.{TableNode}
 use Rattle.congee_protocol.specs.Lists.{is_in}
@@ -13,6 +13,7 @@ use Rattle.congee_store.specs.declared.stage.Task.{Task}
 use Rattle.congee_store.specs.declared.tail.Pair.{Pair}
 use Rattle.congee_store.specs.declared.tail.Tail.{Tail}
 use Rattle.congee_store.specs.declared.tail.Tail.TheVariants.{Upgrade, Write, MakeLeaf, Link, Unlock, UpgradeAbove, UpgradeBelow, MakeLeafBelow, Grow, MakeMiddle, Replace, Insert, Obsolete, UnlockBelow}
+use Rattle.congee_store.specs.declared.tail.Tail.TheVariants as tail
 use Rattle.congee_store.specs.inner.Facts.{Facts, FactsAt, Holding}
 use Rattle.congee_store.specs.inner.Shown.{held_at, made_at, publicity}
 use Rattle.congee_store.specs.inner.TailFacts.{AreHeld, IsHeld, IsMade, IsOut, TailFacts}
@@ -54,6 +55,8 @@ nothing_made (stage.Read path) none = refl
 nothing_made (stage.Check path) none = refl
 nothing_made (stage.TakeBelow path slot) none = refl
 nothing_made (stage.CheckAbove path spot fits) none = refl
+nothing_made (stage.Answer case) none = refl
+nothing_made (stage.Confirm spot) none = refl
 nothing_made stage.Finish none = refl
 nothing_made (stage.Tail (Upgrade path small)) none = refl
 nothing_made (stage.Tail (Write spot)) none = refl
@@ -67,11 +70,9 @@ nothing_made (stage.Tail (Grow pair leaf)) none = absurd (cc)
 nothing_made (stage.Tail (MakeMiddle pair leaf)) none = absurd (cc)
 nothing_made (stage.Tail (Replace pair copy leaf)) none = absurd (cc)
 nothing_made (stage.Tail (Insert pair middle leaf)) none = absurd (cc)
+nothing_made (stage.Tail (tail.Detach pair)) none = refl
 nothing_made (stage.Tail (Obsolete pair)) none = refl
 nothing_made (stage.Tail (UnlockBelow pair)) none = refl
-
-pub made_held : (s : Stage) → made_at s ≢ [] → held_at s ≢ []
-made_held s made none = made (nothing_made s none)
 
 pub holds_nothing : (s : Stage) → held_at s ≡ [] → (slot : ℕ) → Holding s slot → ⊥
 holds_nothing s none slot h =
@@ -129,8 +130,8 @@ module _ {M : Type 0} (t : Table M) where
   made_stands : (slot : ℕ) (a : TableNode M) → IsMade t slot a → StandsPrivate slot
   made_stands slot a h = record { node = h.node; here = h.here; standing = h.standing; word = h.word }
 
-  module _ (Granted : Type 0) (root pin : ℕ) where
-    tail_holds : (task : Task M) (tail : Tail) (slot : ℕ) → TailFacts Granted t root pin task tail → IsTrue (is_in slot (held_in tail)) → StandsLocked slot
+  module _ (Granted : Type 0) (same : M → M → Bool) (root pin : ℕ) where
+    tail_holds : (task : Task M) (tail : Tail) (slot : ℕ) → TailFacts Granted same t root pin task tail → IsTrue (is_in slot (held_in tail)) → StandsLocked slot
     tail_holds task (Upgrade path small) slot f h = none_of slot h
     tail_holds task (Write spot) slot f h = one_of StandsLocked spot.slot slot (held_stands spot f.held) h
     tail_holds task (MakeLeaf spot) slot f h = one_of StandsLocked spot.slot slot (held_stands spot f.held) h
@@ -143,10 +144,11 @@ module _ {M : Type 0} (t : Table M) where
     tail_holds task (MakeMiddle pair leaf) slot f h = both_stand pair _ slot f.0.held h
     tail_holds task (Replace pair copy leaf) slot f h = both_stand pair _ slot f.0.held h
     tail_holds task (Insert pair middle leaf) slot f h = both_stand pair _ slot f.0.held h
+    tail_holds task (tail.Detach pair) slot f h = both_stand pair _ slot f.held h
     tail_holds task (Obsolete pair) slot f h = two_of StandsLocked pair.here.slot pair.above.slot slot (out_stands pair.here f.2) (held_stands pair.above f.1) h
     tail_holds task (UnlockBelow pair) slot f h = two_of StandsLocked pair.here.slot pair.above.slot slot (held_stands pair.here f.2) (held_stands pair.above f.1) h
 
-    tail_made : (task : Task M) (tail : Tail) (slot : ℕ) → TailFacts Granted t root pin task tail → IsTrue (is_in slot (made_in tail)) → StandsPrivate slot
+    tail_made : (task : Task M) (tail : Tail) (slot : ℕ) → TailFacts Granted same t root pin task tail → IsTrue (is_in slot (made_in tail)) → StandsPrivate slot
     tail_made task (Upgrade path small) slot f h = none_of slot h
     tail_made task (Write spot) slot f h = none_of slot h
     tail_made task (MakeLeaf spot) slot f h = none_of slot h
@@ -161,30 +163,35 @@ module _ {M : Type 0} (t : Table M) where
     tail_made task (Replace pair copy None) slot f h = one_of StandsPrivate copy slot (made_stands copy _ f.1.made) h
     tail_made task (Replace pair copy (Some leaf)) slot f h = two_of StandsPrivate copy leaf slot (made_stands copy _ f.1.made) (made_stands leaf _ f.1.own.0.made) h
     tail_made task (Insert pair middle leaf) slot f h = two_of StandsPrivate middle leaf slot (made_stands middle _ f.2.made) (made_stands leaf _ f.1.made) h
+    tail_made task (tail.Detach pair) slot f h = none_of slot h
     tail_made task (Obsolete pair) slot f h = none_of slot h
     tail_made task (UnlockBelow pair) slot f h = none_of slot h
 
     -- what stands in a slot that a call holds, and in one that it has made
-    pub holds_at : (r : Record M) (slot : ℕ) → Facts Granted t root pin r → IsTrue (is_in slot (held_at r.stage)) → StandsLocked slot
+    pub holds_at : (r : Record M) (slot : ℕ) → Facts Granted same t root pin r → IsTrue (is_in slot (held_at r.stage)) → StandsLocked slot
     holds_at r slot f h = at r.task r.stage f.at h
       where
-        at : (task : Task M) (s : Stage) → FactsAt Granted t root pin task s → IsTrue (is_in slot (held_at s)) → StandsLocked slot
+        at : (task : Task M) (s : Stage) → FactsAt Granted same t root pin task s → IsTrue (is_in slot (held_at s)) → StandsLocked slot
         at task stage.TakeRoot x y = none_of slot y
         at task (stage.Read path) x y = none_of slot y
         at task (stage.Check path) x y = none_of slot y
         at task (stage.TakeBelow path below) x y = none_of slot y
         at task (stage.CheckAbove path spot fits) x y = none_of slot y
         at task (stage.Tail tail) x y = tail_holds task tail slot x y
+        at task (stage.Answer case) x y = none_of slot y
+        at task (stage.Confirm spot) x y = none_of slot y
         at task stage.Finish x y = none_of slot y
 
-    pub made_at_slot : (r : Record M) (slot : ℕ) → Facts Granted t root pin r → IsTrue (is_in slot (made_at r.stage)) → StandsPrivate slot
+    pub made_at_slot : (r : Record M) (slot : ℕ) → Facts Granted same t root pin r → IsTrue (is_in slot (made_at r.stage)) → StandsPrivate slot
     made_at_slot r slot f h = at r.task r.stage f.at h
       where
-        at : (task : Task M) (s : Stage) → FactsAt Granted t root pin task s → IsTrue (is_in slot (made_at s)) → StandsPrivate slot
+        at : (task : Task M) (s : Stage) → FactsAt Granted same t root pin task s → IsTrue (is_in slot (made_at s)) → StandsPrivate slot
         at task stage.TakeRoot x y = none_of slot y
         at task (stage.Read path) x y = none_of slot y
         at task (stage.Check path) x y = none_of slot y
         at task (stage.TakeBelow path below) x y = none_of slot y
         at task (stage.CheckAbove path spot fits) x y = none_of slot y
         at task (stage.Tail tail) x y = tail_made task tail slot x y
+        at task (stage.Answer case) x y = none_of slot y
+        at task (stage.Confirm spot) x y = none_of slot y
         at task stage.Finish x y = none_of slot y

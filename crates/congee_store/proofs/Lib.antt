@@ -16,3 +16,4 @@ pub mod Unlike
 pub mod Ways
 pub mod WalkLaws
 pub mod Walked
+pub mod Replies

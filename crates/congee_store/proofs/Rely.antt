@@ -5,7 +5,7 @@ use Rattle.congee_map.specs.Map.{lookup}
 use Rattle.congee_node_table.specs.Key.{Begins, next_byte}
 use Rattle.congee_node_table.specs.TableNode.{TableNode}
 use Rattle.congee_node_table.specs.declared.child.Child.{Child}
-use Rattle.congee_node_table.specs.declared.child.Child.TheVariants.{Node as below_at}
+use Rattle.congee_node_table.specs.declared.child.Child.TheVariants.{Payload, Node as below_at}
 use Rattle.congee_sync.specs.Lock.{IsFree}
 use Rattle.congee_protocol.specs.Calls.{key_of}
 use Rattle.congee_protocol.specs.Lists.{is_in}
@@ -13,7 +13,7 @@ use Rattle.congee_protocol.specs.Local.{payload_in}
 use Rattle.congee_protocol.specs.Reading.{IsReading, child_for}
 use Rattle.congee_protocol.specs.declared.types.Seen.{Seen}
 use Rattle.congee_store.specs.inner.Tables.{IsSafe, Known, IsThere, OnWay, While, LedTo, CameFrom, OnPath, TestOf, Guarantees, PrivateStays, Remains}
-use Rattle.congee_store.specs.inner.TailFacts.{AreHeld, AtNode, AtPair, Below, HasCopy, HasLeaf, HasMiddle, HasOwn, HasOwnLeaf, IsAbove, IsHeld, IsLarge, IsMade, IsOut, IsSmall, LargeWork, SmallWork, TailFacts, Writes, grown_by, is_for, leaf_of, middle_of}
+use Rattle.congee_store.specs.inner.TailFacts.{CaseFacts, IsConfirmed, IsPresent, LargeCase, MayStore, SmallCase, found, path_to, stands_at, AreHeld, AtNode, AtPair, Below, HasCopy, HasLeaf, HasMiddle, HasOwn, HasOwnLeaf, IsAbove, IsHeld, IsLarge, IsMade, IsOut, IsSmall, LargeWork, SmallWork, TailFacts, Writes, grown_by, is_for, leaf_of, middle_of}
 use Rattle.congee_store.specs.inner.Tails.{both_slots, held_in, made_in, one_more}
 use Rattle.congee_store.specs.inner.Tasks.{Sees, Agrees, Saw, key_bytes}
 use Rattle.congee_store.specs.inner.Facts.{FactsAt, Facts, Holding}
@@ -26,13 +26,16 @@ use Rattle.congee_store.specs.declared.stage.Stage.{Stage}
 use Rattle.congee_store.specs.declared.stage.Stage.TheVariants.{TakeRoot, Read, Check, TakeBelow, CheckAbove, Finish}
 use Rattle.congee_store.specs.declared.stage.Stage.TheVariants as stage
 use Rattle.congee_store.specs.declared.stage.Task.{Task}
+use Rattle.congee_store.specs.declared.tail.Case.{Case}
+use Rattle.congee_store.specs.declared.tail.Case.TheVariants as case
 use Rattle.congee_store.specs.declared.tail.Large.{Large}
-use Rattle.congee_store.specs.declared.tail.Large.TheVariants.{GrowLeaf, GrowInner, Split}
+use Rattle.congee_store.specs.declared.tail.Large.TheVariants.{GrowLeaf, GrowInner, Split, Detach}
 use Rattle.congee_store.specs.declared.tail.Pair.{Pair}
 use Rattle.congee_store.specs.declared.tail.Small.{Small}
 use Rattle.congee_store.specs.declared.tail.Small.TheVariants.{Entry, Leaf}
 use Rattle.congee_store.specs.declared.tail.Tail.{Tail}
 use Rattle.congee_store.specs.declared.tail.Tail.TheVariants.{Upgrade, Write, MakeLeaf, Link, Unlock, UpgradeAbove, UpgradeBelow, MakeLeafBelow, Grow, MakeMiddle, Replace, Insert, Obsolete, UnlockBelow}
+use Rattle.congee_store.specs.declared.tail.Tail.TheVariants as tail
 use Rattle.congee_store.proofs.Holding.{first_in, next_in, not_free_now}
 use Rattle.congee_store.proofs.Options.{some_same}
 
@@ -170,61 +173,112 @@ module _ {M : Type 0} (t t' : Table M) (Mine : ℕ → Type 0) (pin : ℕ) (g : 
       made = made_lasts middle (middle_of h.prefix a slot (key_bytes task) leaf) off h.made;
     }
 
-  module _ (Granted : Type 0) where
+  module _ (Granted : Type 0) (same : M → M → Bool) where
     -- what agrees with a node, by the node alone
-    agreed : (task : Task M) (stage : Stage) (s : Seen M) (a b : Node M) → b.node ≡ a.node → Agrees Granted task stage pin a s → Agrees Granted task stage pin b s
-    agreed task stage s a b same h = record {
-      reading = subst (λ (n : TableNode M). IsReading (Sees Granted task) (flight pin (record { stage = stage; task = task })) n s) (sym same) h.reading;
+    agreed : (task : Task M) (stage : Stage) (s : Seen M) (a b : Node M) → b.node ≡ a.node → Agrees Granted same task stage pin a s → Agrees Granted same task stage pin b s
+    agreed task stage s a b e h = record {
+      reading = subst (λ (n : TableNode M). IsReading (Sees Granted same task) (flight pin (record { stage = stage; task = task })) n s) (sym e) h.reading;
       spare = h.spare;
-      below = λ slot is. subst (λ (n : TableNode M). child_for task.outline (key_of task.outline) n ≡ Some (below_at slot)) (sym same) (h.below slot is);
+      question = h.question;
+      below = λ slot is. subst (λ (n : TableNode M). child_for task.outline (key_of task.outline) n ≡ Some (below_at slot)) (sym e) (h.below slot is);
     }
 
-    saw_lasts : (path : Path) (task : Task M) → Known t pin path.here → Saw Granted t pin path task → Saw Granted t' pin path task
+    -- what is told by the node alone outlives them, as long as the word is the remembered one
+    node_lasts : (spot : Spot) (Q : Node M → Type 0) → ((a b : Node M) → b.node ≡ a.node → Q a → Q b) → Known t pin spot → While t spot Q → While t' spot Q
+    node_lasts spot Q by kn f b bt w =
+        let found : (a : Node M) × (a.node ≡ b.node) × Q a = while_lasts spot (λ n. (a : Node M) × (a.node ≡ n) × Q a) kn (λ a at e. (a, refl, f a at e)) b bt w in
+        by found.0 b (sym found.1) found.2
+
+    saw_lasts : (path : Path) (task : Task M) → Known t pin path.here → Saw Granted same t pin path task → Saw Granted same t' pin path task
     saw_lasts path task kn f = record {
       seen = f.seen;
       is = f.is;
-      agrees = λ b bt w.
-          let found : (a : Node M) × (a.node ≡ b.node) × Agrees Granted task (Check path) pin a f.seen =
-          while_lasts path.here (λ n. (a : Node M) × (a.node ≡ n) × Agrees Granted task (Check path) pin a f.seen) kn (λ a at e. (a, refl, f.agrees a at e)) b bt w in
-          agreed task (Check path) f.seen found.0 b (sym found.1) found.2;
+      agrees = node_lasts path.here (λ a. Agrees Granted same task (Check path) pin a f.seen) (λ a b e h. agreed task (Check path) f.seen a b e h) kn f.agrees;
     }
 
     -- what is to be done at a node, by the node alone
     same_small : (small : Small) (a b : Node M) (k : List ℕ) → b.node ≡ a.node → IsSmall small a k → IsSmall small b k
-    same_small Entry a b k same h =
-        subst (λ (n : TableNode M). (length n.prefix ≡ 7) × (lookup n.children (next_byte n.prefix k) ≡ None → Fits n.form (length n.children + 1))) (sym same) h
-    same_small Leaf a b k same h =
-        subst (λ (n : TableNode M). (length n.prefix < 7) × (lookup n.children (next_byte n.prefix k) ≡ None) × Fits n.form (length n.children + 1)) (sym same) h
+    same_small Entry a b k e h =
+        subst (λ (n : TableNode M). (length n.prefix ≡ 7) × (lookup n.children (next_byte n.prefix k) ≡ None → Fits n.form (length n.children + 1))) (sym e) h
+    same_small Leaf a b k e h =
+        subst (λ (n : TableNode M). (length n.prefix < 7) × (lookup n.children (next_byte n.prefix k) ≡ None) × Fits n.form (length n.children + 1)) (sym e) h
 
     same_large : (large : Large) (a b : Node M) (k : List ℕ) → b.node ≡ a.node → IsLarge large a k → IsLarge large b k
-    same_large GrowLeaf a b k same h =
-        subst (λ (n : TableNode M). Begins n.prefix k × (length n.prefix ≡ 7) × (lookup n.children (next_byte n.prefix k) ≡ None) × (Fits n.form (length n.children + 1) → ⊥)) (sym same) h
-    same_large GrowInner a b k same h =
-        subst (λ (n : TableNode M). Begins n.prefix k × (length n.prefix < 7) × (lookup n.children (next_byte n.prefix k) ≡ None) × (Fits n.form (length n.children + 1) → ⊥)) (sym same) h
-    same_large Split a b k same h = subst (λ (n : TableNode M). Begins n.prefix k → ⊥) (sym same) h
+    same_large GrowLeaf a b k e h =
+        subst (λ (n : TableNode M). Begins n.prefix k × (length n.prefix ≡ 7) × (lookup n.children (next_byte n.prefix k) ≡ None) × (Fits n.form (length n.children + 1) → ⊥)) (sym e) h
+    same_large GrowInner a b k e h =
+        subst (λ (n : TableNode M). Begins n.prefix k × (length n.prefix < 7) × (lookup n.children (next_byte n.prefix k) ≡ None) × (Fits n.form (length n.children + 1) → ⊥)) (sym e) h
+    same_large Split a b k e h = subst (λ (n : TableNode M). Begins n.prefix k → ⊥) (sym e) h
+    same_large Detach a b k e h =
+        subst (λ (n : TableNode M). Begins n.prefix k × (length n.prefix ≡ 7) × ((v : M) × (lookup n.children (next_byte n.prefix k) ≡ Some (Payload v))) × (length n.children ≡ 1)) (sym e) h
 
-    small_same : (small : Small) (task : Task M) (a b : Node M) → b.node ≡ a.node → SmallWork Granted small task a → SmallWork Granted small task b
-    small_same small task a b same h = record {
-      writes = subst (λ (n : TableNode M). Writes Granted task (payload_in (lookup n.children (next_byte n.prefix (key_bytes task))))) (sym same) h.writes;
-      is = same_small small a b (key_bytes task) same h.is;
+    same_stands : (large : Large) (a b : Node M) (k : List ℕ) → b.node ≡ a.node → stands_at large a k ≡ stands_at large b k
+    same_stands GrowLeaf a b k e = refl
+    same_stands GrowInner a b k e = refl
+    same_stands Split a b k e = refl
+    same_stands Detach a b k e = ap (λ (n : TableNode M). payload_in (lookup n.children (next_byte n.prefix k))) (sym e)
+
+    same_found : (a b : Node M) (k : List ℕ) → b.node ≡ a.node → found a k ≡ found b k
+    same_found a b k e = ap (λ (n : TableNode M). lookup n.children (next_byte n.prefix k)) (sym e)
+
+    small_same : (small : Small) (task : Task M) (a b : Node M) → b.node ≡ a.node → SmallWork Granted same small task a → SmallWork Granted same small task b
+    small_same small task a b e h = record {
+      writes = subst (λ (c : Option (Child M)). Writes Granted same task (payload_in c)) (same_found a b (key_bytes task) e) h.writes;
+      is = same_small small a b (key_bytes task) e h.is;
     }
 
-    large_same : (large : Large) (task : Task M) (a b : Node M) → b.node ≡ a.node → LargeWork Granted large task a → LargeWork Granted large task b
-    large_same large task a b same h = record { writes = h.writes; is = same_large large a b (key_bytes task) same h.is }
+    large_same : (large : Large) (task : Task M) (a b : Node M) → b.node ≡ a.node → LargeWork Granted same large task a → LargeWork Granted same large task b
+    large_same large task a b e h =
+        let kept : (w : Writes Granted same task (stands_at large b (key_bytes task))) × MayStore large w.value =
+        subst (λ (v : Option M). (w : Writes Granted same task v) × MayStore large w.value) (same_stands large a b (key_bytes task) e) (h.writes, h.may) in
+        record { writes = kept.0; is = same_large large a b (key_bytes task) e h.is; may = kept.1 }
 
-    small_lasts : (spot : Spot) (small : Small) (task : Task M) → Known t pin spot → While t spot (SmallWork Granted small task) → While t' spot (SmallWork Granted small task)
-    small_lasts spot small task kn f b bt w =
-        let found : (a : Node M) × (a.node ≡ b.node) × SmallWork Granted small task a =
-        while_lasts spot (λ n. (a : Node M) × (a.node ≡ n) × SmallWork Granted small task a) kn (λ a at e. (a, refl, f a at e)) b bt w in
-        small_same small task found.0 b (sym found.1) found.2
+    small_lasts : (spot : Spot) (small : Small) (task : Task M) → Known t pin spot → While t spot (SmallWork Granted same small task) → While t' spot (SmallWork Granted same small task)
+    small_lasts spot small task = node_lasts spot (SmallWork Granted same small task) (small_same small task)
 
-    large_lasts : (spot : Spot) (large : Large) (task : Task M) → Known t pin spot → While t spot (LargeWork Granted large task) → While t' spot (LargeWork Granted large task)
-    large_lasts spot large task kn f b bt w =
-        let found : (a : Node M) × (a.node ≡ b.node) × LargeWork Granted large task a =
-        while_lasts spot (λ n. (a : Node M) × (a.node ≡ n) × LargeWork Granted large task a) kn (λ a at e. (a, refl, f a at e)) b bt w in
-        large_same large task found.0 b (sym found.1) found.2
+    large_lasts : (spot : Spot) (large : Large) (task : Task M) → Known t pin spot → While t spot (LargeWork Granted same large task) → While t' spot (LargeWork Granted same large task)
+    large_lasts spot large task = node_lasts spot (LargeWork Granted same large task) (large_same large task)
 
-    below_lasts : (task : Task M) (pair : Pair) (large : Large) → IsThere t pin pair.above.slot → Below Granted t pin task pair large → Below Granted t' pin task pair large
+    -- what a closure is asked for, and what its answer confirms
+    present_same : (only : Bool) (task : Task M) (a b : Node M) → b.node ≡ a.node → IsPresent Granted same only task a → IsPresent Granted same only task b
+    present_same only task a b e h = record {
+      full = subst (λ (n : TableNode M). length n.prefix ≡ 7) (sym e) h.full;
+      value = h.value;
+      stands = sym (same_found a b (key_bytes task) e) ∙ h.stands;
+      seen = h.seen;
+      alone = λ o. subst (λ (n : TableNode M). length n.children ≡ 1) (sym e) (h.alone o);
+    }
+
+    confirmed_same : (task : Task M) (a b : Node M) → b.node ≡ a.node → IsConfirmed Granted same task a → IsConfirmed Granted same task b
+    confirmed_same task a b e h = record {
+      closure = h.closure;
+      value = h.value;
+      stands = sym (same_found a b (key_bytes task) e) ∙ h.stands;
+      writes = h.writes;
+      stays = h.stays;
+    }
+
+    case_lasts : (root : ℕ) (task : Task M) (c : Case) → CaseFacts Granted same t root pin task c → CaseFacts Granted same t' root pin task c
+    case_lasts root task (case.Present pair only) f = (
+      f.0,
+      path_lasts root (key_bytes task) (path_to pair) f.1,
+      node_lasts pair.here (IsPresent Granted same only task) (present_same only task) f.1.here f.2,
+    )
+    case_lasts root task (case.Small path small) f = (
+      f.0,
+      path_lasts root (key_bytes task) path f.1,
+      node_lasts path.here (SmallCase Granted same small task) (λ a b e h. (sym (same_found a b (key_bytes task) e) ∙ h.0, same_small small a b (key_bytes task) e h.1)) f.1.here f.2,
+    )
+    case_lasts root task (case.Large pair large) f = (
+      f.0,
+      above_lasts pair (key_bytes task) (known_there pair.above f.4) f.1,
+      known_lasts pair.here f.2,
+      node_lasts pair.here (LargeCase Granted same large task) (λ a b e h. (sym (same_stands large a b (key_bytes task) e) ∙ h.0, same_large large a b (key_bytes task) e h.1)) f.2 f.3,
+      known_lasts pair.above f.4,
+      led_lasts pair.above (key_bytes task) pair.here.slot f.4 f.5,
+    )
+
+    below_lasts : (task : Task M) (pair : Pair) (large : Large) → IsThere t pin pair.above.slot → Below Granted same t pin task pair large → Below Granted same t' pin task pair large
     below_lasts task pair large there f = record {
       opened = f.opened;
       over = above_lasts pair (key_bytes task) there f.over;
@@ -232,7 +286,7 @@ module _ {M : Type 0} (t t' : Table M) (Mine : ℕ → Type 0) (pin : ℕ) (g : 
       work = large_lasts pair.here large task f.here f.work;
     }
 
-    at_node_lasts : (task : Task M) (spot : Spot) (small : Small) → (Mine spot.slot → ⊥) → AtNode Granted t task spot small → AtNode Granted t' task spot small
+    at_node_lasts : (task : Task M) (spot : Spot) (small : Small) → (Mine spot.slot → ⊥) → AtNode Granted same t task spot small → AtNode Granted same t' task spot small
     at_node_lasts task spot small off f = record {
       way = way_stays spot.slot (key_bytes task) (held_there spot f.held) f.way;
       held = held_lasts spot f.held off;
@@ -240,7 +294,7 @@ module _ {M : Type 0} (t t' : Table M) (Mine : ℕ → Type 0) (pin : ℕ) (g : 
     }
 
     abbrev at_pair_lasts : (task : Task M) (pair : Pair) (large : Large) → ((s : ℕ) → IsTrue (is_in s (both_slots pair)) → Mine s → ⊥)
-        → AtPair Granted t task pair large → AtPair Granted t' task pair large
+        → AtPair Granted same t task pair large → AtPair Granted same t' task pair large
     at_pair_lasts task pair large off f = record {
       held = both_last pair (key_bytes task) f.held
           (off pair.here.slot (first_in pair.here.slot (pair.above.slot ∷ [])))
@@ -250,7 +304,7 @@ module _ {M : Type 0} (t t' : Table M) (Mine : ℕ → Type 0) (pin : ℕ) (g : 
 
     module _ (privates : PrivateStays t t' Mine) where
       tail_lasts : (root : ℕ) (task : Task M) (tail : Tail) → ((s : ℕ) → IsTrue (is_in s (held_in tail)) → Mine s → ⊥) → ((s : ℕ) → IsTrue (is_in s (made_in tail)) → Mine s → ⊥)
-          → TailFacts Granted t root pin task tail → TailFacts Granted t' root pin task tail
+          → TailFacts Granted same t root pin task tail → TailFacts Granted same t' root pin task tail
       tail_lasts root task (Upgrade path small) held made f =
           (f.0, path_lasts root (key_bytes task) path f.1, small_lasts path.here small task f.1.here f.2)
       tail_lasts root task (Write spot) held made f = at_node_lasts task spot Entry (held spot.slot (first_in spot.slot [])) f
@@ -288,6 +342,7 @@ module _ {M : Type 0} (t t' : Table M) (Mine : ℕ → Type 0) (pin : ℕ) (g : 
         leaf_lasts privates task leaf (made leaf (next_in middle leaf (leaf ∷ []) (first_in leaf []))) f.1,
         middle_lasts privates task f.0.held.here.node pair.here.slot middle leaf (made middle (first_in middle (leaf ∷ []))) f.2,
       )
+      tail_lasts root task (tail.Detach pair) held made f = at_pair_lasts task pair Detach held f
       tail_lasts root task (Obsolete pair) held made f = (
         f.0,
         held_lasts pair.above f.1 (held pair.above.slot (next_in pair.here.slot pair.above.slot (pair.above.slot ∷ []) (first_in pair.above.slot []))),
@@ -301,7 +356,7 @@ module _ {M : Type 0} (t t' : Table M) (Mine : ℕ → Type 0) (pin : ℕ) (g : 
         f.3,
       )
 
-      at_lasts : (root : ℕ) (task : Task M) (stage : Stage) → ((s : ℕ) → Holding stage s → Mine s → ⊥) → FactsAt Granted t root pin task stage → FactsAt Granted t' root pin task stage
+      at_lasts : (root : ℕ) (task : Task M) (stage : Stage) → ((s : ℕ) → Holding stage s → Mine s → ⊥) → FactsAt Granted same t root pin task stage → FactsAt Granted same t' root pin task stage
       at_lasts root task TakeRoot off f = f
       at_lasts root task (Read path) off f = (f.0, path_lasts root (key_bytes task) path f.1)
       at_lasts root task (Check path) off f = (f.0, path_lasts root (key_bytes task) path f.1, saw_lasts path task f.1.here f.2)
@@ -323,9 +378,16 @@ module _ {M : Type 0} (t t' : Table M) (Mine : ℕ → Type 0) (pin : ℕ) (g : 
         test_lasts spot (key_bytes task) fits f.4 f.5,
         f.6,
       )
+      at_lasts root task (stage.Answer c) off f = case_lasts root task c f
+      at_lasts root task (stage.Confirm spot) off f = (
+        f.0,
+        known_lasts spot f.1,
+        way_stays spot.slot (key_bytes task) (known_there spot f.1) f.2,
+        node_lasts spot (IsConfirmed Granted same task) (confirmed_same task) f.1 f.3,
+      )
       at_lasts root task (stage.Tail tail) off f = tail_lasts root task tail (λ s h. off s (inl h)) (λ s h. off s (inr h)) f
       at_lasts root task Finish off f = f
 
       -- the facts of a call last through any event that the call may rely on, if nothing that it holds is the other's
-      pub facts_last : (root : ℕ) (r : Record M) → ((s : ℕ) → Holding r.stage s → Mine s → ⊥) → Facts Granted t root pin r → Facts Granted t' root pin r
+      pub facts_last : (root : ℕ) (r : Record M) → ((s : ℕ) → Holding r.stage s → Mine s → ⊥) → Facts Granted same t root pin r → Facts Granted same t' root pin r
       facts_last root r off f = record { small = f.small; at = at_lasts root r.task r.stage off f.at }

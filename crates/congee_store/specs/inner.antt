@@ -3,6 +3,7 @@ pub mod Meant
 pub mod Places
 pub mod Shown
 pub mod Tables
+pub mod Effects
 pub mod Tasks
 pub mod Tails
 pub mod TailFacts

@@ -1,6 +1,6 @@
 //! A call in flight: what it does next, and what it remembers.
 
-use crate::tail::Tail;
+use crate::tail::{Case, Tail};
 use congee_node_table::tree_node::TreeNode;
 use congee_protocol::types::{Asking, Op, Progress, Seen};
 use congee_sync::lock::Word64;
@@ -50,7 +50,11 @@ pub enum Stage {
     TakeBelow(Path, usize),
     /// The node that was taken, and whether its prefix begins the key.
     CheckAbove(Path, Spot, bool),
-    /// Its Check has found that it has to write.
+    /// Its closure is to answer, for this case.
+    Answer(Case),
+    /// The answer is what stands there already, if its node's word is still the remembered one.
+    Confirm(Spot),
+    /// Its Check or its closure's answer says that it has to write.
     Tail(Tail),
     Finish,
 }
@@ -63,8 +67,12 @@ pub struct Task<P> {
     /// The call with its payloads, until it has its reply or is refused.
     pub op: Option<Op<P>>,
     pub last: Option<Seen<P>>,
-    /// One more share of a payload that was seen, for the reply.
+    /// One more share of a payload that was seen: for the reply, or to keep what the closure is asked.
     pub spare: Option<P>,
+    /// A third one, to ask the closure with.
+    pub question: Option<P>,
+    /// One more share of what is stored, for a reply that tells it.
+    pub returns: Option<P>,
     pub asking: Asking<P>,
     pub progress: Progress,
 }

@@ -3,14 +3,14 @@
 ghost use Rattle.std.specs.Prelude.{◌≡◌, ◌≢◌, ◌+◌, ℕ, None, Some, IsSome, IfOk, OnErr, length};
 ghost use Rattle.slab.specs.Slab.{get};
 ghost use Rattle.congee_base.specs.Form.{Fits, stated_size};
-ghost use Rattle.congee_map.specs.Map.{lookup, put};
+ghost use Rattle.congee_map.specs.Map.{lookup, put, without};
 ghost use Rattle.congee_node_table.specs.TableNode.{MayHave};
 ghost use Rattle.congee_protocol.specs.Meaning.{child_of, in_some};
 ghost use Rattle.congee_store.specs.inner.Facts.{sizes_of, AllAdmitted};
 ghost use Rattle.congee_store.specs.inner.Meant.{meant_node, meant_table};
 ghost use Rattle.congee_store.specs.inner.Slots.{SetsNode, made_node};
 ghost use Rattle.congee_store.specs.inner.World.{Node, entry, is_detached, is_linked, is_private, is_retired};
-ghost use Rattle.congee_sync.specs.Epoch.{count_after, stamp_at};
+ghost use Rattle.congee_sync.specs.Epoch.{MayReclaim, count_after, stamp_at};
 ghost use Rattle.congee_sync.specs.Lock.{IsLocked, IsObsolete};
 
 use crate::stage::{Place, Stored};
@@ -103,6 +103,25 @@ impl<P: HasMeaning> Store<P> {
         None
     }
 
+    /// Takes the child under a byte of a node.
+    pub fn take_child(&mut self, slot: usize, byte: u8) -> Child<P>
+        requires at { (a : Node P.Meaning) × (meant_table P.meaning self.old slot ≡ Some a)
+            × IsSome (entry a byte) }
+        ensures sets { (a : Node P.Meaning) → meant_table P.meaning self.old slot ≡ Some a
+            → SetsNode P.meaning self.old self.new slot (Some (record a {
+              node = record a.node { children = without a.node.children byte };
+            })) }
+        ensures before { (a : Node P.Meaning) → meant_table P.meaning self.old slot ≡ Some a
+            → entry a byte ≡ Some (child_of P.meaning result) }
+        ensures sizes { sizes_of self.new.nodes.slots ≡ sizes_of self.old.nodes.slots }
+        ensures lives { self.new.pins ≡ self.old.pins }
+    {
+        let Some(node) = self.nodes.get_mut(slot) else {
+            unreachable!()
+        };
+        node.node.remove(byte)
+    }
+
     /// Puts a new node into a free slot, where only its call knows of it. A refusal for want of memory changes nothing.
     pub fn add(&mut self, node: TreeNode<P>) -> Result<usize, OOMError>
         requires admitted { AllAdmitted (meant_table P.meaning self.old) self.old.pins.slots }
@@ -132,6 +151,23 @@ impl<P: HasMeaning> Store<P> {
     pub fn take_back(&mut self, slot: usize) -> TreeNode<P>
         requires private { (a : Node P.Meaning) × (meant_table P.meaning self.old slot ≡ Some a)
             × (a.standing ≡ is_private) }
+        requires admitted { AllAdmitted (meant_table P.meaning self.old) self.old.pins.slots }
+        ensures sets { SetsNode P.meaning self.old self.new slot None }
+        ensures node { (a : Node P.Meaning) → meant_table P.meaning self.old slot ≡ Some a
+            → meant_node P.meaning result ≡ a.node }
+        ensures sizes { sizes_of self.old.nodes.slots
+            ≡ sizes_of self.new.nodes.slots + stated_size result.form }
+        ensures admitted { AllAdmitted (meant_table P.meaning self.new) self.new.pins.slots }
+    {
+        let stored = self.nodes.remove(slot);
+        self.pins.forget(slot);
+        stored.node
+    }
+
+    /// Takes a retired node out of its slot, which is free then. No call in flight may still step on it.
+    pub fn free(&mut self, slot: usize) -> TreeNode<P>
+        requires there { (a : Node P.Meaning) × (meant_table P.meaning self.old slot ≡ Some a) }
+        requires may { MayReclaim self.old.pins slot }
         requires admitted { AllAdmitted (meant_table P.meaning self.old) self.old.pins.slots }
         ensures sets { SetsNode P.meaning self.old self.new slot None }
         ensures node { (a : Node P.Meaning) → meant_table P.meaning self.old slot ≡ Some a

@@ -1,7 +1,7 @@
 -- Pins of calls in flight, and when the slot of a retired node may be given back.
-use Rattle.std.specs.Prelude.{◌≡◌, ◌≢◌, ℕ, ◌+◌, ◌-◌, ◌<◌, ◌^◌, Bool, false, List, All, Option, Some, None, if◌then◌else◌, nat_lt}
+use Rattle.std.specs.Prelude.{◌≡◌, ◌≢◌, ℕ, ◌+◌, ◌-◌, ◌<◌, ◌^◌, Bool, false, List, Option, Some, None, if◌then◌else◌, nat_lt}
 use Rattle.std.specs.BTreeMap.{is_at}
-use Rattle.std.specs.Map.{lookup, values_of}
+use Rattle.std.specs.Map.{lookup}
 use Rattle.std.specs.Ordering.{nat_cmp}
 use Rattle.congee_sync.specs.declared.epoch.Seat.{Seat}
 use Rattle.congee_sync.specs.declared.epoch.Life.{Life}
@@ -76,7 +76,7 @@ StartedAfter stamp (Some pin) = stamp < pin
 
 -- every call in flight started after that retirement
 abbrev pub AllStartedAfter : ℕ → PinsView → Type 0
-AllStartedAfter stamp pins = All (λ seat. StartedAfter stamp seat.pin) (values_of pins.seats)
+AllStartedAfter stamp pins = (id : ℕ) → StartedAfter stamp (pin_of pins id)
 
 -- The slot is that of a retired node whose retirement was counted, and every call in flight started after it.
 pub record MayReclaim (pins : PinsView) (slot : ℕ) : Type 0 where

@@ -4,7 +4,7 @@
 //! where every call in flight has a pin above n. A count that has reached `2^64 - 1` stays; nodes that are retired then
 //! are kept until the tree ends.
 
-ghost use Rattle.std.specs.Prelude.{◌≡◌, ℕ, ◌<◌, ◌⊎◌, ◌↔◌, true, false, IsTrue, Some, None, IsSome, IsOk, OnOk, OnErr, []};
+ghost use Rattle.std.specs.Prelude.{◌≡◌, ℕ, ◌<◌, ◌⊎◌, ◌↔◌, true, false, IsTrue, Some, None, IsSome, IfSome, IfNone, IsOk, OnOk, OnErr, []};
 ghost use Rattle.congee_sync.specs.Epoch.{is_seated, pin_of, life_of, ChangesSeat, ChangesLife, admitted, stamp_at, count_after, StartedAfter, AllStartedAfter, MayReclaim};
 
 use congee_map::error::OOMError;
@@ -227,6 +227,17 @@ impl Pins {
             Some(Life::Retired(Some(stamp))) => self.all_started_after(*stamp),
             _ => false,
         }
+    }
+
+    /// A slot that may be reclaimed, if there is one: the lowest. Looks at the slots in turn.
+    pub fn reclaimable(&self) -> Option<usize>
+        ensures some { IfSome result (λ slot. MayReclaim self.now slot) }
+        ensures none { IfNone result ((slot : ℕ) → MayReclaim self.now slot → ⊥) }
+    {
+        self.slots
+            .keys()
+            .copied()
+            .find(|slot| self.may_reclaim(*slot))
     }
 
     // Whether every call in flight started after the retirement with this stamp.

@@ -1,50 +1,55 @@
--- A WRITE THAT DECIDES its call, an Insert: its reply, what becomes of the content, and what a reader sees of the nodes.
-use Rattle.std.proofs.Common.{◌≡◌, ◌≢◌, ℕ, ◌+◌, ◌^◌, ◌<◌, Bool, true, false, IsTrue, List, [], ◌∷◌, length, map, ◌||◌, Option, Some, None, IsSome, ◌⊎◌, inl, inr, refl, sym, subst, ap, ◌∙◌, arith}
+-- A WRITE THAT DECIDES its call: its reply, what becomes of the content, and what a reader sees of the nodes.
+use Rattle.std.proofs.Common.{◌≡◌, ◌≢◌, ℕ, ◌+◌, ◌^◌, ◌<◌, Bool, true, false, IsTrue, is_some, List, [], ◌∷◌, length, map, ◌||◌, Option, Some, None, IsSome, ◌⊎◌, inl, inr, refl, sym, subst, ap, ◌∙◌, arith}
 use Rattle.std.proofs.lemmas.Bool.{eq-eqb}
 use Rattle.std.proofs.lemmas.Bool.Decides.{eqb_tells}
 use Rattle.congee_base.specs.Form.{Fits}
-use Rattle.congee_map.specs.Call.{old_value}
-use Rattle.congee_map.specs.Map.{Pairs, IsMap, Rises, lookup, put}
-use Rattle.congee_map.proofs.ByteMapLaws.{length-put_new, length-put_some}
-use Rattle.congee_map.proofs.MapLaws.{Rises-put, lookup-put_same, lookup-put_other}
+use Rattle.congee_map.specs.Legal.{reply_of as reply_by}
+use Rattle.congee_map.specs.Map.{Pairs, IsMap, Rises, lookup, put, with_answer}
+use Rattle.congee_map.proofs.ByteMapLaws.{length-put_new, length-put_some, length-without_present}
+use Rattle.congee_map.proofs.MapLaws.{Rises-put, lookup-put_same, lookup-put_other, without-absent}
 use Rattle.congee_node_table.specs.TableNode.{MayHave}
 use Rattle.congee_node_table.specs.declared.child.Child.{Child}
 use Rattle.congee_node_table.specs.declared.child.Child.TheVariants.{Payload, Node as below_at}
-use Rattle.congee_protocol.specs.Calls.{bytes_of, key_of, asked_of}
+use Rattle.congee_protocol.specs.Calls.{IsPoint, Outline, asked_of, bytes_of, key_of, map_asked, map_call, map_reply, outline_of}
 use Rattle.congee_protocol.specs.Content.{IsContent}
 use Rattle.congee_protocol.specs.Deciding.{Leads}
 use Rattle.congee_protocol.specs.Kinds.{DoesAs, report_of}
 use Rattle.congee_protocol.specs.Lists.{is_in}
-use Rattle.congee_protocol.specs.Local.{IsLocal, only_at, seen_payload}
+use Rattle.congee_protocol.specs.Local.{IsLocal, SeesPayloads, only_at, seen_map, seen_payload}
+use Rattle.congee_protocol.specs.Meaning.{in_some, both_of, reply_of}
 use Rattle.congee_protocol.specs.State.{State, Flight, settled}
 use Rattle.congee_protocol.specs.State as state
-use Rattle.congee_protocol.specs.Writing.{IsOwn, HeldNode, TakesOut, changed, entry_below, linked}
-use Rattle.congee_protocol.specs.declared.types.Asking.{Asking}
-use Rattle.congee_protocol.specs.declared.types.Asking.TheVariants.{Fresh}
+use Rattle.congee_protocol.specs.Writing.{IsOwn, HeldNode, TakesOut, changed, emptied, entry_below, linked}
 use Rattle.congee_protocol.specs.declared.types.Env.{Env}
 use Rattle.congee_protocol.specs.declared.types.Kind.TheVariants as kind
-use Rattle.congee_protocol.specs.declared.types.Op.TheVariants.{Insert}
+use Rattle.congee_protocol.specs.declared.types.Asking.{Asking}
+use Rattle.congee_protocol.specs.declared.types.Op.{Op}
+use Rattle.congee_protocol.specs.declared.types.Op.TheVariants.{Get, Insert, Remove, ComputeIfPresent, ComputeOrInsert, CompareExchange, Range}
 use Rattle.congee_protocol.specs.declared.types.Outcome.TheVariants.{Decided}
 use Rattle.congee_protocol.specs.declared.types.Progress.TheVariants as progress
-use Rattle.congee_protocol.specs.declared.types.Reply.TheVariants.{Old}
+use Rattle.congee_protocol.specs.declared.types.Reply.{Reply}
+use Rattle.congee_protocol.specs.declared.types.Reply.TheVariants.{Computed}
 use Rattle.congee_store.specs.declared.stage.Stage.{Stage}
 use Rattle.congee_store.specs.declared.stage.Task.{Task}
+use Rattle.congee_store.specs.inner.Effects.{IsChange, both_in, reply_with}
 use Rattle.congee_store.specs.inner.Moves.{Books, IsAfter, IsOutcome}
 use Rattle.congee_store.specs.inner.Shown.{flight, shown}
 use Rattle.congee_store.specs.inner.Tables.{IsIn, IsPlaced, Keeps}
 use Rattle.congee_store.specs.inner.TailFacts.{HasRoom, Writes}
-use Rattle.congee_store.specs.inner.Tasks.{key_bytes}
+use Rattle.congee_store.specs.inner.Tasks.{closed, key_bytes}
 use Rattle.congee_store.specs.inner.Turns.{Shows}
 use Rattle.congee_store.specs.inner.World.{Node, Table, entry, is_linked}
 use Rattle.congee_sync.specs.Lock.{IsFree, IsLocked}
 use Rattle.congee_store.proofs.Contents.{kept_there, none_there}
 use Rattle.congee_store.proofs.Options.{some_same}
 use Rattle.congee_store.proofs.Reaching.{one, seen_at, lookup-inside}
+use Rattle.congee_store.proofs.Replies.{change_after, change_asked, change_replied}
 use Rattle.congee_store.proofs.Unlike.{false_true}
 use Rattle.congee_store.proofs.Records.{at}
-use Rattle.congee_links.proofs.Contents.{content_put}
-use Rattle.congee_links.proofs.Pairs.{PutsPair}
-use Rattle.congee_writing.proofs.Showing.{Among, lookup-linked, nodes_are, published_there, Rises-linked}
+use Rattle.congee_links.proofs.Contents.{content_put, content_without}
+use Rattle.congee_links.proofs.Pairs.{PutsPair, TakesPair}
+use Rattle.congee_writing.specs.inner.Storing.{entries_with}
+use Rattle.congee_writing.proofs.Showing.{Among, ShownBy, lookup-linked, nodes_are, published_there, Rises-linked}
 
 true_or_false : (b : Bool) → (b ≡ true) ⊎ (b ≡ false)
 true_or_false true = inl refl
@@ -69,29 +74,71 @@ told s (x ∷ slots) h =
 
 -- what is left of a call once it has its reply
 abbrev pub with_reply : {M : Type 0} → Task M → Task M
-with_reply task = record task { op = None; spare = None; asking = Fresh; progress = progress.Decided }
+with_reply task = closed progress.Decided task
+
+module _ {P M : Type 0} (meaning : P → M) where
+  both_meant : (before returns : Option P) → in_some (both_of meaning) (both_in before returns) ≡ both_in (in_some meaning before) (in_some meaning returns)
+  both_meant None returns = refl
+  both_meant (Some v) returns = refl
+
+  -- what a reply means is the reply by what its payloads mean
+  pub reply_meant : (outline : Outline) (before returns : Option P) → reply_of meaning (reply_with outline before returns) ≡ reply_with outline (in_some meaning before) (in_some meaning returns)
+  reply_meant (ComputeIfPresent k) before returns = ap (λ z. let r : Reply M = Computed z in r) (both_meant before returns)
+  reply_meant (CompareExchange k old new) before returns = refl
+  reply_meant outline before returns = refl
 
 module _ {M : Type 0} where
-  -- what stands at a key, and how many pairs there are once it has a value
+  -- what stands at a key, what happens to its pair, and how many pairs there are then
   abbrev pub StandsAt : Table M → List ℕ → Option M → Type 0
   StandsAt t k None = (v : M) → Keeps t k v → ⊥
   StandsAt t k (Some v) = Keeps t k v
 
-  abbrev pub entries_after : Option M → ℕ → ℕ
-  entries_after None n = n + 1
-  entries_after (Some v) n = n
+  abbrev pub AnswersPair : Table M → Table M → ℕ → Option M → Type 0
+  AnswersPair t t' key None = TakesPair t t' key
+  AnswersPair t t' key (Some v) = PutsPair t t' key v
+
+  abbrev pub entries_after : Option M → Option M → ℕ → ℕ
+  entries_after stands value n = entries_with n (is_some stands) (is_some value)
+
+  key_outline : (op : Op M) → key_of (outline_of op) ≡ key_of op
+  key_outline (Get k) = refl
+  key_outline (Insert k v) = refl
+  key_outline (Remove k) = refl
+  key_outline (ComputeIfPresent k) = refl
+  key_outline (ComputeOrInsert k v) = refl
+  key_outline (CompareExchange k old new) = refl
+  key_outline (Range a b n) = refl
+
+  change_point : (same : M → M → Bool) (op : Op M) (asking : Asking M) (stands value : Option M) → IsChange same op asking stands value → IsPoint op
+  change_point same (Range a b n) asking stands value h = absurd h
+  change_point same (Get k) asking stands value h = tt
+  change_point same (Insert k v) asking stands value h = tt
+  change_point same (Remove k) asking stands value h = tt
+  change_point same (ComputeIfPresent k) asking stands value h = tt
+  change_point same (ComputeOrInsert k v) asking stands value h = tt
+  change_point same (CompareExchange k old new) asking stands value h = tt
 
   found_alone : (key : ℕ) (v : Option M) → lookup (only_at key v) key ≡ v
   found_alone key None = refl
   found_alone key (Some v) = rw (eq-eqb key key refl) refl
 
-  counted_put : (m : Pairs M) (key : ℕ) (v : M) (stands : Option M) (n : ℕ) → IsMap m → key < 2 ^ 64 → lookup m key ≡ stands → n ≡ length m → entries_after stands n ≡ length (put m key v)
-  counted_put m key v None n map small there e = omega (arith, e, length-put_new 0 (2 ^ 64) m key v map there)
-  counted_put m key v (Some w) n map small there e = e ∙ sym (length-put_some 0 (2 ^ 64) m key v map (subst (λ z. IsSome z) (sym there) refl))
+  is_there : (m : Pairs M) (key : ℕ) (v : M) → lookup m key ≡ Some v → IsSome (lookup m key)
+  is_there m key v e = subst (λ z. IsSome z) (sym e) refl
+
+  counted_answer : (m : Pairs M) (key : ℕ) (stands value : Option M) (n : ℕ) → IsMap m → lookup m key ≡ stands → n ≡ length m → entries_after stands value n ≡ length (with_answer m key value)
+  counted_answer m key None None n map there e = e ∙ sym (ap length (without-absent m key there))
+  counted_answer m key None (Some v) n map there e = omega (arith, e, length-put_new 0 (2 ^ 64) m key v map there)
+  counted_answer m key (Some w) None n map there e = omega (arith, e, length-without_present 0 (2 ^ 64) m key map (is_there m key w there))
+  counted_answer m key (Some w) (Some v) n map there e = e ∙ sym (length-put_some 0 (2 ^ 64) m key v map (is_there m key w there))
 
   content_at : (t : Table M) (root : ℕ) (s : State M) → IsPlaced t root → Shows t root s → (m : Pairs M) → IsContent s m → (key : ℕ) (stands : Option M) → key < 2 ^ 64 → StandsAt t (bytes_of key) stands → lookup m key ≡ stands
   content_at t root s placed shows m content key None small none = none_there t root s placed shows m content key none
   content_at t root s placed shows m content key (Some v) small keeps = kept_there t root s placed shows m content key v small keeps
+
+  content_answered : (t t' : Table M) (root : ℕ) (s s' : State M) → IsPlaced t root → IsPlaced t' root → Shows t root s → Shows t' root s' → (key : ℕ) (value : Option M) → key < 2 ^ 64 → AnswersPair t t' key value
+      → (m : Pairs M) → IsContent s m → IsContent s' (with_answer m key value)
+  content_answered t t' root s s' placed placed' shows shows' key None small takes m c = content_without t t' root s s' placed placed' shows shows' key takes m c
+  content_answered t t' root s s' placed placed' shows shows' key (Some v) small puts m c = content_put t t' root s s' placed placed' shows shows' key v small puts m c
 
 -- a node that is held is locked
 pub held_locked : (word before : ℕ) → word ≡ before + 2 → IsFree before → IsLocked word
@@ -123,13 +170,14 @@ module _ {M : Type 0} where
     pub published : (o : ℕ) → IsTrue (is_in o made) → (c : Node M) × (t o ≡ Some c) × (t' o ≡ Some (record c { standing = is_linked }))
     pub others : (o : ℕ) → o ≢ slot → is_in o made ≡ false → shown (t' o) ≡ shown (t o)
 
-  pub nodes_written : (t t' : Table M) (root : ℕ) (s s' : State M) (made : List ℕ) (slot : ℕ) (after : state.Node M) → Shows t root s → Shows t' root s' → IsMap s.nodes → IsMap s'.nodes
-      → ShowsWrite t t' made slot after → s'.nodes ≡ linked made (put s.nodes slot after)
-  nodes_written t t' root s s' made slot after shows shows' map map' w =
-      let small = lookup-inside 0 (2 ^ 64) s.nodes slot (one w.was) map (seen_at t root s shows slot w.was w.here) in
+  pub write_rises : (t : Table M) (root : ℕ) (s : State M) (made : List ℕ) (slot : ℕ) (was : Node M) (after : state.Node M) → Shows t root s → IsMap s.nodes → t slot ≡ Some was → IsMap (linked made (put s.nodes slot after))
+  write_rises t root s made slot was after shows map here =
+      let small = lookup-inside 0 (2 ^ 64) s.nodes slot (one was) map (seen_at t root s shows slot was here) in
+      Rises-linked 0 (2 ^ 64) made (put s.nodes slot after) (Rises-put 0 (2 ^ 64) s.nodes slot after map (omega arith) small.1)
+
+  pub write_shown : (t t' : Table M) (root : ℕ) (s : State M) (made : List ℕ) (slot : ℕ) (after : state.Node M) → Shows t root s → ShowsWrite t t' made slot after → ShownBy t' (linked made (put s.nodes slot after))
+  write_shown t t' root s made slot after shows w o =
       let written : List (ℕ × state.Node M) = put s.nodes slot after in
-      let written_map : IsMap written = Rises-put 0 (2 ^ 64) s.nodes slot after map (omega arith) small.1 in
-      nodes_are t' root s' shows' map' (linked made written) (Rises-linked 0 (2 ^ 64) made written written_map) (λ o.
       lookup-linked made written o ∙
       elim (eqb_tells o slot) [
         | inl same ↦ subst (λ z. published_there made z (lookup written z) ≡ shown (t' z)) (sym same.1)
@@ -142,77 +190,98 @@ module _ {M : Type 0} where
               | inr e ↦
                   not_published made o (lookup written o) e ∙ (lookup-put_other s.nodes slot after o far.1 ∙ (shows.nodes o ∙ sym (w.others o far.1 e)))
             ]
-      ])
+      ]
+
+  pub nodes_written : (t t' : Table M) (root : ℕ) (s s' : State M) (made : List ℕ) (slot : ℕ) (after : state.Node M) → Shows t root s → Shows t' root s' → IsMap s.nodes → IsMap s'.nodes
+      → ShowsWrite t t' made slot after → s'.nodes ≡ linked made (put s.nodes slot after)
+  nodes_written t t' root s s' made slot after shows shows' map map' w =
+      nodes_are t' root s' shows' map' (linked made (put s.nodes slot after)) (write_rises t root s made slot w.was after shows map w.here) (write_shown t t' root s made slot after shows w)
 
   -- nothing is taken out where a child comes
-  takes_none : (s : State M) (call : Flight M) (was : Option (Child M)) (c : Child M) → TakesOut s call was (Some c) None
+  pub takes_none : (s : State M) (call : Flight M) (was : Option (Child M)) (c : Child M) → TakesOut s call was (Some c) None
   takes_none s call None c = refl
   takes_none s call (Some (Payload v)) c = refl
   takes_none s call (Some (below_at slot)) c = refl
 
 -- THE DECISION. Shares are granted always, if `Granted` holds. The same is told by a test.
-module _ {M : Type 0} (Granted : Type 0) (same : M → M → Bool) (task : Task M) (stage : Stage) (pin : ℕ) (stands : Option M) (w : Writes Granted task stands) where
-  pub op_is : task.op ≡ Some (Insert (key_of task.outline) w.value)
-  op_is = w.opened.op_is ∙ ap (λ z. Some z) w.inserts
+module _ {M : Type 0} (Granted : Type 0) (same : M → M → Bool) (task : Task M) (stage : Stage) (pin : ℕ) (stands : Option M) (w : Writes Granted same task stands) where
+  abbrev pub writing_call : Flight M
+  writing_call = flight pin (at stage task)
 
-  not_asked : asked_of task.asking ≡ None
-  not_asked = ap (λ (a : Asking M). asked_of a) w.fresh
+  abbrev pub writing_reply : Reply M
+  writing_reply = reply_with task.outline stands task.returns
 
-  -- the reply is what stands at the key
-  pub replies : IsLocal Granted same (flight pin (at stage task)) (Old stands)
+  own_key : key_of w.opened.op ≡ key_of task.outline
+  own_key = sym (key_outline w.opened.op) ∙ ap (λ (o : Outline). key_of o) w.opened.outline
+
+  seen_stands : (m : Pairs M) → lookup m (key_of task.outline) ≡ stands → lookup m (key_of w.opened.op) ≡ stands
+  seen_stands m there = ap (λ k. lookup m k) own_key ∙ there
+
+  replied : (m : Pairs M) → lookup m (key_of task.outline) ≡ stands
+      → map_reply writing_reply ≡ reply_by same m (map_call w.opened.op) (map_asked w.opened.op (asked_of task.asking))
+  replied m there =
+      subst (λ (o : Outline). map_reply (reply_with o stands task.returns) ≡ reply_by same m (map_call w.opened.op) (map_asked w.opened.op (asked_of task.asking))) w.opened.outline
+      (change_replied same m w.opened.op task.asking stands w.value task.returns w.change w.opened.returned (seen_stands m there))
+
+  last_seen : SeesPayloads Granted same writing_call → lookup (seen_map writing_call) (key_of task.outline) ≡ stands
+  last_seen sees = found_alone (key_of task.outline) (seen_payload task.last) ∙ w.seen sees
+
+  -- the reply is what the map's call replies where this stands
+  pub replies : IsLocal Granted same writing_call writing_reply
   replies = record {
-    op = Insert (key_of task.outline) w.value;
-    op_is = op_is;
+    op = w.opened.op;
+    op_is = w.opened.op_is;
     undecided = w.opened.undecided;
-    point = tt;
-    asked = λ sees. not_asked;
-    reply = λ sees. ap old_value (sym (found_alone (key_of task.outline) (seen_payload task.last) ∙ w.seen sees));
+    point = change_point same w.opened.op task.asking stands w.value w.change;
+    asked = λ sees. change_asked same (seen_map writing_call) w.opened.op task.asking stands w.value w.change (seen_stands (seen_map writing_call) (last_seen sees));
+    reply = λ sees. replied (seen_map writing_call) (last_seen sees);
   }
 
-  -- the key has the value that the call stores
-  pub leads : (m : Pairs M) → lookup m (key_of task.outline) ≡ stands → Leads same m (put m (key_of task.outline) w.value) (flight pin (at stage task)) (Old stands)
+  -- the key has the value that the call stores, or none
+  pub leads : (m : Pairs M) → lookup m (key_of task.outline) ≡ stands → Leads same m (with_answer m (key_of task.outline) w.value) writing_call writing_reply
   leads m there = record {
-    op = Insert (key_of task.outline) w.value;
-    op_is = op_is;
-    asked = not_asked;
-    replied = ap old_value (sym there);
-    after = refl;
+    op = w.opened.op;
+    op_is = w.opened.op_is;
+    asked = change_asked same m w.opened.op task.asking stands w.value w.change (seen_stands m there);
+    replied = replied m there;
+    after = ap (λ k. with_answer m k w.value) (sym own_key) ∙ sym (change_after same m w.opened.op task.asking stands w.value w.change (seen_stands m there));
   }
 
   pub becomes_of : (t t' : Table M) (root : ℕ) (books books' : Books) → IsPlaced t root → IsPlaced t' root → key_of task.outline < 2 ^ 64 → StandsAt t (key_bytes task) stands
-      → PutsPair t t' (key_of task.outline) w.value → books'.entries ≡ entries_after stands books.entries
-      → (s s' : State M) → Shows t root s → Shows t' root s' → (m : Pairs M) → IsContent s m → IsOutcome Granted same s s' m (flight pin (at stage task)) (Decided (Old stands)) books books'
-  becomes_of t t' root books books' placed placed' small is puts entries s s' shows shows' m content =
+      → AnswersPair t t' (key_of task.outline) w.value → books'.entries ≡ entries_after stands w.value books.entries
+      → (s s' : State M) → Shows t root s → Shows t' root s' → (m : Pairs M) → IsContent s m → IsOutcome Granted same s s' m writing_call (Decided writing_reply) books books'
+  becomes_of t t' root books books' placed placed' small is answers entries s s' shows shows' m content =
       let there : lookup m (key_of task.outline) ≡ stands = content_at t root s placed shows m content (key_of task.outline) stands small is in
       record {
-        content = put m (key_of task.outline) w.value;
-        content_is = content_put t t' root s s' placed placed' shows shows' (key_of task.outline) w.value small puts m content;
+        content = with_answer m (key_of task.outline) w.value;
+        content_is = content_answered t t' root s s' placed placed' shows shows' (key_of task.outline) w.value small answers m content;
         carries = leads m there;
-        counted = λ e. entries ∙ counted_put m (key_of task.outline) w.value stands books.entries content.map small there e;
+        counted = λ e. entries ∙ counted_answer m (key_of task.outline) stands w.value books.entries content.map there e;
       }
 
-  -- THE WRITE of a child of a held node
-  pub writes_child : (s s' : State M) (id : ℕ) (env : Env M) (next : Flight M) (books books' : Books) → IsAfter s s' id next books books' → books'.count ≡ books.count → books'.charge ≡ books.charge
-      → (held : HeldNode s (flight pin (at stage task))) (c : Child M)
-      → s'.nodes ≡ linked (flight pin (at stage task)).made (put s.nodes held.slot (changed (flight pin (at stage task)) held.node (Some c)))
-      → IsOwn (flight pin (at stage task)) (Some c) → MayHave held.node.node.prefix c → Fits held.node.node.form (length (changed (flight pin (at stage task)) held.node (Some c)).node.children)
-      → next ≡ record (settled progress.Decided (record (flight pin (at stage task)) { made = [] })) { spots = next.spots }
-      → Among next.spots (flight pin (at stage task)).spots
-      → DoesAs Granted same s s' id (flight pin (at stage task)) env (report_of kind.Write (Some held.slot) 0 true) (Decided (Old stands)) kind.Write
-  writes_child s s' id env next books books' after count charge held c nodes own shape fits is within =
+  -- THE WRITE at a held node: its entry is this now, or it has none there, and this is taken out
+  pub writes_answer : (s s' : State M) (id : ℕ) (env : Env M) (next : Flight M) (books books' : Books) → IsAfter s s' id next books books' → books'.count ≡ books.count → books'.charge ≡ books.charge
+      → (held : HeldNode s writing_call) (child : Option (Child M)) (gone : Option (ℕ × state.Node M))
+      → s'.nodes ≡ emptied gone (linked writing_call.made (put s.nodes held.slot (changed writing_call held.node child)))
+      → IsOwn writing_call child → ((c : Child M) → child ≡ Some c → MayHave held.node.node.prefix c) → Fits held.node.node.form (length (changed writing_call held.node child).node.children)
+      → TakesOut s writing_call (entry_below writing_call held.node) child gone
+      → next ≡ record (settled progress.Decided (record writing_call { made = [] })) { spots = next.spots }
+      → Among next.spots writing_call.spots
+      → DoesAs Granted same s s' id writing_call env (report_of kind.Write (Some held.slot) 0 true) (Decided writing_reply) kind.Write
+  writes_answer s s' id env next books books' after count charge held child gone nodes own shape fits takes is within =
       let count_is : books'.count ≡ s.count = count ∙ sym (ap (λ (b : Books). b.count) after.was) in
       let charge_is : books'.charge ≡ s.charge = charge ∙ sym (ap (λ (b : Books). b.charge) after.was) in (
         inl w.opened.undecided,
         record {
           held = held;
-          child = Some c;
-          gone = None;
+          child = child;
+          gone = gone;
           entries = books'.entries;
           is = refl;
           own = own;
-          shape = λ d e. subst (λ (z : Child M). MayHave held.node.node.prefix z) (some_same c d e) shape;
+          shape = shape;
           fits = fits;
-          takes_out = takes_none s (flight pin (at stage task)) (entry_below (flight pin (at stage task)) held.node) c;
+          takes_out = takes;
           says = replies;
           becomes = record {
             next = next;
@@ -222,3 +291,15 @@ module _ {M : Type 0} (Granted : Type 0) (same : M → M → Bool) (task : Task 
           };
         },
       )
+
+  -- the same where a child comes
+  pub writes_child : (s s' : State M) (id : ℕ) (env : Env M) (next : Flight M) (books books' : Books) → IsAfter s s' id next books books' → books'.count ≡ books.count → books'.charge ≡ books.charge
+      → (held : HeldNode s writing_call) (c : Child M)
+      → s'.nodes ≡ linked writing_call.made (put s.nodes held.slot (changed writing_call held.node (Some c)))
+      → IsOwn writing_call (Some c) → MayHave held.node.node.prefix c → Fits held.node.node.form (length (changed writing_call held.node (Some c)).node.children)
+      → next ≡ record (settled progress.Decided (record writing_call { made = [] })) { spots = next.spots }
+      → Among next.spots writing_call.spots
+      → DoesAs Granted same s s' id writing_call env (report_of kind.Write (Some held.slot) 0 true) (Decided writing_reply) kind.Write
+  writes_child s s' id env next books books' after count charge held c nodes own shape fits is within =
+      writes_answer s s' id env next books books' after count charge held (Some c) None nodes own (λ d e. subst (λ (z : Child M). MayHave held.node.node.prefix z) (some_same c d e) shape) fits
+      (takes_none s writing_call (entry_below writing_call held.node) c) is within

@@ -19,10 +19,11 @@ use Rattle.congee_store.specs.inner.Shown.{flight}
 use Rattle.congee_store.specs.inner.Tables.{IsPlaced}
 use Rattle.congee_store.specs.inner.TailFacts.{IsHeld, IsOver}
 use Rattle.congee_store.specs.inner.Tails.{unlock_work}
-use Rattle.congee_store.specs.inner.Tasks.{IsOpen}
+use Rattle.congee_store.specs.inner.Tasks.{IsOpen, restarted}
 use Rattle.congee_store.specs.inner.World.{Table, is_retired}
 use Rattle.congee_store.proofs.Holding.{first_in, first_or, locked_now, next_in, none_of}
-use Rattle.congee_store.proofs.Records.{at, restart}
+use Rattle.congee_store.proofs.Records.{at}
+use Rattle.congee_store.proofs.Replies.{returned_fresh}
 use Rattle.congee_links.proofs.Effects.{beside_one}
 use Rattle.congee_links.proofs.Words.{Retires, Unlocks}
 use Rattle.congee_writing.proofs.Frees.{none_back, none_kept, off_one, off_two, retires, unlocked_open, unlocked_over, unlocks, work_open, work_over}
@@ -49,26 +50,26 @@ module _ {M : Type 0} (Granted : Type 0) (same : M → M → Bool) (t : Table M)
   frees spot held after others = record { here = held.linked; locked = locked_now held.node.word spot.word held.word held.free; after = after; others = beside_one t t' spot.slot others }
 
   -- THE LAST NODE
-  module _ (spot : Spot) (facts : Facts Granted t root pin (at (tail_at (Unlock spot)) task)) (after : t' spot.slot ≡ Some (record facts.at.0.node { word = facts.at.0.node.word + 2 })) (others : (o : ℕ) → o ≢ spot.slot → t' o ≡ t o) where
-    restarts_is : IsOpen task → flight pin (at TakeRoot (restart task)) ≡ record (unlocked task.progress (record (flight pin (at (tail_at (Unlock spot)) task)) { held = off spot.slot (spot.slot ∷ []) })) { spots = [] }
+  module _ (spot : Spot) (facts : Facts Granted same t root pin (at (tail_at (Unlock spot)) task)) (after : t' spot.slot ≡ Some (record facts.at.0.node { word = facts.at.0.node.word + 2 })) (others : (o : ℕ) → o ≢ spot.slot → t' o ≡ t o) where
+    restarts_is : IsOpen task → flight pin (at TakeRoot (restarted task)) ≡ record (unlocked task.progress (record (flight pin (at (tail_at (Unlock spot)) task)) { held = off spot.slot (spot.slot ∷ []) })) { spots = [] }
     restarts_is opened =
-        ap (λ (z : List ℕ). record (flight pin (at TakeRoot (restart task))) { held = z }) (sym (off_one spot.slot))
+        ap (λ (z : List ℕ). record (flight pin (at TakeRoot (restarted task))) { held = z }) (sym (off_one spot.slot))
         ∙ ap (λ (z : Flight M). record z { spots = [] }) (sym (unlocked_open task.progress (record (flight pin (at (tail_at (Unlock spot)) task)) { held = off spot.slot (spot.slot ∷ []) }) opened.undecided))
 
-    pub unlock_restarts : IsOpen task → IsMove Granted same t t' root pin books books (at (tail_at (Unlock spot)) task) env (at TakeRoot (restart task)) (report_of kind.Unlock (Some spot.slot) 0 true) Going
+    pub unlock_restarts : IsOpen task → IsMove Granted same t t' root pin books books (at (tail_at (Unlock spot)) task) env (at TakeRoot (restarted task)) (report_of kind.Unlock (Some spot.slot) 0 true) Going
     unlock_restarts opened =
         let more : 40 ≡ unlock_work task.progress = sym (work_open task.progress opened.undecided) in
         unlocks Granted same t root pin books task env placed facts.small (Unlock spot) spot.slot facts.at.0.node facts.at.0.linked.here (first_in spot.slot []) (inl refl)
-        t' (frees spot facts.at.0 after others) (at TakeRoot (restart task)) (restarts_is opened)
-        (record { small = facts.small; at = (record { opened = record { undecided = opened.undecided; op = opened.op; op_is = opened.op_is; outline = opened.outline }; fresh = refl }, refl) })
+        t' (frees spot facts.at.0 after others) (at TakeRoot (restarted task)) (restarts_is opened)
+        (record { small = facts.small; at = (record { opened = record { undecided = opened.undecided; op = opened.op; op_is = opened.op_is; outline = opened.outline; returned = returned_fresh opened.op task.asking task.returns opened.returned }; fresh = refl }, refl) })
         refl refl (λ s h. absurd (none_back s h)) (alone_held TakeRoot spot) (λ s h. absurd h) (λ s h. h) (omega (arith, more))
 
-    ends_is : IsOver Granted task → flight pin (at Finish task) ≡ record (unlocked task.progress (record (flight pin (at (tail_at (Unlock spot)) task)) { held = off spot.slot (spot.slot ∷ []) })) { spots = [] }
+    ends_is : IsOver Granted same task → flight pin (at Finish task) ≡ record (unlocked task.progress (record (flight pin (at (tail_at (Unlock spot)) task)) { held = off spot.slot (spot.slot ∷ []) })) { spots = [] }
     ends_is over =
         ap (λ (z : List ℕ). record (flight pin (at Finish task)) { held = z }) (sym (off_one spot.slot))
         ∙ ap (λ (z : Flight M). record z { spots = [] }) (sym (unlocked_over task.progress (record (flight pin (at (tail_at (Unlock spot)) task)) { held = off spot.slot (spot.slot ∷ []) }) over))
 
-    pub unlock_ends : IsOver Granted task → IsMove Granted same t t' root pin books books (at (tail_at (Unlock spot)) task) env (at Finish task) (report_of kind.Unlock (Some spot.slot) 0 true) Going
+    pub unlock_ends : IsOver Granted same task → IsMove Granted same t t' root pin books books (at (tail_at (Unlock spot)) task) env (at Finish task) (report_of kind.Unlock (Some spot.slot) 0 true) Going
     unlock_ends over =
         let more : 2 ≡ unlock_work task.progress = sym (work_over task.progress over) in
         unlocks Granted same t root pin books task env placed facts.small (Unlock spot) spot.slot facts.at.0.node facts.at.0.linked.here (first_in spot.slot []) (inl refl)
@@ -77,7 +78,7 @@ module _ {M : Type 0} (Granted : Type 0) (same : M → M → Bool) (t : Table M)
         refl refl (λ s h. absurd (none_kept s h)) (alone_held Finish spot) (λ s h. absurd h) (λ s h. h) (omega (arith, more))
 
   -- THE NODE, while the parent is held
-  module _ (pair : Pair) (facts : Facts Granted t root pin (at (tail_at (UnlockBelow pair)) task)) (after : t' pair.here.slot ≡ Some (record facts.at.2.node { word = facts.at.2.node.word + 2 })) (others : (o : ℕ) → o ≢ pair.here.slot → t' o ≡ t o) where
+  module _ (pair : Pair) (facts : Facts Granted same t root pin (at (tail_at (UnlockBelow pair)) task)) (after : t' pair.here.slot ≡ Some (record facts.at.2.node { word = facts.at.2.node.word + 2 })) (others : (o : ℕ) → o ≢ pair.here.slot → t' o ≡ t o) where
     below_is : flight pin (at (tail_at (Unlock pair.above)) task) ≡ record (unlocked task.progress (record (flight pin (at (tail_at (UnlockBelow pair)) task)) { held = off pair.here.slot (pair.here.slot ∷ pair.above.slot ∷ []) })) { spots = [] }
     below_is =
         ap (λ (z : List ℕ). record (flight pin (at (tail_at (Unlock pair.above)) task)) { held = z }) (sym (off_two pair.here.slot pair.above.slot facts.at.3))
@@ -94,8 +95,8 @@ module _ {M : Type 0} (Granted : Type 0) (same : M → M → Bool) (t : Table M)
         (λ s h ne. elim h [ inl x ↦ above_held pair s x ne | inr x ↦ none_of s x ])
         (λ s h. inr h) (λ s h. h) (omega (arith, left))
 
-  -- THE NODE that another one has replaced
-  module _ (pair : Pair) (facts : Facts Granted t root pin (at (tail_at (Obsolete pair)) task)) (after : t' pair.here.slot ≡ Some (record facts.at.2.node { word = facts.at.2.node.word + 1; standing = is_retired (stamp_at books.count) }))
+  -- THE NODE that is no longer in the tree
+  module _ (pair : Pair) (facts : Facts Granted same t root pin (at (tail_at (Obsolete pair)) task)) (after : t' pair.here.slot ≡ Some (record facts.at.2.node { word = facts.at.2.node.word + 1; standing = is_retired (stamp_at books.count) }))
       (others : (o : ℕ) → o ≢ pair.here.slot → t' o ≡ t o) where
     pub retiring : Retires t t' pair.here.slot facts.at.2.node (stamp_at books.count)
     retiring = record {

@@ -1,5 +1,5 @@
 -- LINK: the call's new leaf is put below the held inner node, under a byte where nothing stood.
-use Rattle.std.proofs.Common.{◌≡◌, ◌≢◌, ℕ, ◌+◌, ◌≤◌, Bool, true, false, [], ◌∷◌, length, take, drop, Some, None, inl, inr, refl, sym, subst, ap, ◌∙◌, arith}
+use Rattle.std.proofs.Common.{◌≡◌, ◌≢◌, ℕ, ◌+◌, ◌≤◌, Bool, true, false, [], ◌∷◌, length, take, drop, Option, Some, None, inl, inr, refl, sym, subst, ap, ◌∙◌, arith}
 use Rattle.std.proofs.lemmas.Bool.{ne_eqb}
 use Rattle.std.proofs.lemmas.List.{take-append-drop}
 use Rattle.congee_base.specs.Form.{Fits}
@@ -13,12 +13,12 @@ use Rattle.congee_protocol.specs.Local.{payload_in}
 use Rattle.congee_protocol.specs.declared.types.Env.{Env}
 use Rattle.congee_protocol.specs.declared.types.Kind.TheVariants as kind
 use Rattle.congee_protocol.specs.declared.types.Outcome.TheVariants.{Decided}
-use Rattle.congee_protocol.specs.declared.types.Reply.TheVariants.{Old}
 use Rattle.congee_sync.specs.Lock.{IsFree}
 use Rattle.congee_store.specs.declared.stage.Spot.{Spot}
 use Rattle.congee_store.specs.declared.stage.Stage.TheVariants.{Tail}
 use Rattle.congee_store.specs.declared.stage.Task.{Task}
 use Rattle.congee_store.specs.declared.tail.Tail.TheVariants.{Link, Unlock}
+use Rattle.congee_store.specs.inner.Effects.{IsChange, reply_with}
 use Rattle.congee_store.specs.inner.Facts.{Facts, Holding}
 use Rattle.congee_store.specs.inner.Moves.{Books, IsMove}
 use Rattle.congee_store.specs.inner.Shown.{flight, shown}
@@ -28,13 +28,14 @@ use Rattle.congee_store.specs.inner.Tasks.{key_bytes}
 use Rattle.congee_store.specs.inner.World.{Node, Table, is_linked}
 use Rattle.congee_store.proofs.Options.{none_some, some_same}
 use Rattle.congee_store.proofs.Reaching.{one, seen_at}
+use Rattle.congee_store.proofs.Replies.{change_enters}
 use Rattle.congee_store.proofs.Ways.{absent_here}
 use Rattle.congee_store.proofs.Unlike.{decided_open}
 use Rattle.congee_store.proofs.Records.{at}
 use Rattle.congee_links.proofs.Effects.{Effect, beside_two}
 use Rattle.congee_links.proofs.Linking.{Links, link_effect, link_puts}
 use Rattle.congee_links.proofs.Writing.{IsLeafFor, Publishes, answered, published_new}
-use Rattle.congee_writing.proofs.Deciding.{becomes_of, held_locked, listed, nodes_written, put_fits, told, with_reply, writes_child}
+use Rattle.congee_writing.proofs.Deciding.{AnswersPair, becomes_of, held_locked, listed, nodes_written, put_fits, told, with_reply, writes_child}
 
 not_both : {b : Bool} → b ≡ false → b ≡ true → ⊥
 not_both e f = cc
@@ -66,7 +67,7 @@ module _ {M : Type 0} where
 
 -- Shares are granted always, if `Granted` holds. The same is told by a test.
 module _ {M : Type 0} (Granted : Type 0) (same : M → M → Bool) (t t' : Table M) (root pin : ℕ) (task : Task M) (env : Env M) (spot : Spot) (leaf : ℕ) (placed : IsPlaced t root)
-    (facts : Facts Granted t root pin (at (Tail (Link spot leaf)) task)) where
+    (facts : Facts Granted same t root pin (at (Tail (Link spot leaf)) task)) where
   -- the node that is held, the leaf, and the key
   abbrev pub inner_held : Node M
   inner_held = facts.at.0.held.node
@@ -76,6 +77,12 @@ module _ {M : Type 0} (Granted : Type 0) (same : M → M → Bool) (t t' : Table
 
   abbrev pub link_key : ℕ
   link_key = key_of task.outline
+
+  -- where nothing stands the call stores a value
+  enters : (v : M) × (facts.at.0.work.writes.value ≡ Some v)
+  enters =
+      let w = facts.at.0.work.writes in
+      change_enters same w.opened.op task.asking w.value (subst (λ (z : Option M). IsChange same w.opened.op task.asking z w.value) (ap payload_in facts.at.0.work.is.1) w.change)
 
   abbrev pub inner_after : Node M
   inner_after = answered inner_held (byte_at inner_held (key_bytes task)) (Some (below_at leaf))
@@ -91,7 +98,7 @@ module _ {M : Type 0} (Granted : Type 0) (same : M → M → Bool) (t t' : Table
     apart : spot.slot ≢ leaf
     apart = published_new publishes spot.slot inner_held facts.at.0.held.linked
 
-    links : Links t t' spot.slot leaf link_key inner_held leaf_made facts.at.0.work.writes.value
+    links : Links t t' spot.slot leaf link_key inner_held leaf_made enters.0
     links = record {
       write = record {
         here = facts.at.0.held.linked;
@@ -102,7 +109,7 @@ module _ {M : Type 0} (Granted : Type 0) (same : M → M → Bool) (t t' : Table
       inner = facts.at.0.work.is.0;
       empty = facts.at.0.work.is.1;
       new = publishes;
-      leaf = made_leaf t t' task leaf facts.at.0.work.writes.value facts.at.0.work.writes.stores facts.at.1;
+      leaf = made_leaf t t' task leaf enters.0 (facts.at.0.work.writes.stores ∙ enters.1) facts.at.1;
       small = facts.small;
       others = beside_two t t' spot.slot leaf others;
     }
@@ -121,13 +128,19 @@ module _ {M : Type 0} (Granted : Type 0) (same : M → M → Bool) (t t' : Table
 
     -- THE EVENT
     pub link_move : (books books' : Books) → Fits inner_held.node.form (length inner_held.node.children) → books'.count ≡ books.count → books'.charge ≡ books.charge → books'.entries ≡ books.entries + 1
-        → IsMove Granted same t t' root pin books books' (at (Tail (Link spot leaf)) task) env (at (Tail (Unlock spot)) (with_reply task)) (report_of kind.Write (Some spot.slot) 0 true) (Decided (Old None))
+        → IsMove Granted same t t' root pin books books' (at (Tail (Link spot leaf)) task) env (at (Tail (Unlock spot)) (with_reply task)) (report_of kind.Write (Some spot.slot) 0 true) (Decided (reply_with task.outline None task.returns))
     link_move books books' fits count charge entries =
         let a : Node M = inner_held in
         let w = facts.at.0.work.writes in
         let empty : found a (key_bytes task) ≡ None = facts.at.0.work.is.1 in
-        let writes : Writes Granted task None =
-        record { opened = w.opened; value = w.value; stores = w.stores; inserts = w.inserts; fresh = w.fresh; seen = λ sees. w.seen sees ∙ ap payload_in empty } in
+        let writes : Writes Granted same task None =
+        record {
+          opened = w.opened;
+          value = w.value;
+          stores = w.stores;
+          change = subst (λ (z : Option M). IsChange same w.opened.op task.asking z w.value) (ap payload_in empty) w.change;
+          seen = λ sees. w.seen sees ∙ ap payload_in empty;
+        } in
         let effect : Effect t t' root (Holding (Tail (Link spot leaf))) (λ p. p ≤ books.count) (spot.slot ∷ leaf ∷ []) (spot.slot ∷ []) =
         link_effect links root placed (Holding (Tail (Link spot leaf))) (λ p. p ≤ books.count) (inl (listed spot.slot (spot.slot ∷ []) (inl refl))) (inr (listed leaf (leaf ∷ []) (inl refl))) in
         record {
@@ -174,6 +187,7 @@ module _ {M : Type 0} (Granted : Type 0) (same : M → M → Bool) (t t' : Table
               refl (λ slot word h. absurd (none_some word h));
           carries = λ s s' shows shows' m content.
               becomes_of Granted same task (Tail (Link spot leaf)) pin None writes t t' root books books' placed effect.placed facts.small
-              (absent_here t root (key_bytes task) placed spot.slot a facts.at.0.held.linked begins empty) (link_puts links root placed) entries
+              (absent_here t root (key_bytes task) placed spot.slot a facts.at.0.held.linked begins empty) (subst (λ (z : Option M). AnswersPair t t' link_key z) (sym enters.1) (link_puts links root placed))
+              (entries ∙ rw enters.1 refl)
               s s' shows shows' m content;
         }

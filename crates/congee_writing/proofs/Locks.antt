@@ -21,14 +21,15 @@ use Rattle.congee_store.specs.inner.Shown.{flight, spots_of}
 use Rattle.congee_store.specs.inner.Tables.{IsIn, IsPlaced}
 use Rattle.congee_store.specs.inner.TailFacts.{IsHeld, TailFacts}
 use Rattle.congee_store.specs.inner.Tails.{unlock_work, held_in, made_in, named_in, spots_in, tail_work}
-use Rattle.congee_store.specs.inner.Tasks.{IsOpen}
+use Rattle.congee_store.specs.inner.Tasks.{IsOpen, restarted}
 use Rattle.congee_store.specs.inner.Turns.{IsCurrent, IsUndisturbed, MayFollow, work_of}
 use Rattle.congee_store.specs.inner.World.{Node, Table}
 use Rattle.congee_store.proofs.Holding.{first_in, first_or, next_in, none_of}
 use Rattle.congee_store.proofs.Options.{none_some, some_same}
 use Rattle.congee_store.proofs.Reaching.{one, seen_at}
 use Rattle.congee_store.proofs.Unlike.{false_true, true_false}
-use Rattle.congee_store.proofs.Records.{at, restart}
+use Rattle.congee_store.proofs.Records.{at}
+use Rattle.congee_store.proofs.Replies.{returned_fresh}
 use Rattle.congee_sync.specs.Lock.{IsFree, MayUpgrade}
 use Rattle.congee_links.proofs.Words.{Upgrades, upgraded_effect, upgraded_pairs}
 use Rattle.congee_writing.proofs.Moving.{Does, no_effect, quiet_move, same_pairs_here}
@@ -53,7 +54,7 @@ module _ {M : Type 0} (Granted : Type 0) (same : M → M → Bool) (t : Table M)
   touches s e = subst (λ x. IsIn x (named_in tail)) (some_same slot s e) named
 
   -- IT IS LOCKED
-  module _ (t' : Table M) (u : Upgrades t t' slot a) (may : MayUpgrade a.word word) (whole : env.fail ≡ false) (next : Tail) (facts : TailFacts Granted t' root pin task next)
+  module _ (t' : Table M) (u : Upgrades t t' slot a) (may : MayUpgrade a.word word) (whole : env.fail ≡ false) (next : Tail) (facts : TailFacts Granted same t' root pin task next)
       (held : held_in next ≡ slot ∷ held_in tail) (made_next : made_in next ≡ []) (within : Among (spots_in next) (spots_in tail)) (far : (s w : ℕ) → lookup (spots_in next) s ≡ Some w → s ≢ slot)
       (names : (s : ℕ) → IsIn s (named_in next) → IsIn s (named_in tail)) (less : tail_work task.progress next < tail_work task.progress tail) where
     locked_is : flight pin (at (tail_at next) task) ≡ record (flight pin (at (tail_at tail) task)) { held = slot ∷ held_in tail; spots = spots_in next }
@@ -131,7 +132,7 @@ module _ {M : Type 0} (Granted : Type 0) (same : M → M → Bool) (t : Table M)
         },
       )
 
-      failed : Facts Granted t root pin next → next.task.outline ≡ task.outline → ((s : ℕ) → Holding next.stage s → Holding (tail_at tail) s) → ((s : ℕ) → Holding (tail_at tail) s → Holding next.stage s)
+      failed : Facts Granted same t root pin next → next.task.outline ≡ task.outline → ((s : ℕ) → Holding next.stage s → Holding (tail_at tail) s) → ((s : ℕ) → Holding (tail_at tail) s → Holding next.stage s)
           → ((s : ℕ) → IsIn s (named_at next.stage) → IsIn s (named_in tail)) → ((s : ℕ) → MayFollow t next.stage next.task.last s → ⊥) → work_of t next ≤ 40
           → IsMove Granted same t t root pin books books (at (tail_at tail) task) env next (report_of kind.Upgrade (Some slot) 0 false) Going
       failed facts outline fewer more names follows over =
@@ -149,16 +150,16 @@ module _ {M : Type 0} (Granted : Type 0) (same : M → M → Bool) (t : Table M)
           failed_does (λ m. refl)
 
     -- a call that holds nothing goes back to the root
-    back_is : held_in tail ≡ [] → flight pin (at TakeRoot (restart task)) ≡ record (not_locked (held_in tail) (flight pin (at (tail_at tail) task))) { spots = [] }
+    back_is : held_in tail ≡ [] → flight pin (at TakeRoot (restarted task)) ≡ record (not_locked (held_in tail) (flight pin (at (tail_at tail) task))) { spots = [] }
     back_is none =
-        ap (λ (z : List ℕ). record (flight pin (at TakeRoot (restart task))) { held = z }) (sym none)
-        ∙ (ap (λ (z : List ℕ). record (flight pin (at TakeRoot (restart task))) { held = held_in tail; made = z }) (sym made)
+        ap (λ (z : List ℕ). record (flight pin (at TakeRoot (restarted task))) { held = z }) (sym none)
+        ∙ (ap (λ (z : List ℕ). record (flight pin (at TakeRoot (restarted task))) { held = held_in tail; made = z }) (sym made)
         ∙ ap (λ (z : Flight M). record z { spots = [] }) (sym (goes_back (held_in tail) (flight pin (at (tail_at tail) task)) none)))
 
-    pub fails_back : held_in tail ≡ [] → IsMove Granted same t t root pin books books (at (tail_at tail) task) env (at TakeRoot (restart task)) (report_of kind.Upgrade (Some slot) 0 false) Going
+    pub fails_back : held_in tail ≡ [] → IsMove Granted same t t root pin books books (at (tail_at tail) task) env (at TakeRoot (restarted task)) (report_of kind.Upgrade (Some slot) 0 false) Going
     fails_back none =
-        failed (at TakeRoot (restart task)) (back_is none) refl
-        (record { small = small; at = (record { opened = record { undecided = opened.undecided; op = opened.op; op_is = opened.op_is; outline = opened.outline }; fresh = refl }, refl) })
+        failed (at TakeRoot (restarted task)) (back_is none) refl
+        (record { small = small; at = (record { opened = record { undecided = opened.undecided; op = opened.op; op_is = opened.op_is; outline = opened.outline; returned = returned_fresh opened.op task.asking task.returns opened.returned }; fresh = refl }, refl) })
         refl (λ s h. absurd (none_at_root s h))
         (λ s h. elim h [ inl x ↦ none_of s (subst (λ z. IsTrue (is_in s z)) none x) | inr x ↦ none_of s (subst (λ z. IsTrue (is_in s z)) made x) ])
         (λ s h. absurd h) (λ s h. h) (omega arith)

@@ -39,7 +39,7 @@ use Rattle.congee_writing.specs.inner.Makings.{AddsBuilt, AreOfKind, IsBetween, 
 use Rattle.congee_writing.proofs.Copies.{copy_new, middle_new}
 use Rattle.congee_writing.proofs.CopyLaws.{may_from}
 use Rattle.congee_writing.proofs.MakingEvents.{granted_moves}
-use Rattle.congee_writing.proofs.MakingFacts.{copy_made, middle_made}
+use Rattle.congee_writing.proofs.MakingFacts.{Enters, copy_enters, copy_made, middle_made}
 use Rattle.congee_writing.proofs.MakingMoves.{at}
 use Rattle.congee_writing.proofs.MakingTurns.{built_is}
 
@@ -115,7 +115,7 @@ module _ {P A M : Type 0} (meaning : P → M) (charge : A → Option ℕ) (Grant
   held_node s root t shows tail slot x linked mine = record { slot = slot; node = one x; mine = mine; here = seen_at t root s shows slot x linked.here }
 
   module _ (pair : Pair) (slot word : ℕ) (standing : Standing) (n : TableNode P) (there : table_in meaning charge old pair.here.slot ≡ Some (record { word = word; node = meant_node meaning n; standing = standing })) (built : Option (TableNode P)) (adds : AddsBuilt meaning charge old new slot built) where
-    pub copy_moves : (leaf : Option ℕ) → Knows meaning charge Granted old pin (at (Grow pair leaf) task) → IfSome built (λ b. IsGrownFor meaning n b task leaf)
+    pub copy_moves : (leaf : Option ℕ) → Knows meaning charge Granted same old pin (at (Grow pair leaf) task) → IfSome built (λ b. IsGrownFor meaning n b task leaf)
         → Moves meaning charge Granted same old new pin (at (Grow pair leaf) task) env (at (Replace pair slot leaf) task) (report_of kind.Make (Some slot) 0 true) Going
     copy_moves leaf facts grown_if =
         let t : Table M = table_in meaning charge old in
@@ -130,7 +130,8 @@ module _ {P A M : Type 0} (meaning : P → M) (charge : A → Option ℕ) (Grant
         let is_node : x.node ≡ meant_node meaning n = node_same meaning n t old.store.root pair.here.slot word standing x kept.placed held.linked there in
         let is : meant_node meaning adds.node ≡ grown_by x k child =
         subst (λ (z : TableNode M). meant_node meaning adds.node ≡ record { form = next_form z.form; prefix = z.prefix; children = put z.children (next_byte z.prefix k) child }) (sym is_node) grown.is in
-        let own : HasOwn t job leaf child = own_child_of t leaf grown.child work.writes.value work.writes.stores grown.own facts.at.1 in
+        let enters : Enters job = copy_enters Granted same job leaf x work in
+        let own : HasOwn t job leaf child = own_child_of t leaf grown.child enters.value enters.stores grown.own facts.at.1 in
         let short : length x.node.prefix ≤ 7 = kept.placed.short pair.here.slot x held.linked in
         let fits : Fits x.node.form (length x.node.children) =
         subst (λ (z : TableNode M). Fits z.form (length z.children)) (sym is_node) (subst (λ (c : ℕ). Fits n.form c) (sym (length-mapped (child_of meaning) n.children)) grown.fits) in
@@ -141,9 +142,9 @@ module _ {P A M : Type 0} (meaning : P → M) (charge : A → Option ℕ) (Grant
         (copy_new s pin job pair leaf (held_node s old.store.root t shows (Grow pair leaf) pair.here.slot x held.linked (first-in pair.here.slot (pair.above.slot ∷ []))) child
         grow.way (kept.placed.ordered pair.here.slot x held.linked) short fits grow.full grow.none (placed_kinds t old.store.root pair.here.slot x kept.placed held.linked)
         (own_may t x.node.prefix leaf child own grow.kind short) (own_flight pair t leaf child own)))
-        (copy_made t (table_in meaning charge new) Granted job slot (meant_node meaning adds.node) adds.adds.empty adds.adds.here adds.adds.others pair leaf facts.at.0 child own is)
+        (copy_made t (table_in meaning charge new) Granted same job slot (meant_node meaning adds.node) adds.adds.empty adds.adds.here adds.adds.others pair leaf facts.at.0 child own is)
 
-    pub middle_moves : (leaf : ℕ) → Knows meaning charge Granted old pin (at (MakeMiddle pair leaf) task) → IfSome built (λ b. IsBetween meaning n b (key_bytes (meant_task meaning task)) pair.here.slot leaf)
+    pub middle_moves : (leaf : ℕ) → Knows meaning charge Granted same old pin (at (MakeMiddle pair leaf) task) → IfSome built (λ b. IsBetween meaning n b (key_bytes (meant_task meaning task)) pair.here.slot leaf)
         → Moves meaning charge Granted same old new pin (at (MakeMiddle pair leaf) task) env (at (Insert pair slot leaf) task) (report_of kind.Make (Some slot) 0 true) Going
     middle_moves leaf facts between_if =
         let t : Table M = table_in meaning charge old in
@@ -164,4 +165,4 @@ module _ {P A M : Type 0} (meaning : P → M) (charge : A → Option ℕ) (Grant
         (λ s shows. subst (λ (a : TableNode M). IsNew s (flight pin (at (MakeMiddle pair leaf) job)) a) (sym is)
         (middle_new s pin job pair leaf p (held_node s old.store.root t shows (MakeMiddle pair leaf) pair.here.slot x held.linked (first-in pair.here.slot (pair.above.slot ∷ []))) fork
         (kept.placed.bytes pair.here.slot x held.linked) (kept.placed.short pair.here.slot x held.linked)))
-        (middle_made t (table_in meaning charge new) Granted job slot (meant_node meaning adds.node) adds.adds.empty adds.adds.here adds.adds.others pair leaf facts.at.0 facts.at.1 p fork is)
+        (middle_made t (table_in meaning charge new) Granted same job slot (meant_node meaning adds.node) adds.adds.empty adds.adds.here adds.adds.others pair leaf facts.at.0 facts.at.1 p fork is)

@@ -1,22 +1,49 @@
 -- What a call knows after a Make, and after one that is refused.
-use Rattle.std.proofs.Common.{◌≡◌, ◌≢◌, ℕ, List, Option, Some, None, ◌⊎◌, inr, refl, sym, subst, ap, ◌∙◌}
+use Rattle.std.proofs.Common.{Bool, ◌≡◌, ◌≢◌, ℕ, List, Option, Some, None, ◌⊎◌, inr, refl, sym, subst, ap, ◌∙◌}
 use Rattle.congee_node_table.specs.TableNode.{TableNode}
 use Rattle.congee_node_table.specs.declared.child.Child.{Child}
+use Rattle.congee_protocol.specs.Local.{payload_in}
 use Rattle.congee_store.specs.declared.stage.Spot.{Spot}
 use Rattle.congee_store.specs.declared.stage.Task.{Task}
 use Rattle.congee_store.specs.declared.tail.Large.{Large}
-use Rattle.congee_store.specs.declared.tail.Large.TheVariants.{Split}
+use Rattle.congee_store.specs.declared.tail.Large.TheVariants.{GrowLeaf, GrowInner, Split, Detach}
 use Rattle.congee_store.specs.declared.tail.Pair.{Pair}
 use Rattle.congee_store.specs.declared.tail.Small.{Small}
 use Rattle.congee_store.specs.declared.tail.Small.TheVariants.{Leaf}
+use Rattle.congee_store.specs.inner.Effects.{IsChange}
 use Rattle.congee_store.specs.inner.Slots.{made_node}
 use Rattle.congee_store.specs.inner.Tables.{IsLinked, OnWay}
-use Rattle.congee_store.specs.inner.TailFacts.{AreHeld, AtNode, AtPair, HasCopy, HasLeaf, HasMiddle, HasOwn, IsFork, IsHeld, IsMade, IsOver, grown_by, is_for, leaf_of, middle_of, stores}
+use Rattle.congee_store.specs.inner.TailFacts.{AreHeld, AtNode, AtPair, HasCopy, HasLeaf, HasMiddle, HasNewLeaf, HasOwn, IsFork, IsHeld, IsMade, IsOver, LargeWork, SmallWork, Writes, grown_by, is_for, leaf_of, middle_of, stores}
 use Rattle.congee_store.specs.inner.Tasks.{key_bytes}
 use Rattle.congee_store.specs.inner.World.{Node, Table}
 use Rattle.congee_store.proofs.Options.{none_some, some_same}
+use Rattle.congee_store.proofs.Replies.{change_enters}
 use Rattle.congee_store.proofs.Unlike.{linked_private, refused_open}
 use Rattle.congee_writing.specs.inner.Makings.{IsGivenUp, gone}
+
+-- what a call stores where nothing stands at its key
+pub record Enters {M : Type 0} (task : Task M) : Type 0 where
+  pub value : M
+  pub stores : stores task ≡ Some value
+
+module _ {M : Type 0} (Granted : Type 0) (same : M → M → Bool) (task : Task M) where
+  enters : (stands : Option M) → Writes Granted same task stands → stands ≡ None → Enters task
+  enters stands w none =
+      let new = change_enters same w.opened.op task.asking w.value (subst (λ (z : Option M). IsChange same w.opened.op task.asking z w.value) none w.change) in record { value = new.0; stores = w.stores ∙ new.1 }
+
+  -- a new leaf, and a payload more in a larger one
+  pub leaf_enters : (a : Node M) → SmallWork Granted same Leaf task a → Enters task
+  leaf_enters a work = enters _ work.writes (ap payload_in work.is.1)
+
+  pub leaf_enters_below : (large : Large) (a : Node M) → HasNewLeaf large → LargeWork Granted same large task a → Enters task
+  leaf_enters_below GrowLeaf a new work = absurd new
+  leaf_enters_below GrowInner a new work = enters None work.writes refl
+  leaf_enters_below Split a new work = enters None work.writes refl
+  leaf_enters_below Detach a new work = absurd new
+
+  pub copy_enters : (leaf : Option ℕ) (a : Node M) → LargeWork Granted same (is_for leaf) task a → Enters task
+  copy_enters None a work = enters None work.writes refl
+  copy_enters (Some leaf) a work = enters None work.writes refl
 
 module _ {M : Type 0} (t t' : Table M) where
   -- a slot that has a node isn't the one that gets one
@@ -28,8 +55,8 @@ module _ {M : Type 0} (t t' : Table M) where
   linked_still None charge charge' s a up here = up.nodes s
   linked_still (Some slot) charge charge' s a up linked =
       up.others s (λ e.
-      let same : a ≡ up.node = some_same a up.node (sym linked.here ∙ subst (λ (z : ℕ). t z ≡ Some up.node) (sym e) up.here) in
-      linked_private (sym linked.standing ∙ (ap (λ (z : Node M). z.standing) same ∙ up.private)))
+      let one : a ≡ up.node = some_same a up.node (sym linked.here ∙ subst (λ (z : ℕ). t z ≡ Some up.node) (sym e) up.here) in
+      linked_private (sym linked.standing ∙ (ap (λ (z : Node M). z.standing) one ∙ up.private)))
 
   abbrev pub held_still : (spot : Spot) → IsHeld t spot → t' spot.slot ≡ t spot.slot → IsHeld t' spot
   held_still spot h same = record {
@@ -58,43 +85,43 @@ module _ {M : Type 0} (t t' : Table M) where
     leads = h.leads;
   }
 
-  module _ (Granted : Type 0) (task : Task M) where
-    abbrev pub at_node_still : (spot : Spot) (small : Small) → AtNode Granted t task spot small → t' spot.slot ≡ t spot.slot → AtNode Granted t' task spot small
-    at_node_still spot small at same = record { way = way_still spot.slot (key_bytes task) same at.way; held = held_still spot at.held same; work = at.work }
+  module _ (Granted : Type 0) (same : M → M → Bool) (task : Task M) where
+    abbrev pub at_node_still : (spot : Spot) (small : Small) → AtNode Granted same t task spot small → t' spot.slot ≡ t spot.slot → AtNode Granted same t' task spot small
+    at_node_still spot small at here = record { way = way_still spot.slot (key_bytes task) here at.way; held = held_still spot at.held here; work = at.work }
 
-    abbrev pub at_pair_still : (pair : Pair) (large : Large) → AtPair Granted t task pair large → t' pair.above.slot ≡ t pair.above.slot → t' pair.here.slot ≡ t pair.here.slot → AtPair Granted t' task pair large
+    abbrev pub at_pair_still : (pair : Pair) (large : Large) → AtPair Granted same t task pair large → t' pair.above.slot ≡ t pair.above.slot → t' pair.here.slot ≡ t pair.here.slot → AtPair Granted same t' task pair large
     at_pair_still pair large at above here = record { held = pair_still pair (key_bytes task) at.held above here; work = at.work }
 
   made_is : (slot : ℕ) (a b : TableNode M) → t' slot ≡ Some (made_node a) → a ≡ b → IsMade t' slot b
   made_is slot a b here is = record { node = made_node a; here = here; standing = refl; word = refl; is = is }
 
   -- A NODE HAS COME into a slot that was empty
-  module _ (Granted : Type 0) (task : Task M) (slot : ℕ) (a : TableNode M) (empty : t slot ≡ None) (there : t' slot ≡ Some (made_node a)) (others : (o : ℕ) → o ≢ slot → t' o ≡ t o) where
+  module _ (Granted : Type 0) (same : M → M → Bool) (task : Task M) (slot : ℕ) (a : TableNode M) (empty : t slot ≡ None) (there : t' slot ≡ Some (made_node a)) (others : (o : ℕ) → o ≢ slot → t' o ≡ t o) where
     abbrev pub still : (s : ℕ) (b : Node M) → t s ≡ Some b → t' s ≡ t s
     still s b here = there_still slot s b empty others here
 
     new_leaf : (v : M) → stores task ≡ Some v → a ≡ leaf_of (key_bytes task) v → HasLeaf t' task slot
     new_leaf v stores is = record { value = v; stores = stores; made = made_is slot a (leaf_of (key_bytes task) v) there is }
 
-    pub leaf_made : (spot : Spot) (at : AtNode Granted t task spot Leaf) → a ≡ leaf_of (key_bytes task) at.work.writes.value → AtNode Granted t' task spot Leaf × HasLeaf t' task slot
-    leaf_made spot at is = (
-      at_node_still Granted task spot Leaf at (still spot.slot at.held.node at.held.linked.here),
-      new_leaf at.work.writes.value at.work.writes.stores is,
+    pub leaf_made : (spot : Spot) → AtNode Granted same t task spot Leaf → (own : Enters task) → a ≡ leaf_of (key_bytes task) own.value → AtNode Granted same t' task spot Leaf × HasLeaf t' task slot
+    leaf_made spot at own is = (
+      at_node_still Granted same task spot Leaf at (still spot.slot at.held.node at.held.linked.here),
+      new_leaf own.value own.stores is,
     )
 
-    abbrev pub pair_on : (pair : Pair) (large : Large) → AtPair Granted t task pair large → AtPair Granted t' task pair large
+    abbrev pub pair_on : (pair : Pair) (large : Large) → AtPair Granted same t task pair large → AtPair Granted same t' task pair large
     pair_on pair large at =
-        at_pair_still Granted task pair large at (still pair.above.slot at.held.above.node at.held.above.linked.here) (still pair.here.slot at.held.here.node at.held.here.linked.here)
+        at_pair_still Granted same task pair large at (still pair.above.slot at.held.above.node at.held.above.linked.here) (still pair.here.slot at.held.here.node at.held.here.linked.here)
 
-    pub leaf_made_below : (pair : Pair) (large : Large) (at : AtPair Granted t task pair large) → a ≡ leaf_of (key_bytes task) at.work.writes.value → AtPair Granted t' task pair large × HasLeaf t' task slot
-    leaf_made_below pair large at is = (pair_on pair large at, new_leaf at.work.writes.value at.work.writes.stores is)
+    pub leaf_made_below : (pair : Pair) (large : Large) → AtPair Granted same t task pair large → (own : Enters task) → a ≡ leaf_of (key_bytes task) own.value → AtPair Granted same t' task pair large × HasLeaf t' task slot
+    leaf_made_below pair large at own is = (pair_on pair large at, new_leaf own.value own.stores is)
 
     leaf_on : (leaf : ℕ) → HasLeaf t task leaf → HasLeaf t' task leaf
     leaf_on leaf h = leaf_still task leaf h (still leaf h.made.node h.made.here)
 
-    pub middle_made : (pair : Pair) (leaf : ℕ) (at : AtPair Granted t task pair Split) → HasLeaf t task leaf → (prefix : List ℕ) → IsFork prefix at.held.here.node.node.prefix (key_bytes task)
+    pub middle_made : (pair : Pair) (leaf : ℕ) (at : AtPair Granted same t task pair Split) → HasLeaf t task leaf → (prefix : List ℕ) → IsFork prefix at.held.here.node.node.prefix (key_bytes task)
         → a ≡ middle_of prefix at.held.here.node pair.here.slot (key_bytes task) leaf
-        → (now : AtPair Granted t' task pair Split) × HasLeaf t' task leaf × HasMiddle t' task now.held.here.node pair.here.slot slot leaf
+        → (now : AtPair Granted same t' task pair Split) × HasLeaf t' task leaf × HasMiddle t' task now.held.here.node pair.here.slot slot leaf
     middle_made pair leaf at has prefix fork is = (
       pair_on pair Split at,
       leaf_on leaf has,
@@ -105,23 +132,23 @@ module _ {M : Type 0} (t t' : Table M) where
     own_on None child own = own
     own_on (Some leaf) child own = (leaf_on leaf own.0, own.1)
 
-    pub copy_made : (pair : Pair) (leaf : Option ℕ) (at : AtPair Granted t task pair (is_for leaf)) → (child : Child M) → HasOwn t task leaf child
+    pub copy_made : (pair : Pair) (leaf : Option ℕ) (at : AtPair Granted same t task pair (is_for leaf)) → (child : Child M) → HasOwn t task leaf child
         → a ≡ grown_by at.held.here.node (key_bytes task) child
-        → (now : AtPair Granted t' task pair (is_for leaf)) × HasCopy t' task now.held.here.node slot leaf
+        → (now : AtPair Granted same t' task pair (is_for leaf)) × HasCopy t' task now.held.here.node slot leaf
     copy_made pair leaf at child own is = (
       pair_on pair (is_for leaf) at,
       record { child = child; own = own_on leaf child own; made = made_is slot a (grown_by at.held.here.node (key_bytes task) child) there is },
     )
 
   -- WHAT WAS MADE HAS GONE: the held nodes stay
-  module _ (Granted : Type 0) (task : Task M) (made charge charge' : Option ℕ) (up : IsGivenUp t t' made charge charge') where
-    pub over : IsOver Granted (gone task)
+  module _ (Granted : Type 0) (same : M → M → Bool) (task : Task M) (made charge charge' : Option ℕ) (up : IsGivenUp t t' made charge charge') where
+    pub over : IsOver Granted same (gone task)
     over e = refused_open e
 
-    pub one_left : (spot : Spot) → IsHeld t spot → IsHeld t' spot × (⊥ ⊎ IsOver Granted (gone task))
+    pub one_left : (spot : Spot) → IsHeld t spot → IsHeld t' spot × (⊥ ⊎ IsOver Granted same (gone task))
     one_left spot h = (held_still spot h (linked_still made charge charge' spot.slot h.node up h.linked), inr over)
 
-    pub both_left : (pair : Pair) (k : List ℕ) → AreHeld t pair k → IsOver Granted (gone task) × IsHeld t' pair.above × IsHeld t' pair.here × (pair.above.slot ≢ pair.here.slot)
+    pub both_left : (pair : Pair) (k : List ℕ) → AreHeld t pair k → IsOver Granted same (gone task) × IsHeld t' pair.above × IsHeld t' pair.here × (pair.above.slot ≢ pair.here.slot)
     both_left pair k h = (
       over,
       held_still pair.above h.above (linked_still made charge charge' pair.above.slot h.above.node up h.above.linked),

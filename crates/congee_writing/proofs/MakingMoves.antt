@@ -129,7 +129,7 @@ module _ {M : Type 0} (Granted : Type 0) (same : M → M → Bool) (t t' : Table
   pub granted : (slot : ℕ) (a : TableNode M) → Makes t t' slot (made_node a)
       → books'.count ≡ books.count → books'.entries ≡ books.entries → books'.charge ≡ add_charge books.charge (stated_size a.form)
       → task.progress ≡ progress.Open → Follows tail next → made_in next ≡ slot ∷ made_in tail → tail_work task.progress next < tail_work task.progress tail
-      → ((s : State M) → Shows t root s → IsNew s (flight pin (at tail task)) a) → Facts Granted t' root pin (at next task)
+      → ((s : State M) → Shows t root s → IsNew s (flight pin (at tail task)) a) → Facts Granted same t' root pin (at next task)
       → IsMove Granted same t t' root pin books books' (at tail task) env (at next task) (report_of kind.Make (Some slot) 0 true) Going
   granted slot a makes count entries charge undecided follows made less new facts =
       let Mine : ℕ → Type 0 = Holding (Tail tail) in
@@ -243,7 +243,7 @@ module _ {M : Type 0} (Granted : Type 0) (same : M → M → Bool) (t t' : Table
   pub refuses : (made : Option ℕ) → made_in tail ≡ one_more made → IsGivenUp t t' made books.charge books'.charge
       → books'.count ≡ books.count → books'.entries ≡ books.entries
       → task.progress ≡ progress.Open → Follows tail next → made_in next ≡ [] → tail_work progress.Refused next < tail_work task.progress tail
-      → Facts Granted t' root pin (at next (gone task))
+      → Facts Granted same t' root pin (at next (gone task))
       → IsMove Granted same t t' root pin books books' (at tail task) env (at next (gone task)) (report_of kind.Make None 0 true) Refused
   refuses made is up count entries undecided follows none less facts =
       let Mine : ℕ → Type 0 = Holding (Tail tail) in

@@ -42,7 +42,7 @@ module _ {M : Type 0} (Granted : Type 0) (same : M → M → Bool) (t t' : Table
       → DoesAs Granted same s s' id (flight pin call) env report out report.kind
 
   pub quiet_move : (written named : List ℕ) → IsPlaced t root → Effect t t' root (Holding call.stage) (λ p. p ≤ books.count) written named → SamePairs t t'
-      → Facts Granted t' root pin next → books.count ≤ books'.count → books'.entries ≡ books.entries
+      → Facts Granted same t' root pin next → books.count ≤ books'.count → books'.entries ≡ books.entries
       → ((s : ℕ) → Holding next.stage s → Holding call.stage s ⊎ NewlyHeld t s) → ((s : ℕ) → IsIn s named → Holding next.stage s)
       → ((s : ℕ) → Holding call.stage s → Beside s written → Holding next.stage s) → IsCourse t t' root call env next report out → Does
       → ((m : Pairs M) → Carries same m m (flight pin call) out) → IsMove Granted same t t' root pin books books' call env next report out

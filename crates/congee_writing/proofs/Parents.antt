@@ -14,13 +14,13 @@ use Rattle.congee_protocol.specs.declared.types.Env.{Env}
 use Rattle.congee_protocol.specs.declared.types.Kind.TheVariants as kind
 use Rattle.congee_protocol.specs.declared.types.Outcome.TheVariants.{Decided}
 use Rattle.congee_protocol.specs.declared.types.Progress.TheVariants as progress
-use Rattle.congee_protocol.specs.declared.types.Reply.TheVariants.{Old}
 use Rattle.congee_store.specs.declared.stage.Stage.{Stage}
 use Rattle.congee_store.specs.declared.stage.Stage.TheVariants.{Tail}
 use Rattle.congee_store.specs.declared.stage.Task.{Task}
 use Rattle.congee_store.specs.declared.tail.Large.TheVariants.{Split}
 use Rattle.congee_store.specs.declared.tail.Pair.{Pair}
 use Rattle.congee_store.specs.declared.tail.Tail.TheVariants.{Replace, Insert, Obsolete, UnlockBelow}
+use Rattle.congee_store.specs.inner.Effects.{reply_with}
 use Rattle.congee_store.specs.inner.Facts.{Holding}
 use Rattle.congee_store.specs.inner.Moves.{Books, IsAfter, IsMove}
 use Rattle.congee_store.specs.inner.Shown.{flight, shown, held_at, made_at}
@@ -34,12 +34,13 @@ use Rattle.congee_store.proofs.Options.{none_some, some_same}
 use Rattle.congee_store.proofs.Reaching.{one, seen_at}
 use Rattle.congee_store.proofs.Unlike.{linked_private, decided_open}
 use Rattle.congee_store.proofs.Records.{at}
+use Rattle.congee_store.proofs.Replies.{change_enters}
 use Rattle.congee_links.proofs.Effects.{OthersStay, Effect, Beside}
 use Rattle.congee_links.proofs.Growing.{grown_leaf_effect, grown_leaf_puts, grown_inner_effect, grown_inner_puts}
 use Rattle.congee_links.proofs.Pairs.{PutsPair}
 use Rattle.congee_links.proofs.Splitting.{split_effect, split_puts}
 use Rattle.congee_links.proofs.Writing.{answered}
-use Rattle.congee_writing.proofs.Deciding.{with_reply, told, listed, StandsAt, ShowsWrite, nodes_written, becomes_of, writes_child}
+use Rattle.congee_writing.proofs.Deciding.{AnswersPair, StandsAt, ShowsWrite, becomes_of, entries_after, listed, nodes_written, told, with_reply, writes_child}
 use Rattle.congee_writing.proofs.Growths.{BecomesLinked, LeadsNow, IsPrivate, copy_private, middle_private, above_inner, grows_leaf, grows_inner, splits, copied_absent, split_absent}
 
 -- a test of a list finds what is in it
@@ -115,6 +116,16 @@ module _ {M : Type 0} (Granted : Type 0) (same : M → M → Bool) (t t' : Table
   abbrev q : ℕ
   q = pair.here.slot
 
+  -- a call that finds nothing stores a value
+  entered : (w : Writes Granted same task None) → (v : M) × (w.value ≡ Some v)
+  entered w = change_enters same w.opened.op task.asking w.value w.change
+
+  answers_entered : (value : Option M) (v : M) → value ≡ Some v → PutsPair t t' (key_of task.outline) v → AnswersPair t t' (key_of task.outline) value
+  answers_entered value v is puts = subst (λ (z : Option M). AnswersPair t t' (key_of task.outline) z) (sym is) puts
+
+  entries_entered : (value : Option M) (v : M) → value ≡ Some v → books'.entries ≡ entries_after None value books.entries
+  entries_entered value v is = subst (λ (z : Option M). books'.entries ≡ entries_after None z books.entries) (sym is) entries
+
   -- what a reader sees of the nodes
   shows_above : (new : ℕ) (made : List ℕ) (held : AreHeld t pair k) → LeadsNow t' p held.above.node k new → ((s : ℕ) → IsIn s made → IsPublished t t' s)
       → ((o : ℕ) → o ≢ p → (IsIn o made → ⊥) → shown (t' o) ≡ shown (t o))
@@ -136,13 +147,13 @@ module _ {M : Type 0} (Granted : Type 0) (same : M → M → Bool) (t t' : Table
       subst (λ n. Fits a.node.form n) (sym (length-put_some 0 256 a.node.children (byte_at a k) (below_at new) (placed.ordered p a held.above.linked) (rw held.leads refl))) fits
 
   -- AS A PUBLIC EVENT
-  does_above : (stage next : Stage) (new : ℕ) (held : AreHeld t pair k) (w : Writes Granted task None) → IsTrue (is_in p (held_at stage)) → IsTrue (is_in new (made_at stage))
+  does_above : (stage next : Stage) (new : ℕ) (held : AreHeld t pair k) (w : Writes Granted same task None) → IsTrue (is_in p (held_at stage)) → IsTrue (is_in new (made_at stage))
       → (let call : Flight M = flight pin (at stage task) in let after : Flight M = flight pin (at next (with_reply task)) in after ≡ record (settled progress.Decided (record call { made = [] })) { spots = after.spots })
       → (let after : Flight M = flight pin (at next (with_reply task)) in after.spots ≡ [])
       → Fits held.above.node.node.form (length held.above.node.node.children)
       → ShowsWrite t t' (made_at stage) p (one (answered held.above.node (byte_at held.above.node k) (Some (below_at new))))
       → (s s' : State M) (id : ℕ) → Shows t root s → Shows t' root s' → IsMap s.nodes → IsMap s'.nodes → IsAfter s s' id (flight pin (at next (with_reply task))) books books'
-      → DoesAs Granted same s s' id (flight pin (at stage task)) env (report_of kind.Write (Some p) 0 true) (Decided (Old None)) kind.Write
+      → DoesAs Granted same s s' id (flight pin (at stage task)) env (report_of kind.Write (Some p) 0 true) (Decided (reply_with task.outline None task.returns)) kind.Write
   does_above stage next new held w mine own is no_spots fits written s s' id shows shows' map map' after =
       writes_child Granted same task stage pin None w s s' id env (flight pin (at next (with_reply task))) books books' after count charge
       (record { slot = p; node = one held.above.node; mine = mine; here = seen_at t root s shows p held.above.node held.above.linked.here })
@@ -165,13 +176,13 @@ module _ {M : Type 0} (Granted : Type 0) (same : M → M → Bool) (t t' : Table
   both_in s h = elim h [ inl e ↦ inr (inl e) | inr (inl e) ↦ inl e | inr (inr none) ↦ absurd none ]
 
   -- THE COPY takes the node's place
-  replaced_by : (copy : ℕ) (leaf : Option ℕ) (held : AreHeld t pair k) (w : Writes Granted task None) → Fits held.above.node.node.form (length held.above.node.node.children)
+  replaced_by : (copy : ℕ) (leaf : Option ℕ) (held : AreHeld t pair k) (w : Writes Granted same task None) → Fits held.above.node.node.form (length held.above.node.node.children)
       → LeadsNow t' p held.above.node k copy → t' q ≡ Some (record held.here.node { standing = is_detached }) → ((s : ℕ) → IsIn s (copy ∷ one_more leaf) → IsPublished t t' s)
       → OthersStay t t' (p ∷ q ∷ copy ∷ one_more leaf)
       → Effect t t' root (Holding (Tail (Replace pair copy leaf))) (λ z. z ≤ books.count) (p ∷ q ∷ copy ∷ one_more leaf) (p ∷ q ∷ [])
-      → StandsAt t k None → PutsPair t t' (key_of task.outline) w.value
-      → IsMove Granted same t t' root pin books books' (at (Tail (Replace pair copy leaf)) task) env (at (Tail (Obsolete pair)) (with_reply task)) (report_of kind.Write (Some p) 0 true) (Decided (Old None))
-  replaced_by copy leaf held w fits above here published others effect absent puts = record {
+      → (v : M) → w.value ≡ Some v → StandsAt t k None → PutsPair t t' (key_of task.outline) v
+      → IsMove Granted same t t' root pin books books' (at (Tail (Replace pair copy leaf)) task) env (at (Tail (Obsolete pair)) (with_reply task)) (report_of kind.Write (Some p) 0 true) (Decided (reply_with task.outline None task.returns))
+  replaced_by copy leaf held w fits above here published others effect v is absent puts = record {
     facts = record {
       small = small;
       at = (
@@ -202,17 +213,17 @@ module _ {M : Type 0} (Granted : Type 0) (same : M → M → Bool) (t t' : Table
               (ap shown here ∙ (detached_shown held.here.node held.here.linked.standing ∙ sym (ap shown held.here.linked.here)))
           | inr off ↦ ap shown (others o (λ h. elim h [ inl e ↦ far (sym e) | inr (inl e) ↦ off.1 (sym e) | inr (inr later) ↦ out later ]))
         ]));
-    carries = becomes_of Granted same task (Tail (Replace pair copy leaf)) pin None w t t' root books books' placed effect.placed small absent puts entries;
+    carries = becomes_of Granted same task (Tail (Replace pair copy leaf)) pin None w t t' root books books' placed effect.placed small absent (answers_entered w.value v is puts) (entries_entered w.value v is);
   }
 
   -- THE MIDDLE NODE is put between
-  inserted_by : (middle leaf : ℕ) (held : AreHeld t pair k) (w : Writes Granted task None) → Fits held.above.node.node.form (length held.above.node.node.children)
+  inserted_by : (middle leaf : ℕ) (held : AreHeld t pair k) (w : Writes Granted same task None) → Fits held.above.node.node.form (length held.above.node.node.children)
       → LeadsNow t' p held.above.node k middle → ((s : ℕ) → IsIn s (middle ∷ leaf ∷ []) → IsPublished t t' s)
       → OthersStay t t' (p ∷ middle ∷ leaf ∷ [])
       → Effect t t' root (Holding (Tail (Insert pair middle leaf))) (λ z. z ≤ books.count) (p ∷ middle ∷ leaf ∷ []) (p ∷ [])
-      → StandsAt t k None → PutsPair t t' (key_of task.outline) w.value
-      → IsMove Granted same t t' root pin books books' (at (Tail (Insert pair middle leaf)) task) env (at (Tail (UnlockBelow pair)) (with_reply task)) (report_of kind.Write (Some p) 0 true) (Decided (Old None))
-  inserted_by middle leaf held w fits above published others effect absent puts =
+      → (v : M) → w.value ≡ Some v → StandsAt t k None → PutsPair t t' (key_of task.outline) v
+      → IsMove Granted same t t' root pin books books' (at (Tail (Insert pair middle leaf)) task) env (at (Tail (UnlockBelow pair)) (with_reply task)) (report_of kind.Write (Some p) 0 true) (Decided (reply_with task.outline None task.returns))
+  inserted_by middle leaf held w fits above published others effect v is absent puts =
       let off : (o : ℕ) → o ≢ p → (IsIn o (middle ∷ leaf ∷ []) → ⊥) → t' o ≡ t o = λ o far out. others o (λ h. elim h [ inl e ↦ far (sym e) | inr later ↦ out later ]) in
       let here : t' q ≡ Some held.here.node =
       off q (λ e. held.over.apart (sym e)) (λ h. published_off t t' q q held.here.node (published q h) held.here.linked refl) ∙ held.here.linked.here in
@@ -248,7 +259,7 @@ module _ {M : Type 0} (Granted : Type 0) (same : M → M → Bool) (t t' : Table
         };
         does = does_above (Tail (Insert pair middle leaf)) (Tail (UnlockBelow pair)) middle held w (later_in p q (p ∷ []) (first_in p [])) (first_in middle (leaf ∷ [])) refl refl fits
             (shows_above middle (middle ∷ leaf ∷ []) held above published (λ o far out. ap shown (off o far out)));
-        carries = becomes_of Granted same task (Tail (Insert pair middle leaf)) pin None w t t' root books books' placed effect.placed small absent puts entries;
+        carries = becomes_of Granted same task (Tail (Insert pair middle leaf)) pin None w t t' root books books' placed effect.placed small absent (answers_entered w.value v is puts) (entries_entered w.value v is);
       }
 
   published_by : (made : List ℕ) → ((s : ℕ) → IsIn s made → IsPrivate t s) → ((s : ℕ) → IsIn s made → BecomesLinked t t' s) → (s : ℕ) → IsIn s made → IsPublished t t' s
@@ -257,44 +268,47 @@ module _ {M : Type 0} (Granted : Type 0) (same : M → M → Bool) (t t' : Table
       record { node = x.node; made = x.here; private = x.standing; after = linked s h x.node x.here }
 
   -- A REPLACE
-  pub copy_moves : (copy : ℕ) (leaf : Option ℕ) (own : AtPair Granted t task pair (is_for leaf)) (has : HasCopy t task own.held.here.node copy leaf)
+  pub copy_moves : (copy : ℕ) (leaf : Option ℕ) (own : AtPair Granted same t task pair (is_for leaf)) (has : HasCopy t task own.held.here.node copy leaf)
       → Fits own.held.above.node.node.form (length own.held.above.node.node.children)
       → LeadsNow t' p own.held.above.node k copy → t' q ≡ Some (record own.held.here.node { standing = is_detached }) → ((s : ℕ) → IsIn s (copy ∷ one_more leaf) → BecomesLinked t t' s)
       → OthersStay t t' (p ∷ q ∷ copy ∷ one_more leaf)
-      → IsPlaced t' root × IsMove Granted same t t' root pin books books' (at (Tail (Replace pair copy leaf)) task) env (at (Tail (Obsolete pair)) (with_reply task)) (report_of kind.Write (Some p) 0 true) (Decided (Old None))
+      → IsPlaced t' root × IsMove Granted same t t' root pin books books' (at (Tail (Replace pair copy leaf)) task) env (at (Tail (Obsolete pair)) (with_reply task)) (report_of kind.Write (Some p) 0 true) (Decided (reply_with task.outline None task.returns))
   copy_moves copy None own has fits above here linked others =
       let mine : ℕ → Type 0 = Holding (Tail (Replace pair copy None)) in
-      let g = grows_leaf Granted t t' root task pair placed small copy own has above here (linked copy (inl refl)) others in
+      let value = entered own.work.writes in
+      let g = grows_leaf Granted same t t' root task pair placed small copy own has value.0 (own.work.writes.stores ∙ value.1) above here (linked copy (inl refl)) others in
       let effect = grown_leaf_effect g root placed mine (λ z. z ≤ books.count) (inl (later_in p q (p ∷ []) (first_in p []))) (inl (first_in q (p ∷ []))) (inr (first_in copy [])) in (
         effect.placed,
-        replaced_by copy None own.held own.work.writes fits above here (published_by (copy ∷ []) (copy_private t task own.held.here.node copy None has) linked) others effect
-            (copied_absent Granted t t' root task pair placed small own.held own.work.is.0 own.work.is.2)
+        replaced_by copy None own.held own.work.writes fits above here (published_by (copy ∷ []) (copy_private t task own.held.here.node copy None has) linked) others effect value.0 value.1
+            (copied_absent Granted same t t' root task pair placed small own.held own.work.is.0 own.work.is.2)
             (grown_leaf_puts g root placed),
       )
   copy_moves copy (Some leaf) own has fits above here linked others =
       let mine : ℕ → Type 0 = Holding (Tail (Replace pair copy (Some leaf))) in
-      let g = grows_inner Granted t t' root task pair placed small copy leaf own has above here (linked copy (inl refl)) (linked leaf (inr (inl refl))) others in
+      let value = entered own.work.writes in
+      let g = grows_inner Granted same t t' root task pair placed small copy leaf own has value.0 (own.work.writes.stores ∙ value.1) above here (linked copy (inl refl)) (linked leaf (inr (inl refl))) others in
       let effect = grown_inner_effect g root placed mine (λ z. z ≤ books.count) (inl (later_in p q (p ∷ []) (first_in p []))) (inl (first_in q (p ∷ []))) (inr (first_in copy (leaf ∷ [])))
       (inr (later_in leaf copy (leaf ∷ []) (first_in leaf []))) in (
         effect.placed,
-        replaced_by copy (Some leaf) own.held own.work.writes fits above here (published_by (copy ∷ leaf ∷ []) (copy_private t task own.held.here.node copy (Some leaf) has) linked) others effect
-            (copied_absent Granted t t' root task pair placed small own.held own.work.is.0 own.work.is.2)
+        replaced_by copy (Some leaf) own.held own.work.writes fits above here (published_by (copy ∷ leaf ∷ []) (copy_private t task own.held.here.node copy (Some leaf) has) linked) others effect value.0 value.1
+            (copied_absent Granted same t t' root task pair placed small own.held own.work.is.0 own.work.is.2)
             (grown_inner_puts g root placed),
       )
 
   -- AN INSERT of a node between
-  pub middle_moves : (middle leaf : ℕ) (own : AtPair Granted t task pair Split) (has_leaf : HasLeaf t task leaf) (has : HasMiddle t task own.held.here.node q middle leaf)
+  pub middle_moves : (middle leaf : ℕ) (own : AtPair Granted same t task pair Split) (has_leaf : HasLeaf t task leaf) (has : HasMiddle t task own.held.here.node q middle leaf)
       → Fits own.held.above.node.node.form (length own.held.above.node.node.children)
       → LeadsNow t' p own.held.above.node k middle → ((s : ℕ) → IsIn s (middle ∷ leaf ∷ []) → BecomesLinked t t' s)
       → OthersStay t t' (p ∷ middle ∷ leaf ∷ [])
-      → IsPlaced t' root × IsMove Granted same t t' root pin books books' (at (Tail (Insert pair middle leaf)) task) env (at (Tail (UnlockBelow pair)) (with_reply task)) (report_of kind.Write (Some p) 0 true) (Decided (Old None))
+      → IsPlaced t' root × IsMove Granted same t t' root pin books books' (at (Tail (Insert pair middle leaf)) task) env (at (Tail (UnlockBelow pair)) (with_reply task)) (report_of kind.Write (Some p) 0 true) (Decided (reply_with task.outline None task.returns))
   middle_moves middle leaf own has_leaf has fits above linked others =
       let mine : ℕ → Type 0 = Holding (Tail (Insert pair middle leaf)) in
-      let g = splits Granted t t' root task pair placed small middle leaf own has_leaf has above (linked middle (inl refl)) (linked leaf (inr (inl refl))) others in
+      let value = entered own.work.writes in
+      let g = splits Granted same t t' root task pair placed small middle leaf own has_leaf has value.0 (own.work.writes.stores ∙ value.1) above (linked middle (inl refl)) (linked leaf (inr (inl refl))) others in
       let effect = split_effect g root placed mine (λ z. z ≤ books.count) (inl (later_in p q (p ∷ []) (first_in p []))) (inr (first_in middle (leaf ∷ [])))
       (inr (later_in leaf middle (leaf ∷ []) (first_in leaf []))) in (
         effect.placed,
-        inserted_by middle leaf own.held own.work.writes fits above (published_by (middle ∷ leaf ∷ []) (middle_private t task q own.held.here.node middle leaf has_leaf has) linked) others effect
-            (split_absent Granted t t' root task pair placed small own.held own.work.is)
+        inserted_by middle leaf own.held own.work.writes fits above (published_by (middle ∷ leaf ∷ []) (middle_private t task q own.held.here.node middle leaf has_leaf has) linked) others effect value.0 value.1
+            (split_absent Granted same t t' root task pair placed small own.held own.work.is)
             (split_puts g root placed),
       )

@@ -6,19 +6,22 @@ use Rattle.congee_map.specs.Map.{lookup, put}
 use Rattle.congee_node_table.specs.declared.child.Child.TheVariants.{Node as below_at}
 use Rattle.congee_protocol.specs.Calls.{bytes_of, key_of}
 use Rattle.congee_protocol.specs.Kinds.{report_of}
-use Rattle.congee_protocol.specs.Meaning.{env_of}
+use Rattle.congee_protocol.specs.Meaning.{env_of, in_some, reply_of}
 use Rattle.congee_protocol.specs.declared.types.Env.{Env}
 use Rattle.congee_protocol.specs.declared.types.Kind.TheVariants as kind
 use Rattle.congee_protocol.specs.declared.types.Outcome.TheVariants.{Decided}
-use Rattle.congee_protocol.specs.declared.types.Reply.TheVariants.{Old}
+use Rattle.congee_protocol.specs.declared.types.Reply.{Reply}
+use Rattle.congee_store.specs.declared.stage.Stage.{Stage}
 use Rattle.congee_store.specs.declared.stage.Stage.TheVariants.{Tail}
 use Rattle.congee_store.specs.declared.stage.Task.{Task}
 use Rattle.congee_store.specs.declared.stock.Stock.{Stock}
 use Rattle.congee_store.specs.declared.store.Store.{Store}
 use Rattle.congee_store.specs.declared.tail.Pair.{Pair}
 use Rattle.congee_store.specs.declared.tail.Tail.TheVariants.{Replace, Insert, Obsolete, UnlockBelow}
+use Rattle.congee_store.specs.inner.Effects.{reply_with}
 use Rattle.congee_store.specs.inner.Facts.{sizes_of}
 use Rattle.congee_store.specs.inner.Meant.{meant_table, meant_task}
+use Rattle.congee_store.specs.inner.Moves.{IsMove}
 use Rattle.congee_store.specs.inner.Slots.{SetsNode}
 use Rattle.congee_store.specs.inner.Stocks.{IsKept, Knows, Moves, table_in, books_in}
 use Rattle.congee_store.specs.inner.Tables.{IsIn, IsLinked, IsPlaced, byte_at}
@@ -26,10 +29,11 @@ use Rattle.congee_store.specs.inner.TailFacts.{AreHeld}
 use Rattle.congee_store.specs.inner.Tails.{one_more}
 use Rattle.congee_store.specs.inner.World.{Node, Table, is_linked, is_detached}
 use Rattle.congee_store.proofs.Options.{none_some, some_same}
+use Rattle.congee_store.proofs.Records.{at}
 use Rattle.congee_store.proofs.Unlike.{linked_private, linked_retired, private_retired}
 use Rattle.congee_links.proofs.Effects.{OthersStay}
 use Rattle.congee_links.proofs.Writing.{answered}
-use Rattle.congee_writing.proofs.Deciding.{with_reply}
+use Rattle.congee_writing.proofs.Deciding.{reply_meant, with_reply}
 use Rattle.congee_writing.proofs.Growths.{BecomesLinked, LeadsNow, IsPrivate, copy_private, middle_private, above_inner}
 use Rattle.congee_writing.proofs.Standstill.{StandsStill, still_kept}
 use Rattle.congee_writing.proofs.Parents.{copy_moves, middle_moves}
@@ -157,7 +161,7 @@ abbrev pub IsThereInside : {M : Type 0} → Table M → ℕ → Type 0
 IsThereInside {M} t s = (a : Node M) × (t s ≡ Some a) × (length a.node.prefix ≤ 7)
 
 -- WHAT THE CALLS OF THE STORE ASK
-module _ {P A M : Type 0} (meaning : P → M) (charge : A → Option ℕ) (Granted : Type 0) (old : Stock P A) (pin : ℕ) (task : Task P) (pair : Pair) (kept : IsKept meaning charge old) where
+module _ {P A M : Type 0} (meaning : P → M) (charge : A → Option ℕ) (Granted : Type 0) (same : M → M → Bool) (old : Stock P A) (pin : ℕ) (task : Task P) (pair : Pair) (kept : IsKept meaning charge old) where
   abbrev before : Table M
   before = table_in meaning charge old
 
@@ -180,7 +184,7 @@ module _ {P A M : Type 0} (meaning : P → M) (charge : A → Option ℕ) (Grant
         (λ none. absurd (none_some (below_at pair.here.slot) (sym none ∙ under))),
       )
 
-  module _ (copy : ℕ) (leaf : Option ℕ) (facts : Knows meaning charge Granted old pin (record { stage = Tail (Replace pair copy leaf); task = task })) where
+  module _ (copy : ℕ) (leaf : Option ℕ) (facts : Knows meaning charge Granted same old pin (record { stage = Tail (Replace pair copy leaf); task = task })) where
     pub copies_private : ArePrivate meaning before (copy ∷ one_more leaf)
     copies_private = copy_private before (meant_task meaning task) facts.at.0.held.here.node copy leaf facts.at.1
 
@@ -198,7 +202,7 @@ module _ {P A M : Type 0} (meaning : P → M) (charge : A → Option ℕ) (Grant
         let held = facts.at.0.held in
         (held.here.node, put_other meaning w copies_private held.above.node held.above.linked pair.here.slot held.here.node held.here.linked held.over.apart)
 
-  module _ (middle leaf : ℕ) (facts : Knows meaning charge Granted old pin (record { stage = Tail (Insert pair middle leaf); task = task })) where
+  module _ (middle leaf : ℕ) (facts : Knows meaning charge Granted same old pin (record { stage = Tail (Insert pair middle leaf); task = task })) where
     pub middles_private : ArePrivate meaning before (middle ∷ leaf ∷ [])
     middles_private = middle_private before (meant_task meaning task) pair.here.slot facts.at.0.held.here.node middle leaf facts.at.1 facts.at.2
 
@@ -230,16 +234,28 @@ module _ {P A M : Type 0} (meaning : P → M) (charge : A → Option ℕ) (Grant
   abbrev t' : Table M
   t' = table_in meaning charge new
 
-  pub replaces : (s1 s2 : Store P) (copy : ℕ) (leaf : Option ℕ) (facts : Knows meaning charge Granted old pin (record { stage = Tail (Replace pair copy leaf); task = task }))
+  -- the reply of the code means the reply
+  told_move : (stage next : Stage) → let moved : Task M = meant_task meaning task in
+      IsMove Granted same t t' old.store.root pin (books_in meaning charge old) (books_in meaning charge new) (at stage moved) (env_of meaning env) (at next (with_reply moved)) (report_of kind.Write (Some p) 0 true)
+      (Decided (reply_with task.outline None (in_some meaning task.returns)))
+      → IsMove Granted same t t' old.store.root pin (books_in meaning charge old) (books_in meaning charge new) (at stage moved) (env_of meaning env) (at next (with_reply moved)) (report_of kind.Write (Some p) 0 true)
+      (Decided (reply_of meaning (reply_with task.outline None task.returns)))
+  told_move stage next move =
+      let moved : Task M = meant_task meaning task in
+      subst (λ (r : Reply M). IsMove Granted same t t' old.store.root pin (books_in meaning charge old) (books_in meaning charge new) (at stage moved) (env_of meaning env) (at next (with_reply moved))
+      (report_of kind.Write (Some p) 0 true) (Decided r))
+      (sym (reply_meant meaning task.outline None task.returns)) move
+
+  pub replaces : (s1 s2 : Store P) (copy : ℕ) (leaf : Option ℕ) (facts : Knows meaning charge Granted same old pin (record { stage = Tail (Replace pair copy leaf); task = task }))
       → PutsBelow meaning old.store s1 s2 (copy ∷ one_more leaf) p copy key_bytes → DetachesNode meaning s2 new.store q
       → Moves meaning charge Granted same old new pin (record { stage = Tail (Replace pair copy leaf); task = task }) env
-      (record { stage = Tail (Obsolete pair); task = with_reply task }) (report_of kind.Write (Some p) 0 true) (Decided (Old None))
+      (record { stage = Tail (Obsolete pair); task = with_reply task }) (report_of kind.Write (Some p) 0 true) (Decided (reply_with task.outline None task.returns))
   replaces s1 s2 copy leaf facts w detaches =
       let own = facts.at.0 in
       let a : Node M = own.held.above.node in
       let b : Node M = own.held.here.node in
       let made : List ℕ = copy ∷ one_more leaf in
-      let private = copies_private meaning charge Granted old pin task pair kept copy leaf facts in
+      let private = copies_private meaning charge Granted same old pin task pair kept copy leaf facts in
       let above = detached_leads meaning w private a own.held.above.linked q b own.held.here.linked own.held.over.apart detaches in
       let gone = detached_here meaning w private a own.held.above.linked q b own.held.here.linked own.held.over.apart detaches in
       let linked = detached_links meaning w private a own.held.above.linked q b own.held.here.linked own.held.over.apart detaches in
@@ -251,20 +267,20 @@ module _ {P A M : Type 0} (meaning : P → M) (charge : A → Option ℕ) (Grant
         kept = still_kept meaning charge old new (p ∷ q ∷ made) kept others
             (detached_still meaning t t' p q a (answered a (byte_at a key_bytes) (Some (below_at copy))) b (record b { standing = is_detached }) made own.held.above.linked above own.held.here.linked gone private linked)
             (subst (λ z. IsPlaced t' z) (sym root) moves.0) lives sizes budget;
-        move = moves.1;
+        move = told_move (Tail (Replace pair copy leaf)) (Tail (Obsolete pair)) moves.1;
         root = root;
         seats = ap (λ z. z.seats) lives;
       }
 
-  pub inserts : (s1 : Store P) (middle leaf : ℕ) (facts : Knows meaning charge Granted old pin (record { stage = Tail (Insert pair middle leaf); task = task }))
+  pub inserts : (s1 : Store P) (middle leaf : ℕ) (facts : Knows meaning charge Granted same old pin (record { stage = Tail (Insert pair middle leaf); task = task }))
       → PutsBelow meaning old.store s1 new.store (middle ∷ leaf ∷ []) p middle key_bytes
       → Moves meaning charge Granted same old new pin (record { stage = Tail (Insert pair middle leaf); task = task }) env
-      (record { stage = Tail (UnlockBelow pair); task = with_reply task }) (report_of kind.Write (Some p) 0 true) (Decided (Old None))
+      (record { stage = Tail (UnlockBelow pair); task = with_reply task }) (report_of kind.Write (Some p) 0 true) (Decided (reply_with task.outline None task.returns))
   inserts s1 middle leaf facts w =
       let own = facts.at.0 in
       let a : Node M = own.held.above.node in
       let made : List ℕ = middle ∷ leaf ∷ [] in
-      let private = middles_private meaning charge Granted old pin task pair kept middle leaf facts in
+      let private = middles_private meaning charge Granted same old pin task pair kept middle leaf facts in
       let above = put_leads meaning w private a own.held.above.linked in
       let linked = put_links meaning w private a own.held.above.linked in
       let others = put_others meaning w private a own.held.above.linked in
@@ -275,7 +291,7 @@ module _ {P A M : Type 0} (meaning : P → M) (charge : A → Option ℕ) (Grant
         kept = still_kept meaning charge old new (p ∷ made) kept others
             (put_still meaning t t' p a (answered a (byte_at a key_bytes) (Some (below_at middle))) made own.held.above.linked above private linked)
             (subst (λ z. IsPlaced t' z) (sym root) moves.0) lives sizes budget;
-        move = moves.1;
+        move = told_move (Tail (Insert pair middle leaf)) (Tail (UnlockBelow pair)) moves.1;
         root = root;
         seats = ap (λ z. z.seats) lives;
       }

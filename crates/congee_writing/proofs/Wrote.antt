@@ -1,20 +1,22 @@
 -- The events that decide a call at its node, over the stock of nodes that the code changes.
-use Rattle.std.proofs.Common.{◌≡◌, ◌≢◌, ℕ, ◌+◌, Bool, true, false, is_some, length, Option, Some, None, refl, sym, subst, ap, ◌∙◌}
+use Rattle.std.proofs.Common.{◌≡◌, ◌≢◌, ℕ, ◌+◌, ◌≤◌, Bool, true, IsTrue, is_some, length, Option, Some, None, IsSome, refl, sym, subst, ap, ◌∙◌}
 use Rattle.congee_base.specs.Form.{Fits}
 use Rattle.congee_map.specs.Map.{put}
 use Rattle.congee_node_table.specs.declared.child.Child.{Child}
 use Rattle.congee_node_table.specs.declared.child.Child.TheVariants.{Payload, Node as below_at}
 use Rattle.congee_node_table.proofs.KindLaws.{length-mapped}
-use Rattle.congee_protocol.specs.Calls.{key_of}
+use Rattle.congee_protocol.specs.Calls.{answer_in, asked_of, key_of, stored}
 use Rattle.congee_protocol.specs.Kinds.{report_of}
 use Rattle.congee_protocol.specs.Local.{payload_in}
-use Rattle.congee_protocol.specs.Meaning.{in_some, child_of, env_of, op_of}
+use Rattle.congee_protocol.specs.Meaning.{in_some, asking_of, child_of, env_of, op_of}
+use Rattle.congee_protocol.specs.declared.types.Asking.{Asking}
+use Rattle.congee_protocol.specs.declared.types.Asking.TheVariants.{Fresh, Wants, Given}
 use Rattle.congee_protocol.specs.declared.types.Env.{Env}
 use Rattle.congee_protocol.specs.declared.types.Kind.TheVariants as kind
 use Rattle.congee_protocol.specs.declared.types.Op.{Op}
 use Rattle.congee_protocol.specs.declared.types.Op.TheVariants.{Get, Insert, Remove, ComputeIfPresent, ComputeOrInsert, CompareExchange, Range}
 use Rattle.congee_protocol.specs.declared.types.Outcome.TheVariants.{Decided}
-use Rattle.congee_protocol.specs.declared.types.Reply.TheVariants.{Old}
+use Rattle.congee_protocol.specs.declared.types.Reply.{Reply}
 use Rattle.congee_store.specs.declared.stage.Spot.{Spot}
 use Rattle.congee_store.specs.declared.stage.Stage.TheVariants.{Tail}
 use Rattle.congee_store.specs.declared.stage.Stored.{Stored}
@@ -22,63 +24,55 @@ use Rattle.congee_store.specs.declared.stage.Task.{Task}
 use Rattle.congee_store.specs.declared.stock.Stock.{Stock}
 use Rattle.congee_store.specs.declared.store.Store.{Store}
 use Rattle.congee_store.specs.declared.tail.Tail.TheVariants.{Link, Unlock, Write}
+use Rattle.congee_store.specs.inner.Effects.{IsChange, reply_with}
 use Rattle.congee_store.specs.inner.Facts.{sizes_of}
-use Rattle.congee_store.specs.inner.Meant.{meant_table, meant_task, stands_as}
+use Rattle.congee_store.specs.inner.Meant.{meant_record, meant_table, meant_task, stands_as}
+use Rattle.congee_store.specs.inner.Moves.{IsMove}
 use Rattle.congee_store.specs.inner.Slots.{SetsNode}
-use Rattle.congee_store.specs.inner.Stocks.{IsKept, Knows, Moves, books_in, table_in}
+use Rattle.congee_store.specs.inner.Stocks.{IsCounted, IsKept, Knows, Moves, books_in, table_in}
 use Rattle.congee_store.specs.inner.Tables.{byte_at}
+use Rattle.congee_store.specs.inner.TailFacts.{stores}
 use Rattle.congee_store.specs.inner.Tasks.{key_bytes}
 use Rattle.congee_store.specs.inner.World.{Node, entry, is_linked}
 use Rattle.congee_store.proofs.Options.{none_some, some_same}
+use Rattle.congee_store.proofs.Replies.{change_enters}
 use Rattle.congee_store.proofs.Slots.{stored_as}
-use Rattle.congee_store.proofs.Unlike.{linked_retired, private_retired, true_false}
+use Rattle.congee_store.proofs.Unlike.{false_true, linked_retired, private_retired}
+use Rattle.congee_links.proofs.Entries.{payload}
 use Rattle.congee_links.proofs.Writing.{answered, published_new}
-use Rattle.congee_writing.proofs.Deciding.{entries_after, op_is, with_reply}
-use Rattle.congee_writing.proofs.Entering.{entry_move, entry_placed}
+use Rattle.congee_writing.specs.inner.Storing.{entries_with, with_payload}
+use Rattle.congee_writing.proofs.Deciding.{StandsAt, entries_after, reply_meant, with_reply}
+use Rattle.congee_writing.proofs.Entering.{entry_move, entry_placed, leaf_stands}
 use Rattle.congee_writing.proofs.Keeping.{StoreKeeps, keeps_then, kept_by, sets_keeps}
 use Rattle.congee_writing.proofs.Linked.{link_move, link_placed, made_published}
 
--- a call that isn't an Insert
-module _ {M : Type 0} where
-  clash_get : (j k : ℕ) (v : M) → let x : Op M = Get j in let y : Op M = Insert k v in Some x ≡ Some y → ⊥
-  clash_get j k v e = cc
-
-  clash_remove : (j k : ℕ) (v : M) → let x : Op M = Remove j in let y : Op M = Insert k v in Some x ≡ Some y → ⊥
-  clash_remove j k v e = cc
-
-  clash_present : (j k : ℕ) (v : M) → let x : Op M = ComputeIfPresent j in let y : Op M = Insert k v in Some x ≡ Some y → ⊥
-  clash_present j k v e = cc
-
-  clash_or : (j : ℕ) (p : M) (k : ℕ) (v : M) → let x : Op M = ComputeOrInsert j p in let y : Op M = Insert k v in Some x ≡ Some y → ⊥
-  clash_or j p k v e = cc
-
-  clash_exchange : (j : ℕ) (p : M) (q : Option M) (k : ℕ) (v : M) → let x : Op M = CompareExchange j p q in let y : Op M = Insert k v in Some x ≡ Some y → ⊥
-  clash_exchange j p q k v e = cc
-
-  clash_range : (a b n k : ℕ) (v : M) → let x : Op M = Range a b n in let y : Op M = Insert k v in Some x ≡ Some y → ⊥
-  clash_range a b n k v e = cc
-
 module _ {P M : Type 0} (meaning : P → M) where
-  -- the call that means an Insert is one
-  pub record IsInsert (op : Option (Op P)) (k : ℕ) (v : M) : Type 0 where
-    pub payload : P
-    pub is : op ≡ Some (Insert k payload)
-    pub means : meaning payload ≡ v
+  -- what a call stores means what its meaning stores
+  answer_meant : (asking : Asking P) → answer_in (asked_of (asking_of meaning asking)) ≡ in_some meaning (answer_in (asked_of asking))
+  answer_meant Fresh = refl
+  answer_meant (Wants old) = refl
+  answer_meant (Given old answer) = refl
 
-  same_insert : (j k : ℕ) (p : P) (v : M) → let x : Op M = Insert j (meaning p) in let y : Op M = Insert k v in Some x ≡ Some y → (j ≡ k) × (meaning p ≡ v)
-  same_insert j k p v e = (cc, cc)
+  pub stored_meant : (op : Option (Op P)) (asking : Asking P) → stored (in_some (op_of meaning) op) (asking_of meaning asking) ≡ in_some meaning (stored op asking)
+  stored_meant None asking = refl
+  stored_meant (Some (Get k)) asking = answer_meant asking
+  stored_meant (Some (Insert k v)) asking = refl
+  stored_meant (Some (Remove k)) asking = answer_meant asking
+  stored_meant (Some (ComputeIfPresent k)) asking = answer_meant asking
+  stored_meant (Some (ComputeOrInsert k v)) Fresh = refl
+  stored_meant (Some (ComputeOrInsert k v)) (Wants old) = refl
+  stored_meant (Some (ComputeOrInsert k v)) (Given old None) = refl
+  stored_meant (Some (ComputeOrInsert k v)) (Given old (Some answer)) = refl
+  stored_meant (Some (CompareExchange k old new)) asking = refl
+  stored_meant (Some (Range a b n)) asking = answer_meant asking
 
-  pub inserts_by : (op : Option (Op P)) (k : ℕ) (v : M) → in_some (op_of meaning) op ≡ Some (Insert k v) → IsInsert op k v
-  inserts_by None k v e = absurd (none_some _ e)
-  inserts_by (Some (Insert j p)) k v e =
-      let s = same_insert j k p v e in
-      record { payload = p; is = ap (λ (n : ℕ). let x : Op P = Insert n p in Some x) s.0; means = s.1 }
-  inserts_by (Some (Get j)) k v e = absurd (clash_get j k v e)
-  inserts_by (Some (Remove j)) k v e = absurd (clash_remove j k v e)
-  inserts_by (Some (ComputeIfPresent j)) k v e = absurd (clash_present j k v e)
-  inserts_by (Some (ComputeOrInsert j p)) k v e = absurd (clash_or j (meaning p) k v e)
-  inserts_by (Some (CompareExchange j p q)) k v e = absurd (clash_exchange j (meaning p) (in_some meaning q) k v e)
-  inserts_by (Some (Range a b n)) k v e = absurd (clash_range a b n k v e)
+  some_meant : (x : Option P) → is_some (in_some meaning x) ≡ is_some x
+  some_meant None = refl
+  some_meant (Some v) = refl
+
+  paid : (value : Option P) → in_some (λ (v : M). let c : Child M = Payload v in c) (in_some meaning value) ≡ payload (in_some meaning value)
+  paid None = refl
+  paid (Some v) = refl
 
   -- the payload of what was taken out
   pub payload_meant : (c : Option (Child P)) → in_some meaning (payload_in c) ≡ payload_in (in_some (child_of meaning) c)
@@ -98,9 +92,14 @@ module _ {P M : Type 0} (meaning : P → M) where
   abbrev pub PutsChild : Store P → Store P → ℕ → ℕ → Child P → Type 0
   PutsChild old new slot byte child = (a : Node M) → meant_table meaning old slot ≡ Some a → SetsNode meaning old new slot (Some (record a { node = record a.node { children = put a.node.children byte (child_of meaning child) } }))
 
+-- where a call stores nothing, something stands there
+some_stands : {M : Type 0} (same : M → M → Bool) (op : Op M) (asking : Asking M) (value : Option M) (there : Option (Child M)) → IsChange same op asking (payload_in there) value → value ≡ None → IsSome there
+some_stands same op asking value None change none = let enters = change_enters same op asking value change in absurd (none_some enters.0 (sym none ∙ enters.1))
+some_stands same op asking value (Some c) change none = refl
+
 -- Shares are granted always, if `Granted` holds. The same is told by a test.
 module _ {P A M : Type 0} (meaning : P → M) (charge : A → Option ℕ) (Granted : Type 0) (same : M → M → Bool) (old : Stock P A) (pin : ℕ) (task : Task P) (spot : Spot)
-    (kept : IsKept meaning charge old) (facts : Knows meaning charge Granted old pin (record { stage = Tail (Write spot); task = task })) where
+    (kept : IsKept meaning charge old) (facts : Knows meaning charge Granted same old pin (record { stage = Tail (Write spot); task = task })) where
   -- the held leaf
   abbrev pub leaf_at : Node M
   leaf_at = facts.at.held.node
@@ -108,43 +107,65 @@ module _ {P A M : Type 0} (meaning : P → M) (charge : A → Option ℕ) (Grant
   abbrev pub key_at : ℕ
   key_at = key_of task.outline
 
-  -- the call's payload
-  pub insert_at : IsInsert meaning task.op key_at facts.at.work.writes.value
-  insert_at = inserts_by meaning task.op key_at facts.at.work.writes.value (op_is Granted same (meant_task meaning task) (Tail (Write spot)) pin _ facts.at.work.writes)
+  abbrev pub byte_here : ℕ
+  byte_here = byte_at leaf_at (key_bytes task)
 
-  pub wrote_moves : (store : Store P) (byte : ℕ) (payload : P) (taken : Option (Child P)) (entries : ℕ) (env : Env P)
-      → ((k : ℕ) (v : P) → task.op ≡ Some (Insert k v) → payload ≡ v)
-      → byte ≡ byte_at leaf_at (key_bytes task)
+  -- what it stores means what the call stores
+  value_meant : (value : Option P) → value ≡ stores task → facts.at.work.writes.value ≡ in_some meaning value
+  value_meant value is = sym facts.at.work.writes.stores ∙ (stored_meant meaning task.op task.asking ∙ ap (λ z. in_some meaning z) (sym is))
+
+  -- where it stores nothing, something stands there
+  pub leaf_has : (value : Option P) → value ≡ stores task → value ≡ None → IsSome (entry leaf_at byte_here)
+  leaf_has value is none =
+      let w = facts.at.work.writes in
+      some_stands same w.opened.op (asking_of meaning task.asking) w.value (entry leaf_at byte_here) w.change (value_meant value is ∙ ap (λ z. in_some meaning z) none)
+
+  -- where something stands, there is a pair
+  pub leaf_counts : IsCounted meaning charge old → (before : Option P) → in_some meaning before ≡ payload_in (entry leaf_at byte_here) → IsTrue (is_some before) → 1 ≤ old.entries
+  leaf_counts counted None e there = absurd (false_true there)
+  leaf_counts counted (Some v) e there =
+      counted.some key_at (meaning v) facts.small
+      (subst (λ (z : Option M). StandsAt (table_in meaning charge old) (key_bytes task) z) (sym e)
+      (leaf_stands (table_in meaning charge old) old.store.root (key_bytes task) kept.placed spot.slot leaf_at facts.at.held.linked (facts.at.way leaf_at facts.at.held.linked.here) facts.at.work.is.0 (entry leaf_at byte_here) refl))
+
+  pub wrote_moves : (store : Store P) (byte : ℕ) (value before : Option P) (had has : Bool) (entries : ℕ) (env : Env P)
+      → value ≡ stores task
+      → byte ≡ byte_here
       → Fits leaf_at.node.form (length leaf_at.node.children)
-      → PutsChild meaning old.store store spot.slot byte (Payload payload)
-      → ((a : Node M) → meant_table meaning old.store spot.slot ≡ Some a → in_some (child_of meaning) taken ≡ entry a byte)
+      → SetsNode meaning old.store store spot.slot (Some (with_payload leaf_at byte (in_some meaning value)))
+      → in_some meaning before ≡ payload_in (entry leaf_at byte)
       → sizes_of store.nodes.slots ≡ sizes_of old.store.nodes.slots → store.pins ≡ old.store.pins
-      → entries ≡ entries_after (in_some meaning (payload_in taken)) old.entries
+      → had ≡ is_some before → has ≡ is_some value → entries ≡ entries_with old.entries had has
       → Moves meaning charge Granted same old (record old { store = store; entries = entries }) pin (record { stage = Tail (Write spot); task = task }) env
-      (record { stage = Tail (Unlock spot); task = with_reply task }) (report_of kind.Write (Some spot.slot) 0 true) (Decided (Old (payload_in taken)))
-  wrote_moves store byte payload taken entries env inserted byte_is fits puts before sizes pins entries_is =
+      (record { stage = Tail (Unlock spot); task = with_reply task }) (report_of kind.Write (Some spot.slot) 0 true) (Decided (reply_with task.outline before task.returns))
+  wrote_moves store byte value before had has entries env value_is byte_is fits sets stood sizes pins had_is has_is entries_is =
       let a : Node M = leaf_at in
       let new : Stock P A = record old { store = store; entries = entries } in
       let here : meant_table meaning old.store spot.slot ≡ Some a = facts.at.held.linked.here in
-      let sets = puts a here in
-      let value : meaning payload ≡ facts.at.work.writes.value = ap meaning (inserted key_at insert_at.payload insert_at.is) ∙ insert_at.means in
-      let at_byte : ℕ → M → Option (Node M) = λ x v. Some (answered a x (Some (Payload v))) in
-      let after : meant_table meaning store spot.slot ≡ Some (answered a (byte_at a (key_bytes task)) (Some (Payload facts.at.work.writes.value))) =
-      sets.here ∙ (ap (λ x. at_byte x (meaning payload)) byte_is ∙ ap (λ v. at_byte (byte_at a (key_bytes task)) v) value) in
+      let means = value_meant value value_is in
+      let with_child : ℕ → Option (Child M) → Option (Node M) = λ x c. Some (answered a x c) in
+      let after : meant_table meaning store spot.slot ≡ Some (answered a byte_here (payload facts.at.work.writes.value)) =
+      sets.here ∙ (ap (λ x. with_child x (in_some (λ (v : M). let c : Child M = Payload v in c) (in_some meaning value))) byte_is
+      ∙ ap (λ (c : Option (Child M)). with_child byte_here c) (paid meaning value ∙ ap (λ (z : Option M). payload z) (sym means))) in
       let keeps : StoreKeeps meaning old.store store = sets_keeps meaning old.store store spot.slot a _ here (λ stamp e. linked_retired stamp (sym facts.at.held.linked.standing ∙ e)) sets sizes pins in
-      let stands : in_some meaning (payload_in taken) ≡ payload_in (entry a (byte_at a (key_bytes task))) =
-      payload_meant meaning taken ∙ ap payload_in (before a here ∙ ap (λ x. entry a x) byte_is) in
+      let stands : in_some meaning before ≡ payload_in (entry a byte_here) = stood ∙ ap (λ x. payload_in (entry a x)) byte_is in
+      let counts : entries ≡ entries_after (in_some meaning before) facts.at.work.writes.value old.entries =
+      entries_is ∙ (ap (λ b. entries_with old.entries b has) (had_is ∙ sym (some_meant meaning before))
+      ∙ ap (λ b. entries_with old.entries (is_some (in_some meaning before)) b) (has_is ∙ sym (ap (λ (z : Option M). is_some z) means ∙ some_meant meaning value))) in
       record {
         kept = kept_by meaning charge old new kept keeps refl
             (entry_placed Granted same (table_in meaning charge old) (table_in meaning charge new) old.store.root pin (meant_task meaning task) (env_of meaning env) spot kept.placed facts after sets.others);
-        move = entry_move Granted same (table_in meaning charge old) (table_in meaning charge new) old.store.root pin (meant_task meaning task) (env_of meaning env) spot kept.placed facts after sets.others
-            (books_in meaning charge old) (books_in meaning charge new) (in_some meaning (payload_in taken)) fits stands sets.count refl entries_is;
+        move = subst (λ (z : Reply M). IsMove Granted same (table_in meaning charge old) (table_in meaning charge new) old.store.root pin (books_in meaning charge old) (books_in meaning charge new)
+            (meant_record meaning (record { stage = Tail (Write spot); task = task })) (env_of meaning env) (meant_record meaning (record { stage = Tail (Unlock spot); task = with_reply task })) (report_of kind.Write (Some spot.slot) 0 true) (Decided z))
+            (sym (reply_meant meaning task.outline before task.returns))
+            (entry_move Granted same (table_in meaning charge old) (table_in meaning charge new) old.store.root pin (meant_task meaning task) (env_of meaning env) spot kept.placed facts after sets.others
+            (books_in meaning charge old) (books_in meaning charge new) (in_some meaning before) fits stands sets.count refl counts);
         root = sets.root;
         seats = sets.seats;
       }
 
 module _ {P A M : Type 0} (meaning : P → M) (charge : A → Option ℕ) (Granted : Type 0) (same : M → M → Bool) (old : Stock P A) (pin : ℕ) (task : Task P) (spot : Spot) (leaf : ℕ)
-    (kept : IsKept meaning charge old) (facts : Knows meaning charge Granted old pin (record { stage = Tail (Link spot leaf); task = task })) where
+    (kept : IsKept meaning charge old) (facts : Knows meaning charge Granted same old pin (record { stage = Tail (Link spot leaf); task = task })) where
   -- the held inner node, and the leaf that was made
   abbrev pub inner_at : Node M
   inner_at = facts.at.0.held.node
@@ -166,7 +187,7 @@ module _ {P A M : Type 0} (meaning : P → M) (charge : A → Option ℕ) (Grant
         → sizes_of between.nodes.slots ≡ sizes_of old.store.nodes.slots → between.pins ≡ old.store.pins
         → sizes_of store.nodes.slots ≡ sizes_of between.nodes.slots → store.pins ≡ between.pins
         → Moves meaning charge Granted same old (record old { store = store; entries = old.entries + 1 }) pin (record { stage = Tail (Link spot leaf); task = task }) env
-        (record { stage = Tail (Unlock spot); task = with_reply task }) (report_of kind.Write (Some spot.slot) 0 true) (Decided (Old None))
+        (record { stage = Tail (Unlock spot); task = with_reply task }) (report_of kind.Write (Some spot.slot) 0 true) (Decided (reply_with task.outline None task.returns))
     linked_moves store byte env byte_is fits puts sizes pins sizes' pins' =
         let a : Node M = inner_at in
         let new : Stock P A = record old { store = store; entries = old.entries + 1 } in
@@ -182,18 +203,11 @@ module _ {P A M : Type 0} (meaning : P → M) (charge : A → Option ℕ) (Grant
         record {
           kept = kept_by meaning charge old new kept (keeps_then meaning old.store between store first second) refl
               (link_placed Granted same (table_in meaning charge old) (table_in meaning charge new) old.store.root pin (meant_task meaning task) (env_of meaning env) spot leaf kept.placed facts after after_leaf others);
-          move = link_move Granted same (table_in meaning charge old) (table_in meaning charge new) old.store.root pin (meant_task meaning task) (env_of meaning env) spot leaf kept.placed facts after after_leaf others
-              (books_in meaning charge old) (books_in meaning charge new) fits (sets.count ∙ publishes.count) refl refl;
+          move = subst (λ (z : Reply M). IsMove Granted same (table_in meaning charge old) (table_in meaning charge new) old.store.root pin (books_in meaning charge old) (books_in meaning charge new)
+              (meant_record meaning (record { stage = Tail (Link spot leaf); task = task })) (env_of meaning env) (meant_record meaning (record { stage = Tail (Unlock spot); task = with_reply task })) (report_of kind.Write (Some spot.slot) 0 true) (Decided z))
+              (sym (reply_meant meaning task.outline None task.returns))
+              (link_move Granted same (table_in meaning charge old) (table_in meaning charge new) old.store.root pin (meant_task meaning task) (env_of meaning env) spot leaf kept.placed facts after after_leaf others
+              (books_in meaning charge old) (books_in meaning charge new) fits (sets.count ∙ publishes.count) refl refl);
           root = sets.root ∙ publishes.root;
           seats = sets.seats ∙ publishes.seats;
         }
-
--- how many pairs there are then, told by a test
-module _ {P M : Type 0} (meaning : P → M) (n : ℕ) where
-  pub one_entry_more : (before : Option P) → is_some before ≡ false → n + 1 ≡ entries_after (in_some meaning before) n
-  one_entry_more None e = refl
-  one_entry_more (Some v) e = absurd (true_false e)
-
-  pub entries_as_before : (before : Option P) → is_some before ≡ true → n ≡ entries_after (in_some meaning before) n
-  entries_as_before None e = absurd (true_false (sym e))
-  entries_as_before (Some v) e = refl

@@ -7,6 +7,7 @@ use Rattle.congee_protocol.specs.declared.types.Op.{Op}
 use Rattle.congee_protocol.specs.declared.types.Progress.TheVariants.{Open}
 use Rattle.congee_store.specs.declared.stage.Record.{Record}
 use Rattle.congee_store.specs.declared.stage.Stage.TheVariants.{TakeRoot}
+use Rattle.congee_store.specs.inner.Effects.{returned_at}
 use Rattle.congee_store.specs.inner.Meant.{meant_world}
 use Rattle.congee_store.specs.inner.Shown.{state_of}
 use Rattle.congee_store.specs.inner.World.{World}
@@ -41,6 +42,8 @@ begun_record op = record {
     op = Some op;
     last = None;
     spare = None;
+    question = None;
+    returns = returned_at op;
     asking = Fresh;
     progress = Open;
   };

@@ -14,7 +14,7 @@ use Rattle.congee_protocol.specs.declared.types.Outcome.TheVariants.{Going}
 use Rattle.congee_protocol.specs.declared.types.Seen.{Seen}
 use Rattle.congee_store.specs.declared.stage.Record.{Record}
 use Rattle.congee_store.specs.inner.Shown.{state_of}
-use Rattle.congee_store.specs.inner.Turns.{IsBegun, IsTurn}
+use Rattle.congee_store.specs.inner.Turns.{IsBegun, IsFreed, IsTurn}
 use Rattle.congee_store.specs.inner.World.{World}
 
 -- what an event of a schedule does to the inside, and what its line says
@@ -27,7 +27,8 @@ Plays old (Start id op) (Made report out seen) new =
 Plays old (Step id env) (Made report out seen) new =
     IsTurn (Unit {0}) same_number old new id env report out
     × (seen ≡ read_by report.kind (lookup (state_of new).flights id))
-Plays old (Reclaim slot) (Made report out seen) new = ⊥
+Plays old (Reclaim slot) (Made report out seen) new =
+    IsFreed (Unit {0}) same_number old new slot report × (out ≡ Going) × (seen ≡ None)
 
 -- one event, what came of it, what is inside after it, and the content
 pub record Move : Type 0 where

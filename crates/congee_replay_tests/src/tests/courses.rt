@@ -39,7 +39,7 @@ fn report_at(kind: Kind, slot: Option<usize>, ok: bool) -> Report {
 }
 
 // An event that brings nothing.
-fn plain() -> Env<u64> {
+pub(super) fn plain() -> Env<u64> {
     torn(seen_of(None))
 }
 

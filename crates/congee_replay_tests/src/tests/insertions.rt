@@ -124,7 +124,7 @@ fn events_of(
 }
 
 // Whether a trace ends with these letters, after those of so many insertions, and with this content.
-fn ends_so(
+pub(super) fn ends_so(
     alloc: Global,
     trace: &Trace,
     before: usize,
@@ -249,7 +249,8 @@ pub(super) fn is_history(alloc: Global, trace: &Trace) -> Result<bool, AllocErro
     Ok(is_content(&map, &trace.content))
 }
 
-fn is_content(map: &BTreeMap<u64, u64>, content: &[(u64, u64)]) -> bool {
+/// Whether the content is the map.
+pub(super) fn is_content(map: &BTreeMap<u64, u64>, content: &[(u64, u64)]) -> bool {
     for (key, value) in content {
         if map.get(key) != Some(value) {
             return false;

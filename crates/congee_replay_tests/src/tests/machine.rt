@@ -3,8 +3,10 @@
 use congee_machine::machine::Machine;
 use congee_map::error::OOMError;
 use congee_node_table::allocator::Budget;
+use congee_node_table::child::Child;
 use congee_protocol::types::{Env, Kind, Op, Outcome, Reply, Seen, StartError};
 use std::alloc::Global;
+use std::sync::Arc;
 use std::test::Fail;
 
 // An event with nothing to take from outside.
@@ -116,4 +118,65 @@ fn nothing_is_stored(rt: HostRuntime) -> Result<(), Fail> {
 fn the_root_is_charged(rt: HostRuntime) {
     assert!(rt; !has_room_for_the_root(rt.alloc(), 2103));
     assert!(rt; has_room_for_the_root(rt.alloc(), 2104));
+}
+
+type Shared = Machine<Arc<u64>, Budget>;
+
+// An event of a call whose payloads are shared.
+fn shared_event() -> Env<Arc<u64>> {
+    let child: Option<Child<Arc<u64>>> = None;
+    let torn = Seen {
+        child,
+        count: 0,
+        full: false,
+    };
+    Env {
+        torn,
+        fail: false,
+        answer: None,
+    }
+}
+
+// What stood at the key, or stands there in place of the new value, if the outcome decides a call.
+fn number(outcome: Outcome<Arc<u64>>) -> Option<u64> {
+    match outcome {
+        Outcome::Decided(Reply::Old(Some(value))) => Some(*value),
+        Outcome::Decided(Reply::Exchanged(Err(Some(value)))) => Some(*value),
+        _ => None,
+    }
+}
+
+// The number in the reply to a call alone.
+fn reply_alone(machine: &mut Shared, op: &Op<Arc<u64>>) -> Option<u64> {
+    if machine.start(0, op).is_err() {
+        return None;
+    }
+    let mut told = None;
+    for _ in 0..14 {
+        let (_, outcome) = machine.step(0, op, shared_event());
+        told = told.or(number(outcome));
+    }
+    told
+}
+
+// The replies to an exchange of another payload than the stored one, which is never the same, and to a removal.
+fn shared_replies(machine: &mut Shared, alloc: Global) -> Result<(Option<u64>, Option<u64>), Fail> {
+    let stored = Op::Insert(1, Arc::new(alloc, 42)?);
+    reply_alone(machine, &stored);
+    let other = Op::CompareExchange(1, Arc::new(alloc, 42)?, None);
+    let exchanged = reply_alone(machine, &other);
+    let remove: Op<Arc<u64>> = Op::Remove(1);
+    Ok((exchanged, reply_alone(machine, &remove)))
+}
+
+fn replies_of_shared(alloc: Global) -> Result<(Option<u64>, Option<u64>, u128), Fail> {
+    let mut machine = Machine::new(alloc, Budget::new(4096))?;
+    let (exchanged, removed) = shared_replies(&mut machine, alloc)?;
+    Ok((exchanged, removed, machine.entry_count()))
+}
+
+#[test]
+fn shared_payloads_are_kept_and_removed(rt: HostRuntime) -> Result<(), Fail> {
+    assert_eq!(rt; replies_of_shared(rt.alloc())?, (Some(42), Some(42), 0));
+    Ok(())
 }

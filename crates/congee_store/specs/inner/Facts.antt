@@ -1,7 +1,7 @@
 -- What holds of the machine's inside after each event: the place facts of its nodes, and what each
 -- call in flight knows.
 -- Payloads stand for what they mean.
-use Rattle.std.specs.Prelude.{◌≡◌, ◌≢◌, ℕ, ◌+◌, ◌^◌, ◌<◌, ◌≤◌, true, IsTrue, List, [], ◌∷◌, length, Option, Some, None, IsSome, ◌⊎◌}
+use Rattle.std.specs.Prelude.{Bool, ◌≡◌, ◌≢◌, ℕ, ◌+◌, ◌^◌, ◌<◌, ◌≤◌, true, IsTrue, List, [], ◌∷◌, length, Option, Some, None, IsSome, ◌⊎◌}
 use Rattle.congee_base.specs.Form.{stated_size}
 use Rattle.congee_map.specs.Map.{Pairs}
 use Rattle.congee_node_table.specs.Charge.{Covers}
@@ -14,15 +14,15 @@ use Rattle.congee_sync.specs.declared.epoch.Life.{Life}
 use Rattle.congee_sync.specs.declared.epoch.Life.TheVariants.{InUse}
 use Rattle.congee_store.specs.declared.stage.Record.{Record}
 use Rattle.congee_store.specs.declared.stage.Stage.{Stage}
-use Rattle.congee_store.specs.declared.stage.Stage.TheVariants.{TakeRoot, Read, Check, TakeBelow, CheckAbove, Tail, Finish}
+use Rattle.congee_store.specs.declared.stage.Stage.TheVariants.{TakeRoot, Read, Check, TakeBelow, CheckAbove, Answer, Confirm, Tail, Finish}
 use Rattle.congee_store.specs.declared.stage.Stored.{Stored}
 use Rattle.congee_store.specs.declared.stage.Task.{Task}
 use Rattle.congee_store.specs.inner.Shown.{held_at, made_at, state_of}
 use Rattle.congee_store.specs.inner.World.{World, is_retired, Node, Table, table_of, call_of}
-use Rattle.congee_store.specs.inner.Tables.{IsPlaced, IsThere, Known, LedTo, NeedsHolder, OnPath, TestOf}
-use Rattle.congee_store.specs.inner.TailFacts.{TailFacts}
-use Rattle.congee_store.specs.inner.Tails.{path_slots, named_in}
-use Rattle.congee_store.specs.inner.Tasks.{IsFreshly, Saw, SawNode, key_bytes}
+use Rattle.congee_store.specs.inner.Tables.{IsPlaced, IsThere, Known, LedTo, NeedsHolder, OnPath, OnWay, TestOf, While}
+use Rattle.congee_store.specs.inner.TailFacts.{CaseFacts, IsConfirmed, TailFacts}
+use Rattle.congee_store.specs.inner.Tails.{path_slots, case_slots, named_in}
+use Rattle.congee_store.specs.inner.Tasks.{IsFreshly, IsOpen, Saw, SawNode, key_bytes}
 
 -- the nodes that a call holds or has made before its next event
 abbrev pub Holding : Stage → ℕ → Type 0
@@ -35,17 +35,19 @@ named_at (Read path) = path_slots path
 named_at (Check path) = path_slots path
 named_at (TakeBelow path slot) = slot ∷ path_slots path
 named_at (CheckAbove path spot fits) = spot.slot ∷ path_slots path
+named_at (Answer case) = case_slots case
+named_at (Confirm spot) = spot.slot ∷ []
 named_at (Tail tail) = named_in tail
 named_at Finish = []
 
 -- Shares are granted always, if `Granted` holds.
-module _ {M : Type 0} (Granted : Type 0) where
+module _ {M : Type 0} (Granted : Type 0) (same : M → M → Bool) where
   -- WHAT A CALL KNOWS before its next event
   abbrev pub FactsAt : Table M → ℕ → ℕ → Task M → Stage → Type 0
   FactsAt t root pin task TakeRoot = IsFreshly task × (task.last ≡ None)
   FactsAt t root pin task (Read path) = IsFreshly task × OnPath t root pin (key_bytes task) path
   FactsAt t root pin task (Check path) =
-      IsFreshly task × OnPath t root pin (key_bytes task) path × Saw Granted t pin path task
+      IsFreshly task × OnPath t root pin (key_bytes task) path × Saw Granted same t pin path task
   FactsAt t root pin task (TakeBelow path slot) =
       IsFreshly task × OnPath t root pin (key_bytes task) path
       × LedTo t path.here (key_bytes task) slot × SawNode task.last slot × IsThere t pin slot
@@ -54,7 +56,10 @@ module _ {M : Type 0} (Granted : Type 0) where
       IsFreshly task × OnPath t root pin (key_bytes task) path
       × LedTo t path.here (key_bytes task) spot.slot × SawNode task.last spot.slot
       × Known t pin spot × TestOf t spot.slot (key_bytes task) fits × (spot.slot ≢ path.here.slot)
-  FactsAt t root pin task (Tail tail) = TailFacts Granted t root pin task tail
+  FactsAt t root pin task (Answer case) = CaseFacts Granted same t root pin task case
+  FactsAt t root pin task (Confirm spot) = IsOpen task × Known t pin spot
+      × OnWay t spot.slot (key_bytes task) × While t spot (IsConfirmed Granted same task)
+  FactsAt t root pin task (Tail tail) = TailFacts Granted same t root pin task tail
   FactsAt t root pin task Finish = task.progress ≢ progress.Open
 
   pub record Facts (t : Table M) (root pin : ℕ) (r : Record M) : Type 0 where
@@ -77,10 +82,10 @@ abbrev pub AllAdmitted : {M : Type 0} → Table M → List (ℕ × Life) → Typ
 AllAdmitted t lives = (s : ℕ) → IsAdmitted (t s) (entry_at lives s)
 
 -- THE MACHINE after each event. Shares are granted always, if `Granted` holds.
-pub record IsSound {M : Type 0} (Granted : Type 0) (w : World M) : Type 0 where
+pub record IsSound {M : Type 0} (Granted : Type 0) (same : M → M → Bool) (w : World M) : Type 0 where
   pub placed : IsPlaced (table_of w) w.root
   pub facts : (id pin : ℕ) (r : Record M) → call_of w id ≡ Some r → pin_of w.pins id ≡ Some pin
-      → Facts Granted (table_of w) w.root pin r
+      → Facts Granted same (table_of w) w.root pin r
   pub pinned : (id : ℕ) (r : Record M) → call_of w id ≡ Some r → IsSome (pin_of w.pins id)
   pub called : (id pin : ℕ) → pin_of w.pins id ≡ Some pin → IsSome (call_of w id)
   pub numbered : (id : ℕ) (r : Record M) → call_of w id ≡ Some r → id < 2 ^ 64

@@ -10,9 +10,9 @@ use Rattle.congee_sync.specs.declared.epoch.Life.{Life}
 use Rattle.congee_sync.specs.declared.epoch.Seat.{Seat}
 use Rattle.congee_store.specs.declared.stage.Record.{Record}
 use Rattle.congee_store.specs.declared.stage.Stage.{Stage}
-use Rattle.congee_store.specs.declared.stage.Stage.TheVariants.{TakeRoot, Read, Check, TakeBelow, CheckAbove, Tail, Finish}
+use Rattle.congee_store.specs.declared.stage.Stage.TheVariants.{TakeRoot, Read, Check, TakeBelow, CheckAbove, Answer, Confirm, Tail, Finish}
 use Rattle.congee_store.specs.declared.stage.Stored.{Stored}
-use Rattle.congee_store.specs.inner.Tails.{path_spots, spots_in, held_in, made_in}
+use Rattle.congee_store.specs.inner.Tails.{path_spots, case_spots, spots_in, held_in, made_in}
 use Rattle.congee_store.specs.inner.World.{World, Standing, is_private, is_linked, is_detached, is_retired, Node, node_of}
 
 abbrev pub publicity : Standing → Publicity
@@ -28,6 +28,8 @@ spots_of (Read path) = path_spots path
 spots_of (Check path) = path_spots path
 spots_of (TakeBelow path slot) = path_spots path
 spots_of (CheckAbove path spot fits) = put (path_spots path) spot.slot spot.word
+spots_of (Answer case) = case_spots case
+spots_of (Confirm spot) = (spot.slot, spot.word) ∷ []
 spots_of (Tail tail) = spots_in tail
 spots_of Finish = []
 

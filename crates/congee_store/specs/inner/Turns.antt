@@ -3,15 +3,14 @@
 -- theorem on runs is proved from it.
 use Rattle.std.specs.Prelude.{[], false, true, ◌≡◌, ◌≢◌, ℕ, ◌+◌, ◌-◌, ◌*◌, ◌<◌, ◌≤◌, Bool, length, Option, Some, None, ◌⊎◌}
 use Rattle.congee_map.specs.Map.{Pairs, lookup}
-use Rattle.congee_protocol.specs.Calls.{outline_of}
+use Rattle.congee_protocol.specs.Calls.{IsPoint, outline_of}
 use Rattle.congee_protocol.specs.Content.{IsContent}
 use Rattle.congee_protocol.specs.Deciding.{Carries, IsCarried}
-use Rattle.congee_protocol.specs.Kinds.{DoesAs, IsStart, IsStep, report_of}
+use Rattle.congee_protocol.specs.Kinds.{DoesAs, IsReclaim, IsStart, IsStep, report_of}
 use Rattle.congee_protocol.specs.State.{State, with_call}
 use Rattle.congee_protocol.specs.declared.types.Env.{Env}
 use Rattle.congee_protocol.specs.declared.types.Kind.TheVariants as kind
 use Rattle.congee_protocol.specs.declared.types.Op.{Op}
-use Rattle.congee_protocol.specs.declared.types.Op.TheVariants.{Get, Insert}
 use Rattle.congee_protocol.specs.declared.types.Outcome.{Outcome}
 use Rattle.congee_protocol.specs.declared.types.Outcome.TheVariants.{Done}
 use Rattle.congee_protocol.specs.declared.types.Progress.{Progress}
@@ -22,19 +21,13 @@ use Rattle.congee_sync.specs.Lock.{version, last_version}
 use Rattle.congee_store.specs.declared.stage.Record.{Record}
 use Rattle.congee_store.specs.declared.stage.Spot.{Spot}
 use Rattle.congee_store.specs.declared.stage.Stage.{Stage}
-use Rattle.congee_store.specs.declared.stage.Stage.TheVariants.{TakeRoot, Read, Check, TakeBelow, CheckAbove, Tail, Finish}
+use Rattle.congee_store.specs.declared.stage.Stage.TheVariants.{TakeRoot, Read, Check, TakeBelow, CheckAbove, Answer, Confirm, Tail, Finish}
 use Rattle.congee_store.specs.inner.Tables.{Guarantees, NeedsHolder, IsIn}
 use Rattle.congee_store.specs.inner.Tasks.{SawNode}
 use Rattle.congee_store.specs.inner.Facts.{Holding, named_at, Facts, IsSound}
 use Rattle.congee_store.specs.inner.Shown.{shown, flight, held_at, made_at, spots_of, state_of}
-use Rattle.congee_store.specs.inner.Tails.{tail_work}
+use Rattle.congee_store.specs.inner.Tails.{case_work, tail_work}
 use Rattle.congee_store.specs.inner.World.{World, Node, Table, table_of, call_of}
-
--- The calls that are served, which end. Another that is begun looks for its key again and again.
-abbrev pub IsServedCall : {X : Type 0} → Op X → Type 0
-IsServedCall (Get k) = Unit {0}
-IsServedCall (Insert k v) = Unit {0}
-IsServedCall _ = ⊥
 
 module _ {M : Type 0} where
   -- the length of the prefix of the node in a slot
@@ -49,6 +42,8 @@ module _ {M : Type 0} where
   work t progress (Check path) = 4 * (7 - depth_in (t path.here.slot)) + 9
   work t progress (TakeBelow path slot) = 4 * (7 - depth_in (t path.here.slot)) + 8
   work t progress (CheckAbove path spot fits) = 4 * (7 - depth_in (t path.here.slot)) + 7
+  work t progress (Answer case) = case_work case
+  work t progress (Confirm spot) = 2
   work t progress (Tail tail) = tail_work progress tail
   work t progress Finish = 1
 
@@ -94,7 +89,7 @@ module _ {M : Type 0} where
     pub reads : (slot : ℕ) → MayFollow t' next.stage next.task.last slot → report.kind ≡ kind.Read
     pub outline : next.task.outline ≡ call.task.outline
     pub keeps : IsCurrent t call.stage → IsCurrent t' next.stage
-    pub falls : IsServedCall call.task.outline
+    pub falls : IsPoint call.task.outline
         → (StartsOver t' next × (IsCurrent t call.stage → IsUndisturbed t call.stage env → ⊥))
         ⊎ (work_of t' next < work_of t call)
 
@@ -108,7 +103,7 @@ module _ {M : Type 0} (Granted : Type 0) (same : M → M → Bool) where
   -- AN EVENT THAT ONLY READS: what it leaves of its call, in any state that shows these nodes
   pub record IsRead (t : Table M) (root pin : ℕ) (call : Record M) (env : Env M) (next : Record M)
       (report : Report) (out : Outcome M) : Type 0 where
-    pub facts : Facts Granted t root pin next
+    pub facts : Facts Granted same t root pin next
     pub held : held_at next.stage ≡ []
     pub made : made_at next.stage ≡ []
     pub course : IsCourse t t root call env next report out
@@ -126,8 +121,8 @@ module _ {M : Type 0} (Granted : Type 0) (same : M → M → Bool) where
 
   -- A START
   pub record IsBegun (w w' : World M) (id : ℕ) (op : Op M) (report : Report) : Type 0 where
-    pub before : IsSound Granted w
-    pub after : IsSound Granted w'
+    pub before : IsSound Granted same w
+    pub after : IsSound Granted same w'
     pub others : (o : ℕ) → o ≢ id → call_of w' o ≡ call_of w o
     pub nodes : (s : ℕ) → table_of w' s ≡ table_of w s
     pub root : w'.root ≡ w.root
@@ -137,11 +132,23 @@ module _ {M : Type 0} (Granted : Type 0) (same : M → M → Bool) where
     pub outline : record_is.task.outline ≡ outline_of op
     pub start : IsStart (state_of w) (state_of w') id op report
 
+  -- A RECLAIM of a slot, on which no call in flight may step any more
+  pub record IsFreed (w w' : World M) (slot : ℕ) (report : Report) : Type 0 where
+    pub before : IsSound Granted same w
+    pub after : IsSound Granted same w'
+    pub calls : (id : ℕ) → call_of w' id ≡ call_of w id
+    pub pins : (id : ℕ) → pin_of w'.pins id ≡ pin_of w.pins id
+    pub root : w'.root ≡ w.root
+    pub leaves : (id pin : ℕ) → pin_of w.pins id ≡ Some pin
+        → Guarantees (table_of w) (table_of w') (λ s. ⊥) pin
+    pub reclaim : IsReclaim (state_of w) (state_of w') slot report
+    pub carries : (m : Pairs M) → IsContent (state_of w) m → IsContent (state_of w') m
+
   -- A STEP of the call of a number
   pub record IsTurn (w w' : World M) (id : ℕ) (env : Env M) (report : Report)
       (out : Outcome M) : Type 0 where
-    pub before : IsSound Granted w
-    pub after : IsSound Granted w'
+    pub before : IsSound Granted same w
+    pub after : IsSound Granted same w'
     pub call : Record M
     pub pin : ℕ
     pub found : call_of w id ≡ Some call

@@ -9,12 +9,12 @@ pub returns-in-Some : goal.returns-in-Some
 returns-in-Some g c =
     let w = inside g.A.Allocator.charge c.args.self.now in
     let found : call_of w c.args.id ≡ Some c.in-Some.call.now = search rules in
-    handed g.P.HasMeaning.meaning g.P.Payload.always_shared w c.args.id c.ranges.id.fits c.requires.sound c.in-Some.call.now found c.args.op.now c.has_outline.result c.has_outline.ensures
+    handed g.P.HasMeaning.meaning g.P.Payload.always_shared g.P.HasMeaning.same_meaning w c.args.id c.ranges.id.fits c.requires.sound c.in-Some.call.now found c.args.op.now c.has_outline.result c.has_outline.ensures
 
 pub returns-in-None : goal.returns-in-None
 returns-in-None g c =
     let w = inside g.A.Allocator.charge c.args.self.now in
     let none : call_of w c.args.id ≡ None = search rules in (
       (λ t. absurd (false≢true t)),
-      (λ h. absurd (unhanded g.P.HasMeaning.meaning g.P.Payload.always_shared w c.args.id c.ranges.id.fits c.requires.sound none c.args.op.now h)),
+      (λ h. absurd (unhanded g.P.HasMeaning.meaning g.P.Payload.always_shared g.P.HasMeaning.same_meaning w c.args.id c.ranges.id.fits c.requires.sound none c.args.op.now h)),
     )

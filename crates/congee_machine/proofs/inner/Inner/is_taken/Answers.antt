@@ -14,7 +14,7 @@ returns-then-is_seated g c = (
 pub returns-else-is_seated : goal.returns-else-is_seated
 returns-else-is_seated g c =
     let w = inside g.A.Allocator.charge c.args.self.now in
-    let f = flies g.P.HasMeaning.meaning g.P.Payload.always_shared w c.args.id c.ranges.id.fits c.requires.sound in (
+    let f = flies g.P.HasMeaning.meaning g.P.Payload.always_shared g.P.HasMeaning.same_meaning w c.args.id c.ranges.id.fits c.requires.sound in (
       (λ t. inr (f.0 (c.is_in_flight.ensures.0 t))),
       (λ h.
           elim h [

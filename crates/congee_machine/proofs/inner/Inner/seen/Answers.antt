@@ -10,10 +10,10 @@ returns-in-Some g c =
     let w = inside g.A.Allocator.charge c.args.self.now in
     let found : call_of w c.args.id ≡ Some c.in-Some.call.now = search rules in
     let shown : option_copied c.as_ref.result ≡ c.in-Some.call.now.task.last = search rules in
-    shown ∙ sym (last_seen g.P.HasMeaning.meaning g.P.Payload.always_shared w c.args.id c.ranges.id.fits c.requires.sound c.in-Some.call.now found)
+    shown ∙ sym (last_seen g.P.HasMeaning.meaning g.P.Payload.always_shared g.P.HasMeaning.same_meaning w c.args.id c.ranges.id.fits c.requires.sound c.in-Some.call.now found)
 
 pub returns-in-None : goal.returns-in-None
 returns-in-None g c =
     let w = inside g.A.Allocator.charge c.args.self.now in
     let none : call_of w c.args.id ≡ None = search rules in
-    sym (ap seen_in (unflown g.P.HasMeaning.meaning g.P.Payload.always_shared w c.args.id c.ranges.id.fits c.requires.sound none))
+    sym (ap seen_in (unflown g.P.HasMeaning.meaning g.P.Payload.always_shared g.P.HasMeaning.same_meaning w c.args.id c.ranges.id.fits c.requires.sound none))

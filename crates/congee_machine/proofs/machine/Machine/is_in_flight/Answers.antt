@@ -7,7 +7,7 @@ use Rattle.congee_machine.proofs.machine.Machine.is_in_flight.Goals as goal
 
 pub returns : goal.returns
 returns g c =
-    let f = flies g.P.HasMeaning.meaning g.P.Payload.always_shared (inside g.A.Allocator.charge c.self.inside.inner) c.args.id c.ranges.id.fits c.self.invariant in
+    let f = flies g.P.HasMeaning.meaning g.P.Payload.always_shared g.P.HasMeaning.same_meaning (inside g.A.Allocator.charge c.self.inside.inner) c.args.id c.ranges.id.fits c.self.invariant in
     let e = c.is_in_flight.ensures in
     subst (λ (s : State g.row.P.Denot). IsTrue c.is_in_flight.result ↔ IsSome (lookup s.flights c.args.id)) c.self.view_is
     ((λ t. f.0 (e.0 t)), (λ h. e.1 (f.1 h)))

@@ -13,4 +13,4 @@ returns g c =
     let w = inside g.A.Allocator.charge c.self.inside.inner in
     let meaning = g.P.HasMeaning.meaning in
     subst (λ (s : State g.row.P.Denot). IsWellFormed (meant meaning s)) c.self.view_is
-    (subst (λ (s : State g.P.HasMeaning.Meaning). IsWellFormed s) (sym (meant_state meaning w)) (well_formed g.P.Payload.always_shared (meant_world meaning w) c.self.invariant))
+    (subst (λ (s : State g.P.HasMeaning.Meaning). IsWellFormed s) (sym (meant_state meaning w)) (well_formed g.P.Payload.always_shared g.P.HasMeaning.same_meaning (meant_world meaning w) c.self.invariant))

@@ -15,7 +15,7 @@ pub begin-requires-clause-free : goal.begin-requires-clause-free
 begin-requires-clause-free g c =
     let w = inside g.A.Allocator.charge c.self.inside.inner in
     let none = none_there (lookup c.args.self.now.flights c.args.id) (λ h. false≢true (sym c.if-is_in_flight.false ∙ c.is_in_flight.ensures.1 h)) in
-    unrecorded g.P.HasMeaning.meaning g.P.Payload.always_shared w c.args.id c.ranges.id.fits c.self.invariant
+    unrecorded g.P.HasMeaning.meaning g.P.Payload.always_shared g.P.HasMeaning.same_meaning w c.args.id c.ranges.id.fits c.self.invariant
     (subst (λ (s : State g.row.P.Denot). lookup s.flights c.args.id ≡ None) (sym c.self.view_is) none)
 
 pub returns-in-Err-begin-clause-granted : goal.returns-in-Err-begin-clause-granted

@@ -17,7 +17,7 @@ proceed-requires-clause-flies g c =
     let w = inside g.A.Allocator.charge c.self.inside.inner in
     let known : IsHanded c.args.self.now c.args.id c.args.op.now = c.is_handed.ensures.0 c.if-not-is_handed.false in
     let flown : IsSome (lookup c.args.self.now.flights c.args.id) = subst (λ (x : Option (Flight g.row.P.Denot)). IsSome x) (sym known.in_flight) refl in
-    (flies g.P.HasMeaning.meaning g.P.Payload.always_shared w c.args.id c.ranges.id.fits c.self.invariant).1
+    (flies g.P.HasMeaning.meaning g.P.Payload.always_shared g.P.HasMeaning.same_meaning w c.args.id c.ranges.id.fits c.self.invariant).1
     (subst (λ (s : State g.row.P.Denot). IsSome (lookup s.flights c.args.id)) (sym c.self.view_is) flown)
 
 pub returns-clause-known : goal.returns-clause-known

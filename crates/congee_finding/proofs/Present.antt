@@ -1,0 +1,371 @@
+-- WHAT A CALL DOES where a payload stands at its key: it is decided, has to write, or asks its closure.
+use Rattle.std.proofs.Common.{◌≡◌, ℕ, Bool, true, false, IsTrue, length, Option, Some, None, Err, inl, inr, refl, sym, subst, ap, ◌∙◌, arith}
+use Rattle.congee_node_table.specs.declared.child.Child.{Child}
+use Rattle.congee_node_table.specs.declared.child.Child.TheVariants.{Payload}
+use Rattle.congee_protocol.specs.Calls.{Outline, IsPoint, outline_of}
+use Rattle.congee_protocol.specs.Kinds.{report_of}
+use Rattle.congee_protocol.specs.Local.{SharesNone, payload_in, seen_payload}
+use Rattle.congee_protocol.specs.Meaning.{in_some, op_of, reply_of}
+use Rattle.congee_protocol.specs.declared.types.Asking.{Asking}
+use Rattle.congee_protocol.specs.declared.types.Asking.TheVariants.{Fresh}
+use Rattle.congee_protocol.specs.declared.types.Env.{Env}
+use Rattle.congee_protocol.specs.declared.types.Kind.TheVariants as kind
+use Rattle.congee_protocol.specs.declared.types.Op.{Op}
+use Rattle.congee_protocol.specs.declared.types.Op.TheVariants.{Get, Insert, Remove, ComputeIfPresent, ComputeOrInsert, CompareExchange, Range}
+use Rattle.congee_protocol.specs.declared.types.Outcome.TheVariants.{Ask, Going, Decided}
+use Rattle.congee_protocol.specs.declared.types.Progress.TheVariants as progress
+use Rattle.congee_protocol.specs.declared.types.Reply.{Reply}
+use Rattle.congee_protocol.specs.declared.types.Reply.TheVariants.{Old, Exchanged}
+use Rattle.congee_store.specs.declared.stage.Stage.TheVariants.{Answer, Check, Tail, Finish}
+use Rattle.congee_store.specs.declared.stage.Task.{Task}
+use Rattle.congee_store.specs.declared.tail.Case.TheVariants as case
+use Rattle.congee_store.specs.declared.tail.Large.TheVariants.{Detach}
+use Rattle.congee_store.specs.declared.tail.Pair.{Pair}
+use Rattle.congee_store.specs.declared.tail.Small.TheVariants.{Entry}
+use Rattle.congee_store.specs.declared.tail.Tail.TheVariants.{Upgrade, UpgradeAbove}
+use Rattle.congee_store.specs.inner.Effects.{HasClosure, IsChange, IsLeft, reply_with}
+use Rattle.congee_store.specs.inner.Facts.{Facts}
+use Rattle.congee_store.specs.inner.Tables.{IsPlaced, OnPath}
+use Rattle.congee_store.specs.inner.TailFacts.{IsLarge, IsPresent, IsSmall, LargeWork, SmallWork, Writes, found, path_to}
+use Rattle.congee_store.specs.inner.Tasks.{IsFreshly, Sees, closed, key_bytes}
+use Rattle.congee_store.specs.inner.Turns.{IsRead}
+use Rattle.congee_store.specs.inner.World.{Node, Table}
+use Rattle.congee_store.proofs.Options.{none_some, some_same}
+use Rattle.congee_store.proofs.Records.{at}
+use Rattle.congee_reading.proofs.Checks.{asking, asking_waits, asks_at, asks_present, closure_shares, ends_changed, ends_left, goes, keeps_old, keeps_question, keeps_spare, present_there, sees_found}
+use Rattle.congee_reading.proofs.Spots.{here_known}
+use Rattle.congee_finding.specs.declared.presence.Judged.{Judged}
+use Rattle.congee_finding.specs.declared.presence.Judged.TheVariants.{Other, Same, Stores, Removes}
+use Rattle.congee_finding.specs.inner.Judged.{IsExchange, IsGet, IsInsert, IsJudged, IsRemove, handed, removing}
+use Rattle.congee_finding.specs.inner.Met.{IsPresentAt}
+use Rattle.congee_finding.proofs.Absent.{writes_by}
+
+-- these calls see payloads
+get_shares : (o : Outline) → IsGet o → SharesNone o None → ⊥
+get_shares (Get k) h shares = shares
+get_shares (Insert k v) h shares = h
+get_shares (Remove k) h shares = h
+get_shares (ComputeIfPresent k) h shares = h
+get_shares (ComputeOrInsert k v) h shares = h
+get_shares (CompareExchange k old new) h shares = h
+get_shares (Range a b n) h shares = h
+
+exchange_shares : (o : Outline) → IsExchange o → SharesNone o None → ⊥
+exchange_shares (Get k) h shares = h
+exchange_shares (Insert k v) h shares = h
+exchange_shares (Remove k) h shares = h
+exchange_shares (ComputeIfPresent k) h shares = h
+exchange_shares (ComputeOrInsert k v) h shares = h
+exchange_shares (CompareExchange k old new) h shares = shares
+exchange_shares (Range a b n) h shares = h
+
+-- all of them are point calls
+get_point : (o : Outline) → IsGet o → IsPoint o
+get_point (Get k) h = tt
+get_point (Insert k v) h = tt
+get_point (Remove k) h = tt
+get_point (ComputeIfPresent k) h = tt
+get_point (ComputeOrInsert k v) h = tt
+get_point (CompareExchange k old new) h = tt
+get_point (Range a b n) h = h
+
+insert_point : (o : Outline) → IsInsert o → IsPoint o
+insert_point (Get k) h = tt
+insert_point (Insert k v) h = tt
+insert_point (Remove k) h = tt
+insert_point (ComputeIfPresent k) h = tt
+insert_point (ComputeOrInsert k v) h = tt
+insert_point (CompareExchange k old new) h = tt
+insert_point (Range a b n) h = h
+
+remove_point : (o : Outline) → IsRemove o → IsPoint o
+remove_point (Get k) h = tt
+remove_point (Insert k v) h = tt
+remove_point (Remove k) h = tt
+remove_point (ComputeIfPresent k) h = tt
+remove_point (ComputeOrInsert k v) h = tt
+remove_point (CompareExchange k old new) h = tt
+remove_point (Range a b n) h = h
+
+exchange_point : (o : Outline) → IsExchange o → IsPoint o
+exchange_point (Get k) h = tt
+exchange_point (Insert k v) h = tt
+exchange_point (Remove k) h = tt
+exchange_point (ComputeIfPresent k) h = tt
+exchange_point (ComputeOrInsert k v) h = tt
+exchange_point (CompareExchange k old new) h = tt
+exchange_point (Range a b n) h = h
+
+closure_point : (o : Outline) → HasClosure o → IsPoint o
+closure_point (Get k) h = tt
+closure_point (Insert k v) h = tt
+closure_point (Remove k) h = tt
+closure_point (ComputeIfPresent k) h = tt
+closure_point (ComputeOrInsert k v) h = tt
+closure_point (CompareExchange k old new) h = tt
+closure_point (Range a b n) h = h
+
+module _ {P M : Type 0} (meaning : P → M) where
+  -- a reply, with payloads replaced by what they stand for
+  pub reply_meant : (o : Outline) (before returns : Option P) → reply_of meaning (reply_with o before returns) ≡ reply_with o (in_some meaning before) (in_some meaning returns)
+  reply_meant (Get k) before returns = refl
+  reply_meant (Insert k v) before returns = refl
+  reply_meant (Remove k) before returns = refl
+  reply_meant (ComputeIfPresent k) None returns = refl
+  reply_meant (ComputeIfPresent k) (Some old) returns = refl
+  reply_meant (ComputeOrInsert k v) before returns = refl
+  reply_meant (CompareExchange k old new) before returns = refl
+  reply_meant (Range a b n) before returns = refl
+
+  -- the payload of an Insert
+  pub handed_meant : (op : Option (Op P)) → in_some meaning (handed op) ≡ handed (in_some (op_of meaning) op)
+  handed_meant None = refl
+  handed_meant (Some (Get k)) = refl
+  handed_meant (Some (Insert k v)) = refl
+  handed_meant (Some (Remove k)) = refl
+  handed_meant (Some (ComputeIfPresent k)) = refl
+  handed_meant (Some (ComputeOrInsert k v)) = refl
+  handed_meant (Some (CompareExchange k old new)) = refl
+  handed_meant (Some (Range a b n)) = refl
+
+module _ {M : Type 0} where
+  -- the reply to a CompareExchange doesn't tell what stood there
+  pub exchange_reply : (o : Outline) → IsExchange o → (before after returns : Option M) → reply_with o before returns ≡ reply_with o after returns
+  exchange_reply (Get k) h before after returns = absurd h
+  exchange_reply (Insert k v) h before after returns = absurd h
+  exchange_reply (Remove k) h before after returns = absurd h
+  exchange_reply (ComputeIfPresent k) h before after returns = absurd h
+  exchange_reply (ComputeOrInsert k v) h before after returns = absurd h
+  exchange_reply (CompareExchange k old new) h before after returns = refl
+  exchange_reply (Range a b n) h before after returns = absurd h
+
+-- WHAT THESE CALLS DO where a payload stands
+module _ {M : Type 0} (same : M → M → Bool) where
+  got_by : (op : Op M) → IsGet (outline_of op) → (v : M) → IsLeft same op (Some v) (Old (Some v))
+  got_by (Get k) h v = refl
+  got_by (Insert k x) h v = absurd h
+  got_by (Remove k) h v = absurd h
+  got_by (ComputeIfPresent k) h v = absurd h
+  got_by (ComputeOrInsert k x) h v = absurd h
+  got_by (CompareExchange k old new) h v = absurd h
+  got_by (Range a b n) h v = absurd h
+
+  removed_by : (op : Op M) (asking : Asking M) → asking ≡ Fresh → IsRemove (outline_of op) → (v : M) → IsChange same op asking (Some v) None
+  removed_by (Get k) asking fresh h v = absurd h
+  removed_by (Insert k x) asking fresh h v = absurd h
+  removed_by (Remove k) asking fresh h v = (fresh, refl)
+  removed_by (ComputeIfPresent k) asking fresh h v = absurd h
+  removed_by (ComputeOrInsert k x) asking fresh h v = absurd h
+  removed_by (CompareExchange k old new) asking fresh h v = absurd h
+  removed_by (Range a b n) asking fresh h v = absurd h
+
+  inserted_by : (op : Op M) (asking : Asking M) → asking ≡ Fresh → IsInsert (outline_of op) → (v : M) → (x : M) × IsChange same op asking (Some v) (Some x)
+  inserted_by (Get k) asking fresh h v = absurd h
+  inserted_by (Insert k x) asking fresh h v = (x, (fresh, refl))
+  inserted_by (Remove k) asking fresh h v = absurd h
+  inserted_by (ComputeIfPresent k) asking fresh h v = absurd h
+  inserted_by (ComputeOrInsert k x) asking fresh h v = absurd h
+  inserted_by (CompareExchange k old new) asking fresh h v = absurd h
+  inserted_by (Range a b n) asking fresh h v = absurd h
+
+  -- an Insert whose payload stands there already
+  kept_by : (op : Op M) (asking : Asking M) → asking ≡ Fresh → IsInsert (outline_of op) → (v : M) → IsJudged same (Some op) (Some (Payload v)) Same → IsChange same op asking (Some v) (Some v) × (handed (Some op) ≡ Some v)
+  kept_by (Get k) asking fresh h v j = absurd h
+  kept_by (Insert k x) asking fresh h v j = ((fresh, ap Some (sym j)), ap Some j)
+  kept_by (Remove k) asking fresh h v j = absurd h
+  kept_by (ComputeIfPresent k) asking fresh h v j = absurd h
+  kept_by (ComputeOrInsert k x) asking fresh h v j = absurd h
+  kept_by (CompareExchange k old new) asking fresh h v j = absurd h
+  kept_by (Range a b n) asking fresh h v j = absurd h
+
+  -- what a CompareExchange makes of what it says
+  abbrev IsExchanging : Op M → Asking M → M → Judged → Type 0
+  IsExchanging op asking v Other = IsLeft same op (Some v) (Exchanged (Err (Some v)))
+  IsExchanging op asking v Same = IsChange same op asking (Some v) (Some v)
+  IsExchanging op asking v Stores = (x : M) × IsChange same op asking (Some v) (Some x)
+  IsExchanging op asking v Removes = IsChange same op asking (Some v) None
+
+  exchanged_to : (k : ℕ) (old : M) (new : Option M) (asking : Asking M) → asking ≡ Fresh → (v : M) (j : Judged) → IsJudged same (Some (CompareExchange k old new)) (Some (Payload v)) j → IsExchanging (CompareExchange k old new) asking v j
+  exchanged_to k old new asking fresh v Other h = (h, refl)
+  exchanged_to k old new asking fresh v Same h = (fresh, h.0, sym h.1)
+  exchanged_to k old new asking fresh v Stores h = (h.1.0, (fresh, h.0, sym h.1.1))
+  exchanged_to k old new asking fresh v Removes h = (fresh, h.0, sym h.1)
+
+  exchanged_by : (op : Op M) (asking : Asking M) → asking ≡ Fresh → IsExchange (outline_of op) → (v : M) (j : Judged) → IsJudged same (Some op) (Some (Payload v)) j → IsExchanging op asking v j
+  exchanged_by (Get k) asking fresh is v j h = absurd is
+  exchanged_by (Insert k x) asking fresh is v j h = absurd is
+  exchanged_by (Remove k) asking fresh is v j h = absurd is
+  exchanged_by (ComputeIfPresent k) asking fresh is v j h = absurd is
+  exchanged_by (ComputeOrInsert k x) asking fresh is v j h = absurd is
+  exchanged_by (CompareExchange k old new) asking fresh is v j h = exchanged_to k old new asking fresh v j h
+  exchanged_by (Range a b n) asking fresh is v j h = absurd is
+
+-- AT THE LEAF, whose word is the remembered one
+module _ {M : Type 0} (Granted : Type 0) (same : M → M → Bool) (t : Table M) (root pin : ℕ) (task : Task M) (env : Env M) (placed : IsPlaced t root) (pair : Pair) (a : Node M)
+    (here : t pair.here.slot ≡ Some a) (word : a.word ≡ pair.here.word) (facts : Facts Granted same t root pin (at (Check (path_to pair)) task)) (only : Bool) (present : IsPresentAt a (key_bytes task) only) where
+  fresh_here : IsFreshly task
+  fresh_here = facts.at.0
+
+  abbrev standing : M
+  standing = present.0.0
+
+  there_here : found a (key_bytes task) ≡ Some (Payload standing)
+  there_here = present.0.1
+
+  all_here : (Q : Node M → Type 0) → Q a → (b : Node M) → t pair.here.slot ≡ Some b → b.word ≡ pair.here.word → Q b
+  all_here Q q b h e = subst Q (some_same a b (sym here ∙ h)) q
+
+  module _ (point : IsPoint task.outline) where
+    seen_here : Sees Granted same task → seen_payload task.last ≡ Some standing
+    seen_here sees = sees_found Granted same t root pin task env placed (path_to pair) a here word facts point sees ∙ ap payload_in there_here
+
+    spare_here : Sees Granted same task → task.spare ≡ Some standing
+    spare_here sees = keeps_spare Granted same t root pin task env placed (path_to pair) a here word facts point sees ∙ ap payload_in there_here
+
+    writes_here : (value : Option M) → IsChange same fresh_here.opened.op task.asking (Some standing) value → (w : Writes Granted same task (payload_in (found a (key_bytes task)))) × (w.value ≡ value)
+    writes_here value change =
+        writes_by same Granted task (payload_in (found a (key_bytes task))) value fresh_here.opened
+        (subst (λ (z : Option (Child M)). IsChange same fresh_here.opened.op task.asking (payload_in z) value) (sym there_here) change)
+        (λ sees. sees_found Granted same t root pin task env placed (path_to pair) a here word facts point sees)
+
+    -- it stores in place of what stands there, or removes it
+    goes_entry : Writes Granted same task (payload_in (found a (key_bytes task)))
+        → IsRead Granted same t root pin (at (Check (path_to pair)) task) env (at (Tail (Upgrade (path_to pair) Entry)) task) (report_of kind.Check (Some pair.here.slot) 0 true) Going
+    goes_entry w =
+        let is : IsSmall Entry a (key_bytes task) = (present.1, λ none. absurd (none_some (Payload standing) (sym none ∙ there_here))) in
+        let work : SmallWork Granted same Entry task a = record { writes = w; is = is } in
+        goes Granted same t root pin task env placed (path_to pair) a here word (Check (path_to pair)) (Tail (Upgrade (path_to pair) Entry)) refl refl refl refl fresh_here (here_known (path_to pair)) (inl refl) (λ z w h. h)
+        (record { small = facts.small; at = (fresh_here.opened, facts.at.1, all_here (SmallWork Granted same Entry task) work) }) (λ z h. inr (inl h)) (λ z h. h) (λ served. omega arith)
+
+    -- the only one of its leaf goes with the leaf
+    goes_detach : (w : Writes Granted same task (payload_in (found a (key_bytes task)))) → w.value ≡ None → length a.node.children ≡ 1
+        → IsRead Granted same t root pin (at (Check (path_to pair)) task) env (at (Tail (UpgradeAbove pair Detach)) task) (report_of kind.Check (Some pair.here.slot) 0 true) Going
+    goes_detach w none alone =
+        let on : OnPath t root pin (key_bytes task) (path_to pair) = facts.at.1 in
+        let is : IsLarge Detach a (key_bytes task) = (on.way a here, present.1, present.0, alone) in
+        let work : LargeWork Granted same Detach task a = record { writes = w; is = is; may = none } in
+        goes Granted same t root pin task env placed (path_to pair) a here word (Check (path_to pair)) (Tail (UpgradeAbove pair Detach)) refl refl refl refl fresh_here (here_known (path_to pair)) (inl refl) (λ z w h. h)
+        (record {
+          small = facts.small;
+          at = (
+            record {
+              opened = fresh_here.opened;
+              over = record { way = on.above.1; apart = on.apart pair.above refl };
+              here = on.here;
+              work = all_here (LargeWork Granted same Detach task) work;
+            },
+            on.above.0,
+            on.above.2,
+          );
+        })
+        (λ z h. inr (inl h)) (λ z h. h) (λ served. omega arith)
+
+    goes_removing : (one : Bool) → (IsTrue one → length a.node.children ≡ 1) → (w : Writes Granted same task (payload_in (found a (key_bytes task)))) → w.value ≡ None
+        → IsRead Granted same t root pin (at (Check (path_to pair)) task) env (at (Tail (removing pair one)) task) (report_of kind.Check (Some pair.here.slot) 0 true) Going
+    goes_removing true alone w none = goes_detach w none (alone refl)
+    goes_removing false alone w none = goes_entry w
+
+    removes : IsChange same fresh_here.opened.op task.asking (Some standing) None
+        → IsRead Granted same t root pin (at (Check (path_to pair)) task) env (at (Tail (removing pair only)) task) (report_of kind.Check (Some pair.here.slot) 0 true) Going
+    removes change = let w = writes_here None change in goes_removing only present.2.0 w.0 w.1
+
+    ends_as_left : (reply : Reply M) → IsLeft same fresh_here.opened.op (Some standing) reply
+        → IsRead Granted same t root pin (at (Check (path_to pair)) task) env (at Finish (closed progress.Decided task)) (report_of kind.Check (Some pair.here.slot) 0 true) (Decided reply)
+    ends_as_left reply left =
+        ends_left Granted same t root pin task env placed (path_to pair) a here word (Check (path_to pair)) refl refl facts.small (here_known (path_to pair)) (inl refl) (λ p. omega arith) (Some standing) seen_here
+        (present_there Granted same t root pin task env placed (path_to pair) a here word facts point standing there_here) fresh_here reply left
+
+    ends_as_changed : IsChange same fresh_here.opened.op task.asking (Some standing) (Some standing)
+        → IsRead Granted same t root pin (at (Check (path_to pair)) task) env (at Finish (closed progress.Decided task)) (report_of kind.Check (Some pair.here.slot) 0 true) (Decided (reply_with task.outline (Some standing) task.returns))
+    ends_as_changed change =
+        ends_changed Granted same t root pin task env placed (path_to pair) a here word (Check (path_to pair)) refl refl facts.small (here_known (path_to pair)) (inl refl) (λ p. omega arith) (Some standing) seen_here
+        (present_there Granted same t root pin task env placed (path_to pair) a here word facts point standing there_here) fresh_here.opened change
+
+  -- a Get
+  pub gets_present : IsGet task.outline
+      → IsRead Granted same t root pin (at (Check (path_to pair)) task) env (at Finish (closed progress.Decided task)) (report_of kind.Check (Some pair.here.slot) 0 true) (Decided (Old task.spare))
+  gets_present get =
+      let point = get_point task.outline get in
+      subst (λ (z : Option M). IsRead Granted same t root pin (at (Check (path_to pair)) task) env (at Finish (closed progress.Decided task)) (report_of kind.Check (Some pair.here.slot) 0 true) (Decided (Old z)))
+      (sym (spare_here point (λ shares. absurd (get_shares task.outline get shares))))
+      (ends_as_left point (Old (Some standing)) (got_by same fresh_here.opened.op (subst (λ (o : Outline). IsGet o) (sym fresh_here.opened.outline) get) standing))
+
+  -- a Remove
+  pub removes_present : IsRemove task.outline
+      → IsRead Granted same t root pin (at (Check (path_to pair)) task) env (at (Tail (removing pair only)) task) (report_of kind.Check (Some pair.here.slot) 0 true) Going
+  removes_present remove =
+      removes (remove_point task.outline remove) (removed_by same fresh_here.opened.op task.asking fresh_here.fresh (subst (λ (o : Outline). IsRemove o) (sym fresh_here.opened.outline) remove) standing)
+
+  -- a call with a closure
+  pub asks_with : HasClosure task.outline
+      → IsRead Granted same t root pin (at (Check (path_to pair)) task) env (at (Answer (case.Present pair only)) (asking task task.spare)) (report_of kind.Check (Some pair.here.slot) 0 true) (Ask task.question)
+  asks_with closure =
+      let point = closure_point task.outline closure in
+      let sees : Sees Granted same task = λ shares. absurd (closure_shares task.outline closure shares) in
+      let seen = seen_here point sees in
+      let spare : task.spare ≡ seen_payload task.last = keeps_old Granted same t root pin task env placed (path_to pair) a here word facts point closure in
+      let question : task.question ≡ seen_payload task.last = keeps_question Granted same t root pin task env placed (path_to pair) a here word facts point closure in
+      let on : OnPath t root pin (key_bytes task) (path_to pair) = facts.at.1 in
+      subst (λ (z : Option M). IsRead Granted same t root pin (at (Check (path_to pair)) task) env (at (Answer (case.Present pair only)) (asking task task.spare)) (report_of kind.Check (Some pair.here.slot) 0 true) (Ask z)) (spare ∙ sym question)
+      (asks_at Granted same t root pin task env placed (path_to pair) a here word (Check (path_to pair)) (case.Present pair only) task.spare refl refl fresh_here (here_known (path_to pair)) (inl refl) (λ z w h. h)
+      (rw spare (asks_present task.outline (seen_payload task.last) standing closure seen))
+      (record {
+        small = facts.small;
+        at = (
+          asking_waits Granted same task task.spare fresh_here closure spare,
+          on,
+          all_here (IsPresent Granted same only (asking task task.spare)) (record { full = present.1; value = standing; stands = there_here; seen = seen; alone = present.2.0 }),
+        );
+      })
+      (λ z h. inr (inl h)) (λ served. omega arith))
+
+  -- an Insert
+  module _ (insert : IsInsert task.outline) where
+    pub insert_stores : IsRead Granted same t root pin (at (Check (path_to pair)) task) env (at (Tail (Upgrade (path_to pair) Entry)) task) (report_of kind.Check (Some pair.here.slot) 0 true) Going
+    insert_stores =
+        let point = insert_point task.outline insert in
+        let change = inserted_by same fresh_here.opened.op task.asking fresh_here.fresh (subst (λ (o : Outline). IsInsert o) (sym fresh_here.opened.outline) insert) standing in
+        goes_entry point (writes_here point (Some change.0) change.1).0
+
+    pub insert_same : (child : Option (Child M)) → found a (key_bytes task) ≡ child → IsJudged same task.op child Same
+        → IsRead Granted same t root pin (at (Check (path_to pair)) task) env (at Finish (closed progress.Decided task)) (report_of kind.Check (Some pair.here.slot) 0 true) (Decided (reply_with task.outline (handed task.op) task.returns))
+    insert_same child is judged =
+        let point = insert_point task.outline insert in
+        let told : IsJudged same (Some fresh_here.opened.op) (Some (Payload standing)) Same =
+        subst (λ (z : Option (Op M)). IsJudged same z (Some (Payload standing)) Same) fresh_here.opened.op_is (subst (λ (z : Option (Child M)). IsJudged same task.op z Same) (sym is ∙ there_here) judged) in
+        let kept = kept_by same fresh_here.opened.op task.asking fresh_here.fresh (subst (λ (o : Outline). IsInsert o) (sym fresh_here.opened.outline) insert) standing told in
+        subst (λ (z : Option M). IsRead Granted same t root pin (at (Check (path_to pair)) task) env (at Finish (closed progress.Decided task)) (report_of kind.Check (Some pair.here.slot) 0 true) (Decided (reply_with task.outline z task.returns)))
+        (sym (ap (λ (z : Option (Op M)). handed z) fresh_here.opened.op_is ∙ kept.1)) (ends_as_changed point kept.0)
+
+  -- a CompareExchange
+  module _ (exchange : IsExchange task.outline) (child : Option (Child M)) (is : found a (key_bytes task) ≡ child) where
+    exchange_says : (j : Judged) → IsJudged same task.op child j → IsExchanging same fresh_here.opened.op task.asking standing j
+    exchange_says j judged =
+        exchanged_by same fresh_here.opened.op task.asking fresh_here.fresh (subst (λ (o : Outline). IsExchange o) (sym fresh_here.opened.outline) exchange) standing j
+        (subst (λ (z : Option (Op M)). IsJudged same z (Some (Payload standing)) j) fresh_here.opened.op_is (subst (λ (z : Option (Child M)). IsJudged same task.op z j) (sym is ∙ there_here) judged))
+
+    pub exchange_other : IsJudged same task.op child Other
+        → IsRead Granted same t root pin (at (Check (path_to pair)) task) env (at Finish (closed progress.Decided task)) (report_of kind.Check (Some pair.here.slot) 0 true) (Decided (Exchanged (Err task.spare)))
+    exchange_other judged =
+        let point = exchange_point task.outline exchange in
+        subst (λ (z : Option M). IsRead Granted same t root pin (at (Check (path_to pair)) task) env (at Finish (closed progress.Decided task)) (report_of kind.Check (Some pair.here.slot) 0 true) (Decided (Exchanged (Err z))))
+        (sym (spare_here point (λ shares. absurd (exchange_shares task.outline exchange shares))))
+        (ends_as_left point (Exchanged (Err (Some standing))) (exchange_says Other judged))
+
+    pub exchange_same : IsJudged same task.op child Same
+        → IsRead Granted same t root pin (at (Check (path_to pair)) task) env (at Finish (closed progress.Decided task)) (report_of kind.Check (Some pair.here.slot) 0 true) (Decided (reply_with task.outline None task.returns))
+    exchange_same judged =
+        let point = exchange_point task.outline exchange in
+        subst (λ (z : Reply M). IsRead Granted same t root pin (at (Check (path_to pair)) task) env (at Finish (closed progress.Decided task)) (report_of kind.Check (Some pair.here.slot) 0 true) (Decided z))
+        (exchange_reply task.outline exchange (Some standing) None task.returns) (ends_as_changed point (exchange_says Same judged))
+
+    pub exchange_stores : IsJudged same task.op child Stores
+        → IsRead Granted same t root pin (at (Check (path_to pair)) task) env (at (Tail (Upgrade (path_to pair) Entry)) task) (report_of kind.Check (Some pair.here.slot) 0 true) Going
+    exchange_stores judged =
+        let point = exchange_point task.outline exchange in
+        let change = exchange_says Stores judged in
+        goes_entry point (writes_here point (Some change.0) change.1).0
+
+    pub exchange_removes : IsJudged same task.op child Removes
+        → IsRead Granted same t root pin (at (Check (path_to pair)) task) env (at (Tail (removing pair only)) task) (report_of kind.Check (Some pair.here.slot) 0 true) Going
+    exchange_removes judged = removes (exchange_point task.outline exchange) (exchange_says Removes judged)

@@ -1,0 +1,107 @@
+//! The next event of a call, by its stage.
+
+ghost use Rattle.std.specs.Prelude.{◌≡◌, ◌≢◌, Some, None, true};
+ghost use Rattle.congee_protocol.specs.Kinds.{report_of};
+ghost use Rattle.congee_protocol.specs.Meaning.{env_of, in_some, outcome_of};
+ghost use Rattle.congee_store.specs.inner.Tables.{IsPlaced};
+ghost use Rattle.congee_store.specs.inner.Meant.{meant_record, meant_table};
+ghost use Rattle.congee_store.specs.inner.Turns.{IsAdvance};
+ghost use Rattle.congee_reading.specs.inner.Reads.{Knows};
+
+use crate::answering::{answer, confirm};
+use crate::checking::{check, check_above};
+use congee_protocol::payload::HasMeaning;
+use congee_protocol::types::{Env, Kind, Outcome, Report};
+use congee_reading::looking::read;
+use congee_reading::stilling::{check_still, is_point};
+use congee_reading::taking::{take_below, take_root};
+use congee_store::stage::{Record, Stage};
+use congee_store::stepped::Stepped;
+use congee_store::store::Store;
+use congee_store::tail::Tail;
+
+/// A call after an event, if it is still in flight, and what the event says.
+#[derive(Drop)]
+pub struct Advanced<P> {
+    pub call: Option<Record<P>>,
+    pub report: Report,
+    pub outcome: Outcome<P>,
+}
+
+// A call that goes on.
+fn on<P>(stepped: Stepped<P>) -> Advanced<P>
+    ensures { result ≡ record {
+      call = Some stepped.call;
+      report = stepped.report;
+      outcome = stepped.outcome;
+    } }
+{
+    let Stepped {
+        call,
+        report,
+        outcome,
+    } = stepped;
+    Advanced {
+        call: Some(call),
+        report,
+        outcome,
+    }
+}
+
+// A call that ends.
+fn finished<P>() -> Advanced<P>
+    ensures { result ≡ record {
+      call = None;
+      report = report_of Kind.Finish None 0 true;
+      outcome = Outcome.Done;
+    } }
+{
+    Advanced {
+        call: None,
+        report: Report {
+            kind: Kind::Finish,
+            slot: None,
+            word: 0,
+            ok: true,
+        },
+        outcome: Outcome::Done,
+    }
+}
+
+/// Makes the next event of a call that doesn't write. An event uses of `env`
+/// what its kind takes. A range is not served: it checks the root again and again.
+pub fn advance<P: HasMeaning>(
+    store: &Store<P>,
+    pin: u64,
+    call: Record<P>,
+    env: Env<P>,
+) -> Advanced<P>
+    requires placed { IsPlaced (meant_table P.meaning store.now) store.now.root }
+    requires facts { Knows P.always_shared P.same_meaning P.meaning store.now pin call }
+    requires reads { (tail : Tail) → call.stage ≢ Stage.Tail tail }
+    ensures { IsAdvance P.always_shared P.same_meaning (meant_table P.meaning store.now)
+        store.now.root pin (meant_record P.meaning call) (env_of P.meaning env)
+        (in_some (meant_record P.meaning) result.call) result.report
+        (outcome_of P.meaning result.outcome) }
+{
+    let Record { stage, task } = call;
+    match stage {
+        Stage::TakeRoot => on(take_root(store, pin, task)),
+        Stage::Read(path) => {
+            if is_point(&task.outline) {
+                on(read(store, pin, task, path, env.torn))
+            } else {
+                on(check_still(store, pin, task, path))
+            }
+        }
+        Stage::Check(path) => on(check(store, pin, task, path)),
+        Stage::TakeBelow(path, slot) => on(take_below(store, pin, task, path, slot)),
+        Stage::CheckAbove(path, below, fits) => {
+            on(check_above(store, pin, task, path, below, fits))
+        }
+        Stage::Answer(case) => on(answer(store, pin, task, case, env.answer)),
+        Stage::Confirm(spot) => on(confirm(store, pin, task, spot)),
+        Stage::Tail(_) => unreachable!(),
+        Stage::Finish => finished(),
+    }
+}

@@ -1,0 +1,155 @@
+-- A CALL THAT LEAVES ALL AS IT STANDS: what it has seen alone is what the whole map says.
+use Rattle.std.proofs.Common.{◌≡◌, ℕ, ◌+◌, ◌^◌, Bool, List, Option, Some, None, inl, inr, refl, sym, subst, ap, ◌∙◌, arith}
+use Rattle.std.proofs.lemmas.Bool.{eq-eqb}
+use Rattle.std.proofs.lemmas.Bool.Decides.{eqb_tells}
+use Rattle.congee_map.proofs.MapLaws.{Rises-put, lookup-put_same, lookup-put_other, same_from_lookups, without-absent}
+use Rattle.congee_map.specs.Map.{Pairs, IsMap, Rises, lookup, put, with_answer}
+use Rattle.congee_map.specs.Legal.{reply_of}
+use Rattle.congee_protocol.specs.Calls.{Outline, IsPoint, key_of, outline_of, map_call, map_reply, map_asked, asked_of}
+use Rattle.congee_protocol.specs.Deciding.{Leads}
+use Rattle.congee_protocol.specs.Local.{IsLocal, LeavesAll, only_at, seen_map, seen_payload}
+use Rattle.congee_protocol.specs.State.{Flight}
+use Rattle.congee_protocol.specs.declared.types.Asking.{Asking}
+use Rattle.congee_protocol.specs.declared.types.Asking.TheVariants.{Fresh}
+use Rattle.congee_protocol.specs.declared.types.Op.{Op}
+use Rattle.congee_protocol.specs.declared.types.Op.TheVariants.{Get, Insert, Remove, ComputeIfPresent, ComputeOrInsert, CompareExchange, Range}
+use Rattle.congee_protocol.specs.declared.types.Reply.{Reply}
+use Rattle.congee_store.specs.declared.stage.Stage.{Stage}
+use Rattle.congee_store.specs.declared.stage.Task.{Task}
+use Rattle.congee_store.specs.inner.Effects.{IsChange, IsLeft, reply_with}
+use Rattle.congee_store.specs.inner.Shown.{flight}
+use Rattle.congee_store.specs.inner.Tasks.{IsOpen, Sees}
+use Rattle.congee_store.proofs.Reaching.{lookup-inside}
+use Rattle.congee_store.proofs.Records.{at}
+use Rattle.congee_store.proofs.Replies.{change_asked, change_replied, change_after, left_asked, left_replied, left_after}
+
+-- MAPS: what is put where it stands already leaves the map as it was
+module _ {V : Type 0} where
+  pub put_again : (a b : ℕ) (es : List (ℕ × V)) (k : ℕ) (v : V) → Rises a b es → lookup es k ≡ Some v → put es k v ≡ es
+  put_again a b es k v rises there =
+      let inside = lookup-inside a b es k v rises there in
+      let alike : (j : ℕ) → lookup (put es k v) j ≡ lookup es j = λ j.
+      elim (eqb_tells k j) [
+        | inl e ↦ subst (λ (z : ℕ). lookup (put es k v) z ≡ lookup es z) e.1 (lookup-put_same es k v ∙ sym there)
+        | inr e ↦ lookup-put_other es k v j (λ (q : j ≡ k). e.1 (sym q))
+      ]
+      in
+      same_from_lookups a b a b (put es k v) es (Rises-put a b es k v rises inside.0 inside.1) rises alike
+
+  pub answer_again : (a b : ℕ) (es : List (ℕ × V)) (k : ℕ) (v : Option V) → Rises a b es → lookup es k ≡ v → with_answer es k v ≡ es
+  answer_again a b es k None rises there = without-absent es k there
+  answer_again a b es k (Some v) rises there = put_again a b es k v rises there
+
+  -- the map in which a key alone may stand
+  pub alone_there : (k : ℕ) (v : Option V) → lookup (only_at k v) k ≡ v
+  alone_there k None = refl
+  alone_there k (Some v) = rw (eq-eqb k k refl) refl
+
+  alone_rises : (k : ℕ) (v : Option V) → Rises k (k + 1) (only_at k v)
+  alone_rises k None = tt
+  alone_rises k (Some v) = (omega arith, omega arith, tt)
+
+-- CALLS AND THEIR OUTLINES
+module _ {M : Type 0} where
+  key_outline : (op : Op M) → key_of op ≡ key_of (outline_of op)
+  key_outline (Get k) = refl
+  key_outline (Insert k v) = refl
+  key_outline (Remove k) = refl
+  key_outline (ComputeIfPresent k) = refl
+  key_outline (ComputeOrInsert k v) = refl
+  key_outline (CompareExchange k old new) = refl
+  key_outline (Range a b n) = refl
+
+  pub key_is : (op : Op M) (o : Outline) → outline_of op ≡ o → key_of op ≡ key_of o
+  key_is op o e = key_outline op ∙ ap (λ (z : Outline). key_of z) e
+
+  -- a range changes and leaves nothing
+  left_point : (same : M → M → Bool) (op : Op M) (stands : Option M) (reply : Reply M) → IsLeft same op stands reply → IsPoint op
+  left_point same (Get k) stands reply h = tt
+  left_point same (Insert k v) stands reply h = tt
+  left_point same (Remove k) stands reply h = tt
+  left_point same (ComputeIfPresent k) stands reply h = tt
+  left_point same (ComputeOrInsert k v) stands reply h = tt
+  left_point same (CompareExchange k old new) stands reply h = tt
+  left_point same (Range a b n) stands reply h = absurd h
+
+  change_point : (same : M → M → Bool) (op : Op M) (asking : Asking M) (stands value : Option M) → IsChange same op asking stands value → IsPoint op
+  change_point same (Get k) asking stands value h = tt
+  change_point same (Insert k v) asking stands value h = tt
+  change_point same (Remove k) asking stands value h = tt
+  change_point same (ComputeIfPresent k) asking stands value h = tt
+  change_point same (ComputeOrInsert k v) asking stands value h = tt
+  change_point same (CompareExchange k old new) asking stands value h = tt
+  change_point same (Range a b n) asking stands value h = absurd h
+
+-- what a call has seen decides it with this reply, and leaves all
+abbrev pub Tells : {M : Type 0} → Type 0 → (M → M → Bool) → Flight M → Reply M → Type 0
+Tells Granted same call reply = (local : IsLocal Granted same call reply) × LeavesAll Granted same call local.op
+
+-- a call without a reply, at whose key this stands
+module _ {M : Type 0} (Granted : Type 0) (same : M → M → Bool) (pin : ℕ) (stage : Stage) (task : Task M) (opened : IsOpen task) (stands : Option M) where
+  key_same : key_of opened.op ≡ key_of task.outline
+  key_same = key_is opened.op task.outline opened.outline
+
+  there_same : (m : Pairs M) → lookup m (key_of task.outline) ≡ stands → lookup m (key_of opened.op) ≡ stands
+  there_same m there = subst (λ (k : ℕ). lookup m k ≡ stands) (sym key_same) there
+
+  seen_alone : seen_payload task.last ≡ stands → lookup (seen_map (flight pin (at stage task))) (key_of opened.op) ≡ stands
+  seen_alone seen = there_same (only_at (key_of task.outline) (seen_payload task.last)) (alone_there (key_of task.outline) (seen_payload task.last) ∙ seen)
+
+  -- IT CHANGES NOTHING
+  module _ (reply : Reply M) (fresh : task.asking ≡ Fresh) (left : IsLeft same opened.op stands reply) where
+    pub left_tells : (Sees Granted same task → seen_payload task.last ≡ stands) → Tells Granted same (flight pin (at stage task)) reply
+    left_tells seen = (
+      record {
+        op = opened.op;
+        op_is = opened.op_is;
+        undecided = opened.undecided;
+        point = left_point same opened.op stands reply left;
+        asked = λ sees. left_asked same (seen_map (flight pin (at stage task))) opened.op task.asking stands reply fresh left (seen_alone (seen sees));
+        reply = λ sees. left_replied same (seen_map (flight pin (at stage task))) opened.op task.asking stands reply fresh left (seen_alone (seen sees));
+      },
+      (λ sees. left_after same (seen_map (flight pin (at stage task))) opened.op task.asking stands reply fresh left (seen_alone (seen sees)) (λ k none. without-absent (seen_map (flight pin (at stage task))) k none)),
+    )
+
+    pub left_leads : (m : Pairs M) → lookup m (key_of task.outline) ≡ stands → Leads same m m (flight pin (at stage task)) reply
+    left_leads m there = record {
+      op = opened.op;
+      op_is = opened.op_is;
+      asked = left_asked same m opened.op task.asking stands reply fresh left (there_same m there);
+      replied = left_replied same m opened.op task.asking stands reply fresh left (there_same m there);
+      after = sym (left_after same m opened.op task.asking stands reply fresh left (there_same m there) (λ k none. without-absent m k none));
+    }
+
+  -- WHAT IT WOULD STORE STANDS THERE
+  module _ (change : IsChange same opened.op task.asking stands stands) where
+    same_reply : (m : Pairs M) → lookup m (key_of opened.op) ≡ stands
+        → map_reply (reply_with task.outline stands task.returns) ≡ reply_of same m (map_call opened.op) (map_asked opened.op (asked_of task.asking))
+    same_reply m there =
+        subst (λ (o : Outline). map_reply (reply_with o stands task.returns) ≡ reply_of same m (map_call opened.op) (map_asked opened.op (asked_of task.asking))) opened.outline
+        (change_replied same m opened.op task.asking stands stands task.returns change opened.returned there)
+
+    pub same_tells : (Sees Granted same task → seen_payload task.last ≡ stands) → Tells Granted same (flight pin (at stage task)) (reply_with task.outline stands task.returns)
+    same_tells seen = (
+      record {
+        op = opened.op;
+        op_is = opened.op_is;
+        undecided = opened.undecided;
+        point = change_point same opened.op task.asking stands stands change;
+        asked = λ sees. change_asked same (seen_map (flight pin (at stage task))) opened.op task.asking stands stands change (seen_alone (seen sees));
+        reply = λ sees. same_reply (seen_map (flight pin (at stage task))) (seen_alone (seen sees));
+      },
+      (λ sees.
+          change_after same (seen_map (flight pin (at stage task))) opened.op task.asking stands stands change (seen_alone (seen sees))
+          ∙ answer_again (key_of task.outline) (key_of task.outline + 1) (seen_map (flight pin (at stage task))) (key_of opened.op) stands (alone_rises (key_of task.outline) (seen_payload task.last)) (seen_alone (seen sees))),
+    )
+
+    pub same_leads : (m : Pairs M) → IsMap m → lookup m (key_of task.outline) ≡ stands → Leads same m m (flight pin (at stage task)) (reply_with task.outline stands task.returns)
+    same_leads m map there = record {
+      op = opened.op;
+      op_is = opened.op_is;
+      asked = change_asked same m opened.op task.asking stands stands change (there_same m there);
+      replied = same_reply m (there_same m there);
+      after = sym (change_after same m opened.op task.asking stands stands change (there_same m there)
+          ∙ answer_again 0 (2 ^ 64) m (key_of opened.op) stands map (there_same m there));
+    }
