@@ -2,7 +2,6 @@
 use Rattle.std.proofs.Common.{◌≡◌, ℕ, ◌+◌, ◌-◌, ◌*◌, ◌<◌, ◌≤◌, Bool, true, false, List, length, Option, Some, None, inl, inr, refl, sym, subst, ap, ◌∙◌, arith}
 use Rattle.congee_node_table.specs.Key.{Begins}
 use Rattle.congee_node_table.specs.declared.child.Child.{Child}
-use Rattle.congee_node_table.specs.declared.child.Child.TheVariants.{Payload}
 use Rattle.congee_protocol.specs.Calls.{Outline, IsPoint, outline_of, stored}
 use Rattle.congee_protocol.specs.Kinds.{report_of}
 use Rattle.congee_protocol.specs.Local.{payload_in, seen_payload}
@@ -56,13 +55,9 @@ stores_asks e = cc
 
 -- only a ComputeOrInsert asks there
 pub asks_insert : (o : Outline) → IsAbsence o Asks → IsOrInsert o
-asks_insert (Get k) h = absurd (leaves_asks (sym h))
 asks_insert (Insert k v) h = absurd (stores_asks (sym h))
-asks_insert (Remove k) h = absurd (leaves_asks (sym h))
-asks_insert (ComputeIfPresent k) h = absurd (leaves_asks (sym h))
 asks_insert (ComputeOrInsert k v) h = tt
-asks_insert (CompareExchange k old new) h = absurd (leaves_asks (sym h))
-asks_insert (Range a b n) h = absurd (leaves_asks (sym h))
+asks_insert o h = absurd (leaves_asks (sym h))
 
 pub small_short : (small : Small) → small_work small ≤ 4
 small_short Entry = omega arith
@@ -97,13 +92,9 @@ module _ {M : Type 0} (same : M → M → Bool) where
       subst (λ (z : Outline). IsLeft same op None (reply_absent z)) e (left_by op (subst (λ (z : Outline). IsPoint z) (sym e) point) (subst (λ (z : Outline). IsAbsence z Leaves) (sym e) h))
 
   entered_by : (op : Op M) (asking : Asking M) → asking ≡ Fresh → IsAbsence (outline_of op) Stores → (v : M) × IsChange same op asking None (Some v)
-  entered_by (Get k) asking fresh h = absurd (leaves_stores (sym h))
   entered_by (Insert k v) asking fresh h = (v, (fresh, refl))
-  entered_by (Remove k) asking fresh h = absurd (leaves_stores (sym h))
-  entered_by (ComputeIfPresent k) asking fresh h = absurd (leaves_stores (sym h))
   entered_by (ComputeOrInsert k v) asking fresh h = absurd (stores_asks h)
-  entered_by (CompareExchange k old new) asking fresh h = absurd (leaves_stores (sym h))
-  entered_by (Range a b n) asking fresh h = absurd (leaves_stores (sym h))
+  entered_by op asking fresh h = absurd (leaves_stores (sym h))
 
   -- a change by a call is what it stores
   pub writes_by : (Granted : Type 0) (task : Task M) (stands value : Option M) (opened : IsOpen task) → IsChange same opened.op task.asking stands value → (Sees Granted same task → seen_payload task.last ≡ stands)
@@ -132,22 +123,17 @@ module _ {M : Type 0} where
   stands_none Detach a k e = ap payload_in e
 
   -- what an entry needs isn't that a leaf goes
-  pub work_of_large : (Granted : Type 0) (same : M → M → Bool) (large : Large) (task : Task M) (a : Node M) → found a (key_bytes task) ≡ None → IsLarge large a (key_bytes task) → Writes Granted same task None
+  pub work_of_large : (Granted : Type 0) (same : M → M → Bool) (large : Large) (task : Task M) (a : Node M) → stands_at large a (key_bytes task) ≡ None → IsLarge large a (key_bytes task) → Writes Granted same task None
       → LargeWork Granted same large task a
   work_of_large Granted same GrowLeaf task a none is w = record { writes = w; is = is; may = tt }
   work_of_large Granted same GrowInner task a none is w = record { writes = w; is = is; may = tt }
   work_of_large Granted same Split task a none is w = record { writes = w; is = is; may = tt }
-  work_of_large Granted same Detach task a none is w = absurd (none_some (Payload is.2.0) (sym none ∙ is.2.1))
+  work_of_large Granted same Detach task a none is w = absurd (none_some is.2.0 (sym none ∙ ap payload_in is.2.1))
 
 -- the reply tells no payload
-pub reply_meant : {P M : Type 0} (meaning : P → M) (o : Outline) → reply_of meaning (reply_absent o) ≡ reply_absent o
-reply_meant meaning (Get k) = refl
-reply_meant meaning (Insert k v) = refl
-reply_meant meaning (Remove k) = refl
-reply_meant meaning (ComputeIfPresent k) = refl
-reply_meant meaning (ComputeOrInsert k v) = refl
-reply_meant meaning (CompareExchange k old new) = refl
-reply_meant meaning (Range a b n) = refl
+pub absent_meant : {P M : Type 0} (meaning : P → M) (o : Outline) → reply_of meaning (reply_absent o) ≡ reply_absent o
+absent_meant meaning (Range a b n) = refl
+absent_meant meaning o = refl
 
 -- AT THE CURRENT NODE, whose word is the remembered one
 module _ {M : Type 0} (Granted : Type 0) (same : M → M → Bool) (t : Table M) (root pin : ℕ) (task : Task M) (env : Env M) (placed : IsPlaced t root) (point : IsPoint task.outline) where
@@ -209,7 +195,7 @@ module _ {M : Type 0} (Granted : Type 0) (same : M → M → Bool) (t : Table M)
               opened = fresh.opened;
               over = record { way = on.above.1; apart = on.apart pair.above refl };
               here = on.here;
-              work = all_here (path_to pair) a here word facts none (LargeWork Granted same large task) (work_of_large Granted same large task a none is w);
+              work = all_here (path_to pair) a here word facts none (LargeWork Granted same large task) (work_of_large Granted same large task a (stands_none large a (key_bytes task) none) is w);
             },
             on.above.0,
             on.above.2,
@@ -279,9 +265,6 @@ module _ {M : Type 0} (Granted : Type 0) (same : M → M → Bool) (t : Table M)
   module _ (path : Path) (a : Node M) (here : t path.here.slot ≡ Some a) (word : a.word ≡ path.here.word) (below : Spot) (facts : Facts Granted same t root pin (at (CheckAbove path below false) task)) where
     none_above : seen_payload task.last ≡ None
     none_above = above_none Granted same t root pin task env placed path a here word below facts
-
-    pair_above : Pair
-    pair_above = record { above = path.here; here = below }
 
     leaves_key : (b : Node M) → t below.slot ≡ Some b → Begins b.node.prefix (key_bytes task) → ⊥
     leaves_key b h begins = test_false false refl ((facts.at.5 b h).1 begins)

@@ -8,7 +8,7 @@ use Rattle.congee_protocol.specs.Calls.{Outline, key_of, or_else, outline_of}
 use Rattle.congee_protocol.specs.Content.{IsContent}
 use Rattle.congee_protocol.specs.Kinds.{DoesAs, SharesAnswer, report_of}
 use Rattle.congee_protocol.specs.Local.{payload_in, seen_payload}
-use Rattle.congee_protocol.specs.Meaning.{asking_of, both_of, in_some, reply_of}
+use Rattle.congee_protocol.specs.Meaning.{asking_of, in_some}
 use Rattle.congee_protocol.specs.State.{State, Flight, with_call}
 use Rattle.congee_protocol.specs.declared.types.Asking.{Asking}
 use Rattle.congee_protocol.specs.declared.types.Asking.TheVariants.{Fresh, Wants, Given}
@@ -18,8 +18,6 @@ use Rattle.congee_protocol.specs.declared.types.Op.{Op}
 use Rattle.congee_protocol.specs.declared.types.Op.TheVariants.{Get, Insert, Remove, ComputeIfPresent, ComputeOrInsert, CompareExchange, Range}
 use Rattle.congee_protocol.specs.declared.types.Outcome.TheVariants.{Decided, Going}
 use Rattle.congee_protocol.specs.declared.types.Progress.TheVariants as progress
-use Rattle.congee_protocol.specs.declared.types.Reply.{Reply}
-use Rattle.congee_protocol.specs.declared.types.Reply.TheVariants.{Computed}
 use Rattle.congee_store.specs.declared.stage.Path.{Path}
 use Rattle.congee_store.specs.declared.stage.Spot.{Spot}
 use Rattle.congee_store.specs.declared.stage.Stage.{Stage}
@@ -28,16 +26,16 @@ use Rattle.congee_store.specs.declared.stage.Task.{Task}
 use Rattle.congee_store.specs.declared.tail.Case.{Case}
 use Rattle.congee_store.specs.declared.tail.Case.TheVariants as case
 use Rattle.congee_store.specs.declared.tail.Large.{Large}
-use Rattle.congee_store.specs.declared.tail.Large.TheVariants.{GrowLeaf, GrowInner, Split, Detach}
+use Rattle.congee_store.specs.declared.tail.Large.TheVariants.{Detach}
 use Rattle.congee_store.specs.declared.tail.Pair.{Pair}
 use Rattle.congee_store.specs.declared.tail.Small.{Small}
 use Rattle.congee_store.specs.declared.tail.Small.TheVariants.{Entry}
 use Rattle.congee_store.specs.declared.tail.Tail.TheVariants.{Upgrade, UpgradeAbove}
-use Rattle.congee_store.specs.inner.Effects.{HasClosure, IsChange, IsOrInsert, IsReturned, both_in, reply_with}
+use Rattle.congee_store.specs.inner.Effects.{HasClosure, IsChange, IsOrInsert, IsReturned, reply_with}
 use Rattle.congee_store.specs.inner.Facts.{Facts, named_at}
 use Rattle.congee_store.specs.inner.Shown.{flight, held_at, made_at, spots_of}
 use Rattle.congee_store.specs.inner.Tables.{IsIn, IsPlaced, OnPath, While}
-use Rattle.congee_store.specs.inner.TailFacts.{CaseFacts, IsConfirmed, IsLarge, IsPresent, LargeCase, LargeWork, SmallCase, Waits, WaitsFor, Writes, found, path_to, stands_at}
+use Rattle.congee_store.specs.inner.TailFacts.{CaseFacts, IsConfirmed, IsPresent, LargeCase, SmallCase, Waits, WaitsFor, Writes, found, path_to}
 use Rattle.congee_store.specs.inner.Tails.{case_slots, case_spots, case_work, pair_spots}
 use Rattle.congee_store.specs.inner.Tasks.{IsOpen, closed, key_bytes, restarted}
 use Rattle.congee_store.specs.inner.Turns.{IsRead, MayFollow, Shows, work_of}
@@ -53,7 +51,7 @@ use Rattle.congee_reading.proofs.Spots.{here_known, put_known}
 use Rattle.congee_finding.specs.declared.presence.Judged.{Judged}
 use Rattle.congee_finding.specs.declared.presence.Judged.TheVariants.{Other, Same, Stores, Removes}
 use Rattle.congee_finding.specs.inner.Judged.{IsAfterAnswer, IsAnswered, removing, stage_for, value_of}
-use Rattle.congee_finding.proofs.Absent.{writes_by}
+use Rattle.congee_finding.proofs.Absent.{work_of_large, writes_by}
 
 -- WHAT AN ANSWER STORES, by the kind of its call
 wants_same : {M : Type 0} (x y : Option M) → (let a : Asking M = Wants x in a ≡ Wants y) → x ≡ y
@@ -74,13 +72,9 @@ given_wants x v y e = cc
 module _ {M : Type 0} where
   -- the share of the answer, where the reply tells it
   given_returned : (op : Op M) (old answer returns : Option M) → HasClosure (outline_of op) → (SharesAnswer (outline_of op) → returns ≡ answer) → IsReturned op (Given old answer) returns
-  given_returned (Get k) old answer returns closure kept = tt
-  given_returned (Insert k v) old answer returns closure kept = tt
-  given_returned (Remove k) old answer returns closure kept = tt
   given_returned (ComputeIfPresent k) old answer returns closure kept = kept tt
-  given_returned (ComputeOrInsert k v) old answer returns closure kept = tt
   given_returned (CompareExchange k old new) was answer returns closure kept = absurd closure
-  given_returned (Range a b n) old answer returns closure kept = tt
+  given_returned op old answer returns closure kept = tt
 
   -- what an answer is for a ComputeIfPresent, and for a ComputeOrInsert
   value_as : (k : ℕ) (answer : Option M) → (let op : Op M = ComputeIfPresent k in value_of (Some op) answer ≡ answer)
@@ -93,22 +87,13 @@ module _ {M : Type 0} where
 
   module _ (same : M → M → Bool) where
     change_answered : (op : Op M) (v : M) (answer : Option M) → HasClosure (outline_of op) → IsChange same op (Given (Some v) answer) (Some v) (value_of (Some op) answer)
-    change_answered (Get k) v answer closure = absurd closure
-    change_answered (Insert k x) v answer closure = absurd closure
-    change_answered (Remove k) v answer closure = absurd closure
     change_answered (ComputeIfPresent k) v answer closure = rw (value_as k answer) refl
     change_answered (ComputeOrInsert k x) v answer closure = (answer, refl, value_or k x answer)
-    change_answered (CompareExchange k old new) v answer closure = absurd closure
-    change_answered (Range a b n) v answer closure = absurd closure
+    change_answered op v answer closure = absurd closure
 
     change_inserts : (op : Op M) (answer : Option M) → IsOrInsert (outline_of op) → IsChange same op (Given None answer) None (value_of (Some op) answer)
-    change_inserts (Get k) answer inserts = absurd inserts
-    change_inserts (Insert k x) answer inserts = absurd inserts
-    change_inserts (Remove k) answer inserts = absurd inserts
-    change_inserts (ComputeIfPresent k) answer inserts = absurd inserts
     change_inserts (ComputeOrInsert k x) answer inserts = (answer, refl, value_or k x answer)
-    change_inserts (CompareExchange k old new) answer inserts = absurd inserts
-    change_inserts (Range a b n) answer inserts = absurd inserts
+    change_inserts op answer inserts = absurd inserts
 
     -- a call with a closure that changes what stands was asked with it
     change_asks : (op : Op M) (asking : Asking M) (v : M) (value : Option M) → HasClosure (outline_of op) → IsChange same op asking (Some v) value → (answer : Option M) × (asking ≡ Given (Some v) answer)
@@ -124,12 +109,6 @@ module _ {M : Type 0} where
   confirm_given Granted same task a c =
       let o = c.writes.opened in
       change_asks same o.op task.asking c.value c.writes.value (subst (λ (z : Outline). HasClosure z) (sym o.outline) c.closure) c.writes.change
-
-  large_work_of : (Granted : Type 0) (same : M → M → Bool) (large : Large) (task : Task M) (a : Node M) → (stands_at large a (key_bytes task) ≡ None) × IsLarge large a (key_bytes task) → Writes Granted same task None → LargeWork Granted same large task a
-  large_work_of Granted same GrowLeaf task a h w = record { writes = w; is = h.1; may = tt }
-  large_work_of Granted same GrowInner task a h w = record { writes = w; is = h.1; may = tt }
-  large_work_of Granted same Split task a h w = record { writes = w; is = h.1; may = tt }
-  large_work_of Granted same Detach task a h w = absurd (none_some h.1.2.0 (sym h.0 ∙ ap payload_in h.1.2.1))
 
 -- one of the two words of a pair
 here_within : (pair : Pair) → Within ((pair.here.slot, pair.here.word) ∷ []) (pair_spots pair)
@@ -328,7 +307,7 @@ module _ {M : Type 0} (Granted : Type 0) (same : M → M → Bool) (t : Table M)
               opened = given_open waits.waits;
               over = facts.at.1;
               here = facts.at.2;
-              work = λ b h e. large_work_of Granted same large (answered task old answer returns) b (while b h e) (absent_writes waits);
+              work = λ b h e. let f = while b h e in work_of_large Granted same large (answered task old answer returns) b f.0 f.1 (absent_writes waits);
             },
             facts.at.4,
             facts.at.5,
@@ -391,13 +370,3 @@ module _ {P M : Type 0} (meaning : P → M) where
   given_meant Fresh stands answer e = absurd (fresh_given stands answer e)
   given_meant (Wants old) stands answer e = absurd (given_wants stands answer (in_some meaning old) (sym e))
   given_meant (Given old given) stands answer e = (old, given, refl, given_same (in_some meaning old) stands (in_some meaning given) answer e)
-
-  both_meant : (before returns : Option P) → in_some (both_of meaning) (both_in before returns) ≡ both_in (in_some meaning before) (in_some meaning returns)
-  both_meant None returns = refl
-  both_meant (Some v) returns = refl
-
-  -- what a reply means is the reply by what its payloads mean
-  pub reply_meant : (outline : Outline) (before returns : Option P) → reply_of meaning (reply_with outline before returns) ≡ reply_with outline (in_some meaning before) (in_some meaning returns)
-  reply_meant (ComputeIfPresent k) before returns = ap (λ z. let r : Reply M = Computed z in r) (both_meant before returns)
-  reply_meant (CompareExchange k old new) before returns = refl
-  reply_meant outline before returns = refl

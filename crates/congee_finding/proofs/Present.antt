@@ -5,13 +5,13 @@ use Rattle.congee_node_table.specs.declared.child.Child.TheVariants.{Payload}
 use Rattle.congee_protocol.specs.Calls.{Outline, IsPoint, outline_of}
 use Rattle.congee_protocol.specs.Kinds.{report_of}
 use Rattle.congee_protocol.specs.Local.{SharesNone, payload_in, seen_payload}
-use Rattle.congee_protocol.specs.Meaning.{in_some, op_of, reply_of}
+use Rattle.congee_protocol.specs.Meaning.{in_some, op_of}
 use Rattle.congee_protocol.specs.declared.types.Asking.{Asking}
 use Rattle.congee_protocol.specs.declared.types.Asking.TheVariants.{Fresh}
 use Rattle.congee_protocol.specs.declared.types.Env.{Env}
 use Rattle.congee_protocol.specs.declared.types.Kind.TheVariants as kind
 use Rattle.congee_protocol.specs.declared.types.Op.{Op}
-use Rattle.congee_protocol.specs.declared.types.Op.TheVariants.{Get, Insert, Remove, ComputeIfPresent, ComputeOrInsert, CompareExchange, Range}
+use Rattle.congee_protocol.specs.declared.types.Op.TheVariants.{Get, Insert, Remove, CompareExchange, Range}
 use Rattle.congee_protocol.specs.declared.types.Outcome.TheVariants.{Ask, Going, Decided}
 use Rattle.congee_protocol.specs.declared.types.Progress.TheVariants as progress
 use Rattle.congee_protocol.specs.declared.types.Reply.{Reply}
@@ -43,140 +43,47 @@ use Rattle.congee_finding.proofs.Absent.{writes_by}
 -- these calls see payloads
 get_shares : (o : Outline) → IsGet o → SharesNone o None → ⊥
 get_shares (Get k) h shares = shares
-get_shares (Insert k v) h shares = h
-get_shares (Remove k) h shares = h
-get_shares (ComputeIfPresent k) h shares = h
-get_shares (ComputeOrInsert k v) h shares = h
-get_shares (CompareExchange k old new) h shares = h
-get_shares (Range a b n) h shares = h
+get_shares o h shares = h
 
 exchange_shares : (o : Outline) → IsExchange o → SharesNone o None → ⊥
-exchange_shares (Get k) h shares = h
-exchange_shares (Insert k v) h shares = h
-exchange_shares (Remove k) h shares = h
-exchange_shares (ComputeIfPresent k) h shares = h
-exchange_shares (ComputeOrInsert k v) h shares = h
 exchange_shares (CompareExchange k old new) h shares = shares
-exchange_shares (Range a b n) h shares = h
+exchange_shares o h shares = h
 
 -- all of them are point calls
-get_point : (o : Outline) → IsGet o → IsPoint o
-get_point (Get k) h = tt
-get_point (Insert k v) h = tt
-get_point (Remove k) h = tt
-get_point (ComputeIfPresent k) h = tt
-get_point (ComputeOrInsert k v) h = tt
-get_point (CompareExchange k old new) h = tt
-get_point (Range a b n) h = h
-
-insert_point : (o : Outline) → IsInsert o → IsPoint o
-insert_point (Get k) h = tt
-insert_point (Insert k v) h = tt
-insert_point (Remove k) h = tt
-insert_point (ComputeIfPresent k) h = tt
-insert_point (ComputeOrInsert k v) h = tt
-insert_point (CompareExchange k old new) h = tt
-insert_point (Range a b n) h = h
-
-remove_point : (o : Outline) → IsRemove o → IsPoint o
-remove_point (Get k) h = tt
-remove_point (Insert k v) h = tt
-remove_point (Remove k) h = tt
-remove_point (ComputeIfPresent k) h = tt
-remove_point (ComputeOrInsert k v) h = tt
-remove_point (CompareExchange k old new) h = tt
-remove_point (Range a b n) h = h
-
-exchange_point : (o : Outline) → IsExchange o → IsPoint o
-exchange_point (Get k) h = tt
-exchange_point (Insert k v) h = tt
-exchange_point (Remove k) h = tt
-exchange_point (ComputeIfPresent k) h = tt
-exchange_point (ComputeOrInsert k v) h = tt
-exchange_point (CompareExchange k old new) h = tt
-exchange_point (Range a b n) h = h
-
-closure_point : (o : Outline) → HasClosure o → IsPoint o
-closure_point (Get k) h = tt
-closure_point (Insert k v) h = tt
-closure_point (Remove k) h = tt
-closure_point (ComputeIfPresent k) h = tt
-closure_point (ComputeOrInsert k v) h = tt
-closure_point (CompareExchange k old new) h = tt
-closure_point (Range a b n) h = h
+point_by : (Q : Outline → Type 0) → ((a b n : ℕ) → Q (Range a b n) → ⊥) → (o : Outline) → Q o → IsPoint o
+point_by Q unlike (Range a b n) h = unlike a b n h
+point_by Q unlike o h = tt
 
 module _ {P M : Type 0} (meaning : P → M) where
-  -- a reply, with payloads replaced by what they stand for
-  pub reply_meant : (o : Outline) (before returns : Option P) → reply_of meaning (reply_with o before returns) ≡ reply_with o (in_some meaning before) (in_some meaning returns)
-  reply_meant (Get k) before returns = refl
-  reply_meant (Insert k v) before returns = refl
-  reply_meant (Remove k) before returns = refl
-  reply_meant (ComputeIfPresent k) None returns = refl
-  reply_meant (ComputeIfPresent k) (Some old) returns = refl
-  reply_meant (ComputeOrInsert k v) before returns = refl
-  reply_meant (CompareExchange k old new) before returns = refl
-  reply_meant (Range a b n) before returns = refl
-
   -- the payload of an Insert
   pub handed_meant : (op : Option (Op P)) → in_some meaning (handed op) ≡ handed (in_some (op_of meaning) op)
-  handed_meant None = refl
-  handed_meant (Some (Get k)) = refl
-  handed_meant (Some (Insert k v)) = refl
-  handed_meant (Some (Remove k)) = refl
-  handed_meant (Some (ComputeIfPresent k)) = refl
-  handed_meant (Some (ComputeOrInsert k v)) = refl
-  handed_meant (Some (CompareExchange k old new)) = refl
   handed_meant (Some (Range a b n)) = refl
+  handed_meant op = refl
 
 module _ {M : Type 0} where
   -- the reply to a CompareExchange doesn't tell what stood there
   pub exchange_reply : (o : Outline) → IsExchange o → (before after returns : Option M) → reply_with o before returns ≡ reply_with o after returns
-  exchange_reply (Get k) h before after returns = absurd h
-  exchange_reply (Insert k v) h before after returns = absurd h
-  exchange_reply (Remove k) h before after returns = absurd h
-  exchange_reply (ComputeIfPresent k) h before after returns = absurd h
-  exchange_reply (ComputeOrInsert k v) h before after returns = absurd h
   exchange_reply (CompareExchange k old new) h before after returns = refl
-  exchange_reply (Range a b n) h before after returns = absurd h
+  exchange_reply o h before after returns = absurd h
 
 -- WHAT THESE CALLS DO where a payload stands
 module _ {M : Type 0} (same : M → M → Bool) where
   got_by : (op : Op M) → IsGet (outline_of op) → (v : M) → IsLeft same op (Some v) (Old (Some v))
   got_by (Get k) h v = refl
-  got_by (Insert k x) h v = absurd h
-  got_by (Remove k) h v = absurd h
-  got_by (ComputeIfPresent k) h v = absurd h
-  got_by (ComputeOrInsert k x) h v = absurd h
-  got_by (CompareExchange k old new) h v = absurd h
-  got_by (Range a b n) h v = absurd h
+  got_by op h v = absurd h
 
   removed_by : (op : Op M) (asking : Asking M) → asking ≡ Fresh → IsRemove (outline_of op) → (v : M) → IsChange same op asking (Some v) None
-  removed_by (Get k) asking fresh h v = absurd h
-  removed_by (Insert k x) asking fresh h v = absurd h
   removed_by (Remove k) asking fresh h v = (fresh, refl)
-  removed_by (ComputeIfPresent k) asking fresh h v = absurd h
-  removed_by (ComputeOrInsert k x) asking fresh h v = absurd h
-  removed_by (CompareExchange k old new) asking fresh h v = absurd h
-  removed_by (Range a b n) asking fresh h v = absurd h
+  removed_by op asking fresh h v = absurd h
 
   inserted_by : (op : Op M) (asking : Asking M) → asking ≡ Fresh → IsInsert (outline_of op) → (v : M) → (x : M) × IsChange same op asking (Some v) (Some x)
-  inserted_by (Get k) asking fresh h v = absurd h
   inserted_by (Insert k x) asking fresh h v = (x, (fresh, refl))
-  inserted_by (Remove k) asking fresh h v = absurd h
-  inserted_by (ComputeIfPresent k) asking fresh h v = absurd h
-  inserted_by (ComputeOrInsert k x) asking fresh h v = absurd h
-  inserted_by (CompareExchange k old new) asking fresh h v = absurd h
-  inserted_by (Range a b n) asking fresh h v = absurd h
+  inserted_by op asking fresh h v = absurd h
 
   -- an Insert whose payload stands there already
   kept_by : (op : Op M) (asking : Asking M) → asking ≡ Fresh → IsInsert (outline_of op) → (v : M) → IsJudged same (Some op) (Some (Payload v)) Same → IsChange same op asking (Some v) (Some v) × (handed (Some op) ≡ Some v)
-  kept_by (Get k) asking fresh h v j = absurd h
   kept_by (Insert k x) asking fresh h v j = ((fresh, ap Some (sym j)), ap Some j)
-  kept_by (Remove k) asking fresh h v j = absurd h
-  kept_by (ComputeIfPresent k) asking fresh h v j = absurd h
-  kept_by (ComputeOrInsert k x) asking fresh h v j = absurd h
-  kept_by (CompareExchange k old new) asking fresh h v j = absurd h
-  kept_by (Range a b n) asking fresh h v j = absurd h
+  kept_by op asking fresh h v j = absurd h
 
   -- what a CompareExchange makes of what it says
   abbrev IsExchanging : Op M → Asking M → M → Judged → Type 0
@@ -192,13 +99,8 @@ module _ {M : Type 0} (same : M → M → Bool) where
   exchanged_to k old new asking fresh v Removes h = (fresh, h.0, sym h.1)
 
   exchanged_by : (op : Op M) (asking : Asking M) → asking ≡ Fresh → IsExchange (outline_of op) → (v : M) (j : Judged) → IsJudged same (Some op) (Some (Payload v)) j → IsExchanging op asking v j
-  exchanged_by (Get k) asking fresh is v j h = absurd is
-  exchanged_by (Insert k x) asking fresh is v j h = absurd is
-  exchanged_by (Remove k) asking fresh is v j h = absurd is
-  exchanged_by (ComputeIfPresent k) asking fresh is v j h = absurd is
-  exchanged_by (ComputeOrInsert k x) asking fresh is v j h = absurd is
   exchanged_by (CompareExchange k old new) asking fresh is v j h = exchanged_to k old new asking fresh v j h
-  exchanged_by (Range a b n) asking fresh is v j h = absurd is
+  exchanged_by op asking fresh is v j h = absurd is
 
 -- AT THE LEAF, whose word is the remembered one
 module _ {M : Type 0} (Granted : Type 0) (same : M → M → Bool) (t : Table M) (root pin : ℕ) (task : Task M) (env : Env M) (placed : IsPlaced t root) (pair : Pair) (a : Node M)
@@ -285,7 +187,7 @@ module _ {M : Type 0} (Granted : Type 0) (same : M → M → Bool) (t : Table M)
   pub gets_present : IsGet task.outline
       → IsRead Granted same t root pin (at (Check (path_to pair)) task) env (at Finish (closed progress.Decided task)) (report_of kind.Check (Some pair.here.slot) 0 true) (Decided (Old task.spare))
   gets_present get =
-      let point = get_point task.outline get in
+      let point = point_by IsGet (λ a b n h. h) task.outline get in
       subst (λ (z : Option M). IsRead Granted same t root pin (at (Check (path_to pair)) task) env (at Finish (closed progress.Decided task)) (report_of kind.Check (Some pair.here.slot) 0 true) (Decided (Old z)))
       (sym (spare_here point (λ shares. absurd (get_shares task.outline get shares))))
       (ends_as_left point (Old (Some standing)) (got_by same fresh_here.opened.op (subst (λ (o : Outline). IsGet o) (sym fresh_here.opened.outline) get) standing))
@@ -294,13 +196,13 @@ module _ {M : Type 0} (Granted : Type 0) (same : M → M → Bool) (t : Table M)
   pub removes_present : IsRemove task.outline
       → IsRead Granted same t root pin (at (Check (path_to pair)) task) env (at (Tail (removing pair only)) task) (report_of kind.Check (Some pair.here.slot) 0 true) Going
   removes_present remove =
-      removes (remove_point task.outline remove) (removed_by same fresh_here.opened.op task.asking fresh_here.fresh (subst (λ (o : Outline). IsRemove o) (sym fresh_here.opened.outline) remove) standing)
+      removes (point_by IsRemove (λ a b n h. h) task.outline remove) (removed_by same fresh_here.opened.op task.asking fresh_here.fresh (subst (λ (o : Outline). IsRemove o) (sym fresh_here.opened.outline) remove) standing)
 
   -- a call with a closure
   pub asks_with : HasClosure task.outline
       → IsRead Granted same t root pin (at (Check (path_to pair)) task) env (at (Answer (case.Present pair only)) (asking task task.spare)) (report_of kind.Check (Some pair.here.slot) 0 true) (Ask task.question)
   asks_with closure =
-      let point = closure_point task.outline closure in
+      let point = point_by HasClosure (λ a b n h. h) task.outline closure in
       let sees : Sees Granted same task = λ shares. absurd (closure_shares task.outline closure shares) in
       let seen = seen_here point sees in
       let spare : task.spare ≡ seen_payload task.last = keeps_old Granted same t root pin task env placed (path_to pair) a here word facts point closure in
@@ -323,14 +225,14 @@ module _ {M : Type 0} (Granted : Type 0) (same : M → M → Bool) (t : Table M)
   module _ (insert : IsInsert task.outline) where
     pub insert_stores : IsRead Granted same t root pin (at (Check (path_to pair)) task) env (at (Tail (Upgrade (path_to pair) Entry)) task) (report_of kind.Check (Some pair.here.slot) 0 true) Going
     insert_stores =
-        let point = insert_point task.outline insert in
+        let point = point_by IsInsert (λ a b n h. h) task.outline insert in
         let change = inserted_by same fresh_here.opened.op task.asking fresh_here.fresh (subst (λ (o : Outline). IsInsert o) (sym fresh_here.opened.outline) insert) standing in
         goes_entry point (writes_here point (Some change.0) change.1).0
 
     pub insert_same : (child : Option (Child M)) → found a (key_bytes task) ≡ child → IsJudged same task.op child Same
         → IsRead Granted same t root pin (at (Check (path_to pair)) task) env (at Finish (closed progress.Decided task)) (report_of kind.Check (Some pair.here.slot) 0 true) (Decided (reply_with task.outline (handed task.op) task.returns))
     insert_same child is judged =
-        let point = insert_point task.outline insert in
+        let point = point_by IsInsert (λ a b n h. h) task.outline insert in
         let told : IsJudged same (Some fresh_here.opened.op) (Some (Payload standing)) Same =
         subst (λ (z : Option (Op M)). IsJudged same z (Some (Payload standing)) Same) fresh_here.opened.op_is (subst (λ (z : Option (Child M)). IsJudged same task.op z Same) (sym is ∙ there_here) judged) in
         let kept = kept_by same fresh_here.opened.op task.asking fresh_here.fresh (subst (λ (o : Outline). IsInsert o) (sym fresh_here.opened.outline) insert) standing told in
@@ -347,7 +249,7 @@ module _ {M : Type 0} (Granted : Type 0) (same : M → M → Bool) (t : Table M)
     pub exchange_other : IsJudged same task.op child Other
         → IsRead Granted same t root pin (at (Check (path_to pair)) task) env (at Finish (closed progress.Decided task)) (report_of kind.Check (Some pair.here.slot) 0 true) (Decided (Exchanged (Err task.spare)))
     exchange_other judged =
-        let point = exchange_point task.outline exchange in
+        let point = point_by IsExchange (λ a b n h. h) task.outline exchange in
         subst (λ (z : Option M). IsRead Granted same t root pin (at (Check (path_to pair)) task) env (at Finish (closed progress.Decided task)) (report_of kind.Check (Some pair.here.slot) 0 true) (Decided (Exchanged (Err z))))
         (sym (spare_here point (λ shares. absurd (exchange_shares task.outline exchange shares))))
         (ends_as_left point (Exchanged (Err (Some standing))) (exchange_says Other judged))
@@ -355,17 +257,17 @@ module _ {M : Type 0} (Granted : Type 0) (same : M → M → Bool) (t : Table M)
     pub exchange_same : IsJudged same task.op child Same
         → IsRead Granted same t root pin (at (Check (path_to pair)) task) env (at Finish (closed progress.Decided task)) (report_of kind.Check (Some pair.here.slot) 0 true) (Decided (reply_with task.outline None task.returns))
     exchange_same judged =
-        let point = exchange_point task.outline exchange in
+        let point = point_by IsExchange (λ a b n h. h) task.outline exchange in
         subst (λ (z : Reply M). IsRead Granted same t root pin (at (Check (path_to pair)) task) env (at Finish (closed progress.Decided task)) (report_of kind.Check (Some pair.here.slot) 0 true) (Decided z))
         (exchange_reply task.outline exchange (Some standing) None task.returns) (ends_as_changed point (exchange_says Same judged))
 
     pub exchange_stores : IsJudged same task.op child Stores
         → IsRead Granted same t root pin (at (Check (path_to pair)) task) env (at (Tail (Upgrade (path_to pair) Entry)) task) (report_of kind.Check (Some pair.here.slot) 0 true) Going
     exchange_stores judged =
-        let point = exchange_point task.outline exchange in
+        let point = point_by IsExchange (λ a b n h. h) task.outline exchange in
         let change = exchange_says Stores judged in
         goes_entry point (writes_here point (Some change.0) change.1).0
 
     pub exchange_removes : IsJudged same task.op child Removes
         → IsRead Granted same t root pin (at (Check (path_to pair)) task) env (at (Tail (removing pair only)) task) (report_of kind.Check (Some pair.here.slot) 0 true) Going
-    exchange_removes judged = removes (exchange_point task.outline exchange) (exchange_says Removes judged)
+    exchange_removes judged = removes (point_by IsExchange (λ a b n h. h) task.outline exchange) (exchange_says Removes judged)

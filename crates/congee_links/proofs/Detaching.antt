@@ -1,5 +1,5 @@
 -- A LOCKED LEAF WITH ONE PAIR IS DETACHED from its locked parent, and gives its payload away.
-use Rattle.std.proofs.Common.{◌≡◌, ℕ, ◌+◌, ◌^◌, ◌<◌, List, [], ◌∷◌, length, Option, Some, None, inl, inr, refl, sym, subst, ap, ◌∙◌, arith}
+use Rattle.std.proofs.Common.{◌≡◌, ℕ, ◌^◌, ◌<◌, List, [], ◌∷◌, Option, Some, None, inl, inr, refl, sym, subst, ap, ◌∙◌}
 use Rattle.congee_map.specs.Map.{lookup}
 use Rattle.congee_node_table.specs.TableNode.{TableNode}
 use Rattle.congee_node_table.specs.declared.child.Child.{Child}
@@ -9,13 +9,10 @@ use Rattle.congee_store.specs.inner.World.{Node, Table, entry}
 use Rattle.congee_store.specs.inner.Tables.{byte_at, IsPlaced, NeedsHolder}
 use Rattle.congee_links.proofs.Below.{Inside, head_inside}
 use Rattle.congee_links.proofs.Effects.{OthersStay, Effect, effect}
-use Rattle.congee_links.proofs.Pairs.{SamePairs, TakesPair, OtherPays, same_pairs, takes_pair}
+use Rattle.congee_links.proofs.Pairs.{TakesPair, OtherPays, takes_pair}
 use Rattle.congee_links.proofs.Trees.{IsTree, Pays, tree_of, linked_in, tree_at, placed_tree}
 use Rattle.congee_links.proofs.TreeLeaves.{HasNoNodes, DropsNode, dropped_tree, none_left}
 use Rattle.congee_links.proofs.Writing.{answered, WritesBelow, Detaches, IsLeafFor, leaf_only, below_payload, written_at, written_changes, written_steps, detached_tree, detached_steps, other_pays, vacant_pays, only_pays, parent_to, parent_from}
-
-not_longer : (p : List ℕ) → p ≡ 0 ∷ p → ⊥
-not_longer p e = let even : length p ≡ length p + 1 = ap length e ∙ omega arith in omega (arith, even)
 
 module _ {M : Type 0} where
   -- a node with no nodes below it is taken out from below its parent
@@ -65,9 +62,3 @@ module _ {M : Type 0} {t t' : Table M} {p q key : ℕ} {a b : Node M} {left : Ta
   taken_takes v leaf small =
       takes_pair t t' b.node.prefix key leaf.full leaf.begins small
       (taken_others b.node.prefix (byte_at b (bytes_of key)) (λ y w far e. far refl (leaf_only leaf y (Payload w) e).0)) none_there
-
-  -- no pair goes with an empty node
-  pub taken_pairs : b.node.children ≡ [] → SamePairs t t'
-  taken_pairs empty =
-      same_pairs t t' (λ x y v.
-      taken_others (0 ∷ x) y (λ z w far e. none_payload w (subst (λ (es : List (ℕ × Child M)). lookup es z ≡ Some (Payload w)) empty e)) x y v (λ e same. not_longer x e))

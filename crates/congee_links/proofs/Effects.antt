@@ -104,6 +104,3 @@ module _ {M : Type 0} where
 
   pub beside_two : (t t' : Table M) (s r : ℕ) → ((o : ℕ) → o ≢ s → o ≢ r → t' o ≡ t o) → OthersStay t t' (s ∷ r ∷ [])
   beside_two t t' s r others o out = others o (λ e. out (inl (sym e))) (λ e. out (inr (inl (sym e))))
-
-  pub beside_three : (t t' : Table M) (s r q : ℕ) → ((o : ℕ) → o ≢ s → o ≢ r → o ≢ q → t' o ≡ t o) → OthersStay t t' (s ∷ r ∷ q ∷ [])
-  beside_three t t' s r q others o out = others o (λ e. out (inl (sym e))) (λ e. out (inr (inl (sym e)))) (λ e. out (inr (inr (inl (sym e)))))

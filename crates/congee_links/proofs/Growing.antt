@@ -71,9 +71,6 @@ module _ {M : Type 0} where
     q_not_p : q ≢ p
     q_not_p = parent_was_off changes_here root tree q b.node old_here (head_inside changes_here root tree q b.node w.under old_here)
 
-    p_not_r : p ≢ r
-    p_not_r = published_new w.new p a w.write.here
-
     q_not_r : q ≢ r
     q_not_r = published_new w.new q b w.old.here
 

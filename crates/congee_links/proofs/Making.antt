@@ -1,12 +1,12 @@
 -- A NODE COMES OR GOES beside the tree: a private one is made, private ones are given back, a retired one is reclaimed.
-use Rattle.std.proofs.Common.{◌≡◌, ℕ, ◌<◌, List, [], ◌∷◌, Some, None, inl, inr, refl, sym, subst, ap, ◌∙◌}
+use Rattle.std.proofs.Common.{◌≡◌, ℕ, List, [], ◌∷◌, Some, None, inl, inr, refl, sym, subst, ap, ◌∙◌}
 use Rattle.congee_sync.specs.Lock.{IsFree}
-use Rattle.congee_store.specs.inner.World.{is_private, is_retired, Node, Table}
+use Rattle.congee_store.specs.inner.World.{is_private, Node, Table}
 use Rattle.congee_store.specs.inner.Tables.{IsIn, IsPlaced, NeedsHolder}
 use Rattle.congee_store.proofs.Options.{some_same, none_some}
 use Rattle.congee_links.proofs.Effects.{AllIn, all_of, OthersStay, Effect, SameTree, same_tree_effect, same_tree_pairs}
 use Rattle.congee_links.proofs.Pairs.{SamePairs}
-use Rattle.congee_links.proofs.Slots.{StepsAt, comes, owned, goes, worded_here, free_obsolete, none_needs}
+use Rattle.congee_links.proofs.Slots.{StepsAt, comes, owned, worded_here, free_obsolete, none_needs}
 use Rattle.congee_links.proofs.Trees.{IsWorded, linked_in, when_linked}
 
 module _ {M : Type 0} where
@@ -30,13 +30,6 @@ module _ {M : Type 0} where
     pub each : AllIn (IsGivenBack t t' Mine) slots
     pub others : OthersStay t t' slots
 
-  -- a retired slot becomes empty
-  pub record Reclaims (t t' : Table M) (s : ℕ) (a : Node M) (stamp : ℕ) : Type 0 where
-    pub here : t s ≡ Some a
-    pub retired : a.standing ≡ is_retired (Some stamp)
-    pub after : t' s ≡ None
-    pub others : OthersStay t t' (s ∷ [])
-
   made_same : {t t' : Table M} {s : ℕ} {b : Node M} → Makes t t' s b → SameTree t t' s
   made_same {b = b} m = ap linked_in m.after ∙ (ap (λ z. when_linked z b.node) m.private ∙ sym (ap linked_in m.empty))
 
@@ -45,9 +38,6 @@ module _ {M : Type 0} where
 
   back_steps : (t t' : Table M) (Mine May : ℕ → Type 0) (s : ℕ) → IsGivenBack t t' Mine s → StepsAt t t' Mine May s
   back_steps t t' Mine May s g = owned t t' Mine May s g.node g.here g.private g.mine (λ b h. absurd (none_some b (sym g.gone ∙ h)))
-
-  gone_same : {t t' : Table M} {s stamp : ℕ} {a : Node M} → Reclaims t t' s a stamp → SameTree t t' s
-  gone_same {a = a} r = ap linked_in r.after ∙ sym (ap linked_in r.here ∙ ap (λ z. when_linked z a.node) r.retired)
 
   pub made_effect : {t t' : Table M} {s : ℕ} {b : Node M} → Makes t t' s b → (root : ℕ) (Mine May : ℕ → Type 0) → IsPlaced t root → Effect t t' root Mine May (s ∷ []) (s ∷ [])
   made_effect {t} {t'} {s} {b} m root Mine May placed =
@@ -67,13 +57,3 @@ module _ {M : Type 0} where
 
   pub given_back_pairs : {t t' : Table M} {Mine : ℕ → Type 0} {slots : List ℕ} → GivesBack t t' Mine slots → SamePairs t t'
   given_back_pairs {t} {t'} {Mine} {slots} g = same_tree_pairs t t' slots g.others (all_of (IsGivenBack t t' Mine) (SameTree t t') slots (back_same t t' Mine) g.each)
-
-  -- calls may rely on it that began after the stamp
-  pub reclaimed_effect : {t t' : Table M} {s stamp : ℕ} {a : Node M} → Reclaims t t' s a stamp → (root : ℕ) (Mine : ℕ → Type 0) → IsPlaced t root → Effect t t' root Mine (λ pin. stamp < pin) (s ∷ []) []
-  reclaimed_effect {t} {t'} {s} {stamp} {a} r root Mine placed =
-      same_tree_effect t t' root Mine (λ pin. stamp < pin) (s ∷ []) [] placed r.others (gone_same r, tt)
-      (goes t t' Mine (λ pin. stamp < pin) s a stamp r.here r.retired r.after (λ pin may. may), tt)
-      (none_needs t' s r.after, tt)
-
-  pub reclaimed_pairs : {t t' : Table M} {s stamp : ℕ} {a : Node M} → Reclaims t t' s a stamp → SamePairs t t'
-  reclaimed_pairs {t} {t'} {s} r = same_tree_pairs t t' (s ∷ []) r.others (gone_same r, tt)

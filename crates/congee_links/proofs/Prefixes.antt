@@ -65,10 +65,6 @@ same_beginning p q k b c l =
     let y = after c in
     same-front p q x.rest y.rest (sym x.is ∙ y.is) l
 
--- the bytes of a key
-pub length-of_key : (key : ℕ) → length (bytes_of key) ≡ 8
-length-of_key key = refl
-
 -- the byte of a key is a byte
 pub key_byte : (p : List ℕ) (key : ℕ) → Begins p (bytes_of key) → length p ≤ 7 → next_byte p (bytes_of key) < 256
 key_byte p key b h = (goes_on p (bytes_of key) b (bytes-of_key key) h refl).byte

@@ -1,5 +1,5 @@
 -- What an event does to one slot, seen by the calls that it isn't an event of.
-use Rattle.std.proofs.Common.{◌≡◌, ℕ, ◌<◌, ◌≤◌, Option, Some, None, ◌⊎◌, inl, inr, refl, sym, subst, ap, ◌∙◌, arith}
+use Rattle.std.proofs.Common.{◌≡◌, ℕ, ◌≤◌, Option, Some, None, ◌⊎◌, inl, inr, refl, sym, subst, ap, ◌∙◌, arith}
 use Rattle.congee_sync.specs.Lock.{IsFree, IsLocked, IsObsolete}
 use Rattle.congee_store.specs.inner.World.{is_private, is_linked, is_detached, is_retired, Node, Table}
 use Rattle.congee_store.specs.inner.Tables.{IsSafe, Kept, Remains, NeedsHolder}
@@ -96,17 +96,6 @@ module _ {M : Type 0} where
       worded = worded;
       remains = λ pin may c h safe. absurd (none_some c (sym before ∙ h));
       stays = λ c h q other. absurd (none_some c (sym before ∙ h));
-    }
-
-    late : (a : Node M) (pin stamp : ℕ) → a.standing ≡ is_retired (Some stamp) → stamp < pin → IsSafe pin a.standing → ⊥
-    late a pin stamp r less safe = let early : pin ≤ stamp = subst (λ z. IsSafe pin z) r safe in omega (arith, early, less)
-
-    -- a retired node goes, for calls that started after its stamp
-    pub goes : (a : Node M) (stamp : ℕ) → t s ≡ Some a → a.standing ≡ is_retired (Some stamp) → t' s ≡ None → ((pin : ℕ) → May pin → stamp < pin) → StepsAt t t' Mine May s
-    goes a stamp before r after started = record {
-      worded = λ b h. absurd (none_some b (sym after ∙ h));
-      remains = λ pin may c h safe. absurd (late c pin stamp (ap (λ (z : Node M). z.standing) (some_same c a (sym h ∙ before)) ∙ r) (started pin may) safe);
-      stays = λ c h q other. absurd (retired_private (Some stamp) (sym r ∙ (ap (λ (z : Node M). z.standing) (some_same a c (sym before ∙ h)) ∙ q)));
     }
 
   -- which nodes need no holder

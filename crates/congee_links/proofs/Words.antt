@@ -1,5 +1,5 @@
 -- A WORD RISES: a free linked node is locked, a locked one is unlocked, a detached one is retired.
-use Rattle.std.proofs.Common.{◌≡◌, ℕ, suc, ◌+◌, ◌≤◌, [], ◌∷◌, Option, Some, None, inl, inr, refl, sym, subst, ap, ◌∙◌, arith}
+use Rattle.std.proofs.Common.{◌≡◌, ℕ, suc, ◌+◌, ◌≤◌, [], ◌∷◌, Option, Some, inl, inr, refl, sym, subst, ap, ◌∙◌, arith}
 use Rattle.congee_sync.specs.Lock.{IsFree, IsLocked, IsObsolete}
 use Rattle.congee_store.specs.inner.World.{is_private, is_linked, is_detached, is_retired, Node, Table}
 use Rattle.congee_store.specs.inner.Tables.{IsSafe, IsLinked, IsPlaced, NeedsHolder}
@@ -23,13 +23,6 @@ freed word locked fresh = omega (arith, locked, fresh)
 
 ended : (word : ℕ) → IsLocked word → (IsObsolete word → ⊥) → IsObsolete (word + 1) × IsLocked (word + 1)
 ended word locked fresh = (omega (arith, locked, fresh), omega (arith, locked, fresh))
-
--- a call that began by the time of a stamp may rely on a node with that stamp
-pub safe_by : (pin count : ℕ) → pin ≤ count → IsSafe pin (is_retired (Some count))
-safe_by pin count early = early
-
-pub safe_always : (pin : ℕ) → IsSafe pin (is_retired None)
-safe_always pin = tt
 
 module _ {M : Type 0} where
   -- a free linked node is locked

@@ -12,7 +12,7 @@ use Rattle.congee_protocol.specs.declared.types.Report.{Report}
 use Rattle.congee_sync.specs.Epoch.{pin_of}
 use Rattle.congee_store.specs.declared.stage.Record.{Record}
 use Rattle.congee_store.specs.declared.stage.Stage.{Stage}
-use Rattle.congee_store.specs.declared.stage.Stage.TheVariants.{TakeRoot, Read, Check, TakeBelow, CheckAbove, Answer, Confirm, Tail, Finish}
+use Rattle.congee_store.specs.declared.stage.Stage.TheVariants.{Tail}
 use Rattle.congee_store.specs.declared.stage.Stored.{Stored}
 use Rattle.congee_store.specs.declared.stock.Stock.{Stock}
 use Rattle.congee_store.specs.declared.tail.Tail.{Tail as AnyTail}
@@ -33,15 +33,8 @@ use Rattle.congee_machine.proofs.Moving.{moved_turn}
 
 -- a stage that isn't a tail's holds nothing
 pub reads_free : (stage : Stage) → ((tail : AnyTail) → stage ≢ Tail tail) → held_at stage ≡ []
-reads_free TakeRoot reads = refl
-reads_free (Read path) reads = refl
-reads_free (Check path) reads = refl
-reads_free (TakeBelow path slot) reads = refl
-reads_free (CheckAbove path spot fits) reads = refl
-reads_free (Answer case) reads = refl
-reads_free (Confirm spot) reads = refl
 reads_free (Tail tail) reads = absurd (reads tail refl)
-reads_free Finish reads = refl
+reads_free stage reads = refl
 
 -- the sizes of nodes are those of their meanings
 pub meant_sizes : {P M : Type 0} (meaning : P → M) (slots : List (Option (Stored P))) → sizes_of (meant_slots meaning slots) ≡ sizes_of slots

@@ -9,7 +9,7 @@ use Rattle.congee_protocol.specs.State.{State, with_call}
 use Rattle.congee_protocol.specs.declared.types.Env.{Env}
 use Rattle.congee_protocol.specs.declared.types.Kind.TheVariants as kind
 use Rattle.congee_protocol.specs.declared.types.Op.{Op}
-use Rattle.congee_protocol.specs.declared.types.Op.TheVariants.{Get, Insert, Remove, ComputeIfPresent, ComputeOrInsert, CompareExchange, Range}
+use Rattle.congee_protocol.specs.declared.types.Op.TheVariants.{Range}
 use Rattle.congee_protocol.specs.declared.types.Outcome.{Outcome}
 use Rattle.congee_protocol.specs.declared.types.Report.{Report}
 use Rattle.congee_sync.specs.Epoch.{PinsView, ChangesSeat, pin_of, is_seated}
@@ -25,7 +25,7 @@ use Rattle.congee_store.specs.inner.World.{World, Table, table_on, table_of, rec
 use Rattle.congee_store.proofs.Changes.{same_content}
 use Rattle.congee_store.proofs.Holding.{holds_nothing}
 use Rattle.congee_store.proofs.Options.{none_some, some_same}
-use Rattle.congee_store.proofs.Replies.{returned_first}
+use Rattle.congee_store.proofs.Replies.{key_is, returned_first}
 use Rattle.congee_store.proofs.States.{shows, shown_flight, call_put, call_gone}
 use Rattle.congee_machine.specs.inner.Inside.{begun_record}
 use Rattle.congee_machine.proofs.Changing.{HeldBy, changed_sound, held_record, none_held, others_stay, rest_stays}
@@ -38,22 +38,8 @@ module _ {M : Type 0} where
       shown_flight w id small ∙ (ap (λ x. flight_in x (pin_of w.pins id)) found ∙ ap (λ x. flight_in (Some r) x) pinned)
 
   flight_begun : (op : Op M) (count : ℕ) → flight count (begun_record op) ≡ begun op count
-  flight_begun (Get k) count = refl
-  flight_begun (Insert k v) count = refl
-  flight_begun (Remove k) count = refl
-  flight_begun (ComputeIfPresent k) count = refl
-  flight_begun (ComputeOrInsert k v) count = refl
-  flight_begun (CompareExchange k old new) count = refl
   flight_begun (Range a b n) count = refl
-
-  key_outline : (op : Op M) → key_of (outline_of op) ≡ key_of op
-  key_outline (Get k) = refl
-  key_outline (Insert k v) = refl
-  key_outline (Remove k) = refl
-  key_outline (ComputeIfPresent k) = refl
-  key_outline (ComputeOrInsert k v) = refl
-  key_outline (CompareExchange k old new) = refl
-  key_outline (Range a b n) = refl
+  flight_begun op count = refl
 
   -- nodes that stay as they are leave to all calls what they rely on
   nothing_leaves : (t u : Table M) → ((s : ℕ) → u s ≡ t s) → (Mine : ℕ → Type 0) (p : ℕ) → Guarantees t u Mine p
@@ -73,7 +59,7 @@ module _ {M : Type 0} (Granted : Type 0) (same : M → M → Bool) (w : World M)
       → IsSound Granted same (record w { pins = pins; calls = calls })
   begun_sound op least free enters places =
       let facts : Facts Granted same (table_of w) w.root w.pins.count (begun_record op) = record {
-        small = subst (λ k. k < 2 ^ 64) (sym (key_outline op)) least;
+        small = subst (λ k. k < 2 ^ 64) (key_is op (outline_of op) refl) least;
         at = (record { opened = record { undecided = refl; op = op; op_is = refl; outline = refl; returned = returned_first op }; fresh = refl }, refl);
       } in
       changed_sound w pins calls id (is_seated w.pins id) (Some w.pins.count) (Some (Some (begun_record op))) enters places Granted same sound

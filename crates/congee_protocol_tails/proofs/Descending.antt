@@ -25,13 +25,8 @@ module _ {M : Type 0} where
   -- a point call looks under its key's byte, and a Check that says nothing leaves it as it was
   looks_under : (op : Op M) → IsPoint op
       → ((cursor : ℕ) (n : TableNode M) → child_for (outline_of op) cursor n ≡ lookup n.children (next_byte n.prefix (bytes_of cursor))) × ((s : State M) (call : Flight M) → LooksOn (outline_of op) s call call)
-  looks_under (Get k) point = ((λ cursor n. refl), (λ s call. refl))
-  looks_under (Insert k v) point = ((λ cursor n. refl), (λ s call. refl))
-  looks_under (Remove k) point = ((λ cursor n. refl), (λ s call. refl))
-  looks_under (ComputeIfPresent k) point = ((λ cursor n. refl), (λ s call. refl))
-  looks_under (ComputeOrInsert k v) point = ((λ cursor n. refl), (λ s call. refl))
-  looks_under (CompareExchange k old new) point = ((λ cursor n. refl), (λ s call. refl))
   looks_under (Range a b n) point = absurd point
+  looks_under op point = ((λ cursor n. refl), (λ s call. refl))
 
   -- the node in slot 1 below a root at this word, and more nodes; and a state with a call in flight
   abbrev pub below : ℕ → Node M → List (ℕ × Node M) → ℕ → Option ℕ → State M

@@ -15,7 +15,7 @@ use Rattle.congee_protocol.specs.State.{State, Flight, back, settled, with_call}
 use Rattle.congee_protocol.specs.declared.types.Asking.TheVariants.{Wants}
 use Rattle.congee_protocol.specs.declared.types.Env.{Env}
 use Rattle.congee_protocol.specs.declared.types.Kind.TheVariants as kind
-use Rattle.congee_protocol.specs.declared.types.Op.TheVariants.{Get, Insert, Remove, ComputeIfPresent, ComputeOrInsert, CompareExchange, Range}
+use Rattle.congee_protocol.specs.declared.types.Op.TheVariants.{ComputeIfPresent, ComputeOrInsert, Range}
 use Rattle.congee_protocol.specs.declared.types.Outcome.TheVariants.{Going, Ask, Decided}
 use Rattle.congee_protocol.specs.declared.types.Progress.TheVariants as progress
 use Rattle.congee_protocol.specs.declared.types.Reply.{Reply}
@@ -54,54 +54,31 @@ asking task old = record task { spare = None; question = None; asking = Wants ol
 
 -- a call with a closure sees payloads
 pub closure_shares : (o : Outline) → HasClosure o → SharesNone o None → ⊥
-closure_shares (Get k) asks shares = asks
-closure_shares (Insert k v) asks shares = asks
-closure_shares (Remove k) asks shares = asks
 closure_shares (ComputeIfPresent k) asks shares = shares
 closure_shares (ComputeOrInsert k v) asks shares = shares
-closure_shares (CompareExchange k old new) asks shares = asks
-closure_shares (Range a b n) asks shares = asks
+closure_shares o asks shares = asks
 
 -- a ComputeOrInsert has a closure
 pub inserts_asks : (o : Outline) → IsOrInsert o → HasClosure o
-inserts_asks (Get k) h = absurd h
-inserts_asks (Insert k v) h = absurd h
-inserts_asks (Remove k) h = absurd h
-inserts_asks (ComputeIfPresent k) h = absurd h
 inserts_asks (ComputeOrInsert k v) h = tt
-inserts_asks (CompareExchange k old new) h = absurd h
-inserts_asks (Range a b n) h = absurd h
+inserts_asks o h = absurd h
 
 module _ {M : Type 0} where
   -- a closure is asked with a payload that was seen
   pub asks_present : (o : Outline) (seen : Option M) (v : M) → HasClosure o → seen ≡ Some v → AsksWith o seen seen
-  asks_present (Get k) seen v h is = absurd h
-  asks_present (Insert k x) seen v h is = absurd h
-  asks_present (Remove k) seen v h is = absurd h
   asks_present (ComputeIfPresent k) seen v h is = (v, is, is)
   asks_present (ComputeOrInsert k x) seen v h is = refl
-  asks_present (CompareExchange k old new) seen v h is = absurd h
-  asks_present (Range a b n) seen v h is = absurd h
+  asks_present o seen v h is = absurd h
 
   -- the one of a ComputeOrInsert also where nothing was seen
   pub asks_inserts : (o : Outline) (seen : Option M) → IsOrInsert o → AsksWith o seen seen
-  asks_inserts (Get k) seen h = absurd h
-  asks_inserts (Insert k x) seen h = absurd h
-  asks_inserts (Remove k) seen h = absurd h
-  asks_inserts (ComputeIfPresent k) seen h = absurd h
   asks_inserts (ComputeOrInsert k x) seen h = refl
-  asks_inserts (CompareExchange k old new) seen h = absurd h
-  asks_inserts (Range a b n) seen h = absurd h
+  asks_inserts o seen h = absurd h
 
   -- a point call looks under its key's byte
   pub child_point : (o : Outline) → IsPoint o → (key : ℕ) (n : TableNode M) → child_for o key n ≡ lookup n.children (next_byte n.prefix (bytes_of key))
-  child_point (Get k) point key n = refl
-  child_point (Insert k v) point key n = refl
-  child_point (Remove k) point key n = refl
-  child_point (ComputeIfPresent k) point key n = refl
-  child_point (ComputeOrInsert k v) point key n = refl
-  child_point (CompareExchange k old new) point key n = refl
   child_point (Range a b n) point key node = absurd point
+  child_point o point key n = refl
 
   -- what a call sees that sees payloads is what stands there
   pub seen_exact : (Q : Type 0) (c seen : Option (Child M)) → IsSeenOf Q c seen → Q → seen ≡ c

@@ -10,7 +10,7 @@ use Rattle.congee_protocol.specs.Reading.{IsReading, LooksOn, child_for}
 use Rattle.congee_protocol.specs.State.{State, Node, Flight, with_call, back, settled}
 use Rattle.congee_protocol.specs.declared.types.Env.{Env}
 use Rattle.congee_protocol.specs.declared.types.Kind.TheVariants as kind
-use Rattle.congee_protocol.specs.declared.types.Op.TheVariants.{Get, Insert, Remove, ComputeIfPresent, ComputeOrInsert, CompareExchange, Range}
+use Rattle.congee_protocol.specs.declared.types.Op.TheVariants.{Range}
 use Rattle.congee_protocol.specs.declared.types.Outcome.{Outcome}
 use Rattle.congee_protocol.specs.declared.types.Outcome.TheVariants.{Going, Refused}
 use Rattle.congee_protocol.specs.declared.types.Progress.TheVariants as progress
@@ -148,12 +148,6 @@ module _ {M : Type 0} (Granted : Type 0) (same : M → M → Bool) (s : State M)
 -- a Check that says nothing leaves a call as it was; a range then stays where it is
 module _ {M : Type 0} (s : State M) where
   pub looks_on : (outline : Outline) (call : Flight M) → call.cursor ≡ call.reach → LooksOn outline s call call
-  looks_on (Get k) call e = refl
-  looks_on (Insert k v) call e = refl
-  looks_on (Remove k) call e = refl
-  looks_on (ComputeIfPresent k) call e = refl
-  looks_on (ComputeOrInsert k v) call e = refl
-  looks_on (CompareExchange k old new) call e = refl
   looks_on (Range a b n) call e = record {
     cursor = call.cursor;
     reach = call.reach;
@@ -162,3 +156,4 @@ module _ {M : Type 0} (s : State M) where
     passed = λ key value low high stands. absurd (omega (arith, low, high));
     next_is = inl refl;
   }
+  looks_on outline call e = refl

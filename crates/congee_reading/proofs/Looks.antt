@@ -15,7 +15,7 @@ use Rattle.congee_protocol.specs.Reading.{IsSeenOf, child_for}
 use Rattle.congee_protocol.specs.declared.types.Env.{Env}
 use Rattle.congee_protocol.specs.declared.types.Kind.TheVariants as kind
 use Rattle.congee_protocol.specs.declared.types.Outcome.{Outcome}
-use Rattle.congee_protocol.specs.declared.types.Outcome.TheVariants.{Going, Ask, Pair, Decided, Refused, Done, Unknown}
+use Rattle.congee_protocol.specs.declared.types.Outcome.TheVariants.{Going, Refused}
 use Rattle.congee_protocol.specs.declared.types.Seen.{Seen}
 use Rattle.congee_store.specs.declared.stage.Path.{Path}
 use Rattle.congee_store.specs.declared.stage.Record.{Record}
@@ -27,7 +27,7 @@ use Rattle.congee_store.specs.inner.Tasks.{Agrees}
 use Rattle.congee_store.specs.inner.Facts.{Facts}
 use Rattle.congee_store.specs.inner.Meant.{meant_node}
 use Rattle.congee_store.specs.inner.Shown.{flight}
-use Rattle.congee_store.specs.inner.Turns.{IsRead}
+use Rattle.congee_store.specs.inner.Turns.{IsCourse, IsRead}
 use Rattle.congee_store.specs.inner.World.{Node, Table}
 use Rattle.congee_store.proofs.Options.{none_some, some_same}
 use Rattle.congee_store.proofs.Reaching.{one, seen_at}
@@ -122,6 +122,17 @@ module _ {M : Type 0} (Granted : Type 0) (same : M → M → Bool) (a : TableNod
 
 module _ {M : Type 0} (Granted : Type 0) (same : M → M → Bool) (t : Table M) (root pin : ℕ) (task : Task M) (env : Env M) (placed : IsPlaced t root) (path : Path) (a : Node M)
     (here : t path.here.slot ≡ Some a) (facts : Facts Granted same t root pin (at (Read path) task)) where
+  -- it knows the slots and words that it knew
+  read_course : (next : Task M) (out : Outcome M) → next.outline ≡ task.outline → IsCourse t t root (at (Read path) task) env (at (Check path) next) (report_of kind.Read (Some path.here.slot) 0 true) out
+  read_course next out same = record {
+    touches = λ z e make. inr (inl (some_same path.here.slot z e));
+    names = λ z h. inr (inl h);
+    reads = λ z h. refl;
+    outline = same;
+    keeps = still_current t (Read path) (Check path) (λ z w h. h);
+    falls = λ served. inr (omega arith);
+  }
+
   pub torn_read : (torn : Seen M) → env.torn ≡ torn → a.word ≢ path.here.word
       → IsRead Granted same t root pin (at (Read path) task) env (at (Check path) (record task { last = Some torn; spare = None; question = None })) (report_of kind.Read (Some path.here.slot) 0 true) Going
   torn_read torn is other =
@@ -139,14 +150,7 @@ module _ {M : Type 0} (Granted : Type 0) (same : M → M → Bool) (t : Table M)
         };
         held = refl;
         made = refl;
-        course = record {
-          touches = λ z e make. inr (inl (some_same path.here.slot z e));
-          names = λ z h. inr (inl h);
-          reads = λ z h. refl;
-          outline = refl;
-          keeps = still_current t (Read path) (Check path) (λ z w h. h);
-          falls = λ served. inr (omega arith);
-        };
+        course = read_course _ _ refl;
         does = λ s id shows. read_torn Granted same s id (flight pin (at (Read path) task)) env (inl f.0.opened.undecided) path.here.slot path.here.word (one a) (seen_at t root s shows path.here.slot a here) (here_known path) other;
         carries = λ s shows m content. refl;
       })
@@ -179,14 +183,7 @@ module _ {M : Type 0} (Granted : Type 0) (same : M → M → Bool) (t : Table M)
           };
           held = refl;
           made = refl;
-          course = record {
-            touches = λ z e make. inr (inl (some_same path.here.slot z e));
-            names = λ z h. inr (inl h);
-            reads = λ z h. refl;
-            outline = refl;
-            keeps = still_current t (Read path) (Check path) (λ z w h. h);
-            falls = λ served. inr (omega arith);
-          };
+          course = read_course _ _ refl;
           does = λ s id shows. read_whole Granted same s id (flight pin (at (Read path) task)) env (inl f.0.opened.undecided) path.here.slot path.here.word (one a) (seen_at t root s shows path.here.slot a here) (here_known path)
               seen word (record { child = looks.child; count = looks.count; full = looks.full });
           carries = λ s shows m content. refl;
@@ -220,8 +217,4 @@ module _ {M : Type 0} (Granted : Type 0) (same : M → M → Bool) (t : Table M)
         subst (λ (n : Record M). IsRead Granted same t root pin (at (Read path) task) env n (report_of kind.Read (Some path.here.slot) 0 true) Going) (sym h.is) (whole h.seen h.spare h.question h.looking)
     whole_or_refused next Refused h =
         subst (λ (n : Record M). IsRead Granted same t root pin (at (Read path) task) env n (report_of kind.Read (Some path.here.slot) 0 true) Refused) (sym h.1) (unseen h.0)
-    whole_or_refused next (Ask old) h = absurd h
-    whole_or_refused next (Pair k v) h = absurd h
-    whole_or_refused next (Decided reply) h = absurd h
-    whole_or_refused next Done h = absurd h
-    whole_or_refused next Unknown h = absurd h
+    whole_or_refused next out h = absurd h

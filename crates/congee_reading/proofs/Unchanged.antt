@@ -1,18 +1,14 @@
 -- A CALL THAT LEAVES ALL AS IT STANDS: what it has seen alone is what the whole map says.
-use Rattle.std.proofs.Common.{◌≡◌, ℕ, ◌+◌, ◌^◌, Bool, List, Option, Some, None, inl, inr, refl, sym, subst, ap, ◌∙◌, arith}
-use Rattle.std.proofs.lemmas.Bool.{eq-eqb}
+use Rattle.std.proofs.Common.{◌≡◌, ℕ, ◌+◌, ◌^◌, Bool, List, Option, Some, None, inl, inr, sym, subst, ◌∙◌, arith}
 use Rattle.std.proofs.lemmas.Bool.Decides.{eqb_tells}
 use Rattle.congee_map.proofs.MapLaws.{Rises-put, lookup-put_same, lookup-put_other, same_from_lookups, without-absent}
 use Rattle.congee_map.specs.Map.{Pairs, IsMap, Rises, lookup, put, with_answer}
 use Rattle.congee_map.specs.Legal.{reply_of}
-use Rattle.congee_protocol.specs.Calls.{Outline, IsPoint, key_of, outline_of, map_call, map_reply, map_asked, asked_of}
+use Rattle.congee_protocol.specs.Calls.{Outline, key_of, map_call, map_reply, map_asked, asked_of}
 use Rattle.congee_protocol.specs.Deciding.{Leads}
 use Rattle.congee_protocol.specs.Local.{IsLocal, LeavesAll, only_at, seen_map, seen_payload}
 use Rattle.congee_protocol.specs.State.{Flight}
-use Rattle.congee_protocol.specs.declared.types.Asking.{Asking}
 use Rattle.congee_protocol.specs.declared.types.Asking.TheVariants.{Fresh}
-use Rattle.congee_protocol.specs.declared.types.Op.{Op}
-use Rattle.congee_protocol.specs.declared.types.Op.TheVariants.{Get, Insert, Remove, ComputeIfPresent, ComputeOrInsert, CompareExchange, Range}
 use Rattle.congee_protocol.specs.declared.types.Reply.{Reply}
 use Rattle.congee_store.specs.declared.stage.Stage.{Stage}
 use Rattle.congee_store.specs.declared.stage.Task.{Task}
@@ -21,7 +17,7 @@ use Rattle.congee_store.specs.inner.Shown.{flight}
 use Rattle.congee_store.specs.inner.Tasks.{IsOpen, Sees}
 use Rattle.congee_store.proofs.Reaching.{lookup-inside}
 use Rattle.congee_store.proofs.Records.{at}
-use Rattle.congee_store.proofs.Replies.{change_asked, change_replied, change_after, left_asked, left_replied, left_after}
+use Rattle.congee_store.proofs.Replies.{alone_there, key_is, change_point, change_asked, change_replied, change_after, left_point, left_asked, left_replied, left_after}
 
 -- MAPS: what is put where it stands already leaves the map as it was
 module _ {V : Type 0} where
@@ -40,47 +36,9 @@ module _ {V : Type 0} where
   answer_again a b es k None rises there = without-absent es k there
   answer_again a b es k (Some v) rises there = put_again a b es k v rises there
 
-  -- the map in which a key alone may stand
-  pub alone_there : (k : ℕ) (v : Option V) → lookup (only_at k v) k ≡ v
-  alone_there k None = refl
-  alone_there k (Some v) = rw (eq-eqb k k refl) refl
-
   alone_rises : (k : ℕ) (v : Option V) → Rises k (k + 1) (only_at k v)
   alone_rises k None = tt
   alone_rises k (Some v) = (omega arith, omega arith, tt)
-
--- CALLS AND THEIR OUTLINES
-module _ {M : Type 0} where
-  key_outline : (op : Op M) → key_of op ≡ key_of (outline_of op)
-  key_outline (Get k) = refl
-  key_outline (Insert k v) = refl
-  key_outline (Remove k) = refl
-  key_outline (ComputeIfPresent k) = refl
-  key_outline (ComputeOrInsert k v) = refl
-  key_outline (CompareExchange k old new) = refl
-  key_outline (Range a b n) = refl
-
-  pub key_is : (op : Op M) (o : Outline) → outline_of op ≡ o → key_of op ≡ key_of o
-  key_is op o e = key_outline op ∙ ap (λ (z : Outline). key_of z) e
-
-  -- a range changes and leaves nothing
-  left_point : (same : M → M → Bool) (op : Op M) (stands : Option M) (reply : Reply M) → IsLeft same op stands reply → IsPoint op
-  left_point same (Get k) stands reply h = tt
-  left_point same (Insert k v) stands reply h = tt
-  left_point same (Remove k) stands reply h = tt
-  left_point same (ComputeIfPresent k) stands reply h = tt
-  left_point same (ComputeOrInsert k v) stands reply h = tt
-  left_point same (CompareExchange k old new) stands reply h = tt
-  left_point same (Range a b n) stands reply h = absurd h
-
-  change_point : (same : M → M → Bool) (op : Op M) (asking : Asking M) (stands value : Option M) → IsChange same op asking stands value → IsPoint op
-  change_point same (Get k) asking stands value h = tt
-  change_point same (Insert k v) asking stands value h = tt
-  change_point same (Remove k) asking stands value h = tt
-  change_point same (ComputeIfPresent k) asking stands value h = tt
-  change_point same (ComputeOrInsert k v) asking stands value h = tt
-  change_point same (CompareExchange k old new) asking stands value h = tt
-  change_point same (Range a b n) asking stands value h = absurd h
 
 -- what a call has seen decides it with this reply, and leaves all
 abbrev pub Tells : {M : Type 0} → Type 0 → (M → M → Bool) → Flight M → Reply M → Type 0

@@ -16,7 +16,7 @@ use Rattle.congee_protocol.specs.declared.types.Env.{Env}
 use Rattle.congee_protocol.specs.declared.types.Event.{Event}
 use Rattle.congee_protocol.specs.declared.types.Event.TheVariants.{Start, Step, Reclaim}
 use Rattle.congee_protocol.specs.declared.types.Op.{Op}
-use Rattle.congee_protocol.specs.declared.types.Op.TheVariants.{Get, Insert, Remove, ComputeIfPresent, ComputeOrInsert, CompareExchange, Range}
+use Rattle.congee_protocol.specs.declared.types.Op.TheVariants.{Range}
 use Rattle.congee_protocol.specs.declared.types.Outcome.{Outcome}
 use Rattle.congee_protocol.specs.declared.types.Outcome.TheVariants.{Done}
 use Rattle.congee_protocol.specs.declared.types.Progress.{Progress}
@@ -25,7 +25,7 @@ use Rattle.congee_protocol.specs.declared.types.Report.{Report}
 use Rattle.congee_store.specs.declared.stage.Record.{Record}
 use Rattle.congee_store.specs.declared.stage.Task.{Task}
 use Rattle.congee_store.specs.declared.stage.Stage.{Stage}
-use Rattle.congee_store.specs.declared.stage.Stage.TheVariants.{TakeRoot, Read, Check, TakeBelow, CheckAbove, Answer, Confirm, Tail, Finish}
+use Rattle.congee_store.specs.declared.stage.Stage.TheVariants.{TakeRoot, Read, Check, TakeBelow, CheckAbove, Answer, Tail}
 use Rattle.congee_store.specs.declared.stage.Spot.{Spot}
 use Rattle.congee_store.specs.declared.tail.Case.{Case}
 use Rattle.congee_store.specs.declared.tail.Case.TheVariants as case
@@ -34,7 +34,7 @@ use Rattle.congee_store.specs.declared.tail.Large.TheVariants.{GrowLeaf, GrowInn
 use Rattle.congee_store.specs.declared.tail.Small.{Small}
 use Rattle.congee_store.specs.declared.tail.Small.TheVariants.{Entry, Leaf}
 use Rattle.congee_store.specs.declared.tail.Tail.{Tail as AnyTail}
-use Rattle.congee_store.specs.declared.tail.Tail.TheVariants.{Upgrade, Write, MakeLeaf, Link, Unlock, UpgradeAbove, UpgradeBelow, MakeLeafBelow, Grow, MakeMiddle, Replace, Insert as Insertion, Detach as Detaching, Obsolete, UnlockBelow}
+use Rattle.congee_store.specs.declared.tail.Tail.TheVariants.{Upgrade, Unlock, UpgradeAbove, UpgradeBelow}
 use Rattle.congee_store.specs.inner.Facts.{Facts, FactsAt, Holding, IsSound}
 use Rattle.congee_store.specs.inner.Shown.{flight, shown, spots_of, state_of}
 use Rattle.congee_store.specs.inner.Tables.{Guarantees, Known}
@@ -84,73 +84,34 @@ few_unlock Decided = omega arith
 few_unlock Refused = omega arith
 
 some_tail : (progress : Progress) (tail : AnyTail) → 0 < tail_work progress tail
-some_tail progress (Upgrade path small) = omega arith
-some_tail progress (Write spot) = omega arith
-some_tail progress (MakeLeaf spot) = omega arith
-some_tail progress (Link spot leaf) = omega arith
 some_tail progress (Unlock spot) = some_unlock progress
-some_tail progress (UpgradeAbove pair large) = omega arith
-some_tail progress (UpgradeBelow pair large) = omega arith
-some_tail progress (MakeLeafBelow pair large) = omega arith
-some_tail progress (Grow pair leaf) = omega arith
-some_tail progress (MakeMiddle pair leaf) = omega arith
-some_tail progress (Replace pair copy leaf) = omega arith
-some_tail progress (Insertion pair middle leaf) = omega arith
-some_tail progress (Detaching pair) = omega arith
-some_tail progress (Obsolete pair) = omega arith
-some_tail progress (UnlockBelow pair) = omega arith
+some_tail progress tail = omega arith
 
 few_tail : (progress : Progress) (tail : AnyTail) → tail_work progress tail ≤ 40
 few_tail progress (Upgrade path small) = few_small small
-few_tail progress (Write spot) = omega arith
-few_tail progress (MakeLeaf spot) = omega arith
-few_tail progress (Link spot leaf) = omega arith
 few_tail progress (Unlock spot) = few_unlock progress
 few_tail progress (UpgradeAbove pair large) = few_large large
 few_tail progress (UpgradeBelow pair large) = let few = few_large large in omega arith
-few_tail progress (MakeLeafBelow pair large) = omega arith
-few_tail progress (Grow pair leaf) = omega arith
-few_tail progress (MakeMiddle pair leaf) = omega arith
-few_tail progress (Replace pair copy leaf) = omega arith
-few_tail progress (Insertion pair middle leaf) = omega arith
-few_tail progress (Detaching pair) = omega arith
-few_tail progress (Obsolete pair) = omega arith
-few_tail progress (UnlockBelow pair) = omega arith
+few_tail progress tail = omega arith
 
 some_work : (t : Table ℕ) (progress : Progress) (stage : Stage) → 0 < work t progress stage
-some_work t progress TakeRoot = omega arith
-some_work t progress (Read path) = omega arith
-some_work t progress (Check path) = omega arith
-some_work t progress (TakeBelow path slot) = omega arith
-some_work t progress (CheckAbove path spot fits) = omega arith
 some_work t progress (Answer case) = some_case case
-some_work t progress (Confirm spot) = omega arith
 some_work t progress (Tail tail) = some_tail progress tail
-some_work t progress Finish = omega arith
+some_work t progress stage = omega arith
 
 most_work : (t : Table ℕ) (progress : Progress) (stage : Stage) → work t progress stage ≤ 40
-most_work t progress TakeRoot = omega arith
-most_work t progress (Read path) = omega arith
-most_work t progress (Check path) = omega arith
-most_work t progress (TakeBelow path slot) = omega arith
-most_work t progress (CheckAbove path spot fits) = omega arith
 most_work t progress (Answer case) = few_case case
-most_work t progress (Confirm spot) = omega arith
 most_work t progress (Tail tail) = few_tail progress tail
-most_work t progress Finish = omega arith
+most_work t progress stage = omega arith
 
 -- where all nodes are the same
 module _ (t t' : Table ℕ) (same : (s : ℕ) → t' s ≡ t s) where
   work_same : (progress : Progress) (stage : Stage) → work t' progress stage ≡ work t progress stage
-  work_same progress TakeRoot = refl
   work_same progress (Read path) = ap (λ a. 4 * (7 - depth_in a) + 10) (same path.here.slot)
   work_same progress (Check path) = ap (λ a. 4 * (7 - depth_in a) + 9) (same path.here.slot)
   work_same progress (TakeBelow path slot) = ap (λ a. 4 * (7 - depth_in a) + 8) (same path.here.slot)
   work_same progress (CheckAbove path spot fits) = ap (λ a. 4 * (7 - depth_in a) + 7) (same path.here.slot)
-  work_same progress (Answer case) = refl
-  work_same progress (Confirm spot) = refl
-  work_same progress (Tail tail) = refl
-  work_same progress Finish = refl
+  work_same progress stage = refl
 
   current_same : (stage : Stage) → IsCurrent t stage → IsCurrent t' stage
   current_same stage c = λ slot word known a here. c slot word known a (sym (same slot) ∙ here)
@@ -163,15 +124,11 @@ module _ (t t' : Table ℕ) (root pin : ℕ) (Mine : ℕ → Type 0) (leaves : G
       ap depth_in m.here ∙ (ap length m.kept.prefix ∙ sym (ap depth_in kn.here))
 
   work_kept : (progress : Progress) (stage : Stage) → FactsAt (Unit {0}) same_number t root pin task stage → work t' progress stage ≡ work t progress stage
-  work_kept progress TakeRoot f = refl
   work_kept progress (Read path) f = ap (λ a. 4 * (7 - a) + 10) (depth_kept path.here f.1.here)
   work_kept progress (Check path) f = ap (λ a. 4 * (7 - a) + 9) (depth_kept path.here f.1.here)
   work_kept progress (TakeBelow path slot) f = ap (λ a. 4 * (7 - a) + 8) (depth_kept path.here f.1.here)
   work_kept progress (CheckAbove path spot fits) f = ap (λ a. 4 * (7 - a) + 7) (depth_kept path.here f.1.here)
-  work_kept progress (Answer case) f = refl
-  work_kept progress (Confirm spot) f = refl
-  work_kept progress (Tail tail) f = refl
-  work_kept progress Finish f = refl
+  work_kept progress stage f = refl
 
 -- A node in a slot that wasn't reclaimed has its word.
 pub record HadWord (t : Table ℕ) (s word : ℕ) : Type 0 where
@@ -245,13 +202,8 @@ abbrev pub AllServed : World ℕ → Type 0
 AllServed w = (id : ℕ) → id < 2 ^ 64 → (r : Record ℕ) → call_of w id ≡ Some r → IsPoint r.task.outline
 
 served_outline : (id : ℕ) (op : Op ℕ) → IsServed (Start id op) → IsPoint (outline_of op)
-served_outline id (Get k) h = tt
-served_outline id (Insert k v) h = tt
-served_outline id (Remove k) h = tt
-served_outline id (ComputeIfPresent k) h = tt
-served_outline id (ComputeOrInsert k v) h = tt
-served_outline id (CompareExchange k old new) h = tt
 served_outline id (Range a b n) h = h
+served_outline id op h = tt
 
 served_begun : (w after : World ℕ) (id : ℕ) (op : Op ℕ) (report : Report) → AllServed w → IsServed (Start id op) → IsBegun (Unit {0}) same_number w after id op report → AllServed after
 served_begun w after id op report all served begun o small r found =

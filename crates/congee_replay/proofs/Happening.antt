@@ -71,32 +71,12 @@ step_unknown w id env none = skipped_event w (Step id env) (λ enabled served. n
 
 -- what a Read reported is in the record
 read_in : (k : Kind) (pin : ℕ) (r : Record ℕ) → read_by k (Some (flight pin r)) ≡ last_read k (Some r)
-read_in kind.Start pin r = refl
-read_in kind.Take pin r = refl
-read_in kind.Check pin r = refl
-read_in kind.Read pin r = refl
-read_in kind.Upgrade pin r = refl
-read_in kind.Make pin r = refl
-read_in kind.Write pin r = refl
-read_in kind.Obsolete pin r = refl
-read_in kind.Unlock pin r = refl
-read_in kind.Answer pin r = refl
-read_in kind.Finish pin r = refl
 read_in kind.Reclaim pin r = refl
+read_in k pin r = refl
 
 read_none : (k : Kind) → read_by k None ≡ last_read k None
-read_none kind.Start = refl
-read_none kind.Take = refl
-read_none kind.Check = refl
-read_none kind.Read = refl
-read_none kind.Upgrade = refl
-read_none kind.Make = refl
-read_none kind.Write = refl
-read_none kind.Obsolete = refl
-read_none kind.Unlock = refl
-read_none kind.Answer = refl
-read_none kind.Finish = refl
 read_none kind.Reclaim = refl
+read_none k = refl
 
 not_seen : (w : World ℕ) (id : ℕ) (f : Option (Flight ℕ)) → lookup (state_of w).flights id ≡ f → call_of w id ≡ None → f ≡ None
 not_seen w id None e none = refl

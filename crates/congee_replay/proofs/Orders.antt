@@ -21,7 +21,7 @@ use Rattle.congee_protocol.specs.declared.types.Event.TheVariants.{Start, Step, 
 use Rattle.congee_protocol.specs.declared.types.Kind.{Kind}
 use Rattle.congee_protocol.specs.declared.types.Kind.TheVariants as kind
 use Rattle.congee_protocol.specs.declared.types.Op.{Op}
-use Rattle.congee_protocol.specs.declared.types.Op.TheVariants.{Get, Insert, Remove, ComputeIfPresent, ComputeOrInsert, CompareExchange, Range}
+use Rattle.congee_protocol.specs.declared.types.Op.TheVariants.{Range}
 use Rattle.congee_protocol.specs.declared.types.Outcome.{Outcome}
 use Rattle.congee_protocol.specs.declared.types.Outcome.TheVariants.{Going, Ask, Pair, Decided, Refused, Done, Unknown}
 use Rattle.congee_protocol.specs.declared.types.Progress.{Progress}
@@ -66,32 +66,17 @@ goes_on call next planned l g =
     ]
 
 looks_on : (outline : Outline) (s : State ℕ) (call planned : Flight ℕ) → LooksOn outline s call planned → Lasts call planned
-looks_on (Get k) s call planned h = lasts_by call call planned h (lasts call)
-looks_on (Insert k v) s call planned h = lasts_by call call planned h (lasts call)
-looks_on (Remove k) s call planned h = lasts_by call call planned h (lasts call)
-looks_on (ComputeIfPresent k) s call planned h = lasts_by call call planned h (lasts call)
-looks_on (ComputeOrInsert k v) s call planned h = lasts_by call call planned h (lasts call)
-looks_on (CompareExchange k old new) s call planned h = lasts_by call call planned h (lasts call)
 looks_on (Range a b n) s call planned h = goes_on call (record call { cursor = h.cursor; reach = h.reach }) planned (record { outline = refl; op = refl; progress = refl }) h.next_is
+looks_on outline s call planned h = lasts_by call call planned h (lasts call)
 
 not_locked_lasts : (held : List ℕ) (call : Flight ℕ) → Lasts call (not_locked held call)
 not_locked_lasts [] call = record { outline = refl; op = refl; progress = refl }
 not_locked_lasts (slot ∷ held) call = lasts call
 
-unlocked_lasts : (p : Progress) (call : Flight ℕ) → Lasts call (unlocked p call)
-unlocked_lasts progress.Open call = record { outline = refl; op = refl; progress = refl }
-unlocked_lasts progress.Decided call = lasts call
-unlocked_lasts progress.Refused call = lasts call
-
 -- a point call has no more to give only once it has ended
 no_end : (op : Op ℕ) (reach given : ℕ) → HasAll (outline_of op) reach given → IsPoint op → ⊥
-no_end (Get k) reach given h point = h
-no_end (Insert k v) reach given h point = h
-no_end (Remove k) reach given h point = h
-no_end (ComputeIfPresent k) reach given h point = h
-no_end (ComputeOrInsert k v) reach given h point = h
-no_end (CompareExchange k old new) reach given h point = h
 no_end (Range a b n) reach given h point = point
+no_end op reach given h point = h
 
 module _ (old new : State ℕ) (id : ℕ) (call : Flight ℕ) (env : Env ℕ) (report : Report) (out : Outcome ℕ) (op : Op ℕ) (of : IsOf op call) where
   -- what such an outcome makes of it
@@ -173,11 +158,7 @@ module _ (old new : State ℕ) (id : ℕ) (call : Flight ℕ) (env : Env ℕ) (r
   wrote : (o : Outcome ℕ) → Settles (Unit {0}) same_number call o → (base : State ℕ) → Ends base (settled progress.Decided (record call { made = [] })) → Result o
   wrote Going h base b = (Some (op, call.progress), refl, matched call.progress base (settled progress.Decided (record call { made = [] })) b (bare _ refl refl) h)
   wrote (Decided reply) h base b = decides reply h base (record call { made = [] }) b refl
-  wrote (Ask asked) h base b = absurd h
-  wrote (Pair key value) h base b = absurd h
-  wrote Refused h base b = absurd h
-  wrote Done h base b = absurd h
-  wrote Unknown h base b = absurd h
+  wrote o h base b = absurd h
 
   finished : (p : Progress) → p ≡ call.progress → MayEnd call → TurnsBy Done (Some (op, p)) None
   finished progress.Open is may =

@@ -17,7 +17,7 @@ use Rattle.congee_protocol.specs.declared.types.Event.{Event}
 use Rattle.congee_protocol.specs.declared.types.Event.TheVariants.{Start, Step, Reclaim}
 use Rattle.congee_protocol.specs.declared.types.Kind.{Kind}
 use Rattle.congee_protocol.specs.declared.types.Kind.TheVariants as kind
-use Rattle.congee_protocol.specs.declared.types.Op.TheVariants.{Get, Insert, Remove, ComputeIfPresent, ComputeOrInsert, CompareExchange, Range}
+use Rattle.congee_protocol.specs.declared.types.Op.TheVariants.{Range}
 use Rattle.congee_protocol.specs.declared.types.Outcome.{Outcome}
 use Rattle.congee_protocol.specs.declared.types.Report.{Report}
 use Rattle.congee_protocol.specs.declared.types.Seen.{Seen}
@@ -65,13 +65,8 @@ first_entry {C} a b byte (x ∷ es) c rises e =
     ]
 
 child_entry : (outline : Outline) (cursor : ℕ) (a : Node ℕ) (c : Child ℕ) → Rises 0 256 a.node.children → child_for outline cursor a.node ≡ Some c → (x : ℕ) × (entry a x ≡ Some c)
-child_entry (Get k) cursor a c rises e = (next_byte a.node.prefix (bytes_of cursor), e)
-child_entry (Insert k v) cursor a c rises e = (next_byte a.node.prefix (bytes_of cursor), e)
-child_entry (Remove k) cursor a c rises e = (next_byte a.node.prefix (bytes_of cursor), e)
-child_entry (ComputeIfPresent k) cursor a c rises e = (next_byte a.node.prefix (bytes_of cursor), e)
-child_entry (ComputeOrInsert k v) cursor a c rises e = (next_byte a.node.prefix (bytes_of cursor), e)
-child_entry (CompareExchange k old new) cursor a c rises e = (next_byte a.node.prefix (bytes_of cursor), e)
 child_entry (Range from to n) cursor a c rises e = first_entry 0 256 (bound_at cursor a.node.prefix) a.node.children c rises e
+child_entry outline cursor a c rises e = (next_byte a.node.prefix (bytes_of cursor), e)
 
 module _ (t : Table ℕ) (root pin : ℕ) (k : List ℕ) where
   known_there : (s : Spot) (slot : ℕ) → Known t pin s → s.slot ≡ slot → IsThere t pin slot
@@ -146,8 +141,6 @@ module _ (t : Table ℕ) (root pin : ℕ) (r : Record ℕ) (placed : IsPlaced t 
 
   -- a slot that was read where the word still stands has one
   follow_there : (stage : Stage) (slot : ℕ) → FactsAt (Unit {0}) same_number t root pin r.task stage → MayFollow t stage r.task.last slot → IsThere t pin slot
-  follow_there TakeRoot slot f h = absurd h
-  follow_there (Read path) slot f h = absurd h
   follow_there (Check path) slot f h =
       let s : Saw (Unit {0}) same_number t pin path r.task = f.2 in
       let one_seen : s.seen ≡ h.0.seen = some_same s.seen h.0.seen (sym s.is ∙ h.0.is) in
@@ -158,12 +151,7 @@ module _ (t : Table ℕ) (root pin : ℕ) (r : Record ℕ) (placed : IsPlaced t 
       ((s.agrees stands.node stands.here stands.word).below slot child) in
       let below : IsBelow t stands.node at.0 slot = placed.below path.here.slot stands.node linked at.0 slot at.1 in
       record { node = below.node; here = below.linked.here; safe = subst (λ z. IsSafe pin z) (sym below.linked.standing) tt }
-  follow_there (TakeBelow path below) slot f h = absurd h
-  follow_there (CheckAbove path spot fits) slot f h = absurd h
-  follow_there (Answer case) slot f h = absurd h
-  follow_there (Confirm spot) slot f h = absurd h
-  follow_there (Tail tail) slot f h = absurd h
-  follow_there Finish slot f h = absurd h
+  follow_there stage slot f h = absurd h
 
 -- the slots that a call may touch next, or after its next event
 abbrev pub Trusts : Table ℕ → Record ℕ → ℕ → Type 0
@@ -189,38 +177,17 @@ module _ (t t' : Table ℕ) (root pin : ℕ) (Mine : ℕ → Type 0) (leaves : G
       record { node = kn.node; here = kn.here; word = omega (arith, kn.word, m.kept.word, now) }
 
   followed : (stage : Stage) (slot : ℕ) → FactsAt (Unit {0}) same_number t root pin r.task stage → MayFollow t' stage r.task.last slot → MayFollow t stage r.task.last slot
-  followed TakeRoot slot f h = h
-  followed (Read path) slot f h = h
   followed (Check path) slot f h = (h.0, stayed path.here f.1.here h.1)
-  followed (TakeBelow path below) slot f h = h
-  followed (CheckAbove path spot fits) slot f h = h
-  followed (Answer case) slot f h = h
-  followed (Confirm spot) slot f h = h
-  followed (Tail tail) slot f h = h
-  followed Finish slot f h = h
+  followed stage slot f h = h
 
 same_follows : (t t' : Table ℕ) (same : (s : ℕ) → t' s ≡ t s) (stage : Stage) (last : Option (Seen ℕ)) (slot : ℕ) → MayFollow t' stage last slot → MayFollow t stage last slot
-same_follows t t' same TakeRoot last slot h = h
-same_follows t t' same (Read path) last slot h = h
 same_follows t t' same (Check path) last slot h = (h.0, record { node = h.1.node; here = sym (same path.here.slot) ∙ h.1.here; word = h.1.word })
-same_follows t t' same (TakeBelow path below) last slot h = h
-same_follows t t' same (CheckAbove path spot fits) last slot h = h
-same_follows t t' same (Answer case) last slot h = h
-same_follows t t' same (Confirm spot) last slot h = h
-same_follows t t' same (Tail tail) last slot h = h
-same_follows t t' same Finish last slot h = h
+same_follows t t' same stage last slot h = h
 
 -- a slot that may be followed was seen
 saw_of : (t : Table ℕ) (stage : Stage) (last : Option (Seen ℕ)) (slot : ℕ) → MayFollow t stage last slot → SawNode last slot
-saw_of t TakeRoot last slot h = absurd h
-saw_of t (Read path) last slot h = absurd h
 saw_of t (Check path) last slot h = h.0
-saw_of t (TakeBelow path below) last slot h = absurd h
-saw_of t (CheckAbove path spot fits) last slot h = absurd h
-saw_of t (Answer case) last slot h = absurd h
-saw_of t (Confirm spot) last slot h = absurd h
-saw_of t (Tail tail) last slot h = absurd h
-saw_of t Finish last slot h = absurd h
+saw_of t stage last slot h = absurd h
 
 -- the entries before tell of the slot, or it is the root's
 abbrev pub Told : ℕ → List Entry → ℕ → ℕ → Type 0
@@ -362,29 +329,19 @@ not_make : (k : Kind) → is_make k ≡ false → k ≢ kind.Make
 not_make k e is = false_true (sym e ∙ ap is_make is)
 
 may_touch : (root id : ℕ) (past : List Entry) (done : Kind) (slot : Option ℕ) → (done ≢ kind.Make → (s : ℕ) → slot ≡ Some s → Told root past id s) → MayTouch root id past done slot
-may_touch root id past kind.Start None known = tt
 may_touch root id past kind.Start (Some s) known = known (not_make kind.Start refl) s refl
-may_touch root id past kind.Take None known = tt
 may_touch root id past kind.Take (Some s) known = known (not_make kind.Take refl) s refl
-may_touch root id past kind.Check None known = tt
 may_touch root id past kind.Check (Some s) known = known (not_make kind.Check refl) s refl
-may_touch root id past kind.Read None known = tt
 may_touch root id past kind.Read (Some s) known = known (not_make kind.Read refl) s refl
-may_touch root id past kind.Upgrade None known = tt
 may_touch root id past kind.Upgrade (Some s) known = known (not_make kind.Upgrade refl) s refl
 may_touch root id past kind.Make slot known = tt
-may_touch root id past kind.Write None known = tt
 may_touch root id past kind.Write (Some s) known = known (not_make kind.Write refl) s refl
-may_touch root id past kind.Obsolete None known = tt
 may_touch root id past kind.Obsolete (Some s) known = known (not_make kind.Obsolete refl) s refl
-may_touch root id past kind.Unlock None known = tt
 may_touch root id past kind.Unlock (Some s) known = known (not_make kind.Unlock refl) s refl
-may_touch root id past kind.Answer None known = tt
 may_touch root id past kind.Answer (Some s) known = known (not_make kind.Answer refl) s refl
-may_touch root id past kind.Finish None known = tt
 may_touch root id past kind.Finish (Some s) known = known (not_make kind.Finish refl) s refl
-may_touch root id past kind.Reclaim None known = tt
 may_touch root id past kind.Reclaim (Some s) known = known (not_make kind.Reclaim refl) s refl
+may_touch root id past done None known = tt
 
 touches_next : (root : ℕ) (w after : World ℕ) (past : List Entry) (event : Event ℕ) (line : Line) (content : Pairs ℕ) → IsSound (Unit {0}) same_number w → w.root ≡ root → IsVouched root w past
     → Plays w event line after → Touches root past event line

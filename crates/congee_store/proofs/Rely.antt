@@ -36,8 +36,9 @@ use Rattle.congee_store.specs.declared.tail.Small.TheVariants.{Entry, Leaf}
 use Rattle.congee_store.specs.declared.tail.Tail.{Tail}
 use Rattle.congee_store.specs.declared.tail.Tail.TheVariants.{Upgrade, Write, MakeLeaf, Link, Unlock, UpgradeAbove, UpgradeBelow, MakeLeafBelow, Grow, MakeMiddle, Replace, Insert, Obsolete, UnlockBelow}
 use Rattle.congee_store.specs.declared.tail.Tail.TheVariants as tail
-use Rattle.congee_store.proofs.Holding.{first_in, next_in, not_free_now}
+use Rattle.congee_store.proofs.Holding.{not_free_now}
 use Rattle.congee_store.proofs.Options.{some_same}
+use Rattle.congee_store.proofs.Members.{first_in, next_in}
 
 module _ {M : Type 0} (t t' : Table M) (Mine : ℕ → Type 0) (pin : ℕ) (g : Guarantees t t' Mine pin) where
   pub there_lasts : (slot : ℕ) → IsThere t pin slot → IsThere t' pin slot

@@ -1,6 +1,5 @@
 -- A WRITE THAT DECIDES its call: its reply, what becomes of the content, and what a reader sees of the nodes.
-use Rattle.std.proofs.Common.{◌≡◌, ◌≢◌, ℕ, ◌+◌, ◌^◌, ◌<◌, Bool, true, false, IsTrue, is_some, List, [], ◌∷◌, length, map, ◌||◌, Option, Some, None, IsSome, ◌⊎◌, inl, inr, refl, sym, subst, ap, ◌∙◌, arith}
-use Rattle.std.proofs.lemmas.Bool.{eq-eqb}
+use Rattle.std.proofs.Common.{◌≡◌, ◌≢◌, ℕ, ◌+◌, ◌^◌, ◌<◌, Bool, true, false, IsTrue, is_some, List, [], length, map, Option, Some, None, IsSome, inl, inr, refl, sym, subst, ap, ◌∙◌, arith}
 use Rattle.std.proofs.lemmas.Bool.Decides.{eqb_tells}
 use Rattle.congee_base.specs.Form.{Fits}
 use Rattle.congee_map.specs.Legal.{reply_of as reply_by}
@@ -10,82 +9,49 @@ use Rattle.congee_map.proofs.MapLaws.{Rises-put, lookup-put_same, lookup-put_oth
 use Rattle.congee_node_table.specs.TableNode.{MayHave}
 use Rattle.congee_node_table.specs.declared.child.Child.{Child}
 use Rattle.congee_node_table.specs.declared.child.Child.TheVariants.{Payload, Node as below_at}
-use Rattle.congee_protocol.specs.Calls.{IsPoint, Outline, asked_of, bytes_of, key_of, map_asked, map_call, map_reply, outline_of}
+use Rattle.congee_protocol.specs.Calls.{Outline, asked_of, bytes_of, key_of, map_asked, map_call, map_reply}
 use Rattle.congee_protocol.specs.Content.{IsContent}
 use Rattle.congee_protocol.specs.Deciding.{Leads}
 use Rattle.congee_protocol.specs.Kinds.{DoesAs, report_of}
 use Rattle.congee_protocol.specs.Lists.{is_in}
-use Rattle.congee_protocol.specs.Local.{IsLocal, SeesPayloads, only_at, seen_map, seen_payload}
-use Rattle.congee_protocol.specs.Meaning.{in_some, both_of, reply_of}
+use Rattle.congee_protocol.specs.Local.{IsLocal, SeesPayloads, seen_map, seen_payload}
 use Rattle.congee_protocol.specs.State.{State, Flight, settled}
 use Rattle.congee_protocol.specs.State as state
 use Rattle.congee_protocol.specs.Writing.{IsOwn, HeldNode, TakesOut, changed, emptied, entry_below, linked}
 use Rattle.congee_protocol.specs.declared.types.Env.{Env}
 use Rattle.congee_protocol.specs.declared.types.Kind.TheVariants as kind
-use Rattle.congee_protocol.specs.declared.types.Asking.{Asking}
-use Rattle.congee_protocol.specs.declared.types.Op.{Op}
-use Rattle.congee_protocol.specs.declared.types.Op.TheVariants.{Get, Insert, Remove, ComputeIfPresent, ComputeOrInsert, CompareExchange, Range}
 use Rattle.congee_protocol.specs.declared.types.Outcome.TheVariants.{Decided}
 use Rattle.congee_protocol.specs.declared.types.Progress.TheVariants as progress
 use Rattle.congee_protocol.specs.declared.types.Reply.{Reply}
-use Rattle.congee_protocol.specs.declared.types.Reply.TheVariants.{Computed}
+use Rattle.congee_protocol.specs.declared.types.Outcome.{Outcome}
 use Rattle.congee_store.specs.declared.stage.Stage.{Stage}
 use Rattle.congee_store.specs.declared.stage.Task.{Task}
-use Rattle.congee_store.specs.inner.Effects.{IsChange, both_in, reply_with}
+use Rattle.congee_store.specs.declared.tail.Tail as tails
+use Rattle.congee_store.specs.inner.Effects.{reply_with}
 use Rattle.congee_store.specs.inner.Moves.{Books, IsAfter, IsOutcome}
 use Rattle.congee_store.specs.inner.Shown.{flight, shown}
 use Rattle.congee_store.specs.inner.Tables.{IsIn, IsPlaced, Keeps}
 use Rattle.congee_store.specs.inner.TailFacts.{HasRoom, Writes}
 use Rattle.congee_store.specs.inner.Tasks.{closed, key_bytes}
-use Rattle.congee_store.specs.inner.Turns.{Shows}
+use Rattle.congee_store.specs.inner.Turns.{IsCourse, Shows}
 use Rattle.congee_store.specs.inner.World.{Node, Table, entry, is_linked}
+use Rattle.congee_store.specs.inner.Tails.{named_in, spots_in, tail_work}
+use Rattle.congee_store.specs.declared.stage.Stage.TheVariants.{Tail}
 use Rattle.congee_sync.specs.Lock.{IsFree, IsLocked}
 use Rattle.congee_store.proofs.Contents.{kept_there, none_there}
-use Rattle.congee_store.proofs.Options.{some_same}
+use Rattle.congee_store.proofs.Options.{none_some, some_same}
 use Rattle.congee_store.proofs.Reaching.{one, seen_at, lookup-inside}
-use Rattle.congee_store.proofs.Replies.{change_after, change_asked, change_replied}
-use Rattle.congee_store.proofs.Unlike.{false_true}
+use Rattle.congee_store.proofs.Replies.{alone_there, change_after, change_asked, change_point, change_replied, key_is}
 use Rattle.congee_store.proofs.Records.{at}
+use Rattle.congee_store.proofs.Members.{true_or_false}
 use Rattle.congee_links.proofs.Contents.{content_put, content_without}
 use Rattle.congee_links.proofs.Pairs.{PutsPair, TakesPair}
 use Rattle.congee_writing.specs.inner.Storing.{entries_with}
 use Rattle.congee_writing.proofs.Showing.{Among, ShownBy, lookup-linked, nodes_are, published_there, Rises-linked}
 
-true_or_false : (b : Bool) → (b ≡ true) ⊎ (b ≡ false)
-true_or_false true = inl refl
-true_or_false false = inr refl
-
--- a number in a list, told by the test and by the fact
-pub listed : (s : ℕ) (slots : List ℕ) → IsIn s slots → IsTrue (is_in s slots)
-listed s [] h = absurd h
-listed s (x ∷ slots) h =
-    elim (eqb_tells x s) [
-      | inl same ↦ rw same.0 refl
-      | inr far ↦ rw far.0 (elim h [ inl e ↦ absurd (far.1 e) | inr later ↦ listed s slots later ])
-    ]
-
-pub told : (s : ℕ) (slots : List ℕ) → IsTrue (is_in s slots) → IsIn s slots
-told s [] h = absurd (false_true h)
-told s (x ∷ slots) h =
-    elim (eqb_tells x s) [
-      | inl same ↦ inl same.1
-      | inr far ↦ inr (told s slots (subst (λ b. IsTrue (b || is_in s slots)) far.0 h))
-    ]
-
 -- what is left of a call once it has its reply
 abbrev pub with_reply : {M : Type 0} → Task M → Task M
 with_reply task = closed progress.Decided task
-
-module _ {P M : Type 0} (meaning : P → M) where
-  both_meant : (before returns : Option P) → in_some (both_of meaning) (both_in before returns) ≡ both_in (in_some meaning before) (in_some meaning returns)
-  both_meant None returns = refl
-  both_meant (Some v) returns = refl
-
-  -- what a reply means is the reply by what its payloads mean
-  pub reply_meant : (outline : Outline) (before returns : Option P) → reply_of meaning (reply_with outline before returns) ≡ reply_with outline (in_some meaning before) (in_some meaning returns)
-  reply_meant (ComputeIfPresent k) before returns = ap (λ z. let r : Reply M = Computed z in r) (both_meant before returns)
-  reply_meant (CompareExchange k old new) before returns = refl
-  reply_meant outline before returns = refl
 
 module _ {M : Type 0} where
   -- what stands at a key, what happens to its pair, and how many pairs there are then
@@ -99,28 +65,6 @@ module _ {M : Type 0} where
 
   abbrev pub entries_after : Option M → Option M → ℕ → ℕ
   entries_after stands value n = entries_with n (is_some stands) (is_some value)
-
-  key_outline : (op : Op M) → key_of (outline_of op) ≡ key_of op
-  key_outline (Get k) = refl
-  key_outline (Insert k v) = refl
-  key_outline (Remove k) = refl
-  key_outline (ComputeIfPresent k) = refl
-  key_outline (ComputeOrInsert k v) = refl
-  key_outline (CompareExchange k old new) = refl
-  key_outline (Range a b n) = refl
-
-  change_point : (same : M → M → Bool) (op : Op M) (asking : Asking M) (stands value : Option M) → IsChange same op asking stands value → IsPoint op
-  change_point same (Range a b n) asking stands value h = absurd h
-  change_point same (Get k) asking stands value h = tt
-  change_point same (Insert k v) asking stands value h = tt
-  change_point same (Remove k) asking stands value h = tt
-  change_point same (ComputeIfPresent k) asking stands value h = tt
-  change_point same (ComputeOrInsert k v) asking stands value h = tt
-  change_point same (CompareExchange k old new) asking stands value h = tt
-
-  found_alone : (key : ℕ) (v : Option M) → lookup (only_at key v) key ≡ v
-  found_alone key None = refl
-  found_alone key (Some v) = rw (eq-eqb key key refl) refl
 
   is_there : (m : Pairs M) (key : ℕ) (v : M) → lookup m key ≡ Some v → IsSome (lookup m key)
   is_there m key v e = subst (λ z. IsSome z) (sym e) refl
@@ -203,6 +147,19 @@ module _ {M : Type 0} where
   takes_none s call (Some (Payload v)) c = refl
   takes_none s call (Some (below_at slot)) c = refl
 
+-- THE COURSE of a write to a node of its tail: the call names no other then, and remembers no word
+pub write_course : {M : Type 0} (t t' : Table M) (root : ℕ) (task : Task M) (env : Env M) (tail next : tails.Tail) (slot : ℕ) (out : Outcome M)
+    → IsIn slot (named_in tail) → named_in next ≡ named_in tail → spots_in next ≡ [] → tail_work progress.Decided next < tail_work task.progress tail
+    → IsCourse t t' root (at (Tail tail) task) env (at (Tail next) (with_reply task)) (report_of kind.Write (Some slot) 0 true) out
+write_course t t' root task env tail next slot out mine named spots less = record {
+  touches = λ z e make. inr (subst (λ (x : ℕ). IsIn x (named_in tail)) (some_same slot z e) mine);
+  names = λ z h. inr (inl (subst (λ (n : List ℕ). IsIn z n) named h));
+  reads = λ z h. absurd h;
+  outline = refl;
+  keeps = λ current z word h. absurd (none_some word (subst (λ (n : List (ℕ × ℕ)). lookup n z ≡ Some word) spots h));
+  falls = λ served. inr less;
+}
+
 -- THE DECISION. Shares are granted always, if `Granted` holds. The same is told by a test.
 module _ {M : Type 0} (Granted : Type 0) (same : M → M → Bool) (task : Task M) (stage : Stage) (pin : ℕ) (stands : Option M) (w : Writes Granted same task stands) where
   abbrev pub writing_call : Flight M
@@ -212,7 +169,7 @@ module _ {M : Type 0} (Granted : Type 0) (same : M → M → Bool) (task : Task 
   writing_reply = reply_with task.outline stands task.returns
 
   own_key : key_of w.opened.op ≡ key_of task.outline
-  own_key = sym (key_outline w.opened.op) ∙ ap (λ (o : Outline). key_of o) w.opened.outline
+  own_key = key_is w.opened.op task.outline w.opened.outline
 
   seen_stands : (m : Pairs M) → lookup m (key_of task.outline) ≡ stands → lookup m (key_of w.opened.op) ≡ stands
   seen_stands m there = ap (λ k. lookup m k) own_key ∙ there
@@ -224,7 +181,7 @@ module _ {M : Type 0} (Granted : Type 0) (same : M → M → Bool) (task : Task 
       (change_replied same m w.opened.op task.asking stands w.value task.returns w.change w.opened.returned (seen_stands m there))
 
   last_seen : SeesPayloads Granted same writing_call → lookup (seen_map writing_call) (key_of task.outline) ≡ stands
-  last_seen sees = found_alone (key_of task.outline) (seen_payload task.last) ∙ w.seen sees
+  last_seen sees = alone_there (key_of task.outline) (seen_payload task.last) ∙ w.seen sees
 
   -- the reply is what the map's call replies where this stands
   pub replies : IsLocal Granted same writing_call writing_reply

@@ -35,11 +35,12 @@ use Rattle.congee_store.proofs.Options.{none_some, some_same}
 use Rattle.congee_store.proofs.Reaching.{one, seen_at}
 use Rattle.congee_store.proofs.Records.{at}
 use Rattle.congee_store.proofs.Unlike.{decided_open}
+use Rattle.congee_store.proofs.Members.{first_in, next_in}
 use Rattle.congee_links.proofs.Detaching.{TakesOut as Takes, taken_effect, taken_takes}
 use Rattle.congee_links.proofs.Effects.{Effect, OthersStay}
 use Rattle.congee_links.proofs.Writing.{IsLeafFor, answered, leaf_nodes}
-use Rattle.congee_writing.proofs.Deciding.{AnswersPair, StandsAt, becomes_of, entries_after, held_locked, with_reply, writes_answer}
-use Rattle.congee_writing.proofs.Parents.{first_in, later_in, holders_of}
+use Rattle.congee_writing.proofs.Deciding.{AnswersPair, StandsAt, becomes_of, entries_after, held_locked, with_reply, write_course, writes_answer}
+use Rattle.congee_writing.proofs.Parents.{holders_of}
 use Rattle.congee_writing.proofs.Showing.{ShownBy, linked_shown, linked_there, nodes_are, put_map, put_shown, Rises-linked, with_here, with_others, with_slot}
 
 module _ {V : Type 0} where
@@ -163,7 +164,7 @@ module _ {M : Type 0} (Granted : Type 0) (same : M → M → Bool) (t t' : Table
     }
 
     taken : Effect t t' root (Holding (Tail (Detach pair))) (λ z. z ≤ books.count) (p ∷ q ∷ []) (p ∷ q ∷ [])
-    taken = taken_effect takes root placed (Holding (Tail (Detach pair))) (λ z. z ≤ books.count) (inl (later_in p q (p ∷ []) (first_in p []))) (inl (first_in q (p ∷ [])))
+    taken = taken_effect takes root placed (Holding (Tail (Detach pair))) (λ z. z ≤ books.count) (inl (next_in q p (p ∷ []) (first_in p []))) (inl (first_in q (p ∷ [])))
 
     pub taken_placed : IsPlaced t' root
     taken_placed = taken.placed
@@ -173,7 +174,7 @@ module _ {M : Type 0} (Granted : Type 0) (same : M → M → Bool) (t t' : Table
         → DoesAs Granted same s s' id (flight pin (at (Tail (Detach pair)) task)) env (report_of kind.Write (Some p) 0 true) (Decided (reply_with task.outline stands task.returns)) kind.Write
     does_taken s s' id shows shows' map map' after =
         let call : Flight M = flight pin (at (Tail (Detach pair)) task) in
-        let mine : HeldNode s call = record { slot = p; node = one a; mine = later_in p q (p ∷ []) (first_in p []); here = seen_at t root s shows p a own.held.above.linked.here } in
+        let mine : HeldNode s call = record { slot = p; node = one a; mine = next_in q p (p ∷ []) (first_in p []); here = seen_at t root s shows p a own.held.above.linked.here } in
         let leaf : HeldNode s call = record { slot = q; node = one b; mine = first_in q (p ∷ []); here = seen_at t root s shows q b own.held.here.linked.here } in
         writes_answer Granted same task (Tail (Detach pair)) pin stands own.work.writes s s' id env (flight pin (at (Tail (Obsolete pair)) (with_reply task))) books books' after count charge
         mine None (Some (q, one b))
@@ -211,14 +212,7 @@ module _ {M : Type 0} (Granted : Type 0) (same : M → M → Bool) (t t' : Table
           holds = λ s h. inl h;
           holders = holders_of t t' (both_slots pair) [] (p ∷ q ∷ []) (p ∷ q ∷ []) taken.needs
               (λ s h. elim h [ inl e ↦ inr (inl e) | inr (inl e) ↦ inl e | inr (inr none) ↦ absurd none ]) (λ s h. absurd h);
-          course = record {
-            touches = λ slot e make. inr (inr (inl (some_same p slot e)));
-            names = λ slot h. inr (inl h);
-            reads = λ slot h. absurd h;
-            outline = refl;
-            keeps = λ current slot word h. absurd (none_some word h);
-            falls = λ served. inr (omega arith);
-          };
+          course = write_course t t' root task env (Detach pair) (Obsolete pair) p _ (inr (inl refl)) refl refl (omega arith);
           does = does_taken;
           carries = becomes_of Granted same task (Tail (Detach pair)) pin stands w t t' root books books' placed taken.placed small
               (subst (λ (z : Option M). StandsAt t k z) (sym found_is) (leaf_keeps Granted same t task pair own))

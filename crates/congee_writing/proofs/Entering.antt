@@ -33,10 +33,11 @@ use Rattle.congee_store.proofs.Reaching.{one, seen_at}
 use Rattle.congee_store.proofs.Ways.{absent_here, present_here, longer-begins}
 use Rattle.congee_store.proofs.Unlike.{decided_open}
 use Rattle.congee_store.proofs.Records.{at}
+use Rattle.congee_store.proofs.Members.{listed, told}
 use Rattle.congee_links.proofs.Effects.{Effect, beside_one}
 use Rattle.congee_links.proofs.Entries.{WritesPayload, entry_effect, entry_puts, entry_takes, payload}
 use Rattle.congee_links.proofs.Writing.{answered}
-use Rattle.congee_writing.proofs.Deciding.{AnswersPair, StandsAt, becomes_of, entries_after, held_locked, listed, nodes_written, put_fits, takes_none, told, with_reply, writes_answer}
+use Rattle.congee_writing.proofs.Deciding.{AnswersPair, StandsAt, becomes_of, entries_after, held_locked, nodes_written, put_fits, takes_none, with_reply, write_course, writes_answer}
 
 -- what fits leaves room for fewer
 fewer_within : (most : Option ℕ) (m n : ℕ) → m ≤ n → Within most n → Within most m
@@ -169,14 +170,7 @@ module _ {M : Type 0} (Granted : Type 0) (same : M → M → Bool) (t t' : Table
             | inl named ↦ inl (inl (listed s (spot.slot ∷ []) named))
             | inr more ↦ inr (more.0, (λ h. elim h [ inl held ↦ more.1 (told s (spot.slot ∷ []) held) | inr made ↦ told s [] made ]))
           ];
-          course = record {
-            touches = λ slot e make. inr (inl (some_same spot.slot slot e));
-            names = λ slot h. inr (inl h);
-            reads = λ slot h. absurd h;
-            outline = refl;
-            keeps = λ current slot word h. absurd (none_some word h);
-            falls = λ served. inr (omega arith);
-          };
+          course = write_course t t' root task env (Write spot) (Unlock spot) spot.slot _ (inl refl) refl refl (omega arith);
           does = λ s s' id shows shows' map map' step.
               writes_answer Granted same task (Tail (Write spot)) pin stands writes s s' id env (flight pin (at (Tail (Unlock spot)) (with_reply task))) books books' step count charge
               (record { slot = spot.slot; node = one a; mine = listed spot.slot (spot.slot ∷ []) (inl refl); here = seen_at t root s shows spot.slot a facts.at.held.linked.here })

@@ -32,10 +32,11 @@ use Rattle.congee_store.proofs.Replies.{change_enters}
 use Rattle.congee_store.proofs.Ways.{absent_here}
 use Rattle.congee_store.proofs.Unlike.{decided_open}
 use Rattle.congee_store.proofs.Records.{at}
+use Rattle.congee_store.proofs.Members.{listed, told}
 use Rattle.congee_links.proofs.Effects.{Effect, beside_two}
 use Rattle.congee_links.proofs.Linking.{Links, link_effect, link_puts}
 use Rattle.congee_links.proofs.Writing.{IsLeafFor, Publishes, answered, published_new}
-use Rattle.congee_writing.proofs.Deciding.{AnswersPair, becomes_of, held_locked, listed, nodes_written, put_fits, told, with_reply, writes_child}
+use Rattle.congee_writing.proofs.Deciding.{AnswersPair, becomes_of, held_locked, nodes_written, put_fits, with_reply, write_course, writes_child}
 
 not_both : {b : Bool} → b ≡ false → b ≡ true → ⊥
 not_both e f = cc
@@ -159,14 +160,7 @@ module _ {M : Type 0} (Granted : Type 0) (same : M → M → Bool) (t t' : Table
               ]),
             )
           ];
-          course = record {
-            touches = λ slot e make. inr (inl (some_same spot.slot slot e));
-            names = λ slot h. inr (inl h);
-            reads = λ slot h. absurd h;
-            outline = refl;
-            keeps = λ current slot word h. absurd (none_some word h);
-            falls = λ served. inr (omega arith);
-          };
+          course = write_course t t' root task env (Link spot leaf) (Unlock spot) spot.slot _ (inl refl) refl refl (omega arith);
           does = λ s s' id shows shows' map map' step.
               writes_child Granted same task (Tail (Link spot leaf)) pin None writes s s' id env (flight pin (at (Tail (Unlock spot)) (with_reply task))) books books' step count charge
               (record { slot = spot.slot; node = one a; mine = listed spot.slot (spot.slot ∷ []) (inl refl); here = seen_at t root s shows spot.slot a facts.at.0.held.linked.here })

@@ -35,6 +35,7 @@ use Rattle.congee_store.proofs.Options.{none_some, some_same}
 use Rattle.congee_store.proofs.Reaching.{one, seen_at}
 use Rattle.congee_store.proofs.Ways.{longer-begins}
 use Rattle.congee_store.proofs.Unlike.{cons_none}
+use Rattle.congee_store.proofs.Members.{first_in}
 use Rattle.congee_writing.specs.inner.Makings.{AddsBuilt, AreOfKind, IsBetween, IsGrownFor, IsOwnOf}
 use Rattle.congee_writing.proofs.Copies.{copy_new, middle_new}
 use Rattle.congee_writing.proofs.CopyLaws.{may_from}
@@ -42,9 +43,6 @@ use Rattle.congee_writing.proofs.MakingEvents.{granted_moves}
 use Rattle.congee_writing.proofs.MakingFacts.{Enters, copy_enters, copy_made, middle_made}
 use Rattle.congee_writing.proofs.MakingMoves.{at}
 use Rattle.congee_writing.proofs.MakingTurns.{built_is}
-
-first-in : (s : ℕ) (xs : List ℕ) → IsTrue (is_in s (s ∷ xs))
-first-in s xs = rw (eq-eqb s s refl) refl
 
 module _ {M : Type 0} where
   -- each child of a linked node is of its kind
@@ -139,7 +137,7 @@ module _ {P A M : Type 0} (meaning : P → M) (charge : A → Option ℕ) (Grant
         (record { holds = cons_none pair.here.slot (pair.above.slot ∷ []); held = refl; named = refl; spots = refl })
         slot (meant_node meaning adds.node) adds.adds refl (omega arith)
         (λ s shows. subst (λ (a : TableNode M). IsNew s (flight pin (at (Grow pair leaf) job)) a) (sym is)
-        (copy_new s pin job pair leaf (held_node s old.store.root t shows (Grow pair leaf) pair.here.slot x held.linked (first-in pair.here.slot (pair.above.slot ∷ []))) child
+        (copy_new s pin job pair leaf (held_node s old.store.root t shows (Grow pair leaf) pair.here.slot x held.linked (first_in pair.here.slot (pair.above.slot ∷ []))) child
         grow.way (kept.placed.ordered pair.here.slot x held.linked) short fits grow.full grow.none (placed_kinds t old.store.root pair.here.slot x kept.placed held.linked)
         (own_may t x.node.prefix leaf child own grow.kind short) (own_flight pair t leaf child own)))
         (copy_made t (table_in meaning charge new) Granted same job slot (meant_node meaning adds.node) adds.adds.empty adds.adds.here adds.adds.others pair leaf facts.at.0 child own is)
@@ -163,6 +161,6 @@ module _ {P A M : Type 0} (meaning : P → M) (charge : A → Option ℕ) (Grant
         (record { holds = cons_none pair.here.slot (pair.above.slot ∷ []); held = refl; named = refl; spots = refl })
         slot (meant_node meaning adds.node) adds.adds refl (omega arith)
         (λ s shows. subst (λ (a : TableNode M). IsNew s (flight pin (at (MakeMiddle pair leaf) job)) a) (sym is)
-        (middle_new s pin job pair leaf p (held_node s old.store.root t shows (MakeMiddle pair leaf) pair.here.slot x held.linked (first-in pair.here.slot (pair.above.slot ∷ []))) fork
+        (middle_new s pin job pair leaf p (held_node s old.store.root t shows (MakeMiddle pair leaf) pair.here.slot x held.linked (first_in pair.here.slot (pair.above.slot ∷ []))) fork
         (kept.placed.bytes pair.here.slot x held.linked) (kept.placed.short pair.here.slot x held.linked)))
         (middle_made t (table_in meaning charge new) Granted same job slot (meant_node meaning adds.node) adds.adds.empty adds.adds.here adds.adds.others pair leaf facts.at.0 facts.at.1 p fork is)

@@ -1,6 +1,5 @@
 -- WRITES AT THE PARENT as events of a call: the copy or the middle node takes the place of the call's node, which decides the call.
 use Rattle.std.proofs.Common.{◌≡◌, ◌≢◌, ℕ, ◌+◌, ◌^◌, ◌<◌, ◌≤◌, Bool, true, false, IsTrue, List, [], ◌∷◌, length, Option, Some, None, ◌⊎◌, inl, inr, refl, sym, subst, ap, ◌∙◌, arith}
-use Rattle.std.proofs.lemmas.Bool.{eq-eqb, ne_eqb, cases_eq}
 use Rattle.std.proofs.lemmas.Bool.Decides.{eqb_tells}
 use Rattle.congee_base.specs.Form.{Fits}
 use Rattle.congee_map.specs.Map.{IsMap, lookup, put}
@@ -35,35 +34,21 @@ use Rattle.congee_store.proofs.Reaching.{one, seen_at}
 use Rattle.congee_store.proofs.Unlike.{linked_private, decided_open}
 use Rattle.congee_store.proofs.Records.{at}
 use Rattle.congee_store.proofs.Replies.{change_enters}
+use Rattle.congee_store.proofs.Members.{first_in, listed, next_in, told, true_or_false}
 use Rattle.congee_links.proofs.Effects.{OthersStay, Effect, Beside}
 use Rattle.congee_links.proofs.Growing.{grown_leaf_effect, grown_leaf_puts, grown_inner_effect, grown_inner_puts}
 use Rattle.congee_links.proofs.Pairs.{PutsPair}
 use Rattle.congee_links.proofs.Splitting.{split_effect, split_puts}
 use Rattle.congee_links.proofs.Writing.{answered}
-use Rattle.congee_writing.proofs.Deciding.{AnswersPair, StandsAt, ShowsWrite, becomes_of, entries_after, listed, nodes_written, told, with_reply, writes_child}
+use Rattle.congee_writing.proofs.Deciding.{AnswersPair, ShowsWrite, StandsAt, becomes_of, entries_after, nodes_written, with_reply, write_course, writes_child}
 use Rattle.congee_writing.proofs.Growths.{BecomesLinked, LeadsNow, IsPrivate, copy_private, middle_private, above_inner, grows_leaf, grows_inner, splits, copied_absent, split_absent}
-
--- a test of a list finds what is in it
-pub first_in : (n : ℕ) (xs : List ℕ) → IsTrue (is_in n (n ∷ xs))
-first_in n xs = rw (eq-eqb n n refl) refl
-
-pub later_in : (n x : ℕ) (xs : List ℕ) → IsTrue (is_in n xs) → IsTrue (is_in n (x ∷ xs))
-later_in n x xs h =
-    elim (cases_eq x n) [
-      | inl e ↦ rw (eq-eqb x n e) refl
-      | inr far ↦ rw (ne_eqb x n far) h
-    ]
 
 not_in : (b : Bool) → b ≡ false → IsTrue b → ⊥
 not_in b e h = cc
 
-test_or : (b : Bool) → (b ≡ true) ⊎ (b ≡ false)
-test_or true = inl refl
-test_or false = inr refl
-
 out_list : (n : ℕ) (xs : List ℕ) → (IsIn n xs → ⊥) → is_in n xs ≡ false
 out_list n xs out =
-    elim (test_or (is_in n xs)) [
+    elim (true_or_false (is_in n xs)) [
       | inl e ↦ absurd (out (told n xs e))
       | inr e ↦ e
     ]
@@ -74,7 +59,7 @@ module _ {M : Type 0} where
       → ((s : ℕ) → IsIn s named → IsIn s held) → ((s : ℕ) → IsIn s made → IsIn s written)
       → (s : ℕ) → NeedsHolder t' s → (IsTrue (is_in s held) ⊎ IsTrue (is_in s [])) ⊎ (NeedsHolder t s × ((IsTrue (is_in s held) ⊎ IsTrue (is_in s made)) → ⊥))
   holders_of t t' held made written named needs to_held to_written s need =
-      elim (test_or (is_in s held)) [
+      elim (true_or_false (is_in s held)) [
         | inl e ↦ inl (inl e)
         | inr e ↦
             elim (needs s need) [
@@ -197,15 +182,8 @@ module _ {M : Type 0} (Granted : Type 0) (same : M → M → Bool) (t t' : Table
     privates = effect.privates;
     holds = λ s h. elim h [ inl mine ↦ inl (inl mine) | inr none ↦ absurd (not_in false refl none) ];
     holders = holders_of t t' (both_slots pair) (copy ∷ one_more leaf) (p ∷ q ∷ copy ∷ one_more leaf) (p ∷ q ∷ []) effect.needs both_in (λ s h. inr (inr h));
-    course = record {
-      touches = λ slot e make. inr (inr (inl (some_same p slot e)));
-      names = λ slot h. inr (inl h);
-      reads = λ slot h. absurd h;
-      outline = refl;
-      keeps = λ current slot word h. absurd (none_some word h);
-      falls = λ served. inr (omega arith);
-    };
-    does = does_above (Tail (Replace pair copy leaf)) (Tail (Obsolete pair)) copy held w (later_in p q (p ∷ []) (first_in p [])) (first_in copy (one_more leaf)) refl refl fits
+    course = write_course t t' root task env (Replace pair copy leaf) (Obsolete pair) p _ (inr (inl refl)) refl refl (omega arith);
+    does = does_above (Tail (Replace pair copy leaf)) (Tail (Obsolete pair)) copy held w (next_in q p (p ∷ []) (first_in p [])) (first_in copy (one_more leaf)) refl refl fits
         (shows_above copy (copy ∷ one_more leaf) held above published (λ o far out.
         elim (eqb_tells o q) [
           | inl same_slot ↦
@@ -249,15 +227,8 @@ module _ {M : Type 0} (Granted : Type 0) (same : M → M → Bool) (t t' : Table
         holds = λ s h. elim h [ inl mine ↦ inl (inl mine) | inr none ↦ absurd (not_in false refl none) ];
         holders = holders_of t t' (both_slots pair) (middle ∷ leaf ∷ []) (p ∷ middle ∷ leaf ∷ []) (p ∷ []) effect.needs
             (λ s h. elim h [ inl e ↦ inr (inl e) | inr none ↦ absurd none ]) (λ s h. inr h);
-        course = record {
-          touches = λ slot e make. inr (inr (inl (some_same p slot e)));
-          names = λ slot h. inr (inl h);
-          reads = λ slot h. absurd h;
-          outline = refl;
-          keeps = λ current slot word h. absurd (none_some word h);
-          falls = λ served. inr (omega arith);
-        };
-        does = does_above (Tail (Insert pair middle leaf)) (Tail (UnlockBelow pair)) middle held w (later_in p q (p ∷ []) (first_in p [])) (first_in middle (leaf ∷ [])) refl refl fits
+        course = write_course t t' root task env (Insert pair middle leaf) (UnlockBelow pair) p _ (inr (inl refl)) refl refl (omega arith);
+        does = does_above (Tail (Insert pair middle leaf)) (Tail (UnlockBelow pair)) middle held w (next_in q p (p ∷ []) (first_in p [])) (first_in middle (leaf ∷ [])) refl refl fits
             (shows_above middle (middle ∷ leaf ∷ []) held above published (λ o far out. ap shown (off o far out)));
         carries = becomes_of Granted same task (Tail (Insert pair middle leaf)) pin None w t t' root books books' placed effect.placed small absent (answers_entered w.value v is puts) (entries_entered w.value v is);
       }
@@ -277,7 +248,7 @@ module _ {M : Type 0} (Granted : Type 0) (same : M → M → Bool) (t t' : Table
       let mine : ℕ → Type 0 = Holding (Tail (Replace pair copy None)) in
       let value = entered own.work.writes in
       let g = grows_leaf Granted same t t' root task pair placed small copy own has value.0 (own.work.writes.stores ∙ value.1) above here (linked copy (inl refl)) others in
-      let effect = grown_leaf_effect g root placed mine (λ z. z ≤ books.count) (inl (later_in p q (p ∷ []) (first_in p []))) (inl (first_in q (p ∷ []))) (inr (first_in copy [])) in (
+      let effect = grown_leaf_effect g root placed mine (λ z. z ≤ books.count) (inl (next_in q p (p ∷ []) (first_in p []))) (inl (first_in q (p ∷ []))) (inr (first_in copy [])) in (
         effect.placed,
         replaced_by copy None own.held own.work.writes fits above here (published_by (copy ∷ []) (copy_private t task own.held.here.node copy None has) linked) others effect value.0 value.1
             (copied_absent Granted same t t' root task pair placed small own.held own.work.is.0 own.work.is.2)
@@ -287,8 +258,8 @@ module _ {M : Type 0} (Granted : Type 0) (same : M → M → Bool) (t t' : Table
       let mine : ℕ → Type 0 = Holding (Tail (Replace pair copy (Some leaf))) in
       let value = entered own.work.writes in
       let g = grows_inner Granted same t t' root task pair placed small copy leaf own has value.0 (own.work.writes.stores ∙ value.1) above here (linked copy (inl refl)) (linked leaf (inr (inl refl))) others in
-      let effect = grown_inner_effect g root placed mine (λ z. z ≤ books.count) (inl (later_in p q (p ∷ []) (first_in p []))) (inl (first_in q (p ∷ []))) (inr (first_in copy (leaf ∷ [])))
-      (inr (later_in leaf copy (leaf ∷ []) (first_in leaf []))) in (
+      let effect = grown_inner_effect g root placed mine (λ z. z ≤ books.count) (inl (next_in q p (p ∷ []) (first_in p []))) (inl (first_in q (p ∷ []))) (inr (first_in copy (leaf ∷ [])))
+      (inr (next_in copy leaf (leaf ∷ []) (first_in leaf []))) in (
         effect.placed,
         replaced_by copy (Some leaf) own.held own.work.writes fits above here (published_by (copy ∷ leaf ∷ []) (copy_private t task own.held.here.node copy (Some leaf) has) linked) others effect value.0 value.1
             (copied_absent Granted same t t' root task pair placed small own.held own.work.is.0 own.work.is.2)
@@ -305,8 +276,8 @@ module _ {M : Type 0} (Granted : Type 0) (same : M → M → Bool) (t t' : Table
       let mine : ℕ → Type 0 = Holding (Tail (Insert pair middle leaf)) in
       let value = entered own.work.writes in
       let g = splits Granted same t t' root task pair placed small middle leaf own has_leaf has value.0 (own.work.writes.stores ∙ value.1) above (linked middle (inl refl)) (linked leaf (inr (inl refl))) others in
-      let effect = split_effect g root placed mine (λ z. z ≤ books.count) (inl (later_in p q (p ∷ []) (first_in p []))) (inr (first_in middle (leaf ∷ [])))
-      (inr (later_in leaf middle (leaf ∷ []) (first_in leaf []))) in (
+      let effect = split_effect g root placed mine (λ z. z ≤ books.count) (inl (next_in q p (p ∷ []) (first_in p []))) (inr (first_in middle (leaf ∷ [])))
+      (inr (next_in middle leaf (leaf ∷ []) (first_in leaf []))) in (
         effect.placed,
         inserted_by middle leaf own.held own.work.writes fits above (published_by (middle ∷ leaf ∷ []) (middle_private t task q own.held.here.node middle leaf has_leaf has) linked) others effect value.0 value.1
             (split_absent Granted same t t' root task pair placed small own.held own.work.is)

@@ -15,6 +15,18 @@ use std::test::Fail;
 // More events than a call takes that is alone.
 pub(super) const MANY: usize = 41;
 
+const ONE: [(u64, u64); 1] = [(1, 42)];
+
+// Four keys of one leaf, and one more.
+pub(super) const FOUR: [(u64, u64); 4] = [(0, 0), (1, 1), (2, 2), (3, 3)];
+
+pub(super) const FIVE: [(u64, u64); 5] = [(0, 0), (1, 1), (2, 2), (3, 3), (4, 4)];
+
+// Four keys of one inner node, and one more.
+pub(super) const FOUR_APART: [(u64, u64); 4] = [(0, 0), (256, 1), (512, 2), (768, 3)];
+
+const FIVE_APART: [(u64, u64); 5] = [(0, 0), (256, 1), (512, 2), (768, 3), (1024, 4)];
+
 fn letter(kind: Kind) -> char {
     match kind {
         Kind::Start => 'S',
@@ -136,102 +148,159 @@ pub(super) fn ends_so(
     Ok(letters.as_str() == course && trace.content.as_slice() == content)
 }
 
-// Whether an insertion after these takes this course, and leaves this content.
-fn takes_course(
-    alloc: Global,
-    pairs: &[(u64, u64)],
+/// An insertion after others, the letters of its events, and what is stored then.
+#[derive(Clone, Copy)]
+struct Row<'a> {
+    pairs: &'a [(u64, u64)],
     last: (u64, u64),
-    course: &str,
-    content: &[(u64, u64)],
-) -> Result<bool, OOMError> {
-    let events = events_of(alloc, pairs, last)?;
+    course: &'a str,
+    content: &'a [(u64, u64)],
+}
+
+// Whether the insertion takes this course, and leaves this content.
+fn takes_course(alloc: Global, row: Row<'_>) -> Result<bool, OOMError> {
+    let events = events_of(alloc, row.pairs, row.last)?;
     let trace = replay(alloc, &events)?;
-    Ok(ends_so(alloc, &trace, pairs.len(), course, content)?)
+    Ok(ends_so(alloc, &trace, row.pairs.len(), row.course, row.content)?)
+}
+
+// The course of the first row that goes otherwise.
+fn wrong_course<'a>(alloc: Global, rows: &[Row<'a>]) -> Result<Option<&'a str>, OOMError> {
+    for row in rows {
+        if !takes_course(alloc, *row)? {
+            return Ok(Some(row.course));
+        }
+    }
+    Ok(None)
 }
 
 // The same with a budget of so many bytes.
-fn takes_course_within(
-    alloc: Global,
-    bytes: u64,
-    pairs: &[(u64, u64)],
-    last: (u64, u64),
-    course: &str,
-    content: &[(u64, u64)],
-) -> Result<bool, OOMError> {
-    let events = events_of(alloc, pairs, last)?;
+fn takes_course_within(alloc: Global, bytes: u64, row: Row<'_>) -> Result<bool, OOMError> {
+    let events = events_of(alloc, row.pairs, row.last)?;
     let trace = replay_with(alloc, Budget::new(bytes), &events)?;
-    Ok(ends_so(alloc, &trace, pairs.len(), course, content)?)
+    Ok(ends_so(alloc, &trace, row.pairs.len(), row.course, row.content)?)
 }
+
+fn wrong_course_within<'a>(
+    alloc: Global,
+    rows: &[(u64, Row<'a>)],
+) -> Result<Option<&'a str>, OOMError> {
+    for (bytes, row) in rows {
+        if !takes_course_within(alloc, *bytes, *row)? {
+            return Ok(Some(row.course));
+        }
+    }
+    Ok(None)
+}
+
+const ROOM: [Row<'static>; 3] = [
+    Row {
+        pairs: &ONE,
+        last: (2, 2),
+        course: "STRCTCRCUWLF",
+        content: &[(1, 42), (2, 2)],
+    },
+    Row {
+        pairs: &ONE,
+        last: (1, 43),
+        course: "STRCTCRCUWLF",
+        content: &[(1, 43)],
+    },
+    Row {
+        pairs: &ONE,
+        last: (1, 42),
+        course: "STRCTCRCF",
+        content: &ONE,
+    },
+];
 
 #[test]
 fn a_leaf_with_room_takes_the_payload(rt: HostRuntime) -> Result<(), Fail> {
-    let one = [(1, 42)];
-    assert!(rt; takes_course(rt.alloc(), &one, (2, 2), "STRCTCRCUWLF", &[(1, 42), (2, 2)])?);
-    assert!(rt; takes_course(rt.alloc(), &one, (1, 43), "STRCTCRCUWLF", &[(1, 43)])?);
-    assert!(rt; takes_course(rt.alloc(), &one, (1, 42), "STRCTCRCF", &one)?);
+    assert_eq!(rt; wrong_course(rt.alloc(), &ROOM)?, None);
     Ok(())
 }
+
+const NEW_LEAF: [Row<'static>; 1] = [Row {
+    pairs: &[],
+    last: (1, 42),
+    course: "STRCUAWLF",
+    content: &ONE,
+}];
 
 #[test]
 fn an_inner_node_gets_a_leaf(rt: HostRuntime) -> Result<(), Fail> {
-    assert!(rt; takes_course(rt.alloc(), &[], (1, 42), "STRCUAWLF", &[(1, 42)])?);
+    assert_eq!(rt; wrong_course(rt.alloc(), &NEW_LEAF)?, None);
     Ok(())
 }
+
+const SPLIT: [Row<'static>; 1] = [Row {
+    pairs: &ONE,
+    last: (256, 2),
+    course: "STRCTCUUAAWLLF",
+    content: &[(1, 42), (256, 2)],
+}];
 
 #[test]
 fn a_prefix_is_split(rt: HostRuntime) -> Result<(), Fail> {
-    let both = [(1, 42), (256, 2)];
-    assert!(rt; takes_course(rt.alloc(), &[(1, 42)], (256, 2), "STRCTCUUAAWLLF", &both)?);
+    assert_eq!(rt; wrong_course(rt.alloc(), &SPLIT)?, None);
     Ok(())
 }
 
-// Four keys of one leaf, and of one inner node.
-pub(super) fn four(step: u64) -> [(u64, u64); 4] {
-    [
-        (0, 0),
-        (step, 1),
-        (step.wrapping_mul(2), 2),
-        (step.wrapping_mul(3), 3),
-    ]
-}
-
-// And one more.
-fn five(step: u64) -> [(u64, u64); 5] {
-    [
-        (0, 0),
-        (step, 1),
-        (step.wrapping_mul(2), 2),
-        (step.wrapping_mul(3), 3),
-        (step.wrapping_mul(4), 4),
-    ]
-}
+const GROWTH: [Row<'static>; 2] = [
+    Row {
+        pairs: &FOUR,
+        last: (4, 4),
+        course: "STRCTCRCUUAWOLF",
+        content: &FIVE,
+    },
+    Row {
+        pairs: &FOUR_APART,
+        last: (1024, 4),
+        course: "STRCTCRCUUAAWOLF",
+        content: &FIVE_APART,
+    },
+];
 
 #[test]
 fn a_full_node_grows(rt: HostRuntime) -> Result<(), Fail> {
-    let leaf = takes_course(rt.alloc(), &four(1), (4, 4), "STRCTCRCUUAWOLF", &five(1))?;
-    assert!(rt; leaf);
-    let inner = takes_course(
-        rt.alloc(),
-        &four(256),
-        (1024, 4),
-        "STRCTCRCUUAAWOLF",
-        &five(256),
-    )?;
-    assert!(rt; inner);
+    assert_eq!(rt; wrong_course(rt.alloc(), &GROWTH)?, None);
     Ok(())
 }
 
+// The middle node of a split is refused, its leaf is, and a leaf comes where the refused ones were given back.
+const REFUSED: [(u64, Row<'static>); 3] = [
+    (
+        2232,
+        Row {
+            pairs: &[(0, 0)],
+            last: (256, 2),
+            course: "STRCTCUUAaLLF",
+            content: &[(0, 0)],
+        },
+    ),
+    (
+        2168,
+        Row {
+            pairs: &[(0, 0)],
+            last: (256, 2),
+            course: "STRCTCUUaLLF",
+            content: &[(0, 0)],
+        },
+    ),
+    (
+        2232,
+        Row {
+            pairs: &[(0, 0), (256, 2)],
+            last: (72057594037927936, 5),
+            course: "STRCUAWLF",
+            content: &[(0, 0), (72057594037927936, 5)],
+        },
+    ),
+];
+
 #[test]
 fn a_refused_node_gives_the_others_back(rt: HostRuntime) -> Result<(), Fail> {
-    let first = [(0, 0)];
-    let refused = takes_course_within(rt.alloc(), 2232, &first, (256, 2), "STRCTCUUAaLLF", &first)?;
-    assert!(rt; refused);
-    let earlier = takes_course_within(rt.alloc(), 2168, &first, (256, 2), "STRCTCUUaLLF", &first)?;
-    assert!(rt; earlier);
-    let both = [(0, 0), (256, 2)];
-    let far = (72057594037927936, 5);
-    let after = [(0, 0), (72057594037927936, 5)];
-    assert!(rt; takes_course_within(rt.alloc(), 2232, &both, far, "STRCUAWLF", &after)?);
+    assert_eq!(rt; wrong_course_within(rt.alloc(), &REFUSED)?, None);
     Ok(())
 }
 
@@ -294,13 +363,28 @@ fn wrong_failure(
     Ok(None)
 }
 
+// Insertions, and one more whose upgrades fail.
+const UPGRADES: [(&'static [(u64, u64)], (u64, u64)); 5] = [
+    (&ONE, (2, 2)),
+    (&[], (1, 42)),
+    (&ONE, (256, 2)),
+    (&FOUR, (4, 4)),
+    (&FOUR_APART, (1024, 4)),
+];
+
+// The place of the first row that goes wrong.
+fn wrong_upgrade(alloc: Global) -> Result<Option<usize>, OOMError> {
+    for (place, (pairs, last)) in UPGRADES.iter().enumerate() {
+        if wrong_failure(alloc, pairs, *last)?.is_some() {
+            return Ok(Some(place));
+        }
+    }
+    Ok(None)
+}
+
 #[test]
 fn an_upgrade_that_fails_is_made_again(rt: HostRuntime) -> Result<(), Fail> {
-    assert_eq!(rt; wrong_failure(rt.alloc(), &[(1, 42)], (2, 2))?, None);
-    assert_eq!(rt; wrong_failure(rt.alloc(), &[], (1, 42))?, None);
-    assert_eq!(rt; wrong_failure(rt.alloc(), &[(1, 42)], (256, 2))?, None);
-    assert_eq!(rt; wrong_failure(rt.alloc(), &four(1), (4, 4))?, None);
-    assert_eq!(rt; wrong_failure(rt.alloc(), &four(256), (1024, 4))?, None);
+    assert_eq!(rt; wrong_upgrade(rt.alloc())?, None);
     Ok(())
 }
 
@@ -337,37 +421,107 @@ fn wrong_place(
     Ok(None)
 }
 
+/// Insertions, and two more, the second one whole after each number of events of the first.
+#[derive(Clone, Copy)]
+struct Two<'a> {
+    pairs: &'a [(u64, u64)],
+    first: (u64, u64),
+    second: (u64, u64),
+}
+
+// The second insertion of the first row that goes wrong.
+fn wrong_two(alloc: Global, rows: &[Two<'_>]) -> Result<Option<(u64, u64)>, OOMError> {
+    for two in rows {
+        if wrong_place(alloc, two.pairs, two.first, two.second)?.is_some() {
+            return Ok(Some(two.second));
+        }
+    }
+    Ok(None)
+}
+
+const IN_ONE_LEAF: [Two<'static>; 4] = [
+    Two {
+        pairs: &ONE,
+        first: (2, 2),
+        second: (3, 3),
+    },
+    Two {
+        pairs: &ONE,
+        first: (2, 2),
+        second: (2, 3),
+    },
+    Two {
+        pairs: &ONE,
+        first: (1, 43),
+        second: (1, 44),
+    },
+    Two {
+        pairs: &[],
+        first: (1, 42),
+        second: (2, 2),
+    },
+];
+
 #[test]
 fn two_insertions_in_one_leaf(rt: HostRuntime) -> Result<(), Fail> {
-    let one = [(1, 42)];
-    assert_eq!(rt; wrong_place(rt.alloc(), &one, (2, 2), (3, 3))?, None);
-    assert_eq!(rt; wrong_place(rt.alloc(), &one, (2, 2), (2, 3))?, None);
-    assert_eq!(rt; wrong_place(rt.alloc(), &one, (1, 43), (1, 44))?, None);
-    assert_eq!(rt; wrong_place(rt.alloc(), &[], (1, 42), (2, 2))?, None);
+    assert_eq!(rt; wrong_two(rt.alloc(), &IN_ONE_LEAF)?, None);
     Ok(())
 }
+
+const IN_FULL_NODES: [Two<'static>; 4] = [
+    Two {
+        pairs: &FOUR,
+        first: (4, 4),
+        second: (5, 5),
+    },
+    Two {
+        pairs: &FOUR,
+        first: (4, 4),
+        second: (1, 7),
+    },
+    Two {
+        pairs: &FOUR_APART,
+        first: (1024, 4),
+        second: (1280, 5),
+    },
+    Two {
+        pairs: &FOUR_APART,
+        first: (1024, 4),
+        second: (1, 7),
+    },
+];
 
 #[test]
 fn two_insertions_in_full_nodes(rt: HostRuntime) -> Result<(), Fail> {
-    assert_eq!(rt; wrong_place(rt.alloc(), &four(1), (4, 4), (5, 5))?, None);
-    assert_eq!(rt; wrong_place(rt.alloc(), &four(1), (4, 4), (1, 7))?, None);
-    assert_eq!(rt;
-        wrong_place(rt.alloc(), &four(256), (1024, 4), (1280, 5))?,
-        None
-    );
-    assert_eq!(rt;
-        wrong_place(rt.alloc(), &four(256), (1024, 4), (1, 7))?,
-        None
-    );
+    assert_eq!(rt; wrong_two(rt.alloc(), &IN_FULL_NODES)?, None);
     Ok(())
 }
 
+const AT_A_SPLIT: [Two<'static>; 4] = [
+    Two {
+        pairs: &ONE,
+        first: (256, 2),
+        second: (2, 3),
+    },
+    Two {
+        pairs: &ONE,
+        first: (256, 2),
+        second: (512, 3),
+    },
+    Two {
+        pairs: &ONE,
+        first: (256, 2),
+        second: (65536, 3),
+    },
+    Two {
+        pairs: &ONE,
+        first: (2, 2),
+        second: (256, 3),
+    },
+];
+
 #[test]
 fn two_insertions_at_a_split(rt: HostRuntime) -> Result<(), Fail> {
-    let one = [(1, 42)];
-    assert_eq!(rt; wrong_place(rt.alloc(), &one, (256, 2), (2, 3))?, None);
-    assert_eq!(rt; wrong_place(rt.alloc(), &one, (256, 2), (512, 3))?, None);
-    assert_eq!(rt; wrong_place(rt.alloc(), &one, (256, 2), (65536, 3))?, None);
-    assert_eq!(rt; wrong_place(rt.alloc(), &one, (2, 2), (256, 3))?, None);
+    assert_eq!(rt; wrong_two(rt.alloc(), &AT_A_SPLIT)?, None);
     Ok(())
 }

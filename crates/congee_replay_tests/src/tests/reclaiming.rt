@@ -2,7 +2,7 @@
 //!
 //! The first leaf of a schedule has slot 1.
 
-use crate::tests::insertions::{MANY, push_all};
+use crate::tests::insertions::{FIVE, FOUR, MANY, push_all};
 use crate::tests::parts::{
     Call, Part, Row, Wanted, is_legal, push_answered, push_parts, wrong_row,
 };
@@ -12,10 +12,6 @@ use congee_protocol::types::{Event, Kind, Report};
 use congee_replay::replay::replay;
 use std::alloc::{AllocError, Global};
 use std::test::Fail;
-
-const FOUR: [(u64, u64); 4] = [(0, 0), (1, 1), (2, 2), (3, 3)];
-
-const FIVE: [(u64, u64); 5] = [(0, 0), (1, 1), (2, 2), (3, 3), (4, 4)];
 
 // The leaf grows while a Get is on the way to it: its slot stays until the Get has ended.
 const READER_INSIDE: [Row<'static>; 1] = [Row {

@@ -2,7 +2,7 @@
 
 ghost use Rattle.std.specs.Prelude.{None};
 
-use crate::tests::insertions::{MANY, four, is_history, push_all, push_insert};
+use crate::tests::insertions::{FOUR, FOUR_APART, MANY, is_history, push_all, push_insert};
 use congee_base::base_node::NodeSize;
 use congee_map::error::OOMError;
 use congee_node_table::allocator::{Allocator, Budget};
@@ -87,18 +87,33 @@ fn wrong_request(
     Ok(None)
 }
 
+// Insertions, one more, and how many nodes all of them request.
+const REQUESTS: [(&'static [(u64, u64)], (u64, u64), u64); 4] = [
+    (&[], (1, 42), 2),
+    (&[(1, 42)], (256, 2), 4),
+    (&FOUR, (4, 4), 3),
+    (&FOUR_APART, (1024, 4), 8),
+];
+
+// The place of the first row that goes wrong.
+fn wrong_requests(alloc: Global) -> Result<Option<usize>, OOMError> {
+    for (place, (pairs, last, requests)) in REQUESTS.iter().enumerate() {
+        if wrong_request(alloc, pairs, *last, *requests)?.is_some() {
+            return Ok(Some(place));
+        }
+    }
+    Ok(None)
+}
+
 #[test]
 fn each_node_refused_once_loses_one_insertion(rt: HostRuntime) -> Result<(), Fail> {
-    assert_eq!(rt; wrong_request(rt.alloc(), &[], (1, 42), 2)?, None);
-    assert_eq!(rt; wrong_request(rt.alloc(), &[(1, 42)], (256, 2), 4)?, None);
-    assert_eq!(rt; wrong_request(rt.alloc(), &four(1), (4, 4), 3)?, None);
-    assert_eq!(rt; wrong_request(rt.alloc(), &four(256), (1024, 4), 8)?, None);
+    assert_eq!(rt; wrong_requests(rt.alloc())?, None);
     Ok(())
 }
 
 // Whether the history is legal with a budget of so many bytes.
 fn is_legal_within(alloc: Global, bytes: u64) -> Result<bool, OOMError> {
-    let events = events_twice(alloc, &four(256), (1024, 4))?;
+    let events = events_twice(alloc, &FOUR_APART, (1024, 4))?;
     let trace = replay_with(alloc, Budget::new(bytes), &events)?;
     Ok(is_history(alloc, &trace)?)
 }

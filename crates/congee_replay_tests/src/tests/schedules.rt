@@ -1,5 +1,6 @@
 //! Whole schedules on the fresh machine, and what their traces say.
 
+use crate::tests::parts::{Call, Part, push_parts};
 use congee_map::error::OOMError;
 use congee_node_table::allocator::Budget;
 use congee_protocol::trace::{Line, Trace};
@@ -61,23 +62,21 @@ fn misses_of(trace: &Trace, misses: &mut Vec<(u64, Option<u64>)>) -> Result<(), 
 }
 
 // Two Gets in turn, with events that aren't enabled between theirs.
-fn two_gets() -> [Event<u64>; 13] {
-    [
-        Event::Start(7, Op::Get(1)),
-        Event::Start(7, Op::Get(2)),
-        plain(8),
-        plain(7),
-        Event::Start(8, Op::Get(256)),
-        plain(8),
-        plain(7),
-        Event::Reclaim(0),
-        plain(7),
-        plain(8),
-        plain(7),
-        plain(7),
-        plain(8),
-    ]
-}
+const TWO_GETS: [Part; 13] = [
+    Part::Start(7, Call::Get(1)),
+    Part::Start(7, Call::Get(2)),
+    Part::Steps(8, 1, None),
+    Part::Steps(7, 1, None),
+    Part::Start(8, Call::Get(256)),
+    Part::Steps(8, 1, None),
+    Part::Steps(7, 1, None),
+    Part::Reclaim(0),
+    Part::Steps(7, 1, None),
+    Part::Steps(8, 1, None),
+    Part::Steps(7, 1, None),
+    Part::Steps(7, 1, None),
+    Part::Steps(8, 1, None),
+];
 
 // What the trace of these events has: a letter a line, the misses, and how many pairs stand at the end.
 fn told(
@@ -98,9 +97,11 @@ fn is_course_of_two(
     course: &str,
     decided: &[(u64, Option<u64>)],
 ) -> Result<bool, OOMError> {
+    let mut events = Vec::new(alloc);
+    push_parts(&mut events, &TWO_GETS)?;
     let mut letters = String::new(alloc);
     let mut misses = Vec::new(alloc);
-    let pairs = told(alloc, &two_gets(), &mut letters, &mut misses)?;
+    let pairs = told(alloc, &events, &mut letters, &mut misses)?;
     Ok(pairs == 0 && letters.as_str() == course && misses.as_slice() == decided)
 }
 
