@@ -1,8 +1,11 @@
 -- The mask of the first lanes.
-use Rattle.std.proofs.Common.{◌≡◌, ℕ, zero, suc, ◌+◌, ◌*◌, ◌^◌, ◌%◌, ◌<◌, ◌≤◌, Bool, List, [], ◌∷◌, length, take, drop, map, ap, ◌∙◌, arith, subst}
+use Rattle.std.proofs.Common.{◌≡◌, ℕ, zero, suc, ◌+◌, ◌-◌, ◌*◌, ◌^◌, ◌%◌, ◌<◌, ◌≤◌, Bool, true, false, List, [], ◌∷◌, length, take, drop, get_or, not, nat_lt, map, ap, ◌∙◌, arith, subst, inl, inr, length-take}
 use Rattle.std.specs.Simd.Lanes.{mask_l}
 use Rattle.std.proofs.lemmas.Simd.{mask_l-lt}
-use Rattle.std.proofs.lemmas.List.{take-map, length-take-le, length-map}
+use Rattle.std.proofs.lemmas.List.{take-map, length-take-le, length-map, get_or-take, get_or-drop}
+use Rattle.std.proofs.lemmas.List.Sums.{prefix_len_passes, prefix_len-le-length}
+use Rattle.std.proofs.lemmas.Bool.{cases_lt, lt-ltb}
+use Rattle.std.specs.List.{prefix_len}
 use Rattle.std.proofs.Math.Nat.{add-mul-mod_self_left, mod-eq_of_lt, pow-succ', mul_assoc}
 
 -- a mask is that of the first lanes, and that of the others above it
@@ -23,3 +26,16 @@ mask_first ms k l =
 -- of the lanes that pass p
 pub mask_first-map : {X : Type 0} (p : X → Bool) (xs : List X) (k : ℕ) → k ≤ length xs → mask_l (map p xs) % 2 ^ k ≡ mask_l (map p (take k xs))
 mask_first-map p xs k l = mask_first (map p xs) k (omega (arith, l, length-map xs p)) ∙ ap mask_l (take-map p k xs)
+
+-- the bytes that are passed in sixteen aren't below the limit
+pub lanes_free : (limit : ℕ) (bytes lanes : List ℕ) (at n skip : ℕ) → 16 ≤ n → lanes ≡ take 16 (take n (drop at bytes)) → skip ≡ prefix_len (λ x. not (nat_lt x limit)) lanes
+    → (b : ℕ) → at ≤ b → b < at + skip → limit ≤ get_or bytes b 0
+lanes_free limit bytes lanes at n skip long is passed b from to =
+    let k = b - at in
+    let few = prefix_len-le-length (λ x. not (nat_lt x limit)) lanes in
+    let most : length lanes ≤ 16 = omega (arith, ap length is, length-take 16 (take n (drop at bytes))) in
+    let place : at + k ≡ b = omega arith in
+    let same : get_or lanes k 0 ≡ get_or bytes b 0 =
+    ap (λ t. get_or t k 0) is ∙ get_or-take 16 (take n (drop at bytes)) k 0 (omega (arith, passed, few, most)) ∙ get_or-take n (drop at bytes) k 0 (omega (arith, passed, few, most)) ∙ get_or-drop at bytes k 0 ∙ ap (λ i. get_or bytes i 0) place in
+    let pass = prefix_len_passes (λ x. not (nat_lt x limit)) lanes k 0 (omega (arith, passed)) in
+    subst (λ x. limit ≤ x) same (elim (cases_lt (get_or lanes k 0) limit) [ inl less ↦ absurd (let t : false ≡ true = rw (lt-ltb (get_or lanes k 0) limit less) at pass in cc) | inr more ↦ more ])

@@ -1,7 +1,7 @@
 //! What all forms of nodes have, the size that each is charged, and the one contract that they meet.
 
-ghost use Rattle.std.specs.Prelude.{◌≡◌, ◌↔◌, ℕ, ◌+◌, ◌<◌, ◌≤◌, List, [], ◌∷◌, length, take, IsTrue, false, IsSome, Some, None, option_copied};
-ghost use Rattle.std.specs.Int.{w64, to_be_bytes};
+ghost use Rattle.std.specs.Prelude.{◌≡◌, ◌↔◌, ℕ, ◌+◌, ◌-◌, ◌<◌, ◌≤◌, List, [], ◌∷◌, ◌++◌, length, take, replicate, IsTrue, false, IsSome, Some, None, option_copied};
+ghost use Rattle.std.specs.Int.{w64, to_be_bytes, from_be_bytes};
 ghost use Rattle.congee_map.specs.Map.{lookup, put, without, between, Rises};
 ghost use Rattle.congee_base.specs.Form.{Fits, stated_size};
 ghost use Rattle.congee_base.specs.Rest.{rest};
@@ -89,6 +89,15 @@ fn begin_alike(bytes: &[u8; 8], length: u8, key: u64) -> bool
     (u64::from_be_bytes(*bytes) >> 8) >> rest == (key >> 8) >> rest
 }
 
+// The number of eight bytes that begin with so many of these; the others are 0.
+fn number_of(bytes: &[u8; 8], length: u8) -> u64
+    requires { length ≤ 7 }
+    ensures { result ≡ from_be_bytes w64 (take length bytes.now ++ replicate (8 - length) 0) }
+{
+    let rest = 56 - 8 * length as u32;
+    ((u64::from_be_bytes(*bytes) >> 8) >> rest) << rest << 8
+}
+
 impl BaseNode {
     /// The base of an empty node of a form.
     pub fn new(prefix: &[u8], form: NodeType) -> Self
@@ -119,6 +128,14 @@ impl BaseNode {
         ensures { IsTrue result ↔ (take (length self.now.prefix) (to_be_bytes w64 key) ≡ self.now.prefix) }
     {
         begin_alike(&self.bytes, self.bytes[7], key)
+    }
+
+    /// The least key that begins with the prefix.
+    pub fn first_key(&self) -> u64
+        ensures { result ≡ from_be_bytes w64
+            (self.now.prefix ++ replicate (8 - length self.now.prefix) 0) }
+    {
+        number_of(&self.bytes, self.bytes[7])
     }
 
     /// How many children the node has: 0 to 256.

@@ -40,3 +40,16 @@ pub fn rank(bytes: &[u8; 16], count: usize, byte: u8) -> usize
     let below = low_bits(lanes.simd_lt(u8x16::splat(byte)).to_bitmask(), count);
     below.count_ones() as usize
 }
+
+/// How many bytes stand before the first that is below this one; 16 where none is.
+pub fn first_below(bytes: &[u8; 16], limit: u8) -> usize
+    ensures { result ≡ prefix_len (λ x. not (nat_lt x limit)) bytes.now }
+{
+    let lanes = u8x16::from_array(*bytes);
+    let found = lanes.simd_lt(u8x16::splat(limit)).to_bitmask();
+    if found == 0 {
+        16
+    } else {
+        found.trailing_zeros() as usize
+    }
+}

@@ -27,7 +27,8 @@ pub fn unmark(words: &mut [u64; 4], byte: u8)
     words[byte as usize / 64] &= !(1 << (byte as usize % 64));
 }
 
-/// The first byte from this number on whose bit is set, or `None`. A word without set bits is passed in one step.
+/// The first byte from this number on whose bit is set, or `None`. A word without set bits is passed in one step, and the
+/// number itself is looked at first: where most bits are set, the processor needn't wait for a search.
 pub fn next_marked(words: &[u64; 4], from: usize) -> Option<u8>
     ensures order { IfSome result (λ byte. from ≤ byte) }
     ensures here { IfSome result (λ byte. mark_at words.now byte ≡ 1) }
@@ -36,6 +37,9 @@ pub fn next_marked(words: &[u64; 4], from: usize) -> Option<u8>
 {
     let mut at = from;
     while at < 256 {
+        if is_marked(words, at as u8) {
+            return Some(at as u8);
+        }
         let word = words[at / 64] >> (at % 64);
         if word != 0 {
             return Some((at + word.trailing_zeros() as usize) as u8);

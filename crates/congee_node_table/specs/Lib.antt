@@ -1,4 +1,5 @@
 pub mod Charge
+pub mod Children
 pub mod Key
 pub mod Shape
 pub mod Table

@@ -1,5 +1,7 @@
 //! What a node of a tree in one table has under a byte.
 
+use congee_base::iter::NodeIter;
+
 /// A payload, under the last byte of its key, or the slot of the node below.
 #[derive(Drop)]
 pub enum Child<P> {
@@ -12,4 +14,12 @@ pub enum Child<P> {
 pub enum ChildRef<'a, P> {
     Payload(&'a P),
     Node(usize),
+}
+
+/// The children of a node that are still to come, each with its byte, ascending: the payloads of a leaf, or the slots of an
+/// inner node.
+#[derive(Drop)]
+pub enum ChildIter<'a, P> {
+    Payloads(NodeIter<'a, P>),
+    Nodes(NodeIter<'a, usize>),
 }

@@ -3,10 +3,14 @@
 ghost use Rattle.std.specs.Prelude.{◌≡◌, ℕ, ◌+◌, ◌<◌, ◌≤◌, [], ◌∷◌, length, IfOk, OnOk, OnErr, IfSome, IfNone, IsTrue, false, IsSome, Some, None};
 ghost use Rattle.congee_map.specs.Map.{lookup, put, without, between, Rises};
 ghost use Rattle.congee_base.specs.Form.{Fits, next_form};
+ghost use Rattle.congee_base.specs.Rest.{rest};
+ghost use Rattle.congee_forms.specs.Any.{any_children};
+ghost use Rattle.congee_node_table.specs.Children.{children_left, MayGive};
 ghost use Rattle.congee_node_table.specs.TableNode.{MayHave, seen, looked_at};
 
-use crate::child::{Child, ChildRef};
+use crate::child::{Child, ChildIter, ChildRef};
 use congee_base::base_node::{BaseNode, Node};
+use congee_base::iter::{Node16Iter, NodeIter};
 use congee_forms::any_node::AnyNode;
 use congee_forms::node_4::Node4;
 use congee_forms::node_256::Node256;
@@ -39,6 +43,20 @@ impl<P> Model for TreeNode<P> {
     ghost view = { λ n. table_node n.kind };
 
     ghost invariant = { λ n. IsOfKind n.kind };
+}
+
+// The children of a node with `from <= byte < to`.
+fn children_of<C: Drop>(node: &AnyNode<C>, from: usize, to: usize) -> NodeIter<'_, C>
+    requires { to ≤ 256 }
+    ensures { rest result ≡ between (any_children node.now) from to }
+{
+    if from >= to {
+        return NodeIter::N16(Node16Iter {
+            keys: &[],
+            children: &[],
+        });
+    }
+    node.get_children(from as u8, (to - 1) as u8)
 }
 
 impl<P: Drop> TreeNode<P> {
@@ -155,6 +173,18 @@ impl<P: Drop> TreeNode<P> {
                 };
                 Some((byte, ChildRef::Payload(payload)))
             }
+        }
+    }
+
+    /// The children with `from <= byte < to`, ascending. It keeps its place in the node, which is searched once.
+    pub fn children_between(&self, from: usize, to: usize) -> ChildIter<'_, P>
+        requires { to ≤ 256 }
+        ensures children { children_left result ≡ between self.now.children from to }
+        ensures kind { MayGive self.now.prefix result }
+    {
+        match &self.kind {
+            Kind::Inner(node) => ChildIter::Nodes(children_of(node, from, to)),
+            Kind::Leaf(node) => ChildIter::Payloads(children_of(node, from, to)),
         }
     }
 

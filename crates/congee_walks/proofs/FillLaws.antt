@@ -35,10 +35,10 @@ module _ {E : Type 0} where
         filled = h.filled ∙ ap (λ t. t ++ drop n whole) (sym (take-append-le n done more (omega (arith, h.counted))));
       }
 
-  pub adds-none : (b : List E) (n : ℕ) → n ≤ length b → AddsEntries [] b n b n
+  adds-none : (b : List E) (n : ℕ) → n ≤ length b → AddsEntries [] b n b n
   adds-none b n inside = record { inside = inside; fills = λ whole done h. subst (λ t. Fills whole t n b) (sym (append-nil done)) h }
 
-  pub adds-join : (f g b0 b b' : List E) (n0 n n' : ℕ) → AddsEntries f b0 n0 b n → AddsEntries g b n b' n' → AddsEntries (f ++ g) b0 n0 b' n'
+  adds-join : (f g b0 b b' : List E) (n0 n n' : ℕ) → AddsEntries f b0 n0 b n → AddsEntries g b n b' n' → AddsEntries (f ++ g) b0 n0 b' n'
   adds-join f g b0 b b' n0 n n' h k =
       record {
         inside = k.inside;
@@ -52,5 +52,32 @@ module _ {E : Type 0} where
         fills = λ whole done h. fills-push whole done n b x h room;
       }
 
-  pub adds-full : (more b : List E) (n : ℕ) → n ≤ length b → length b ≤ n → AddsEntries more b n b n
+  adds-full : (more b : List E) (n : ℕ) → n ≤ length b → length b ≤ n → AddsEntries more b n b n
   adds-full more b n inside full = record { inside = inside; fills = λ whole done h. fills-full whole done more n b h full }
+
+  -- of all these entries the last are left, and the others are done
+  pub record Written (all left old : List E) (first : ℕ) (new : List E) (count : ℕ) : Type 0 where
+    pub seen : List E
+    pub adds : AddsEntries seen old first new count
+    pub whole : all ≡ seen ++ left
+
+  pub written-none : (all b : List E) (n : ℕ) → n ≤ length b → Written all all b n b n
+  written-none all b n inside = record { seen = []; adds = adds-none b n inside; whole = refl }
+
+  module _ (all left old new : List E) (first count : ℕ) (h : Written all left old first new count) where
+    pub written-more : (more rest b : List E) (k : ℕ) → left ≡ more ++ rest → AddsEntries more new count b k → Written all rest old first b k
+    written-more more rest b k is adds =
+        record {
+          seen = h.seen ++ more;
+          adds = adds-join h.seen more old new b first count k h.adds adds;
+          whole = h.whole ∙ ap (λ t. h.seen ++ t) is ∙ sym (append_assoc h.seen more rest);
+        }
+
+    pub written-all : AddsEntries left new count new count → AddsEntries all old first new count
+    written-all adds = subst (λ t. AddsEntries t old first new count) (sym h.whole) (adds-join h.seen left old new new first count count h.adds adds)
+
+    pub written-full : length new ≤ count → AddsEntries all old first new count
+    written-full full = written-all (adds-full left new count h.adds.inside full)
+
+    pub written-end : left ≡ [] → AddsEntries all old first new count
+    written-end none = written-all (subst (λ t. AddsEntries t new count new count) (sym none) (adds-none new count h.adds.inside))

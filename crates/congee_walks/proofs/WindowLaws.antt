@@ -1,12 +1,12 @@
 -- The bytes under which a node has keys of a range.
-use Rattle.std.proofs.Common.{◌≡◌, ℕ, zero, suc, ◌+◌, ◌-◌, ◌*◌, ◌/◌, ◌^◌, ◌<◌, ◌≤◌, List, [], ◌∷◌, ◌++◌, length, replicate, drop, refl, ap, sym, subst, ◌∙◌, arith, length-append}
+use Rattle.std.proofs.Common.{◌≡◌, ℕ, zero, suc, ◌+◌, ◌-◌, ◌*◌, ◌/◌, ◌^◌, ◌<◌, ◌≤◌, List, [], ◌∷◌, ◌++◌, length, min, replicate, refl, ap, sym, subst, ◌∙◌, arith, length-append}
 use Rattle.std.proofs.lemmas.List.{length-replicate}
 use Rattle.std.proofs.lemmas.Nat.{shr_split, pow_pos, pow-add}
 use Rattle.std.proofs.Math.Nat.{mod-lt}
 use Rattle.std.proofs.Common.{w64}
 use Rattle.std.specs.Int.{from_be_bytes}
-use Rattle.congee_node_table.specs.Key.{span, least, room, low, high}
-use Rattle.congee_node_table.proofs.KeyLaws.{between_spans, room-positive, key_number-be_bytes}
+use Rattle.congee_node_table.specs.Key.{span, least, room, low, high, AreBytes}
+use Rattle.congee_node_table.proofs.KeyLaws.{between_spans, room-positive, least-bound, key_number-be_bytes}
 use Rattle.congee_walks.specs.inner.Scan.{IsWindow}
 use Rattle.congee_walks.specs.declared.range_scan.Window.{Window}
 
@@ -21,19 +21,10 @@ least-padded r n [] = least-zeros r n
 least-padded zero n (b ∷ p) = refl
 least-padded (suc r) n (b ∷ p) = ap (λ x. b * span r + x) (least-padded r n p)
 
-drop-zeros : (l n k : ℕ) → l + k ≡ n → drop {A = ℕ} l (replicate n 0) ≡ replicate k 0
-drop-zeros zero n k is = let same : n ≡ k = omega arith in ap (λ m. replicate {A = ℕ} m 0) same
-drop-zeros (suc l) zero k is = absurd (omega arith)
-drop-zeros (suc l) (suc n) k is = drop-zeros l n k (omega arith)
-
-pub padded_key : (p bytes : List ℕ) → length p ≤ 7 → bytes ≡ p → from_be_bytes w64 (bytes ++ drop {A = ℕ} (length p) (replicate 8 0)) ≡ low p
-padded_key p bytes short is =
-    let n = 8 - length p in
-    let full : length p + n ≡ 8 = omega arith in
-    let l : length (p ++ replicate n 0) ≡ 8 = simp (length-append, length-replicate) full in
-    ap (λ (t : List ℕ). from_be_bytes w64 (t ++ drop {A = ℕ} (length p) (replicate 8 0))) is
-    ∙ ap (λ (t : List ℕ). from_be_bytes w64 (p ++ t)) (drop-zeros (length p) 8 n full)
-    ∙ sym (key_number-be_bytes (p ++ replicate n 0) l) ∙ least-padded 8 n p
+pub padded_key : (p : List ℕ) → length p ≤ 7 → from_be_bytes w64 (p ++ replicate (8 - length p) 0) ≡ low p
+padded_key p short =
+    let l : length (p ++ replicate (8 - length p) 0) ≡ 8 = simp (length-append, length-replicate) (omega arith) in
+    sym (key_number-be_bytes (p ++ replicate (8 - length p) 0) l) ∙ least-padded 8 (8 - length p) p
 
 -- the keys under a byte
 least-snoc : (r k : ℕ) (p : List ℕ) (b : ℕ) → length p + suc k ≡ r → least r (p ++ b ∷ []) ≡ least r p + b * span k
@@ -45,6 +36,11 @@ room-snoc : (r k : ℕ) (p : List ℕ) (b : ℕ) → length p + suc k ≡ r → 
 room-snoc zero k p b is = absurd (omega arith)
 room-snoc (suc r) k [] b is = let same : r ≡ k = omega arith in ap span same
 room-snoc (suc r) k (x ∷ p) b is = room-snoc r k p b (omega arith)
+
+pub room-rest : (r k : ℕ) (p : List ℕ) → length p + k ≡ r → room r p ≡ span k
+room-rest r k [] is = let same : r ≡ k = omega arith in ap span same
+room-rest zero k (x ∷ p) is = absurd (omega arith)
+room-rest (suc r) k (x ∷ p) is = room-rest r k p (omega arith)
 
 span-power : (k : ℕ) → span k ≡ 2 ^ (8 * k)
 span-power zero = refl
@@ -77,6 +73,13 @@ module _ (p : List ℕ) (k : ℕ) (short : length p + suc k ≡ 8) where
 pub low-leaf : (p : List ℕ) (b : ℕ) → length p ≡ 7 → low (p ++ b ∷ []) ≡ low p + b
 low-leaf p b seven = least-snoc 8 0 p b (omega arith) ∙ omega arith
 
+-- fit into 64 bits
+pub leaf_fits : (p : List ℕ) → AreBytes p → length p ≡ 7 → low p + 256 ≤ 2 ^ 64
+leaf_fits p bytes seven =
+    let bound = least-bound 8 p bytes (omega arith) in
+    let room = room-rest 8 1 p (omega arith) in
+    omega (arith, bound, room)
+
 by_one : (n : ℕ) → n / 2 ^ (8 * 0) ≡ n
 by_one n = let split = shr_split n (8 * 0) in omega arith
 
@@ -95,28 +98,30 @@ module _ (p : List ℕ) (start end : ℕ) (short : length p ≤ 7) (w : Window) 
       let l = low-leaf p b seven in
       omega arith
 
-  pub window_to : low p < end → w.to ≡ (end - 1 - low p) / 2 ^ (8 * (7 - length p)) + 1 → IsWindow p start end w
+  pub window_to : low p < end → w.to ≡ min ((end - 1 - low p) / 2 ^ (8 * (7 - length p)) + 1) 256 → IsWindow p start end w
   window_to some to =
       record {
         first = first;
+        within = omega (arith, to);
         before = before;
-        past = λ b more.
-            let h = past_quotient p (7 - length p) (omega arith) (end - 1 - low p) b (omega (arith, more, to)) in
+        past = λ b byte more.
+            let h = past_quotient p (7 - length p) (omega arith) (end - 1 - low p) b (omega (arith, byte, more, to)) in
             omega arith;
         not_before = not_before;
         not_past = λ seven b less.
             let none : 7 - length p ≡ 0 = omega arith in
-            let is : w.to ≡ end - 1 - low p + 1 = to ∙ ap (λ k. (end - 1 - low p) / 2 ^ (8 * k) + 1) none ∙ ap (λ n. n + 1) (by_one (end - 1 - low p)) in
+            let is : (end - 1 - low p) / 2 ^ (8 * (7 - length p)) ≡ end - 1 - low p = ap (λ k. (end - 1 - low p) / 2 ^ (8 * k)) none ∙ by_one (end - 1 - low p) in
             let l = low-leaf p b seven in
-            omega arith;
+            omega (arith, l, is, to, less, some);
       }
 
   pub window_none : end ≤ low p → w.to ≡ 0 → IsWindow p start end w
   window_none none to =
       record {
         first = first;
+        within = omega (arith, to);
         before = before;
-        past = λ b more. let some = past_low p (7 - length p) (omega arith) b in omega arith;
+        past = λ b byte more. let some = past_low p (7 - length p) (omega arith) b in omega arith;
         not_before = not_before;
         not_past = λ seven b less. absurd (omega arith);
       }

@@ -3,13 +3,21 @@
 //! In each node a scan begins at the first byte whose keys aren't all before the range, and ends at the first whose keys
 //! are all past it. Of the children between them all but the first and the last lie in the range as a whole. So it reads the
 //! nodes above the pairs that it gives, and besides at most one path at each end of the range, however large the tree is; at
-//! the buffer's end it reads nothing more. A node without children is passed: a removal may leave an inner one.
+//! the buffer's end it reads nothing more, but for what it has read ahead. A node without children is passed: a removal may
+//! leave an inner one.
+//!
+//! An iterator keeps the place in each node, so that a node isn't searched anew for each child. The payloads of a leaf are
+//! written in one loop, which is compiled for each form of nodes by itself. Of an inner node some children are read ahead.
 
-ghost use Rattle.std.specs.Prelude.{◌≡◌, ℕ, ◌≤◌, length};
+ghost use Rattle.std.specs.Prelude.{◌≡◌, ℕ, ◌+◌, ◌^◌, ◌<◌, ◌≤◌, [], ◌∷◌, length, IfSome, IfNone};
 ghost use Rattle.congee_node_table.specs.Key.{low};
-ghost use Rattle.congee_walks.specs.inner.Scan.{IsWindow, HasSubtree, EachSubtree, AddsEntries, entries_of};
+ghost use Rattle.congee_base.specs.Rest.{rest};
+ghost use Rattle.congee_walks.specs.inner.Scan.{IsWindow, HasSubtree, EachSubtree, AddsEntries, entries_of, entries_under};
 
-use congee_node_table::child::ChildRef;
+use crate::payloads::Payloads;
+use congee_base::base_node::{BaseNode, Node};
+use congee_base::iter::NodeIter;
+use congee_node_table::child::ChildIter;
 use congee_node_table::tree_node::TreeNode;
 use slab::Slab;
 
@@ -45,7 +53,7 @@ impl RangeEntry for ([u8; 8], u64) {
     }
 }
 
-/// Under which bytes a node has keys of a range: not below `from`, and below `to`.
+/// Under which bytes a node has keys of a range: not below `from`, and below `to`, which is 256 at most.
 #[derive(Drop)]
 pub(crate) struct Window {
     /// The least key that begins with the node's prefix.
@@ -54,26 +62,15 @@ pub(crate) struct Window {
     pub(crate) to: usize,
 }
 
-/// The least key that begins with the prefix.
-pub(crate) fn first_key(prefix: &[u8]) -> u64
-    requires { length prefix.now ≤ 7 }
-    ensures { result ≡ low prefix.now }
+/// Where the keys from `start` on and below `end` are in a node with this base.
+pub(crate) fn window_of(base: &BaseNode, start: u64, end: u64) -> Window
+    ensures { IsWindow base.now.prefix start end result }
 {
-    let mut bytes = [0u8; 8];
-    bytes[..prefix.len()].copy_from_slice(prefix);
-    u64::from_be_bytes(bytes)
-}
-
-/// Where the keys from `start` on and below `end` are in a node with this prefix.
-pub(crate) fn window_of(prefix: &[u8], start: u64, end: u64) -> Window
-    requires { length prefix.now ≤ 7 }
-    ensures { IsWindow prefix.now start end result }
-{
-    let first = first_key(prefix);
-    let shift = 8 * (7 - prefix.len());
+    let first = base.first_key();
+    let shift = 8 * (7 - base.prefix().len());
     let from = start.saturating_sub(first) >> shift;
     let to = if first < end {
-        ((end - 1 - first) >> shift) + 1
+        (((end - 1 - first) >> shift) + 1).min(256)
     } else {
         0
     };
@@ -81,6 +78,105 @@ pub(crate) fn window_of(prefix: &[u8], start: u64, end: u64) -> Window
         first,
         from: from as usize,
         to: to as usize,
+    }
+}
+
+/// How many children a scan looks at before it reads the first of them.
+const AHEAD: usize = 16;
+
+// The first of the slots that are still to come, after its byte. Two words: the iterator's own answer is a byte beside a
+// reference, which the processor puts together more slowly than it finds it.
+fn next_slot(slots: &mut NodeIter<'_, usize>) -> Option<(usize, usize)>
+    ensures none { IfNone result (rest slots.old ≡ []) }
+    ensures some { IfSome result (λ found. rest slots.old ≡ (found.0, found.1) ∷ rest slots.new) }
+    ensures byte { IfSome result (λ found. found.0 < 256) }
+{
+    let (byte, slot) = match slots {
+        NodeIter::N4(slots) => slots.next()?,
+        NodeIter::N16(slots) => slots.next()?,
+        NodeIter::N48(slots) => slots.next()?,
+        NodeIter::N256(slots) => slots.next()?,
+    };
+    Some((byte as usize, *slot))
+}
+
+// Up to which byte the next children of an inner node are read together, from a byte on: as many as it takes to fill so
+// many places by the counts of their nodes, and `AHEAD` at most.
+//
+// A count is read of each of them, one right after the other, and none waits for the others. So their nodes come from
+// memory at the same time, where the scan by itself would wait for each in turn.
+fn read_ahead(
+    nodes: &Slab<TreeNode<u64>>,
+    node: &TreeNode<u64>,
+    from: usize,
+    to: usize,
+    mut room: usize,
+) -> usize
+    requires some { from < to }
+    requires bytes { to ≤ 256 }
+    ensures more { from < result }
+    ensures within { result ≤ to }
+{
+    let ChildIter::Nodes(mut slots) = node.children_between(from, to) else {
+        return to;
+    };
+    let mut until = from + 1;
+    for _ in 0..AHEAD {
+        let Some((byte, below)) = next_slot(&mut slots) else {
+            return to;
+        };
+        until = byte + 1;
+        if let Some(below) = nodes.get(below) {
+            room = room.saturating_sub(below.base().value_count() as usize);
+        }
+        if room == 0 {
+            break;
+        }
+    }
+    // (it lies between the two anyhow; this spares a proof)
+    until.max(from + 1).min(to)
+}
+
+// Writes the entries of a leaf's payloads that are still to come, from place `count` on, and returns the place after the
+// last; it ends at the buffer's end. The keys are those from `first` on.
+fn write_all<E: RangeEntry, I: Payloads>(
+    mut payloads: I,
+    first: u64,
+    buffer: &mut [E],
+    mut count: usize,
+) -> usize
+    requires keys { first + 256 ≤ 2 ^ 64 }
+    requires room { count ≤ length buffer.old }
+    ensures { AddsEntries (entries_under E.entry first (I.left payloads))
+        buffer.old count buffer.new result }
+{
+    while count < buffer.len() {
+        let Some((byte, value)) = payloads.take_first() else {
+            return count;
+        };
+        buffer[count] = E::from_pair(first + byte as u64, value);
+        count += 1;
+    }
+    count
+}
+
+// The same, for a leaf of any form.
+fn write_payloads<E: RangeEntry>(
+    payloads: NodeIter<'_, u64>,
+    first: u64,
+    buffer: &mut [E],
+    count: usize,
+) -> usize
+    requires keys { first + 256 ≤ 2 ^ 64 }
+    requires room { count ≤ length buffer.old }
+    ensures { AddsEntries (entries_under E.entry first (rest payloads.entry))
+        buffer.old count buffer.new result }
+{
+    match payloads {
+        NodeIter::N4(payloads) => write_all(payloads, first, buffer, count),
+        NodeIter::N16(payloads) => write_all(payloads, first, buffer, count),
+        NodeIter::N48(payloads) => write_all(payloads, first, buffer, count),
+        NodeIter::N256(payloads) => write_all(payloads, first, buffer, count),
     }
 }
 
@@ -102,25 +198,29 @@ pub fn scan<E: RangeEntry>(
     let Some(node) = nodes.get(slot) else {
         unreachable!()
     };
-    let window = window_of(node.base().prefix(), start, end);
-    let mut from = window.from;
-    while count < buffer.len() {
-        let Some((byte, child)) = node.first_from(from) else {
-            return count;
+    let window = window_of(node.base(), start, end);
+    if node.is_leaf() {
+        let ChildIter::Payloads(payloads) = node.children_between(window.from, window.to) else {
+            unreachable!()
         };
-        if byte as usize >= window.to {
+        return write_payloads(payloads, window.first, buffer, count);
+    }
+    let mut from = window.from;
+    'parts: while from < window.to {
+        if count >= buffer.len() {
             return count;
         }
-        match child {
-            ChildRef::Payload(value) => {
-                buffer[count] = E::from_pair(window.first + byte as u64, *value);
-                count += 1;
+        let until = read_ahead(nodes, node, from, window.to, buffer.len() - count);
+        let ChildIter::Nodes(mut slots) = node.children_between(from, until) else {
+            unreachable!()
+        };
+        'children: while let Some((_, below)) = next_slot(&mut slots) {
+            if count >= buffer.len() {
+                return count;
             }
-            ChildRef::Node(below) => {
-                count = scan(nodes, below, start, end, buffer, count);
-            }
+            count = scan(nodes, below, start, end, buffer, count);
         }
-        from = byte as usize + 1;
+        from = until;
     }
     count
 }

@@ -4,7 +4,7 @@ ghost use Rattle.std.specs.Prelude.{◌≡◌, ◌++◌, map, vec_len, vec_capac
 ghost use Rattle.congee_walks.specs.Scan.{first_number, from_key};
 ghost use Rattle.congee_walks.specs.inner.Scan.{HasSubtree, EachSubtree, KeysFit};
 
-use crate::range_scan::{first_key, window_of};
+use crate::range_scan::window_of;
 use congee_map::traits::Word;
 use congee_node_table::child::ChildRef;
 use congee_node_table::tree_node::TreeNode;
@@ -20,7 +20,7 @@ pub fn push_keys<P: Drop, K: Word>(nodes: &Slab<TreeNode<P>>, slot: usize, keys:
     let Some(node) = nodes.get(slot) else {
         unreachable!()
     };
-    let first = first_key(node.base().prefix());
+    let first = node.base().first_key();
     let mut from = 0;
     'children: while let Some((byte, child)) = node.first_from(from) {
         match child {
@@ -40,7 +40,7 @@ pub fn key_from<P: Drop>(nodes: &Slab<TreeNode<P>>, slot: usize, start: u64) -> 
     let Some(node) = nodes.get(slot) else {
         unreachable!()
     };
-    let window = window_of(node.base().prefix(), start, u64::MAX);
+    let window = window_of(node.base(), start, u64::MAX);
     let mut from = window.from;
     'children: while let Some((byte, child)) = node.first_from(from) {
         let found = match child {

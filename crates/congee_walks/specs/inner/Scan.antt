@@ -8,14 +8,19 @@ use Rattle.congee_walks.specs.declared.range_scan.Window.{Window}
 -- the keys of the range below this prefix are those under the bytes of the window
 pub record IsWindow (p : List ℕ) (start end : ℕ) (w : Window) : Type 0 where
   pub first : w.first ≡ low p
+  pub within : w.to ≤ 256
   pub before : (b : ℕ) → b < w.from → high (p ++ b ∷ []) ≤ start
-  pub past : (b : ℕ) → w.to ≤ b → end ≤ low (p ++ b ∷ [])
+  pub past : (b : ℕ) → b < 256 → w.to ≤ b → end ≤ low (p ++ b ∷ [])
   pub not_before : length p ≡ 7 → (b : ℕ) → w.from ≤ b → start ≤ low (p ++ b ∷ [])
   pub not_past : length p ≡ 7 → (b : ℕ) → b < w.to → low (p ++ b ∷ []) < end
 
 -- what is written for the pairs of the range
 abbrev pub entries_of : {P E : Type 0} → (ℕ → P → E) → ℕ → ℕ → Pairs P → List E
 entries_of entry start end es = map (λ e. entry e.0 e.1) (between es start end)
+
+-- what is written for the payloads of a leaf whose keys are those from a first one on
+abbrev pub entries_under : {P E : Type 0} → (ℕ → P → E) → ℕ → List (ℕ × P) → List E
+entries_under entry first es = map (λ e. entry (first + e.0) e.1) es
 
 module _ {E : Type 0} where
   -- the buffer has what is done in its first places, as many as there are or as fit, and else what it had at first

@@ -1,68 +1,71 @@
-use Rattle.std.proofs.Common.{◌≡◌, ◌+◌, ◌∷◌, ◌∙◌, subst, arith, rules}
+use Rattle.std.proofs.Common.{ℕ, suc, ◌++◌, ◌∙◌, ap, sym, subst, refl, arith, rules}
 use Rattle.congee_map.specs.Map.{between}
-use Rattle.congee_node_table.specs.TableNode.{looked_at}
-use Rattle.congee_walks.specs.inner.Scan.{IsWindow}
-use Rattle.congee_walks.proofs.WindowLaws.{low-leaf}
-use Rattle.congee_walks.proofs.ScanLaws.{part_start, part_full, part_end, part_past, part_payload, part_node, goes_down, in_leaf}
+use Rattle.congee_map.proofs.RangeLaws.{between-crossed}
+use Rattle.congee_base.specs.Rest.{rest}
+use Rattle.congee_node_table.specs.Table.{IsSubtree}
+use Rattle.congee_node_table.specs.inner.Kinds.{mapped}
+use Rattle.congee_node_table.specs.declared.child.Child.TheVariants.{Node}
+use Rattle.congee_walks.specs.inner.Scan.{IsWindow, AddsEntries}
+use Rattle.congee_walks.proofs.FillLaws.{written-full}
+use Rattle.congee_walks.proofs.ScanLaws.{between-split, part_start, part_node, part_seen, part_end, in_leaf_window, node_below, keys_fit}
 use Rattle.congee_walks.proofs.range_scan.+scan.Goals as goal
-use Rattle.congee_walks.proofs.range_scan.+scan.Goals.{in-Payload, in-Node}
 
-pub loop-count-init : goal.loop-count-init
-loop-count-init g t c =
-    let is = subst (λ p. IsWindow p c.args.start c.args.end c.window_of-window.result) (c.prefix.ensures.bytes ∙ c.base.ensures.prefix) c.window_of-window.ensures in
-    record {
-      part = λ less tree. part_start g.E.RangeEntry.entry c.args.start c.args.end c.args.nodes.now.slots less c.args.slot c.in-Some.node.now tree c.in-Some.ensures _ _ _ is c.requires.room;
-      from = omega arith;
-    }
+pub write_payloads-requires-clause-keys : goal.write_payloads-requires-clause-keys
+write_payloads-requires-clause-keys g t c =
+    let is = subst (λ p. IsWindow p c.args.start c.args.end c.window_of-window.result) c.base.ensures.prefix c.window_of-window.ensures in
+    let fits = keys_fit c.args.nodes.now.slots c.args.slot c.in-Some.node.now c.requires.tree c.in-Some.ensures c.in-Payloads.ensures.kind in
+    omega (arith, is.first, fits)
 
-pub returns-in_default-first_from : goal.returns-in_default-first_from
-returns-in_default-first_from g t c =
-    λ less tree. part_end g.E.RangeEntry.entry c.args.start c.args.end c.args.nodes.now.slots less c.args.slot c.in-Some.node.now tree c.in-Some.ensures _ _ _ _ _ (c.loop-count.invariant.part less tree) c.in_default-first_from.ensures.none
+pub returns-then-is_leaf : goal.returns-then-is_leaf
+returns-then-is_leaf g t c =
+    let is = subst (λ p. IsWindow p c.args.start c.args.end c.window_of-window.result) c.base.ensures.prefix c.window_of-window.ensures in
+    λ less tree. subst (λ entries. AddsEntries entries c.args.buffer.now c.args.count c.write_payloads.new.buffer c.write_payloads.result)
+    (in_leaf_window g.E.RangeEntry.entry c.args.start c.args.end c.args.nodes.now.slots less c.args.slot c.in-Some.node.now tree c.in-Some.ensures _ is (rest c.in-Payloads.payloads) c.in-Payloads.ensures.kind c.in-Payloads.ensures.children)
+    c.write_payloads.ensures
 
-pub returns-then-byte-window : goal.returns-then-byte-window
-returns-then-byte-window g t c =
-    let is = subst (λ p. IsWindow p c.args.start c.args.end c.window_of-window.result) (c.prefix.ensures.bytes ∙ c.base.ensures.prefix) c.window_of-window.ensures in
-    λ less tree. part_past g.E.RangeEntry.entry c.args.start c.args.end c.args.nodes.now.slots less c.args.slot c.in-Some.node.now tree c.in-Some.ensures _ _ _ _ _ (c.loop-count.invariant.part less tree) _ is _ _ _ c.in-Some-first_from.ensures.some c.if-byte-window.true
+pub parts-init : goal.parts-init
+parts-init g t c =
+    let is = subst (λ p. IsWindow p c.args.start c.args.end c.window_of-window.result) c.base.ensures.prefix c.window_of-window.ensures in
+    λ less tree. part_start g.E.RangeEntry.entry c.args.start c.args.end c.args.nodes.now.slots less c.args.slot c.in-Some.node.now tree c.in-Some.ensures _ is _ _ c.requires.room _ refl
 
-pub overflow_add-window : goal.overflow_add-window
-overflow_add-window g t c =
+pub returns-then-count-buffer : goal.returns-then-count-buffer
+returns-then-count-buffer g t c = λ less tree.
+    written-full _ _ c.args.buffer.now c.parts.buffer c.args.count c.parts.count (c.parts.invariant less tree).written c.if-count-buffer.true
+
+pub children-init : goal.children-init
+children-init g t c = λ less tree.
     let n = c.in-Some.node.now in
-    let byte = c.in-Some-first_from.byte in
-    let is = subst (λ p. IsWindow p c.args.start c.args.end c.window_of-window.result) (c.prefix.ensures.bytes ∙ c.base.ensures.prefix) c.window_of-window.ensures in
-    let next = subst (λ x. between n.children c.loop-count.from 256 ≡ (byte, looked_at x) ∷ between n.children (byte + 1) 256) c.in-Payload.is c.in-Some-first_from.ensures.some in
-    let seven = in_leaf c.args.nodes.now.slots c.args.slot n c.loop-count.from byte c.in-Payload.value.now _ c.requires.tree c.in-Some.ensures next in
-    let key = low-leaf n.prefix byte seven in
-    let inside = is.not_past seven byte c.if-byte-window.false in
-    omega (arith, is.first, key, inside, c.ranges.end)
+    let split = between-split 0 256 c.parts.from c.read_ahead-until.result c.window_of-window.result.to n.children c.base.ensures.ascending (omega (arith, c.read_ahead-until.ensures.more)) c.read_ahead-until.ensures.within in
+    part_seen g.E.RangeEntry.entry c.args.start c.args.end c.args.nodes.now.slots less c.args.slot c.in-Some.node.now _ _ _ _ _ (c.parts.invariant less tree) _ (split ∙ ap (λ t. t ++ between n.children c.read_ahead-until.result c.window_of-window.result.to) (sym c.in-Nodes.ensures.children))
+
+pub returns-then-count-buffer-2 : goal.returns-then-count-buffer-2
+returns-then-count-buffer-2 g t c = λ less tree.
+    written-full _ _ c.args.buffer.now c.children.buffer c.args.count c.children.count (c.children.invariant less tree).written c.if-count-buffer-2.true
 
 pub scan-count-requires : goal.scan-count-requires
 scan-count-requires g t c κs within =
+    let slots = c.args.nodes.now.slots in
     let n = c.in-Some.node.now in
-    let byte = c.in-Some-first_from.byte in
-    let next = subst (λ x. between n.children c.loop-count.from 256 ≡ (byte, looked_at x) ∷ between n.children (byte + 1) 256) c.in-Node.is c.in-Some-first_from.ensures.some in
-    let down = goes_down c.args.nodes.now.slots c.args.slot n c.loop-count.from byte c.in-Node.below _ c.requires.tree c.in-Some.ensures next in
+    let more = between n.children c.read_ahead-until.result c.window_of-window.result.to in
+    let inside = λ (less : ℕ) (tree : IsSubtree slots (suc less) c.args.slot).
+    part_seen g.E.RangeEntry.entry c.args.start c.args.end c.args.nodes.now.slots less c.args.slot c.in-Some.node.now _ _ _ _ _ (c.children.invariant less tree) _ (ap (λ es. mapped (λ slot. Node slot) es ++ more) c.in-Some-next_slot.ensures.some) in
+    let down = node_below slots c.args.slot n c.in-Some-next_slot.field-0-0 c.in-Some-next_slot.below _ c.requires.tree c.in-Some.ensures (λ less tree. (inside less tree).children) in
     let smaller = down.shorter in
     (search rules, (search rules, (down.stands, omega arith)))
 
-pub loop-count-preserved : goal.loop-count-preserved
-loop-count-preserved g t c =
+pub children-preserved : goal.children-preserved
+children-preserved g t c = λ less tree.
     let n = c.in-Some.node.now in
-    let byte = c.in-Some-first_from.byte in
-    let is = subst (λ p. IsWindow p c.args.start c.args.end c.window_of-window.result) (c.prefix.ensures.bytes ∙ c.base.ensures.prefix) c.window_of-window.ensures in
-    record {
-      part = λ less tree. elim c.match-child.branch [
-        | in-Payload w ↦
-            let next = subst (λ x. between n.children c.loop-count.from 256 ≡ (byte, looked_at x) ∷ between n.children (byte + 1) 256) w.in-Payload.is c.in-Some-first_from.ensures.some in
-            let done = part_payload g.E.RangeEntry.entry c.args.start c.args.end c.args.nodes.now.slots less c.args.slot n tree c.in-Some.ensures _ _ _ _ _ (c.loop-count.invariant.part less tree) _ is byte w.in-Payload.value.now next (omega (arith, c.in-Some-first_from.ensures.order)) c.if-byte-window.false c.loop-count-test.true in
-            rw (w.buffer-is, w.count-is, w.from_pair.ensures) done
-        | in-Node w ↦
-            let next = subst (λ x. between n.children c.loop-count.from 256 ≡ (byte, looked_at x) ∷ between n.children (byte + 1) 256) w.in-Node.is c.in-Some-first_from.ensures.some in
-            let done = part_node g.E.RangeEntry.entry c.args.start c.args.end c.args.nodes.now.slots less c.args.slot n tree c.in-Some.ensures _ _ _ _ _ (c.loop-count.invariant.part less tree) byte w.in-Node.below next _ _ w.scan-count.ensures in
-            rw (w.buffer-is, w.count-is) done
-      ];
-      from = omega (arith, c.in-Some-first_from.ensures.order);
-    }
+    let more = between n.children c.read_ahead-until.result c.window_of-window.result.to in
+    let part = part_seen g.E.RangeEntry.entry c.args.start c.args.end c.args.nodes.now.slots less c.args.slot c.in-Some.node.now _ _ _ _ _ (c.children.invariant less tree) _ (ap (λ es. mapped (λ slot. Node slot) es ++ more) c.in-Some-next_slot.ensures.some) in
+    part_node g.E.RangeEntry.entry c.args.start c.args.end c.args.nodes.now.slots less c.args.slot c.in-Some.node.now c.in-Some-next_slot.field-0-0 c.in-Some-next_slot.below _ _ _ _ _ part _ _ c.scan-count.ensures
+
+pub parts-preserved : goal.parts-preserved
+parts-preserved g t c = λ less tree.
+    let n = c.in-Some.node.now in
+    let more = between n.children c.read_ahead-until.result c.window_of-window.result.to in
+    part_seen g.E.RangeEntry.entry c.args.start c.args.end c.args.nodes.now.slots less c.args.slot c.in-Some.node.now _ _ _ _ _ (c.children.invariant less tree) _ (ap (λ es. mapped (λ slot. Node slot) es ++ more) c.in_default-next_slot.ensures.none)
 
 pub returns : goal.returns
-returns g t c =
-    λ less tree. part_full g.E.RangeEntry.entry c.args.start c.args.end c.args.nodes.now.slots less c.args.slot c.in-Some.node.now tree c.in-Some.ensures _ _ _ _ _ (c.loop-count.invariant.part less tree) c.loop-count-test.false
+returns g t c = λ less tree.
+    part_end g.E.RangeEntry.entry c.args.start c.args.end c.args.nodes.now.slots less c.args.slot c.in-Some.node.now _ _ _ _ _ (c.parts.invariant less tree) (between-crossed c.parts.from c.window_of-window.result.to c.in-Some.node.now.children c.parts-test.false)

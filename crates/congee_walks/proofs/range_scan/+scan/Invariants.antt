@@ -1,5 +1,9 @@
-use Rattle.std.proofs.Common.{◌-◌, ℕ, suc, ◌≤◌}
+use Rattle.std.proofs.Common.{ℕ, suc, ◌-◌, ◌++◌, length}
+use Rattle.congee_map.specs.Map.{between}
+use Rattle.congee_base.specs.Rest.{rest}
 use Rattle.congee_node_table.specs.Table.{IsSubtree}
+use Rattle.congee_node_table.specs.inner.Kinds.{mapped}
+use Rattle.congee_node_table.specs.declared.child.Child.TheVariants.{Node}
 use Rattle.congee_walks.proofs.BytesLeft.{bytes_left}
 use Rattle.congee_walks.proofs.ScanLaws.{Part}
 use Rattle.congee_walks.proofs.range_scan.+scan.Given as goal
@@ -7,12 +11,15 @@ use Rattle.congee_walks.proofs.range_scan.+scan.Given as goal
 abbrev pub decreases-scan : goal.decreases-scan
 decreases-scan g l = bytes_left l.nodes.now.slots l.slot
 
-abbrev pub invariant-loop-count : goal.invariant-loop-count
-invariant-loop-count g l =
-    record {
-      part : (less : ℕ) → IsSubtree l.nodes.slots (suc less) l.slot → Part g.E.RangeEntry.entry l.start l.end l.nodes.slots less l.slot l.node l.from l.initial.buffer l.initial.count l.buffer l.count;
-      from : l.window.from ≤ l.from;
-    }
+abbrev pub invariant-parts : goal.invariant-parts
+invariant-parts g l = (less : ℕ) → IsSubtree l.nodes.slots (suc less) l.slot → Part g.E.RangeEntry.entry l.start l.end l.nodes.slots less l.slot l.node (between l.node.children l.from l.window.to) l.initial.buffer l.initial.count l.buffer l.count
 
-abbrev pub decreases-loop-count : goal.decreases-loop-count
-decreases-loop-count g l = 256 - l.from
+abbrev pub decreases-parts : goal.decreases-parts
+decreases-parts g l = l.window.to - l.from
+
+abbrev pub invariant-children : goal.invariant-children
+invariant-children g l =
+    (less : ℕ) → IsSubtree l.nodes.slots (suc less) l.slot → Part g.E.RangeEntry.entry l.start l.end l.nodes.slots less l.slot l.node (mapped (λ slot. Node slot) (rest l.slots) ++ between l.node.children l.until l.window.to) l.fn.buffer l.fn.count l.buffer l.count
+
+abbrev pub decreases-children : goal.decreases-children
+decreases-children g l = length (rest l.slots)

@@ -11,7 +11,7 @@ use Rattle.congee_walks.proofs.walk.+key_from.Goals.{in-Payload, in-Node}
 
 pub children-init : goal.children-init
 children-init g t c =
-    let is = subst (λ p. IsWindow p c.args.start 18446744073709551615 c.window_of-window.result) (c.prefix.ensures.bytes ∙ c.base.ensures.prefix) c.window_of-window.ensures in
+    let is = subst (λ p. IsWindow p c.args.start 18446744073709551615 c.window_of-window.result) c.base.ensures.prefix c.window_of-window.ensures in
     record {
       left = λ less tree. seek_start c.args.nodes.now.slots c.args.start less c.args.slot c.in-Some.node.now tree c.in-Some.ensures _ _ is;
       from = omega arith;
@@ -21,7 +21,7 @@ pub overflow_add-found : goal.overflow_add-found
 overflow_add-found g t c =
     let n = c.in-Some.node.now in
     let byte = c.in-Some-first_from.byte in
-    let is = subst (λ p. IsWindow p c.args.start 18446744073709551615 c.window_of-window.result) (c.prefix.ensures.bytes ∙ c.base.ensures.prefix) c.window_of-window.ensures in
+    let is = subst (λ p. IsWindow p c.args.start 18446744073709551615 c.window_of-window.result) c.base.ensures.prefix c.window_of-window.ensures in
     let next = subst (λ x. between n.children c.children.from 256 ≡ (byte, looked_at x) ∷ between n.children (byte + 1) 256) c.in-Payload.is c.in-Some-first_from.ensures.some in
     let fits = key_fits c.args.nodes.now.slots c.args.slot n c.children.from byte _ _ c.requires c.in-Some.ensures next in
     omega (arith, is.first, fits)
@@ -39,7 +39,7 @@ pub returns-then-is_some : goal.returns-then-is_some
 returns-then-is_some g t c =
     let n = c.in-Some.node.now in
     let byte = c.in-Some-first_from.byte in
-    let is = subst (λ p. IsWindow p c.args.start 18446744073709551615 c.window_of-window.result) (c.prefix.ensures.bytes ∙ c.base.ensures.prefix) c.window_of-window.ensures in
+    let is = subst (λ p. IsWindow p c.args.start 18446744073709551615 c.window_of-window.result) c.base.ensures.prefix c.window_of-window.ensures in
     let slots = c.args.nodes.now.slots in
     let found : (less : ℕ) → IsSubtree slots (suc less) c.args.slot → c.match-child.found ≡ first_number (from_key c.args.start (pairs_under (λ j. pairs_at slots less j) n.prefix byte (looked_at c.in-Some-first_from.child))) = λ less tree.
     elim c.match-child.branch [
@@ -61,7 +61,7 @@ pub children-preserved : goal.children-preserved
 children-preserved g t c =
     let n = c.in-Some.node.now in
     let byte = c.in-Some-first_from.byte in
-    let is = subst (λ p. IsWindow p c.args.start 18446744073709551615 c.window_of-window.result) (c.prefix.ensures.bytes ∙ c.base.ensures.prefix) c.window_of-window.ensures in
+    let is = subst (λ p. IsWindow p c.args.start 18446744073709551615 c.window_of-window.result) c.base.ensures.prefix c.window_of-window.ensures in
     let slots = c.args.nodes.now.slots in
     let found : (less : ℕ) → IsSubtree slots (suc less) c.args.slot → c.match-child.found ≡ first_number (from_key c.args.start (pairs_under (λ j. pairs_at slots less j) n.prefix byte (looked_at c.in-Some-first_from.child))) = λ less tree.
     elim c.match-child.branch [

@@ -1,8 +1,7 @@
-use Rattle.std.proofs.Common.{◌≡◌, ◌+◌, ◌∷◌, ◌∙◌, ap, subst, arith, rules}
+use Rattle.std.proofs.Common.{◌≡◌, ◌+◌, ◌∷◌, ◌∙◌, subst, arith, rules}
 use Rattle.congee_map.specs.Map.{between}
 use Rattle.congee_node_table.specs.TableNode.{looked_at}
-use Rattle.congee_node_table.specs.Key.{low}
-use Rattle.congee_walks.proofs.ScanLaws.{goes_down}
+use Rattle.congee_walks.proofs.ScanLaws.{goes_down, first_number_is}
 use Rattle.congee_walks.proofs.WalkLaws.{key_fits, keys_start, keys_payload, keys_node, keys_room_payload, keys_room_node, stands_with_room}
 use Rattle.congee_walks.proofs.walk.+push_keys.Goals as goal
 use Rattle.congee_walks.proofs.walk.+push_keys.Goals.{in-Payload, in-Node}
@@ -18,7 +17,7 @@ pub overflow_add-first : goal.overflow_add-first
 overflow_add-first g t c =
     let n = c.in-Some.node.now in
     let byte = c.in-Some-first_from.byte in
-    let first = c.first_key-first.ensures ∙ ap low (c.prefix.ensures.bytes ∙ c.base.ensures.prefix) in
+    let first = c.first_key-first.ensures ∙ first_number_is c.args.nodes.now.slots c.requires.levels c.args.slot n c.requires.tree c.in-Some.ensures c.base.result.now.prefix c.base.ensures.prefix in
     let next = subst (λ x. between n.children c.children.from 256 ≡ (byte, looked_at x) ∷ between n.children (byte + 1) 256) c.in-Payload.is c.in-Some-first_from.ensures.some in
     let fits = key_fits c.args.nodes.now.slots c.args.slot n c.children.from byte _ _ (stands_with_room c.args.nodes.now.slots c.args.slot _ _ c.requires) c.in-Some.ensures next in
     omega (arith, first, fits)
@@ -49,7 +48,7 @@ children-preserved g t c =
     let n = c.in-Some.node.now in
     let byte = c.in-Some-first_from.byte in
     let slots = c.args.nodes.now.slots in
-    let first = c.first_key-first.ensures ∙ ap low (c.prefix.ensures.bytes ∙ c.base.ensures.prefix) in
+    let first = c.first_key-first.ensures ∙ first_number_is c.args.nodes.now.slots c.requires.levels c.args.slot n c.requires.tree c.in-Some.ensures c.base.result.now.prefix c.base.ensures.prefix in
     record {
       left = λ less tree. elim c.match-child.branch [
         | in-Payload w ↦
