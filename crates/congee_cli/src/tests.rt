@@ -53,10 +53,15 @@ fn ends<R: Read + Drop, W: Write>(
 ) -> bool {
     let mut input = Watched::new(reader);
     let mut output = Watched::new(writer);
-    let mut errors = Vec::new(alloc);
+    let mut errors = Full {
+        taken: Vec::new(alloc),
+        room: 1000,
+        at_once: 1,
+        fails: false,
+    };
     let status = serve(alloc, words, &mut input, &mut output, &mut errors);
     status == wanted.status
-        && errors.as_slice() == wanted.told.as_bytes()
+        && errors.taken.as_slice() == wanted.told.as_bytes()
         && input.failed() == wanted.reader_failed
         && output.failed() == wanted.writer_failed
 }
@@ -202,6 +207,7 @@ fn limits(rt: HostRuntime) -> Result<(), Fail> {
         ("2104", 0, "oom\noom\nnone\noom\noom\n", ""),
         ("2168", 0, "ok none\noom\n100\nok 100\nok none\n", ""),
         ("2296", 0, "ok none\nok none\n100\nok 100\nok none\n", ""),
+        ("5000", 0, "ok none\nok none\n100\nok 100\nok none\n", ""),
         (
             "18446744073709551615",
             0,
@@ -265,10 +271,10 @@ fn gives_list(
         None => gives(
             alloc,
             &["run"],
-            input.as_bytes(),
+            Torn::whole(input.as_bytes()),
             Outcome::of(0, wanted.as_str(), ""),
         ),
-        Some(room) => fills(alloc, input.as_bytes(), wanted.as_bytes(), room),
+        Some(room) => fills(alloc, input.as_bytes(), wanted.as_bytes(), room, false),
     }
 }
 
@@ -287,68 +293,146 @@ fn answers_longer_than_the_buffer(rt: HostRuntime) -> Result<(), Fail> {
     Ok(())
 }
 
-// Gives its bytes, a few at a time, and then fails.
+// Gives its bytes, a few at a time. Before the rest of them it fails once, or says once that there are no more.
 #[derive(Drop)]
 struct Torn<'a> {
+    first: &'a [u8],
     rest: &'a [u8],
     at_once: usize,
+    fails: bool,
+}
+
+impl<'a> Torn<'a> {
+    // All of it, a byte at a time.
+    fn whole(first: &'a [u8]) -> Torn<'a> {
+        Torn {
+            first,
+            rest: b"",
+            at_once: 1,
+            fails: false,
+        }
+    }
 }
 
 impl Read for Torn<'_> {
     fn read(&mut self, buf: &mut [u8]) -> io::Result<usize> {
-        let n = self.rest.len().min(self.at_once).min(buf.len());
-        if n == 0 {
+        let n = self.first.len().min(self.at_once).min(buf.len());
+        if n > 0 {
+            return self.first.read(&mut buf[..n]);
+        }
+        self.first = self.rest;
+        if self.fails {
             return Err(io::Error::from(ErrorKind::BrokenPipe));
         }
-        self.rest.read(&mut buf[..n])
+        Ok(0)
     }
 }
 
 #[test]
 fn torn_input(rt: HostRuntime) -> Result<(), Fail> {
-    let wanted = Outcome {
-        reader_failed: true,
-        ..Outcome::of(1, "ok none\n", BROKEN)
-    };
-    for at_once in 1..8 {
-        let input = Torn {
-            rest: b"insert 1 42\nget 1",
-            at_once,
+    let lines = b"insert 1 42\nget 1\nget x\n\nkeys\nempty";
+    // how many bytes are given before the fault, and what is written: the answers of the lines that have ended
+    let rows = [
+        (0, ""),
+        (11, ""),
+        (12, "ok none\n"),
+        (15, "ok none\n"),
+        (17, "ok none\n"),
+        (18, "ok none\n42\n"),
+        (24, "ok none\n42\nbad line\n"),
+        (25, "ok none\n42\nbad line\nbad line\n"),
+        (29, "ok none\n42\nbad line\nbad line\n"),
+        (30, "ok none\n42\nbad line\nbad line\n1 1\n"),
+        (35, "ok none\n42\nbad line\nbad line\n1 1\n"),
+    ];
+    for (at, written) in rows {
+        let wanted = Outcome {
+            reader_failed: true,
+            ..Outcome::of(1, written, BROKEN)
         };
-        assert!(rt;
-            gives(rt.alloc(), &["run"], input, wanted)?,
-            "{at_once} at once"
-        );
+        for at_once in [1, 2, 3, 7, 100] {
+            let (first, rest) = lines.split_at(at);
+            let fails = true;
+            let input = Torn {
+                first,
+                rest,
+                at_once,
+                fails,
+            };
+            assert!(rt;
+                gives(rt.alloc(), &["run"], input, wanted)?,
+                "{at_once} at once, {at} before the fault"
+            );
+        }
     }
     Ok(())
 }
 
-// Takes so many bytes, and then none.
+#[test]
+fn input_that_ends_early(rt: HostRuntime) -> Result<(), Fail> {
+    // what is given before a read of none is the whole input, and its rest is a line
+    let rows = [
+        (0, ""),
+        (5, "bad line\n"),
+        (11, "ok none\n"),
+        (12, "ok none\n"),
+    ];
+    for (at, written) in rows {
+        let (first, rest) = b"insert 1 42\nget 1\n".split_at(at);
+        let input = Torn {
+            first,
+            rest,
+            at_once: 1,
+            fails: false,
+        };
+        let is_so = gives(rt.alloc(), &["run"], input, Outcome::of(0, written, ""))?;
+        assert!(rt; is_so, "{at} before the end");
+    }
+    Ok(())
+}
+
+// Takes so many bytes, a few at a time, and then none, or fails.
 #[derive(Drop)]
 struct Full {
     taken: Vec<u8>,
     room: usize,
+    at_once: usize,
+    fails: bool,
 }
 
 impl Write for Full {
     fn write(&mut self, buf: &[u8]) -> io::Result<usize> {
-        let n = buf.len().min(self.room);
+        let n = buf.len().min(self.at_once).min(self.room);
+        if n == 0 && self.fails {
+            return Err(io::Error::from(ErrorKind::BrokenPipe));
+        }
         self.taken.extend_from_slice(&buf[..n])?;
         self.room -= n;
         Ok(n)
     }
 
     fn flush(&mut self) -> io::Result<()> {
+        if self.fails {
+            return Err(io::Error::from(ErrorKind::BrokenPipe));
+        }
         Ok(())
     }
 }
 
 // Whether a run at a writer with room for so many bytes breaks off, and has written the first ones of these.
-fn fills(alloc: Global, input: &[u8], wanted: &[u8], room: usize) -> Result<bool, AllocError> {
+fn fills(
+    alloc: Global,
+    input: &[u8],
+    wanted: &[u8],
+    room: usize,
+    fails: bool,
+) -> Result<bool, AllocError> {
     let list = words_of(alloc, &["run"])?;
     let mut output = Full {
         taken: Vec::new(alloc),
         room,
+        at_once: 7,
+        fails,
     };
     let ending = Outcome {
         writer_failed: true,
@@ -361,9 +445,12 @@ fn fills(alloc: Global, input: &[u8], wanted: &[u8], room: usize) -> Result<bool
 #[test]
 fn full_output(rt: HostRuntime) -> Result<(), Fail> {
     let wanted = b"ok none\n42\n".as_slice();
-    for room in 0..wanted.len() {
-        let is_so = fills(rt.alloc(), b"insert 1 42\nget 1\n", wanted, room)?;
-        assert!(rt; is_so, "room for {room}");
+    // where there is room for all, the flush at the end fails
+    for (last, fails) in [(10, false), (11, true)] {
+        for room in 0..=last {
+            let is_so = fills(rt.alloc(), b"insert 1 42\nget 1\n", wanted, room, fails)?;
+            assert!(rt; is_so, "room for {room}");
+        }
     }
     Ok(())
 }

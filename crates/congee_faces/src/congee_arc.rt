@@ -2,13 +2,16 @@
 
 ghost use Rattle.std.specs.Prelude.{◌≡◌, [], Option, Some, None, IfOk, OnOk, OnErr, IsTrue, ◌↔◌, map as each, option_copied};
 ghost use Rattle.std.specs.Fn.{TakesAt, CalledAt};
+ghost use Rattle.congee_faces.specs.Face.{ChargedAlike, ChargedFor, FaceUnchanged};
 ghost use Rattle.congee_map.specs.Map.{lookup, put, without, with_answer};
 ghost use Rattle.congee_map.specs.Refusal.{NeedsNode};
+ghost use Rattle.congee_supply.specs.Charge.{charge_of};
+ghost use Rattle.congee_tree.specs.Tree.{root_alone};
 
 use congee_map::error::OOMError;
 use congee_map::payload::Payload;
 use congee_map::traits::Word;
-use congee_node_table::allocator::DefaultAllocator;
+use congee_node_table::allocator::{Allocator, DefaultAllocator};
 use congee_tree::fresh;
 use congee_tree::tree::RawCongee;
 use std::alloc::Global;
@@ -19,99 +22,121 @@ use std::sync::ledger::Blank;
 /// An ordered map from keys to owners of shared values. Two keys with one number are one key.
 ///
 /// An owner that is handed in is stored as it is, and the map makes no other. One that is replaced or taken out comes
-/// back to the caller, once.
-pub type CongeeArc<K, V> = PayloadCongee<K, Arc<V>>;
+/// back to the caller, once; one that is refused is dropped.
+pub type CongeeArc<K, V, A = DefaultAllocator> = PayloadCongee<K, Arc<V>, A>;
 
 /// An ordered map from keys that are written as 64-bit numbers to payloads, which are stored as they are handed in, and
 /// looked at in place.
 ///
-/// Contracts see the pairs of the map, by the keys' numbers.
+/// Contracts see the pairs of the map, by the keys' numbers. The allocator `A` is charged for each node of the map's tree.
 #[derive(Drop)]
-pub struct PayloadCongee<K: Word, P: Payload> {
-    tree: RawCongee<P, DefaultAllocator>,
+pub struct PayloadCongee<K: Word, P: Payload, A: Allocator = DefaultAllocator> {
+    tree: RawCongee<P, A>,
     of: PhantomData<K>,
 }
 
-impl<K: Word, P: Payload> Model for PayloadCongee<K, P> {
-    ghost use Rattle.std.specs.Coded.{coded×, coded_list, coded_ℕ};
-    ghost use Rattle.congee_map.specs.Map.{Pairs};
+impl<K: Word, P: Payload, A: Allocator> Model for PayloadCongee<K, P, A> {
+    ghost use Rattle.congee_faces.specs.Face.{Face, face_code};
 
-    ghost Value = { Pairs P };
+    ghost Value = { Face P A };
 
-    ghost coded = { coded_list (coded× coded_ℕ P.code) };
+    ghost coded = { face_code P.code A.code };
 
-    ghost view = { λ m. m.tree.pairs };
+    ghost view = { λ m.
+        record { pairs = m.tree.pairs; nodes = m.tree.nodes; budget = m.tree.budget } };
 }
 
 impl<K: Word, P: Payload> PayloadCongee<K, P> {
     /// An empty map, or `OOMError` where there is no memory for it.
     pub fn new(alloc: Global) -> Result<Self, OOMError>
-        ensures { IfOk result (λ map. map ≡ []) }
+        ensures pairs { IfOk result (λ map. map.pairs ≡ []) }
+        ensures nodes { IfOk result (λ map. map.nodes ≡ root_alone) }
+    {
+        PayloadCongee::new_in(alloc, DefaultAllocator {})
+    }
+}
+
+impl<K: Word, P: Payload, A: Allocator> PayloadCongee<K, P, A> {
+    /// An empty map, or `OOMError` where the allocator or the machine has no memory for it.
+    pub fn new_in(alloc: Global, allocator: A) -> Result<Self, OOMError>
+        ensures pairs { IfOk result (λ map. map.pairs ≡ []) }
+        ensures nodes { IfOk result (λ map. map.nodes ≡ root_alone) }
+        ensures charge { IfOk result (λ map. ChargedFor A.charge allocator map) }
     {
         Ok(PayloadCongee {
-            tree: RawCongee::new(alloc, DefaultAllocator {})?,
+            tree: RawCongee::new(alloc, allocator)?,
             of: PhantomData,
         })
     }
 
     /// Whether there is no pair. Takes no memory.
     pub fn is_empty(&self) -> bool
-        ensures { IsTrue result ↔ (self.now ≡ []) }
+        ensures { IsTrue result ↔ (self.now.pairs ≡ []) }
     {
         self.tree.is_empty()
+    }
+
+    /// The sum of the stated sizes of the nodes of the map's tree, which its allocator is charged for. Takes no memory.
+    pub fn charged(&self) -> u128
+        ensures { result ≡ charge_of self.now.nodes }
+    {
+        self.tree.charged()
     }
 
     /// The keys, ascending by their numbers, each read back. `OOMError` comes where there is no memory for the list.
     pub fn keys(&self) -> Result<Vec<K>, OOMError>
         ensures { IfOk result
-            (λ keys. keys.items ≡ each K.of_number (each (λ pair. pair.0) self.now)) }
+            (λ keys. keys.items ≡ each K.of_number (each (λ pair. pair.0) self.now.pairs)) }
     {
         self.tree.keys()
     }
 
     /// The payload at the key. Takes no memory.
     pub fn get(&self, key: K) -> Option<&P>
-        ensures { option_copied result ≡ lookup self.now (K.number key) }
+        ensures { option_copied result ≡ lookup self.now.pairs (K.number key) }
     {
-        fresh::get::<Brand, P, DefaultAllocator>(&self.tree, key.into_u64(), Blank::new(1))
+        fresh::get::<Brand, P, A>(&self.tree, key.into_u64(), Blank::new(1))
     }
 
     /// Sets the payload at the key, and returns the one that stood there. `OOMError` comes only for a new key that
     /// needs a node of its own or a larger one, where memory is missing for that. It leaves the map as it was, and the
     /// handed payload is dropped.
     pub fn insert(&mut self, key: K, payload: P) -> Result<Option<P>, OOMError>
-        ensures before { IfOk result (λ before. before ≡ lookup self.old (K.number key)) }
-        ensures ok { OnOk result (self.new ≡ put self.old (K.number key) payload) }
-        ensures err { OnErr result (self.new ≡ self.old) }
-        ensures refused { OnErr result (NeedsNode self.old (K.number key)) }
+        ensures before { IfOk result (λ before. before ≡ lookup self.old.pairs (K.number key)) }
+        ensures ok { OnOk result (self.new.pairs ≡ put self.old.pairs (K.number key) payload) }
+        ensures err { OnErr result (FaceUnchanged self.old self.new) }
+        ensures charge { ChargedAlike A.charge self.old self.new }
+        ensures refused { OnErr result (NeedsNode self.old.pairs (K.number key)) }
     {
         let blank = Blank::new(1);
-        fresh::insert::<Brand, P, DefaultAllocator>(&mut self.tree, key.into_u64(), payload, blank)
+        fresh::insert::<Brand, P, A>(&mut self.tree, key.into_u64(), payload, blank)
     }
 
     /// Takes the key out, and returns the payload that stood there. Takes no memory.
     pub fn remove(&mut self, key: K) -> Option<P>
-        ensures before { result ≡ lookup self.old (K.number key) }
-        ensures pairs { self.new ≡ without self.old (K.number key) }
+        ensures before { result ≡ lookup self.old.pairs (K.number key) }
+        ensures pairs { self.new.pairs ≡ without self.old.pairs (K.number key) }
+        ensures charge { ChargedAlike A.charge self.old self.new }
     {
         let blank = Blank::new(1);
-        fresh::remove::<Brand, P, DefaultAllocator>(&mut self.tree, key.into_u64(), blank)
+        fresh::remove::<Brand, P, A>(&mut self.tree, key.into_u64(), blank)
     }
 
     /// Where the key is present, calls the closure with its payload, once, and stores what it returns; its `None` takes
     /// the key out. Returns the payload that stood there. Takes no memory.
     pub fn compute_if_present<F: FnMut(&P) -> Option<P>>(&mut self, key: K, f: &mut F) -> Option<P>
-        requires { (standing : P) → lookup self.old (K.number key) ≡ Some standing
+        requires { (standing : P) → lookup self.old.pairs (K.number key) ≡ Some standing
             → TakesAt F.FnMut f.old standing }
-        ensures before { result ≡ lookup self.old (K.number key) }
-        ensures absent { lookup self.old (K.number key) ≡ None
+        ensures before { result ≡ lookup self.old.pairs (K.number key) }
+        ensures absent { lookup self.old.pairs (K.number key) ≡ None
             → (self.new ≡ self.old) × (f.new ≡ f.old) }
-        ensures present { (standing : P) → lookup self.old (K.number key) ≡ Some standing
+        ensures present { (standing : P) → lookup self.old.pairs (K.number key) ≡ Some standing
             → (answer : Option P) × CalledAt F.FnMut f.old standing answer f.new
-            × (self.new ≡ with_answer self.old (K.number key) answer) }
+            × (self.new.pairs ≡ with_answer self.old.pairs (K.number key) answer) }
+        ensures charge { ChargedAlike A.charge self.old self.new }
     {
         let number = key.into_u64();
         let blank = Blank::new(1);
-        fresh::compute_if_present::<Brand, P, DefaultAllocator, F>(&mut self.tree, number, f, blank)
+        fresh::compute_if_present::<Brand, P, A, F>(&mut self.tree, number, f, blank)
     }
 }

@@ -12,6 +12,7 @@ ghost use Rattle.congee_stats.specs.StatsText.{all_nodes, all_entries};
 ghost use Rattle.congee_stats.specs.Stays.{NoCountStays};
 ghost use Rattle.congee_stats.specs.Visits.{visits_below};
 ghost use Rattle.congee_supply.specs.Charge.{charge_of};
+ghost use Rattle.congee_tree.specs.Tree.{root_alone};
 
 use congee_map::error::OOMError;
 use congee_map::traits::{Drainer, NoDrain, Word};
@@ -39,11 +40,13 @@ pub struct Congee<K: Word, V: Word, A: Allocator = DefaultAllocator, D: Drainer<
 }
 
 impl<K: Word, V: Word, A: Allocator, D: Drainer<K, V>> Model for Congee<K, V, A, D> {
+    ghost use Rattle.std.specs.Prelude.{ℕ};
+    ghost use Rattle.std.specs.Coded.{coded_ℕ};
     ghost use Rattle.congee_faces.specs.Face.{Face, face_code};
 
-    ghost Value = { Face A };
+    ghost Value = { Face ℕ A };
 
-    ghost coded = { face_code A.code };
+    ghost coded = { face_code coded_ℕ A.code };
 
     ghost view = { λ m.
         record { pairs = m.tree.pairs; nodes = m.tree.nodes; budget = m.tree.budget } };
@@ -56,6 +59,7 @@ impl<K: Word, V: Word, A: Allocator> Congee<K, V, A> {
     /// when it is dropped.
     pub fn new(alloc: Global, allocator: A) -> Result<Self, OOMError>
         ensures pairs { IfOk result (λ map. map.pairs ≡ []) }
+        ensures nodes { IfOk result (λ map. map.nodes ≡ root_alone) }
         ensures charge { IfOk result (λ map. ChargedFor A.charge allocator map) }
     {
         Congee::new_with_drainer(alloc, allocator, NoDrain {})
@@ -68,6 +72,7 @@ impl<K: Word, V: Word, A: Allocator, D: Drainer<K, V>> Congee<K, V, A, D> {
     pub fn new_with_drainer(alloc: Global, allocator: A, drainer: D) -> Result<Self, OOMError>
         requires { D.can_drain drainer }
         ensures pairs { IfOk result (λ map. map.pairs ≡ []) }
+        ensures nodes { IfOk result (λ map. map.nodes ≡ root_alone) }
         ensures charge { IfOk result (λ map. ChargedFor A.charge allocator map) }
     {
         Ok(Congee {

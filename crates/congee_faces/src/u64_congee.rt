@@ -7,6 +7,7 @@ ghost use Rattle.congee_map.specs.Map.{lookup, put, without, between};
 ghost use Rattle.congee_faces.specs.Face.{ChargedAlike, ChargedFor, FaceUnchanged};
 ghost use Rattle.congee_map.specs.Refusal.{NeedsNode};
 ghost use Rattle.congee_supply.specs.Charge.{charge_of};
+ghost use Rattle.congee_tree.specs.Tree.{root_alone};
 
 use crate::typed_congee::Congee;
 use congee_map::error::OOMError;
@@ -25,11 +26,13 @@ pub struct U64Congee<V: Word, A: Allocator = DefaultAllocator> {
 }
 
 impl<V: Word, A: Allocator> Model for U64Congee<V, A> {
+    ghost use Rattle.std.specs.Prelude.{ℕ};
+    ghost use Rattle.std.specs.Coded.{coded_ℕ};
     ghost use Rattle.congee_faces.specs.Face.{Face, face_code};
 
-    ghost Value = { Face A };
+    ghost Value = { Face ℕ A };
 
-    ghost coded = { face_code A.code };
+    ghost coded = { face_code coded_ℕ A.code };
 
     ghost view = { λ m. m.map };
 }
@@ -37,7 +40,8 @@ impl<V: Word, A: Allocator> Model for U64Congee<V, A> {
 impl<V: Word> U64Congee<V> {
     /// An empty map, or `OOMError` where there is no memory for it.
     pub fn new(alloc: Global) -> Result<Self, OOMError>
-        ensures { IfOk result (λ map. map.pairs ≡ []) }
+        ensures pairs { IfOk result (λ map. map.pairs ≡ []) }
+        ensures nodes { IfOk result (λ map. map.nodes ≡ root_alone) }
     {
         U64Congee::new_in(alloc, DefaultAllocator {})
     }
@@ -47,6 +51,7 @@ impl<V: Word, A: Allocator> U64Congee<V, A> {
     /// An empty map, or `OOMError` where the allocator or the machine has no memory for it.
     pub fn new_in(alloc: Global, allocator: A) -> Result<Self, OOMError>
         ensures pairs { IfOk result (λ map. map.pairs ≡ []) }
+        ensures nodes { IfOk result (λ map. map.nodes ≡ root_alone) }
         ensures charge { IfOk result (λ map. ChargedFor A.charge allocator map) }
     {
         Ok(U64Congee {

@@ -9,6 +9,7 @@ use congee_faces::congee_arc::PayloadCongee;
 use congee_map::error::OOMError;
 use congee_map::payload::Payload;
 use congee_map::traits::Word;
+use congee_node_table::allocator::Allocator;
 use std::alloc::Global;
 
 /// A call with keys of type `K` and payloads of type `P`, which it hands over.
@@ -46,12 +47,12 @@ pub enum PayloadReply<K: Copy, P> {
 }
 
 /// Makes one call.
-pub fn make_payload_call<K: Word, P: Payload>(
-    map: &mut PayloadCongee<K, P>,
+pub fn make_payload_call<K: Word, P: Payload, A: Allocator>(
+    map: &mut PayloadCongee<K, P, A>,
     call: PayloadCall<K, P>,
 ) -> PayloadReply<K, P>
     ensures { IsLegalPayloadReply K.number K.of_number P.alike P.tells_same of_new_nodes
-        map.old call result map.new }
+        map.old.pairs call result map.new.pairs }
 {
     match call {
         PayloadCall::Get(key) => match map.get(key) {
@@ -76,30 +77,30 @@ pub fn make_payload_call<K: Word, P: Payload>(
 }
 
 // Makes the call whose closure returns this at a key that is present.
-fn change<K: Word, P: Payload>(
-    map: &mut PayloadCongee<K, P>,
+fn change<K: Word, P: Payload, A: Allocator>(
+    map: &mut PayloadCongee<K, P, A>,
     key: K,
     answer: Option<P>,
 ) -> Option<P>
-    ensures before { result ≡ lookup map.old (K.number key) }
-    ensures absent { lookup map.old (K.number key) ≡ None → map.new ≡ map.old }
-    ensures present { (standing : P) → lookup map.old (K.number key) ≡ Some standing
-        → map.new ≡ with_answer map.old (K.number key) answer }
+    ensures before { result ≡ lookup map.old.pairs (K.number key) }
+    ensures absent { lookup map.old.pairs (K.number key) ≡ None → map.new.pairs ≡ map.old.pairs }
+    ensures present { (standing : P) → lookup map.old.pairs (K.number key) ≡ Some standing
+        → map.new.pairs ≡ with_answer map.old.pairs (K.number key) answer }
 {
     let mut given = answer;
     map.compute_if_present(key, &mut |_standing: &P| given.take())
 }
 
 /// Makes the calls, one after another, and returns their replies. `OOMError` comes where there is no memory for the
-/// list of replies; then the pairs are as they were.
-pub fn run_payload_calls<K: Word, P: Payload>(
+/// list of replies; then the map is as it was.
+pub fn run_payload_calls<K: Word, P: Payload, A: Allocator>(
     alloc: Global,
-    map: &mut PayloadCongee<K, P>,
+    map: &mut PayloadCongee<K, P, A>,
     calls: Vec<PayloadCall<K, P>>,
 ) -> Result<Vec<PayloadReply<K, P>>, OOMError>
     ensures run { IfOk result (λ replies.
         AreLegalPayloadReplies K.number K.of_number P.alike P.tells_same of_new_nodes
-        map.old calls.items replies.items map.new) }
+        map.old.pairs calls.items replies.items map.new.pairs) }
     ensures err { OnErr result (map.new ≡ map.old) }
 {
     let mut replies = Vec::with_capacity(alloc, calls.len())?;

@@ -1,5 +1,5 @@
 -- What a contract sees of a tree.
-use Rattle.std.specs.Prelude.{◌≡◌, ℕ, List, Option, refl}
+use Rattle.std.specs.Prelude.{◌≡◌, ℕ, List, [], ◌∷◌, Option, refl}
 use Rattle.std.specs.Int.{from_be_bytes, w64}
 use Rattle.std.specs.Coded.{Coded, code_by, coded×, coded_list, coded_ℕ}
 use Rattle.congee_node_table.specs.inner.Codes.{form_code}
@@ -7,6 +7,7 @@ use Rattle.congee_map.specs.Map.{Pairs, lookup}
 use Rattle.congee_node_table.specs.Table.{NodeInfo}
 use Rattle.congee_supply.specs.Charge.{charge_of, MovesAlike}
 use Rattle.congee_base.specs.declared.base_node.NodeType.{NodeType}
+use Rattle.congee_base.specs.declared.base_node.NodeType.TheVariants.{N256}
 
 abbrev pub node_info_code : Coded NodeInfo
 node_info_code =
@@ -23,6 +24,10 @@ pub record Tree (P A : Type 0) : Type 0 where
   pub pairs : Pairs P
   pub nodes : List NodeInfo
   pub budget : A
+
+-- the nodes of an empty map that is new: the root, of the largest form, with no prefix and no child
+abbrev pub root_alone : List NodeInfo
+root_alone = record { edge = []; prefix = []; form = N256; count = 0 } ∷ []
 
 abbrev pub tree_code : {P A : Type 0} → Coded P → Coded A → Coded (Tree P A)
 tree_code {P} {A} p a =

@@ -4,7 +4,7 @@
 //! from the root down to it. Under seven bytes stand payloads, under fewer nodes. The root has no prefix, and the form that
 //! never grows.
 
-ghost use Rattle.std.specs.Prelude.{◌≡◌, ◌+◌, ◌≤◌, ◌<◌, ◌^◌, ◌↔◌, [], ◌∷◌, length, Option, Some, None, IfOk, OnOk, OnErr, IsTrue, option_copied};
+ghost use Rattle.std.specs.Prelude.{◌≡◌, ◌+◌, ◌≤◌, ◌<◌, ◌^◌, ◌↔◌, [], length, Option, Some, None, IfOk, OnOk, OnErr, IsTrue, option_copied};
 ghost use Rattle.std.specs.Fn.{TakesAt, CalledAt};
 ghost use Rattle.std.specs.Option.{ForSome};
 ghost use Rattle.std.specs.Int.{from_be_bytes, w64};
@@ -21,7 +21,7 @@ ghost use Rattle.congee_stats.specs.Visits.{visits_below};
 ghost use Rattle.congee_node_table.specs.Charge.{add_charge};
 ghost use Rattle.congee_supply.specs.Charge.{charge_of};
 ghost use Rattle.congee_paths.specs.Path.{on_path};
-ghost use Rattle.congee_tree.specs.Tree.{payload_at, ChargesForNodes, StoresSame};
+ghost use Rattle.congee_tree.specs.Tree.{payload_at, root_alone, ChargesForNodes, StoresSame};
 
 use crate::into_pairs::IntoPairs;
 use congee_changes::computation::{Computed, compute_if_present};
@@ -81,14 +81,10 @@ impl<P: Payload, A: Allocator> Model for RawCongee<P, A> {
 }
 
 impl<P: Payload, A: Allocator> RawCongee<P, A> {
-    ghost use Rattle.congee_node_table.specs.Table.{NodeInfo};
-    ghost use Rattle.congee_base.specs.declared.base_node.NodeType.TheVariants.{N256};
-
     /// An empty tree, or `OOMError` where the budget or the machine has no memory for its root.
     pub fn new(alloc: Global, budget: A) -> Result<Self, OOMError>
         ensures pairs { IfOk result (λ tree. tree.pairs ≡ []) }
-        ensures nodes { IfOk result (λ tree.
-            tree.nodes ≡ record { edge = []; prefix = []; form = N256; count = 0 } ∷ []) }
+        ensures nodes { IfOk result (λ tree. tree.nodes ≡ root_alone) }
         ensures charge { IfOk result (λ tree.
             A.charge tree.budget ≡ add_charge (A.charge budget) (charge_of tree.nodes)) }
     {

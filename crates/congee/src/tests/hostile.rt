@@ -1,9 +1,15 @@
-//! Faces under hostile use: conversions that lose something, and the least budgets.
+//! Faces under hostile use: conversions that lose something, the least budgets, and one that refuses now and then.
 
-use super::asserts::assert_test;
+ghost use Rattle.std.specs.Prelude.{None};
+
+use super::asserts::{assert_number, assert_old, assert_test};
 use super::faces::Half;
-use crate::{Budget, Congee, DefaultAllocator, OOMError, Word};
+use super::tree::crowded;
+use crate::{Allocator, Budget, Congee, DefaultAllocator, NodeSize, OOMError, Word};
+use congee_tree::sorted_pairs::SortedPairs;
 use std::alloc::Global;
+use std::process::Abort;
+use std::sync::atomic::{AtomicU64, Ordering};
 use std::test::Fail;
 
 // Whether values come back as their numbers are read, and out of an exchange as they were handed in.
@@ -123,5 +129,87 @@ fn numbered_within(alloc: Global, limit: u64) -> Result<(u64, Option<u64>), OOME
 fn closure_counts_its_calls(rt: HostRuntime) -> Result<(), Fail> {
     assert_eq!(rt; numbered_within(rt.alloc(), 2168)?, (1, Some(1)));
     assert_eq!(rt; numbered_within(rt.alloc(), 2167)?, (0, None));
+    Ok(())
+}
+
+/// Refuses every second request. Counts the bytes that are granted and not given back.
+#[derive(Drop)]
+struct Fickle<'a> {
+    requests: &'a AtomicU64,
+    held: &'a AtomicU64,
+}
+
+impl Allocator for Fickle<'_> {
+    ghost charge = { λ _. None };
+
+    fn allocate(&mut self, size: NodeSize) -> Result<(), OOMError> {
+        if self.requests.fetch_add(1, Ordering::Relaxed) % 2 == 1 {
+            return Err(OOMError::new());
+        }
+        self.held.fetch_add(size.bytes(), Ordering::Relaxed);
+        Ok(())
+    }
+
+    fn deallocate(&mut self, size: NodeSize) {
+        self.held.fetch_sub(size.bytes(), Ordering::Relaxed);
+    }
+}
+
+type FickleMap<'a> = Congee<u64, u64, Fickle<'a>>;
+
+// A call of each kind, at a key of a few. Returns what stood there, or nothing where it is refused.
+fn make(map: &mut FickleMap<'_>, key: u64, value: u64) -> Option<Option<u64>> {
+    match value % 5 {
+        0 => Some(map.remove(&key)),
+        1 => Some(map.get(&key)),
+        2 => map
+            .compute_or_insert(key, &mut |_standing: Option<u64>| value)
+            .ok(),
+        _ => map.insert(key, value).ok(),
+    }
+}
+
+// The same at the plain map.
+fn make_plain(plain: &mut SortedPairs<u64>, key: u64, value: u64) -> Option<u64> {
+    match value % 5 {
+        0 => plain.remove(key),
+        1 => plain.get(key).copied(),
+        _ => plain.insert(key, value).unwrap_or(None),
+    }
+}
+
+// Makes so many calls at both maps; a refused one is made at the first alone. The replies are the same all along, and what
+// is held is what is charged. Returns how many were refused.
+fn assert_fickle(
+    rt: &impl Abort,
+    map: &mut FickleMap<'_>,
+    plain: &mut SortedPairs<u64>,
+    held: &AtomicU64,
+) -> u64 {
+    let mut refused = 0u64;
+    for value in 0..2000u64 {
+        let key = crowded(value);
+        match make(map, key, value) {
+            Some(before) => assert_old(rt, key, before, make_plain(plain, key, value)),
+            None => refused = refused.wrapping_add(1),
+        }
+        assert_old(rt, key, map.get(&key), plain.get(key).copied());
+        assert_number(rt, map.charged(), u128::from(held.load(Ordering::Relaxed)));
+    }
+    refused
+}
+
+fn refused_by_fickle(rt: &impl Abort, alloc: Global, held: &AtomicU64) -> Result<u64, OOMError> {
+    let requests = &AtomicU64::new(0);
+    let mut map = Congee::new(alloc, Fickle { requests, held })?;
+    Ok(assert_fickle(rt, &mut map, &mut SortedPairs::new(alloc), held))
+}
+
+#[test]
+fn every_second_request_refused(rt: HostRuntime) -> Result<(), Fail> {
+    let held = AtomicU64::new(0);
+    let refused = refused_by_fickle(&rt, rt.alloc(), &held)?;
+    assert_test(&rt, refused > 100, true);
+    assert_number(&rt, u128::from(held.load(Ordering::Relaxed)), 0);
     Ok(())
 }

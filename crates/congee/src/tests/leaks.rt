@@ -3,13 +3,9 @@
 ghost use Rattle.std.specs.Prelude.{None};
 
 use crate::{Allocator, Budget, Congee, CongeeArc, Drainer, NodeSize, OOMError, U64Congee};
-use congee_tree::fresh;
-use congee_tree::tree::RawCongee;
 use std::alloc::Global;
-use std::marker::Brand;
 use std::sync::Arc;
 use std::sync::atomic::{AtomicU64, Ordering};
-use std::sync::ledger::Blank;
 use std::test::Fail;
 
 /// Grants so many requests, and refuses the ones after them. Counts the bytes that are granted and not given back.
@@ -164,8 +160,10 @@ fn map_from_numbers_gives_sizes_back(rt: HostRuntime) {
     assert_eq!(rt; held_by_numbers(rt.alloc(), 300), Some(0));
 }
 
+type Owners<'a> = CongeeArc<u64, u64, Metered<'a>>;
+
 // Owners of one value go in and come out again. Returns how many there are beside the first after each step.
-fn owners_within(map: &mut CongeeArc<u64, u64>, owner: &Arc<u64>) -> Result<[usize; 5], OOMError> {
+fn owners_within(map: &mut Owners<'_>, owner: &Arc<u64>) -> Result<[usize; 5], OOMError> {
     for key in 0..300u64 {
         map.insert(key, owner.clone()?)?;
     }
@@ -180,42 +178,60 @@ fn owners_within(map: &mut CongeeArc<u64, u64>, owner: &Arc<u64>) -> Result<[usi
     Ok([filled, replaced, removed, taken, Arc::strong_count(owner)])
 }
 
-fn owners_until_dropped(alloc: Global, owner: &Arc<u64>) -> Result<[usize; 5], OOMError> {
-    owners_within(&mut CongeeArc::new(alloc)?, owner)
+fn owners_until_dropped(
+    alloc: Global,
+    held: &AtomicU64,
+    owner: &Arc<u64>,
+) -> Result<[usize; 5], OOMError> {
+    let allocator = Metered {
+        held,
+        requests: 100,
+    };
+    owners_within(&mut CongeeArc::new_in(alloc, allocator)?, owner)
 }
 
-fn owners(alloc: Global) -> Result<([usize; 5], usize), OOMError> {
+// How many there are after each step and at the end, and what is still held then.
+fn owners(alloc: Global) -> Result<([usize; 5], usize, u64), OOMError> {
+    let held = AtomicU64::new(0);
     let owner = Arc::new(alloc, 7u64)?;
-    let counts = owners_until_dropped(alloc, &owner)?;
-    Ok((counts, Arc::strong_count(&owner)))
+    let counts = owners_until_dropped(alloc, &held, &owner)?;
+    let left = held.load(Ordering::Relaxed);
+    Ok((counts, Arc::strong_count(&owner), left))
 }
 
 #[test]
 fn owners_are_given_back(rt: HostRuntime) -> Result<(), Fail> {
-    assert_eq!(rt; owners(rt.alloc())?, ([301, 301, 300, 299, 299], 1));
+    assert_eq!(rt; owners(rt.alloc())?, ([301, 301, 300, 299, 299], 1, 0));
     Ok(())
 }
 
-// Hands an owner to a tree whose budget has no leaf for it. Returns whether it was refused.
-fn is_owner_refused(
-    tree: &mut RawCongee<Arc<u64>, Budget>,
+// Hands owners of one value over until one is refused. Returns how many weren't.
+fn stored_until_refused(
+    map: &mut CongeeArc<u64, u64, Budget>,
     owner: &Arc<u64>,
-) -> Result<bool, OOMError> {
-    let given = owner.clone()?;
-    let answer = fresh::insert::<Brand, Arc<u64>, Budget>(tree, 1, given, Blank::new(1));
-    Ok(answer.is_err())
+) -> Result<u64, OOMError> {
+    for key in 0..100u64 {
+        let given = owner.clone()?;
+        if map.insert(key, given).is_err() {
+            return Ok(key);
+        }
+    }
+    Ok(100)
 }
 
-// Whether it was, and how many owners there are while the tree stands.
-fn owners_after_refusal(alloc: Global) -> Result<(bool, usize), OOMError> {
+// How many are stored under a limit, and how many owners there are while the map stands.
+fn owners_after_refusal(alloc: Global, limit: u64) -> Result<(u64, usize), OOMError> {
     let owner = Arc::new(alloc, 7u64)?;
-    let mut tree = RawCongee::new(alloc, Budget::new(2104))?;
-    let refused = is_owner_refused(&mut tree, &owner)?;
-    Ok((refused, Arc::strong_count(&owner)))
+    let mut map = CongeeArc::new_in(alloc, Budget::new(limit))?;
+    let stored = stored_until_refused(&mut map, &owner)?;
+    Ok((stored, Arc::strong_count(&owner)))
 }
 
 #[test]
 fn refused_owner_is_dropped(rt: HostRuntime) -> Result<(), Fail> {
-    assert_eq!(rt; owners_after_refusal(rt.alloc())?, (true, 1));
+    // the leaf, and its growth refused
+    for (limit, wanted) in [(2104, (0, 1)), (2168, (4, 5))] {
+        assert_eq!(rt; owners_after_refusal(rt.alloc(), limit)?, wanted);
+    }
     Ok(())
 }

@@ -74,7 +74,7 @@ fn insertions_agree_with_the_plain_map(rt: HostRuntime) -> Result<(), Fail> {
 }
 
 // A key of a few at each byte of which one differs from the others, so that leaves empty again and again.
-fn crowded(i: u64) -> u64 {
+pub(super) fn crowded(i: u64) -> u64 {
     let x = scattered(i);
     (x % 6).wrapping_shl(8 * (x.wrapping_shr(16) % 8) as u32)
 }

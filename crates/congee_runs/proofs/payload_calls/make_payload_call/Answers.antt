@@ -6,45 +6,45 @@ use Rattle.congee_runs.proofs.payload_calls.make_payload_call.Goals as goal
 
 pub returns-in-None : goal.returns-in-None
 returns-in-None g c =
-    let none : lookup c.args.map.now (g.K.Word.number c.in-Get.key) ≡ None = search rules in
-    rw c.in-Get.is (seen_step g.K.Word.number g.K.Word.of_number g.P.Payload.alike g.P.Payload.tells_same c.args.map.now c.args.map.now c.in-Get.key None none)
+    let none : lookup c.args.map.now.pairs (g.K.Word.number c.in-Get.key) ≡ None = search rules in
+    rw c.in-Get.is (seen_step g.K.Word.number g.K.Word.of_number g.P.Payload.alike g.P.Payload.tells_same c.args.map.now.pairs c.args.map.now.pairs c.in-Get.key None none)
 
 pub returns-in-Ok : goal.returns-in-Ok
 returns-in-Ok g c =
-    let some : lookup c.args.map.now (g.K.Word.number c.in-Get.key) ≡ Some c.in-Some.standing.now = search rules in
-    rw c.in-Get.is (seen_step g.K.Word.number g.K.Word.of_number g.P.Payload.alike g.P.Payload.tells_same c.args.map.now c.args.map.now c.in-Get.key (Some c.in-Ok.copy) (c.in-Some.standing.now, some, c.in-Ok.ensures.alike))
+    let some : lookup c.args.map.now.pairs (g.K.Word.number c.in-Get.key) ≡ Some c.in-Some.standing.now = search rules in
+    rw c.in-Get.is (seen_step g.K.Word.number g.K.Word.of_number g.P.Payload.alike g.P.Payload.tells_same c.args.map.now.pairs c.args.map.now.pairs c.in-Get.key (Some c.in-Ok.copy) (c.in-Some.standing.now, some, c.in-Ok.ensures.alike))
 
 pub returns-in-Err : goal.returns-in-Err
 returns-in-Err g c =
-    let some : lookup c.args.map.now (g.K.Word.number c.in-Get.key) ≡ Some c.in-Some.standing.now = search rules in
-    rw c.in-Get.is (unseen_step g.K.Word.number g.K.Word.of_number g.P.Payload.alike g.P.Payload.tells_same c.args.map.now c.args.map.now c.in-Get.key c.in-Some.standing.now some)
+    let some : lookup c.args.map.now.pairs (g.K.Word.number c.in-Get.key) ≡ Some c.in-Some.standing.now = search rules in
+    rw c.in-Get.is (unseen_step g.K.Word.number g.K.Word.of_number g.P.Payload.alike g.P.Payload.tells_same c.args.map.now.pairs c.args.map.now.pairs c.in-Get.key c.in-Some.standing.now some)
 
 pub returns-in-Ok-insert : goal.returns-in-Ok-insert
 returns-in-Ok-insert g c =
     let e = c.in-Ok-insert.ensures in
-    rw c.in-Insert.is (insert_step g.K.Word.number g.K.Word.of_number g.P.Payload.alike g.P.Payload.tells_same c.args.map.now c.insert.new.self c.in-Insert.key c.in-Insert.payload c.in-Ok-insert.before e.before e.ok)
+    rw c.in-Insert.is (insert_step g.K.Word.number g.K.Word.of_number g.P.Payload.alike g.P.Payload.tells_same c.args.map.now.pairs c.insert.new.self.pairs c.in-Insert.key c.in-Insert.payload c.in-Ok-insert.before e.before e.ok)
 
 pub returns-in-Err-insert : goal.returns-in-Err-insert
 returns-in-Err-insert g c =
     let e = c.in-Err-insert.ensures in
-    rw c.in-Insert.is (insert_refused g.K.Word.number g.K.Word.of_number g.P.Payload.alike g.P.Payload.tells_same c.args.map.now c.insert.new.self c.in-Insert.key c.in-Insert.payload e.refused e.err)
+    rw c.in-Insert.is (insert_refused g.K.Word.number g.K.Word.of_number g.P.Payload.alike g.P.Payload.tells_same c.args.map.now.pairs c.insert.new.self.pairs c.in-Insert.key c.in-Insert.payload e.refused e.err.0)
 
 pub returns-in-Remove : goal.returns-in-Remove
 returns-in-Remove g c =
     let e = c.remove.ensures in
-    rw c.in-Remove.is (remove_step g.K.Word.number g.K.Word.of_number g.P.Payload.alike g.P.Payload.tells_same c.args.map.now c.remove.new.self c.in-Remove.key c.remove.result e.before e.pairs)
+    rw c.in-Remove.is (remove_step g.K.Word.number g.K.Word.of_number g.P.Payload.alike g.P.Payload.tells_same c.args.map.now.pairs c.remove.new.self.pairs c.in-Remove.key c.remove.result e.before e.pairs)
 
 pub returns-in-ComputeIfPresent : goal.returns-in-ComputeIfPresent
 returns-in-ComputeIfPresent g c =
     let e = c.change.ensures in
-    rw c.in-ComputeIfPresent.is (compute_step g.K.Word.number g.K.Word.of_number g.P.Payload.alike g.P.Payload.tells_same c.args.map.now c.change.new.map c.in-ComputeIfPresent.key c.in-ComputeIfPresent.answer c.change.result e.before e.absent e.present)
+    rw c.in-ComputeIfPresent.is (compute_step g.K.Word.number g.K.Word.of_number g.P.Payload.alike g.P.Payload.tells_same c.args.map.now.pairs c.change.new.map.pairs c.in-ComputeIfPresent.key c.in-ComputeIfPresent.answer c.change.result e.before e.absent e.present)
 
 pub returns-in-IsEmpty : goal.returns-in-IsEmpty
-returns-in-IsEmpty g c = rw c.in-IsEmpty.is (empty_step g.K.Word.number g.K.Word.of_number g.P.Payload.alike g.P.Payload.tells_same c.args.map.now c.is_empty.result c.is_empty.ensures)
+returns-in-IsEmpty g c = rw c.in-IsEmpty.is (empty_step g.K.Word.number g.K.Word.of_number g.P.Payload.alike g.P.Payload.tells_same c.args.map.now.pairs c.is_empty.result c.is_empty.ensures)
 
 pub returns-in-Ok-keys : goal.returns-in-Ok-keys
 returns-in-Ok-keys g c =
-    rw c.in-Keys.is (keys_step g.K.Word.number g.K.Word.of_number g.P.Payload.alike g.P.Payload.tells_same c.args.map.now (Listed c.in-Ok-keys.keys) (map (λ (e : ℕ × g.row.P.Denot). e.0) c.args.map.now, refl, c.in-Ok-keys.ensures))
+    rw c.in-Keys.is (keys_step g.K.Word.number g.K.Word.of_number g.P.Payload.alike g.P.Payload.tells_same c.args.map.now.pairs (Listed c.in-Ok-keys.keys) (map (λ (e : ℕ × g.row.P.Denot). e.0) c.args.map.now.pairs, refl, c.in-Ok-keys.ensures))
 
 pub returns-in-Err-keys : goal.returns-in-Err-keys
-returns-in-Err-keys g c = rw c.in-Keys.is (keys_refused g.K.Word.number g.K.Word.of_number g.P.Payload.alike g.P.Payload.tells_same c.args.map.now)
+returns-in-Err-keys g c = rw c.in-Keys.is (keys_refused g.K.Word.number g.K.Word.of_number g.P.Payload.alike g.P.Payload.tells_same c.args.map.now.pairs)

@@ -9,7 +9,7 @@ loop-call-preserved g c =
       tt,
       tt,
       λ rest last run.
-          let first = run_first g.K.Word.number g.K.Word.of_number g.P.Payload.alike g.P.Payload.tells_same c.loop-call.map c.make_payload_call.new.map last c.in-Some.call c.next.new.self.rest.items c.make_payload_call.result rest c.make_payload_call.ensures run in
+          let first = run_first g.K.Word.number g.K.Word.of_number g.P.Payload.alike g.P.Payload.tells_same c.loop-call.map.pairs c.make_payload_call.new.map.pairs last c.in-Some.call c.next.new.self.rest.items c.make_payload_call.result rest c.make_payload_call.ensures run in
           let whole = c.loop-call.invariant.2 (c.make_payload_call.result ∷ rest) last (rw steps first) in
           rw (items, append_assoc c.loop-call.replies.items (c.make_payload_call.result ∷ []) rest) whole,
       (let l = ap length steps in search rules),
@@ -25,5 +25,5 @@ returns-clause-run g c =
     let over = c.in-None.ensures.steps.0 in
     let zero : length c.loop-call.call-iterator.rest.items ≡ 0 = search rules in
     let none = empty c.loop-call.call-iterator.rest.items zero in
-    let whole = c.loop-call.invariant.2 [] c.loop-call.map (rw none (run_of_none g.K.Word.number g.K.Word.of_number g.P.Payload.alike g.P.Payload.tells_same c.loop-call.map)) in
+    let whole = c.loop-call.invariant.2 [] c.loop-call.map.pairs (rw none (run_of_none g.K.Word.number g.K.Word.of_number g.P.Payload.alike g.P.Payload.tells_same c.loop-call.map.pairs)) in
     rw append-nil at whole

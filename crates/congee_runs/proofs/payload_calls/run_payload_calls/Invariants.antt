@@ -10,7 +10,7 @@ invariant-loop-call g l =
     (goal.iterator-loop-call g).can_next l.call-iterator
     × (goal.iterator-loop-call g).is_finite l.call-iterator
     × ((rest : List (PayloadReply g.row.K.Denot g.row.P.Denot)) (last : Pairs g.row.P.Denot)
-    → AreLegalPayloadReplies g.K.Word.number g.K.Word.of_number g.P.Payload.alike g.P.Payload.tells_same of_new_nodes l.map l.call-iterator.rest.items rest last
-    → AreLegalPayloadReplies g.K.Word.number g.K.Word.of_number g.P.Payload.alike g.P.Payload.tells_same of_new_nodes l.fn.map l.fn.calls.items (l.replies.items ++ rest) last)
+    → AreLegalPayloadReplies g.K.Word.number g.K.Word.of_number g.P.Payload.alike g.P.Payload.tells_same of_new_nodes l.map.pairs l.call-iterator.rest.items rest last
+    → AreLegalPayloadReplies g.K.Word.number g.K.Word.of_number g.P.Payload.alike g.P.Payload.tells_same of_new_nodes l.fn.map.pairs l.fn.calls.items (l.replies.items ++ rest) last)
     × (vec_len l.replies + length l.call-iterator.rest.items ≡ length l.fn.calls.items)
     × (length l.fn.calls.items ≤ vec_capacity l.replies)
