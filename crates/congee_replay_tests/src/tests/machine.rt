@@ -1,5 +1,7 @@
 //! One call on a machine without pairs, event by event, and each of the machine's other calls once.
 
+use crate::tests::courses::{Numbers, of_pairs, plain};
+use crate::tests::insertions::MANY;
 use congee_machine::machine::Machine;
 use congee_map::error::OOMError;
 use congee_node_table::allocator::Budget;
@@ -8,20 +10,6 @@ use congee_protocol::types::{Env, Kind, Op, Outcome, Reply, Seen, StartError};
 use std::alloc::Global;
 use std::sync::Arc;
 use std::test::Fail;
-
-// An event with nothing to take from outside.
-fn plain() -> Env<u64> {
-    let torn = Seen {
-        child: None,
-        count: 0,
-        full: false,
-    };
-    Env {
-        torn,
-        fail: false,
-        answer: None,
-    }
-}
 
 // Whether the call of number 0 makes an event of this kind next, and goes on.
 fn goes_on(machine: &mut Machine<u64, Budget>, kind: Kind) -> bool {
@@ -118,6 +106,63 @@ fn nothing_is_stored(rt: HostRuntime) -> Result<(), Fail> {
 fn the_root_is_charged(rt: HostRuntime) {
     assert!(rt; !has_room_for_the_root(rt.alloc(), 2103));
     assert!(rt; has_room_for_the_root(rt.alloc(), 2104));
+}
+
+// How many nodes and how many entries a level has, by form.
+type Level = ([u64; 4], [u64; 4]);
+
+// Two leaves below an inner node, and what is left once the only key of the second leaf is removed.
+const TWO_LEAVES: [Level; 3] = [
+    ([0, 0, 0, 1], [0, 0, 0, 1]),
+    ([1, 0, 0, 0], [2, 0, 0, 0]),
+    ([2, 0, 0, 0], [3, 0, 0, 0]),
+];
+
+const ONE_LEAF: [Level; 3] = [
+    ([0, 0, 0, 1], [0, 0, 0, 1]),
+    ([1, 0, 0, 0], [1, 0, 0, 0]),
+    ([1, 0, 0, 0], [2, 0, 0, 0]),
+];
+
+// Whether the statistics are these, the root's level first.
+fn has_stats(machine: &Numbers, levels: &[Level], pairs: u64) -> Result<bool, OOMError> {
+    let stats = machine.stats()?;
+    let told = stats.levels.as_slice();
+    let agree = told
+        .iter()
+        .zip(levels)
+        .all(|(told, level)| (told.nodes, told.entries) == *level);
+    Ok(agree && told.len() == levels.len() && stats.kv_pairs == pairs)
+}
+
+// Whether a removal that nobody disturbs ends.
+fn removes(machine: &mut Numbers, key: u64) -> bool {
+    let op = Op::Remove(key);
+    let started = machine.start(0, &op).is_ok();
+    for _ in 0..MANY {
+        machine.step(0, &op, plain());
+    }
+    started && !machine.is_in_flight(0)
+}
+
+// Whether the leaf of the removed key isn't counted any more, though it keeps its slot until `reclaim_next`, which finds
+// no other one.
+fn counts_what_is_reached(machine: &mut Numbers) -> Result<bool, OOMError> {
+    let before = has_stats(machine, &TWO_LEAVES, 3)? && !machine.reclaim_next();
+    let removed = removes(machine, 256) && has_stats(machine, &ONE_LEAF, 2)?;
+    let given_back = machine.reclaim_next() && !machine.reclaim_next();
+    Ok(before && removed && given_back && has_stats(machine, &ONE_LEAF, 2)?)
+}
+
+fn counts_of_two_leaves(alloc: Global) -> Result<bool, Fail> {
+    let mut machine = of_pairs(alloc, &[(0, 0), (1, 1), (256, 5)])?;
+    Ok(counts_what_is_reached(&mut machine)?)
+}
+
+#[test]
+fn a_removed_leaf_is_not_counted(rt: HostRuntime) -> Result<(), Fail> {
+    assert!(rt; counts_of_two_leaves(rt.alloc())?);
+    Ok(())
 }
 
 type Shared = Machine<Arc<u64>, Budget>;
