@@ -1,11 +1,12 @@
-//! The program `congee`: reads commands on an ordered map, a line each, and writes the answers.
+//! The program `congee`: serves commands on an ordered map, or replays a schedule of the protocol's events, a line each.
 #![tactic(auto)]
 
+pub mod serve;
 #[cfg(test)]
 mod tests;
 
+use crate::serve::{serve, tell_no_memory};
 use congee_lines::watched::Watched;
-use congee_service::serve::{serve, tell_no_memory};
 use std::alloc::AllocError;
 use std::env;
 use std::io::ErrorKind;

@@ -1,7 +1,9 @@
 //! Whole runs over streams in memory.
 
+mod schedules;
+
+use crate::serve::serve;
 use congee_lines::watched::Watched;
-use congee_service::serve::serve;
 use std::alloc::{AllocError, Global};
 use std::io;
 use std::io::{ErrorKind, Read, Write};
@@ -186,7 +188,7 @@ fn usage(rt: HostRuntime) -> Result<(), Fail> {
         &["run", ""],
         &["run", "+1"],
         &["run", "18446744073709551616"],
-        &["schedule"],
+        &["schedule", "1"],
         &["run", "1", "2"],
         &["run\n"],
     ];
@@ -274,7 +276,14 @@ fn gives_list(
             Torn::whole(input.as_bytes()),
             Outcome::of(0, wanted.as_str(), ""),
         ),
-        Some(room) => fills(alloc, input.as_bytes(), wanted.as_bytes(), room, false),
+        Some(room) => fills(
+            alloc,
+            "run",
+            input.as_bytes(),
+            wanted.as_bytes(),
+            room,
+            false,
+        ),
     }
 }
 
@@ -419,15 +428,17 @@ impl Write for Full {
     }
 }
 
-// Whether a run at a writer with room for so many bytes breaks off, and has written the first ones of these.
+// Whether what this word asks for, at a writer with room for so many bytes, breaks off, and has written the first ones of
+// these.
 fn fills(
     alloc: Global,
+    word: &str,
     input: &[u8],
     wanted: &[u8],
     room: usize,
     fails: bool,
 ) -> Result<bool, AllocError> {
-    let list = words_of(alloc, &["run"])?;
+    let list = words_of(alloc, &[word])?;
     let mut output = Full {
         taken: Vec::new(alloc),
         room,
@@ -448,7 +459,14 @@ fn full_output(rt: HostRuntime) -> Result<(), Fail> {
     // where there is room for all, the flush at the end fails
     for (last, fails) in [(10, false), (11, true)] {
         for room in 0..=last {
-            let is_so = fills(rt.alloc(), b"insert 1 42\nget 1\n", wanted, room, fails)?;
+            let is_so = fills(
+                rt.alloc(),
+                "run",
+                b"insert 1 42\nget 1\n",
+                wanted,
+                room,
+                fails,
+            )?;
             assert!(rt; is_so, "room for {room}");
         }
     }

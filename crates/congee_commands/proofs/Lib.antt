@@ -1,4 +1,2 @@
 pub mod CommandLemmas
-pub mod GrammarLemmas
-pub mod LawLemmas
 pub mod Replies

@@ -6,18 +6,11 @@ use Rattle.congee_runs.specs.Calls.{AnswersBy}
 use Rattle.congee_commands.specs.declared.command.Command.{Command}
 use Rattle.congee_commands.specs.declared.command.Command.TheVariants.{Get, Insert, Remove, Exchange, Add, Put, Range, Keys, Empty}
 use Rattle.congee_commands.specs.Command.{SpellsCommand, IsBad, command_call, command_closure}
-use Rattle.congee_commands.specs.Value.{value_text}
+use Rattle.congee_lines.specs.Value.{value_text, key_text, pair_text}
 
 abbrev pub test_text : Bool → List ℕ
 test_text true = codes "true"
 test_text false = codes "false"
-
--- a key behind a space, and a pair with its value
-abbrev pub key_text : ℕ → List ℕ
-key_text key = codes " " ++ decimal key
-
-abbrev pub pair_text : ℕ × ℕ → List ℕ
-pair_text pair = codes " " ++ decimal pair.0 ++ codes "=" ++ decimal pair.1
 
 -- how many there are, and all of them in order
 abbrev pub keys_text : List ℕ → List ℕ

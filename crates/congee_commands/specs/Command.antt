@@ -1,8 +1,8 @@
 -- The lines that are commands.
 use Rattle.std.specs.Prelude.{ℕ, ◌+◌, ◌-◌, ◌<◌, ◌≤◌, ◌^◌, List, [], ◌∷◌, codes, decimal, Option, Some, None, if◌then◌else◌, min, nat_lt}
 use Rattle.congee_map.specs.Call.{Call, get, insert, remove, compare_exchange, compute_if_present, compute_or_insert, is_empty, range, keys}
-use Rattle.congee_commands.specs.Grammar.{Spells, SpellsNone}
-use Rattle.congee_commands.specs.Value.{value_text, IsWide}
+use Rattle.congee_lines.specs.Grammar.{Spells, SpellsNone}
+use Rattle.congee_lines.specs.Value.{value_text, IsWide}
 use Rattle.congee_commands.specs.declared.command.Command.{Command}
 use Rattle.congee_commands.specs.declared.command.Command.TheVariants.{Get, Insert, Remove, Exchange, Add, Put, Range, Keys, Empty}
 

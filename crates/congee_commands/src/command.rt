@@ -1,8 +1,7 @@
 //! Commands, and the lines that say them.
 
-ghost use Rattle.std.specs.Prelude.{◌≡◌, ℕ, List, ◌∷◌, ◌<◌, ◌≤◌, ◌^◌, Option, IfSome, IfNone, codes, decimal};
+ghost use Rattle.std.specs.Prelude.{◌≡◌, ℕ, List, ◌∷◌, ◌≤◌, IfSome, IfNone, codes, decimal};
 
-use congee_lines::number::number;
 use congee_lines::words::Words;
 
 /// What a line asks for. Keys and values are numbers of 64 bits.
@@ -33,7 +32,6 @@ pub const MAX_PAIRS: u64 = 4096;
 
 ghost use Rattle.congee_lines.specs.inner.Words.{words_left};
 ghost use Rattle.congee_commands.specs.inner.Reading.{ReadsCommand};
-ghost use Rattle.congee_commands.specs.Value.{value_text, IsWide};
 ghost use Rattle.congee_commands.specs.Command.{SpellsCommand, IsBad};
 
 /// The command that a line says. The line feed behind it is no part of a line.
@@ -83,7 +81,7 @@ fn named(name: &[u8], words: Words) -> Option<Command>
 fn get_of(mut words: Words) -> Option<Command>
     ensures { ReadsCommand (codes "get") words.entry result }
 {
-    let key = next_number(&mut words)?;
+    let key = words.next_number()?;
     words.end()?;
     Some(Command::Get(key))
 }
@@ -91,8 +89,8 @@ fn get_of(mut words: Words) -> Option<Command>
 fn insert_of(mut words: Words) -> Option<Command>
     ensures { ReadsCommand (codes "insert") words.entry result }
 {
-    let key = next_number(&mut words)?;
-    let value = next_number(&mut words)?;
+    let key = words.next_number()?;
+    let value = words.next_number()?;
     words.end()?;
     Some(Command::Insert(key, value))
 }
@@ -100,7 +98,7 @@ fn insert_of(mut words: Words) -> Option<Command>
 fn remove_of(mut words: Words) -> Option<Command>
     ensures { ReadsCommand (codes "remove") words.entry result }
 {
-    let key = next_number(&mut words)?;
+    let key = words.next_number()?;
     words.end()?;
     Some(Command::Remove(key))
 }
@@ -108,9 +106,9 @@ fn remove_of(mut words: Words) -> Option<Command>
 fn exchange_of(mut words: Words) -> Option<Command>
     ensures { ReadsCommand (codes "cas") words.entry result }
 {
-    let key = next_number(&mut words)?;
-    let old = next_number(&mut words)?;
-    let new = next_value(&mut words)?;
+    let key = words.next_number()?;
+    let old = words.next_number()?;
+    let new = words.next_value()?;
     words.end()?;
     Some(Command::Exchange(key, old, new))
 }
@@ -118,8 +116,8 @@ fn exchange_of(mut words: Words) -> Option<Command>
 fn add_of(mut words: Words) -> Option<Command>
     ensures { ReadsCommand (codes "add") words.entry result }
 {
-    let key = next_number(&mut words)?;
-    let more = next_number(&mut words)?;
+    let key = words.next_number()?;
+    let more = words.next_number()?;
     words.end()?;
     Some(Command::Add(key, more))
 }
@@ -127,8 +125,8 @@ fn add_of(mut words: Words) -> Option<Command>
 fn put_of(mut words: Words) -> Option<Command>
     ensures { ReadsCommand (codes "put") words.entry result }
 {
-    let key = next_number(&mut words)?;
-    let more = next_number(&mut words)?;
+    let key = words.next_number()?;
+    let more = words.next_number()?;
     words.end()?;
     Some(Command::Put(key, more))
 }
@@ -136,8 +134,8 @@ fn put_of(mut words: Words) -> Option<Command>
 fn range_of(mut words: Words) -> Option<Command>
     ensures { ReadsCommand (codes "range") words.entry result }
 {
-    let start = next_number(&mut words)?;
-    let end = next_number(&mut words)?;
+    let start = words.next_number()?;
+    let end = words.next_number()?;
     let limit = next_limit(&mut words)?;
     words.end()?;
     Some(Command::Range(start, end, limit))
@@ -157,16 +155,6 @@ fn empty_of(words: Words) -> Option<Command>
     Some(Command::Empty)
 }
 
-// The next word as a number.
-fn next_number(words: &mut Words) -> Option<u64>
-    ensures found { IfSome result (λ n. words_left words.old ≡ decimal n ∷ words_left words.new) }
-    ensures range { IfSome result (λ n. n < 2 ^ 64) }
-    ensures none { IfNone result ((n : ℕ) (rest : List (List ℕ))
-        → n < 2 ^ 64 → words_left words.old ≡ decimal n ∷ rest → ⊥) }
-{
-    number(words.next_word()?)
-}
-
 // The next word as a number of pairs that a range may ask for.
 fn next_limit(words: &mut Words) -> Option<u64>
     ensures found { IfSome result (λ n. words_left words.old ≡ decimal n ∷ words_left words.new) }
@@ -174,33 +162,9 @@ fn next_limit(words: &mut Words) -> Option<u64>
     ensures none { IfNone result ((n : ℕ) (rest : List (List ℕ))
         → n ≤ 4096 → words_left words.old ≡ decimal n ∷ rest → ⊥) }
 {
-    let limit = next_number(words)?;
+    let limit = words.next_number()?;
     if limit > MAX_PAIRS {
         return None;
     }
     Some(limit)
-}
-
-// The next word as a number, or `none`.
-fn next_value(words: &mut Words) -> Option<Option<u64>>
-    ensures found { IfSome result
-        (λ value. words_left words.old ≡ value_text value ∷ words_left words.new) }
-    ensures range { IfSome result IsWide }
-    ensures none { IfNone result ((value : Option ℕ) (rest : List (List ℕ))
-        → IsWide value → words_left words.old ≡ value_text value ∷ rest → ⊥) }
-{
-    value(words.next_word()?)
-}
-
-// The word as a number, or `none`.
-fn value(word: &[u8]) -> Option<Option<u64>>
-    ensures found { IfSome result (λ value. word.now ≡ value_text value) }
-    ensures range { IfSome result IsWide }
-    ensures none { IfNone result ((value : Option ℕ)
-        → IsWide value → word.now ≡ value_text value → ⊥) }
-{
-    if word == b"none".as_slice() {
-        return Some(None);
-    }
-    Some(Some(number(word)?))
 }

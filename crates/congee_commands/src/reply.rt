@@ -1,12 +1,12 @@
 //! Replies to lines, and the texts of the replies.
 
 ghost use Rattle.std.specs.Prelude.{◌≡◌, ℕ, ◌+◌, ◌≤◌, ◌++◌, ◌∷◌, List, [], length, Some, None, IfOk, OnOk, OnErr, nat_eq};
-ghost use Rattle.std.specs.List.{flat_map};
 ghost use Rattle.congee_map.specs.Map.{lookup, put as put_pair, with_answer};
 
 use crate::command::{Command, command_of};
 use congee_faces::typed_congee::Congee;
 use congee_lines::line::Line;
+use congee_lines::listing::{put_keys, put_pairs};
 use congee_lines::pending::Pending;
 use congee_lines::watched::{Failed, Watched};
 use congee_map::error::OOMError;
@@ -47,8 +47,6 @@ ghost use Rattle.congee_commands.specs.Command.{checked_sum, put_sum, command_cl
 ghost use Rattle.congee_lines.specs.Lines.{ended};
 ghost use Rattle.congee_lines.specs.inner.Kept.{IsKeptOf};
 ghost use Rattle.congee_lines.specs.Watched.{HasFailed, SendsTo, SendsPart};
-ghost use Rattle.congee_commands.specs.Value.{value_text};
-ghost use Rattle.congee_commands.specs.Answer.{test_text, key_text, pair_text};
 ghost use Rattle.congee_commands.specs.inner.Replied.{reply_text, head_text, items_text, reply_asked, reply_done, IsServed, AnswersLine};
 
 /// Does what the line says. Memory is wanted by the map, where it takes in a new key, and for what a reply
@@ -184,24 +182,24 @@ fn add_head(pending: &mut Pending, reply: &Reply)
     ensures short { length pending.new ≤ length pending.old + 48 }
 {
     match reply {
-        Reply::Value(value) => add_value(pending, *value),
+        Reply::Value(value) => pending.add_value(*value),
         Reply::Before(before) => {
             pending.add(b"ok ");
-            add_value(pending, *before);
+            pending.add_value(*before);
         }
         Reply::Exchanged(Ok(put)) => {
             pending.add(b"ok ");
-            add_value(pending, *put);
+            pending.add_value(*put);
         }
         Reply::Exchanged(Err(standing)) => {
             pending.add(b"err ");
-            add_value(pending, *standing);
+            pending.add_value(*standing);
         }
         Reply::Computed(None) => pending.add(b"none"),
         Reply::Computed(Some((old, new))) => {
             pending.add_number(*old);
             pending.add(b" ");
-            add_value(pending, *new);
+            pending.add_value(*new);
         }
         Reply::Tested(true) => pending.add(b"true"),
         Reply::Tested(false) => pending.add(b"false"),
@@ -232,78 +230,5 @@ fn put_items<W: Write>(
         Reply::Ranged(pairs) => put_pairs(pending, output, pairs),
         Reply::Listed(keys) => put_keys(pending, output, keys),
         _ => Ok(()),
-    }
-}
-
-fn put_pairs<W: Write>(
-    pending: &mut Pending,
-    output: &mut Watched<W>,
-    pairs: &[(u64, u64)],
-) -> Result<(), Failed>
-    requires { length pending.old + 16 ≤ 8192 }
-    ensures ok { OnOk result (SendsTo W.contents output.old output.new
-        (pending.old ++ flat_map pair_text pairs.now) pending.new) }
-    ensures room { OnOk result (length pending.new + 16 ≤ 8192) }
-    ensures err { OnErr result (SendsPart W.contents output.old output.new
-        (pending.old ++ flat_map pair_text pairs.now)) }
-    ensures kept { OnOk result (output.new.failed ≡ output.old.failed) }
-    ensures failed { OnErr result (HasFailed output.new) }
-{
-    for pair in pairs {
-        pending.make_room(output)?;
-        add_pair(pending, *pair);
-    }
-    Ok(())
-}
-
-fn put_keys<W: Write>(
-    pending: &mut Pending,
-    output: &mut Watched<W>,
-    keys: &[u64],
-) -> Result<(), Failed>
-    requires { length pending.old + 16 ≤ 8192 }
-    ensures ok { OnOk result (SendsTo W.contents output.old output.new
-        (pending.old ++ flat_map key_text keys.now) pending.new) }
-    ensures room { OnOk result (length pending.new + 16 ≤ 8192) }
-    ensures err { OnErr result (SendsPart W.contents output.old output.new
-        (pending.old ++ flat_map key_text keys.now)) }
-    ensures kept { OnOk result (output.new.failed ≡ output.old.failed) }
-    ensures failed { OnErr result (HasFailed output.new) }
-{
-    for key in keys {
-        pending.make_room(output)?;
-        add_key(pending, *key);
-    }
-    Ok(())
-}
-
-fn add_pair(pending: &mut Pending, pair: (u64, u64))
-    requires { length pending.old + 64 ≤ 8192 }
-    ensures text { pending.new ≡ pending.old ++ pair_text pair }
-    ensures short { length pending.new ≤ length pending.old + 48 }
-{
-    let (key, value) = pair;
-    add_key(pending, key);
-    pending.add(b"=");
-    pending.add_number(value);
-}
-
-fn add_key(pending: &mut Pending, key: u64)
-    requires { length pending.old + 24 ≤ 8192 }
-    ensures text { pending.new ≡ pending.old ++ key_text key }
-    ensures short { length pending.new ≤ length pending.old + 21 }
-{
-    pending.add(b" ");
-    pending.add_number(key);
-}
-
-fn add_value(pending: &mut Pending, value: Option<u64>)
-    requires { length pending.old + 20 ≤ 8192 }
-    ensures text { pending.new ≡ pending.old ++ value_text value }
-    ensures short { length pending.new ≤ length pending.old + 20 }
-{
-    match value {
-        None => pending.add(b"none"),
-        Some(value) => pending.add_number(value),
     }
 }

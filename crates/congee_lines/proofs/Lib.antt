@@ -1,3 +1,7 @@
+pub mod Cutting
+pub mod GrammarLemmas
+pub mod LawLemmas
 pub mod Numbers
 pub mod Sending
+pub mod ValueLemmas
 pub mod WordLemmas

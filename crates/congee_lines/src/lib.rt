@@ -1,7 +1,9 @@
-//! Lines of text, in and out: the bytes of a line, its words and numbers, and streams that note a failure.
+//! Lines of text, in and out: the bytes of a line, its words, numbers and values, and streams that note a failure.
 #![tactic(auto)]
 
+pub mod laws;
 pub mod line;
+pub mod listing;
 pub mod number;
 pub mod pending;
 pub mod watched;

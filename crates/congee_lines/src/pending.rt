@@ -1,6 +1,7 @@
 //! Bytes that have still to be written.
 
 ghost use Rattle.std.specs.Prelude.{◌≡◌, ℕ, ◌+◌, ◌-◌, ◌≤◌, List, [], ◌++◌, length, take, decimal, OnOk, OnErr};
+ghost use Rattle.congee_lines.specs.Value.{value_text};
 ghost use Rattle.congee_lines.specs.Watched.{HasFailed, SendsTo, SendsPart};
 
 use crate::watched::{Failed, Watched};
@@ -77,6 +78,18 @@ impl Pending {
         self.add(buffer.format(number).as_bytes());
     }
 
+    /// Adds the decimal text of a value, or `none`, which is at most 20 bytes.
+    pub fn add_value(&mut self, value: Option<u64>)
+        requires { length self.old + 20 ≤ 8192 }
+        ensures text { self.new ≡ self.old ++ value_text value }
+        ensures short { length self.new ≤ length self.old + 20 }
+    {
+        match value {
+            None => self.add(b"none"),
+            Some(value) => self.add_number(value),
+        }
+    }
+
     /// Writes all that is kept. At an `Err` a first part of it was written.
     pub fn send_to<W: Write>(&mut self, output: &mut Watched<W>) -> Result<(), Failed>
         ensures sent { OnOk result (SendsTo W.contents output.old output.new self.old []) }
@@ -90,16 +103,16 @@ impl Pending {
         Ok(())
     }
 
-    /// Makes room for 64 bytes, which a short answer never fills: writes all that is kept where
+    /// Makes room for 96 bytes, which a short line never fills: writes all that is kept where
     /// there is less. At an `Err` a first part of it was written.
     pub fn make_room<W: Write>(&mut self, output: &mut Watched<W>) -> Result<(), Failed>
         ensures sent { OnOk result (SendsTo W.contents output.old output.new self.old self.new) }
-        ensures room { OnOk result (length self.new + 64 ≤ 8192) }
+        ensures room { OnOk result (length self.new + 96 ≤ 8192) }
         ensures broken { OnErr result (SendsPart W.contents output.old output.new self.old) }
         ensures kept { OnOk result (output.new.failed ≡ output.old.failed) }
         ensures failed { OnErr result (HasFailed output.new) }
     {
-        if self.room() < 64 {
+        if self.room() < 96 {
             return self.send_to(output);
         }
         Ok(())

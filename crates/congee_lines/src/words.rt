@@ -1,6 +1,7 @@
 //! The words of a line.
 
-ghost use Rattle.std.specs.Prelude.{◌≡◌, ◌≢◌, ℕ, ◌∷◌, [], List, ◌<◌, ◌≤◌, ◌^◌, length, slice_index, MatchOption, IfSome, IfNone, decimal};
+ghost use Rattle.std.specs.Prelude.{◌≡◌, ◌≢◌, ℕ, ◌∷◌, [], List, ◌<◌, ◌≤◌, ◌^◌, length, slice_index, Option, MatchOption, IfSome, IfNone, decimal};
+ghost use Rattle.congee_lines.specs.Value.{value_text, IsWide};
 ghost use Rattle.congee_lines.specs.inner.Words.{words_of, words_left};
 
 use crate::number::number;
@@ -34,6 +35,27 @@ impl<'a> Words<'a> {
         Some(&text[..at])
     }
 
+    /// The next word as a number.
+    pub fn next_number(&mut self) -> Option<u64>
+        ensures found { IfSome result (λ n. words_left self.old ≡ decimal n ∷ words_left self.new) }
+        ensures range { IfSome result (λ n. n < 2 ^ 64) }
+        ensures none { IfNone result ((n : ℕ) (rest : List (List ℕ))
+            → n < 2 ^ 64 → words_left self.old ≡ decimal n ∷ rest → ⊥) }
+    {
+        number(self.next_word()?)
+    }
+
+    /// The next word as a number, or `none`.
+    pub fn next_value(&mut self) -> Option<Option<u64>>
+        ensures found { IfSome result
+            (λ value. words_left self.old ≡ value_text value ∷ words_left self.new) }
+        ensures range { IfSome result IsWide }
+        ensures none { IfNone result ((value : Option ℕ) (rest : List (List ℕ))
+            → IsWide value → words_left self.old ≡ value_text value ∷ rest → ⊥) }
+    {
+        value(self.next_word()?)
+    }
+
     /// `Some` if there is no word left.
     pub fn end(&self) -> Option<()>
         ensures { MatchOption result (words_left self.now ≡ [] → ⊥)
@@ -44,6 +66,19 @@ impl<'a> Words<'a> {
             Some(_) => None,
         }
     }
+}
+
+// The word as a number, or `none`.
+fn value(word: &[u8]) -> Option<Option<u64>>
+    ensures found { IfSome result (λ value. word.now ≡ value_text value) }
+    ensures range { IfSome result IsWide }
+    ensures none { IfNone result ((value : Option ℕ)
+        → IsWide value → word.now ≡ value_text value → ⊥) }
+{
+    if word == b"none".as_slice() {
+        return Some(None);
+    }
+    Some(Some(number(word)?))
 }
 
 // Where the first space is, or else the length.

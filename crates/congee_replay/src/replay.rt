@@ -164,8 +164,9 @@ pub fn replay_with<A: Allocator>(
         trace.content.items) }
 {
     let mut machine = Inner::new(alloc, budget)?;
-    let mut lines = Vec::new(alloc);
-    let mut decided = Vec::new(alloc);
+    let mut lines = Vec::with_capacity(alloc, events.len())?;
+    // (a call takes five events at least)
+    let mut decided = Vec::with_capacity(alloc, events.len() / 5)?;
     for event in events {
         let happened = happen(&mut machine, event)?;
         lines.push(happened.line)?;

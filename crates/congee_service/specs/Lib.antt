@@ -1,3 +1,2 @@
 pub mod Run
-pub mod Serve
 pub mod inner

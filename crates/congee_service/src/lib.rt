@@ -1,6 +1,5 @@
-//! `congee run` over any reader and writer: one line after another, arguments and exit statuses.
+//! `congee run` over any reader and writer: one line after another.
 #![tactic(auto)]
 
 pub mod run;
-pub mod serve;
 pub mod session;

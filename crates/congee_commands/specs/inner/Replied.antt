@@ -7,8 +7,8 @@ use Rattle.congee_map.specs.Legal.{IsLegal}
 use Rattle.congee_map.specs.Refusal.{of_new_nodes}
 use Rattle.congee_runs.specs.Calls.{deeds_of}
 use Rattle.congee_commands.specs.Command.{command_call, put_sum}
-use Rattle.congee_commands.specs.Value.{value_text}
-use Rattle.congee_commands.specs.Answer.{test_text, key_text, keys_text, pair_text, pairs_text, IsText, IsUndone, IsAnswered}
+use Rattle.congee_lines.specs.Value.{value_text, key_text, pair_text}
+use Rattle.congee_commands.specs.Answer.{test_text, keys_text, pairs_text, IsText, IsUndone, IsAnswered}
 use Rattle.congee_commands.specs.declared.command.Command.{Command}
 use Rattle.congee_commands.specs.declared.command.Command.TheVariants.{Add, Put}
 use Rattle.congee_commands.specs.declared.reply.Reply.{Reply}

@@ -1,7 +1,7 @@
 use Rattle.std.proofs.Common.{◌≡◌, ◌∷◌, sym, ◌∙◌}
 use Rattle.congee_lines.specs.inner.Words.{words_of, words_left}
 use Rattle.congee_commands.specs.Command.{words_of_command, HasNumbers}
-use Rattle.congee_commands.proofs.GrammarLemmas.{spelled_from_reads, none_from_reads}
+use Rattle.congee_lines.proofs.GrammarLemmas.{spelled_from_reads, none_from_reads}
 use Rattle.congee_commands.proofs.CommandLemmas.{commands}
 use Rattle.congee_commands.proofs.command.command_of.Goals as goal
 use Rattle.congee_commands.proofs.command.command_of.Goals.{In_ok-name}

@@ -1,5 +1,5 @@
 use Rattle.std.proofs.Common.{◌≡◌, arith, sym, ◌∙◌}
-use Rattle.congee_commands.proofs.CommandLemmas.{one_number}
+use Rattle.congee_lines.proofs.ValueLemmas.{one_number}
 use Rattle.congee_commands.proofs.command.next_limit.Goals as goal
 
 pub returns-then-limit-gt-MAX_PAIRS-clause-none : goal.returns-then-limit-gt-MAX_PAIRS-clause-none

@@ -1,6 +1,6 @@
 use Rattle.std.proofs.Common.{◌≡◌, None, inl, refl}
 use Rattle.congee_commands.specs.Command.{words_of_command, HasNumbers}
-use Rattle.congee_commands.proofs.GrammarLemmas.{none_long}
+use Rattle.congee_lines.proofs.GrammarLemmas.{none_long}
 use Rattle.congee_commands.proofs.CommandLemmas.{commands}
 use Rattle.congee_commands.proofs.reply.reply_to.Goals as goal
 

@@ -1,5 +1,6 @@
 use Rattle.std.proofs.lemmas.Result.{err_from_is_err_and}
-use Rattle.congee_service.proofs.Running.{tells_all, tells_all_part, serves_all_sent, serves_all_kept, on_ok_from, on_err_from}
+use Rattle.congee_lines.proofs.Cutting.{on_ok_from, on_err_from}
+use Rattle.congee_service.proofs.Running.{tells_all, tells_all_part, serves_all_sent, serves_all_kept}
 use Rattle.congee_service.proofs.session.Session.finish.Goals as goal
 
 pub returns-in_err-answer_last-clause-err : goal.returns-in_err-answer_last-clause-err

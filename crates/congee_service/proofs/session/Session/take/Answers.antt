@@ -1,5 +1,6 @@
 use Rattle.std.proofs.lemmas.Result.{on_err_weaker}
-use Rattle.congee_service.proofs.Running.{serves_byte, serves_line_to, breaks_line, on_ok_two}
+use Rattle.congee_lines.proofs.Cutting.{on_ok_two}
+use Rattle.congee_service.proofs.Running.{serves_byte, serves_line_to, breaks_line}
 use Rattle.congee_service.proofs.session.Session.take.Goals as goal
 
 pub returns-then-byte-eq10-clause-ok : goal.returns-then-byte-eq10-clause-ok

@@ -1,0 +1,39 @@
+use Rattle.std.proofs.Common.{◌≡◌, List, [], ◌∷◌, length, get_or, map, string_bytes, codes, decimal, sym, ap, ◌∙◌, rules, arith}
+use Rattle.congee_cli.proofs.serve.asked_by.Goals as goal
+
+-- a list of one item, from its length and what it has at its place
+one_item : {X : Type 0} (xs : List X) (x : X) → length xs ≡ 1 → x ≡ get_or xs 0 x → xs ≡ x ∷ []
+one_item [] x one here = absurd (omega arith)
+one_item (y ∷ []) x one here = ap (λ z. z ∷ []) (sym here)
+one_item (y ∷ z ∷ zs) x one here = absurd (omega arith)
+
+-- the same of two
+two_items : {X : Type 0} (xs : List X) (x y : X) → length xs ≡ 2 → x ≡ get_or xs 0 x → y ≡ get_or xs 1 y → xs ≡ x ∷ y ∷ []
+two_items [] x y two first second = absurd (omega arith)
+two_items (v ∷ []) x y two first second = absurd (omega arith)
+two_items (v ∷ w ∷ []) x y two first second = ap (λ z. z ∷ w ∷ []) (sym first) ∙ ap (λ z. x ∷ z ∷ []) (sym second)
+two_items (v ∷ w ∷ z ∷ zs) x y two first second = absurd (omega arith)
+
+pub returns-in-len1-clause-some : goal.returns-in-len1-clause-some
+returns-in-len1-clause-some c =
+    let name = string_bytes c.name-item.result in
+    let words : map string_bytes c.args.words.now ≡ name ∷ [] = ap (map string_bytes) (one_item _ _ (omega arith) c.name-item.is) in
+    let same : name ≡ codes "run" = search rules in
+    words ∙ ap (λ w. w ∷ []) same
+
+pub returns-in_ok-number-in-len2-clause-some : goal.returns-in_ok-number-in-len2-clause-some
+returns-in_ok-number-in-len2-clause-some c =
+    let name = string_bytes c.name-item-then-words-lt3.result in
+    let limit = string_bytes c.limit-item.result in
+    let words : map string_bytes c.args.words.now ≡ name ∷ limit ∷ [] =
+    ap (map string_bytes) (two_items _ _ _ (omega arith) c.name-item-then-words-lt3.is c.limit-item.is) in
+    let same : name ≡ codes "run" = search rules in
+    let number : limit ≡ decimal c.in_ok-number-in-len2.field-0 = search rules in
+    (words ∙ ap (λ w. w ∷ limit ∷ []) same ∙ ap (λ w. codes "run" ∷ w ∷ []) number, c.in_ok-number-in-len2.ensures.range)
+
+pub returns-in-len1-2-clause-some : goal.returns-in-len1-2-clause-some
+returns-in-len1-2-clause-some c =
+    let name = string_bytes c.name-item-then-words-lt2.result in
+    let words : map string_bytes c.args.words.now ≡ name ∷ [] = ap (map string_bytes) (one_item _ _ (omega arith) c.name-item-then-words-lt2.is) in
+    let same : name ≡ codes "schedule" = search rules in
+    words ∙ ap (λ w. w ∷ []) same

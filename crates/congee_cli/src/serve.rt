@@ -1,0 +1,132 @@
+//! The program, but for its streams.
+
+ghost use Rattle.std.specs.Prelude.{◌≡◌, ℕ, ◌↔◌, Option, Result, IfSome, IfNone, map, string_bytes};
+ghost use Rattle.congee_lines.specs.Watched.{HasFailed};
+ghost use Rattle.congee_schedule.specs.Schedule.{EndsSchedule};
+ghost use Rattle.congee_schedule.specs.declared.schedule.ScheduleError.{ScheduleError as HowScheduled};
+ghost use Rattle.congee_service.specs.Run.{EndsRun};
+ghost use Rattle.congee_service.specs.declared.run.RunError.{RunError as HowRun};
+ghost use Rattle.congee_cli.specs.Serve.{AsksRun, AsksSchedule, AsksNothing, run_status, schedule_status};
+ghost use Rattle.congee_cli.specs.inner.Asked.{Asks};
+
+use congee_lines::number::number;
+use congee_lines::pending::Pending;
+use congee_lines::watched::Watched;
+use congee_schedule::schedule::{ScheduleError, schedule};
+use congee_service::run::{RunError, run};
+use std::alloc::Global;
+use std::io::{Read, Write};
+
+/// What the words after the program's name ask for.
+#[derive(Clone, Copy)]
+enum Asked {
+    /// A run, with a limit in bytes for the nodes of the map or without one.
+    Run(Option<u64>),
+    Schedule,
+}
+
+/// Does what the words after the program's name ask for, and returns the exit status. The words are
+/// judged before anything is read. What went wrong is told on `errors` in one line; whether that
+/// works changes nothing.
+pub fn serve<R: Read, W: Write, E: Write>(
+    alloc: Global,
+    words: &[String],
+    input: &mut Watched<R>,
+    output: &mut Watched<W>,
+    errors: &mut E,
+) -> u8
+    requires input { HasFailed input.old → ⊥ }
+    requires output { HasFailed output.old → ⊥ }
+
+    // The words ask for a run, which ended in one of the ways that a run has.
+    ensures run { (limit : Option ℕ) → AsksRun (map string_bytes words.now) limit
+        → (ended : Result (Unit {0}) HowRun) × (result ≡ run_status ended)
+        × EndsRun R.remaining W.contents input.old input.new output.old output.new ended }
+
+    // The same of a schedule.
+    ensures schedule { AsksSchedule (map string_bytes words.now)
+        → (ended : Result (Unit {0}) HowScheduled) × (result ≡ schedule_status ended)
+        × EndsSchedule R.remaining W.contents input.old input.new output.old output.new ended }
+
+    // The words are others.
+    ensures usage { (result ≡ 2) ↔ AsksNothing (map string_bytes words.now) }
+    ensures untouched { result ≡ 2 → (input.new ≡ input.old) × (output.new ≡ output.old) }
+{
+    match asked_by(words) {
+        Some(Asked::Run(limit)) => end_run(errors, run(alloc, input, output, limit)),
+        Some(Asked::Schedule) => end_schedule(errors, schedule(alloc, input, output)),
+        None => tell(errors, 2, b"usage: congee run [LIMIT] | congee schedule\n"),
+    }
+}
+
+// Tells how a run ended, and returns the status.
+fn end_run<E: Write>(errors: &mut E, ended: Result<(), RunError>) -> u8
+    ensures { result ≡ run_status ended }
+{
+    match ended {
+        Ok(()) => 0,
+        Err(RunError::Read) => tell_broken(errors),
+        Err(RunError::Write) => tell_broken(errors),
+        Err(RunError::Oom) => tell_no_memory(errors),
+    }
+}
+
+// The same of a schedule.
+fn end_schedule<E: Write>(errors: &mut E, ended: Result<(), ScheduleError>) -> u8
+    ensures { result ≡ schedule_status ended }
+{
+    match ended {
+        Ok(()) => 0,
+        Err(ScheduleError::Read) => tell_broken(errors),
+        Err(ScheduleError::Write) => tell_broken(errors),
+        Err(ScheduleError::Oom) => tell_no_memory(errors),
+        Err(ScheduleError::Line(number)) => tell_bad_line(errors, number),
+        Err(ScheduleError::Events) => tell(errors, 4, b"congee: too many events\n"),
+    }
+}
+
+fn tell_broken<E: Write>(errors: &mut E) -> u8
+    ensures { result ≡ 1 }
+{
+    tell(errors, 1, b"congee: input or output failed\n")
+}
+
+/// Tells on `errors` that memory was missing, and returns the exit status for it.
+pub fn tell_no_memory<E: Write>(errors: &mut E) -> u8
+    ensures { result ≡ 3 }
+{
+    tell(errors, 3, b"congee: Allocator is out of memory!\n")
+}
+
+fn tell_bad_line<E: Write>(errors: &mut E, number: u64) -> u8
+    ensures { result ≡ 4 }
+{
+    let mut text = Pending::new();
+    text.add(b"congee: bad line ");
+    text.add_number(number);
+    text.add(b"\n");
+    tell(errors, 4, text.as_slice())
+}
+
+// Writes the text, if that works, and returns the status.
+fn tell<E: Write>(errors: &mut E, status: u8, text: &[u8]) -> u8
+    ensures { result ≡ status }
+{
+    let _ = errors.write_all(text);
+    status
+}
+
+// What the words ask for. `None` where they ask for nothing that there is.
+fn asked_by(words: &[String]) -> Option<Asked>
+    ensures some { IfSome result (Asks (map string_bytes words.now)) }
+    ensures none { IfNone result (AsksNothing (map string_bytes words.now)) }
+{
+    match words {
+        [name] if name.as_str() == "run" => Some(Asked::Run(None)),
+        [name, limit] if name.as_str() == "run" => {
+            Some(Asked::Run(Some(number(limit.as_bytes())?)))
+        }
+        [name] if name.as_str() == "schedule" => Some(Asked::Schedule),
+        _ => None,
+    }
+}

@@ -1,0 +1,4 @@
+pub mod Decided
+pub mod Ending
+pub mod Saying
+pub mod Texts
