@@ -1,12 +1,12 @@
 -- What a line is answered.
-use Rattle.std.specs.Prelude.{◌≡◌, ◌⊎◌, ℕ, List, [], ◌∷◌, ◌++◌, length, codes, decimal, Bool, true, false, Option, Some, None, Ok, Err}
+use Rattle.std.specs.Prelude.{◌≡◌, ◌⊎◌, ℕ, List, [], ◌∷◌, ◌++◌, length, codes, decimal, Bool, true, false, Option, Some, None}
 use Rattle.std.specs.List.{flat_map}
 use Rattle.congee_map.specs.Call.{old_value, exchanged, computed, tested, listed, ranged, Answer, replied, refused, Deed}
 use Rattle.congee_runs.specs.Calls.{AnswersBy}
 use Rattle.congee_commands.specs.declared.command.Command.{Command}
 use Rattle.congee_commands.specs.declared.command.Command.TheVariants.{Get, Insert, Remove, Exchange, Add, Put, Range, Keys, Empty}
 use Rattle.congee_commands.specs.Command.{SpellsCommand, IsBad, command_call, command_closure}
-use Rattle.congee_lines.specs.Value.{value_text, key_text, pair_text}
+use Rattle.congee_lines.specs.Value.{value_text, exchanged_text, computed_text, key_text, pair_text}
 
 abbrev pub test_text : Bool → List ℕ
 test_text true = codes "true"
@@ -26,13 +26,8 @@ IsText (Insert key value) (replied (old_value before)) text =
     text ≡ codes "ok " ++ value_text before
 IsText (Insert key value) refused text = text ≡ codes "oom"
 IsText (Remove key) (replied (old_value before)) text = text ≡ value_text before
-IsText (Exchange key old new) (replied (exchanged (Ok put))) text =
-    text ≡ codes "ok " ++ value_text put
-IsText (Exchange key old new) (replied (exchanged (Err standing))) text =
-    text ≡ codes "err " ++ value_text standing
-IsText (Add key more) (replied (computed None)) text = text ≡ codes "none"
-IsText (Add key more) (replied (computed (Some (old, new)))) text =
-    text ≡ decimal old ++ codes " " ++ value_text new
+IsText (Exchange key old new) (replied (exchanged result)) text = text ≡ exchanged_text result
+IsText (Add key more) (replied (computed result)) text = text ≡ computed_text result
 IsText (Put key more) (replied (old_value before)) text = text ≡ codes "ok " ++ value_text before
 IsText (Put key more) refused text = text ≡ codes "oom"
 IsText (Range start end limit) (replied (ranged pairs)) text = text ≡ pairs_text pairs

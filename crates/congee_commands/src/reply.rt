@@ -187,20 +187,8 @@ fn add_head(pending: &mut Pending, reply: &Reply)
             pending.add(b"ok ");
             pending.add_value(*before);
         }
-        Reply::Exchanged(Ok(put)) => {
-            pending.add(b"ok ");
-            pending.add_value(*put);
-        }
-        Reply::Exchanged(Err(standing)) => {
-            pending.add(b"err ");
-            pending.add_value(*standing);
-        }
-        Reply::Computed(None) => pending.add(b"none"),
-        Reply::Computed(Some((old, new))) => {
-            pending.add_number(*old);
-            pending.add(b" ");
-            pending.add_value(*new);
-        }
+        Reply::Exchanged(exchange) => pending.add_exchanged(*exchange),
+        Reply::Computed(both) => pending.add_computed(*both),
         Reply::Tested(true) => pending.add(b"true"),
         Reply::Tested(false) => pending.add(b"false"),
         Reply::Ranged(pairs) => pending.add_number(pairs.len() as u64),

@@ -1,10 +1,20 @@
--- Values, keys and pairs as text.
-use Rattle.std.specs.Prelude.{ℕ, ◌<◌, ◌^◌, List, ◌++◌, codes, decimal, Option, Some, None}
+-- Values, keys, pairs and replies as text.
+use Rattle.std.specs.Prelude.{ℕ, ◌<◌, ◌^◌, List, ◌++◌, codes, decimal, Option, Some, None, Result, Ok, Err}
 
 -- a value, or `none`
 abbrev pub value_text : Option ℕ → List ℕ
 value_text None = codes "none"
 value_text (Some value) = decimal value
+
+-- what an exchange is replied: what stands now, or what stood in its way
+abbrev pub exchanged_text : Result (Option ℕ) (Option ℕ) → List ℕ
+exchanged_text (Ok put) = codes "ok " ++ value_text put
+exchanged_text (Err standing) = codes "err " ++ value_text standing
+
+-- what a computation is replied: the old value and what its closure answered, if the key was present
+abbrev pub computed_text : Option (ℕ × Option ℕ) → List ℕ
+computed_text None = codes "none"
+computed_text (Some (old, new)) = decimal old ++ codes " " ++ value_text new
 
 -- a value, if there is one, has 64 bits
 abbrev pub IsWide : Option ℕ → Type 0

@@ -1,7 +1,7 @@
 //! Bytes that have still to be written.
 
 ghost use Rattle.std.specs.Prelude.{◌≡◌, ℕ, ◌+◌, ◌-◌, ◌≤◌, List, [], ◌++◌, length, take, decimal, OnOk, OnErr};
-ghost use Rattle.congee_lines.specs.Value.{value_text};
+ghost use Rattle.congee_lines.specs.Value.{value_text, exchanged_text, computed_text};
 ghost use Rattle.congee_lines.specs.Watched.{HasFailed, SendsTo, SendsPart};
 
 use crate::watched::{Failed, Watched};
@@ -87,6 +87,40 @@ impl Pending {
         match value {
             None => self.add(b"none"),
             Some(value) => self.add_number(value),
+        }
+    }
+
+    /// Adds what an exchange is replied, which is at most 24 bytes: what stands now, or what stood in its way.
+    pub fn add_exchanged(&mut self, exchange: Result<Option<u64>, Option<u64>>)
+        requires { length self.old + 24 ≤ 8192 }
+        ensures text { self.new ≡ self.old ++ exchanged_text exchange }
+        ensures short { length self.new ≤ length self.old + 24 }
+    {
+        match exchange {
+            Ok(put) => {
+                self.add(b"ok ");
+                self.add_value(put);
+            }
+            Err(standing) => {
+                self.add(b"err ");
+                self.add_value(standing);
+            }
+        }
+    }
+
+    /// Adds what a computation is replied, which is at most 41 bytes: the old value and the answer, or `none`.
+    pub fn add_computed(&mut self, both: Option<(u64, Option<u64>)>)
+        requires { length self.old + 41 ≤ 8192 }
+        ensures text { self.new ≡ self.old ++ computed_text both }
+        ensures short { length self.new ≤ length self.old + 41 }
+    {
+        match both {
+            None => self.add(b"none"),
+            Some((old, new)) => {
+                self.add_number(old);
+                self.add(b" ");
+                self.add_value(new);
+            }
         }
     }
 

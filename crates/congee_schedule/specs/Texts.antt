@@ -1,8 +1,8 @@
 -- The text of a replayed schedule.
-use Rattle.std.specs.Prelude.{ℕ, List, [], ◌∷◌, ◌++◌, codes, decimal, Some, None, Ok, Err}
+use Rattle.std.specs.Prelude.{ℕ, List, [], ◌∷◌, ◌++◌, codes, decimal}
 use Rattle.std.specs.List.{flat_map}
 use Rattle.congee_lines.specs.Lines.{ended}
-use Rattle.congee_lines.specs.Value.{value_text, pair_text}
+use Rattle.congee_lines.specs.Value.{value_text, exchanged_text, computed_text, pair_text}
 use Rattle.congee_map.specs.Map.{Pairs}
 use Rattle.congee_protocol.specs.declared.trace.Decision.{Decision}
 use Rattle.congee_protocol.specs.declared.trace.Line.{Line}
@@ -29,10 +29,8 @@ ok_text (Range start end limit) = []
 -- a reply, as `congee run` answers the same call
 abbrev pub reply_text : Op ℕ → Reply ℕ → List ℕ
 reply_text op (Old before) = ok_text op ++ value_text before
-reply_text op (Computed None) = codes "none"
-reply_text op (Computed (Some (old, new))) = decimal old ++ codes " " ++ value_text new
-reply_text op (Exchanged (Ok put)) = codes "ok " ++ value_text put
-reply_text op (Exchanged (Err standing)) = codes "err " ++ value_text standing
+reply_text op (Computed result) = computed_text result
+reply_text op (Exchanged result) = exchanged_text result
 
 -- what a step of the call of a number says, in one line or none; the decided calls are those from
 -- here on

@@ -154,20 +154,8 @@ fn add_reply(pending: &mut Pending, op: &Op<u64>, reply: &Reply<u64>)
             add_ok(pending, op);
             pending.add_value(*before);
         }
-        Reply::Computed(None) => pending.add(b"none"),
-        Reply::Computed(Some((old, new))) => {
-            pending.add_number(*old);
-            pending.add(b" ");
-            pending.add_value(*new);
-        }
-        Reply::Exchanged(Ok(put)) => {
-            pending.add(b"ok ");
-            pending.add_value(*put);
-        }
-        Reply::Exchanged(Err(standing)) => {
-            pending.add(b"err ");
-            pending.add_value(*standing);
-        }
+        Reply::Computed(both) => pending.add_computed(*both),
+        Reply::Exchanged(exchange) => pending.add_exchanged(*exchange),
     }
 }
 

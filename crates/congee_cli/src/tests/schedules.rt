@@ -186,6 +186,27 @@ fn torn_schedules(rt: HostRuntime) -> Result<(), Fail> {
     Ok(())
 }
 
+// A read fails after each number of bytes of a schedule: nothing was written, wherever it was.
+#[test]
+fn broken_schedules(rt: HostRuntime) -> Result<(), Fail> {
+    let text = TORN.as_bytes();
+    for count in 0..text.len() {
+        let input = Torn {
+            first: &text[..count],
+            rest: b"",
+            at_once: 100,
+            fails: true,
+        };
+        let wanted = Outcome {
+            reader_failed: true,
+            ..Outcome::of(1, "", BROKEN)
+        };
+        let is_so = gives(rt.alloc(), &["schedule"], input, wanted)?;
+        assert!(rt; is_so, "after {count}");
+    }
+    Ok(())
+}
+
 #[test]
 fn full_outputs(rt: HostRuntime) -> Result<(), Fail> {
     let wanted = GROWTH_TOLD.as_bytes();

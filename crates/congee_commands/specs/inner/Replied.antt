@@ -1,5 +1,5 @@
 -- What a command is replied, in text and as a call.
-use Rattle.std.specs.Prelude.{ℕ, List, [], ◌∷◌, ◌++◌, length, codes, decimal, Option, Some, None, Ok, Err, nat_eq}
+use Rattle.std.specs.Prelude.{ℕ, List, [], ◌∷◌, ◌++◌, length, codes, decimal, Option, Some, None, nat_eq}
 use Rattle.std.specs.List.{flat_map}
 use Rattle.congee_map.specs.Map.{Pairs}
 use Rattle.congee_map.specs.Call.{Asked, Answer, old_value, exchanged, computed, tested, listed, ranged, replied, refused, Deed}
@@ -7,7 +7,7 @@ use Rattle.congee_map.specs.Legal.{IsLegal}
 use Rattle.congee_map.specs.Refusal.{of_new_nodes}
 use Rattle.congee_runs.specs.Calls.{deeds_of}
 use Rattle.congee_commands.specs.Command.{command_call, put_sum}
-use Rattle.congee_lines.specs.Value.{value_text, key_text, pair_text}
+use Rattle.congee_lines.specs.Value.{value_text, exchanged_text, computed_text, key_text, pair_text}
 use Rattle.congee_commands.specs.Answer.{test_text, keys_text, pairs_text, IsText, IsUndone, IsAnswered}
 use Rattle.congee_commands.specs.declared.command.Command.{Command}
 use Rattle.congee_commands.specs.declared.command.Command.TheVariants.{Add, Put}
@@ -18,10 +18,8 @@ use Rattle.congee_commands.specs.declared.reply.Reply.TheVariants.{Value, Before
 abbrev pub reply_text : Reply → List ℕ
 reply_text (Value value) = value_text value
 reply_text (Before before) = codes "ok " ++ value_text before
-reply_text (Exchanged (Ok put)) = codes "ok " ++ value_text put
-reply_text (Exchanged (Err standing)) = codes "err " ++ value_text standing
-reply_text (Computed None) = codes "none"
-reply_text (Computed (Some (old, new))) = decimal old ++ codes " " ++ value_text new
+reply_text (Exchanged result) = exchanged_text result
+reply_text (Computed result) = computed_text result
 reply_text (Tested b) = test_text b
 reply_text (Ranged pairs) = pairs_text pairs.items
 reply_text (Listed keys) = keys_text keys.items

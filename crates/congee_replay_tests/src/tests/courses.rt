@@ -3,6 +3,7 @@
 //! A test owns no machine, since the check expands the drop of each owned value at each assertion: one helper works on a
 //! machine that it borrows, and a second one makes that machine and returns a small value.
 
+use crate::tests::insertions::letter;
 use congee_machine::machine::Machine;
 use congee_node_table::allocator::DefaultAllocator;
 use congee_node_table::child::Child;
@@ -90,24 +91,6 @@ fn is_same(child: &Option<Child<u64>>, other: &Option<Child<u64>>) -> bool {
         (Some(Child::Payload(value)), Some(Child::Payload(other))) => *value == *other,
         (Some(Child::Node(slot)), Some(Child::Node(other))) => *slot == *other,
         _ => false,
-    }
-}
-
-// A letter for each kind.
-fn letter(kind: Kind) -> char {
-    match kind {
-        Kind::Start => 'S',
-        Kind::Take => 'T',
-        Kind::Check => 'C',
-        Kind::Read => 'R',
-        Kind::Upgrade => 'U',
-        Kind::Make => 'A',
-        Kind::Write => 'W',
-        Kind::Obsolete => 'O',
-        Kind::Unlock => 'L',
-        Kind::Answer => 'Q',
-        Kind::Finish => 'F',
-        Kind::Reclaim => 'X',
     }
 }
 

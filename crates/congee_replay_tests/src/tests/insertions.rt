@@ -27,7 +27,8 @@ pub(super) const FOUR_APART: [(u64, u64); 4] = [(0, 0), (256, 1), (512, 2), (768
 
 const FIVE_APART: [(u64, u64); 5] = [(0, 0), (256, 1), (512, 2), (768, 3), (1024, 4)];
 
-fn letter(kind: Kind) -> char {
+// The letter of a kind.
+pub(super) fn letter(kind: Kind) -> char {
     match kind {
         Kind::Start => 'S',
         Kind::Take => 'T',

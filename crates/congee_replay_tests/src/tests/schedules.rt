@@ -1,50 +1,27 @@
 //! Whole schedules on the fresh machine, and what their traces say.
 
+use crate::tests::insertions::{letter, step};
 use crate::tests::parts::{Call, Part, push_parts};
 use congee_map::error::OOMError;
 use congee_node_table::allocator::Budget;
 use congee_protocol::trace::{Line, Trace};
-use congee_protocol::types::{Env, Event, Kind, Op, Outcome, Reply, Report, Seen};
+use congee_protocol::types::{Event, Kind, Op, Outcome, Reply, Report};
 use congee_replay::replay::{replay, replay_with};
 use std::alloc::{AllocError, Global};
 use std::test::Fail;
 
 // The letter of what an event did; a dash where it was skipped.
-fn letter(line: &Line) -> char {
-    let Line::Done(report, _, _) = line else {
-        return '-';
-    };
-    match report.kind {
-        Kind::Start => 'S',
-        Kind::Take => 'T',
-        Kind::Check => 'C',
-        Kind::Read => 'R',
-        Kind::Finish => 'F',
-        _ => '?',
+fn letter_of(line: &Line) -> char {
+    match line {
+        Line::Done(report, _, _) => letter(report.kind),
+        Line::Skipped => '-',
     }
-}
-
-// An event of a number's call, with nothing to take from outside.
-fn plain(id: u64) -> Event<u64> {
-    let torn = Seen {
-        child: None,
-        count: 0,
-        full: false,
-    };
-    Event::Step(
-        id,
-        Env {
-            torn,
-            fail: false,
-            answer: None,
-        },
-    )
 }
 
 // A letter for each line of a trace.
 fn course_of(trace: &Trace, letters: &mut String) -> Result<(), AllocError> {
     for line in &trace.lines {
-        letters.push(letter(line))?;
+        letters.push(letter_of(line))?;
     }
     Ok(())
 }
@@ -130,7 +107,7 @@ fn has_read_nothing(trace: &Trace) -> bool {
 }
 
 fn reads_nothing(alloc: Global) -> Result<bool, OOMError> {
-    let events = [Event::Start(0, Op::Get(1)), plain(0), plain(0)];
+    let events = [Event::Start(0, Op::Get(1)), step(0, false), step(0, false)];
     let trace = replay_with(alloc, Budget::new(2104), &events)?;
     Ok(has_read_nothing(&trace))
 }
@@ -143,7 +120,7 @@ fn a_read_tells_what_it_saw(rt: HostRuntime) -> Result<(), Fail> {
 
 // Whether a budget of so many bytes has no room for the root.
 fn is_too_small(alloc: Global, bytes: u64) -> bool {
-    replay_with(alloc, Budget::new(bytes), &[plain(0)]).is_err()
+    replay_with(alloc, Budget::new(bytes), &[step(0, false)]).is_err()
 }
 
 #[test]
