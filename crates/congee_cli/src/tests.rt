@@ -226,33 +226,23 @@ fn limits(rt: HostRuntime) -> Result<(), Fail> {
 }
 
 // Lines that insert the keys below a number, each with itself as its value, and then this one.
-fn add_inserted(
-    alloc: Global,
-    input: &mut String,
-    count: u64,
-    last: &str,
-) -> Result<(), AllocError> {
+fn add_inserted(input: &mut String, count: u64, last: &str) -> Result<(), AllocError> {
     for key in 0..count {
-        input.push_str(format!(in alloc; "insert {key} {key}\n")?.as_str())?;
+        writeln!(input, "insert {key} {key}")?;
     }
     input.push_str(last)
 }
 
 // What those lines are answered: all keys, or all pairs.
-fn add_listed(
-    alloc: Global,
-    text: &mut String,
-    count: u64,
-    with_values: bool,
-) -> Result<(), AllocError> {
+fn add_listed(text: &mut String, count: u64, with_values: bool) -> Result<(), AllocError> {
     for _ in 0..count {
         text.push_str("ok none\n")?;
     }
-    text.push_str(format!(in alloc; "{count}")?.as_str())?;
+    write!(text, "{count}")?;
     for key in 0..count {
-        text.push_str(format!(in alloc; " {key}")?.as_str())?;
+        write!(text, " {key}")?;
         if with_values {
-            text.push_str(format!(in alloc; "={key}")?.as_str())?;
+            write!(text, "={key}")?;
         }
     }
     text.push_str("\n")
@@ -267,8 +257,8 @@ fn gives_list(
 ) -> Result<bool, AllocError> {
     let mut input = String::new(alloc);
     let mut wanted = String::new(alloc);
-    add_inserted(alloc, &mut input, 4000, line)?;
-    add_listed(alloc, &mut wanted, 4000, with_values)?;
+    add_inserted(&mut input, 4000, line)?;
+    add_listed(&mut wanted, 4000, with_values)?;
     match room {
         None => gives(
             alloc,

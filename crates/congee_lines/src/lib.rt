@@ -6,5 +6,6 @@ pub mod line;
 pub mod listing;
 pub mod number;
 pub mod pending;
+pub mod streams;
 pub mod watched;
 pub mod words;

@@ -4,7 +4,8 @@ ghost use Rattle.std.specs.Prelude.{◌≡◌, ℕ, List, ◌-◌, ◌^◌, ◌<
 ghost use Rattle.std.specs.Io.{ReadsAtMost, WritesAtMost};
 ghost use Rattle.std.specs.Io.KnownBytes.{Appends, Keeps, ReadConsumes, WriteAppends};
 
-use std::io::{Read, Write};
+use crate::streams::{Reader, Writer};
+use std::marker::Model;
 
 /// A call of a reader or a writer failed.
 #[derive(Clone, Copy, Debug, PartialEq, Eq)]
@@ -19,6 +20,19 @@ pub struct Watched<T> {
     calls: u64,
 }
 
+impl<T> Model for Watched<T> {
+    ghost use Rattle.std.specs.Prelude.{◌-◌, ◌^◌};
+    ghost use Rattle.congee_lines.specs.Watched.{Stream};
+
+    ghost Value = { Stream T };
+
+    ghost view = { λ w. record {
+      inner = w.inner;
+      failed = w.failed;
+      left = 2 ^ 64 - 1 - w.calls;
+    } };
+}
+
 impl<T> Watched<T> {
     ghost use Rattle.congee_lines.specs.Watched.{HasFailed, inner_of, calls_left};
 
@@ -26,6 +40,7 @@ impl<T> Watched<T> {
     pub fn new(inner: T) -> Self
         ensures inner { inner_of result ≡ inner }
         ensures failed { HasFailed result → ⊥ }
+        ensures calls { calls_left result ≡ 2 ^ 64 - 1 }
     {
         Watched {
             inner,
@@ -59,6 +74,7 @@ impl<T> Watched<T> {
         ensures kept { OnOk result (self.new.failed ≡ self.old.failed) }
         ensures failed { OnErr result (HasFailed self.new) }
         ensures fewer { OnOk result (calls_left self.new < calls_left self.old) }
+        ensures last { OnErr result ((calls_left self.old ≡ 0) × (calls_left self.new ≡ 0)) }
     {
         if self.calls == u64::MAX {
             self.failed = true;
@@ -69,8 +85,8 @@ impl<T> Watched<T> {
     }
 }
 
-impl<R: Read> Watched<R> {
-    ghost use Rattle.congee_lines.specs.Watched.{HasFailed, inner_of, calls_left};
+impl<R: Reader> Watched<R> {
+    ghost use Rattle.congee_lines.specs.Watched.{HasFailed, inner_of, calls_left, IsFailure};
 
     /// Reads some bytes into the buffer, and returns how many: none only at the end.
     pub fn read(&mut self, buf: &mut [u8]) -> Result<usize, Failed>
@@ -80,10 +96,11 @@ impl<R: Read> Watched<R> {
             result buf.new }
         ensures kept { OnOk result (self.new.failed ≡ self.old.failed) }
         ensures failed { OnErr result (HasFailed self.new) }
+        ensures real { OnErr result (IsFailure R.may_fail self.old self.new) }
         ensures fewer { OnOk result (calls_left self.new < calls_left self.old) }
     {
         self.count()?;
-        match self.inner.read(buf) {
+        match self.inner.read_some(buf) {
             Ok(n) => Ok(n),
             Err(_) => {
                 self.failed = true;
@@ -93,8 +110,8 @@ impl<R: Read> Watched<R> {
     }
 }
 
-impl<W: Write> Watched<W> {
-    ghost use Rattle.congee_lines.specs.Watched.{HasFailed, inner_of, SendsTo, SendsPart};
+impl<W: Writer> Watched<W> {
+    ghost use Rattle.congee_lines.specs.Watched.{HasFailed, inner_of, IsFailure, HasFailure, SendsTo, SendsPart};
 
     /// Writes some of the bytes, and returns how many. To take none of some bytes is a failure.
     pub fn write(&mut self, buf: &[u8]) -> Result<usize, Failed>
@@ -105,9 +122,10 @@ impl<W: Write> Watched<W> {
         ensures some { IfOk result (λ n. 0 < length buf.now → 0 < n) }
         ensures kept { OnOk result (self.new.failed ≡ self.old.failed) }
         ensures failed { OnErr result (HasFailed self.new) }
+        ensures real { OnErr result (IsFailure W.may_fail self.old self.new) }
     {
         self.count()?;
-        match self.inner.write(buf) {
+        match self.inner.write_some(buf) {
             Ok(n) if n > 0 || buf.is_empty() => Ok(n),
             _ => {
                 self.failed = true;
@@ -121,9 +139,10 @@ impl<W: Write> Watched<W> {
         ensures bytes { Keeps (W.contents (inner_of self.old)) (W.contents (inner_of self.new)) }
         ensures kept { OnOk result (self.new.failed ≡ self.old.failed) }
         ensures failed { OnErr result (HasFailed self.new) }
+        ensures real { OnErr result (IsFailure W.may_fail self.old self.new) }
     {
         self.count()?;
-        match self.inner.flush() {
+        match self.inner.flush_all() {
             Ok(()) => Ok(()),
             Err(_) => {
                 self.failed = true;
@@ -138,6 +157,7 @@ impl<W: Write> Watched<W> {
         ensures err { OnErr result (SendsPart W.contents self.old self.new bytes.now) }
         ensures kept { OnOk result (self.new.failed ≡ self.old.failed) }
         ensures failed { OnErr result (HasFailed self.new) }
+        ensures real { OnErr result (HasFailure W.may_fail self.new) }
     {
         let mut at = 0;
         while at < bytes.len() {

@@ -5,7 +5,7 @@ use Rattle.congee_lines.proofs.watched.Watched.send.Given as goal
 abbrev pub invariant-loop-at : goal.invariant-loop-at
 invariant-loop-at g l = record {
   within : l.at ≤ length l.bytes;
-  grows : Appends (g.W.Write.contents l.fn.self.inner) (g.W.Write.contents l.self.inner) (take l.at l.bytes);
+  grows : Appends (g.W.Writer.contents l.fn.self.inner) (g.W.Writer.contents l.self.inner) (take l.at l.bytes);
   kept : l.self.failed ≡ l.fn.self.failed;
 }
 
