@@ -12,5 +12,6 @@ mod scans;
 mod shared_values;
 mod sizes;
 mod statistics;
+mod table;
 mod tree;
 mod walks;

@@ -135,6 +135,40 @@ pub absent_meant : {P M : Type 0} (meaning : P → M) (o : Outline) → reply_of
 absent_meant meaning (Range a b n) = refl
 absent_meant meaning o = refl
 
+-- what holds of the node that stands there holds of any that does
+pub all_here : {M : Type 0} (t : Table M) (spot : Spot) (a : Node M) → t spot.slot ≡ Some a → (Q : Node M → Type 0) → Q a → (b : Node M) → t spot.slot ≡ Some b → b.word ≡ spot.word → Q b
+all_here t spot a here Q q b h e = subst Q (some_same a b (sym here ∙ h)) q
+
+-- A CHECK AFTER WHICH THE CALL WRITES, by the work that it has found at the current node
+module _ {M : Type 0} (Granted : Type 0) (same : M → M → Bool) (t : Table M) (root pin : ℕ) (task : Task M) (env : Env M) (placed : IsPlaced t root) where
+  pub goes_small : (path : Path) (a : Node M) → t path.here.slot ≡ Some a → a.word ≡ path.here.word → Facts Granted same t root pin (at (Check path) task) → (small : Small) → SmallWork Granted same small task a
+      → IsRead Granted same t root pin (at (Check path) task) env (at (Tail (Upgrade path small)) task) (report_of kind.Check (Some path.here.slot) 0 true) Going
+  goes_small path a here word facts small work =
+      let fresh : IsFreshly task = facts.at.0 in
+      goes Granted same t root pin task env placed path a here word (Check path) (Tail (Upgrade path small)) refl refl refl refl fresh (here_known path) (inl refl) (λ z w h. h)
+      (record { small = facts.small; at = (fresh.opened, facts.at.1, all_here t path.here a here (SmallWork Granted same small task) work) }) (λ z h. inr (inl h)) (λ z h. h) (λ served. omega (arith, small_short small))
+
+  pub goes_large : (pair : Pair) (a : Node M) → t pair.here.slot ≡ Some a → a.word ≡ pair.here.word → Facts Granted same t root pin (at (Check (path_to pair)) task) → (large : Large) → LargeWork Granted same large task a
+      → IsRead Granted same t root pin (at (Check (path_to pair)) task) env (at (Tail (UpgradeAbove pair large)) task) (report_of kind.Check (Some pair.here.slot) 0 true) Going
+  goes_large pair a here word facts large work =
+      let fresh : IsFreshly task = facts.at.0 in
+      let on : OnPath t root pin (key_bytes task) (path_to pair) = facts.at.1 in
+      goes Granted same t root pin task env placed (path_to pair) a here word (Check (path_to pair)) (Tail (UpgradeAbove pair large)) refl refl refl refl fresh (here_known (path_to pair)) (inl refl) (λ z w h. h)
+      (record {
+        small = facts.small;
+        at = (
+          record {
+            opened = fresh.opened;
+            over = record { way = on.above.1; apart = on.apart pair.above refl };
+            here = on.here;
+            work = all_here t pair.here a here (LargeWork Granted same large task) work;
+          },
+          on.above.0,
+          on.above.2,
+        );
+      })
+      (λ z h. inr (inl h)) (λ z h. h) (λ served. omega (arith, large_short large))
+
 -- AT THE CURRENT NODE, whose word is the remembered one
 module _ {M : Type 0} (Granted : Type 0) (same : M → M → Bool) (t : Table M) (root pin : ℕ) (task : Task M) (env : Env M) (placed : IsPlaced t root) (point : IsPoint task.outline) where
   module _ (path : Path) (a : Node M) (here : t path.here.slot ≡ Some a) (word : a.word ≡ path.here.word) (facts : Facts Granted same t root pin (at (Check path) task))
@@ -150,17 +184,13 @@ module _ {M : Type 0} (Granted : Type 0) (same : M → M → Bool) (t : Table M)
         (absent_there Granted same t root pin task env placed path a here word facts point none) fresh (reply_absent task.outline)
         (left_absent same fresh.opened.op task.outline fresh.opened.outline point leaves)
 
-    all_here : (Q : Node M → Type 0) → Q a → (b : Node M) → t path.here.slot ≡ Some b → b.word ≡ path.here.word → Q b
-    all_here Q q b h e = subst Q (some_same a b (sym here ∙ h)) q
-
     small_here : (small : Small) → IsSmall small a (key_bytes task) → IsAbsence task.outline Stores
         → IsRead Granted same t root pin (at (Check path) task) env (at (Tail (Upgrade path small)) task) (report_of kind.Check (Some path.here.slot) 0 true) Going
     small_here small is stores =
         let fresh : IsFreshly task = facts.at.0 in
         let w : Writes Granted same task None = writes_new same Granted task fresh stores seen_none in
-        let work : SmallWork Granted same small task a = record { writes = subst (λ (z : Option (Child M)). Writes Granted same task (payload_in z)) (sym none) w; is = is } in
-        goes Granted same t root pin task env placed path a here word (Check path) (Tail (Upgrade path small)) refl refl refl refl fresh (here_known path) (inl refl) (λ z w h. h)
-        (record { small = facts.small; at = (fresh.opened, facts.at.1, all_here (SmallWork Granted same small task) work) }) (λ z h. inr (inl h)) (λ z h. h) (λ served. omega (arith, small_short small))
+        goes_small Granted same t root pin task env placed path a here word facts small
+        (record { writes = subst (λ (z : Option (Child M)). Writes Granted same task (payload_in z)) (sym none) w; is = is })
 
     small_asks : (small : Small) → IsSmall small a (key_bytes task) → IsAbsence task.outline Asks → (old : Option M) → old ≡ seen_payload task.last
         → IsRead Granted same t root pin (at (Check path) task) env (at (Answer (case.Small path small)) (asking task old)) (report_of kind.Check (Some path.here.slot) 0 true) (Ask old)
@@ -174,7 +204,7 @@ module _ {M : Type 0} (Granted : Type 0) (same : M → M → Bool) (t : Table M)
           at = (
             asking_waits_for Granted same task old fresh inserts old_is seen_none,
             facts.at.1,
-            all_here (SmallCase Granted same small (asking task old)) (none, is),
+            all_here t path.here a here (SmallCase Granted same small (asking task old)) (none, is),
           );
         })
         (λ z h. inr (inl h)) (λ served. omega (arith, small_short small))
@@ -185,23 +215,8 @@ module _ {M : Type 0} (Granted : Type 0) (same : M → M → Bool) (t : Table M)
         → IsRead Granted same t root pin (at (Check (path_to pair)) task) env (at (Tail (UpgradeAbove pair large)) task) (report_of kind.Check (Some pair.here.slot) 0 true) Going
     large_here large is stores =
         let fresh : IsFreshly task = facts.at.0 in
-        let on : OnPath t root pin (key_bytes task) (path_to pair) = facts.at.1 in
         let w : Writes Granted same task None = writes_new same Granted task fresh stores (seen_none (path_to pair) a here word facts none) in
-        goes Granted same t root pin task env placed (path_to pair) a here word (Check (path_to pair)) (Tail (UpgradeAbove pair large)) refl refl refl refl fresh (here_known (path_to pair)) (inl refl) (λ z w h. h)
-        (record {
-          small = facts.small;
-          at = (
-            record {
-              opened = fresh.opened;
-              over = record { way = on.above.1; apart = on.apart pair.above refl };
-              here = on.here;
-              work = all_here (path_to pair) a here word facts none (LargeWork Granted same large task) (work_of_large Granted same large task a (stands_none large a (key_bytes task) none) is w);
-            },
-            on.above.0,
-            on.above.2,
-          );
-        })
-        (λ z h. inr (inl h)) (λ z h. h) (λ served. omega (arith, large_short large))
+        goes_large Granted same t root pin task env placed pair a here word facts large (work_of_large Granted same large task a (stands_none large a (key_bytes task) none) is w)
 
     large_asks : (large : Large) → IsLarge large a (key_bytes task) → IsAbsence task.outline Asks → (old : Option M) → old ≡ seen_payload task.last
         → IsRead Granted same t root pin (at (Check (path_to pair)) task) env (at (Answer (case.Large pair large)) (asking task old)) (report_of kind.Check (Some pair.here.slot) 0 true) (Ask old)
@@ -217,7 +232,7 @@ module _ {M : Type 0} (Granted : Type 0) (same : M → M → Bool) (t : Table M)
             asking_waits_for Granted same task old fresh inserts old_is (seen_none (path_to pair) a here word facts none),
             record { way = on.above.1; apart = on.apart pair.above refl },
             on.here,
-            all_here (path_to pair) a here word facts none (LargeCase Granted same large (asking task old)) (stands_none large a (key_bytes task) none, is),
+            all_here t pair.here a here (LargeCase Granted same large (asking task old)) (stands_none large a (key_bytes task) none, is),
             on.above.0,
             on.above.2,
           );

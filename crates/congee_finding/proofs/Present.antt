@@ -26,19 +26,19 @@ use Rattle.congee_store.specs.declared.tail.Tail.TheVariants.{Upgrade, UpgradeAb
 use Rattle.congee_store.specs.inner.Effects.{HasClosure, IsChange, IsLeft, reply_with}
 use Rattle.congee_store.specs.inner.Facts.{Facts}
 use Rattle.congee_store.specs.inner.Tables.{IsPlaced, OnPath}
-use Rattle.congee_store.specs.inner.TailFacts.{IsLarge, IsPresent, IsSmall, LargeWork, SmallWork, Writes, found, path_to}
+use Rattle.congee_store.specs.inner.TailFacts.{IsLarge, IsPresent, IsSmall, Writes, found, path_to}
 use Rattle.congee_store.specs.inner.Tasks.{IsFreshly, Sees, closed, key_bytes}
 use Rattle.congee_store.specs.inner.Turns.{IsRead}
 use Rattle.congee_store.specs.inner.World.{Node, Table}
-use Rattle.congee_store.proofs.Options.{none_some, some_same}
+use Rattle.congee_store.proofs.Options.{none_some}
 use Rattle.congee_store.proofs.Records.{at}
-use Rattle.congee_reading.proofs.Checks.{asking, asking_waits, asks_at, asks_present, closure_shares, ends_changed, ends_left, goes, keeps_old, keeps_question, keeps_spare, present_there, sees_found}
+use Rattle.congee_reading.proofs.Checks.{asking, asking_waits, asks_at, asks_present, closure_shares, ends_changed, ends_left, keeps_old, keeps_question, keeps_spare, present_there, sees_found}
 use Rattle.congee_reading.proofs.Spots.{here_known}
 use Rattle.congee_finding.specs.declared.presence.Judged.{Judged}
 use Rattle.congee_finding.specs.declared.presence.Judged.TheVariants.{Other, Same, Stores, Removes}
 use Rattle.congee_finding.specs.inner.Judged.{IsExchange, IsGet, IsInsert, IsJudged, IsRemove, handed, removing}
 use Rattle.congee_finding.specs.inner.Met.{IsPresentAt}
-use Rattle.congee_finding.proofs.Absent.{writes_by}
+use Rattle.congee_finding.proofs.Absent.{all_here, goes_large, goes_small, writes_by}
 
 -- these calls see payloads
 get_shares : (o : Outline) → IsGet o → SharesNone o None → ⊥
@@ -114,9 +114,6 @@ module _ {M : Type 0} (Granted : Type 0) (same : M → M → Bool) (t : Table M)
   there_here : found a (key_bytes task) ≡ Some (Payload standing)
   there_here = present.0.1
 
-  all_here : (Q : Node M → Type 0) → Q a → (b : Node M) → t pair.here.slot ≡ Some b → b.word ≡ pair.here.word → Q b
-  all_here Q q b h e = subst Q (some_same a b (sym here ∙ h)) q
-
   module _ (point : IsPoint task.outline) where
     seen_here : Sees Granted same task → seen_payload task.last ≡ Some standing
     seen_here sees = sees_found Granted same t root pin task env placed (path_to pair) a here word facts point sees ∙ ap payload_in there_here
@@ -135,9 +132,7 @@ module _ {M : Type 0} (Granted : Type 0) (same : M → M → Bool) (t : Table M)
         → IsRead Granted same t root pin (at (Check (path_to pair)) task) env (at (Tail (Upgrade (path_to pair) Entry)) task) (report_of kind.Check (Some pair.here.slot) 0 true) Going
     goes_entry w =
         let is : IsSmall Entry a (key_bytes task) = (present.1, λ none. absurd (none_some (Payload standing) (sym none ∙ there_here))) in
-        let work : SmallWork Granted same Entry task a = record { writes = w; is = is } in
-        goes Granted same t root pin task env placed (path_to pair) a here word (Check (path_to pair)) (Tail (Upgrade (path_to pair) Entry)) refl refl refl refl fresh_here (here_known (path_to pair)) (inl refl) (λ z w h. h)
-        (record { small = facts.small; at = (fresh_here.opened, facts.at.1, all_here (SmallWork Granted same Entry task) work) }) (λ z h. inr (inl h)) (λ z h. h) (λ served. omega arith)
+        goes_small Granted same t root pin task env placed (path_to pair) a here word facts Entry (record { writes = w; is = is })
 
     -- the only one of its leaf goes with the leaf
     goes_detach : (w : Writes Granted same task (payload_in (found a (key_bytes task)))) → w.value ≡ None → length a.node.children ≡ 1
@@ -145,22 +140,7 @@ module _ {M : Type 0} (Granted : Type 0) (same : M → M → Bool) (t : Table M)
     goes_detach w none alone =
         let on : OnPath t root pin (key_bytes task) (path_to pair) = facts.at.1 in
         let is : IsLarge Detach a (key_bytes task) = (on.way a here, present.1, present.0, alone) in
-        let work : LargeWork Granted same Detach task a = record { writes = w; is = is; may = none } in
-        goes Granted same t root pin task env placed (path_to pair) a here word (Check (path_to pair)) (Tail (UpgradeAbove pair Detach)) refl refl refl refl fresh_here (here_known (path_to pair)) (inl refl) (λ z w h. h)
-        (record {
-          small = facts.small;
-          at = (
-            record {
-              opened = fresh_here.opened;
-              over = record { way = on.above.1; apart = on.apart pair.above refl };
-              here = on.here;
-              work = all_here (LargeWork Granted same Detach task) work;
-            },
-            on.above.0,
-            on.above.2,
-          );
-        })
-        (λ z h. inr (inl h)) (λ z h. h) (λ served. omega arith)
+        goes_large Granted same t root pin task env placed pair a here word facts Detach (record { writes = w; is = is; may = none })
 
     goes_removing : (one : Bool) → (IsTrue one → length a.node.children ≡ 1) → (w : Writes Granted same task (payload_in (found a (key_bytes task)))) → w.value ≡ None
         → IsRead Granted same t root pin (at (Check (path_to pair)) task) env (at (Tail (removing pair one)) task) (report_of kind.Check (Some pair.here.slot) 0 true) Going
@@ -216,7 +196,7 @@ module _ {M : Type 0} (Granted : Type 0) (same : M → M → Bool) (t : Table M)
         at = (
           asking_waits Granted same task task.spare fresh_here closure spare,
           on,
-          all_here (IsPresent Granted same only (asking task task.spare)) (record { full = present.1; value = standing; stands = there_here; seen = seen; alone = present.2.0 }),
+          all_here t pair.here a here (IsPresent Granted same only (asking task task.spare)) (record { full = present.1; value = standing; stands = there_here; seen = seen; alone = present.2.0 }),
         );
       })
       (λ z h. inr (inl h)) (λ served. omega arith))

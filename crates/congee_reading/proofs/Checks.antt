@@ -42,7 +42,7 @@ use Rattle.congee_store.proofs.Ways.{check_absent, check_present, check_below, c
 use Rattle.congee_store.proofs.Unlike.{decided_open}
 use Rattle.congee_store.proofs.Records.{at}
 use Rattle.congee_store.proofs.Replies.{returned_wants}
-use Rattle.congee_reading.proofs.Courses.{holding_as, still_current, below_other, below_not_root, descends}
+use Rattle.congee_reading.proofs.Courses.{forgets, holding_as, still_current, below_other, below_not_root, descends}
 use Rattle.congee_reading.proofs.Events.{Within, check_ok, check_fails, looks_on}
 use Rattle.congee_reading.proofs.Spots.{here_known, above_known, step_down}
 use Rattle.congee_reading.proofs.Takes.{restarted_fresh}
@@ -95,14 +95,8 @@ module _ {M : Type 0} (Granted : Type 0) (same : M → M → Bool) (t : Table M)
     facts = record { small = small; at = (restarted_fresh task opened, refl) };
     held = refl;
     made = refl;
-    course = record {
-      touches = λ z e make. inr (subst (λ (x : ℕ). IsIn x (named_at stage)) (some_same path.here.slot z e) named);
-      names = λ z h. absurd h;
-      reads = λ z h. absurd h;
-      outline = refl;
-      keeps = λ current z w h. absurd (none_some w h);
-      falls = λ served. inl (record { forgotten = refl; work = omega arith }, (λ current calm. other (current path.here.slot path.here.word known a here)));
-    };
+    course = forgets t (inr named) (λ z h. h) (λ z h. h) refl refl
+        (λ served. inl (record { forgotten = refl; work = omega arith }, (λ current calm. other (current path.here.slot path.here.word known a here))));
     does = λ s id shows.
         subst (λ (z : Flight M). DoesAs Granted same s (with_call s id z) id (flight pin (at stage task)) env (report_of kind.Check (Some path.here.slot) 0 false) Going kind.Check)
         (holding_as (back (flight pin (at stage task))) [] [] held made)
@@ -241,14 +235,7 @@ module _ {M : Type 0} (Granted : Type 0) (same : M → M → Bool) (t : Table M)
         facts = record { small = small; at = decided_open };
         held = refl;
         made = refl;
-        course = record {
-          touches = λ z e make. inr (subst (λ (x : ℕ). IsIn x (named_at stage)) (some_same path.here.slot z e) named);
-          names = λ z h. absurd h;
-          reads = λ z h. absurd h;
-          outline = refl;
-          keeps = λ current z w h. absurd (none_some w h);
-          falls = λ point. inr (more point);
-        };
+        course = forgets t (inr named) (λ z h. h) (λ z h. h) refl refl (λ point. inr (more point));
         does = λ s id shows.
             subst (λ (z : Flight M). DoesAs Granted same s (with_call s id z) id (flight pin (at stage task)) env (report_of kind.Check (Some path.here.slot) 0 true) (Decided reply) kind.Check)
             (holding_as (record (settled progress.Decided (flight pin (at stage task))) { spots = [] }) [] [] held made)

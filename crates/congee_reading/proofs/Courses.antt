@@ -1,18 +1,24 @@
 -- What the events that write no node make of a call's stage.
-use Rattle.std.proofs.Common.{◌≡◌, ◌≢◌, ℕ, ◌+◌, ◌-◌, ◌*◌, ◌/◌, ◌%◌, ◌<◌, ◌≤◌, IsTrue, List, [], length, Some, inl, inr, sym, subst, ap, ◌∙◌, arith}
+use Rattle.std.proofs.Common.{◌≡◌, ◌≢◌, ◌⊎◌, ℕ, ◌+◌, ◌-◌, ◌*◌, ◌/◌, ◌%◌, ◌<◌, ◌≤◌, Bool, IsTrue, List, [], length, Some, inl, inr, sym, subst, ap, ◌∙◌, arith}
 use Rattle.congee_sync.specs.Lock.{IsFree, IsLocked, IsObsolete}
 use Rattle.congee_map.specs.Map.{lookup, put}
 use Rattle.congee_store.specs.declared.stage.Path.{Path}
+use Rattle.congee_store.specs.declared.stage.Record.{Record}
 use Rattle.congee_store.specs.declared.stage.Stage.{Stage}
 use Rattle.congee_store.specs.declared.stage.Stage.TheVariants.{TakeBelow}
+use Rattle.congee_protocol.specs.Calls.{IsPoint}
+use Rattle.congee_protocol.specs.Kinds.{report_of}
 use Rattle.congee_protocol.specs.Lists.{is_in}
 use Rattle.congee_protocol.specs.State.{Flight}
 use Rattle.congee_protocol.specs.declared.types.Env.{Env}
-use Rattle.congee_store.specs.inner.Tables.{byte_at, IsLinked, IsBelow, IsPlaced, LedTo, NeedsHolder, OnPath}
+use Rattle.congee_protocol.specs.declared.types.Kind.{Kind}
+use Rattle.congee_protocol.specs.declared.types.Outcome.{Outcome}
+use Rattle.congee_store.specs.inner.Facts.{named_at}
+use Rattle.congee_store.specs.inner.Tables.{byte_at, IsLinked, IsBelow, IsIn, IsPlaced, LedTo, NeedsHolder, OnPath}
 use Rattle.congee_store.specs.inner.Shown.{spots_of, held_at, made_at}
-use Rattle.congee_store.specs.inner.Turns.{depth_in, IsCurrent, IsUndisturbed}
+use Rattle.congee_store.specs.inner.Turns.{depth_in, work_of, IsCourse, IsCurrent, IsUndisturbed, MayFollow, StartsOver}
 use Rattle.congee_store.specs.inner.World.{Node, Table, is_linked}
-use Rattle.congee_store.proofs.Options.{some_same}
+use Rattle.congee_store.proofs.Options.{none_some, some_same}
 use Rattle.congee_store.proofs.Ways.{known_linked, longer-begins}
 use Rattle.congee_store.proofs.Unlike.{linked_retired, false_true}
 use Rattle.congee_reading.proofs.Events.{Within}
@@ -53,6 +59,20 @@ module _ {M : Type 0} (t : Table M) where
             ap (λ (z : Node M). z.word) (sym same) ∙ e.1
         | inr old ↦ current other w old b there
       ]
+
+  -- the course of an event at a slot, after which the call names no slot and remembers no word
+  pub forgets : {root : ℕ} {call next : Record M} {env : Env M} {k : Kind} {slot word : ℕ} {ok : Bool} {out : Outcome M} → (slot ≡ root) ⊎ IsIn slot (named_at call.stage)
+      → ((z : ℕ) → IsIn z (named_at next.stage) → ⊥) → ((z : ℕ) → MayFollow t next.stage next.task.last z → ⊥) → spots_of next.stage ≡ [] → next.task.outline ≡ call.task.outline
+      → (IsPoint call.task.outline → (StartsOver t next × (IsCurrent t call.stage → IsUndisturbed t call.stage env → ⊥)) ⊎ (work_of t next < work_of t call))
+      → IsCourse t t root call env next (report_of k (Some slot) word ok) out
+  forgets {root = root} {call = call} {slot = slot} known names reads spots outline falls = record {
+    touches = λ z e make. subst (λ (x : ℕ). (x ≡ root) ⊎ IsIn x (named_at call.stage)) (some_same slot z e) known;
+    names = λ z h. absurd (names z h);
+    reads = λ z h. absurd (reads z h);
+    outline = outline;
+    keeps = λ current z w h. absurd (none_some w (subst (λ (x : List (ℕ × ℕ)). lookup x z ≡ Some w) spots h));
+    falls = falls;
+  }
 
   module _ (root : ℕ) (placed : IsPlaced t root) where
     -- a linked node that nobody holds is free

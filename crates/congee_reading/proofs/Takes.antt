@@ -26,8 +26,8 @@ use Rattle.congee_store.proofs.Options.{none_some, some_same}
 use Rattle.congee_store.proofs.Reaching.{one, seen_at}
 use Rattle.congee_store.proofs.Records.{at}
 use Rattle.congee_store.proofs.Replies.{returned_fresh}
-use Rattle.congee_reading.proofs.Courses.{NoneHeld, none_held, holding_as, taken_current, root_free, below_free}
-use Rattle.congee_reading.proofs.Events.{take_ok, take_fails}
+use Rattle.congee_reading.proofs.Courses.{NoneHeld, forgets, none_held, holding_as, taken_current, root_free, below_free}
+use Rattle.congee_reading.proofs.Events.{take, not_by, is_by}
 
 abbrev pub top_path : ℕ → ℕ → Path
 top_path root word = record { above = None; here = record { slot = root; word = word } }
@@ -82,7 +82,7 @@ module _ {M : Type 0} (Granted : Type 0) (same : M → M → Bool) (t : Table M)
           keeps = taken_current t TakeRoot (Read (top_path root a.word)) root a here refl;
           falls = λ served. inr (omega arith);
         };
-        does = λ s id shows. take_ok Granted same s id (flight pin (at TakeRoot task)) env (inl f.0.opened.undecided) root (one a) (seen_at t root s shows root a here) (λ e. is_new f.0 f.1) free;
+        does = λ s id shows. take Granted same s id (flight pin (at TakeRoot task)) env (inl f.0.opened.undecided) root (one a) true (seen_at t root s shows root a here) (λ e. is_new f.0 f.1) (is_by free);
         carries = λ s shows m content. refl;
       }
 
@@ -97,18 +97,12 @@ module _ {M : Type 0} (Granted : Type 0) (same : M → M → Bool) (t : Table M)
         facts = record { small = small; at = (restarted_fresh task fresh.opened, refl) };
         held = refl;
         made = refl;
-        course = record {
-          touches = λ z e make. subst (λ (x : ℕ). (x ≡ root) ⊎ IsIn x (named_at stage)) (some_same slot z e) known;
-          names = λ z h. absurd h;
-          reads = λ z h. absurd h;
-          outline = refl;
-          keeps = λ current z w h. absurd (none_some w h);
-          falls = λ served. inl (record { forgotten = refl; work = omega arith }, (λ current calm. free (frees current (none_held t stage env held made calm))));
-        };
+        course = forgets t known (λ z h. h) (λ z h. h) refl refl
+            (λ served. inl (record { forgotten = refl; work = omega arith }, (λ current calm. free (frees current (none_held t stage env held made calm)))));
         does = λ s id shows.
             subst (λ (z : Flight M). DoesAs Granted same s (with_call s id z) id (flight pin (at stage task)) env (report_of kind.Take (Some slot) a.word false) Going kind.Take)
             (holding_as (back (flight pin (at stage task))) [] [] held made)
-            (take_fails Granted same s id (flight pin (at stage task)) env (inl fresh.opened.undecided) slot (one a) (seen_at t root s shows slot a here) (anew s shows) free);
+            (take Granted same s id (flight pin (at stage task)) env (inl fresh.opened.undecided) slot (one a) false (seen_at t root s shows slot a here) (anew s shows) (not_by free));
         carries = λ s shows m content. refl;
       }
 
@@ -149,8 +143,8 @@ module _ {M : Type 0} (Granted : Type 0) (same : M → M → Bool) (t : Table M)
           keeps = taken_current t (TakeBelow path slot) (CheckAbove path below fits) slot a here refl;
           falls = λ served. inr (omega arith);
         };
-        does = λ s id shows. take_ok Granted same s id (flight pin (at (TakeBelow path slot) task)) env (inl f.0.opened.undecided) slot (one a) (seen_at t root s shows slot a here)
-            (λ e. absurd (f.5 (e ∙ shows.root_is))) free;
+        does = λ s id shows. take Granted same s id (flight pin (at (TakeBelow path slot) task)) env (inl f.0.opened.undecided) slot (one a) true (seen_at t root s shows slot a here)
+            (λ e. absurd (f.5 (e ∙ shows.root_is))) (is_by free);
         carries = λ s shows m content. refl;
       }
 

@@ -264,33 +264,21 @@ module _ (root : ℕ) (w : World ℕ) (past : List Entry) (sound : IsSound (Unit
     pub turn_touches : report.kind ≢ kind.Make → (slot : ℕ) → report.slot ≡ Some slot → Told root past id slot
     turn_touches other slot t = touched_at (call_of after id) refl other slot t
 
+  -- an event that isn't done leaves all
+  skipped_vouched : (event : Event ℕ) (after : World ℕ) (content : Pairs ℕ) → IsSound (Unit {0}) same_number after → after ≡ w → ((o slot : ℕ) → IsKnown o slot past → Vouches o slot event Skipped (IsKnown o slot past))
+      → IsVouched root after (record { event = event; line = Skipped; after = state_of after; content = content } ∷ past) × (after.root ≡ root)
+  skipped_vouched event after content next same leaves = (
+    (λ o narrow r found slot t. longer (record { event = event; line = Skipped; after = state_of after; content = content }) o slot (in_use after o r slot next narrow found t) (leaves o slot)
+        (subst (λ (z : World ℕ). IsVouched root z past) (sym same) vouched o narrow r found slot t)),
+    ap (λ (z : World ℕ). z.root) same ∙ at,
+  )
+
   -- after any event
   vouched_next : (event : Event ℕ) (line : Line) (after : World ℕ) (content : Pairs ℕ) → IsSound (Unit {0}) same_number after → Plays w event line after
       → IsVouched root after (record { event = event; line = line; after = state_of after; content = content } ∷ past) × (after.root ≡ root)
-  vouched_next (Start id op) Skipped after content next p = (
-    (λ o narrow r found slot t. longer (record { event = Start id op; line = Skipped; after = state_of after; content = content }) o slot (in_use after o r slot next narrow found t) (λ v. v)
-        (skipped_vouched o narrow r found slot t)),
-    ap (λ (z : World ℕ). z.root) p.1 ∙ at,
-  )
-    where
-      skipped_vouched : IsVouched root after past
-      skipped_vouched = subst (λ (z : World ℕ). IsVouched root z past) (sym p.1) vouched
-  vouched_next (Step id env) Skipped after content next p = (
-    (λ o narrow r found slot t. longer (record { event = Step id env; line = Skipped; after = state_of after; content = content }) o slot (in_use after o r slot next narrow found t) (λ v. v)
-        (skipped_vouched o narrow r found slot t)),
-    ap (λ (z : World ℕ). z.root) p.1 ∙ at,
-  )
-    where
-      skipped_vouched : IsVouched root after past
-      skipped_vouched = subst (λ (z : World ℕ). IsVouched root z past) (sym p.1) vouched
-  vouched_next (Reclaim s) Skipped after content next p = (
-    (λ o narrow r found slot t. longer (record { event = Reclaim s; line = Skipped; after = state_of after; content = content }) o slot (in_use after o r slot next narrow found t) (λ v. v)
-        (skipped_vouched o narrow r found slot t)),
-    ap (λ (z : World ℕ). z.root) p.1 ∙ at,
-  )
-    where
-      skipped_vouched : IsVouched root after past
-      skipped_vouched = subst (λ (z : World ℕ). IsVouched root z past) (sym p.1) vouched
+  vouched_next (Start id op) Skipped after content next p = skipped_vouched (Start id op) after content next p.1 (λ o slot v. v)
+  vouched_next (Step id env) Skipped after content next p = skipped_vouched (Step id env) after content next p.1 (λ o slot v. v)
+  vouched_next (Reclaim s) Skipped after content next p = skipped_vouched (Reclaim s) after content next p.1 (λ o slot v. v)
   vouched_next (Start id op) (Made report out seen) after content next p = (
     (λ o narrow r found slot t.
         elim (eqb_tells o id) [

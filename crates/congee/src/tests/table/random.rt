@@ -1,17 +1,11 @@
 //! Two thousand mixed calls, against a plain list of rows.
 
+use super::super::both::scattered;
 use super::plain::answers_alike;
-use congee_node_table::allocator::DefaultAllocator;
+use crate::DefaultAllocator;
 use congee_table::calls::TableCall;
 use congee_table::table::{Row, Table};
 use std::alloc::Global;
-
-// Scattered numbers.
-fn scattered(i: u64) -> u64 {
-    let x = i.wrapping_add(1).wrapping_mul(0x9e37_79b9_7f4a_7c15);
-    let y = (x ^ x.wrapping_shr(30)).wrapping_mul(0xbf58_476d_1ce4_e5b9);
-    y ^ y.wrapping_shr(31)
-}
 
 // One of forty ids, the greatest among them.
 fn id_of(choice: u64) -> u32 {
@@ -53,7 +47,7 @@ fn call_of(i: u64) -> TableCall {
 fn alike(table: &mut Table<DefaultAllocator>, list: &mut Vec<Row>) -> u32 {
     let mut alike = 0u32;
     for i in 0..2000 {
-        if answers_alike(table, list, call_of(i)) {
+        if answers_alike(table, list, call_of(i)) == Ok(true) {
             alike = alike.wrapping_add(1);
         }
     }

@@ -1,23 +1,42 @@
 //! A plain list of rows, ids ascending, and whether a table answers like it.
 
-use congee_node_table::allocator::Allocator;
+use crate::Allocator;
 use congee_table::calls::TableCall;
 use congee_table::table::{Row, Table, TableError};
 
 pub(super) fn find(list: &[Row], id: u32) -> Option<Row> {
-    list.iter().find(|row| row.id == id).copied()
+    for row in list {
+        if row.id == id {
+            return Some(*row);
+        }
+    }
+    None
+}
+
+// How many rows have a lower id.
+fn place(list: &[Row], id: u32) -> usize {
+    let mut place = 0usize;
+    for row in list {
+        if row.id < id {
+            place = place.wrapping_add(1);
+        }
+    }
+    place
 }
 
 fn delete(list: &mut Vec<Row>, id: u32) -> Option<Row> {
     let row = find(list, id)?;
-    list.retain(|row| row.id != id);
+    let place = place(list, id);
+    if place < list.len() {
+        list.remove(place);
+    }
     Some(row)
 }
 
 // Answers the row before. There is no row after it where there was no memory for it.
 fn put(list: &mut Vec<Row>, row: Row) -> Option<Row> {
     let before = delete(list, row.id);
-    let place = list.iter().filter(|other| other.id < row.id).count();
+    let place = place(list, row.id);
     if place <= list.len() {
         let _ = list.insert(place, row);
     }
@@ -25,7 +44,9 @@ fn put(list: &mut Vec<Row>, row: Row) -> Option<Row> {
 }
 
 fn regroup(list: &mut Vec<Row>, id: u32, group: u32) -> Result<u32, TableError> {
-    let row = find(list, id).ok_or(TableError::Absent)?;
+    let Some(row) = find(list, id) else {
+        return Err(TableError::Absent);
+    };
     put(list, Row { group, ..row });
     Ok(row.group)
 }
@@ -42,7 +63,8 @@ fn group(list: &[Row], group: u32, from: u32, buffer: &mut [(u64, u64)]) -> usiz
     count
 }
 
-/// Whether both have the same rows in this group from this id on, of which so many are asked for.
+/// Whether both have the same rows in this group from this id on, of which so many are asked for, and leave the rest of the
+/// buffer.
 pub(super) fn lists_alike<A: Allocator>(
     table: &Table<A>,
     list: &[Row],
@@ -57,17 +79,24 @@ pub(super) fn lists_alike<A: Allocator>(
     count == group(list, of, from, &mut wanted[..limit]) && rows == wanted
 }
 
-/// Makes the call at both. Whether they answer alike.
+/// Makes the call at both. Whether they answer alike, or the error of a table that has no memory for the call: then the list
+/// stays as it was, too.
 pub(super) fn answers_alike<A: Allocator>(
     table: &mut Table<A>,
     list: &mut Vec<Row>,
     call: TableCall,
-) -> bool {
+) -> Result<bool, TableError> {
     match call {
-        TableCall::Put(row) => table.put(row) == Ok(put(list, row)),
-        TableCall::Get(id) => table.get(id) == find(list, id),
-        TableCall::Delete(id) => table.delete(id) == delete(list, id),
-        TableCall::Regroup(id, group) => table.regroup(id, group) == regroup(list, id, group),
-        TableCall::Group(of, from, limit) => lists_alike(table, list, of, from, limit),
+        TableCall::Put(row) => match table.put(row) {
+            Ok(before) => Ok(before == put(list, row)),
+            Err(error) => Err(error),
+        },
+        TableCall::Get(id) => Ok(table.get(id) == find(list, id)),
+        TableCall::Delete(id) => Ok(table.delete(id) == delete(list, id)),
+        TableCall::Regroup(id, group) => match table.regroup(id, group) {
+            Err(TableError::Oom) => Err(TableError::Oom),
+            reply => Ok(reply == regroup(list, id, group)),
+        },
+        TableCall::Group(of, from, limit) => Ok(lists_alike(table, list, of, from, limit)),
     }
 }

@@ -1,0 +1,18 @@
+//! The table of rows, which stands on the typed face.
+
+// A row by its id, group and value, also in a constant.
+macro_rules! row {
+    ($id:expr, $group:expr, $value:expr) => {
+        Row {
+            id: $id,
+            group: $group,
+            value: $value,
+        }
+    };
+}
+
+mod budgets;
+mod plain;
+mod random;
+mod refusals;
+mod rows;

@@ -1,5 +1,0 @@
-mod budgets;
-mod plain;
-mod random;
-mod refusals;
-mod rows;
