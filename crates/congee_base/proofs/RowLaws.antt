@@ -160,7 +160,7 @@ module _ {C : Type 0} where
   get-kept (x ∷ row) (suc i) (suc j) c l = get-kept row i j c (omega arith)
 
   -- the same child at two places
-  get-same : (xs ys : List C) (i j : ℕ) → i < length xs → j < length ys → ((d : C) → get_or xs i d ≡ get_or ys j d) → slice_get xs i ≡ slice_get ys j
+  pub get-same : (xs ys : List C) (i j : ℕ) → i < length xs → j < length ys → ((d : C) → get_or xs i d ≡ get_or ys j d) → slice_get xs i ≡ slice_get ys j
   get-same xs ys i j l m h =
       elim (slice_get_cases xs i).1 [
         | inl there ↦ there.2 ∙ ap Some (sym there.3 ∙ h there.0) ∙ sym (slice_get-get_or ys j there.0 m)

@@ -8,6 +8,7 @@ ghost use Rattle.congee_base.specs.Rest.{rest};
 
 use crate::iter::NodeIter;
 use std::marker::Model;
+use std::mem;
 
 /// The four forms, named by how many children each has room for (*The Adaptive Radix Tree*, Leis et al., section III).
 #[derive(Clone, Copy, Debug, PartialEq, Eq)]
@@ -150,6 +151,19 @@ impl BaseNode {
         ensures { result ≡ self.now.form }
     {
         self.form
+    }
+
+    /// The base of a node of another form with this prefix, and all the children, of which none is left here.
+    pub fn hand_over(&mut self, form: NodeType) -> Self
+        ensures other { result ≡ record self.old { form = form } }
+        ensures none { self.new ≡ record self.old { count = 0 } }
+    {
+        let count = mem::replace(&mut self.count, 0);
+        BaseNode {
+            bytes: self.bytes,
+            count,
+            form,
+        }
     }
 
     /// Counts one child more.

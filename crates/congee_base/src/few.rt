@@ -1,9 +1,10 @@
 //! Up to four children in the node itself, so that a node with few takes no memory of its own.
 
-ghost use Rattle.std.specs.Prelude.{◌≡◌, ℕ, ◌+◌, ◌<◌, ◌≤◌, length, option_copied, slice_get, slice_index_or, slice_set};
+ghost use Rattle.std.specs.Prelude.{◌≡◌, ℕ, ◌+◌, ◌<◌, ◌≤◌, [], ◌++◌, length, option_copied, slice_get, slice_index_or, slice_set, vec_len, vec_capacity};
 ghost use Rattle.std.specs.List.{insert, remove};
 ghost use Rattle.congee_base.specs.inner.Few.{listed};
 
+use crate::row::add;
 use std::mem;
 
 /// Up to four children in a row: 40 bytes for children of 8 bytes.
@@ -101,5 +102,33 @@ impl<C: Drop> Few<C> {
         };
         *self = rest;
         child
+    }
+
+    /// Moves all children, in their order, to the end of a row with room for them.
+    pub fn move_to(&mut self, row: &mut Vec<C>)
+        requires room { vec_len row.old + length (listed self.old) ≤ vec_capacity row.old }
+        ensures moved { row.new.items ≡ row.old.items ++ listed self.old }
+        ensures none { listed self.new ≡ [] }
+        ensures capacity { vec_capacity row.old ≤ vec_capacity row.new }
+    {
+        match mem::replace(self, Few::Zero) {
+            Few::Zero => {}
+            Few::One(a) => add(row, a),
+            Few::Two(a, b) => {
+                add(row, a);
+                add(row, b);
+            }
+            Few::Three(a, b, c) => {
+                add(row, a);
+                add(row, b);
+                add(row, c);
+            }
+            Few::Four(a, b, c, d) => {
+                add(row, a);
+                add(row, b);
+                add(row, c);
+                add(row, d);
+            }
+        }
     }
 }

@@ -90,14 +90,14 @@ module _ {C : Type 0} where
   pairs-short (k ∷ ks) [] (suc n) = refl
   pairs-short (k ∷ ks) (c ∷ cs) (suc n) = ap (λ t. (k, c) ∷ t) (pairs-short ks cs n)
 
+  pub pairs-none : (ks : List ℕ) → pairs {C = C} ks [] ≡ []
+  pairs-none [] = refl
+  pairs-none (k ∷ ks) = refl
+
   pub pairs-drop : (ks : List ℕ) (cs : List C) (n : ℕ) → pairs (drop n ks) (drop n cs) ≡ drop n (pairs ks cs)
   pairs-drop ks cs zero = refl
   pairs-drop [] cs (suc n) = refl
   pairs-drop (k ∷ ks) [] (suc n) = pairs-none (drop n ks)
-    where
-      pairs-none : (ks : List ℕ) → pairs {C = C} ks [] ≡ []
-      pairs-none [] = refl
-      pairs-none (k ∷ ks) = refl
   pairs-drop (k ∷ ks) (c ∷ cs) (suc n) = pairs-drop ks cs n
 
   pub lookup-not_at : (a : ℕ) (ks : List ℕ) (cs : List C) (b : ℕ) → Rises a 256 (pairs ks cs) → length cs ≤ length ks → (count_below (pairs ks cs) b < length cs → get_or ks (count_below (pairs ks cs) b) 0 ≢ b) → lookup (pairs ks cs) b ≡ None

@@ -10,11 +10,10 @@ use crate::node_4::Node4;
 use crate::node_16::Node16;
 use crate::node_48::Node48;
 use crate::node_256::Node256;
-use congee_base::base_node::{BaseNode, CopyTo, Node, NodeType};
+use congee_base::base_node::{BaseNode, Node};
 use congee_base::iter::NodeIter;
 use congee_map::error::OOMError;
 use std::alloc::Global;
-use std::mem;
 
 /// A node of one of the forms: 64 bytes for children of 8 bytes, as only the larger forms have parts on the heap.
 #[derive(Drop)]
@@ -36,15 +35,13 @@ impl<C: Drop> AnyNode<C> {
         ensures room { OnOk result (Fits (any_form self.new) (length (any_children self.new) + 1)) }
         ensures err { OnErr result (self.new ≡ self.old) }
     {
-        let base = self.base();
-        let larger = match base.get_type() {
-            NodeType::N4 => AnyNode::N16(Node16::new(alloc, base.prefix())?),
-            NodeType::N16 => AnyNode::N48(Node48::new(alloc, base.prefix())?),
-            NodeType::N48 => AnyNode::N256(Node256::new(alloc, base.prefix())?),
-            NodeType::N256 => return Ok(()),
+        let larger = match self {
+            AnyNode::N4(node) => AnyNode::N16(Node16::grown_from(alloc, node)?),
+            AnyNode::N16(node) => AnyNode::N48(Node48::grown_from(alloc, node)?),
+            AnyNode::N48(node) => AnyNode::N256(Node256::grown_from(alloc, node)?),
+            AnyNode::N256(_) => return Ok(()),
         };
-        let old = mem::replace(self, larger);
-        old.copy_to(self);
+        *self = larger;
         Ok(())
     }
 }

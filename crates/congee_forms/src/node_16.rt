@@ -1,9 +1,10 @@
 //! A node with up to sixteen bytes, ascending, and the children beside them
 //! (*The Adaptive Radix Tree*, Leis et al., section III).
 
-ghost use Rattle.std.specs.Prelude.{◌≡◌, ℕ, ◌≤◌, [], length, IfOk};
+ghost use Rattle.std.specs.Prelude.{◌≡◌, ℕ, ◌<◌, ◌≤◌, [], length, IfOk, OnOk, OnErr};
 ghost use Rattle.congee_base.specs.NodeView.{NodeView};
 
+use crate::node_4::Node4;
 use congee_base::base_node::{BaseNode, Node, NodeType};
 use congee_base::iter::{Node16Iter, NodeIter};
 use congee_base::lanes::{find, rank};
@@ -18,9 +19,9 @@ use std::mem;
 /// The children are on the heap; the value itself takes 56 bytes.
 #[derive(Drop)]
 pub struct Node16<C> {
-    children: Vec<C>,
-    base: BaseNode,
-    keys: [u8; 16],
+    pub(crate) base: BaseNode,
+    pub(crate) keys: [u8; 16],
+    pub(crate) children: Vec<C>,
 }
 
 impl<C> Model for Node16<C> {
@@ -57,6 +58,28 @@ impl<C: Drop> Node16<C> {
             children,
             base,
             keys: [0; 16],
+        })
+    }
+
+    /// A node with the prefix and the children of a smaller one, which is left without children.
+    ///
+    /// All memory is taken before the first change, and refused only for want of it.
+    pub fn grown_from(alloc: Global, smaller: &mut Node4<C>) -> Result<Self, OOMError>
+        ensures prefix { IfOk result (λ n. n.prefix ≡ smaller.old.prefix) }
+        ensures children { IfOk result (λ n. n.children ≡ smaller.old.children) }
+        ensures room { IfOk result (λ n. length n.children < 16) }
+        ensures emptied { OnOk result (smaller.new.children ≡ []) }
+        ensures err { OnErr result (smaller.new ≡ smaller.old) }
+    {
+        let mut children = Vec::with_capacity(alloc, 16)?;
+        let mut keys = [0; 16];
+        keys[..4].copy_from_slice(&smaller.keys);
+        smaller.children.move_to(&mut children);
+        let base = smaller.base.hand_over(NodeType::N16);
+        Ok(Node16 {
+            children,
+            base,
+            keys,
         })
     }
 }

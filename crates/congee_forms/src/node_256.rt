@@ -1,13 +1,14 @@
 //! A node with up to 256 children in a row, an index of all bytes, and a mask of those that have a child
 //! (*The Adaptive Radix Tree*, Leis et al., section III).
 
-ghost use Rattle.std.specs.Prelude.{◌≡◌, ℕ, ◌≤◌, [], length, IfOk};
+ghost use Rattle.std.specs.Prelude.{IsTrue, slice_index, ◌≡◌, ℕ, ◌≤◌, [], length, IfOk, OnOk, OnErr};
 ghost use Rattle.congee_base.specs.NodeView.{NodeView};
 
+use crate::node_48::Node48;
 use congee_base::base_node::{BaseNode, Node, NodeType};
 use congee_base::iter::{Node256Iter, NodeIter};
-use congee_base::mask::{is_marked, mark, unmark};
-use congee_base::row::redirect;
+use congee_base::mask::{is_marked, mark, marks_below, unmark};
+use congee_base::row::{add, move_row, place_all, redirect, sort_by_byte};
 use congee_map::error::OOMError;
 use std::alloc::Global;
 use std::marker::Model;
@@ -22,21 +23,28 @@ struct Marks {
 
 /// A node with up to 256 children in a row, an index of all bytes, and a mask of those that have a child.
 ///
-/// The row has no gaps and no order. By the mask a scan passes bytes without a child. On the heap are 8 bytes for each of
-/// 256 children of 8 bytes, and 288 bytes for mask and index; the value itself takes 48 bytes.
+/// The row has no gaps. By the mask a scan passes bytes without a child. On the heap are 8 bytes for each of 256 children of
+/// 8 bytes, and 288 bytes for mask and index; the value itself takes 48 bytes.
+///
+/// When the 256th child comes, the row is sorted by the bytes, and until one is taken out, a look-up goes straight to the
+/// child. It would wait for mask and index one after the other, two lines of memory more, and where keys are dense almost
+/// all nodes are full; where they aren't, the upper ones. The cost is a pass over the index, and where the row is out of
+/// order, a sort. Mask and index stay right, for scans and for what comes after a removal.
 #[derive(Drop)]
 pub struct Node256<C> {
+    base: BaseNode,
+    // whether each byte has a child, and at the place of its number
+    direct: bool,
     children: Vec<C>,
     marks: Box<Marks>,
-    base: BaseNode,
 }
 
 impl<C> Model for Node256<C> {
-    ghost use Rattle.std.specs.Prelude.{◌≡◌, ◌≤◌, vec_capacity};
+    ghost use Rattle.std.specs.Prelude.{◌≡◌, ◌≤◌, IsTrue, vec_capacity};
     ghost use Rattle.congee_base.specs.NodeView.{NodeView};
     ghost use Rattle.congee_base.specs.inner.NodeCode.{node_view_code};
     ghost use Rattle.congee_base.specs.inner.Marked.{marked_place};
-    ghost use Rattle.congee_base.specs.inner.Row.{in_row, IsRow};
+    ghost use Rattle.congee_base.specs.inner.Row.{in_row, IsRow, IsDirect};
     ghost use Rattle.congee_base.specs.declared.base_node.NodeType.TheVariants.{N256};
 
     ghost Value = { NodeView C };
@@ -52,7 +60,21 @@ impl<C> Model for Node256<C> {
     ghost invariant = { λ n. IsRow 256 (marked_place n.marks.value.mask n.marks.value.index)
         n.children.items n.base.count
         × (n.base.form ≡ N256)
-        × (256 ≤ vec_capacity n.children) };
+        × (256 ≤ vec_capacity n.children)
+        × (IsTrue n.direct
+        → IsDirect (marked_place n.marks.value.mask n.marks.value.index) n.children.items) };
+}
+
+// The place of the child of a byte that has one; where the row is sorted, without a look at the index.
+fn place_of(direct: bool, index: &[u8; 256], byte: u8) -> usize
+    requires { IsTrue direct → slice_index index.now byte ≡ byte }
+    ensures { result ≡ slice_index index.now byte }
+{
+    if direct {
+        byte as usize
+    } else {
+        index[byte as usize] as usize
+    }
 }
 
 impl<C: Drop> Node256<C> {
@@ -73,7 +95,44 @@ impl<C: Drop> Node256<C> {
             children,
             marks,
             base,
+            direct: false,
         })
+    }
+
+    /// A node with the prefix and the children of a smaller one, which is left without children.
+    ///
+    /// All memory is taken before the first change, and refused only for want of it.
+    pub fn grown_from(alloc: Global, smaller: &mut Node48<C>) -> Result<Self, OOMError>
+        ensures prefix { IfOk result (λ n. n.prefix ≡ smaller.old.prefix) }
+        ensures children { IfOk result (λ n. n.children ≡ smaller.old.children) }
+        ensures emptied { OnOk result (smaller.new.children ≡ []) }
+        ensures err { OnErr result (smaller.new ≡ smaller.old) }
+    {
+        let places = Marks {
+            mask: marks_below(&smaller.index, 48),
+            index: *smaller.index,
+        };
+        let marks = Box::new(alloc, places)?;
+        let mut children = Vec::with_capacity(alloc, 256)?;
+        move_row(&mut smaller.children, &mut children);
+        place_all(&mut smaller.index, 48);
+        let base = smaller.base.hand_over(NodeType::N256);
+        Ok(Node256 {
+            children,
+            marks,
+            base,
+            direct: false,
+        })
+    }
+
+    // Sorts the row by the bytes where each has a child; `last` is the byte whose child came last.
+    fn sort_if_full(&mut self, last: u8)
+        ensures { self.new ≡ self.old }
+    {
+        if self.children.len() == 256 {
+            sort_by_byte(&mut self.children, &mut self.marks.index, last);
+            self.direct = true;
+        }
     }
 }
 
@@ -95,6 +154,9 @@ impl<C: Drop> Node<C> for Node256<C> {
     }
 
     fn get_child(&self, byte: u8) -> Option<&C> {
+        if self.direct {
+            return Some(&self.children[byte as usize]);
+        }
         let marks: &Marks = &self.marks;
         if is_marked(&marks.mask, byte) {
             Some(&self.children[marks.index[byte as usize] as usize])
@@ -118,15 +180,13 @@ impl<C: Drop> Node<C> for Node256<C> {
         let marks: &mut Marks = &mut self.marks;
         mark(&mut marks.mask, byte);
         marks.index[byte as usize] = self.children.len() as u8;
-        match self.children.push(child) {
-            Ok(()) => {}
-            Err(_) => unreachable!(),
-        }
+        add(&mut self.children, child);
         self.base.count_up();
+        self.sort_if_full(byte);
     }
 
     fn change(&mut self, byte: u8, child: C) -> C {
-        let i = self.marks.index[byte as usize] as usize;
+        let i = place_of(self.direct, &self.marks.index, byte);
         mem::replace(&mut self.children[i], child)
     }
 
@@ -134,6 +194,7 @@ impl<C: Drop> Node<C> for Node256<C> {
         let marks: &mut Marks = &mut self.marks;
         let i = marks.index[byte as usize];
         let last = self.children.len() - 1;
+        self.direct = false;
         unmark(&mut marks.mask, byte);
         redirect(&mut marks.index, last as u8, i);
         self.base.count_down();

@@ -17,9 +17,9 @@ use std::marker::Model;
 /// All lies in the value itself, which takes 56 bytes for children of 8 bytes; nothing is on the heap.
 #[derive(Drop)]
 pub struct Node4<C> {
-    children: Few<C>,
-    base: BaseNode,
-    keys: [u8; 4],
+    pub(crate) base: BaseNode,
+    pub(crate) keys: [u8; 4],
+    pub(crate) children: Few<C>,
 }
 
 impl<C> Model for Node4<C> {

@@ -1,12 +1,13 @@
 //! A node with up to forty-eight children in a row, and an index of all bytes
 //! (*The Adaptive Radix Tree*, Leis et al., section III).
 
-ghost use Rattle.std.specs.Prelude.{◌≡◌, ℕ, ◌≤◌, [], length, IfOk};
+ghost use Rattle.std.specs.Prelude.{◌≡◌, ℕ, ◌<◌, ◌≤◌, [], length, IfOk, OnOk, OnErr};
 ghost use Rattle.congee_base.specs.NodeView.{NodeView};
 
+use crate::node_16::Node16;
 use congee_base::base_node::{BaseNode, Node, NodeType};
 use congee_base::iter::{Node48Iter, NodeIter};
-use congee_base::row::redirect;
+use congee_base::row::{add, move_row, place_bytes, redirect};
 use congee_map::error::OOMError;
 use std::alloc::Global;
 use std::marker::Model;
@@ -18,9 +19,9 @@ use std::mem;
 /// for each of forty-eight children of 8 bytes and the index of 256 bytes; the value itself takes 48 bytes.
 #[derive(Drop)]
 pub struct Node48<C> {
-    children: Vec<C>,
-    index: Box<[u8; 256]>,
-    base: BaseNode,
+    pub(crate) base: BaseNode,
+    pub(crate) children: Vec<C>,
+    pub(crate) index: Box<[u8; 256]>,
 }
 
 impl<C> Model for Node48<C> {
@@ -55,6 +56,29 @@ impl<C: Drop> Node48<C> {
         let marks = [48u8; 256];
         let index = Box::new(alloc, marks)?;
         let children = Vec::with_capacity(alloc, 48)?;
+        Ok(Node48 {
+            children,
+            index,
+            base,
+        })
+    }
+
+    /// A node with the prefix and the children of a smaller one, which is left without children.
+    ///
+    /// All memory is taken before the first change, and refused only for want of it.
+    pub fn grown_from(alloc: Global, smaller: &mut Node16<C>) -> Result<Self, OOMError>
+        ensures prefix { IfOk result (λ n. n.prefix ≡ smaller.old.prefix) }
+        ensures children { IfOk result (λ n. n.children ≡ smaller.old.children) }
+        ensures room { IfOk result (λ n. length n.children < 48) }
+        ensures emptied { OnOk result (smaller.new.children ≡ []) }
+        ensures err { OnErr result (smaller.new ≡ smaller.old) }
+    {
+        let mut places = [48u8; 256];
+        place_bytes(&mut places, &smaller.keys[..smaller.children.len()]);
+        let index = Box::new(alloc, places)?;
+        let mut children = Vec::with_capacity(alloc, 48)?;
+        move_row(&mut smaller.children, &mut children);
+        let base = smaller.base.hand_over(NodeType::N48);
         Ok(Node48 {
             children,
             index,
@@ -100,10 +124,7 @@ impl<C: Drop> Node<C> for Node48<C> {
 
     fn insert(&mut self, byte: u8, child: C) {
         self.index[byte as usize] = self.children.len() as u8;
-        match self.children.push(child) {
-            Ok(()) => {}
-            Err(_) => unreachable!(),
-        }
+        add(&mut self.children, child);
         self.base.count_up();
     }
 

@@ -9,10 +9,11 @@ ghost use Rattle.congee_node_table.specs.Children.{children_left, MayGive};
 ghost use Rattle.congee_node_table.specs.TableNode.{MayHave, seen, looked_at};
 
 use crate::child::{Child, ChildIter, ChildRef};
-use congee_base::base_node::{BaseNode, Node};
-use congee_base::iter::{Node16Iter, NodeIter};
-use congee_forms::any_node::AnyNode;
+use crate::kinds::{InTable, Inner, Leaf};
+use congee_base::base_node::{BaseNode, NodeType};
 use congee_forms::node_4::Node4;
+use congee_forms::node_16::Node16;
+use congee_forms::node_48::Node48;
 use congee_forms::node_256::Node256;
 use congee_map::error::OOMError;
 use std::alloc::Global;
@@ -25,10 +26,17 @@ pub struct TreeNode<P> {
     kind: Kind<P>,
 }
 
+// One tag for kind and form, so that a node is read after one jump.
 #[derive(Drop)]
 enum Kind<P> {
-    Inner(AnyNode<usize>),
-    Leaf(AnyNode<P>),
+    Inner4(Inner<Node4<usize>>),
+    Inner16(Inner<Node16<usize>>),
+    Inner48(Inner<Node48<usize>>),
+    Inner256(Inner<Node256<usize>>),
+    Leaf4(Leaf<Node4<P>>),
+    Leaf16(Leaf<Node16<P>>),
+    Leaf48(Leaf<Node48<P>>),
+    Leaf256(Leaf<Node256<P>>),
 }
 
 impl<P> Model for TreeNode<P> {
@@ -45,20 +53,6 @@ impl<P> Model for TreeNode<P> {
     ghost invariant = { λ n. IsOfKind n.kind };
 }
 
-// The children of a node with `from <= byte < to`.
-fn children_of<C: Drop>(node: &AnyNode<C>, from: usize, to: usize) -> NodeIter<'_, C>
-    requires { to ≤ 256 }
-    ensures { rest result ≡ between (any_children node.now) from to }
-{
-    if from >= to {
-        return NodeIter::N16(Node16Iter {
-            keys: &[],
-            children: &[],
-        });
-    }
-    node.get_children(from as u8, (to - 1) as u8)
-}
-
 impl<P: Drop> TreeNode<P> {
     ghost use Rattle.congee_base.specs.declared.base_node.NodeType.TheVariants.{N4, N256};
 
@@ -68,7 +62,7 @@ impl<P: Drop> TreeNode<P> {
     {
         let node = Node256::new(alloc, &[])?;
         Ok(TreeNode {
-            kind: Kind::Inner(AnyNode::N256(node)),
+            kind: Kind::Inner256(Inner { node }),
         })
     }
 
@@ -79,7 +73,7 @@ impl<P: Drop> TreeNode<P> {
     {
         let node = Node4::new(alloc, prefix)?;
         Ok(TreeNode {
-            kind: Kind::Inner(AnyNode::N4(node)),
+            kind: Kind::Inner4(Inner { node }),
         })
     }
 
@@ -90,7 +84,7 @@ impl<P: Drop> TreeNode<P> {
     {
         let node = Node4::new(alloc, prefix)?;
         Ok(TreeNode {
-            kind: Kind::Leaf(AnyNode::N4(node)),
+            kind: Kind::Leaf4(Leaf { node }),
         })
     }
 
@@ -103,8 +97,14 @@ impl<P: Drop> TreeNode<P> {
         ensures ascending { Rises 0 256 self.now.children }
     {
         match &self.kind {
-            Kind::Inner(node) => node.base(),
-            Kind::Leaf(node) => node.base(),
+            Kind::Inner4(node) => InTable::<P>::base(node),
+            Kind::Inner16(node) => InTable::<P>::base(node),
+            Kind::Inner48(node) => InTable::<P>::base(node),
+            Kind::Inner256(node) => InTable::<P>::base(node),
+            Kind::Leaf4(node) => InTable::<P>::base(node),
+            Kind::Leaf16(node) => InTable::<P>::base(node),
+            Kind::Leaf48(node) => InTable::<P>::base(node),
+            Kind::Leaf256(node) => InTable::<P>::base(node),
         }
     }
 
@@ -114,8 +114,8 @@ impl<P: Drop> TreeNode<P> {
         ensures inner { result ≡ false → length self.now.prefix < 7 }
     {
         match &self.kind {
-            Kind::Inner(_) => false,
-            Kind::Leaf(_) => true,
+            Kind::Inner4(_) | Kind::Inner16(_) | Kind::Inner48(_) | Kind::Inner256(_) => false,
+            Kind::Leaf4(_) | Kind::Leaf16(_) | Kind::Leaf48(_) | Kind::Leaf256(_) => true,
         }
     }
 
@@ -124,9 +124,13 @@ impl<P: Drop> TreeNode<P> {
         ensures full { IsTrue result → Fits self.now.form (length self.now.children + 1) → ⊥ }
         ensures room { result ≡ false → Fits self.now.form (length self.now.children + 1) }
     {
-        match &self.kind {
-            Kind::Inner(node) => node.is_full(),
-            Kind::Leaf(node) => node.is_full(),
+        let base = self.base();
+        let count = base.value_count();
+        match base.get_type() {
+            NodeType::N4 => count >= 4,
+            NodeType::N16 => count >= 16,
+            NodeType::N48 => count >= 48,
+            NodeType::N256 => false,
         }
     }
 
@@ -135,14 +139,14 @@ impl<P: Drop> TreeNode<P> {
         ensures { seen result ≡ lookup self.now.children byte }
     {
         match &self.kind {
-            Kind::Inner(node) => match node.get_child(byte) {
-                Some(slot) => Some(ChildRef::Node(*slot)),
-                None => None,
-            },
-            Kind::Leaf(node) => match node.get_child(byte) {
-                Some(payload) => Some(ChildRef::Payload(payload)),
-                None => None,
-            },
+            Kind::Inner4(node) => node.get_child(byte),
+            Kind::Inner16(node) => node.get_child(byte),
+            Kind::Inner48(node) => node.get_child(byte),
+            Kind::Inner256(node) => node.get_child(byte),
+            Kind::Leaf4(node) => node.get_child(byte),
+            Kind::Leaf16(node) => node.get_child(byte),
+            Kind::Leaf48(node) => node.get_child(byte),
+            Kind::Leaf256(node) => node.get_child(byte),
         }
     }
 
@@ -161,18 +165,14 @@ impl<P: Drop> TreeNode<P> {
         }
         let start = from as u8;
         match &self.kind {
-            Kind::Inner(node) => {
-                let Some((byte, slot)) = node.get_children(start, 255).next() else {
-                    return None;
-                };
-                Some((byte, ChildRef::Node(*slot)))
-            }
-            Kind::Leaf(node) => {
-                let Some((byte, payload)) = node.get_children(start, 255).next() else {
-                    return None;
-                };
-                Some((byte, ChildRef::Payload(payload)))
-            }
+            Kind::Inner4(node) => node.first_from(start),
+            Kind::Inner16(node) => node.first_from(start),
+            Kind::Inner48(node) => node.first_from(start),
+            Kind::Inner256(node) => node.first_from(start),
+            Kind::Leaf4(node) => node.first_from(start),
+            Kind::Leaf16(node) => node.first_from(start),
+            Kind::Leaf48(node) => node.first_from(start),
+            Kind::Leaf256(node) => node.first_from(start),
         }
     }
 
@@ -183,8 +183,14 @@ impl<P: Drop> TreeNode<P> {
         ensures kind { MayGive self.now.prefix result }
     {
         match &self.kind {
-            Kind::Inner(node) => ChildIter::Nodes(children_of(node, from, to)),
-            Kind::Leaf(node) => ChildIter::Payloads(children_of(node, from, to)),
+            Kind::Inner4(node) => node.children_between(from, to),
+            Kind::Inner16(node) => node.children_between(from, to),
+            Kind::Inner48(node) => node.children_between(from, to),
+            Kind::Inner256(node) => node.children_between(from, to),
+            Kind::Leaf4(node) => node.children_between(from, to),
+            Kind::Leaf16(node) => node.children_between(from, to),
+            Kind::Leaf48(node) => node.children_between(from, to),
+            Kind::Leaf256(node) => node.children_between(from, to),
         }
     }
 
@@ -195,10 +201,15 @@ impl<P: Drop> TreeNode<P> {
         requires kind { MayHave self.old.prefix child }
         ensures { self.new ≡ record self.old { children = put self.old.children byte child } }
     {
-        match (&mut self.kind, child) {
-            (Kind::Inner(node), Child::Node(slot)) => node.insert(byte, slot),
-            (Kind::Leaf(node), Child::Payload(payload)) => node.insert(byte, payload),
-            _ => unreachable!(),
+        match &mut self.kind {
+            Kind::Inner4(node) => node.insert(byte, child),
+            Kind::Inner16(node) => node.insert(byte, child),
+            Kind::Inner48(node) => node.insert(byte, child),
+            Kind::Inner256(node) => node.insert(byte, child),
+            Kind::Leaf4(node) => node.insert(byte, child),
+            Kind::Leaf16(node) => node.insert(byte, child),
+            Kind::Leaf48(node) => node.insert(byte, child),
+            Kind::Leaf256(node) => node.insert(byte, child),
         }
     }
 
@@ -209,12 +220,15 @@ impl<P: Drop> TreeNode<P> {
         ensures before { lookup self.old.children byte ≡ Some result }
         ensures after { self.new ≡ record self.old { children = put self.old.children byte child } }
     {
-        match (&mut self.kind, child) {
-            (Kind::Inner(node), Child::Node(slot)) => Child::Node(node.change(byte, slot)),
-            (Kind::Leaf(node), Child::Payload(payload)) => {
-                Child::Payload(node.change(byte, payload))
-            }
-            _ => unreachable!(),
+        match &mut self.kind {
+            Kind::Inner4(node) => node.change(byte, child),
+            Kind::Inner16(node) => node.change(byte, child),
+            Kind::Inner48(node) => node.change(byte, child),
+            Kind::Inner256(node) => node.change(byte, child),
+            Kind::Leaf4(node) => node.change(byte, child),
+            Kind::Leaf16(node) => node.change(byte, child),
+            Kind::Leaf48(node) => node.change(byte, child),
+            Kind::Leaf256(node) => node.change(byte, child),
         }
     }
 
@@ -225,8 +239,14 @@ impl<P: Drop> TreeNode<P> {
         ensures after { self.new ≡ record self.old { children = without self.old.children byte } }
     {
         match &mut self.kind {
-            Kind::Inner(node) => Child::Node(node.remove(byte)),
-            Kind::Leaf(node) => Child::Payload(node.remove(byte)),
+            Kind::Inner4(node) => node.remove(byte),
+            Kind::Inner16(node) => node.remove(byte),
+            Kind::Inner48(node) => node.remove(byte),
+            Kind::Inner256(node) => node.remove(byte),
+            Kind::Leaf4(node) => node.remove(byte),
+            Kind::Leaf16(node) => node.remove(byte),
+            Kind::Leaf48(node) => node.remove(byte),
+            Kind::Leaf256(node) => node.remove(byte),
         }
     }
 
@@ -238,9 +258,34 @@ impl<P: Drop> TreeNode<P> {
         ensures room { OnOk result (Fits self.new.form (length self.new.children + 1)) }
         ensures err { OnErr result (self.new ≡ self.old) }
     {
-        match &mut self.kind {
-            Kind::Inner(node) => node.grow(alloc),
-            Kind::Leaf(node) => node.grow(alloc),
-        }
+        let grown = match &mut self.kind {
+            Kind::Inner4(old) => match Node16::grown_from(alloc, &mut old.node) {
+                Ok(node) => Kind::Inner16(Inner { node }),
+                Err(error) => return Err(error),
+            },
+            Kind::Inner16(old) => match Node48::grown_from(alloc, &mut old.node) {
+                Ok(node) => Kind::Inner48(Inner { node }),
+                Err(error) => return Err(error),
+            },
+            Kind::Inner48(old) => match Node256::grown_from(alloc, &mut old.node) {
+                Ok(node) => Kind::Inner256(Inner { node }),
+                Err(error) => return Err(error),
+            },
+            Kind::Leaf4(old) => match Node16::grown_from(alloc, &mut old.node) {
+                Ok(node) => Kind::Leaf16(Leaf { node }),
+                Err(error) => return Err(error),
+            },
+            Kind::Leaf16(old) => match Node48::grown_from(alloc, &mut old.node) {
+                Ok(node) => Kind::Leaf48(Leaf { node }),
+                Err(error) => return Err(error),
+            },
+            Kind::Leaf48(old) => match Node256::grown_from(alloc, &mut old.node) {
+                Ok(node) => Kind::Leaf256(Leaf { node }),
+                Err(error) => return Err(error),
+            },
+            Kind::Inner256(_) | Kind::Leaf256(_) => return Ok(()),
+        };
+        self.kind = grown;
+        Ok(())
     }
 }

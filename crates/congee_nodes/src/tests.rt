@@ -258,9 +258,14 @@ fn growth_keeps_every_child(rt: HostRuntime) -> Result<(), Fail> {
     Ok(())
 }
 
-// Puts a child under each byte in turn, and grows the node where it is full.
-fn grows_through_all_forms(alloc: Global, node: &mut AnyNode<u32>) -> Result<bool, OOMError> {
-    for byte in 0..=255u8 {
+// Puts a child under each byte, in steps of so many from 0 on, and grows the node where it is full.
+fn grows_through_all_forms(
+    alloc: Global,
+    node: &mut AnyNode<u32>,
+    step: u8,
+) -> Result<bool, OOMError> {
+    for i in 0..=255u8 {
+        let byte = i.wrapping_mul(step);
         if node.is_full() {
             node.grow(alloc)?;
         }
@@ -268,19 +273,62 @@ fn grows_through_all_forms(alloc: Global, node: &mut AnyNode<u32>) -> Result<boo
             return Ok(false);
         }
     }
+    Ok(has_every_byte(node) && has_base(node, NodeType::N256, &[7, 8], 256))
+}
+
+// Whether each byte has three times itself.
+fn has_every_byte<N: Node<u32>>(node: &N) -> bool {
     for byte in 0..=255u8 {
         if node.get_child(byte).copied() != Some(u32::from(byte).wrapping_mul(3)) {
-            return Ok(false);
+            return false;
         }
     }
-    Ok(has_base(node, NodeType::N256, &[7, 8], 256))
+    true
 }
+
+// Ascending, descending and without order: an odd step comes to each byte once.
+const STEPS: [u8; 3] = [1, 255, 167];
 
 #[test]
 fn one_value_grows_through_all_forms(rt: HostRuntime) -> Result<(), Fail> {
-    let mut node = AnyNode::N4(Node4::new(rt.alloc(), &[7, 8])?);
-    let is_right = grows_through_all_forms(rt.alloc(), &mut node)?;
-    assert!(rt; is_right);
+    for step in STEPS {
+        let mut node = AnyNode::N4(Node4::new(rt.alloc(), &[7, 8])?);
+        let is_right = grows_through_all_forms(rt.alloc(), &mut node, step)?;
+        assert!(rt; is_right);
+    }
+    Ok(())
+}
+
+// Fills an empty node, its bytes in steps of so many. Whether each call is then right, and once a child is out and in again.
+fn fills_every_byte<N: Node<u32>>(node: &mut N, step: u8) -> [bool; 9] {
+    let mut room = true;
+    for i in 0..=255u8 {
+        let byte = i.wrapping_mul(step);
+        room = put(node, byte, u32::from(byte).wrapping_mul(3)) && room;
+    }
+    [
+        room,
+        has_every_byte(node),
+        scans(node, 253, 255, &[(253, 759), (254, 762), (255, 765)]),
+        // a change, and a removal
+        puts(node, &[(77, 1), (0, 7)]),
+        takes(node, &[(77, Some(1)), (77, None), (0, Some(7))]),
+        finds(
+            node,
+            &[(0, None), (1, Some(3)), (77, None), (255, Some(765))],
+        ),
+        scans(node, 76, 78, &[(76, 228), (78, 234)]),
+        puts(node, &[(77, 231), (0, 0)]),
+        has_every_byte(node) && node.base().value_count() == 256,
+    ]
+}
+
+#[test]
+fn a_full_node_finds_each_child(rt: HostRuntime) -> Result<(), Fail> {
+    for step in STEPS {
+        let right = fills_every_byte(&mut Node256::new(rt.alloc(), &[])?, step);
+        assert_eq!(rt; right, [true; 9]);
+    }
     Ok(())
 }
 

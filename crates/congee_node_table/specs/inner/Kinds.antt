@@ -1,10 +1,13 @@
 -- The two kinds of nodes in a table, and what a contract sees of each.
 use Rattle.std.specs.Prelude.{◌≡◌, ℕ, ◌<◌, List, [], ◌∷◌, length}
-use Rattle.congee_forms.specs.Any.{any_form, any_prefix, any_children}
+use Rattle.congee_map.specs.Map.{put, without}
+use Rattle.congee_base.specs.declared.base_node.NodeType.{NodeType}
+use Rattle.congee_base.specs.declared.base_node.NodeType.TheVariants.{N4, N16, N48, N256}
 use Rattle.congee_node_table.specs.TableNode.{TableNode}
+use Rattle.congee_node_table.specs.declared.child.Child.{Child}
 use Rattle.congee_node_table.specs.declared.child.Child.TheVariants.{Payload, Node}
 use Rattle.congee_node_table.specs.declared.tree_node.Kind.{Kind}
-use Rattle.congee_node_table.specs.declared.tree_node.Kind.TheVariants.{Inner, Leaf}
+use Rattle.congee_node_table.specs.declared.tree_node.Kind.TheVariants.{Inner4, Inner16, Inner48, Inner256, Leaf4, Leaf16, Leaf48, Leaf256}
 
 -- the same bytes, each with what f makes of its child
 abbrev pub mapped : {C D : Type 0} → (C → D) → List (ℕ × C) → List (ℕ × D)
@@ -12,20 +15,47 @@ mapped f [] = []
 mapped f (e ∷ es) = (e.0, f e.1) ∷ mapped f es
 
 module _ {P : Type 0} where
+  -- a node whose children are made of others
+  abbrev pub node_of : {C : Type 0} → (C → Child P) → NodeType → List ℕ → List (ℕ × C) → TableNode P
+  node_of f form prefix es = record { form = form; prefix = prefix; children = mapped f es }
+
   -- the children of an inner node are slots, and those of a leaf payloads
+  abbrev pub slots : List (ℕ × ℕ) → List (ℕ × Child P)
+  slots = mapped (λ slot. Node slot)
+
+  abbrev pub payloads : List (ℕ × P) → List (ℕ × Child P)
+  payloads = mapped (λ v. Payload v)
+
+  abbrev pub inner_node : NodeType → List ℕ → List (ℕ × ℕ) → TableNode P
+  inner_node = node_of (λ slot. Node slot)
+
+  abbrev pub leaf_node : NodeType → List ℕ → List (ℕ × P) → TableNode P
+  leaf_node = node_of (λ v. Payload v)
+
   abbrev pub table_node : Kind P → TableNode P
-  table_node (Inner n) = record {
-    form = any_form n;
-    prefix = any_prefix n;
-    children = mapped (λ slot. Node slot) (any_children n);
-  }
-  table_node (Leaf n) = record {
-    form = any_form n;
-    prefix = any_prefix n;
-    children = mapped (λ v. Payload v) (any_children n);
-  }
+  table_node (Inner4 n) = inner_node N4 n.node.prefix n.node.children
+  table_node (Inner16 n) = inner_node N16 n.node.prefix n.node.children
+  table_node (Inner48 n) = inner_node N48 n.node.prefix n.node.children
+  table_node (Inner256 n) = inner_node N256 n.node.prefix n.node.children
+  table_node (Leaf4 n) = leaf_node N4 n.node.prefix n.node.children
+  table_node (Leaf16 n) = leaf_node N16 n.node.prefix n.node.children
+  table_node (Leaf48 n) = leaf_node N48 n.node.prefix n.node.children
+  table_node (Leaf256 n) = leaf_node N256 n.node.prefix n.node.children
+
+  -- a node with one child more, or another one, and with one less
+  abbrev pub with_child : TableNode P → ℕ → Child P → TableNode P
+  with_child n byte child = record n { children = put n.children byte child }
+
+  abbrev pub without_child : TableNode P → ℕ → TableNode P
+  without_child n byte = record n { children = without n.children byte }
 
   -- payloads stand under seven bytes, and nodes under fewer
   abbrev pub IsOfKind : Kind P → Type 0
-  IsOfKind (Inner n) = length (any_prefix n) < 7
-  IsOfKind (Leaf n) = length (any_prefix n) ≡ 7
+  IsOfKind (Inner4 n) = length n.node.prefix < 7
+  IsOfKind (Inner16 n) = length n.node.prefix < 7
+  IsOfKind (Inner48 n) = length n.node.prefix < 7
+  IsOfKind (Inner256 n) = length n.node.prefix < 7
+  IsOfKind (Leaf4 n) = length n.node.prefix ≡ 7
+  IsOfKind (Leaf16 n) = length n.node.prefix ≡ 7
+  IsOfKind (Leaf48 n) = length n.node.prefix ≡ 7
+  IsOfKind (Leaf256 n) = length n.node.prefix ≡ 7

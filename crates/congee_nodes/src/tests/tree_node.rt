@@ -91,9 +91,9 @@ fn roots_have_room_for_each_byte(rt: HostRuntime) -> Result<(), Fail> {
     Ok(())
 }
 
-// A table's entry holds a node of payloads of 8 bytes in 72 bytes, whatever its form and kind.
+// A table's entry holds a node of payloads of 8 bytes in 64 bytes, whatever its form and kind.
 #[test]
 fn nodes_are_small(rt: HostRuntime) -> Result<(), Fail> {
-    assert_eq!(rt; size_of::<TreeNode<u64>>(), 72);
+    assert_eq!(rt; size_of::<TreeNode<u64>>(), 64);
     Ok(())
 }

@@ -70,4 +70,4 @@ invariant_of-self g c =
     (vec_len c.self.inside.children) (vec_len c.swap_remove.new.self) c.len-last.result c.self.invariant.0 byte some (search rules) (search rules) c.len-last.ensures
     c.unmark.ensures.here (rw c.deref_mut-marks.ensures.value at c.unmark.ensures.others) (rw c.deref_mut-marks.ensures.value at c.redirect.ensures.moved) (rw c.deref_mut-marks.ensures.value at c.redirect.ensures.others)
     c.count_down.ensures.count c.swap_remove.ensures.len (rw c.deref_mut-marks.ensures.value at c.swap_remove.ensures.by_index.0) (rw c.deref_mut-marks.ensures.value at c.swap_remove.ensures.by_index.1) in
-    (e.0, c.count_down.ensures.form ∙ c.self.invariant.1, search rules)
+    (e.0, c.count_down.ensures.form ∙ c.self.invariant.1, search rules, search rules)
