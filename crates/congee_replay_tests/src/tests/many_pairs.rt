@@ -2,130 +2,55 @@
 
 use crate::tests::courses::{Course, Numbers, of_pairs};
 use congee_protocol::types::StartError;
-use std::alloc::Global;
+use std::alloc::{AllocError, Global};
 use std::test::Fail;
 
 // Dense keys, keys that share each number of bytes, and sparse ones.
-fn any_keys() -> [(u64, u64); 39] {
-    [
-        (0x0000_0000_0000_0000, 100),
-        (0x0000_0000_0000_0001, 101),
-        (0x0000_0000_0000_0002, 102),
-        (0x0000_0000_0000_0003, 103),
-        (0x0000_0000_0000_0004, 104),
-        (0x0000_0000_0000_0005, 105),
-        (0x0000_0000_0000_0006, 106),
-        (0x0000_0000_0000_0007, 107),
-        (0x0000_0000_0000_0008, 108),
-        (0x0000_0000_0000_0009, 109),
-        (0x0000_0000_0000_000a, 110),
-        (0x0000_0000_0000_000b, 111),
-        (0x1122_3344_5566_7788, 112),
-        (0x11ff_3344_5566_7788, 113),
-        (0x1122_0033_4455_6677, 114),
-        (0x1122_33ff_5566_7788, 115),
-        (0x1122_3344_0066_7788, 116),
-        (0x1122_3344_aa66_7788, 117),
-        (0x1122_3344_5500_6677, 118),
-        (0x1122_3344_5566_00ff, 119),
-        (0x1122_3344_5566_7700, 120),
-        (0x1122_3344_5566_77ff, 121),
-        (0x9e37_79b9_7f4a_7c15, 122),
-        (0x3c6e_f372_fe94_f82a, 123),
-        (0xdaa6_6d2c_7ddf_743f, 124),
-        (0x78dd_e6e5_fd29_f054, 125),
-        (0x1715_609f_7c74_6c69, 126),
-        (0xb54c_da58_fbbe_e87e, 127),
-        (0x5384_5412_7b09_6493, 128),
-        (0xf1bb_cdcb_fa53_e0a8, 129),
-        (0x0000_0000_0000_00ff, 130),
-        (0x0000_0000_0000_0100, 131),
-        (0x0000_0000_0000_ffff, 132),
-        (0x0000_0000_0001_0000, 133),
-        (0x0000_0000_ffff_ffff, 134),
-        (0x0000_0001_0000_0000, 135),
-        (0x8000_0000_0000_0000, 136),
-        (0xffff_ffff_ffff_ffff, 137),
-        (0xffff_ffff_ffff_ff00, 138),
-    ]
-}
+const ANY_KEYS: [[u64; 3]; 13] = [
+    [0x0000000000000000, 0x0000000000000001, 0x0000000000000002],
+    [0x0000000000000003, 0x0000000000000004, 0x0000000000000005],
+    [0x0000000000000006, 0x0000000000000007, 0x0000000000000008],
+    [0x0000000000000009, 0x000000000000000a, 0x000000000000000b],
+    [0x1122334455667788, 0x11ff334455667788, 0x1122003344556677],
+    [0x112233ff55667788, 0x1122334400667788, 0x11223344aa667788],
+    [0x1122334455006677, 0x11223344556600ff, 0x1122334455667700],
+    [0x11223344556677ff, 0x9e3779b97f4a7c15, 0x3c6ef372fe94f82a],
+    [0xdaa66d2c7ddf743f, 0x78dde6e5fd29f054, 0x1715609f7c746c69],
+    [0xb54cda58fbbee87e, 0x538454127b096493, 0xf1bbcdcbfa53e0a8],
+    [0x00000000000000ff, 0x0000000000000100, 0x000000000000ffff],
+    [0x0000000000010000, 0x00000000ffffffff, 0x0000000100000000],
+    [0x8000000000000000, 0xffffffffffffffff, 0xffffffffffffff00],
+];
 
 // Keys that differ in the first four bytes or share seven.
-fn four_bytes_apart() -> [(u64, u64); 33] {
-    [
-        (0x9e37_79b9_0101_0101, 200),
-        (0x3c6e_f372_0202_0202, 201),
-        (0xdaa6_6d2b_0303_0303, 202),
-        (0x78dd_e6e4_0404_0404, 203),
-        (0x1715_609d_0505_0505, 204),
-        (0xb54c_da56_0606_0606, 205),
-        (0x5384_540f_0707_0707, 206),
-        (0xf1bb_cdc8_0808_0808, 207),
-        (0x8ff3_4781_0909_0909, 208),
-        (0x2e2a_c13a_0a0a_0a0a, 209),
-        (0xcc62_3af3_0b0b_0b0b, 210),
-        (0x6a99_b4ac_0c0c_0c0c, 211),
-        (0x08d1_2e65_0d0d_0d0d, 212),
-        (0xa708_a81e_0e0e_0e0e, 213),
-        (0x4540_21d7_0f0f_0f0f, 214),
-        (0xe377_9b90_1010_1010, 215),
-        (0x81af_1549_1111_1111, 216),
-        (0x1fe6_8f02_1212_1212, 217),
-        (0xbe1e_08bb_1313_1313, 218),
-        (0x5c55_8274_1414_1414, 219),
-        (0xfa8c_fc2d_1515_1515, 220),
-        (0x98c4_75e6_1616_1616, 221),
-        (0x36fb_ef9f_1717_1717, 222),
-        (0xd533_6958_1818_1818, 223),
-        (0xffee_dd00_0102_0300, 224),
-        (0xffee_dd00_0102_0301, 225),
-        (0xffee_dd00_0102_0302, 226),
-        (0xffee_dd00_0102_037f, 227),
-        (0xffee_dd00_0102_03ff, 228),
-        (0xffee_dd01_0102_0300, 229),
-        (0xffee_dd01_0102_03ff, 230),
-        (0xffee_0000_0000_0000, 231),
-        (0xff00_0000_0000_0001, 232),
-    ]
-}
+const FOUR_BYTES_APART: [[u64; 3]; 11] = [
+    [0x9e3779b901010101, 0x3c6ef37202020202, 0xdaa66d2b03030303],
+    [0x78dde6e404040404, 0x1715609d05050505, 0xb54cda5606060606],
+    [0x5384540f07070707, 0xf1bbcdc808080808, 0x8ff3478109090909],
+    [0x2e2ac13a0a0a0a0a, 0xcc623af30b0b0b0b, 0x6a99b4ac0c0c0c0c],
+    [0x08d12e650d0d0d0d, 0xa708a81e0e0e0e0e, 0x454021d70f0f0f0f],
+    [0xe3779b9010101010, 0x81af154911111111, 0x1fe68f0212121212],
+    [0xbe1e08bb13131313, 0x5c55827414141414, 0xfa8cfc2d15151515],
+    [0x98c475e616161616, 0x36fbef9f17171717, 0xd533695818181818],
+    [0xffeedd0001020300, 0xffeedd0001020301, 0xffeedd0001020302],
+    [0xffeedd000102037f, 0xffeedd00010203ff, 0xffeedd0101020300],
+    [0xffeedd01010203ff, 0xffee000000000000, 0xff00000000000001],
+];
 
 // Keys that differ in the first byte or share seven.
-fn first_byte_apart() -> [(u64, u64); 32] {
-    [
-        (0x0001_0203_0405_0600, 300),
-        (0x0001_0203_0405_0601, 301),
-        (0x0001_0203_0405_0680, 302),
-        (0x0001_0203_0405_06ff, 303),
-        (0x0101_0203_0405_0600, 304),
-        (0x0101_0203_0405_0601, 305),
-        (0x0101_0203_0405_0680, 306),
-        (0x0101_0203_0405_06ff, 307),
-        (0x0201_0203_0405_0600, 308),
-        (0x0201_0203_0405_0601, 309),
-        (0x0201_0203_0405_0680, 310),
-        (0x0201_0203_0405_06ff, 311),
-        (0x0701_0203_0405_0600, 312),
-        (0x0701_0203_0405_0601, 313),
-        (0x0701_0203_0405_0680, 314),
-        (0x0701_0203_0405_06ff, 315),
-        (0x7f01_0203_0405_0600, 316),
-        (0x7f01_0203_0405_0601, 317),
-        (0x7f01_0203_0405_0680, 318),
-        (0x7f01_0203_0405_06ff, 319),
-        (0x8001_0203_0405_0600, 320),
-        (0x8001_0203_0405_0601, 321),
-        (0x8001_0203_0405_0680, 322),
-        (0x8001_0203_0405_06ff, 323),
-        (0xfe01_0203_0405_0600, 324),
-        (0xfe01_0203_0405_0601, 325),
-        (0xfe01_0203_0405_0680, 326),
-        (0xfe01_0203_0405_06ff, 327),
-        (0xff01_0203_0405_0600, 328),
-        (0xff01_0203_0405_0601, 329),
-        (0xff01_0203_0405_0680, 330),
-        (0xff01_0203_0405_06ff, 331),
-    ]
-}
+const FIRST_BYTE_APART: [[u64; 3]; 11] = [
+    [0x0001020304050600, 0x0001020304050601, 0x0001020304050680],
+    [0x00010203040506ff, 0x0101020304050600, 0x0101020304050601],
+    [0x0101020304050680, 0x01010203040506ff, 0x0201020304050600],
+    [0x0201020304050601, 0x0201020304050680, 0x02010203040506ff],
+    [0x0701020304050600, 0x0701020304050601, 0x0701020304050680],
+    [0x07010203040506ff, 0x7f01020304050600, 0x7f01020304050601],
+    [0x7f01020304050680, 0x7f010203040506ff, 0x8001020304050600],
+    [0x8001020304050601, 0x8001020304050680, 0x80010203040506ff],
+    [0xfe01020304050600, 0xfe01020304050601, 0xfe01020304050680],
+    [0xfe010203040506ff, 0xff01020304050600, 0xff01020304050601],
+    [0xff01020304050680, 0xff010203040506ff, 0xff010203040506fe],
+];
 
 // A key and these give keys that share each number of bytes with it, and itself.
 fn changes() -> [u64; 9] {
@@ -140,6 +65,18 @@ fn changes() -> [u64; 9] {
         1 << 48,
         1 << 56,
     ]
+}
+
+// The keys, each with a value of its own.
+fn pairs_of(alloc: Global, rows: &[[u64; 3]]) -> Result<Vec<(u64, u64)>, AllocError> {
+    let mut pairs = Vec::new(alloc);
+    for row in rows {
+        for key in row {
+            let value = pairs.len() as u64;
+            pairs.push((*key, value))?;
+        }
+    }
+    Ok(pairs)
 }
 
 // What stands at a key.
@@ -185,17 +122,18 @@ fn first_wrong(machine: &mut Numbers, pairs: &[(u64, u64)]) -> Result<Option<u64
     Ok(None)
 }
 
-// The same of a machine that stores these pairs.
-fn wrong_in(alloc: Global, pairs: &[(u64, u64)]) -> Result<Option<u64>, Fail> {
-    let mut machine = of_pairs(alloc, pairs)?;
-    Ok(first_wrong(&mut machine, pairs)?)
+// The same of a machine that stores these keys.
+fn wrong_in(alloc: Global, rows: &[[u64; 3]]) -> Result<Option<u64>, Fail> {
+    let pairs = pairs_of(alloc, rows)?;
+    let mut machine = of_pairs(alloc, &pairs)?;
+    Ok(first_wrong(&mut machine, &pairs)?)
 }
 
 #[test]
 fn gets_find_what_the_list_has(rt: HostRuntime) -> Result<(), Fail> {
-    assert_eq!(rt; wrong_in(rt.alloc(), &any_keys())?, None);
-    assert_eq!(rt; wrong_in(rt.alloc(), &four_bytes_apart())?, None);
-    assert_eq!(rt; wrong_in(rt.alloc(), &first_byte_apart())?, None);
+    assert_eq!(rt; wrong_in(rt.alloc(), &ANY_KEYS)?, None);
+    assert_eq!(rt; wrong_in(rt.alloc(), &FOUR_BYTES_APART)?, None);
+    assert_eq!(rt; wrong_in(rt.alloc(), &FIRST_BYTE_APART)?, None);
     Ok(())
 }
 
@@ -248,7 +186,7 @@ fn wrong_of(
 }
 
 fn wrong_in_turn(alloc: Global, keys: &[u64]) -> Result<Option<u64>, Fail> {
-    let pairs = any_keys();
+    let pairs = pairs_of(alloc, &ANY_KEYS)?;
     let mut machine = of_pairs(alloc, &pairs)?;
     wrong_of(&mut machine, alloc, &pairs, keys)
 }
@@ -282,14 +220,15 @@ fn is_the_list(content: &[(u64, u64)], pairs: &[(u64, u64)]) -> bool {
     content.len() == pairs.len()
 }
 
-fn tells_in_order(alloc: Global, pairs: &[(u64, u64)]) -> Result<bool, Fail> {
-    let machine = of_pairs(alloc, pairs)?;
+fn tells_in_order(alloc: Global, rows: &[[u64; 3]]) -> Result<bool, Fail> {
+    let pairs = pairs_of(alloc, rows)?;
+    let machine = of_pairs(alloc, &pairs)?;
     let content = machine.content(alloc)?;
-    Ok(is_the_list(&content, pairs))
+    Ok(is_the_list(&content, &pairs))
 }
 
 #[test]
 fn the_content_is_the_list_in_order(rt: HostRuntime) -> Result<(), Fail> {
-    assert!(rt; tells_in_order(rt.alloc(), &any_keys())?);
+    assert!(rt; tells_in_order(rt.alloc(), &ANY_KEYS)?);
     Ok(())
 }
