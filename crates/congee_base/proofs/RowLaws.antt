@@ -179,6 +179,11 @@ module _ {C : Type 0} (most : ℕ) (place : ℕ → ℕ) (row : List C) (count :
         | inr past ↦ absurd (let none = row-lookup ∙ past.1 in false≢true (rw none at some))
       ]
 
+  -- and one with a place in the row has a child
+  pub row-present : place b < length row → IsSome (lookup (in_row place row) b)
+  row-present inside =
+      elim (slice_get_cases row (place b)).1 [ inl there ↦ rw (row-lookup, there.2) refl | inr past ↦ absurd (omega (arith, past.0, inside)) ]
+
   -- a new child goes to the end
   pub row-added : (place' : ℕ → ℕ) (c : C) (more : ℕ) → lookup (in_row place row) b ≡ None → length row < most → more ≡ count + 1
       → place' b ≡ length row → ((d : ℕ) → d < 256 → d ≢ b → place' d ≡ place d)
@@ -223,10 +228,7 @@ module _ {C : Type 0} (most : ℕ) (place : ℕ → ℕ) (row : List C) (count :
       let long = length-set row (place b) c in
       let is = under-put (at_place place (set row (place b) c)) (at_place place row) b c byte (get-written row (place b) c inside)
       (λ d l n. get-kept row (place b) (place d) c (λ same. n (sym (h.apart b d byte l inside (sym same))))) in
-      let some : IsSome (lookup (in_row place row) b) =
-      elim (slice_get_cases row (place b)).1 [ inl there ↦ rw (row-lookup, there.2) refl | inr past ↦ absurd (omega (arith, past.0, inside)) ]
-      in
-      let same = length-put_some 0 256 (in_row place row) b c (under-rises (at_place place row) 0 256 256 refl) some in (
+      let same = length-put_some 0 256 (in_row place row) b c (under-rises (at_place place row) 0 256 256 refl) (row-present inside) in (
         record {
           within = omega (arith, long, h.within);
           vacant = λ d l past. h.vacant d l (omega (arith, past, long));

@@ -1,6 +1,6 @@
 //! What all forms of nodes have, the size that each is charged, and the one contract that they meet.
 
-ghost use Rattle.std.specs.Prelude.{◌≡◌, ◌↔◌, ℕ, ◌+◌, ◌-◌, ◌<◌, ◌≤◌, List, [], ◌∷◌, ◌++◌, length, take, replicate, IsTrue, false, IsSome, Some, None, option_copied};
+ghost use Rattle.std.specs.Prelude.{◌≡◌, ◌↔◌, ℕ, ◌+◌, ◌-◌, ◌<◌, ◌≤◌, List, [], ◌∷◌, ◌++◌, length, take, replicate, IsTrue, false, IsSome, Some, None, IfOk, IfErr, OnOk, OnErr, option_copied};
 ghost use Rattle.std.specs.Int.{w64, to_be_bytes, from_be_bytes};
 ghost use Rattle.congee_map.specs.Map.{lookup, put, without, between, Rises};
 ghost use Rattle.congee_base.specs.Form.{Fits, stated_size};
@@ -229,13 +229,37 @@ pub trait Node<C>: Drop + Sized {
         ensures prefix { prefix self.new ≡ prefix self.old }
         ensures form { form self.new ≡ form self.old };
 
+    /// Puts another child in the place of one, which it returns. A byte that has none keeps none: then the child comes
+    /// back.
+    fn exchange(&mut self, byte: u8, child: C) -> Result<C, C>
+        ensures before { IfOk result (λ c. lookup (children self.old) byte ≡ Some c) }
+        ensures children { OnOk result (children self.new ≡ put (children self.old) byte child) }
+        ensures absent { OnErr result (lookup (children self.old) byte ≡ None) }
+        ensures back { IfErr result (λ c. c ≡ child) }
+        ensures same { OnErr result (children self.new ≡ children self.old) }
+        ensures prefix { prefix self.new ≡ prefix self.old }
+        ensures form { form self.new ≡ form self.old };
+
+    /// Takes out the child under a byte, if there is one, and returns it.
+    fn take(&mut self, byte: u8) -> Option<C>
+        ensures before { result ≡ lookup (children self.old) byte }
+        ensures children { children self.new ≡ without (children self.old) byte }
+        ensures prefix { prefix self.new ≡ prefix self.old }
+        ensures form { form self.new ≡ form self.old };
+
     /// Puts another child in the place of one, which it returns.
     fn change(&mut self, byte: u8, child: C) -> C
         requires present { IsSome (lookup (children self.old) byte) }
         ensures before { lookup (children self.old) byte ≡ Some result }
         ensures children { children self.new ≡ put (children self.old) byte child }
         ensures prefix { prefix self.new ≡ prefix self.old }
-        ensures form { form self.new ≡ form self.old };
+        ensures form { form self.new ≡ form self.old }
+    {
+        match self.exchange(byte, child) {
+            Ok(before) => before,
+            Err(_) => unreachable!(),
+        }
+    }
 
     /// Takes out the child under a byte, and returns it.
     fn remove(&mut self, byte: u8) -> C
@@ -243,7 +267,13 @@ pub trait Node<C>: Drop + Sized {
         ensures before { lookup (children self.old) byte ≡ Some result }
         ensures children { children self.new ≡ without (children self.old) byte }
         ensures prefix { prefix self.new ≡ prefix self.old }
-        ensures form { form self.new ≡ form self.old };
+        ensures form { form self.new ≡ form self.old }
+    {
+        match self.take(byte) {
+            Some(child) => child,
+            None => unreachable!(),
+        }
+    }
 
     /// The node's form.
     fn get_type(&self) -> NodeType

@@ -1,5 +1,5 @@
 -- The search of all bytes at once finds the places of sorted bytes.
-use Rattle.std.proofs.Common.{◌≡◌, ℕ, suc, ◌+◌, ◌<◌, ◌≤◌, ◌==◌, nat_lt, not, List, [], ◌∷◌, length, get_or, take, Some, None, IsSome, refl, ap, sym, ◌∙◌, arith, inl, inr, cond}
+use Rattle.std.proofs.Common.{◌≡◌, ℕ, suc, ◌+◌, ◌<◌, ◌≤◌, ◌==◌, nat_lt, not, List, [], ◌∷◌, length, get_or, take, Some, None, IsSome, refl, ap, sym, ◌∙◌, arith, inl, inr, cond, subst}
 use Rattle.std.specs.List.{prefix_len, count_by}
 use Rattle.std.proofs.lemmas.List.Sums.{sum_by-cons}
 use Rattle.std.proofs.lemmas.Bool.{lt-ltb, le-ltb, eq-eqb, ne_eqb, cases_lt, cases_eq, cases_order, false≢true}
@@ -55,7 +55,11 @@ module _ {C : Type 0} where
             rw (ne_eqb k b other, next) (find-there ks cs b d (omega arith) (omega (arith, l')))
       ]
 
-  pub find-none : (ks : List ℕ) (cs : List C) (b : ℕ) → length cs ≤ length ks → length cs ≤ prefix_len (λ x. not (x == b)) (take (length cs) ks) → lookup (pairs ks cs) b ≡ None
+  find-some : (ks : List ℕ) (cs : List C) (b : ℕ) → length cs ≤ length ks → prefix_len (λ x. not (x == b)) (take (length cs) ks) < length cs → IsSome (lookup (pairs ks cs) b)
+  find-some ks [] b m l = absurd (omega arith)
+  find-some ks (c ∷ cs) b m l = subst IsSome (sym (find-there ks (c ∷ cs) b c m l)) refl
+
+  find-none : (ks : List ℕ) (cs : List C) (b : ℕ) → length cs ≤ length ks → length cs ≤ prefix_len (λ x. not (x == b)) (take (length cs) ks) → lookup (pairs ks cs) b ≡ None
   find-none [] [] b m l = refl
   find-none (k ∷ ks) [] b m l = refl
   find-none [] (c ∷ cs) b m l = absurd (omega arith)
@@ -87,8 +91,17 @@ module _ {C : Type 0} {most : ℕ} {ks : List ℕ} {cs : List C} {count : ℕ} (
   pub rank-at : i ≡ count_by (λ x. nat_lt x b) (take n ks) → i ≡ below (take n ks) b
   rank-at is = is ∙ ap (λ m. count_by (λ x. nat_lt x b) (take m ks)) e ∙ rank-place 0 ks cs b r.ascending (enough_bytes r) ∙ ap (λ m. below (take m ks) b) (sym e)
 
+  searched : i ≡ prefix_len (λ x. not (x == b)) (take n ks) → i ≡ prefix_len (λ x. not (x == b)) (take (length cs) ks)
+  searched is = is ∙ ap (λ m. prefix_len (λ x. not (x == b)) (take m ks)) e
+
+  pub some-found : i ≡ prefix_len (λ x. not (x == b)) (take n ks) → i < n → IsSome (lookup (pairs ks cs) b)
+  some-found is inside = find-some ks cs b (enough_bytes r) (omega (arith, inside, e, searched is))
+
+  pub none-found : i ≡ prefix_len (λ x. not (x == b)) (take n ks) → n ≤ i → lookup (pairs ks cs) b ≡ None
+  none-found is past = find-none ks cs b (enough_bytes r) (omega (arith, past, e, searched is))
+
   pub find-at : i ≡ prefix_len (λ x. not (x == b)) (take n ks) → IsSome (lookup (pairs ks cs) b) → i ≡ below (take n ks) b
-  find-at is some = is ∙ ap (λ m. prefix_len (λ x. not (x == b)) (take m ks)) e ∙ find-place 0 ks cs b r.ascending (enough_bytes r) some ∙ ap (λ m. below (take m ks) b) (sym e)
+  find-at is some = searched is ∙ find-place 0 ks cs b r.ascending (enough_bytes r) some ∙ ap (λ m. below (take m ks) b) (sym e)
 
   pub end-at : b ≡ 256 → i ≡ n → i ≡ below (take n ks) b
   end-at whole is = is ∙ e ∙ place-above 0 ks cs r.ascending (enough_bytes r) ∙ ap (λ m. below (take m ks) 256) (sym e) ∙ ap (below (take n ks)) (sym whole)

@@ -198,6 +198,9 @@ module _ {C : Type 0} {most : ℕ} {ks : List ℕ} {cs : List C} {count : ℕ} (
   pub found_at : i < length cs → get_or ks i 0 ≡ b → slice_get cs i ≡ lookup (pairs ks cs) b
   found_at inside same = elim (slice_get_cases cs i).1 [ inl there ↦ there.2 ∙ child_at there.0 inside same (sym there.3) | inr past ↦ absurd (omega (arith, past.0, inside)) ]
 
+  pub some_at : i < length cs → get_or ks i 0 ≡ b → IsSome (lookup (pairs ks cs) b)
+  some_at inside same = elim (slice_get_cases cs i).1 [ inl there ↦ subst IsSome (child_at there.0 inside same (sym there.3)) refl | inr past ↦ absurd (omega (arith, past.0, inside)) ]
+
   pub not_at : (i < length cs → get_or ks i 0 ≢ b) → lookup (pairs ks cs) b ≡ None
   not_at other = lookup-not_at 0 ks cs b r.ascending (enough_bytes r) (subst (λ j. j < length cs → get_or ks j 0 ≢ b) place_is other)
 

@@ -142,17 +142,25 @@ impl<C: Drop> Node<C> for Node16<C> {
         self.base.count_up();
     }
 
-    fn change(&mut self, byte: u8, child: C) -> C {
+    fn exchange(&mut self, byte: u8, child: C) -> Result<C, C> {
         let count = self.children.len();
         let i = find(&self.keys, count, byte);
-        mem::replace(&mut self.children[i], child)
+        if i < count {
+            Ok(mem::replace(&mut self.children[i], child))
+        } else {
+            Err(child)
+        }
     }
 
-    fn remove(&mut self, byte: u8) -> C {
+    fn take(&mut self, byte: u8) -> Option<C> {
         let count = self.children.len();
         let i = find(&self.keys, count, byte);
-        remove_byte(&mut self.keys, count, i);
-        self.base.count_down();
-        self.children.remove(i)
+        if i < count {
+            remove_byte(&mut self.keys, count, i);
+            self.base.count_down();
+            Some(self.children.remove(i))
+        } else {
+            None
+        }
     }
 }

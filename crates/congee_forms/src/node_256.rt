@@ -1,7 +1,7 @@
 //! A node with up to 256 children in a row, an index of all bytes, and a mask of those that have a child
 //! (*The Adaptive Radix Tree*, Leis et al., section III).
 
-ghost use Rattle.std.specs.Prelude.{IsTrue, slice_index, ◌≡◌, ℕ, ◌≤◌, [], length, IfOk, OnOk, OnErr};
+ghost use Rattle.std.specs.Prelude.{◌≡◌, ℕ, ◌≤◌, [], length, IfOk, OnOk, OnErr};
 ghost use Rattle.congee_base.specs.NodeView.{NodeView};
 
 use crate::node_48::Node48;
@@ -63,18 +63,6 @@ impl<C> Model for Node256<C> {
         × (256 ≤ vec_capacity n.children)
         × (IsTrue n.direct
         → IsDirect (marked_place n.marks.value.mask n.marks.value.index) n.children.items) };
-}
-
-// The place of the child of a byte that has one; where the row is sorted, without a look at the index.
-fn place_of(direct: bool, index: &[u8; 256], byte: u8) -> usize
-    requires { IsTrue direct → slice_index index.now byte ≡ byte }
-    ensures { result ≡ slice_index index.now byte }
-{
-    if direct {
-        byte as usize
-    } else {
-        index[byte as usize] as usize
-    }
 }
 
 impl<C: Drop> Node256<C> {
@@ -185,19 +173,31 @@ impl<C: Drop> Node<C> for Node256<C> {
         self.sort_if_full(byte);
     }
 
-    fn change(&mut self, byte: u8, child: C) -> C {
-        let i = place_of(self.direct, &self.marks.index, byte);
-        mem::replace(&mut self.children[i], child)
+    fn exchange(&mut self, byte: u8, child: C) -> Result<C, C> {
+        if self.direct {
+            return Ok(mem::replace(&mut self.children[byte as usize], child));
+        }
+        let marks: &Marks = &self.marks;
+        if is_marked(&marks.mask, byte) {
+            let i = marks.index[byte as usize] as usize;
+            Ok(mem::replace(&mut self.children[i], child))
+        } else {
+            Err(child)
+        }
     }
 
-    fn remove(&mut self, byte: u8) -> C {
+    fn take(&mut self, byte: u8) -> Option<C> {
         let marks: &mut Marks = &mut self.marks;
-        let i = marks.index[byte as usize];
-        let last = self.children.len() - 1;
-        self.direct = false;
-        unmark(&mut marks.mask, byte);
-        redirect(&mut marks.index, last as u8, i);
-        self.base.count_down();
-        self.children.swap_remove(i as usize)
+        if is_marked(&marks.mask, byte) {
+            let i = marks.index[byte as usize];
+            let last = self.children.len() - 1;
+            self.direct = false;
+            unmark(&mut marks.mask, byte);
+            redirect(&mut marks.index, last as u8, i);
+            self.base.count_down();
+            Some(self.children.swap_remove(i as usize))
+        } else {
+            None
+        }
     }
 }

@@ -112,17 +112,25 @@ impl<C: Drop> Node<C> for Node4<C> {
         self.base.count_up();
     }
 
-    fn change(&mut self, byte: u8, child: C) -> C {
+    fn exchange(&mut self, byte: u8, child: C) -> Result<C, C> {
         let count = self.base.value_count() as usize;
         let i = place(&self.keys, count, byte as usize);
-        self.children.replace(i, child)
+        if i < count && self.keys[i] == byte {
+            Ok(self.children.replace(i, child))
+        } else {
+            Err(child)
+        }
     }
 
-    fn remove(&mut self, byte: u8) -> C {
+    fn take(&mut self, byte: u8) -> Option<C> {
         let count = self.base.value_count() as usize;
         let i = place(&self.keys, count, byte as usize);
-        remove_byte(&mut self.keys, count, i);
-        self.base.count_down();
-        self.children.remove(i)
+        if i < count && self.keys[i] == byte {
+            remove_byte(&mut self.keys, count, i);
+            self.base.count_down();
+            Some(self.children.remove(i))
+        } else {
+            None
+        }
     }
 }

@@ -128,17 +128,25 @@ impl<C: Drop> Node<C> for Node48<C> {
         self.base.count_up();
     }
 
-    fn change(&mut self, byte: u8, child: C) -> C {
+    fn exchange(&mut self, byte: u8, child: C) -> Result<C, C> {
         let i = self.index[byte as usize] as usize;
-        mem::replace(&mut self.children[i], child)
+        if i < self.children.len() {
+            Ok(mem::replace(&mut self.children[i], child))
+        } else {
+            Err(child)
+        }
     }
 
-    fn remove(&mut self, byte: u8) -> C {
+    fn take(&mut self, byte: u8) -> Option<C> {
         let i = self.index[byte as usize];
-        let last = self.children.len() - 1;
-        self.index[byte as usize] = 48;
-        redirect(&mut self.index, last as u8, i);
-        self.base.count_down();
-        self.children.swap_remove(i as usize)
+        let count = self.children.len();
+        if (i as usize) < count {
+            self.index[byte as usize] = 48;
+            redirect(&mut self.index, count as u8 - 1, i);
+            self.base.count_down();
+            Some(self.children.swap_remove(i as usize))
+        } else {
+            None
+        }
     }
 }

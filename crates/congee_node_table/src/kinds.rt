@@ -1,6 +1,6 @@
 //! A node of one form as a node of a tree in one table: its children are slots or payloads.
 
-ghost use Rattle.std.specs.Prelude.{◌≡◌, ◌+◌, ◌<◌, ◌≤◌, [], ◌∷◌, length, IfSome, IfNone, IsSome, Some, None};
+ghost use Rattle.std.specs.Prelude.{◌≡◌, ◌+◌, ◌<◌, ◌≤◌, [], ◌∷◌, length, IfOk, IfErr, OnOk, OnErr, IfSome, IfNone, Some, None};
 ghost use Rattle.congee_map.specs.Map.{lookup, between, Rises};
 ghost use Rattle.congee_base.specs.Form.{Fits};
 ghost use Rattle.congee_base.specs.Rest.{rest};
@@ -68,18 +68,20 @@ pub trait InTable<P>: Sized {
         requires may { MayHave (node self.old).prefix child }
         ensures { node self.new ≡ with_child (node self.old) byte child };
 
-    /// Puts another child of the node's kind in the place of one, which it returns.
-    fn change(&mut self, byte: u8, child: Child<P>) -> Child<P>
-        requires present { IsSome (lookup (node self.old).children byte) }
+    /// Puts another child of the node's kind in the place of one, which it returns. Where there is none, the child comes
+    /// back.
+    fn exchange(&mut self, byte: u8, child: Child<P>) -> Result<Child<P>, Child<P>>
         requires kind { IsOfKind self.old }
         requires may { MayHave (node self.old).prefix child }
-        ensures before { lookup (node self.old).children byte ≡ Some result }
-        ensures after { node self.new ≡ with_child (node self.old) byte child };
+        ensures before { IfOk result (λ c. lookup (node self.old).children byte ≡ Some c) }
+        ensures after { OnOk result (node self.new ≡ with_child (node self.old) byte child) }
+        ensures absent { OnErr result (lookup (node self.old).children byte ≡ None) }
+        ensures back { IfErr result (λ c. c ≡ child) }
+        ensures same { OnErr result (node self.new ≡ node self.old) };
 
-    /// Takes out the child under a byte, and returns it.
-    fn remove(&mut self, byte: u8) -> Child<P>
-        requires { IsSome (lookup (node self.old).children byte) }
-        ensures before { lookup (node self.old).children byte ≡ Some result }
+    /// Takes out the child under a byte, if there is one, and returns it.
+    fn take(&mut self, byte: u8) -> Option<Child<P>>
+        ensures before { result ≡ lookup (node self.old).children byte }
         ensures after { node self.new ≡ without_child (node self.old) byte };
 }
 
@@ -143,23 +145,35 @@ impl<P, N: Node<usize>> InTable<P> for Inner<N> {
         }
     }
 
-    fn change(&mut self, byte: u8, child: Child<P>) -> Child<P>
-        requires present { IsSome (lookup (slots {P = P} (N.children self.old.node)) byte) }
+    fn exchange(&mut self, byte: u8, child: Child<P>) -> Result<Child<P>, Child<P>>
         requires kind { length (N.prefix self.old.node) < 7 }
         requires may { MayHave (N.prefix self.old.node) child }
-        ensures before { lookup (slots {P = P} (N.children self.old.node)) byte ≡ Some result }
-        ensures after { inner_node {P = P} (N.form self.new.node) (N.prefix self.new.node)
-            (N.children self.new.node) ≡ with_child (inner_node (N.form self.old.node)
-            (N.prefix self.old.node) (N.children self.old.node)) byte child }
+        ensures before { IfOk result (λ c.
+            lookup (slots {P = P} (N.children self.old.node)) byte ≡ Some c) }
+        ensures after { OnOk result (inner_node {P = P} (N.form self.new.node)
+            (N.prefix self.new.node) (N.children self.new.node) ≡ with_child (inner_node
+            (N.form self.old.node) (N.prefix self.old.node) (N.children self.old.node)) byte child) }
+        ensures absent { OnErr result
+            (lookup (slots {P = P} (N.children self.old.node)) byte ≡ None) }
+        ensures back { IfErr result (λ c. c ≡ child) }
+        ensures same { OnErr result (inner_node {P = P} (N.form self.new.node)
+            (N.prefix self.new.node) (N.children self.new.node) ≡ inner_node
+            (N.form self.old.node) (N.prefix self.old.node) (N.children self.old.node)) }
     {
         match child {
-            Child::Node(slot) => Child::Node(self.node.change(byte, slot)),
+            Child::Node(slot) => match self.node.exchange(byte, slot) {
+                Ok(before) => Ok(Child::Node(before)),
+                Err(back) => Err(Child::Node(back)),
+            },
             Child::Payload(_) => unreachable!(),
         }
     }
 
-    fn remove(&mut self, byte: u8) -> Child<P> {
-        Child::Node(self.node.remove(byte))
+    fn take(&mut self, byte: u8) -> Option<Child<P>> {
+        match self.node.take(byte) {
+            Some(slot) => Some(Child::Node(slot)),
+            None => None,
+        }
     }
 }
 
@@ -209,22 +223,33 @@ impl<P, N: Node<P>> InTable<P> for Leaf<N> {
         }
     }
 
-    fn change(&mut self, byte: u8, child: Child<P>) -> Child<P>
-        requires present { IsSome (lookup (payloads (N.children self.old.node)) byte) }
+    fn exchange(&mut self, byte: u8, child: Child<P>) -> Result<Child<P>, Child<P>>
         requires kind { length (N.prefix self.old.node) ≡ 7 }
         requires may { MayHave (N.prefix self.old.node) child }
-        ensures before { lookup (payloads (N.children self.old.node)) byte ≡ Some result }
-        ensures after { leaf_node (N.form self.new.node) (N.prefix self.new.node)
+        ensures before { IfOk result (λ c.
+            lookup (payloads (N.children self.old.node)) byte ≡ Some c) }
+        ensures after { OnOk result (leaf_node (N.form self.new.node) (N.prefix self.new.node)
             (N.children self.new.node) ≡ with_child (leaf_node (N.form self.old.node)
-            (N.prefix self.old.node) (N.children self.old.node)) byte child }
+            (N.prefix self.old.node) (N.children self.old.node)) byte child) }
+        ensures absent { OnErr result (lookup (payloads (N.children self.old.node)) byte ≡ None) }
+        ensures back { IfErr result (λ c. c ≡ child) }
+        ensures same { OnErr result (leaf_node (N.form self.new.node) (N.prefix self.new.node)
+            (N.children self.new.node) ≡ leaf_node (N.form self.old.node)
+            (N.prefix self.old.node) (N.children self.old.node)) }
     {
         match child {
-            Child::Payload(payload) => Child::Payload(self.node.change(byte, payload)),
+            Child::Payload(payload) => match self.node.exchange(byte, payload) {
+                Ok(before) => Ok(Child::Payload(before)),
+                Err(back) => Err(Child::Payload(back)),
+            },
             Child::Node(_) => unreachable!(),
         }
     }
 
-    fn remove(&mut self, byte: u8) -> Child<P> {
-        Child::Payload(self.node.remove(byte))
+    fn take(&mut self, byte: u8) -> Option<Child<P>> {
+        match self.node.take(byte) {
+            Some(payload) => Some(Child::Payload(payload)),
+            None => None,
+        }
     }
 }

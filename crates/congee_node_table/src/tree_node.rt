@@ -1,6 +1,6 @@
 //! A node of a tree in one table: a leaf, whose children are payloads, or an inner node, whose children are slots.
 
-ghost use Rattle.std.specs.Prelude.{◌≡◌, ℕ, ◌+◌, ◌<◌, ◌≤◌, [], ◌∷◌, length, IfOk, OnOk, OnErr, IfSome, IfNone, IsTrue, false, IsSome, Some, None};
+ghost use Rattle.std.specs.Prelude.{◌≡◌, ℕ, ◌+◌, ◌<◌, ◌≤◌, [], ◌∷◌, length, IfOk, IfErr, OnOk, OnErr, IfSome, IfNone, IsTrue, false, IsSome, Some, None};
 ghost use Rattle.congee_map.specs.Map.{lookup, put, without, between, Rises};
 ghost use Rattle.congee_base.specs.Form.{Fits, next_form};
 ghost use Rattle.congee_base.specs.Rest.{rest};
@@ -213,6 +213,29 @@ impl<P: Drop> TreeNode<P> {
         }
     }
 
+    /// Puts another child of the node's kind in the place of one, which it returns. Where there is none, the child comes
+    /// back. The node is searched once, and nothing in it moves.
+    pub fn exchange(&mut self, byte: u8, child: Child<P>) -> Result<Child<P>, Child<P>>
+        requires { MayHave self.old.prefix child }
+        ensures before { IfOk result (λ c. lookup self.old.children byte ≡ Some c) }
+        ensures after { OnOk result
+            (self.new ≡ record self.old { children = put self.old.children byte child }) }
+        ensures absent { OnErr result (lookup self.old.children byte ≡ None) }
+        ensures back { IfErr result (λ c. c ≡ child) }
+        ensures same { OnErr result (self.new ≡ self.old) }
+    {
+        match &mut self.kind {
+            Kind::Inner4(node) => node.exchange(byte, child),
+            Kind::Inner16(node) => node.exchange(byte, child),
+            Kind::Inner48(node) => node.exchange(byte, child),
+            Kind::Inner256(node) => node.exchange(byte, child),
+            Kind::Leaf4(node) => node.exchange(byte, child),
+            Kind::Leaf16(node) => node.exchange(byte, child),
+            Kind::Leaf48(node) => node.exchange(byte, child),
+            Kind::Leaf256(node) => node.exchange(byte, child),
+        }
+    }
+
     /// Puts another child of the node's kind in the place of one, which it returns.
     pub fn change(&mut self, byte: u8, child: Child<P>) -> Child<P>
         requires present { IsSome (lookup self.old.children byte) }
@@ -220,15 +243,26 @@ impl<P: Drop> TreeNode<P> {
         ensures before { lookup self.old.children byte ≡ Some result }
         ensures after { self.new ≡ record self.old { children = put self.old.children byte child } }
     {
+        match self.exchange(byte, child) {
+            Ok(before) => before,
+            Err(_) => unreachable!(),
+        }
+    }
+
+    /// Takes out the child under a byte, if there is one, and returns it. The node is searched once.
+    pub fn take(&mut self, byte: u8) -> Option<Child<P>>
+        ensures before { result ≡ lookup self.old.children byte }
+        ensures after { self.new ≡ record self.old { children = without self.old.children byte } }
+    {
         match &mut self.kind {
-            Kind::Inner4(node) => node.change(byte, child),
-            Kind::Inner16(node) => node.change(byte, child),
-            Kind::Inner48(node) => node.change(byte, child),
-            Kind::Inner256(node) => node.change(byte, child),
-            Kind::Leaf4(node) => node.change(byte, child),
-            Kind::Leaf16(node) => node.change(byte, child),
-            Kind::Leaf48(node) => node.change(byte, child),
-            Kind::Leaf256(node) => node.change(byte, child),
+            Kind::Inner4(node) => node.take(byte),
+            Kind::Inner16(node) => node.take(byte),
+            Kind::Inner48(node) => node.take(byte),
+            Kind::Inner256(node) => node.take(byte),
+            Kind::Leaf4(node) => node.take(byte),
+            Kind::Leaf16(node) => node.take(byte),
+            Kind::Leaf48(node) => node.take(byte),
+            Kind::Leaf256(node) => node.take(byte),
         }
     }
 
@@ -238,15 +272,9 @@ impl<P: Drop> TreeNode<P> {
         ensures before { lookup self.old.children byte ≡ Some result }
         ensures after { self.new ≡ record self.old { children = without self.old.children byte } }
     {
-        match &mut self.kind {
-            Kind::Inner4(node) => node.remove(byte),
-            Kind::Inner16(node) => node.remove(byte),
-            Kind::Inner48(node) => node.remove(byte),
-            Kind::Inner256(node) => node.remove(byte),
-            Kind::Leaf4(node) => node.remove(byte),
-            Kind::Leaf16(node) => node.remove(byte),
-            Kind::Leaf48(node) => node.remove(byte),
-            Kind::Leaf256(node) => node.remove(byte),
+        match self.take(byte) {
+            Some(child) => child,
+            None => unreachable!(),
         }
     }
 
