@@ -12,3 +12,4 @@ pub mod SplitLaws
 pub mod WeightLaws
 pub mod WholeLaws
 pub mod WithoutLaws
+pub mod SpotLaws

@@ -1,5 +1,5 @@
 -- Slots of a table, and what several writes do one after another.
-use Rattle.std.proofs.Common.{◌≡◌, ◌≢◌, Some, get_or, None, length, ◌<◌, List, [], ◌∷◌, Option, ℕ, zero, suc, arith, subst, sym, ap, refl, ◌∙◌}
+use Rattle.std.proofs.Common.{◌≡◌, ◌≢◌, Some, get_or, slice_set, None, length, ◌<◌, List, [], ◌∷◌, Option, ℕ, zero, suc, arith, subst, sym, ap, refl, ◌∙◌}
 use Rattle.congee_map.specs.Map.{put}
 use Rattle.congee_node_table.specs.TableNode.{TableNode}
 use Rattle.congee_node_table.specs.Table.{Table, node_at}
@@ -11,6 +11,12 @@ pub in_range : {X : Type 0} (s : List (Option X)) (i : ℕ) (n : X) → get_or s
 in_range [] i n h = absurd (cc)
 in_range (x ∷ s) zero n h = omega arith
 in_range (x ∷ s) (suc i) n h = omega (arith, in_range s i n h)
+
+-- to write what is there changes nothing
+pub set_same : {X : Type 0} (s : List (Option X)) (i : ℕ) (n : X) → get_or s i None ≡ Some n → slice_set s i (Some n) ≡ s
+set_same [] i n h = refl
+set_same (x ∷ s) zero n h = ap (λ y. y ∷ s) (sym h)
+set_same (x ∷ s) (suc i) n h = ap (λ t. x ∷ t) (set_same s i n h)
 
 module _ {P : Type 0} where
   -- a slot with a node isn't a vacant one

@@ -2,7 +2,7 @@
 //!
 //! All memory is taken before the first change of what the tree stores, and before a closure is called.
 
-ghost use Rattle.std.specs.Prelude.{◌≡◌, ◌+◌, ◌≤◌, ◌<◌, ◌^◌, IfOk, OnOk, OnErr, IsSome, Some, None, option_copied};
+ghost use Rattle.std.specs.Prelude.{◌≡◌, ◌+◌, ◌≤◌, ◌<◌, ◌^◌, IfOk, IfErr, OnOk, OnErr, IsSome, Some, None, option_copied};
 ghost use Rattle.slab.specs.Slab.{slab_len, HasRoomFor};
 ghost use Rattle.congee_changes.specs.Closure.{TakesOption, CalledAtOption};
 ghost use Rattle.congee_map.specs.Map.{put};
@@ -10,19 +10,20 @@ ghost use Rattle.congee_node_table.specs.Key.{key_number};
 ghost use Rattle.congee_map.specs.Refusal.{NeedsNode};
 ghost use Rattle.congee_node_table.specs.Shape.{Reshapes};
 ghost use Rattle.congee_node_table.specs.Table.{node_at};
+ghost use Rattle.congee_node_table.specs.declared.child.Child.TheVariants.{Payload};
 ghost use Rattle.congee_paths.specs.Path.{on_path};
 ghost use Rattle.congee_base.specs.declared.base_node.NodeType.{NodeType};
 ghost use Rattle.congee_base.specs.declared.base_node.NodeType.TheVariants.{N4};
 ghost use Rattle.congee_supply.specs.inner.Supply.{count, with_form, with_leaf, IsCounted, IsCountedAt, CountsGrown, AreFew, Alike};
 ghost use Rattle.congee_paths.specs.inner.Root.{HasRoot, HasTree, tree_pairs, tree_nodes, tree_payload};
-ghost use Rattle.congee_changes.specs.inner.Writes.{SameElsewhere, MakesRoom, IsFullAt, RefusesAt, IsReadyFor, WritesChild, HasChildUnder, WasChild, IsLeafBelow, HasRoomUnder, PutsPair, AreParts, IsParted, Splits};
+ghost use Rattle.congee_changes.specs.inner.Writes.{SameElsewhere, MakesRoom, IsFullAt, RefusesAt, IsReadyFor, WritesChild, HasChildUnder, HasLeafAt, HasNothingUnder, WasChild, IsLeafBelow, HasRoomUnder, PutsPair, AreParts, IsParted, Splits};
 
 use congee_base::base_node::NodeType;
 use congee_map::error::OOMError;
 use congee_node_table::allocator::Allocator;
 use congee_node_table::child::Child;
 use congee_node_table::tree_node::TreeNode;
-use congee_paths::descent::{End, Place, descend};
+use congee_paths::descent::{End, Place, Spot, Stop, descend, seek};
 use congee_paths::reads::Reads;
 use congee_supply::supply::Supply;
 use slab::Slab;
@@ -88,6 +89,33 @@ pub fn change_child<P: Drop>(
         unreachable!()
     };
     node.change(byte, child)
+}
+
+// Puts another payload in the place of the one under a byte of the leaf in a slot; where there is none, gives it back.
+fn exchange_payload<P: Drop>(
+    nodes: &mut Slab<TreeNode<P>>,
+    slot: usize,
+    byte: u8,
+    payload: P,
+) -> Result<P, P>
+    requires { HasLeafAt nodes.old.slots slot }
+    ensures keeps { OnOk result (SameElsewhere slot nodes.old.slots nodes.new.slots) }
+    ensures written { OnOk result
+        (WritesChild nodes.old.slots nodes.new.slots slot byte (Payload payload)) }
+    ensures before { IfOk result (λ before. WasChild nodes.old.slots slot byte (Payload before)) }
+    ensures absent { OnErr result (HasNothingUnder nodes.old.slots slot byte) }
+    ensures same { OnErr result (nodes.new.slots ≡ nodes.old.slots) }
+    ensures back { IfErr result (λ back. back ≡ payload) }
+{
+    let Some(node) = nodes.get_mut(slot) else {
+        unreachable!()
+    };
+    match node.exchange(byte, Child::Payload(payload)) {
+        Ok(Child::Payload(before)) => Ok(before),
+        Err(Child::Payload(back)) => Err(back),
+        Ok(Child::Node(_)) => unreachable!(),
+        Err(Child::Node(_)) => unreachable!(),
+    }
 }
 
 // Puts another node into a slot.
@@ -233,6 +261,9 @@ fn split<P: Drop>(
 }
 
 /// Sets the payload at the key, and returns the one that stood there.
+///
+/// Searches no node twice on the way to a present key: those above the leaf on the way down, and the leaf by the exchange,
+/// which takes no memory. Only where that finds nothing is memory taken.
 pub fn insert<P: Drop, A: Allocator, L: Ledger>(
     nodes: &mut Slab<TreeNode<P>>,
     supply: &mut Supply<A>,
@@ -260,23 +291,22 @@ pub fn insert<P: Drop, A: Allocator, L: Ledger>(
     ensures refused { OnErr result
         (NeedsNode (tree_pairs nodes.old.slots root) (key_number key.now)) }
 {
-    let Place { slot, end, .. } = descend(nodes, root, key, reads);
-    match end {
-        End::Present(byte, _) => match change_child(nodes, slot, byte, Child::Payload(payload)) {
-            Child::Payload(before) => Ok(Some(before)),
-            Child::Node(_) => unreachable!(),
-        },
-        End::Absent(byte) => {
-            let leaf = ready_to_add(nodes, supply, slot, key)?;
-            add(nodes, slot, key, byte, leaf, payload);
-            Ok(None)
-        }
-        End::Differs(at) => {
+    let Spot { slot, stop, .. } = seek(nodes, root, key, reads);
+    let (byte, payload) = match stop {
+        Stop::Differs(at) => {
             let parts = ready_to_split(nodes, supply, key, at)?;
             split(nodes, slot, key, at, parts, payload);
-            Ok(None)
+            return Ok(None);
         }
-    }
+        Stop::Absent(byte) => (byte, payload),
+        Stop::Leaf(byte) => match exchange_payload(nodes, slot, byte, payload) {
+            Ok(before) => return Ok(Some(before)),
+            Err(payload) => (byte, payload),
+        },
+    };
+    let leaf = ready_to_add(nodes, supply, slot, key)?;
+    add(nodes, slot, key, byte, leaf, payload);
+    Ok(None)
 }
 
 // A payload as what stands at a key.

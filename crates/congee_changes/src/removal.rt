@@ -2,7 +2,7 @@
 //!
 //! Takes no memory. An inner node that is empty then stays.
 
-ghost use Rattle.std.specs.Prelude.{◌≡◌, ◌+◌, ◌≤◌, Some, None};
+ghost use Rattle.std.specs.Prelude.{◌≡◌, ◌+◌, ◌≤◌, IfSome, IfNone, IsSome, Some, None};
 ghost use Rattle.congee_map.specs.Map.{without};
 ghost use Rattle.congee_node_table.specs.Key.{key_number};
 ghost use Rattle.congee_changes.specs.Reduce.{Reduces};
@@ -11,14 +11,14 @@ ghost use Rattle.congee_node_table.specs.declared.child.Child.TheVariants.{Paylo
 ghost use Rattle.congee_paths.specs.Path.{on_path};
 ghost use Rattle.congee_supply.specs.inner.Supply.{IsCounted, Alike};
 ghost use Rattle.congee_paths.specs.inner.Root.{HasRoot, HasTree, tree_pairs, tree_nodes, tree_payload};
-ghost use Rattle.congee_changes.specs.inner.Writes.{SameElsewhere, WasChild};
-ghost use Rattle.congee_changes.specs.inner.Takes.{IsPresentIn, TakesChild, TakesOnPath, KeepsBut, IsChildOnPath, IsHeld, TakesOut};
+ghost use Rattle.congee_changes.specs.inner.Writes.{SameElsewhere, HasLeafAt, HasNothingUnder, WasChild};
+ghost use Rattle.congee_changes.specs.inner.Takes.{IsPresentIn, TakesChild, TakesOnPath, KeepsBut, IsChildOnPath, IsHeld, DetachesEmpty, TakesOut};
 
 use congee_base::base_node::NodeType;
 use congee_node_table::allocator::Allocator;
 use congee_node_table::child::Child;
 use congee_node_table::tree_node::TreeNode;
-use congee_paths::descent::{End, Place, descend};
+use congee_paths::descent::{Spot, Stop, seek};
 use congee_paths::reads::Reads;
 use congee_supply::supply::Supply;
 use slab::Slab;
@@ -52,6 +52,47 @@ fn detach<P: Drop>(nodes: &mut Slab<TreeNode<P>>, parent: usize, slot: usize, ke
     nodes.remove(slot);
 }
 
+// Takes the leaf in a slot out of the node above it where it is empty, and returns its form then.
+fn detach_if_empty<P: Drop>(
+    nodes: &mut Slab<TreeNode<P>>,
+    parent: usize,
+    slot: usize,
+    key: &[u8; 8],
+) -> Option<NodeType>
+    requires { IsChildOnPath nodes.old.slots parent slot key.now }
+    ensures { DetachesEmpty nodes.old.slots nodes.new.slots slot parent key.now result }
+{
+    let Some(leaf) = nodes.get(slot) else {
+        unreachable!()
+    };
+    let base = leaf.base();
+    if base.value_count() != 0 {
+        return None;
+    }
+    let form = base.get_type();
+    detach(nodes, parent, slot, key);
+    Some(form)
+}
+
+// Takes the payload under a byte out of the leaf in a slot, if there is one.
+fn take_payload<P: Drop>(nodes: &mut Slab<TreeNode<P>>, slot: usize, byte: u8) -> Option<P>
+    requires { HasLeafAt nodes.old.slots slot }
+    ensures keeps { SameElsewhere slot nodes.old.slots nodes.new.slots }
+    ensures taken { IsSome result → TakesChild nodes.old.slots nodes.new.slots slot byte }
+    ensures before { IfSome result (λ before. WasChild nodes.old.slots slot byte (Payload before)) }
+    ensures none { IfNone result (HasNothingUnder nodes.old.slots slot byte) }
+    ensures same { IfNone result (nodes.new.slots ≡ nodes.old.slots) }
+{
+    let Some(node) = nodes.get_mut(slot) else {
+        unreachable!()
+    };
+    match node.take(byte) {
+        None => None,
+        Some(Child::Payload(before)) => Some(before),
+        Some(Child::Node(_)) => unreachable!(),
+    }
+}
+
 /// The payload that was taken out, and the form of the leaf that went with it, if one did.
 #[derive(Drop)]
 pub struct Taken<P> {
@@ -75,25 +116,14 @@ pub fn take_out<P: Drop>(
         Child::Payload(before) => before,
         Child::Node(_) => unreachable!(),
     };
-    let Some(leaf) = nodes.get(slot) else {
-        unreachable!()
-    };
-    let base = leaf.base();
-    if base.value_count() != 0 {
-        return Taken {
-            before,
-            detached: None,
-        };
-    }
-    let form = base.get_type();
-    detach(nodes, parent, slot, key);
-    Taken {
-        before,
-        detached: Some(form),
-    }
+    let detached = detach_if_empty(nodes, parent, slot, key);
+    Taken { before, detached }
 }
 
 /// Takes out the pair at the key, and returns its payload.
+///
+/// Searches no node twice on the way to the key: those above the leaf on the way down, and the leaf by what takes the payload
+/// out. Only a leaf that is empty then costs one search more, of the node above it.
 pub fn remove<P: Drop, A: Allocator, L: Ledger>(
     nodes: &mut Slab<TreeNode<P>>,
     supply: &mut Supply<A>,
@@ -116,18 +146,21 @@ pub fn remove<P: Drop, A: Allocator, L: Ledger>(
     ensures reads { reads.new ≡ reads.old + on_path (tree_nodes nodes.old.slots root) key.now }
     ensures few { on_path (tree_nodes nodes.old.slots root) key.now ≤ 8 }
 {
-    let Place {
+    let Spot {
         slot,
         parent,
-        end,
+        stop,
         ..
-    } = descend(nodes, root, key, reads);
-    match end {
-        End::Present(byte, _) => {
-            let Taken { before, detached } = take_out(nodes, parent, slot, key, byte);
+    } = seek(nodes, root, key, reads);
+    let Stop::Leaf(byte) = stop else {
+        return None;
+    };
+    match take_payload(nodes, slot, byte) {
+        None => None,
+        Some(before) => {
+            let detached = detach_if_empty(nodes, parent, slot, key);
             supply.give_back_if_some(detached);
             Some(before)
         }
-        _ => None,
     }
 }

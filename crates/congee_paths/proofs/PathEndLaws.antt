@@ -1,20 +1,26 @@
 -- What a change at the end of a key's path does to the whole tree.
-use Rattle.std.proofs.Common.{Bor, IsSome, ◌≡◌, ℕ, zero, suc, ◌+◌, ◌-◌, ◌<◌, ◌≤◌, List, [], ◌∷◌, ◌++◌, length, Some, None, refl, ap, sym, subst, ◌∙◌, arith, length-append}
+use Rattle.std.proofs.Common.{Bor, IsSome, ◌≡◌, ℕ, zero, suc, ◌+◌, ◌-◌, ◌<◌, ◌≤◌, List, [], ◌∷◌, ◌++◌, length, Option, Some, None, refl, ap, sym, subst, ◌∙◌, arith, inl, inr, length-append}
+use Rattle.std.proofs.lemmas.Bool.{cases_eq}
 use Rattle.congee_node_table.proofs.BeginLaws.{after, begins_append}
 use Rattle.congee_map.specs.Map.{lookup}
 use Rattle.congee_node_table.specs.Key.{AreBytes, key_number, Begins}
 use Rattle.congee_node_table.proofs.KeyLaws.{goes_on}
-use Rattle.congee_node_table.specs.TableNode.{TableNode}
-use Rattle.congee_node_table.specs.Table.{Table, node_at, pairs_at, IsTree}
+use Rattle.congee_node_table.specs.TableNode.{TableNode, MayHave}
+use Rattle.congee_node_table.specs.Table.{Table, node_at, pairs_at, IsChild, IsTree}
 use Rattle.congee_node_table.specs.Key.{next_byte}
-use Rattle.congee_paths.specs.inner.Descent.{PathTo, LeadsTo, Finds, EndsAt}
+use Rattle.congee_paths.specs.inner.Descent.{PathTo, LeadsTo, Finds, Halts, IsOfOneKind, SeeksTo, EndsAt}
 use Rattle.congee_paths.specs.inner.Root.{depth}
+use Rattle.congee_node_table.specs.declared.child.Child.{Child}
 use Rattle.congee_node_table.specs.declared.child.Child.TheVariants.{Payload, Node}
 use Rattle.congee_paths.specs.declared.descent.End.{End}
 use Rattle.congee_paths.specs.declared.descent.End.TheVariants.{Differs, Absent, Present}
 use Rattle.congee_paths.specs.declared.descent.Place.{Place}
+use Rattle.congee_paths.specs.declared.descent.Stop.{Stop}
+use Rattle.congee_paths.specs.declared.descent.Stop.TheVariants as stops
+use Rattle.congee_paths.specs.declared.descent.Spot.{Spot}
 use Rattle.congee_node_table.proofs.TableLaws.{open_subtree, lookup-off_prefix, lookup-at_child, lookup-at_payload, lookup-at_node, IsChild-found}
 use Rattle.congee_node_table.proofs.DownLaws.{KeepsOthers, down}
+use Rattle.congee_node_table.proofs.NodesLaws.{none_below_seven}
 use Rattle.congee_map.proofs.LocalLaws.{IsLocal}
 
 pub depth_is : depth ≡ 8
@@ -68,6 +74,62 @@ module _ {P : Type 0} (s : Table P) (root : ℕ) (key : List ℕ) where
 
   pub leads_short : (above slot parent : ℕ) → LeadsTo s root key above slot parent → above < 8
   leads_short above slot parent w = let l = levels_left w.levels slot w.q w.tree in omega (arith, w.sum)
+
+  -- payloads stand in leaves alone, and nodes above them
+  child_kind : (levels : ℕ) (p : List ℕ) (b : ℕ) (c : Child P) → length p ≤ 7 → IsChild (λ q j. IsTree s levels q j) p b c → MayHave p c
+  child_kind levels p b (Payload v) short h = h
+  child_kind levels p b (Node j) short h = elim (cases_eq (length p) 7) [
+    | inl seven ↦ absurd (none_below_seven s levels p b j seven h)
+    | inr other ↦ omega (arith, short, other)
+  ]
+
+  pub leads_kind : (above slot parent : ℕ) (n : TableNode P) → LeadsTo s root key above slot parent → node_at s slot ≡ Some n → IsOfOneKind n
+  leads_kind above slot parent n w here b c found =
+      let o = open_subtree s w.levels slot n (record { above = w.q; tree = w.tree }) (sym here) in
+      child_kind o.less n.prefix b c o.sound.short (IsChild-found s o.less n.prefix n.children b c o.children found)
+
+  -- the leaf at the spot, which has no slots
+  pub record LeafAt (spot : Spot) (n : TableNode P) (b : ℕ) : Type 0 where
+    pub is : b ≡ next_byte n.prefix key
+    pub begins : Begins n.prefix key
+    pub none : (j : ℕ) → lookup n.children b ≡ Some (Node j) → ⊥
+
+  pub leaf_at : (spot : Spot) → SeeksTo s root key spot → (n : TableNode P) → node_at s spot.slot ≡ Some n → (b : ℕ) → spot.stop ≡ stops.Leaf b → LeafAt spot n b
+  leaf_at spot w n here b is =
+      let both : Some w.node ≡ Some n = sym w.here ∙ here in
+      let same : w.node ≡ n = cc in
+      let h : Halts key n (stops.Leaf b) = subst (λ m. Halts key m (stops.Leaf b)) same (subst (λ x. Halts key w.node x) is w.stop) in
+      record {
+        is = h.0;
+        begins = h.1;
+        none = λ j found. let less : length n.prefix < 7 = leads_kind spot.above spot.slot spot.parent n w.leads here b (Node j) found in omega (arith, less, h.2);
+      }
+
+  -- the place of a spot, once it is known what is there
+  abbrev pub place_of : Spot → End P → Place P
+  place_of spot end = record { slot = spot.slot; parent = spot.parent; above = spot.above; end = end }
+
+  -- a way down that ends is a path that ends
+  pub record Ended (spot : Spot) : Type 0 where
+    pub end : End P
+    pub ends : EndsAt s root key (place_of spot end)
+
+  pub ended : (spot : Spot) → SeeksTo s root key spot → Ended spot
+  ended spot w = at spot.stop refl
+    where
+      in_leaf : (b : ℕ) → spot.stop ≡ stops.Leaf b → LeafAt spot w.node b → (c : Option (Child P)) → lookup w.node.children b ≡ c → Ended spot
+      in_leaf b is l None found = record { end = Absent b; ends = record { leads = w.leads; node = w.node; here = w.here; end = (l.is, l.begins, found) } }
+      in_leaf b is l (Some (Payload v)) found =
+          record { end = Present b (record { ref_ptr = (0, 0); now = v }); ends = record { leads = w.leads; node = w.node; here = w.here; end = (l.is, l.begins, found) } }
+      in_leaf b is l (Some (Node j)) found = absurd (l.none j found)
+
+      at : (stop : Stop) → spot.stop ≡ stop → Ended spot
+      at (stops.Differs i) is =
+          record { end = Differs i; ends = record { leads = w.leads; node = w.node; here = w.here; end = subst (λ x. Halts key w.node x) is w.stop } }
+      at (stops.Absent b) is =
+          let h : Halts key w.node (stops.Absent b) = subst (λ x. Halts key w.node x) is w.stop in
+          record { end = Absent b; ends = record { leads = w.leads; node = w.node; here = w.here; end = (h.0, h.1, h.2) } }
+      at (stops.Leaf b) is = in_leaf b is (leaf_at spot w w.node w.here b is) (lookup w.node.children b) refl
 
   -- the subtree at the end of the key's path, below this node, and what was found there
   pub record EndsIn (place : Place P) (n : TableNode P) (e : End P) : Type 0 where

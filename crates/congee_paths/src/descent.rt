@@ -4,7 +4,7 @@ ghost use Rattle.std.specs.Prelude.{◌≡◌, ◌+◌, ◌≤◌, length, optio
 ghost use Rattle.std.specs.Int.{w64, to_be_bytes};
 ghost use Rattle.congee_node_table.specs.Key.{Begins, IsFirstDifference};
 ghost use Rattle.congee_paths.specs.Path.{on_path};
-ghost use Rattle.congee_paths.specs.inner.Descent.{Meets, EndsAt};
+ghost use Rattle.congee_paths.specs.inner.Descent.{IsOfOneKind, Meets, SeeksTo, EndsAt};
 ghost use Rattle.congee_paths.specs.inner.Root.{HasTree, tree_nodes, tree_payload};
 
 use crate::reads::Reads;
@@ -49,18 +49,41 @@ fn first_difference(prefix: &[u8], key: &[u8; 8]) -> usize
     unreachable!()
 }
 
+/// How the way down ends at a node.
+#[derive(Drop)]
+pub enum Stop {
+    /// The node's prefix differs from the key at this place.
+    Differs(usize),
+    /// The node is above the leaves, and has nothing under the key's byte.
+    Absent(u8),
+    /// The node is the leaf for the key. What it has under this byte isn't looked up yet.
+    Leaf(u8),
+}
+
+/// The node where the way down ends.
+#[derive(Drop)]
+pub struct Spot {
+    pub slot: usize,
+    /// The slot of the node above it, if there is one.
+    pub parent: usize,
+    /// How many nodes were read above it.
+    pub above: usize,
+    pub stop: Stop,
+}
+
 /// What a key meets at a node.
 #[derive(Drop)]
-enum Step<'a, P> {
+enum Step {
     /// The slot of the node below.
     Down(usize),
-    /// The end of its path.
-    Stop(End<'a, P>),
+    /// The end of its way down.
+    Here(Stop),
 }
 
 // What the key, and its bytes as a word, meet at this node.
-fn look<'a, P: Drop>(node: &'a TreeNode<P>, key: &[u8; 8], word: u64) -> Step<'a, P>
-    requires { to_be_bytes w64 word ≡ key.now }
+fn look<P: Drop>(node: &TreeNode<P>, key: &[u8; 8], word: u64) -> Step
+    requires word { to_be_bytes w64 word ≡ key.now }
+    requires kind { IsOfOneKind node.now }
     ensures { Meets key.now node.now result }
 {
     let base = node.base();
@@ -68,25 +91,30 @@ fn look<'a, P: Drop>(node: &'a TreeNode<P>, key: &[u8; 8], word: u64) -> Step<'a
     let level = prefix.len();
     // a comparison of words; which byte differs is asked at the end of the path alone
     if !base.begins(word) {
-        return Step::Stop(End::Differs(first_difference(prefix, key)));
+        return Step::Here(Stop::Differs(first_difference(prefix, key)));
     }
     let byte = key[level];
+    if level == 7 {
+        return Step::Here(Stop::Leaf(byte));
+    }
     match node.get_child(byte) {
-        None => Step::Stop(End::Absent(byte)),
-        Some(ChildRef::Payload(payload)) => Step::Stop(End::Present(byte, payload)),
+        None => Step::Here(Stop::Absent(byte)),
         Some(ChildRef::Node(child)) => Step::Down(child),
+        Some(ChildRef::Payload(_)) => unreachable!(),
     }
 }
 
 /// Goes down along the key as far as there are nodes. Reads each of them once, and copies and moves none.
-pub fn descend<'a, P: Drop, L: Ledger>(
-    nodes: &'a Slab<TreeNode<P>>,
+///
+/// Doesn't search a leaf, so that a call does it once, by what it does there.
+pub fn seek<P: Drop, L: Ledger>(
+    nodes: &Slab<TreeNode<P>>,
     root: usize,
     key: &[u8; 8],
     reads: &mut Reads<L>,
-) -> Place<'a, P>
+) -> Spot
     requires { HasTree nodes.now.slots root }
-    ensures ends { EndsAt nodes.now.slots root key.now result }
+    ensures ends { SeeksTo nodes.now.slots root key.now result }
     ensures reads { reads.new ≡ reads.old + on_path (tree_nodes nodes.now.slots root) key.now }
     ensures few { on_path (tree_nodes nodes.now.slots root) key.now ≤ 8 }
 {
@@ -100,12 +128,12 @@ pub fn descend<'a, P: Drop, L: Ledger>(
         };
         reads.tick();
         match look(node, key, word) {
-            Step::Stop(end) => {
-                return Place {
+            Step::Here(stop) => {
+                return Spot {
                     slot,
                     parent,
                     above,
-                    end,
+                    stop,
                 };
             }
             Step::Down(child) => {
@@ -117,7 +145,49 @@ pub fn descend<'a, P: Drop, L: Ledger>(
     }
 }
 
+/// Goes down along the key as `seek` does, and looks the leaf up.
+pub fn descend<'a, P: Drop, L: Ledger>(
+    nodes: &'a Slab<TreeNode<P>>,
+    root: usize,
+    key: &[u8; 8],
+    reads: &mut Reads<L>,
+) -> Place<'a, P>
+    requires { HasTree nodes.now.slots root }
+    ensures ends { EndsAt nodes.now.slots root key.now result }
+    ensures reads { reads.new ≡ reads.old + on_path (tree_nodes nodes.now.slots root) key.now }
+    ensures few { on_path (tree_nodes nodes.now.slots root) key.now ≤ 8 }
+{
+    let Spot {
+        slot,
+        parent,
+        above,
+        stop,
+    } = seek(nodes, root, key, reads);
+    let end = match stop {
+        Stop::Differs(at) => End::Differs(at),
+        Stop::Absent(byte) => End::Absent(byte),
+        Stop::Leaf(byte) => {
+            let Some(leaf) = nodes.get(slot) else {
+                unreachable!()
+            };
+            match leaf.get_child(byte) {
+                None => End::Absent(byte),
+                Some(ChildRef::Payload(payload)) => End::Present(byte, payload),
+                Some(ChildRef::Node(_)) => unreachable!(),
+            }
+        }
+    };
+    Place {
+        slot,
+        parent,
+        above,
+        end,
+    }
+}
+
 /// The payload at the key.
+///
+/// Searches no node twice: those above the leaf are searched on the way down, and the leaf once the way has ended there.
 pub fn find<'a, P: Drop, L: Ledger>(
     nodes: &'a Slab<TreeNode<P>>,
     root: usize,

@@ -59,6 +59,11 @@ module _ {P : Type 0} where
       (length left.children ≡ 0) × KeepsBut parent slot s t × TakesOnPath s t parent key
       × (node_at t slot ≡ None) × (form ≡ left.form)
 
+  -- the same of the node that is there
+  abbrev pub DetachesEmpty : Table P → Table P → ℕ → ℕ → List ℕ → Option NodeType → Type 0
+  DetachesEmpty s t slot parent key detached =
+      (left : TableNode P) × (node_at s slot ≡ Some left) × Detaches s t slot parent key left detached
+
   -- the leaf's payload is taken out, and where the leaf is empty then, it too
   pub record TakesOut (s t : Table P) (slot parent : ℕ) (key : List ℕ) (byte : ℕ) (detached : Option NodeType) : Type 0 where
     pub between : Table P

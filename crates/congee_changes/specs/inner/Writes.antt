@@ -10,6 +10,7 @@ use Rattle.congee_map.specs.Refusal.{IsEdge}
 use Rattle.congee_node_table.specs.Key.{IsFirstDifference}
 use Rattle.congee_node_table.specs.TableNode.{TableNode, MayHave}
 use Rattle.congee_node_table.specs.Table.{Table, node_at}
+use Rattle.congee_paths.specs.inner.Descent.{IsOfOneKind}
 use Rattle.congee_node_table.specs.declared.child.Child.{Child}
 use Rattle.congee_node_table.specs.declared.child.Child.TheVariants.{Payload, Node}
 
@@ -49,6 +50,18 @@ module _ {P : Type 0} where
     pub here : node_at s slot ≡ Some node
     pub present : IsSome (lookup node.children byte)
     pub kind : MayHave node.prefix child
+
+  -- the slot has a leaf
+  pub record HasLeafAt (s : Table P) (slot : ℕ) : Type 0 where
+    pub node : TableNode P
+    pub here : node_at s slot ≡ Some node
+    pub seven : length node.prefix ≡ 7
+    pub kind : IsOfOneKind node
+
+  -- the slot's node has nothing under this byte
+  abbrev pub HasNothingUnder : Table P → ℕ → ℕ → Type 0
+  HasNothingUnder s slot byte =
+      (n : TableNode P) → node_at s slot ≡ Some n → lookup n.children byte ≡ None
 
   abbrev pub WasChild : Table P → ℕ → ℕ → Child P → Type 0
   WasChild s slot byte c =

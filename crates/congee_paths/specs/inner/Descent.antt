@@ -1,14 +1,18 @@
 -- How the path of a key goes down the table, and how it ends.
-use Rattle.std.specs.Prelude.{◌≡◌, ℕ, zero, suc, ◌+◌, ◌≤◌, List, [], ◌∷◌, ◌++◌, length, Some, None}
+use Rattle.std.specs.Prelude.{◌≡◌, ℕ, zero, suc, ◌+◌, ◌<◌, ◌≤◌, List, [], ◌∷◌, ◌++◌, length, Some, None}
 use Rattle.congee_map.specs.Map.{lookup}
 use Rattle.congee_node_table.specs.Key.{Begins, IsFirstDifference, next_byte}
-use Rattle.congee_node_table.specs.TableNode.{TableNode}
+use Rattle.congee_node_table.specs.TableNode.{TableNode, MayHave}
 use Rattle.congee_node_table.specs.Table.{Table, node_at, IsTree}
+use Rattle.congee_node_table.specs.declared.child.Child.{Child}
 use Rattle.congee_node_table.specs.declared.child.Child.TheVariants.{Payload, Node}
 use Rattle.congee_paths.specs.declared.descent.End.{End}
 use Rattle.congee_paths.specs.declared.descent.End.TheVariants.{Differs, Absent, Present}
 use Rattle.congee_paths.specs.declared.descent.Step.{Step}
-use Rattle.congee_paths.specs.declared.descent.Step.TheVariants.{Down, Stop}
+use Rattle.congee_paths.specs.declared.descent.Step.TheVariants.{Down, Here}
+use Rattle.congee_paths.specs.declared.descent.Stop.{Stop}
+use Rattle.congee_paths.specs.declared.descent.Stop.TheVariants as stops
+use Rattle.congee_paths.specs.declared.descent.Spot.{Spot}
 use Rattle.congee_paths.specs.declared.descent.Place.{Place}
 use Rattle.congee_paths.specs.inner.Root.{depth}
 
@@ -22,11 +26,24 @@ module _ {P : Type 0} (key : List ℕ) where
       (b ≡ next_byte n.prefix key) × Begins n.prefix key
       × (lookup n.children b ≡ Some (Payload v.now))
 
-  -- what a key meets at a node: the slot of the node below, or the end of its path
-  abbrev pub Meets : TableNode P → Step P → Type 0
+  -- where the way down ends; what a leaf has under the byte isn't known yet
+  abbrev pub Halts : TableNode P → Stop → Type 0
+  Halts n (stops.Differs at) = IsFirstDifference n.prefix key at
+  Halts n (stops.Absent b) =
+      (b ≡ next_byte n.prefix key) × Begins n.prefix key × (lookup n.children b ≡ None)
+      × (length n.prefix < 7)
+  Halts n (stops.Leaf b) =
+      (b ≡ next_byte n.prefix key) × Begins n.prefix key × (length n.prefix ≡ 7)
+
+  -- what a key meets at a node: the slot of the node below, or the end of its way down
+  abbrev pub Meets : TableNode P → Step → Type 0
   Meets n (Down j) =
       Begins n.prefix key × (lookup n.children (next_byte n.prefix key) ≡ Some (Node j))
-  Meets n (Stop end) = Finds n end
+  Meets n (Here stop) = Halts n stop
+
+-- each child of the node is of the kind that its prefix asks for
+abbrev pub IsOfOneKind : {P : Type 0} → TableNode P → Type 0
+IsOfOneKind {P} n = (b : ℕ) (c : Child P) → lookup n.children b ≡ Some c → MayHave n.prefix c
 
 module _ {P : Type 0} (s : Table P) (root : ℕ) (key : List ℕ) where
   -- one step of the path, from a parent that is so far above
@@ -59,6 +76,13 @@ module _ {P : Type 0} (s : Table P) (root : ℕ) (key : List ℕ) where
     pub begins : Begins q key
     pub deep : above ≤ length q
     pub sum : above + levels ≡ 8
+
+  -- the key's way down ends at this spot
+  pub record SeeksTo (spot : Spot) : Type 0 where
+    pub leads : LeadsTo spot.above spot.slot spot.parent
+    pub node : TableNode P
+    pub here : node_at s spot.slot ≡ Some node
+    pub stop : Halts key node spot.stop
 
   -- the key's path ends at this place
   pub record EndsAt (place : Place P) : Type 0 where

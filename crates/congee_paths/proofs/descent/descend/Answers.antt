@@ -1,34 +1,10 @@
-use Rattle.std.proofs.Common.{arith, sym}
-use Rattle.std.proofs.lemmas.Nat.{be_bytes_8}
-use Rattle.congee_node_table.proofs.KeyLaws.{AreBytes-from_items}
-use Rattle.congee_paths.proofs.PathEndLaws.{leads_start, leads_step, leads_there}
-use Rattle.congee_paths.proofs.PathLaws.{path_length, path_short}
+use Rattle.std.proofs.Common.{Some, ap, sym, ◌∙◌}
+use Rattle.congee_node_table.specs.TableNode.{seen}
+use Rattle.congee_paths.proofs.PathEndLaws.{leaf_at}
 use Rattle.congee_paths.proofs.descent.descend.Goals as goal
 
--- the word has the key's bytes
-pub look-requires : goal.look-requires
-look-requires g c = be_bytes_8 _ _ c.told-key (λ k. c.fits-key k) c.from_be_bytes-word.ensures
-
-pub down-init : goal.down-init
-down-init g c = record { leads = leads_start _ _ _ c.requires; counted = omega arith }
-
-pub returns-in-Stop-clause-ends : goal.returns-in-Stop-clause-ends
-returns-in-Stop-clause-ends g c = record { leads = c.down.invariant.leads; node = c.in-Some.node.now; here = sym c.in-Some.ensures; end = c.in-Stop.ensures }
-
-pub down-preserved : goal.down-preserved
-down-preserved g c = record {
-  leads = leads_step _ _ _ _ _ _ c.in-Some.node.now c.down.invariant.leads (sym c.in-Some.ensures) c.in-Down.ensures.0 (AreBytes-from_items _ (λ k l. c.fits-key k)) c.told-key c.in-Down.child c.in-Down.ensures.1;
-  counted = omega arith;
-}
-
-pub unreachable-requires : goal.unreachable-requires
-unreachable-requires g c = let there = leads_there _ _ _ _ _ _ c.down.invariant.leads in grind (arith, there)
-
--- the nodes that were read are those on the path
-pub returns-in-Stop-clause-reads : goal.returns-in-Stop-clause-reads
-returns-in-Stop-clause-reads g c =
-    let l = path_length _ _ _ (AreBytes-from_items _ (λ k l. c.fits-key k)) c.told-key _ (returns-in-Stop-clause-ends g c) in
-    omega (arith, l)
-
-pub returns-in-Stop-clause-few : goal.returns-in-Stop-clause-few
-returns-in-Stop-clause-few g c = path_short _ _ _ (AreBytes-from_items _ (λ k l. c.fits-key k)) c.told-key _ (returns-in-Stop-clause-ends g c)
+-- a leaf has no slots
+pub unreachable-requires-in-Some-Node : goal.unreachable-requires-in-Some-Node
+unreachable-requires-in-Some-Node g c =
+    let l = leaf_at _ _ _ _ c.seek-slot.ensures.ends _ (sym c.in-Some.ensures) _ c.in-Leaf.is in
+    l.none c.in-Some-Node.field-0-0 (sym c.in-Some-Node.ensures ∙ ap (λ x. seen (Some x)) c.in-Some-Node.field-0-is)

@@ -1,5 +1,7 @@
-use Rattle.std.proofs.Common.{◌≡◌, ◌↔◌, ℕ, Bool, true, false, IsTrue, List, length, take, subst, sym, rules}
+use Rattle.std.proofs.Common.{◌≡◌, ◌↔◌, ℕ, Bool, true, false, IsTrue, List, length, take, Some, ap, ◌∙◌, subst, sym, rules}
 use Rattle.congee_node_table.specs.Key.{Begins}
+use Rattle.congee_node_table.specs.TableNode.{seen}
+use Rattle.congee_node_table.specs.declared.child.Child.TheVariants.{Payload}
 use Rattle.congee_node_table.proofs.BeginLaws.{begins_taken, taken}
 use Rattle.congee_paths.proofs.descent.look.Goals as goal
 
@@ -11,13 +13,19 @@ parted : {b : Bool} (q ks key : List ℕ) → IsTrue b ↔ (take (length q) ks �
 parted {b} q ks key h f t k = let says : b ≡ true = h.1 (taken q ks (subst (λ x. Begins q x) (sym f) k)) in absurd (cc)
 
 pub first_difference-requires-clause-differ : goal.first_difference-requires-clause-differ
-first_difference-requires-clause-differ g c k = parted _ _ _ c.begins.ensures c.requires c.if-not-begins.true (subst (λ x. Begins x c.args.key.now) c.prefix-prefix.ensures.bytes k)
+first_difference-requires-clause-differ g c k = parted _ _ _ c.begins.ensures c.requires.word c.if-not-begins.true (subst (λ x. Begins x c.args.key.now) c.prefix-prefix.ensures.bytes k)
 
 pub returns-in-None : goal.returns-in-None
-returns-in-None g c = let here : Begins c.args.node.now.prefix c.args.key.now = begun _ _ _ _ c.begins.ensures c.base-base.ensures.prefix c.requires c.if-not-begins.false in search rules
+returns-in-None g c = let here : Begins c.args.node.now.prefix c.args.key.now = begun _ _ _ _ c.begins.ensures c.base-base.ensures.prefix c.requires.word c.if-not-begins.false in search rules
 
-pub returns-in-Some-Payload : goal.returns-in-Some-Payload
-returns-in-Some-Payload g c = let here : Begins c.args.node.now.prefix c.args.key.now = begun _ _ _ _ c.begins.ensures c.base-base.ensures.prefix c.requires c.if-not-begins.false in search rules
+pub returns-then-level-eq7 : goal.returns-then-level-eq7
+returns-then-level-eq7 g c = let here : Begins c.args.node.now.prefix c.args.key.now = begun _ _ _ _ c.begins.ensures c.base-base.ensures.prefix c.requires.word c.if-not-begins.false in search rules
 
 pub returns-in-Some-Node : goal.returns-in-Some-Node
-returns-in-Some-Node g c = let here : Begins c.args.node.now.prefix c.args.key.now = begun _ _ _ _ c.begins.ensures c.base-base.ensures.prefix c.requires c.if-not-begins.false in search rules
+returns-in-Some-Node g c = let here : Begins c.args.node.now.prefix c.args.key.now = begun _ _ _ _ c.begins.ensures c.base-base.ensures.prefix c.requires.word c.if-not-begins.false in search rules
+
+-- payloads stand in leaves alone
+pub unreachable-requires : goal.unreachable-requires
+unreachable-requires g c =
+    let seven = c.requires.kind _ (Payload c.in-Some-Payload.field-0-0.now) (sym c.in-Some-Payload.ensures ∙ ap (λ x. seen (Some x)) c.in-Some-Payload.field-0-is) in
+    c.if-level-eq7.false (ap length (c.prefix-prefix.ensures.bytes ∙ c.base-base.ensures.prefix) ∙ seven)

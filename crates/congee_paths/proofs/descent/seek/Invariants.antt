@@ -1,6 +1,6 @@
 use Rattle.std.proofs.Common.{◌≡◌, ◌+◌, ◌-◌}
 use Rattle.congee_paths.specs.inner.Descent.{LeadsTo}
-use Rattle.congee_paths.proofs.descent.descend.Given as goal
+use Rattle.congee_paths.proofs.descent.seek.Given as goal
 
 abbrev pub invariant-down : goal.invariant-down
 invariant-down g l =
