@@ -2,6 +2,8 @@
 #![tactic(auto)]
 
 pub mod any_node;
+pub mod head_16;
+pub mod head_4;
 pub mod node_16;
 pub mod node_256;
 pub mod node_4;

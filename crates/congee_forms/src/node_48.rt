@@ -3,7 +3,10 @@
 
 ghost use Rattle.std.specs.Prelude.{◌≡◌, ℕ, ◌<◌, ◌≤◌, [], length, IfOk, OnOk, OnErr};
 ghost use Rattle.congee_base.specs.NodeView.{NodeView};
+ghost use Rattle.congee_base.specs.inner.Sorted.{pairs};
+ghost use Rattle.congee_forms.specs.Heads.{IsNode16};
 
+use crate::head_16::Head16;
 use crate::node_16::Node16;
 use congee_base::base_node::{BaseNode, Node, NodeType};
 use congee_base::iter::{Node48Iter, NodeIter};
@@ -73,12 +76,31 @@ impl<C: Drop> Node48<C> {
         ensures emptied { OnOk result (smaller.new.children ≡ []) }
         ensures err { OnErr result (smaller.new ≡ smaller.old) }
     {
+        Node48::grown_from_parts(alloc, &mut smaller.head, &mut smaller.children)
+    }
+
+    /// The same, of a smaller node's head and row.
+    pub fn grown_from_parts(
+        alloc: Global,
+        head: &mut Head16,
+        row: &mut Vec<C>,
+    ) -> Result<Self, OOMError>
+        requires { IsNode16 head.old row.old }
+        ensures prefix { IfOk result (λ n. n.prefix ≡ head.old.base.prefix) }
+        ensures children { IfOk result (λ n. n.children ≡ pairs head.old.keys row.old.items) }
+        ensures room { IfOk result (λ n. length n.children < 48) }
+        ensures left { IsNode16 head.new row.new }
+        ensures emptied { OnOk result (pairs head.new.keys row.new.items ≡ []) }
+        ensures prefix_left { head.new.base.prefix ≡ head.old.base.prefix }
+        ensures same { OnErr result (head.new ≡ head.old) }
+        ensures same_row { OnErr result (row.new ≡ row.old) }
+    {
         let mut places = [48u8; 256];
-        place_bytes(&mut places, &smaller.keys[..smaller.children.len()]);
+        place_bytes(&mut places, &head.keys[..row.len()]);
         let index = Box::new(alloc, places)?;
         let mut children = Vec::with_capacity(alloc, 48)?;
-        move_row(&mut smaller.children, &mut children);
-        let base = smaller.base.hand_over(NodeType::N48);
+        move_row(row, &mut children);
+        let base = head.base.hand_over(NodeType::N48);
         Ok(Node48 {
             children,
             index,

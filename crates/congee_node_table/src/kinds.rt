@@ -9,86 +9,112 @@ ghost use Rattle.congee_node_table.specs.inner.Kinds.{inner_node, leaf_node, slo
 ghost use Rattle.congee_node_table.specs.TableNode.{MayHave, TableNode, seen, looked_at};
 
 use crate::child::{Child, ChildIter, ChildRef};
-use congee_base::base_node::{BaseNode, Node};
+use congee_base::base_node::BaseNode;
+use congee_base::head::Head;
 use congee_base::iter::{Node16Iter, NodeIter};
 
-/// An inner node of one form: its children are slots.
+/// The head of an inner node of one form: its children are slots.
 #[derive(Drop)]
-pub struct Inner<N> {
-    pub node: N,
+pub struct Inner<H> {
+    pub head: H,
 }
 
-/// A leaf of one form: its children are payloads.
+/// The head of a leaf of one form: its children are payloads.
 #[derive(Drop)]
-pub struct Leaf<N> {
-    pub node: N,
+pub struct Leaf<H> {
+    pub head: H,
 }
 
-/// What a node does with its children, whichever kind they are of.
+/// What a node does with its children, whichever kind they are of. Its row is beside its head.
 pub trait InTable<P>: Sized {
     ghost use Rattle.std.specs.Prelude.{ℕ, List};
     ghost use Rattle.congee_node_table.specs.TableNode.{TableNode};
 
-    ghost node: { Self → TableNode P };
+    type Row;
 
-    /// Its prefix is as long as its kind requires.
-    ghost IsOfKind: { Self → Type 0 };
+    ghost node: { Self → Self.Row → TableNode P };
+
+    /// The row is that of this head, and the prefix is as long as the kind requires.
+    ghost IsOfKind: { Self → Self.Row → Type 0 };
 
     /// What all forms have.
-    fn base(&self) -> &BaseNode
-        ensures prefix { result.now.prefix ≡ (node self.now).prefix }
-        ensures count { result.now.count ≡ length (node self.now).children }
-        ensures form { result.now.form ≡ (node self.now).form }
-        ensures within { Fits (node self.now).form (length (node self.now).children) }
-        ensures ascending { Rises 0 256 (node self.now).children };
+    fn base<'a>(&'a self, row: &Self::Row) -> &'a BaseNode
+        requires { IsOfKind self.now row.now }
+        ensures prefix { result.now.prefix ≡ (node self.now row.now).prefix }
+        ensures count { result.now.count ≡ length (node self.now row.now).children }
+        ensures form { result.now.form ≡ (node self.now row.now).form }
+        ensures within { Fits (node self.now row.now).form (length (node self.now row.now).children) }
+        ensures ascending { Rises 0 256 (node self.now row.now).children };
 
     /// What is under a byte, or `None`.
-    fn get_child(&self, byte: u8) -> Option<ChildRef<'_, P>>
-        ensures { seen result ≡ lookup (node self.now).children byte };
+    fn get_child<'a>(&'a self, row: &'a Self::Row, byte: u8) -> Option<ChildRef<'a, P>>
+        requires { IsOfKind self.now row.now }
+        ensures { seen result ≡ lookup (node self.now row.now).children byte };
 
     /// The first child whose byte isn't below `start`, and its byte.
-    fn first_from(&self, start: u8) -> Option<(u8, ChildRef<'_, P>)>
-        ensures none { IfNone result (between (node self.now).children start 256 ≡ []) }
-        ensures some { IfSome result (λ found. between (node self.now).children start 256
-            ≡ (found.0, looked_at found.1) ∷ between (node self.now).children (found.0 + 1) 256) }
+    fn first_from<'a>(&'a self, row: &'a Self::Row, start: u8) -> Option<(u8, ChildRef<'a, P>)>
+        requires { IsOfKind self.now row.now }
+        ensures none { IfNone result (between (node self.now row.now).children start 256 ≡ []) }
+        ensures some { IfSome result (λ found. between (node self.now row.now).children start 256
+            ≡ (found.0, looked_at found.1) ∷ between (node self.now row.now).children (found.0 + 1) 256) }
         ensures order { IfSome result (λ found. start ≤ found.0) };
 
     /// The children with `from <= byte < to`, ascending.
-    fn children_between(&self, from: usize, to: usize) -> ChildIter<'_, P>
+    fn children_between<'a>(
+        &'a self,
+        row: &'a Self::Row,
+        from: usize,
+        to: usize,
+    ) -> ChildIter<'a, P>
         requires within { to ≤ 256 }
-        requires kind { IsOfKind self.now }
-        ensures children { children_left result ≡ between (node self.now).children from to }
-        ensures kind { MayGive (node self.now).prefix result };
+        requires kind { IsOfKind self.now row.now }
+        ensures children { children_left result ≡ between (node self.now row.now).children from to }
+        ensures kind { MayGive (node self.now row.now).prefix result };
 
     /// Adds a child of the node's kind under a byte that has none, in a node that is not full.
-    fn insert(&mut self, byte: u8, child: Child<P>)
-        requires absent { lookup (node self.old).children byte ≡ None }
-        requires room { Fits (node self.old).form (length (node self.old).children + 1) }
-        requires kind { IsOfKind self.old }
-        requires may { MayHave (node self.old).prefix child }
-        ensures { node self.new ≡ with_child (node self.old) byte child };
+    fn insert(&mut self, row: &mut Self::Row, byte: u8, child: Child<P>)
+        requires absent { lookup (node self.old row.old).children byte ≡ None }
+        requires room { Fits (node self.old row.old).form (length (node self.old row.old).children + 1) }
+        requires kind { IsOfKind self.old row.old }
+        requires may { MayHave (node self.old row.old).prefix child }
+        ensures kind { IsOfKind self.new row.new }
+        ensures after { node self.new row.new ≡ with_child (node self.old row.old) byte child };
 
     /// Puts another child of the node's kind in the place of one, which it returns. Where there is none, the child comes
     /// back.
-    fn exchange(&mut self, byte: u8, child: Child<P>) -> Result<Child<P>, Child<P>>
-        requires kind { IsOfKind self.old }
-        requires may { MayHave (node self.old).prefix child }
-        ensures before { IfOk result (λ c. lookup (node self.old).children byte ≡ Some c) }
-        ensures after { OnOk result (node self.new ≡ with_child (node self.old) byte child) }
-        ensures absent { OnErr result (lookup (node self.old).children byte ≡ None) }
+    fn exchange(
+        &mut self,
+        row: &mut Self::Row,
+        byte: u8,
+        child: Child<P>,
+    ) -> Result<Child<P>, Child<P>>
+        requires kind { IsOfKind self.old row.old }
+        requires may { MayHave (node self.old row.old).prefix child }
+        ensures kind { IsOfKind self.new row.new }
+        ensures before { IfOk result (λ c. lookup (node self.old row.old).children byte ≡ Some c) }
+        ensures after { OnOk result (node self.new row.new ≡ with_child (node self.old row.old) byte child) }
+        ensures absent { OnErr result (lookup (node self.old row.old).children byte ≡ None) }
         ensures back { IfErr result (λ c. c ≡ child) }
-        ensures same { OnErr result (node self.new ≡ node self.old) };
+        ensures same { OnErr result (node self.new row.new ≡ node self.old row.old) };
 
     /// Takes out the child under a byte, if there is one, and returns it.
-    fn take(&mut self, byte: u8) -> Option<Child<P>>
-        ensures before { result ≡ lookup (node self.old).children byte }
-        ensures after { node self.new ≡ without_child (node self.old) byte };
+    fn take(&mut self, row: &mut Self::Row, byte: u8) -> Option<Child<P>>
+        requires { IsOfKind self.old row.old }
+        ensures kind { IsOfKind self.new row.new }
+        ensures before { result ≡ lookup (node self.old row.old).children byte }
+        ensures after { node self.new row.new ≡ without_child (node self.old row.old) byte };
 }
 
 // The children of a node with `from <= byte < to`.
-fn children_of<C, N: Node<C>>(node: &N, from: usize, to: usize) -> NodeIter<'_, C>
-    requires { to ≤ 256 }
-    ensures { rest result ≡ between (N.children node.now) from to }
+fn children_of<'a, C, H: Head<C>>(
+    head: &'a H,
+    row: &'a H::Row,
+    from: usize,
+    to: usize,
+) -> NodeIter<'a, C>
+    requires node { H.IsNode head.now row.now }
+    requires within { to ≤ 256 }
+    ensures { rest result ≡ between (H.children head.now row.now) from to }
 {
     if from >= to {
         return NodeIter::N16(Node16Iter {
@@ -96,72 +122,81 @@ fn children_of<C, N: Node<C>>(node: &N, from: usize, to: usize) -> NodeIter<'_, 
             children: &[],
         });
     }
-    node.get_children(from as u8, (to - 1) as u8)
+    head.get_children(row, from as u8, (to - 1) as u8)
 }
 
-impl<P, N: Node<usize>> InTable<P> for Inner<N> {
+impl<P, H: Head<usize>> InTable<P> for Inner<H> {
     ghost use Rattle.std.specs.Prelude.{◌<◌, length};
     ghost use Rattle.congee_node_table.specs.inner.Kinds.{inner_node};
 
-    ghost node = { λ n. inner_node (N.form n.node) (N.prefix n.node) (N.children n.node) };
+    type Row = H::Row;
 
-    ghost IsOfKind = { λ n. length (N.prefix n.node) < 7 };
+    ghost node = { λ n row. inner_node (H.form n.head) (H.prefix n.head) (H.children n.head row) };
 
-    fn base(&self) -> &BaseNode {
-        self.node.base()
+    ghost IsOfKind = { λ n row. H.IsNode n.head row × (length (H.prefix n.head) < 7) };
+
+    fn base<'a>(&'a self, row: &H::Row) -> &'a BaseNode {
+        self.head.base(row)
     }
 
-    fn get_child(&self, byte: u8) -> Option<ChildRef<'_, P>> {
-        match self.node.get_child(byte) {
+    fn get_child<'a>(&'a self, row: &'a H::Row, byte: u8) -> Option<ChildRef<'a, P>> {
+        match self.head.get_child(row, byte) {
             Some(slot) => Some(ChildRef::Node(*slot)),
             None => None,
         }
     }
 
-    fn first_from(&self, start: u8) -> Option<(u8, ChildRef<'_, P>)> {
-        match self.node.get_children(start, 255).next() {
+    fn first_from<'a>(&'a self, row: &'a H::Row, start: u8) -> Option<(u8, ChildRef<'a, P>)> {
+        match self.head.get_children(row, start, 255).next() {
             Some((byte, slot)) => Some((byte, ChildRef::Node(*slot))),
             None => None,
         }
     }
 
-    fn children_between(&self, from: usize, to: usize) -> ChildIter<'_, P> {
-        ChildIter::Nodes(children_of(&self.node, from, to))
+    fn children_between<'a>(&'a self, row: &'a H::Row, from: usize, to: usize) -> ChildIter<'a, P> {
+        ChildIter::Nodes(children_of(&self.head, row, from, to))
     }
 
-    fn insert(&mut self, byte: u8, child: Child<P>)
-        requires absent { lookup (slots {P = P} (N.children self.old.node)) byte ≡ None }
-        requires room { Fits (N.form self.old.node)
-            (length (slots {P = P} (N.children self.old.node)) + 1) }
-        requires kind { length (N.prefix self.old.node) < 7 }
-        requires may { MayHave (N.prefix self.old.node) child }
-        ensures { inner_node {P = P} (N.form self.new.node) (N.prefix self.new.node)
-            (N.children self.new.node) ≡ with_child (inner_node (N.form self.old.node)
-            (N.prefix self.old.node) (N.children self.old.node)) byte child }
+    fn insert(&mut self, row: &mut H::Row, byte: u8, child: Child<P>)
+        requires absent { lookup (slots {P = P} (H.children self.old.head row.old)) byte ≡ None }
+        requires room { Fits (H.form self.old.head)
+            (length (slots {P = P} (H.children self.old.head row.old)) + 1) }
+        requires kind { H.IsNode self.old.head row.old × (length (H.prefix self.old.head) < 7) }
+        requires may { MayHave (H.prefix self.old.head) child }
+        ensures kind { H.IsNode self.new.head row.new × (length (H.prefix self.new.head) < 7) }
+        ensures after { inner_node {P = P} (H.form self.new.head) (H.prefix self.new.head)
+            (H.children self.new.head row.new) ≡ with_child (inner_node (H.form self.old.head)
+            (H.prefix self.old.head) (H.children self.old.head row.old)) byte child }
     {
         match child {
-            Child::Node(slot) => self.node.insert(byte, slot),
+            Child::Node(slot) => self.head.insert(row, byte, slot),
             Child::Payload(_) => unreachable!(),
         }
     }
 
-    fn exchange(&mut self, byte: u8, child: Child<P>) -> Result<Child<P>, Child<P>>
-        requires kind { length (N.prefix self.old.node) < 7 }
-        requires may { MayHave (N.prefix self.old.node) child }
+    fn exchange(
+        &mut self,
+        row: &mut H::Row,
+        byte: u8,
+        child: Child<P>,
+    ) -> Result<Child<P>, Child<P>>
+        requires kind { H.IsNode self.old.head row.old × (length (H.prefix self.old.head) < 7) }
+        requires may { MayHave (H.prefix self.old.head) child }
+        ensures kind { H.IsNode self.new.head row.new × (length (H.prefix self.new.head) < 7) }
         ensures before { IfOk result (λ c.
-            lookup (slots {P = P} (N.children self.old.node)) byte ≡ Some c) }
-        ensures after { OnOk result (inner_node {P = P} (N.form self.new.node)
-            (N.prefix self.new.node) (N.children self.new.node) ≡ with_child (inner_node
-            (N.form self.old.node) (N.prefix self.old.node) (N.children self.old.node)) byte child) }
+            lookup (slots {P = P} (H.children self.old.head row.old)) byte ≡ Some c) }
+        ensures after { OnOk result (inner_node {P = P} (H.form self.new.head)
+            (H.prefix self.new.head) (H.children self.new.head row.new) ≡ with_child (inner_node
+            (H.form self.old.head) (H.prefix self.old.head) (H.children self.old.head row.old)) byte child) }
         ensures absent { OnErr result
-            (lookup (slots {P = P} (N.children self.old.node)) byte ≡ None) }
+            (lookup (slots {P = P} (H.children self.old.head row.old)) byte ≡ None) }
         ensures back { IfErr result (λ c. c ≡ child) }
-        ensures same { OnErr result (inner_node {P = P} (N.form self.new.node)
-            (N.prefix self.new.node) (N.children self.new.node) ≡ inner_node
-            (N.form self.old.node) (N.prefix self.old.node) (N.children self.old.node)) }
+        ensures same { OnErr result (inner_node {P = P} (H.form self.new.head)
+            (H.prefix self.new.head) (H.children self.new.head row.new) ≡ inner_node
+            (H.form self.old.head) (H.prefix self.old.head) (H.children self.old.head row.old)) }
     {
         match child {
-            Child::Node(slot) => match self.node.exchange(byte, slot) {
+            Child::Node(slot) => match self.head.exchange(row, byte, slot) {
                 Ok(before) => Ok(Child::Node(before)),
                 Err(back) => Err(Child::Node(back)),
             },
@@ -169,76 +204,85 @@ impl<P, N: Node<usize>> InTable<P> for Inner<N> {
         }
     }
 
-    fn take(&mut self, byte: u8) -> Option<Child<P>> {
-        match self.node.take(byte) {
+    fn take(&mut self, row: &mut H::Row, byte: u8) -> Option<Child<P>> {
+        match self.head.take(row, byte) {
             Some(slot) => Some(Child::Node(slot)),
             None => None,
         }
     }
 }
 
-impl<P, N: Node<P>> InTable<P> for Leaf<N> {
+impl<P, H: Head<P>> InTable<P> for Leaf<H> {
     ghost use Rattle.std.specs.Prelude.{◌≡◌, length};
     ghost use Rattle.congee_node_table.specs.inner.Kinds.{leaf_node};
 
-    ghost node = { λ n. leaf_node (N.form n.node) (N.prefix n.node) (N.children n.node) };
+    type Row = H::Row;
 
-    ghost IsOfKind = { λ n. length (N.prefix n.node) ≡ 7 };
+    ghost node = { λ n row. leaf_node (H.form n.head) (H.prefix n.head) (H.children n.head row) };
 
-    fn base(&self) -> &BaseNode {
-        self.node.base()
+    ghost IsOfKind = { λ n row. H.IsNode n.head row × (length (H.prefix n.head) ≡ 7) };
+
+    fn base<'a>(&'a self, row: &H::Row) -> &'a BaseNode {
+        self.head.base(row)
     }
 
-    fn get_child(&self, byte: u8) -> Option<ChildRef<'_, P>> {
-        match self.node.get_child(byte) {
+    fn get_child<'a>(&'a self, row: &'a H::Row, byte: u8) -> Option<ChildRef<'a, P>> {
+        match self.head.get_child(row, byte) {
             Some(payload) => Some(ChildRef::Payload(payload)),
             None => None,
         }
     }
 
-    fn first_from(&self, start: u8) -> Option<(u8, ChildRef<'_, P>)> {
-        match self.node.get_children(start, 255).next() {
+    fn first_from<'a>(&'a self, row: &'a H::Row, start: u8) -> Option<(u8, ChildRef<'a, P>)> {
+        match self.head.get_children(row, start, 255).next() {
             Some((byte, payload)) => Some((byte, ChildRef::Payload(payload))),
             None => None,
         }
     }
 
-    fn children_between(&self, from: usize, to: usize) -> ChildIter<'_, P> {
-        ChildIter::Payloads(children_of(&self.node, from, to))
+    fn children_between<'a>(&'a self, row: &'a H::Row, from: usize, to: usize) -> ChildIter<'a, P> {
+        ChildIter::Payloads(children_of(&self.head, row, from, to))
     }
 
-    fn insert(&mut self, byte: u8, child: Child<P>)
-        requires absent { lookup (payloads (N.children self.old.node)) byte ≡ None }
-        requires room { Fits (N.form self.old.node)
-            (length (payloads (N.children self.old.node)) + 1) }
-        requires kind { length (N.prefix self.old.node) ≡ 7 }
-        requires may { MayHave (N.prefix self.old.node) child }
-        ensures { leaf_node (N.form self.new.node) (N.prefix self.new.node)
-            (N.children self.new.node) ≡ with_child (leaf_node (N.form self.old.node)
-            (N.prefix self.old.node) (N.children self.old.node)) byte child }
+    fn insert(&mut self, row: &mut H::Row, byte: u8, child: Child<P>)
+        requires absent { lookup (payloads (H.children self.old.head row.old)) byte ≡ None }
+        requires room { Fits (H.form self.old.head)
+            (length (payloads (H.children self.old.head row.old)) + 1) }
+        requires kind { H.IsNode self.old.head row.old × (length (H.prefix self.old.head) ≡ 7) }
+        requires may { MayHave (H.prefix self.old.head) child }
+        ensures kind { H.IsNode self.new.head row.new × (length (H.prefix self.new.head) ≡ 7) }
+        ensures after { leaf_node (H.form self.new.head) (H.prefix self.new.head)
+            (H.children self.new.head row.new) ≡ with_child (leaf_node (H.form self.old.head)
+            (H.prefix self.old.head) (H.children self.old.head row.old)) byte child }
     {
         match child {
-            Child::Payload(payload) => self.node.insert(byte, payload),
+            Child::Payload(payload) => self.head.insert(row, byte, payload),
             Child::Node(_) => unreachable!(),
         }
     }
 
-    fn exchange(&mut self, byte: u8, child: Child<P>) -> Result<Child<P>, Child<P>>
-        requires kind { length (N.prefix self.old.node) ≡ 7 }
-        requires may { MayHave (N.prefix self.old.node) child }
+    fn exchange(
+        &mut self,
+        row: &mut H::Row,
+        byte: u8,
+        child: Child<P>,
+    ) -> Result<Child<P>, Child<P>>
+        requires kind { H.IsNode self.old.head row.old × (length (H.prefix self.old.head) ≡ 7) }
+        requires may { MayHave (H.prefix self.old.head) child }
+        ensures kind { H.IsNode self.new.head row.new × (length (H.prefix self.new.head) ≡ 7) }
         ensures before { IfOk result (λ c.
-            lookup (payloads (N.children self.old.node)) byte ≡ Some c) }
-        ensures after { OnOk result (leaf_node (N.form self.new.node) (N.prefix self.new.node)
-            (N.children self.new.node) ≡ with_child (leaf_node (N.form self.old.node)
-            (N.prefix self.old.node) (N.children self.old.node)) byte child) }
-        ensures absent { OnErr result (lookup (payloads (N.children self.old.node)) byte ≡ None) }
+            lookup (payloads (H.children self.old.head row.old)) byte ≡ Some c) }
+        ensures after { OnOk result (leaf_node (H.form self.new.head) (H.prefix self.new.head)
+            (H.children self.new.head row.new) ≡ with_child (leaf_node (H.form self.old.head)
+            (H.prefix self.old.head) (H.children self.old.head row.old)) byte child) }
+        ensures absent { OnErr result (lookup (payloads (H.children self.old.head row.old)) byte ≡ None) }
         ensures back { IfErr result (λ c. c ≡ child) }
-        ensures same { OnErr result (leaf_node (N.form self.new.node) (N.prefix self.new.node)
-            (N.children self.new.node) ≡ leaf_node (N.form self.old.node)
-            (N.prefix self.old.node) (N.children self.old.node)) }
+        ensures same { OnErr result (leaf_node (H.form self.new.head) (H.prefix self.new.head)
+            (H.children self.new.head row.new) ≡ leaf_node (H.form self.old.head)
+            (H.prefix self.old.head) (H.children self.old.head row.old)) }
     {
         match child {
-            Child::Payload(payload) => match self.node.exchange(byte, payload) {
+            Child::Payload(payload) => match self.head.exchange(row, byte, payload) {
                 Ok(before) => Ok(Child::Payload(before)),
                 Err(back) => Err(Child::Payload(back)),
             },
@@ -246,8 +290,8 @@ impl<P, N: Node<P>> InTable<P> for Leaf<N> {
         }
     }
 
-    fn take(&mut self, byte: u8) -> Option<Child<P>> {
-        match self.node.take(byte) {
+    fn take(&mut self, row: &mut H::Row, byte: u8) -> Option<Child<P>> {
+        match self.head.take(row, byte) {
             Some(payload) => Some(Child::Payload(payload)),
             None => None,
         }

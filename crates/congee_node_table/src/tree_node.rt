@@ -11,8 +11,10 @@ ghost use Rattle.congee_node_table.specs.TableNode.{MayHave, seen, looked_at};
 use crate::child::{Child, ChildIter, ChildRef};
 use crate::kinds::{InTable, Inner, Leaf};
 use congee_base::base_node::{BaseNode, NodeType};
-use congee_forms::node_4::Node4;
-use congee_forms::node_16::Node16;
+use congee_base::few::Few;
+use congee_base::head::{Own, Whole};
+use congee_forms::head_4::Head4;
+use congee_forms::head_16::Head16;
 use congee_forms::node_48::Node48;
 use congee_forms::node_256::Node256;
 use congee_map::error::OOMError;
@@ -26,17 +28,18 @@ pub struct TreeNode<P> {
     kind: Kind<P>,
 }
 
-// One tag for kind and form, so that a node is read after one jump.
+// One tag for kind and form, so that a node is read after one jump. The head of a small node fills the bytes between the
+// tag and its row; a larger node is the head itself. So no arm takes more than 56 bytes, for payloads of 8 bytes.
 #[derive(Drop)]
 enum Kind<P> {
-    Inner4(Inner<Node4<usize>>),
-    Inner16(Inner<Node16<usize>>),
-    Inner48(Inner<Node48<usize>>),
-    Inner256(Inner<Node256<usize>>),
-    Leaf4(Leaf<Node4<P>>),
-    Leaf16(Leaf<Node16<P>>),
-    Leaf48(Leaf<Node48<P>>),
-    Leaf256(Leaf<Node256<P>>),
+    Inner4(Inner<Head4>, Few<usize>),
+    Inner16(Inner<Head16>, Vec<usize>),
+    Inner48(Inner<Whole<Node48<usize>>>, Own),
+    Inner256(Inner<Whole<Node256<usize>>>, Own),
+    Leaf4(Leaf<Head4>, Few<P>),
+    Leaf16(Leaf<Head16>, Vec<P>),
+    Leaf48(Leaf<Whole<Node48<P>>>, Own),
+    Leaf256(Leaf<Whole<Node256<P>>>, Own),
 }
 
 impl<P> Model for TreeNode<P> {
@@ -62,29 +65,34 @@ impl<P: Drop> TreeNode<P> {
     {
         let node = Node256::new(alloc, &[])?;
         Ok(TreeNode {
-            kind: Kind::Inner256(Inner { node }),
+            kind: Kind::Inner256(
+                Inner {
+                    head: Whole { node },
+                },
+                Own,
+            ),
         })
     }
 
     /// An inner node of the smallest form, without children; a refusal only for want of memory.
-    pub fn inner(alloc: Global, prefix: &[u8]) -> Result<Self, OOMError>
+    pub fn inner(_alloc: Global, prefix: &[u8]) -> Result<Self, OOMError>
         requires { length prefix.now < 7 }
         ensures { IfOk result (λ n. n ≡ record { form = N4; prefix = prefix.now; children = [] }) }
     {
-        let node = Node4::new(alloc, prefix)?;
+        let head = Head4::new(prefix);
         Ok(TreeNode {
-            kind: Kind::Inner4(Inner { node }),
+            kind: Kind::Inner4(Inner { head }, Few::Zero),
         })
     }
 
     /// A leaf of the smallest form, without payloads; a refusal only for want of memory.
-    pub fn leaf(alloc: Global, prefix: &[u8]) -> Result<Self, OOMError>
+    pub fn leaf(_alloc: Global, prefix: &[u8]) -> Result<Self, OOMError>
         requires { length prefix.now ≡ 7 }
         ensures { IfOk result (λ n. n ≡ record { form = N4; prefix = prefix.now; children = [] }) }
     {
-        let node = Node4::new(alloc, prefix)?;
+        let head = Head4::new(prefix);
         Ok(TreeNode {
-            kind: Kind::Leaf4(Leaf { node }),
+            kind: Kind::Leaf4(Leaf { head }, Few::Zero),
         })
     }
 
@@ -97,14 +105,14 @@ impl<P: Drop> TreeNode<P> {
         ensures ascending { Rises 0 256 self.now.children }
     {
         match &self.kind {
-            Kind::Inner4(node) => InTable::<P>::base(node),
-            Kind::Inner16(node) => InTable::<P>::base(node),
-            Kind::Inner48(node) => InTable::<P>::base(node),
-            Kind::Inner256(node) => InTable::<P>::base(node),
-            Kind::Leaf4(node) => InTable::<P>::base(node),
-            Kind::Leaf16(node) => InTable::<P>::base(node),
-            Kind::Leaf48(node) => InTable::<P>::base(node),
-            Kind::Leaf256(node) => InTable::<P>::base(node),
+            Kind::Inner4(node, row) => InTable::<P>::base(node, row),
+            Kind::Inner16(node, row) => InTable::<P>::base(node, row),
+            Kind::Inner48(node, row) => InTable::<P>::base(node, row),
+            Kind::Inner256(node, row) => InTable::<P>::base(node, row),
+            Kind::Leaf4(node, row) => InTable::<P>::base(node, row),
+            Kind::Leaf16(node, row) => InTable::<P>::base(node, row),
+            Kind::Leaf48(node, row) => InTable::<P>::base(node, row),
+            Kind::Leaf256(node, row) => InTable::<P>::base(node, row),
         }
     }
 
@@ -114,8 +122,8 @@ impl<P: Drop> TreeNode<P> {
         ensures inner { result ≡ false → length self.now.prefix < 7 }
     {
         match &self.kind {
-            Kind::Inner4(_) | Kind::Inner16(_) | Kind::Inner48(_) | Kind::Inner256(_) => false,
-            Kind::Leaf4(_) | Kind::Leaf16(_) | Kind::Leaf48(_) | Kind::Leaf256(_) => true,
+            Kind::Inner4(..) | Kind::Inner16(..) | Kind::Inner48(..) | Kind::Inner256(..) => false,
+            Kind::Leaf4(..) | Kind::Leaf16(..) | Kind::Leaf48(..) | Kind::Leaf256(..) => true,
         }
     }
 
@@ -139,14 +147,14 @@ impl<P: Drop> TreeNode<P> {
         ensures { seen result ≡ lookup self.now.children byte }
     {
         match &self.kind {
-            Kind::Inner4(node) => node.get_child(byte),
-            Kind::Inner16(node) => node.get_child(byte),
-            Kind::Inner48(node) => node.get_child(byte),
-            Kind::Inner256(node) => node.get_child(byte),
-            Kind::Leaf4(node) => node.get_child(byte),
-            Kind::Leaf16(node) => node.get_child(byte),
-            Kind::Leaf48(node) => node.get_child(byte),
-            Kind::Leaf256(node) => node.get_child(byte),
+            Kind::Inner4(node, row) => node.get_child(row, byte),
+            Kind::Inner16(node, row) => node.get_child(row, byte),
+            Kind::Inner48(node, row) => node.get_child(row, byte),
+            Kind::Inner256(node, row) => node.get_child(row, byte),
+            Kind::Leaf4(node, row) => node.get_child(row, byte),
+            Kind::Leaf16(node, row) => node.get_child(row, byte),
+            Kind::Leaf48(node, row) => node.get_child(row, byte),
+            Kind::Leaf256(node, row) => node.get_child(row, byte),
         }
     }
 
@@ -165,14 +173,14 @@ impl<P: Drop> TreeNode<P> {
         }
         let start = from as u8;
         match &self.kind {
-            Kind::Inner4(node) => node.first_from(start),
-            Kind::Inner16(node) => node.first_from(start),
-            Kind::Inner48(node) => node.first_from(start),
-            Kind::Inner256(node) => node.first_from(start),
-            Kind::Leaf4(node) => node.first_from(start),
-            Kind::Leaf16(node) => node.first_from(start),
-            Kind::Leaf48(node) => node.first_from(start),
-            Kind::Leaf256(node) => node.first_from(start),
+            Kind::Inner4(node, row) => node.first_from(row, start),
+            Kind::Inner16(node, row) => node.first_from(row, start),
+            Kind::Inner48(node, row) => node.first_from(row, start),
+            Kind::Inner256(node, row) => node.first_from(row, start),
+            Kind::Leaf4(node, row) => node.first_from(row, start),
+            Kind::Leaf16(node, row) => node.first_from(row, start),
+            Kind::Leaf48(node, row) => node.first_from(row, start),
+            Kind::Leaf256(node, row) => node.first_from(row, start),
         }
     }
 
@@ -183,14 +191,14 @@ impl<P: Drop> TreeNode<P> {
         ensures kind { MayGive self.now.prefix result }
     {
         match &self.kind {
-            Kind::Inner4(node) => node.children_between(from, to),
-            Kind::Inner16(node) => node.children_between(from, to),
-            Kind::Inner48(node) => node.children_between(from, to),
-            Kind::Inner256(node) => node.children_between(from, to),
-            Kind::Leaf4(node) => node.children_between(from, to),
-            Kind::Leaf16(node) => node.children_between(from, to),
-            Kind::Leaf48(node) => node.children_between(from, to),
-            Kind::Leaf256(node) => node.children_between(from, to),
+            Kind::Inner4(node, row) => node.children_between(row, from, to),
+            Kind::Inner16(node, row) => node.children_between(row, from, to),
+            Kind::Inner48(node, row) => node.children_between(row, from, to),
+            Kind::Inner256(node, row) => node.children_between(row, from, to),
+            Kind::Leaf4(node, row) => node.children_between(row, from, to),
+            Kind::Leaf16(node, row) => node.children_between(row, from, to),
+            Kind::Leaf48(node, row) => node.children_between(row, from, to),
+            Kind::Leaf256(node, row) => node.children_between(row, from, to),
         }
     }
 
@@ -202,14 +210,14 @@ impl<P: Drop> TreeNode<P> {
         ensures { self.new ≡ record self.old { children = put self.old.children byte child } }
     {
         match &mut self.kind {
-            Kind::Inner4(node) => node.insert(byte, child),
-            Kind::Inner16(node) => node.insert(byte, child),
-            Kind::Inner48(node) => node.insert(byte, child),
-            Kind::Inner256(node) => node.insert(byte, child),
-            Kind::Leaf4(node) => node.insert(byte, child),
-            Kind::Leaf16(node) => node.insert(byte, child),
-            Kind::Leaf48(node) => node.insert(byte, child),
-            Kind::Leaf256(node) => node.insert(byte, child),
+            Kind::Inner4(node, row) => node.insert(row, byte, child),
+            Kind::Inner16(node, row) => node.insert(row, byte, child),
+            Kind::Inner48(node, row) => node.insert(row, byte, child),
+            Kind::Inner256(node, row) => node.insert(row, byte, child),
+            Kind::Leaf4(node, row) => node.insert(row, byte, child),
+            Kind::Leaf16(node, row) => node.insert(row, byte, child),
+            Kind::Leaf48(node, row) => node.insert(row, byte, child),
+            Kind::Leaf256(node, row) => node.insert(row, byte, child),
         }
     }
 
@@ -225,14 +233,14 @@ impl<P: Drop> TreeNode<P> {
         ensures same { OnErr result (self.new ≡ self.old) }
     {
         match &mut self.kind {
-            Kind::Inner4(node) => node.exchange(byte, child),
-            Kind::Inner16(node) => node.exchange(byte, child),
-            Kind::Inner48(node) => node.exchange(byte, child),
-            Kind::Inner256(node) => node.exchange(byte, child),
-            Kind::Leaf4(node) => node.exchange(byte, child),
-            Kind::Leaf16(node) => node.exchange(byte, child),
-            Kind::Leaf48(node) => node.exchange(byte, child),
-            Kind::Leaf256(node) => node.exchange(byte, child),
+            Kind::Inner4(node, row) => node.exchange(row, byte, child),
+            Kind::Inner16(node, row) => node.exchange(row, byte, child),
+            Kind::Inner48(node, row) => node.exchange(row, byte, child),
+            Kind::Inner256(node, row) => node.exchange(row, byte, child),
+            Kind::Leaf4(node, row) => node.exchange(row, byte, child),
+            Kind::Leaf16(node, row) => node.exchange(row, byte, child),
+            Kind::Leaf48(node, row) => node.exchange(row, byte, child),
+            Kind::Leaf256(node, row) => node.exchange(row, byte, child),
         }
     }
 
@@ -255,14 +263,14 @@ impl<P: Drop> TreeNode<P> {
         ensures after { self.new ≡ record self.old { children = without self.old.children byte } }
     {
         match &mut self.kind {
-            Kind::Inner4(node) => node.take(byte),
-            Kind::Inner16(node) => node.take(byte),
-            Kind::Inner48(node) => node.take(byte),
-            Kind::Inner256(node) => node.take(byte),
-            Kind::Leaf4(node) => node.take(byte),
-            Kind::Leaf16(node) => node.take(byte),
-            Kind::Leaf48(node) => node.take(byte),
-            Kind::Leaf256(node) => node.take(byte),
+            Kind::Inner4(node, row) => node.take(row, byte),
+            Kind::Inner16(node, row) => node.take(row, byte),
+            Kind::Inner48(node, row) => node.take(row, byte),
+            Kind::Inner256(node, row) => node.take(row, byte),
+            Kind::Leaf4(node, row) => node.take(row, byte),
+            Kind::Leaf16(node, row) => node.take(row, byte),
+            Kind::Leaf48(node, row) => node.take(row, byte),
+            Kind::Leaf256(node, row) => node.take(row, byte),
         }
     }
 
@@ -287,31 +295,51 @@ impl<P: Drop> TreeNode<P> {
         ensures err { OnErr result (self.new ≡ self.old) }
     {
         let grown = match &mut self.kind {
-            Kind::Inner4(old) => match Node16::grown_from(alloc, &mut old.node) {
-                Ok(node) => Kind::Inner16(Inner { node }),
+            Kind::Inner4(old, row) => match Head16::grown_from(alloc, &mut old.head, row) {
+                Ok((head, row)) => Kind::Inner16(Inner { head }, row),
                 Err(error) => return Err(error),
             },
-            Kind::Inner16(old) => match Node48::grown_from(alloc, &mut old.node) {
-                Ok(node) => Kind::Inner48(Inner { node }),
+            Kind::Inner16(old, row) => match Node48::grown_from_parts(alloc, &mut old.head, row) {
+                Ok(node) => Kind::Inner48(
+                    Inner {
+                        head: Whole { node },
+                    },
+                    Own,
+                ),
                 Err(error) => return Err(error),
             },
-            Kind::Inner48(old) => match Node256::grown_from(alloc, &mut old.node) {
-                Ok(node) => Kind::Inner256(Inner { node }),
+            Kind::Inner48(old, _) => match Node256::grown_from(alloc, &mut old.head.node) {
+                Ok(node) => Kind::Inner256(
+                    Inner {
+                        head: Whole { node },
+                    },
+                    Own,
+                ),
                 Err(error) => return Err(error),
             },
-            Kind::Leaf4(old) => match Node16::grown_from(alloc, &mut old.node) {
-                Ok(node) => Kind::Leaf16(Leaf { node }),
+            Kind::Leaf4(old, row) => match Head16::grown_from(alloc, &mut old.head, row) {
+                Ok((head, row)) => Kind::Leaf16(Leaf { head }, row),
                 Err(error) => return Err(error),
             },
-            Kind::Leaf16(old) => match Node48::grown_from(alloc, &mut old.node) {
-                Ok(node) => Kind::Leaf48(Leaf { node }),
+            Kind::Leaf16(old, row) => match Node48::grown_from_parts(alloc, &mut old.head, row) {
+                Ok(node) => Kind::Leaf48(
+                    Leaf {
+                        head: Whole { node },
+                    },
+                    Own,
+                ),
                 Err(error) => return Err(error),
             },
-            Kind::Leaf48(old) => match Node256::grown_from(alloc, &mut old.node) {
-                Ok(node) => Kind::Leaf256(Leaf { node }),
+            Kind::Leaf48(old, _) => match Node256::grown_from(alloc, &mut old.head.node) {
+                Ok(node) => Kind::Leaf256(
+                    Leaf {
+                        head: Whole { node },
+                    },
+                    Own,
+                ),
                 Err(error) => return Err(error),
             },
-            Kind::Inner256(_) | Kind::Leaf256(_) => return Ok(()),
+            Kind::Inner256(..) | Kind::Leaf256(..) => return Ok(()),
         };
         self.kind = grown;
         Ok(())

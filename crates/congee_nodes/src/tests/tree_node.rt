@@ -10,6 +10,7 @@ use crate::tree_node::TreeNode;
 use std::alloc::Global;
 use std::mem::size_of;
 use std::process::Abort;
+use std::sync::Arc;
 use std::test::Fail;
 
 // Puts a payload into a leaf under a byte that has none; false where it can't be.
@@ -91,9 +92,11 @@ fn roots_have_room_for_each_byte(rt: HostRuntime) -> Result<(), Fail> {
     Ok(())
 }
 
-// A table's entry holds a node of payloads of 8 bytes in 64 bytes, whatever its form and kind.
+// A table's slot holds a node of payloads of 8 bytes in 64 bytes, its own tag included, whatever the node's form and kind.
 #[test]
-fn nodes_are_small(rt: HostRuntime) -> Result<(), Fail> {
-    assert_eq!(rt; size_of::<TreeNode<u64>>(), 64);
+fn slots_are_small(rt: HostRuntime) -> Result<(), Fail> {
+    assert_eq!(rt; size_of::<TreeNode<u64>>(), 56);
+    assert_eq!(rt; size_of::<Option<TreeNode<u64>>>(), 64);
+    assert_eq!(rt; size_of::<Option<TreeNode<Arc<u64>>>>(), 64);
     Ok(())
 }
