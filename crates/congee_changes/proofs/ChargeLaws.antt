@@ -1,5 +1,5 @@
 -- What the calls do to the counts of nodes, and to what is charged.
-use Rattle.std.proofs.Common.{◌≡◌, ℕ, zero, suc, ◌+◌, ◌<◌, ◌≤◌, List, [], length, Option, Some, None, refl, ap, sym, subst, ◌∙◌, arith, inl, inr, ◌⊎◌}
+use Rattle.std.proofs.Common.{◌≡◌, ℕ, zero, suc, ◌+◌, ◌≤◌, List, [], length, Option, Some, None, refl, ap, sym, subst, ◌∙◌, arith, inl, inr, ◌⊎◌}
 use Rattle.congee_node_table.specs.Key.{AreBytes}
 use Rattle.congee_node_table.specs.Shape.{grown_form}
 use Rattle.congee_node_table.specs.Table.{Table, NodeInfo, node_at, nodes_of, nodes_at, IsTree}
@@ -9,11 +9,9 @@ use Rattle.congee_base.specs.declared.base_node.NodeType.TheVariants.{N4}
 use Rattle.congee_node_table.proofs.NodesLaws.{below}
 use Rattle.congee_supply.specs.Charge.{total}
 use Rattle.congee_supply.specs.inner.Supply.{count, with_form, with_gone, with_leaf, one, IsCounted, IsCountedAt, Trades, CountsGrown}
-use Rattle.congee_paths.specs.inner.Descent.{PathTo, EndsAt}
+use Rattle.congee_paths.specs.inner.Descent.{PathTo, EndsAt, Differs, Absent, Place}
 use Rattle.congee_paths.specs.inner.Root.{depth}
 use Rattle.congee_changes.specs.inner.Writes.{SameElsewhere, MakesRoom, PutsPair, Splits, IsLeafBelow}
-use Rattle.congee_paths.specs.declared.descent.End.TheVariants.{Differs, Absent}
-use Rattle.congee_paths.specs.declared.descent.Place.{Place}
 use Rattle.congee_supply.specs.declared.supply.FormCounts.{FormCounts}
 use Rattle.congee_changes.proofs.SlotLaws.{adds_after}
 use Rattle.congee_changes.proofs.RemoveLaws.{Reduced, shrinks_counted, shrinks_kept}
@@ -76,13 +74,9 @@ module _ {P : Type 0} (s : Table P) (root : ℕ) (key : List ℕ) (place : Place
         counted_two forms old h forms' new N4 N4 more (λ f. total-splits (one f) old key new x)
 
 module _ {P : Type 0} (s t : Table P) (root : ℕ) (key : List ℕ) (bytes : AreBytes key) (full : length key ≡ 8) (forms : FormCounts) (h : IsCounted forms (nodes_at s depth [] root)) where
-  -- a leaf that goes was counted
-  pub gone_counted : (detached : Option NodeType) → Reduced s t root key bytes full detached → (form : NodeType) → detached ≡ Some form → 0 < count form forms
-  gone_counted detached x form is = omega (arith, h form, counts_itself form, shrinks_counted s t root key bytes full detached x form is (one form))
-
   -- a leaf less, where one goes
   pub remove_counted : (detached : Option NodeType) (forms' : FormCounts) → Reduced s t root key bytes full detached → forms ≡ with_gone detached forms' → IsCounted forms' (nodes_at t depth [] root)
   remove_counted None forms' x is = λ f. ap (count f) (sym is) ∙ h f ∙ sym (shrinks_kept s t root key bytes full x (one f))
   remove_counted (Some form) forms' x is =
       counted_less forms (nodes_at s depth [] root) h forms' (nodes_at t depth [] root) form is
-      (λ f. shrinks_counted s t root key bytes full (Some form) x form refl (one f))
+      (λ f. shrinks_counted s t root key bytes full form x (one f))

@@ -16,11 +16,9 @@ use Rattle.congee_node_table.proofs.ChildrenLaws as laws
 use Rattle.congee_node_table.proofs.TableLaws.{under, tree_rises, open_subtree}
 use Rattle.congee_node_table.proofs.DownLaws.{Begins-trans}
 use Rattle.congee_node_table.specs.Key.{next_byte}
-use Rattle.congee_paths.specs.inner.Descent.{PathTo, Finds, EndsAt}
+use Rattle.congee_paths.specs.inner.Descent.{PathTo, Finds, EndsAt, Differs, Absent, Place}
 use Rattle.congee_paths.specs.inner.Root.{depth}
 use Rattle.congee_changes.specs.inner.Writes.{RefusesAt}
-use Rattle.congee_paths.specs.declared.descent.End.TheVariants.{Differs, Absent}
-use Rattle.congee_paths.specs.declared.descent.Place.{Place}
 use Rattle.congee_paths.proofs.PathEndLaws.{lookup_end}
 
 module _ {P : Type 0} (s : Table P) (root : ℕ) (key : List ℕ) (bytes : AreBytes key) (full : length key ≡ 8) where

@@ -6,11 +6,9 @@ use Rattle.congee_node_table.specs.Shape.{Reshapes}
 use Rattle.congee_node_table.specs.Table.{Table, node_at, pairs_at, nodes_at, IsTree}
 use Rattle.congee_node_table.specs.declared.child.Child.TheVariants.{Payload}
 use Rattle.congee_node_table.proofs.TableLaws.{open_subtree}
-use Rattle.congee_paths.specs.inner.Descent.{Finds, EndsAt}
+use Rattle.congee_paths.specs.inner.Descent.{Finds, EndsAt, Differs, Absent, Present, Place}
 use Rattle.congee_paths.specs.inner.Root.{depth, HasRoot}
 use Rattle.congee_changes.specs.inner.Writes.{SameElsewhere, MakesRoom, WritesChild, WasChild, HasRoomUnder, PutsPair, IsParted, Splits}
-use Rattle.congee_paths.specs.declared.descent.End.TheVariants.{Differs, Absent, Present}
-use Rattle.congee_paths.specs.declared.descent.Place.{Place}
 use Rattle.congee_paths.proofs.PathEndLaws.{lookup_end, lookup_held}
 use Rattle.congee_changes.proofs.SlotLaws.{adds_after}
 use Rattle.congee_changes.proofs.InsertLaws.{add_whole, change_whole, split_whole}
@@ -28,10 +26,10 @@ module _ {P : Type 0} (s : Table P) (root : ℕ) (key : List ℕ) (bytes : AreBy
 
   module _ (r : HasRoot s root) (place : Place P) (a : EndsAt s root key place) where
     -- nothing stands at the key, unless the path ends at a payload
-    pub none_absent : (b : ℕ) → place.end ≡ Absent b → lookup (pairs_at s depth root) (key_number key) ≡ None
+    none_absent : (b : ℕ) → place.end ≡ Absent b → lookup (pairs_at s depth root) (key_number key) ≡ None
     none_absent b is = lookup_end s root key bytes full place a (Absent b) (sym is) (λ c v e. absurd (cc))
 
-    pub none_differs : (at : ℕ) → place.end ≡ Differs at → lookup (pairs_at s depth root) (key_number key) ≡ None
+    none_differs : (at : ℕ) → place.end ≡ Differs at → lookup (pairs_at s depth root) (key_number key) ≡ None
     none_differs at is = lookup_end s root key bytes full place a (Differs at) (sym is) (λ c v e. absurd (cc))
 
     pub change_inserts : (t : Table P) (v : P) (b : ℕ) (w : Bor P) → place.end ≡ Present b w → SameElsewhere place.slot s t → WritesChild s t place.slot b (Payload v)

@@ -1,29 +1,30 @@
-//! An insertion into the table: at the end of the key's path, one node is changed, grown or put below a new one.
+//! An insertion: at the end of the key's path, one node is changed, grown or put below a new one.
 //!
 //! All memory is taken before the first change of what the tree stores, and before a closure is called.
 
-ghost use Rattle.std.specs.Prelude.{◌≡◌, ◌+◌, ◌≤◌, ◌<◌, ◌^◌, IfOk, IfErr, OnOk, OnErr, IsSome, Some, None, option_copied};
+ghost use Rattle.std.specs.Prelude.{◌≡◌, ℕ, ◌+◌, ◌≤◌, ◌<◌, ◌^◌, IfOk, IfErr, IfSome, IfNone, OnOk, OnErr, IsSome, Some, None, option_copied};
+ghost use Rattle.std.specs.Int.{from_be_bytes, w64};
 ghost use Rattle.slab.specs.Slab.{slab_len, HasRoomFor};
 ghost use Rattle.congee_changes.specs.Closure.{TakesOption, CalledAtOption};
+ghost use Rattle.congee_changes.specs.Tree.{payload_at, ChargesForNodes, StoresSame};
 ghost use Rattle.congee_map.specs.Map.{put};
-ghost use Rattle.congee_node_table.specs.Key.{key_number};
 ghost use Rattle.congee_map.specs.Refusal.{NeedsNode};
 ghost use Rattle.congee_node_table.specs.Shape.{Reshapes};
 ghost use Rattle.congee_node_table.specs.Table.{node_at};
-ghost use Rattle.congee_node_table.specs.declared.child.Child.TheVariants.{Payload};
 ghost use Rattle.congee_paths.specs.Path.{on_path};
+ghost use Rattle.congee_paths.specs.declared.descent.Stop.TheVariants.{Differs};
 ghost use Rattle.congee_base.specs.declared.base_node.NodeType.{NodeType};
 ghost use Rattle.congee_base.specs.declared.base_node.NodeType.TheVariants.{N4};
-ghost use Rattle.congee_supply.specs.inner.Supply.{count, with_form, with_leaf, IsCounted, IsCountedAt, CountsGrown, AreFew, Alike};
-ghost use Rattle.congee_paths.specs.inner.Root.{HasRoot, HasTree, tree_pairs, tree_nodes, tree_payload};
-ghost use Rattle.congee_changes.specs.inner.Writes.{SameElsewhere, MakesRoom, IsFullAt, RefusesAt, IsReadyFor, WritesChild, HasChildUnder, HasLeafAt, HasNothingUnder, WasChild, IsLeafBelow, HasRoomUnder, PutsPair, AreParts, IsParted, Splits};
+ghost use Rattle.congee_supply.specs.inner.Supply.{count, with_form, with_leaf, IsCountedAt, CountsGrown, AreFew, Alike};
+ghost use Rattle.congee_changes.specs.inner.Writes.{SameElsewhere, MakesRoom, IsFullAt, RefusesAt, RefusesHere, IsReadyFor, WritesChild, HasLeafFor, NothingStands, Stands, Exchanges, Sets, IsLeafBelow, HasRoomUnder, PutsPair, AreParts, IsParted, Splits, HasSlotsFor, IsReady, FitsIn, PutsIn};
 
+use crate::tree::Tree;
 use congee_base::base_node::NodeType;
 use congee_map::error::OOMError;
 use congee_node_table::allocator::Allocator;
-use congee_node_table::child::Child;
+use congee_node_table::child::{Child, ChildRef};
 use congee_node_table::tree_node::TreeNode;
-use congee_paths::descent::{End, Place, Spot, Stop, descend, seek};
+use congee_paths::descent::{Spot, Stop, seek};
 use congee_paths::reads::Reads;
 use congee_supply::supply::Supply;
 use slab::Slab;
@@ -73,46 +74,77 @@ fn put_child<P: Drop>(nodes: &mut Slab<TreeNode<P>>, slot: usize, byte: u8, chil
     node.insert(byte, child);
 }
 
-/// Puts another child under a byte of the node in a slot.
-pub fn change_child<P: Drop>(
-    nodes: &mut Slab<TreeNode<P>>,
+/// The payload that stands where a way down ended, if one does.
+pub(crate) fn standing<'a, P: Drop>(
+    nodes: &'a Slab<TreeNode<P>>,
     slot: usize,
-    byte: u8,
-    child: Child<P>,
-) -> Child<P>
-    requires { HasChildUnder nodes.old.slots slot byte child }
-    ensures keeps { SameElsewhere slot nodes.old.slots nodes.new.slots }
-    ensures written { WritesChild nodes.old.slots nodes.new.slots slot byte child }
-    ensures before { WasChild nodes.old.slots slot byte result }
+    stop: &Stop,
+) -> Option<&'a P>
+    requires { HasLeafFor nodes.now.slots slot stop.now }
+    ensures some { IfSome result (λ payload. Stands nodes.now.slots slot stop.now payload.now) }
+    ensures none { IfNone result (NothingStands nodes.now.slots slot stop.now) }
 {
-    let Some(node) = nodes.get_mut(slot) else {
+    let Stop::Leaf(byte) = stop else {
+        return None;
+    };
+    let Some(leaf) = nodes.get(slot) else {
         unreachable!()
     };
-    node.change(byte, child)
+    match leaf.get_child(*byte)? {
+        ChildRef::Payload(payload) => Some(payload),
+        ChildRef::Node(_) => unreachable!(),
+    }
 }
 
-// Puts another payload in the place of the one under a byte of the leaf in a slot; where there is none, gives it back.
-fn exchange_payload<P: Drop>(
+/// Puts another payload in the place of the one that stands where a way down ended, and returns that one.
+pub(crate) fn change_payload<P: Drop>(
     nodes: &mut Slab<TreeNode<P>>,
     slot: usize,
-    byte: u8,
+    stop: &Stop,
     payload: P,
-) -> Result<P, P>
-    requires { HasLeafAt nodes.old.slots slot }
-    ensures keeps { OnOk result (SameElsewhere slot nodes.old.slots nodes.new.slots) }
-    ensures written { OnOk result
-        (WritesChild nodes.old.slots nodes.new.slots slot byte (Payload payload)) }
-    ensures before { IfOk result (λ before. WasChild nodes.old.slots slot byte (Payload before)) }
-    ensures absent { OnErr result (HasNothingUnder nodes.old.slots slot byte) }
+) -> P
+    requires leaf { HasLeafFor nodes.old.slots slot stop.now }
+    requires stands { NothingStands nodes.old.slots slot stop.now → ⊥ }
+    ensures before { Stands nodes.old.slots slot stop.now result }
+    ensures after { Exchanges nodes.old.slots nodes.new.slots slot stop.now payload }
+{
+    match set_payload(nodes, slot, stop, payload) {
+        Ok(Some(before)) => before,
+        Ok(None) => unreachable!(),
+        Err(_) => unreachable!(),
+    }
+}
+
+// Sets the payload in the leaf where a way down ended, where another stands or there is room for one more, and returns the
+// one that stood there. Takes no memory, and searches the leaf once. Where that won't do, gives the payload back.
+fn set_payload<P: Drop>(
+    nodes: &mut Slab<TreeNode<P>>,
+    slot: usize,
+    stop: &Stop,
+    payload: P,
+) -> Result<Option<P>, P>
+    requires { HasLeafFor nodes.old.slots slot stop.now }
+    ensures set { IfOk result (λ before.
+        Sets nodes.old.slots nodes.new.slots slot stop.now payload before) }
+    ensures absent { OnErr result (NothingStands nodes.old.slots slot stop.now) }
     ensures same { OnErr result (nodes.new.slots ≡ nodes.old.slots) }
     ensures back { IfErr result (λ back. back ≡ payload) }
 {
+    let Stop::Leaf(byte) = stop else {
+        return Err(payload);
+    };
     let Some(node) = nodes.get_mut(slot) else {
         unreachable!()
     };
-    match node.exchange(byte, Child::Payload(payload)) {
-        Ok(Child::Payload(before)) => Ok(before),
-        Err(Child::Payload(back)) => Err(back),
+    match node.exchange(*byte, Child::Payload(payload)) {
+        Ok(Child::Payload(before)) => Ok(Some(before)),
+        Err(Child::Payload(back)) => {
+            if node.is_full() {
+                return Err(back);
+            }
+            node.insert(*byte, Child::Payload(back));
+            Ok(None)
+        }
         Ok(Child::Node(_)) => unreachable!(),
         Err(Child::Node(_)) => unreachable!(),
     }
@@ -260,122 +292,152 @@ fn split<P: Drop>(
     nodes.insert_reserved(old);
 }
 
-/// Sets the payload at the key, and returns the one that stood there.
-///
-/// Searches no node twice on the way to a present key: those above the leaf on the way down, and the leaf by the exchange,
-/// which takes no memory. Only where that finds nothing is memory taken.
-pub fn insert<P: Drop, A: Allocator, L: Ledger>(
+/// All that a new pair takes, where it goes: nothing can be refused any more.
+#[derive(Drop)]
+enum Ready<P> {
+    /// Under this byte of the node, in a leaf of its own unless the node is one.
+    Add(u8, Option<TreeNode<P>>),
+    /// Beside the node, which differs from the key at this place.
+    Split(usize, Parts<P>),
+}
+
+// Takes all memory for a pair more where the way down of its key ended.
+fn make_ready<P: Drop, A: Allocator>(
     nodes: &mut Slab<TreeNode<P>>,
     supply: &mut Supply<A>,
-    root: usize,
+    slot: usize,
+    stop: &Stop,
     key: &[u8; 8],
-    payload: P,
-    reads: &mut Reads<L>,
-) -> Result<Option<P>, OOMError>
-    requires tree { HasTree nodes.old.slots root }
-    requires root { HasRoot nodes.old.slots root }
-    requires counts { IsCounted supply.old.forms (tree_nodes nodes.old.slots root) }
-    ensures tree { HasTree nodes.new.slots root }
-    ensures root { HasRoot nodes.new.slots root }
-    ensures before { IfOk result (λ before. before ≡ tree_payload nodes.old.slots root key.now) }
-    ensures ok { OnOk result (tree_pairs nodes.new.slots root
-        ≡ put (tree_pairs nodes.old.slots root) (key_number key.now) payload) }
+) -> Result<Ready<P>, OOMError>
+    requires counted { IsCountedAt nodes.old.slots slot supply.old.forms }
+    requires few { AreFew supply.old.forms }
+    requires prefix { (at : ℕ) → stop.now ≡ Differs at → at < 7 }
+    ensures ready { IfOk result (λ ready.
+        IsReady nodes.old.slots nodes.new.slots slot stop.now key.now
+        supply.old.forms supply.new.forms ready) }
+    ensures reserved { IfOk result (λ ready. HasSlotsFor nodes.new ready) }
     ensures err { OnErr result (nodes.new.slots ≡ nodes.old.slots) }
-    ensures counts { IsCounted supply.new.forms (tree_nodes nodes.new.slots root) }
+    ensures same { OnErr result (supply.new.forms ≡ supply.old.forms) }
+    ensures refused { OnErr result (RefusesHere nodes.old.slots slot stop.now) }
     ensures alike { Alike A.charge supply.old supply.new }
-    ensures shape { IfOk result (λ before.
-        Reshapes before (tree_nodes nodes.old.slots root) key.now
-        (tree_nodes nodes.new.slots root)) }
-    ensures reads { reads.new ≡ reads.old + on_path (tree_nodes nodes.old.slots root) key.now }
-    ensures few { on_path (tree_nodes nodes.old.slots root) key.now ≤ 8 }
-    ensures refused { OnErr result
-        (NeedsNode (tree_pairs nodes.old.slots root) (key_number key.now)) }
 {
-    let Spot { slot, stop, .. } = seek(nodes, root, key, reads);
-    let (byte, payload) = match stop {
+    match *stop {
         Stop::Differs(at) => {
             let parts = ready_to_split(nodes, supply, key, at)?;
-            split(nodes, slot, key, at, parts, payload);
-            return Ok(None);
+            Ok(Ready::Split(at, parts))
         }
-        Stop::Absent(byte) => (byte, payload),
-        Stop::Leaf(byte) => match exchange_payload(nodes, slot, byte, payload) {
-            Ok(before) => return Ok(Some(before)),
-            Err(payload) => (byte, payload),
-        },
-    };
-    let leaf = ready_to_add(nodes, supply, slot, key)?;
-    add(nodes, slot, key, byte, leaf, payload);
-    Ok(None)
+        Stop::Absent(byte) | Stop::Leaf(byte) => {
+            let leaf = ready_to_add(nodes, supply, slot, key)?;
+            Ok(Ready::Add(byte, leaf))
+        }
+    }
 }
 
-// A payload as what stands at a key.
-fn shown<P>(payload: &P) -> Option<&P>
-    ensures { option_copied result ≡ Some payload.now }
+// Puts a pair into what is ready for it. Takes no memory.
+fn put_pair<P: Drop>(
+    nodes: &mut Slab<TreeNode<P>>,
+    slot: usize,
+    key: &[u8; 8],
+    ready: Ready<P>,
+    payload: P,
+)
+    requires fits { FitsIn nodes.old.slots slot key.now ready }
+    requires reserved { HasSlotsFor nodes.old ready }
+    ensures { PutsIn nodes.old.slots nodes.new.slots slot key.now payload ready }
 {
-    Some(payload)
+    match ready {
+        Ready::Add(byte, leaf) => add(nodes, slot, key, byte, leaf, payload),
+        Ready::Split(at, parts) => split(nodes, slot, key, at, parts, payload),
+    }
 }
 
-// Nothing as what stands at a key.
+// Nothing, as a closure is shown what stands at a key: of the lifetime that what stands in the nodes has.
 fn nothing<P>(_nodes: &Slab<TreeNode<P>>) -> Option<&P>
     ensures { option_copied result ≡ None }
 {
     None
 }
 
-/// Sets what the closure makes of the payload at the key, or of its absence, and returns the payload that stood there. The
-/// closure is called once all memory is there.
-pub fn compute_or_insert<P: Drop, A: Allocator, F: FnMut(Option<&P>) -> P, L: Ledger>(
-    nodes: &mut Slab<TreeNode<P>>,
-    supply: &mut Supply<A>,
-    root: usize,
-    key: &[u8; 8],
-    f: &mut F,
-    reads: &mut Reads<L>,
-) -> Result<Option<P>, OOMError>
-    requires tree { HasTree nodes.old.slots root }
-    requires root { HasRoot nodes.old.slots root }
-    requires counts { IsCounted supply.old.forms (tree_nodes nodes.old.slots root) }
-    requires call { TakesOption F.FnMut f.old (tree_payload nodes.old.slots root key.now) }
-    ensures tree { HasTree nodes.new.slots root }
-    ensures root { HasRoot nodes.new.slots root }
-    ensures before { IfOk result (λ before. before ≡ tree_payload nodes.old.slots root key.now) }
-    ensures ok { OnOk result ((answer : P)
-        × CalledAtOption F.FnMut f.old (tree_payload nodes.old.slots root key.now) answer f.new
-        × (tree_pairs nodes.new.slots root
-        ≡ put (tree_pairs nodes.old.slots root) (key_number key.now) answer)) }
-    ensures err { OnErr result (nodes.new.slots ≡ nodes.old.slots) }
-    ensures not_called { OnErr result (f.new ≡ f.old) }
-    ensures counts { IsCounted supply.new.forms (tree_nodes nodes.new.slots root) }
-    ensures alike { Alike A.charge supply.old supply.new }
-    ensures shape { IfOk result (λ before.
-        Reshapes before (tree_nodes nodes.old.slots root) key.now
-        (tree_nodes nodes.new.slots root)) }
-    ensures reads { reads.new ≡ reads.old + on_path (tree_nodes nodes.old.slots root) key.now }
-    ensures few { on_path (tree_nodes nodes.old.slots root) key.now ≤ 8 }
-    ensures refused { OnErr result
-        (NeedsNode (tree_pairs nodes.old.slots root) (key_number key.now)) }
-{
-    let Place { slot, end, .. } = descend(nodes, root, key, reads);
-    match end {
-        End::Present(byte, standing) => {
-            let answer = f(shown(standing));
-            match change_child(nodes, slot, byte, Child::Payload(answer)) {
-                Child::Payload(old) => Ok(Some(old)),
-                Child::Node(_) => unreachable!(),
+impl<P: Drop, A: Allocator> Tree<P, A> {
+    /// Sets the payload at the key, and returns the one that stood there. `OOMError` comes only for a new key that needs a
+    /// node of its own or a larger one, where memory is missing for that, and leaves the tree as it was. `reads` goes up by
+    /// one for each node on the key's path.
+    ///
+    /// Searches no node twice on the way to a present key: those above the leaf on the way down, and the leaf by the
+    /// exchange. Takes memory, and looks at the leaf once more for it, only where the key is new and its leaf has no room or
+    /// isn't there.
+    pub fn insert<L: Ledger>(
+        &mut self,
+        key: &[u8; 8],
+        payload: P,
+        reads: &mut Reads<L>,
+    ) -> Result<Option<P>, OOMError>
+        ensures before { IfOk result (λ before. before ≡ payload_at self.old key.now) }
+        ensures ok { OnOk result
+            (self.new.pairs ≡ put self.old.pairs (from_be_bytes w64 key.now) payload) }
+        ensures shape { IfOk result (λ before.
+            Reshapes before self.old.nodes key.now self.new.nodes) }
+        ensures err { OnErr result (StoresSame self.old self.new) }
+        ensures charge { ChargesForNodes A.charge self.old self.new }
+        ensures reads { reads.new ≡ reads.old + on_path self.old.nodes key.now }
+        ensures few { on_path self.old.nodes key.now ≤ 8 }
+        ensures refused { OnErr result (NeedsNode self.old.pairs (from_be_bytes w64 key.now)) }
+    {
+        let Spot { slot, stop, .. } = seek(&self.nodes, self.root, key, reads);
+        match set_payload(&mut self.nodes, slot, &stop, payload) {
+            Ok(Some(before)) => Ok(Some(before)),
+            Ok(None) => {
+                self.count += 1;
+                Ok(None)
+            }
+            Err(payload) => {
+                let ready = make_ready(&mut self.nodes, &mut self.supply, slot, &stop, key)?;
+                put_pair(&mut self.nodes, slot, key, ready, payload);
+                self.count += 1;
+                Ok(None)
             }
         }
-        End::Absent(byte) => {
-            let leaf = ready_to_add(nodes, supply, slot, key)?;
-            let payload = f(nothing(nodes));
-            add(nodes, slot, key, byte, leaf, payload);
-            Ok(None)
-        }
-        End::Differs(at) => {
-            let made = ready_to_split(nodes, supply, key, at)?;
-            let answer = f(nothing(nodes));
-            split(nodes, slot, key, at, made, answer);
-            Ok(None)
+    }
+
+    /// Sets what the closure makes of the payload at the key, or of `None`, and returns the payload that stood there. The
+    /// closure is called once, after all memory is taken. `OOMError` comes only for a new key that needs a node of its own
+    /// or a larger one, where memory is missing for that; it leaves the tree as it was, and the closure isn't called then.
+    /// `reads` goes up by one for each node on the key's path.
+    pub fn compute_or_insert<F: FnMut(Option<&P>) -> P, L: Ledger>(
+        &mut self,
+        key: &[u8; 8],
+        f: &mut F,
+        reads: &mut Reads<L>,
+    ) -> Result<Option<P>, OOMError>
+        requires { TakesOption F.FnMut f.old (payload_at self.old key.now) }
+        ensures before { IfOk result (λ before. before ≡ payload_at self.old key.now) }
+        ensures ok { OnOk result ((answer : P)
+            × CalledAtOption F.FnMut f.old (payload_at self.old key.now) answer f.new
+            × (self.new.pairs ≡ put self.old.pairs (from_be_bytes w64 key.now) answer)) }
+        ensures shape { IfOk result (λ before.
+            Reshapes before self.old.nodes key.now self.new.nodes) }
+        ensures err { OnErr result (StoresSame self.old self.new) }
+        ensures charge { ChargesForNodes A.charge self.old self.new }
+        ensures not_called { OnErr result (f.new ≡ f.old) }
+        ensures refused { OnErr result (NeedsNode self.old.pairs (from_be_bytes w64 key.now)) }
+        ensures reads { reads.new ≡ reads.old + on_path self.old.nodes key.now }
+        ensures few { on_path self.old.nodes key.now ≤ 8 }
+    {
+        let Spot { slot, stop, .. } = seek(&self.nodes, self.root, key, reads);
+        let shown = standing(&self.nodes, slot, &stop);
+        match shown {
+            Some(_) => {
+                let answer = f(shown);
+                let before = change_payload(&mut self.nodes, slot, &stop, answer);
+                Ok(Some(before))
+            }
+            None => {
+                let ready = make_ready(&mut self.nodes, &mut self.supply, slot, &stop, key)?;
+                let payload = f(nothing(&self.nodes));
+                put_pair(&mut self.nodes, slot, key, ready, payload);
+                self.count += 1;
+                Ok(None)
+            }
         }
     }
 }

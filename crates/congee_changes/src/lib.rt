@@ -1,6 +1,7 @@
-//! The calls that change one pair of a tree in a table.
+//! A tree as one value, and the calls that change one pair of it.
 #![tactic(auto)]
 
 pub mod computation;
 pub mod insertion;
 pub mod removal;
+pub mod tree;

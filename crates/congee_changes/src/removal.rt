@@ -1,19 +1,19 @@
-//! A removal from the table: a payload goes out of its leaf, and a leaf that is empty then goes out of the node above it.
+//! A removal: a payload goes out of its leaf, and a leaf that is empty then goes out of the node above it.
 //!
 //! Takes no memory. An inner node that is empty then stays.
 
 ghost use Rattle.std.specs.Prelude.{◌≡◌, ◌+◌, ◌≤◌, IfSome, IfNone, IsSome, Some, None};
-ghost use Rattle.congee_map.specs.Map.{without};
-ghost use Rattle.congee_node_table.specs.Key.{key_number};
+ghost use Rattle.std.specs.Int.{from_be_bytes, w64};
 ghost use Rattle.congee_changes.specs.Reduce.{Reduces};
+ghost use Rattle.congee_changes.specs.Tree.{payload_at, ChargesForNodes};
+ghost use Rattle.congee_map.specs.Map.{without};
 ghost use Rattle.congee_node_table.specs.Table.{node_at};
-ghost use Rattle.congee_node_table.specs.declared.child.Child.TheVariants.{Payload};
 ghost use Rattle.congee_paths.specs.Path.{on_path};
-ghost use Rattle.congee_supply.specs.inner.Supply.{IsCounted, Alike};
-ghost use Rattle.congee_paths.specs.inner.Root.{HasRoot, HasTree, tree_pairs, tree_nodes, tree_payload};
-ghost use Rattle.congee_changes.specs.inner.Writes.{SameElsewhere, HasLeafAt, HasNothingUnder, WasChild};
-ghost use Rattle.congee_changes.specs.inner.Takes.{IsPresentIn, TakesChild, TakesOnPath, KeepsBut, IsChildOnPath, IsHeld, DetachesEmpty, TakesOut};
+ghost use Rattle.congee_supply.specs.inner.Supply.{IsCountedAt, Alike};
+ghost use Rattle.congee_changes.specs.inner.Writes.{SameElsewhere, HasLeafFor, NothingStands, WasChild, Stands};
+ghost use Rattle.congee_changes.specs.inner.Takes.{IsPresentIn, TakesChild, TakesOnPath, TakesPayload, KeepsBut, IsChildOnPath, DetachesEmpty, TakesOutAt};
 
+use crate::tree::Tree;
 use congee_base::base_node::NodeType;
 use congee_node_table::allocator::Allocator;
 use congee_node_table::child::Child;
@@ -74,93 +74,75 @@ fn detach_if_empty<P: Drop>(
     Some(form)
 }
 
-// Takes the payload under a byte out of the leaf in a slot, if there is one.
-fn take_payload<P: Drop>(nodes: &mut Slab<TreeNode<P>>, slot: usize, byte: u8) -> Option<P>
-    requires { HasLeafAt nodes.old.slots slot }
-    ensures keeps { SameElsewhere slot nodes.old.slots nodes.new.slots }
-    ensures taken { IsSome result → TakesChild nodes.old.slots nodes.new.slots slot byte }
-    ensures before { IfSome result (λ before. WasChild nodes.old.slots slot byte (Payload before)) }
-    ensures none { IfNone result (HasNothingUnder nodes.old.slots slot byte) }
+// Takes the payload that stands where a way down ended out of its leaf, if one does.
+fn take_payload<P: Drop>(nodes: &mut Slab<TreeNode<P>>, slot: usize, stop: &Stop) -> Option<P>
+    requires { HasLeafFor nodes.old.slots slot stop.now }
+    ensures before { IfSome result (λ before. Stands nodes.old.slots slot stop.now before) }
+    ensures taken { IsSome result → TakesPayload nodes.old.slots nodes.new.slots slot stop.now }
+    ensures none { IfNone result (NothingStands nodes.old.slots slot stop.now) }
     ensures same { IfNone result (nodes.new.slots ≡ nodes.old.slots) }
 {
+    let Stop::Leaf(byte) = stop else {
+        return None;
+    };
     let Some(node) = nodes.get_mut(slot) else {
         unreachable!()
     };
-    match node.take(byte) {
+    match node.take(*byte) {
         None => None,
         Some(Child::Payload(before)) => Some(before),
         Some(Child::Node(_)) => unreachable!(),
     }
 }
 
-/// The payload that was taken out, and the form of the leaf that went with it, if one did.
-#[derive(Drop)]
-pub struct Taken<P> {
-    pub before: P,
-    pub detached: Option<NodeType>,
-}
-
-/// Takes a payload out of its leaf, and the leaf out of the node above it where it has no other.
-pub fn take_out<P: Drop>(
-    nodes: &mut Slab<TreeNode<P>>,
-    parent: usize,
-    slot: usize,
-    key: &[u8; 8],
-    byte: u8,
-) -> Taken<P>
-    requires { IsHeld nodes.old.slots parent slot key.now byte }
-    ensures taken { TakesOut nodes.old.slots nodes.new.slots slot parent key.now byte result.detached }
-    ensures before { WasChild nodes.old.slots slot byte (Payload result.before) }
-{
-    let before = match take_child(nodes, slot, byte) {
-        Child::Payload(before) => before,
-        Child::Node(_) => unreachable!(),
-    };
-    let detached = detach_if_empty(nodes, parent, slot, key);
-    Taken { before, detached }
-}
-
-/// Takes out the pair at the key, and returns its payload.
-///
-/// Searches no node twice on the way to the key: those above the leaf on the way down, and the leaf by what takes the payload
-/// out. Only a leaf that is empty then costs one search more, of the node above it.
-pub fn remove<P: Drop, A: Allocator, L: Ledger>(
+/// Takes the payload that stands where a way down ended out of its leaf, if one does, and the leaf out of the node above it
+/// where it has no other. Gives back the leaf's size then.
+pub(crate) fn take_out<P: Drop, A: Allocator>(
     nodes: &mut Slab<TreeNode<P>>,
     supply: &mut Supply<A>,
-    root: usize,
+    spot: &Spot,
     key: &[u8; 8],
-    reads: &mut Reads<L>,
 ) -> Option<P>
-    requires tree { HasTree nodes.old.slots root }
-    requires root { HasRoot nodes.old.slots root }
-    requires counts { IsCounted supply.old.forms (tree_nodes nodes.old.slots root) }
-    ensures tree { HasTree nodes.new.slots root }
-    ensures root { HasRoot nodes.new.slots root }
-    ensures before { result ≡ tree_payload nodes.old.slots root key.now }
-    ensures pairs { tree_pairs nodes.new.slots root
-        ≡ without (tree_pairs nodes.old.slots root) (key_number key.now) }
-    ensures counts { IsCounted supply.new.forms (tree_nodes nodes.new.slots root) }
+    requires leaf { HasLeafFor nodes.old.slots spot.now.slot spot.now.stop }
+    requires linked { (payload : P) → Stands nodes.old.slots spot.now.slot spot.now.stop payload
+        → IsChildOnPath nodes.old.slots spot.now.parent spot.now.slot key.now }
+    requires counted { IsCountedAt nodes.old.slots spot.now.slot supply.old.forms }
+    ensures before { IfSome result (λ before.
+        Stands nodes.old.slots spot.now.slot spot.now.stop before) }
+    ensures taken { IsSome result
+        → TakesOutAt nodes.old.slots nodes.new.slots spot.now key.now
+        supply.old.forms supply.new.forms }
+    ensures none { IfNone result (NothingStands nodes.old.slots spot.now.slot spot.now.stop) }
+    ensures same { IfNone result (nodes.new.slots ≡ nodes.old.slots) }
+    ensures unchanged { IfNone result (supply.new ≡ supply.old) }
     ensures alike { Alike A.charge supply.old supply.new }
-    ensures shape { Reduces result (tree_nodes nodes.old.slots root) key.now
-        (tree_nodes nodes.new.slots root) }
-    ensures reads { reads.new ≡ reads.old + on_path (tree_nodes nodes.old.slots root) key.now }
-    ensures few { on_path (tree_nodes nodes.old.slots root) key.now ≤ 8 }
 {
-    let Spot {
-        slot,
-        parent,
-        stop,
-        ..
-    } = seek(nodes, root, key, reads);
-    let Stop::Leaf(byte) = stop else {
+    let Some(before) = take_payload(nodes, spot.slot, &spot.stop) else {
         return None;
     };
-    match take_payload(nodes, slot, byte) {
-        None => None,
-        Some(before) => {
-            let detached = detach_if_empty(nodes, parent, slot, key);
-            supply.give_back_if_some(detached);
-            Some(before)
-        }
+    let detached = detach_if_empty(nodes, spot.parent, spot.slot, key);
+    supply.give_back_if_some(detached);
+    Some(before)
+}
+
+impl<P: Drop, A: Allocator> Tree<P, A> {
+    /// Takes out the pair at the key, and returns its payload. `reads` goes up by one for each node on the key's path.
+    ///
+    /// Searches no node twice on the way to the key: those above the leaf on the way down, and the leaf by what takes the
+    /// payload out. Only a leaf that is empty then costs one search more, of the node above it.
+    pub fn remove<L: Ledger>(&mut self, key: &[u8; 8], reads: &mut Reads<L>) -> Option<P>
+        ensures before { result ≡ payload_at self.old key.now }
+        ensures pairs { self.new.pairs ≡ without self.old.pairs (from_be_bytes w64 key.now) }
+        ensures shape { Reduces result self.old.nodes key.now self.new.nodes }
+        ensures charge { ChargesForNodes A.charge self.old self.new }
+        ensures reads { reads.new ≡ reads.old + on_path self.old.nodes key.now }
+        ensures few { on_path self.old.nodes key.now ≤ 8 }
+    {
+        let spot = seek(&self.nodes, self.root, key, reads);
+        let Some(before) = take_out(&mut self.nodes, &mut self.supply, &spot, key) else {
+            return None;
+        };
+        self.count -= 1;
+        Some(before)
     }
 }

@@ -5,7 +5,7 @@ use Rattle.congee_map.specs.Map.{Pairs}
 use Rattle.congee_node_table.specs.Charge.{add_charge}
 use Rattle.congee_node_table.specs.Table.{NodeInfo}
 use Rattle.congee_supply.specs.Charge.{charge_of, MovesAlike}
-use Rattle.congee_tree.specs.Tree.{node_info_code}
+use Rattle.congee_changes.specs.Tree.{node_info_code}
 
 -- the pairs of the map by their keys' numbers, with what stands at each (a value's number, or a payload), the nodes of
 -- its tree, and the budget that is charged for them

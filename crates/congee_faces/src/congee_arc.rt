@@ -6,7 +6,7 @@ ghost use Rattle.congee_faces.specs.Face.{ChargedAlike, ChargedFor, FaceUnchange
 ghost use Rattle.congee_map.specs.Map.{lookup, put, without, with_answer};
 ghost use Rattle.congee_map.specs.Refusal.{NeedsNode};
 ghost use Rattle.congee_supply.specs.Charge.{charge_of};
-ghost use Rattle.congee_tree.specs.Tree.{root_alone};
+ghost use Rattle.congee_changes.specs.Tree.{root_alone};
 
 use congee_map::error::OOMError;
 use congee_map::payload::Payload;

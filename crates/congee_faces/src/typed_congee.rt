@@ -12,7 +12,7 @@ ghost use Rattle.congee_stats.specs.StatsText.{all_nodes, all_entries};
 ghost use Rattle.congee_stats.specs.Stays.{NoCountStays};
 ghost use Rattle.congee_stats.specs.Visits.{visits_below};
 ghost use Rattle.congee_supply.specs.Charge.{charge_of};
-ghost use Rattle.congee_tree.specs.Tree.{root_alone};
+ghost use Rattle.congee_changes.specs.Tree.{root_alone};
 
 use congee_map::error::OOMError;
 use congee_map::traits::{Drainer, NoDrain, Word};

@@ -7,7 +7,7 @@ ghost use Rattle.congee_map.specs.Map.{lookup, put, without, between};
 ghost use Rattle.congee_faces.specs.Face.{ChargedAlike, ChargedFor, FaceUnchanged};
 ghost use Rattle.congee_map.specs.Refusal.{NeedsNode};
 ghost use Rattle.congee_supply.specs.Charge.{charge_of};
-ghost use Rattle.congee_tree.specs.Tree.{root_alone};
+ghost use Rattle.congee_changes.specs.Tree.{root_alone};
 
 use crate::typed_congee::Congee;
 use congee_map::error::OOMError;

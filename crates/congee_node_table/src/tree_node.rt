@@ -1,14 +1,16 @@
 //! A node of a tree in one table: a leaf, whose children are payloads, or an inner node, whose children are slots.
 
 ghost use Rattle.std.specs.Prelude.{◌≡◌, ℕ, ◌+◌, ◌<◌, ◌≤◌, [], ◌∷◌, length, IfOk, IfErr, OnOk, OnErr, IfSome, IfNone, IsTrue, false, IsSome, Some, None};
+ghost use Rattle.std.specs.Int.{w64, to_be_bytes};
 ghost use Rattle.congee_map.specs.Map.{lookup, put, without, between, Rises};
 ghost use Rattle.congee_base.specs.Form.{Fits, next_form};
 ghost use Rattle.congee_base.specs.Rest.{rest};
 ghost use Rattle.congee_forms.specs.Any.{any_children};
 ghost use Rattle.congee_node_table.specs.Children.{children_left, MayGive};
+ghost use Rattle.congee_node_table.specs.Meeting.{IsMet};
 ghost use Rattle.congee_node_table.specs.TableNode.{MayHave, seen, looked_at};
 
-use crate::child::{Child, ChildIter, ChildRef};
+use crate::child::{Child, ChildIter, ChildRef, Meeting};
 use crate::kinds::{InTable, Inner, Leaf};
 use congee_base::base_node::{BaseNode, NodeType};
 use congee_base::few::Few;
@@ -139,6 +141,24 @@ impl<P: Drop> TreeNode<P> {
             NodeType::N16 => count >= 16,
             NodeType::N48 => count >= 48,
             NodeType::N256 => false,
+        }
+    }
+
+    /// What a key meets here, whose bytes are those of the word, most significant first: one jump by the form for all that a
+    /// way down asks a node.
+    pub fn meet(&self, key: &[u8; 8], word: u64) -> Meeting
+        requires { to_be_bytes w64 word ≡ key.now }
+        ensures { IsMet key.now self.now result }
+    {
+        match &self.kind {
+            Kind::Inner4(node, row) => InTable::<P>::meet(node, row, key, word),
+            Kind::Inner16(node, row) => InTable::<P>::meet(node, row, key, word),
+            Kind::Inner48(node, row) => InTable::<P>::meet(node, row, key, word),
+            Kind::Inner256(node, row) => InTable::<P>::meet(node, row, key, word),
+            Kind::Leaf4(node, row) => InTable::<P>::meet(node, row, key, word),
+            Kind::Leaf16(node, row) => InTable::<P>::meet(node, row, key, word),
+            Kind::Leaf48(node, row) => InTable::<P>::meet(node, row, key, word),
+            Kind::Leaf256(node, row) => InTable::<P>::meet(node, row, key, word),
         }
     }
 

@@ -1,39 +1,18 @@
 //! The path of a key from the root down, which all point calls take.
 
-ghost use Rattle.std.specs.Prelude.{◌≡◌, ◌+◌, ◌≤◌, length, option_copied};
+ghost use Rattle.std.specs.Prelude.{◌≡◌, ◌+◌, ◌≤◌, length, IsSome, Some, option_copied};
 ghost use Rattle.std.specs.Int.{w64, to_be_bytes};
 ghost use Rattle.congee_node_table.specs.Key.{Begins, IsFirstDifference};
+ghost use Rattle.congee_node_table.specs.Table.{node_at};
 ghost use Rattle.congee_paths.specs.Path.{on_path};
-ghost use Rattle.congee_paths.specs.inner.Descent.{IsOfOneKind, Meets, SeeksTo, EndsAt};
+ghost use Rattle.congee_paths.specs.inner.Descent.{Meets, SeeksTo};
 ghost use Rattle.congee_paths.specs.inner.Root.{HasTree, tree_nodes, tree_payload};
 
 use crate::reads::Reads;
-use congee_node_table::child::ChildRef;
+use congee_node_table::child::{ChildRef, Meeting};
 use congee_node_table::tree_node::TreeNode;
 use slab::Slab;
 use std::sync::ledger::Ledger;
-
-/// How the path of a key ends at a node.
-#[derive(Drop)]
-pub enum End<'a, P> {
-    /// The node's prefix differs from the key at this place.
-    Differs(usize),
-    /// The node has nothing under the key's byte.
-    Absent(u8),
-    /// The node has this payload under the key's byte.
-    Present(u8, &'a P),
-}
-
-/// The node where the path of a key ends.
-#[derive(Drop)]
-pub struct Place<'a, P> {
-    pub slot: usize,
-    /// The slot of the node above it, if there is one.
-    pub parent: usize,
-    /// How many nodes were read above it.
-    pub above: usize,
-    pub end: End<'a, P>,
-}
 
 // The first place at which the prefix and the key differ.
 fn first_difference(prefix: &[u8], key: &[u8; 8]) -> usize
@@ -82,25 +61,31 @@ enum Step {
 
 // What the key, and its bytes as a word, meet at this node.
 fn look<P: Drop>(node: &TreeNode<P>, key: &[u8; 8], word: u64) -> Step
-    requires word { to_be_bytes w64 word ≡ key.now }
-    requires kind { IsOfOneKind node.now }
+    requires { to_be_bytes w64 word ≡ key.now }
     ensures { Meets key.now node.now result }
 {
-    let base = node.base();
-    let prefix = base.prefix();
-    let level = prefix.len();
-    // a comparison of words; which byte differs is asked at the end of the path alone
-    if !base.begins(word) {
-        return Step::Here(Stop::Differs(first_difference(prefix, key)));
+    match node.meet(key, word) {
+        Meeting::Node(child) => Step::Down(child),
+        Meeting::Leaf => Step::Here(Stop::Leaf(key[7])),
+        Meeting::Nothing => Step::Here(Stop::Absent(key[node.base().prefix().len()])),
+        Meeting::Other => Step::Here(Stop::Differs(first_difference(node.base().prefix(), key))),
     }
-    let byte = key[level];
-    if level == 7 {
-        return Step::Here(Stop::Leaf(byte));
-    }
-    match node.get_child(byte) {
-        None => Step::Here(Stop::Absent(byte)),
-        Some(ChildRef::Node(child)) => Step::Down(child),
-        Some(ChildRef::Payload(_)) => unreachable!(),
+}
+
+// The node in a slot, which counts as read.
+fn visit<'a, P: Drop, L: Ledger>(
+    nodes: &'a Slab<TreeNode<P>>,
+    slot: usize,
+    reads: &mut Reads<L>,
+) -> &'a TreeNode<P>
+    requires { IsSome (node_at nodes.now.slots slot) }
+    ensures node { node_at nodes.now.slots slot ≡ Some result.now }
+    ensures reads { reads.new ≡ reads.old + 1 }
+{
+    reads.tick();
+    match nodes.get(slot) {
+        Some(node) => node,
+        None => unreachable!(),
     }
 }
 
@@ -123,10 +108,7 @@ pub fn seek<P: Drop, L: Ledger>(
     let mut above = 0;
     let word = u64::from_be_bytes(*key);
     'down: loop {
-        let Some(node) = nodes.get(slot) else {
-            unreachable!()
-        };
-        reads.tick();
+        let node = visit(nodes, slot, reads);
         match look(node, key, word) {
             Step::Here(stop) => {
                 return Spot {
@@ -145,49 +127,10 @@ pub fn seek<P: Drop, L: Ledger>(
     }
 }
 
-/// Goes down along the key as `seek` does, and looks the leaf up.
-pub fn descend<'a, P: Drop, L: Ledger>(
-    nodes: &'a Slab<TreeNode<P>>,
-    root: usize,
-    key: &[u8; 8],
-    reads: &mut Reads<L>,
-) -> Place<'a, P>
-    requires { HasTree nodes.now.slots root }
-    ensures ends { EndsAt nodes.now.slots root key.now result }
-    ensures reads { reads.new ≡ reads.old + on_path (tree_nodes nodes.now.slots root) key.now }
-    ensures few { on_path (tree_nodes nodes.now.slots root) key.now ≤ 8 }
-{
-    let Spot {
-        slot,
-        parent,
-        above,
-        stop,
-    } = seek(nodes, root, key, reads);
-    let end = match stop {
-        Stop::Differs(at) => End::Differs(at),
-        Stop::Absent(byte) => End::Absent(byte),
-        Stop::Leaf(byte) => {
-            let Some(leaf) = nodes.get(slot) else {
-                unreachable!()
-            };
-            match leaf.get_child(byte) {
-                None => End::Absent(byte),
-                Some(ChildRef::Payload(payload)) => End::Present(byte, payload),
-                Some(ChildRef::Node(_)) => unreachable!(),
-            }
-        }
-    };
-    Place {
-        slot,
-        parent,
-        above,
-        end,
-    }
-}
-
 /// The payload at the key.
 ///
-/// Searches no node twice: those above the leaf are searched on the way down, and the leaf once the way has ended there.
+/// Searches no node twice: those above the leaf on the way down, and the leaf once the way has ended there. It goes down by
+/// itself, as a look-up has no use for where the way has ended.
 pub fn find<'a, P: Drop, L: Ledger>(
     nodes: &'a Slab<TreeNode<P>>,
     root: usize,
@@ -199,8 +142,29 @@ pub fn find<'a, P: Drop, L: Ledger>(
     ensures reads { reads.new ≡ reads.old + on_path (tree_nodes nodes.now.slots root) key.now }
     ensures few { on_path (tree_nodes nodes.now.slots root) key.now ≤ 8 }
 {
-    match descend(nodes, root, key, reads).end {
-        End::Present(_, payload) => Some(payload),
-        _ => None,
+    let mut slot = root;
+    // (for the proof alone)
+    let mut parent = root;
+    let mut above = 0usize;
+    let word = u64::from_be_bytes(*key);
+    'down: loop {
+        let node = visit(nodes, slot, reads);
+        match look(node, key, word) {
+            Step::Here(stop) => {
+                let Stop::Leaf(byte) = stop else {
+                    return None;
+                };
+                return match node.get_child(byte) {
+                    None => None,
+                    Some(ChildRef::Payload(payload)) => Some(payload),
+                    Some(ChildRef::Node(_)) => unreachable!(),
+                };
+            }
+            Step::Down(child) => {
+                parent = slot;
+                slot = child;
+                above += 1;
+            }
+        }
     }
 }

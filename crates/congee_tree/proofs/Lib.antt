@@ -1,3 +1,1 @@
-pub mod CallLaws
-pub mod NewLaws
 pub mod Places

@@ -6,7 +6,7 @@ ghost use Rattle.std.specs.Option.{ForSome};
 ghost use Rattle.congee_changes.specs.Closure.{TakesOption, CalledAtOption};
 ghost use Rattle.congee_map.specs.Map.{lookup, put, without, with_answer, IsMap};
 ghost use Rattle.congee_map.specs.Refusal.{NeedsNode};
-ghost use Rattle.congee_tree.specs.Tree.{ChargesForNodes, StoresSame};
+ghost use Rattle.congee_changes.specs.Tree.{ChargesForNodes, StoresSame};
 
 use crate::tree::RawCongee;
 use congee_map::error::OOMError;

@@ -1,8 +1,5 @@
-//! `RawCongee`, the adaptive radix tree that the typed faces stand on (*The Adaptive Radix Tree*, Leis et al.).
-//!
-//! All nodes are in one slab, and know each other by slot numbers that nobody else sees. Each node's prefix has all bytes
-//! from the root down to it. Under seven bytes stand payloads, under fewer nodes. The root has no prefix, and the form that
-//! never grows.
+//! `RawCongee`, the adaptive radix tree that the typed faces stand on (*The Adaptive Radix Tree*, Leis et al.): the tree of
+//! `congee_changes`, and the walks over it.
 
 ghost use Rattle.std.specs.Prelude.{◌≡◌, ◌+◌, ◌≤◌, ◌<◌, ◌^◌, ◌↔◌, [], length, Option, Some, None, IfOk, OnOk, OnErr, IsTrue, option_copied};
 ghost use Rattle.std.specs.Fn.{TakesAt, CalledAt};
@@ -21,25 +18,19 @@ ghost use Rattle.congee_stats.specs.Visits.{visits_below};
 ghost use Rattle.congee_node_table.specs.Charge.{add_charge};
 ghost use Rattle.congee_supply.specs.Charge.{charge_of};
 ghost use Rattle.congee_paths.specs.Path.{on_path};
-ghost use Rattle.congee_tree.specs.Tree.{payload_at, root_alone, ChargesForNodes, StoresSame};
+ghost use Rattle.congee_changes.specs.Tree.{payload_at, root_alone, ChargesForNodes, StoresSame};
 
 use crate::into_pairs::IntoPairs;
-use congee_changes::computation::{Computed, compute_if_present};
-use congee_changes::insertion::{compute_or_insert, insert};
-use congee_changes::removal::remove;
+use congee_changes::tree::Tree;
 use congee_map::error::OOMError;
 use congee_map::payload::Payload;
 use congee_map::traits::Word;
 use congee_node_table::allocator::Allocator;
-use congee_node_table::tree_node::TreeNode;
-use congee_paths::descent::find;
 use congee_paths::reads::Reads;
 use congee_stats::NodeStats;
-use congee_supply::supply::Supply;
 use congee_walks::range_scan::{RangeEntry, scan};
 use congee_walks::statistics::count_subtree;
 use congee_walks::walk::{key_from, push_keys};
-use slab::Slab;
 use std::alloc::Global;
 use std::marker::Model;
 use std::sync::ledger::Ledger;
@@ -51,33 +42,17 @@ use std::sync::ledger::Ledger;
 /// The budget is charged for each node from before it is made until it is gone, at the latest at the drop of the tree.
 #[derive(Drop)]
 pub struct RawCongee<P: Payload, A: Allocator> {
-    nodes: Slab<TreeNode<P>>,
-    supply: Supply<A>,
-    root: usize,
-    /// How many pairs there are: 2 to the 64 at most.
-    count: u128,
+    tree: Tree<P, A>,
 }
 
 impl<P: Payload, A: Allocator> Model for RawCongee<P, A> {
-    ghost use Rattle.std.specs.Prelude.{◌≡◌, length};
-    ghost use Rattle.congee_tree.specs.Tree.{Tree, tree_code};
-    ghost use Rattle.congee_supply.specs.inner.Supply.{IsCounted};
-    ghost use Rattle.congee_paths.specs.inner.Root.{HasRoot, HasTree, tree_pairs, tree_nodes};
+    ghost use Rattle.congee_changes.specs.Tree.{TreeView, tree_code};
 
-    ghost Value = { Tree P A };
+    ghost Value = { TreeView P A };
 
     ghost coded = { tree_code P.code A.code };
 
-    ghost view = { λ t. record {
-      pairs = tree_pairs t.nodes.slots t.root;
-      nodes = tree_nodes t.nodes.slots t.root;
-      budget = t.supply.budget;
-    } };
-
-    ghost invariant = { λ t. HasTree t.nodes.slots t.root
-        × HasRoot t.nodes.slots t.root
-        × (t.count ≡ length (tree_pairs t.nodes.slots t.root))
-        × IsCounted t.supply.forms (tree_nodes t.nodes.slots t.root) };
+    ghost view = { λ t. t.tree };
 }
 
 impl<P: Payload, A: Allocator> RawCongee<P, A> {
@@ -88,15 +63,8 @@ impl<P: Payload, A: Allocator> RawCongee<P, A> {
         ensures charge { IfOk result (λ tree.
             A.charge tree.budget ≡ add_charge (A.charge budget) (charge_of tree.nodes)) }
     {
-        let mut nodes = Slab::new(alloc);
-        nodes.reserve(1)?;
-        let mut supply = Supply::new(alloc, budget);
-        let root = nodes.insert_reserved(supply.root()?);
         Ok(RawCongee {
-            nodes,
-            supply,
-            root,
-            count: 0,
+            tree: Tree::new(alloc, budget)?,
         })
     }
 
@@ -106,7 +74,7 @@ impl<P: Payload, A: Allocator> RawCongee<P, A> {
         ensures reads { reads.new ≡ reads.old + on_path self.now.nodes key.now }
         ensures few { on_path self.now.nodes key.now ≤ 8 }
     {
-        find(&self.nodes, self.root, key, reads)
+        self.tree.get(key, reads)
     }
 
     /// Sets the payload at the key, and returns the one that stood there. `OOMError` comes only for a new
@@ -129,18 +97,7 @@ impl<P: Payload, A: Allocator> RawCongee<P, A> {
         ensures few { on_path self.old.nodes key.now ≤ 8 }
         ensures refused { OnErr result (NeedsNode self.old.pairs (from_be_bytes w64 key.now)) }
     {
-        let before = insert(
-            &mut self.nodes,
-            &mut self.supply,
-            self.root,
-            key,
-            payload,
-            reads,
-        )?;
-        if before.is_none() {
-            self.count += 1;
-        }
-        Ok(before)
+        self.tree.insert(key, payload, reads)
     }
 
     /// Sets what the closure makes of the payload at the key, or of `None`, and returns the payload that stood there. The
@@ -167,11 +124,7 @@ impl<P: Payload, A: Allocator> RawCongee<P, A> {
         ensures reads { reads.new ≡ reads.old + on_path self.old.nodes key.now }
         ensures few { on_path self.old.nodes key.now ≤ 8 }
     {
-        let old = compute_or_insert(&mut self.nodes, &mut self.supply, self.root, key, f, reads)?;
-        if old.is_none() {
-            self.count += 1;
-        }
-        Ok(old)
+        self.tree.compute_or_insert(key, f, reads)
     }
 
     /// Takes out the pair at the key, and returns its payload. Takes no memory. `reads` goes up by one for each node on
@@ -184,11 +137,7 @@ impl<P: Payload, A: Allocator> RawCongee<P, A> {
         ensures reads { reads.new ≡ reads.old + on_path self.old.nodes key.now }
         ensures few { on_path self.old.nodes key.now ≤ 8 }
     {
-        let before = remove(&mut self.nodes, &mut self.supply, self.root, key, reads);
-        if before.is_some() {
-            self.count -= 1;
-        }
-        before
+        self.tree.remove(key, reads)
     }
 
     /// Calls the closure at the payload at the key, where there is one: the payload that it returns takes the place of that
@@ -213,39 +162,28 @@ impl<P: Payload, A: Allocator> RawCongee<P, A> {
         ensures reads { reads.new ≡ reads.old + on_path self.old.nodes key.now }
         ensures few { on_path self.old.nodes key.now ≤ 8 }
     {
-        let Computed { before, removed } = compute_if_present(
-            &mut self.nodes,
-            &mut self.supply,
-            self.root,
-            key,
-            f,
-            reads,
-        );
-        if removed {
-            self.count -= 1;
-        }
-        before
+        self.tree.compute_if_present(key, f, reads)
     }
 
     /// Whether there is no pair.
     pub fn is_empty(&self) -> bool
         ensures { IsTrue result ↔ (self.now.pairs ≡ []) }
     {
-        self.count == 0
+        self.tree.value_count() == 0
     }
 
     /// How many pairs there are.
     pub fn value_count(&self) -> u128
         ensures { result ≡ length self.now.pairs }
     {
-        self.count
+        self.tree.value_count()
     }
 
     /// The sum of the stated sizes of the tree's nodes, which its budget is charged for.
     pub fn charged(&self) -> u128
         ensures { result ≡ charge_of self.now.nodes }
     {
-        self.supply.bytes()
+        self.tree.charged()
     }
 
     /// The counts of the tree's nodes by level and form, and of its pairs. Reads each node once. `OOMError` comes where
@@ -261,9 +199,10 @@ impl<P: Payload, A: Allocator> RawCongee<P, A> {
             NoCountStays stats.levels → stats.kv_pairs + 1 < 2 ^ 64
             → all_entries stats.levels + 1 ≡ stats.kv_pairs + all_nodes stats.levels) }
     {
-        let mut stats = NodeStats::empty(self.supply.memory());
-        count_subtree(&self.nodes, self.root, 0, &mut stats)?;
-        stats.add_pairs(u64::try_from(self.count).unwrap_or(u64::MAX));
+        let mut stats = NodeStats::empty(self.tree.memory());
+        let (nodes, root) = self.tree.table();
+        count_subtree(nodes, root, 0, &mut stats)?;
+        stats.add_pairs(u64::try_from(self.tree.value_count()).unwrap_or(u64::MAX));
         Ok(stats)
     }
 }
@@ -286,7 +225,8 @@ impl<A: Allocator> RawCongee<u64, A> {
     {
         let first = u64::from_be_bytes(*start);
         let past = u64::from_be_bytes(*end);
-        scan(&self.nodes, self.root, first, past, buffer, 0)
+        let (nodes, root) = self.tree.table();
+        scan(nodes, root, first, past, buffer, 0)
     }
 }
 
@@ -301,11 +241,12 @@ impl<P: Payload, A: Allocator> RawCongee<P, A> {
         ensures { IfOk result (λ keys.
             keys.items ≡ map K.of_number (map (λ pair. pair.0) self.now.pairs)) }
     {
-        let Ok(count) = usize::try_from(self.count) else {
+        let Ok(count) = usize::try_from(self.tree.value_count()) else {
             return Err(OOMError::new());
         };
-        let mut keys = Vec::with_capacity(self.supply.memory(), count)?;
-        push_keys(&self.nodes, self.root, &mut keys);
+        let mut keys = Vec::with_capacity(self.tree.memory(), count)?;
+        let (nodes, root) = self.tree.table();
+        push_keys(nodes, root, &mut keys);
         Ok(keys)
     }
 
@@ -313,15 +254,16 @@ impl<P: Payload, A: Allocator> RawCongee<P, A> {
     pub fn key_from(&self, start: u64) -> Option<u64>
         ensures { result ≡ first_number (from_key start self.now.pairs) }
     {
-        key_from(&self.nodes, self.root, start)
+        let (nodes, root) = self.tree.table();
+        key_from(nodes, root, start)
     }
 
     /// The pairs by value, keys ascending.
     pub fn into_pairs(self) -> IntoPairs<P, A>
         ensures { result ≡ self.pairs }
     {
-        // A look at a field tells the proof that the keys are in order.
-        let _ = &self.nodes;
+        // A look at the table tells the proof that the keys are in order.
+        let _ = self.tree.table();
         IntoPairs::new(self)
     }
 

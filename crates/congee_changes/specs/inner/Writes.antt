@@ -6,13 +6,26 @@ use Rattle.congee_node_table.specs.Shape.{grown_form}
 use Rattle.congee_base.specs.declared.base_node.NodeType.{NodeType}
 use Rattle.congee_base.specs.declared.base_node.NodeType.TheVariants.{N4}
 use Rattle.congee_changes.specs.declared.insertion.Parts.{Parts}
+use Rattle.congee_changes.specs.declared.insertion.Ready.{Ready}
+use Rattle.congee_changes.specs.declared.insertion.Ready.TheVariants.{Add, Split}
 use Rattle.congee_map.specs.Refusal.{IsEdge}
 use Rattle.congee_node_table.specs.Key.{IsFirstDifference}
 use Rattle.congee_node_table.specs.TableNode.{TableNode, MayHave}
 use Rattle.congee_node_table.specs.Table.{Table, node_at}
 use Rattle.congee_paths.specs.inner.Descent.{IsOfOneKind}
+use Rattle.congee_paths.specs.declared.descent.Stop.{Stop}
+use Rattle.congee_paths.specs.declared.descent.Stop.TheVariants.{Differs, Absent, Leaf}
+use Rattle.congee_supply.specs.inner.Supply.{with_form, with_leaf, CountsGrown}
+use Rattle.congee_supply.specs.declared.supply.FormCounts.{FormCounts}
+use Rattle.slab.specs.Slab.{Slab, HasRoomFor}
 use Rattle.congee_node_table.specs.declared.child.Child.{Child}
 use Rattle.congee_node_table.specs.declared.child.Child.TheVariants.{Payload, Node}
+
+-- a new pair goes under this byte of the node where the way down ended
+abbrev pub GoesUnder : Stop → ℕ → Type 0
+GoesUnder (Differs at) c = ⊥
+GoesUnder (Absent b) c = b ≡ c
+GoesUnder (Leaf b) c = b ≡ c
 
 module _ {P : Type 0} where
   abbrev pub SameElsewhere : ℕ → Table P → Table P → Type 0
@@ -43,13 +56,6 @@ module _ {P : Type 0} where
   RefusesAt s slot =
       (n : TableNode P) → node_at s slot ≡ Some n
       → length n.prefix ≡ 7 → IsEdge (length n.children)
-
-  -- the slot has a node with a child under this byte, which this one may replace
-  pub record HasChildUnder (s : Table P) (slot byte : ℕ) (child : Child P) : Type 0 where
-    pub node : TableNode P
-    pub here : node_at s slot ≡ Some node
-    pub present : IsSome (lookup node.children byte)
-    pub kind : MayHave node.prefix child
 
   -- the slot has a leaf
   pub record HasLeafAt (s : Table P) (slot : ℕ) : Type 0 where
@@ -148,3 +154,70 @@ module _ {P : Type 0} where
         upper.children
         ≡ put ((slice_index_or node.prefix at 0, Node lower_slot) ∷ []) (slice_index_or key at 0) (Node leaf_slot)
     pub is_leaf : IsLeafOf leaf key v
+
+  -- where the way down ended at the key's leaf, the slot has that leaf
+  abbrev pub HasLeafFor : Table P → ℕ → Stop → Type 0
+  HasLeafFor s slot (Differs at) = Unit {0}
+  HasLeafFor s slot (Absent b) = Unit {0}
+  HasLeafFor s slot (Leaf b) = HasLeafAt s slot
+
+  -- where the way down ended, nothing stands
+  abbrev pub NothingStands : Table P → ℕ → Stop → Type 0
+  NothingStands s slot (Differs at) = Unit {0}
+  NothingStands s slot (Absent b) = Unit {0}
+  NothingStands s slot (Leaf b) = HasNothingUnder s slot b
+
+  -- where it ended, this payload stands
+  abbrev pub Stands : Table P → ℕ → Stop → P → Type 0
+  Stands s slot (Differs at) v = ⊥
+  Stands s slot (Absent b) v = ⊥
+  Stands s slot (Leaf b) v = WasChild s slot b (Payload v)
+
+  -- in its place stands this one
+  abbrev pub Exchanges : Table P → Table P → ℕ → Stop → P → Type 0
+  Exchanges s t slot (Differs at) v = ⊥
+  Exchanges s t slot (Absent b) v = ⊥
+  Exchanges s t slot (Leaf b) v = SameElsewhere slot s t × WritesChild s t slot b (Payload v)
+
+  -- the key's leaf has it as one payload more, for which it had room
+  abbrev pub Fills : Table P → Table P → ℕ → Stop → P → Type 0
+  Fills s t slot (Differs at) v = ⊥
+  Fills s t slot (Absent b) v = ⊥
+  Fills s t slot (Leaf b) v =
+      HasNothingUnder s slot b
+      × ((n : TableNode P) → node_at s slot ≡ Some n → Fits n.form (length n.children + 1))
+      × SameElsewhere slot s t × WritesChild s t slot b (Payload v)
+
+  -- in the place of what stood there, or in addition
+  abbrev pub Sets : Table P → Table P → ℕ → Stop → P → Option P → Type 0
+  Sets s t slot stop v (Some before) = Stands s slot stop before × Exchanges s t slot stop v
+  Sets s t slot stop v None = Fills s t slot stop v
+
+  -- a refusal may come where the way down ended
+  abbrev pub RefusesHere : Table P → ℕ → Stop → Type 0
+  RefusesHere s slot (Differs at) = Unit {0}
+  RefusesHere s slot (Absent b) = RefusesAt s slot
+  RefusesHere s slot (Leaf b) = RefusesAt s slot
+
+  -- the slots that the new nodes need are reserved
+  abbrev pub HasSlotsFor : Slab (TableNode P) → Ready P → Type 0
+  HasSlotsFor nodes (Add b leaf) = IsSome leaf → HasRoomFor nodes 1
+  HasSlotsFor nodes (Split at parts) = HasRoomFor nodes 2
+
+  -- all nodes are made and counted for a pair more where the way down ended
+  abbrev pub IsReady : Table P → Table P → ℕ → Stop → List ℕ → FormCounts → FormCounts → Ready P → Type 0
+  IsReady s t slot stop key old new (Add b leaf) =
+      GoesUnder stop b × SameElsewhere slot s t × MakesRoom s t slot × IsLeafBelow t slot key leaf
+      × CountsGrown s slot (with_leaf leaf old) new
+  IsReady s t slot stop key old new (Split at parts) =
+      (stop ≡ Differs at) × (t ≡ s) × AreParts parts key at × (new ≡ with_form N4 (with_form N4 old))
+
+  -- what is ready fits the slot's node
+  abbrev pub FitsIn : Table P → ℕ → List ℕ → Ready P → Type 0
+  FitsIn s slot key (Add b leaf) = HasRoomUnder s slot b × IsLeafBelow s slot key leaf
+  FitsIn s slot key (Split at parts) = IsParted s slot key at × AreParts parts key at
+
+  -- the pair stands in what was ready for it
+  abbrev pub PutsIn : Table P → Table P → ℕ → List ℕ → P → Ready P → Type 0
+  PutsIn s t slot key v (Add b leaf) = PutsPair s t slot key b v
+  PutsIn s t slot key v (Split at parts) = Splits s t slot key at v

@@ -6,15 +6,29 @@ use Rattle.congee_node_table.specs.TableNode.{TableNode, MayHave}
 use Rattle.congee_node_table.specs.Table.{Table, node_at, IsTree}
 use Rattle.congee_node_table.specs.declared.child.Child.{Child}
 use Rattle.congee_node_table.specs.declared.child.Child.TheVariants.{Payload, Node}
-use Rattle.congee_paths.specs.declared.descent.End.{End}
-use Rattle.congee_paths.specs.declared.descent.End.TheVariants.{Differs, Absent, Present}
 use Rattle.congee_paths.specs.declared.descent.Step.{Step}
 use Rattle.congee_paths.specs.declared.descent.Step.TheVariants.{Down, Here}
 use Rattle.congee_paths.specs.declared.descent.Stop.{Stop}
 use Rattle.congee_paths.specs.declared.descent.Stop.TheVariants as stops
 use Rattle.congee_paths.specs.declared.descent.Spot.{Spot}
-use Rattle.congee_paths.specs.declared.descent.Place.{Place}
 use Rattle.congee_paths.specs.inner.Root.{depth}
+use denote.Ref.{Bor}
+
+-- how the path of a key ends at a node
+pub data End (P : Type 0) : Type 0 where
+  -- the node's prefix differs from the key at this place
+  Differs : ℕ → End P
+  -- the node has nothing under the key's byte
+  Absent : ℕ → End P
+  -- the node has this payload under the key's byte
+  Present : ℕ → Bor P → End P
+
+-- the node where the path of a key ends, the one above it, and how many stand above it
+pub record Place (P : Type 0) : Type 0 where
+  pub slot : ℕ
+  pub parent : ℕ
+  pub above : ℕ
+  pub end : End P
 
 module _ {P : Type 0} (key : List ℕ) where
   -- what was found at the node
