@@ -59,7 +59,8 @@ enum Step {
     Here(Stop),
 }
 
-// What the key, and its bytes as a word, meet at this node.
+// What the key, and its bytes as a word, meet at this node. A call for each node would hand its answer over by memory.
+#[inline(always)]
 fn look<P: Drop>(node: &TreeNode<P>, key: &[u8; 8], word: u64) -> Step
     requires { to_be_bytes w64 word ≡ key.now }
     ensures { Meets key.now node.now result }
