@@ -146,6 +146,8 @@ impl<P: Drop> TreeNode<P> {
 
     /// What a key meets here, whose bytes are those of the word, most significant first: one jump by the form for all that a
     /// way down asks a node.
+    // (inline, as a call would hand its answer over by memory at each node of a path)
+    #[inline(always)]
     pub fn meet(&self, key: &[u8; 8], word: u64) -> Meeting
         requires { to_be_bytes w64 word ≡ key.now }
         ensures { IsMet key.now self.now result }
@@ -163,6 +165,8 @@ impl<P: Drop> TreeNode<P> {
     }
 
     /// What is under a byte, or `None`.
+    // (inline, as `meet`: the end of each look-up)
+    #[inline(always)]
     pub fn get_child(&self, byte: u8) -> Option<ChildRef<'_, P>>
         ensures { seen result ≡ lookup self.now.children byte }
     {
@@ -243,6 +247,8 @@ impl<P: Drop> TreeNode<P> {
 
     /// Puts another child of the node's kind in the place of one, which it returns. Where there is none, the child comes
     /// back. The node is searched once, and nothing in it moves.
+    // (inline, as `meet`: the end of each insertion at a key that is present)
+    #[inline(always)]
     pub fn exchange(&mut self, byte: u8, child: Child<P>) -> Result<Child<P>, Child<P>>
         requires { MayHave self.old.prefix child }
         ensures before { IfOk result (λ c. lookup self.old.children byte ≡ Some c) }

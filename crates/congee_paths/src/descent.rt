@@ -59,7 +59,7 @@ enum Step {
     Here(Stop),
 }
 
-// What the key, and its bytes as a word, meet at this node. A call for each node would hand its answer over by memory.
+// What the key, and its bytes as a word, meet at this node.
 #[inline(always)]
 fn look<P: Drop>(node: &TreeNode<P>, key: &[u8; 8], word: u64) -> Step
     requires { to_be_bytes w64 word ≡ key.now }
@@ -74,6 +74,7 @@ fn look<P: Drop>(node: &TreeNode<P>, key: &[u8; 8], word: u64) -> Step
 }
 
 // The node in a slot, which counts as read.
+#[inline(always)]
 fn visit<'a, P: Drop, L: Ledger>(
     nodes: &'a Slab<TreeNode<P>>,
     slot: usize,
@@ -93,6 +94,8 @@ fn visit<'a, P: Drop, L: Ledger>(
 /// Goes down along the key as far as there are nodes. Reads each of them once, and copies and moves none.
 ///
 /// Doesn't search a leaf, so that a call does it once, by what it does there.
+// (inline, as what it calls for each node: a `Spot` is several words, which a call would hand over by memory)
+#[inline(always)]
 pub fn seek<P: Drop, L: Ledger>(
     nodes: &Slab<TreeNode<P>>,
     root: usize,

@@ -91,6 +91,11 @@ module _ {P : Type 0} (s : Table P) (root : ℕ) (key : List ℕ) where
     pub deep : above ≤ length q
     pub sum : above + levels ≡ 8
 
+  -- it leads here, and each node above was counted on the way down, from `before` to `reads`
+  pub record IsOnTheWay (above slot parent before reads : ℕ) : Type 0 where
+    pub leads : LeadsTo above slot parent
+    pub counted : reads ≡ before + above
+
   -- the key's way down ends at this spot
   pub record SeeksTo (spot : Spot) : Type 0 where
     pub leads : LeadsTo spot.above spot.slot spot.parent
