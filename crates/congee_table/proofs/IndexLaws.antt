@@ -1,11 +1,11 @@
 -- How the indexes of a table stay in agreement with its rows.
-use Rattle.std.proofs.Common.{◌≡◌, ◌≢◌, ℕ, ◌/◌, ◌%◌, ◌^◌, ◌<◌, Option, Some, None, refl, ap, sym, subst, ◌∙◌, arith, inl, inr}
+use Rattle.std.proofs.Common.{◌≡◌, ◌≢◌, ℕ, ◌/◌, ◌%◌, ◌^◌, ◌<◌, Option, Some, None, Result, Ok, Err, OnErr, refl, ap, sym, subst, ◌∙◌, arith, inl, inr}
 use Rattle.std.proofs.lemmas.Option.{same_Some, some_pair_parts, none-some}
 use Rattle.std.proofs.lemmas.Bool.{cases_eq, cases_lt}
 use Rattle.congee_map.specs.Map.{Pairs, lookup, put, without, Rises}
 use Rattle.congee_map.proofs.MapLaws.{Rises-put, Rises-without, lookup-put_same, lookup-put_other, lookup-without_same, lookup-without_other, same_from_lookups}
 use Rattle.congee_map.proofs.JoinLaws.{lookup-above}
-use Rattle.congee_table.specs.Rows.{Rows}
+use Rattle.congee_table.specs.Rows.{Rows, IsIn}
 use Rattle.congee_table.specs.Index.{joined, rows_of, AreIndexes}
 use Rattle.congee_table.proofs.RowsLaws.{no_row, row_of_number, number_of_row, rows_of-put_joined, rows_of-without}
 
@@ -214,3 +214,16 @@ module _ (first second : Pairs ℕ) (id : ℕ) (h : AreIndexes first second) (sm
         | inl same ↦ rw same (lookup-without_same 0 (2 ^ 64) (put second place v) place ascends ∙ sym new)
         | inr other ↦ lookup-without_other (put second place v) place k other ∙ lookup-put_other second place v k other
       ])
+
+-- no row of the id is in the group
+pub not_served : (first second : Pairs ℕ) (id g : ℕ) → AreIndexes first second → lookup second (joined g id) ≡ None → ¬ IsIn (rows_of first) id g
+not_served first second id g h none = λ at. none-some at.0 (sym none ∙ h.agree.in_second id g at.0 at.1)
+
+-- there is no row of the id
+pub not_in : (first : Pairs ℕ) (id g : ℕ) → lookup first id ≡ None → ¬ IsIn (rows_of first) id g
+not_in first id g none = λ at. none-some (g, at.0) (sym (no_row first id none) ∙ at.1)
+
+-- what holds anyway holds on an error
+pub on_err : {T E : Type 0} (result : Result T E) (P : Type 0) → P → OnErr result P
+on_err (Ok value) P holds = tt
+on_err (Err error) P holds = holds

@@ -4,7 +4,7 @@ use Rattle.std.specs.Option.{option_map}
 use Rattle.std.proofs.lemmas.Option.{same_Some, some_pair_parts}
 use Rattle.std.proofs.lemmas.Bool.{lt-ltb, le-ltb, eq-eqb, ne_eqb, cases_order, cases_eq}
 use Rattle.congee_map.specs.Map.{Pairs, lookup, put, without}
-use Rattle.congee_table.specs.Rows.{Rows, row_at, IsIn}
+use Rattle.congee_table.specs.Rows.{Rows, row_at, IsIn, moved, regrouped}
 use Rattle.congee_table.specs.declared.table.Row.{Row}
 use Rattle.congee_table.specs.Index.{joined, rows_of}
 
@@ -83,3 +83,12 @@ row_in t id row is = found_in (lookup t id) is where
   found_in (Some (group, value)) is =
       let whole = same_Some row (record { id = id; group = group; value = value }) is in
       (value, ap (λ (r : Row). Some (r.group, value)) (sym whole))
+
+-- a row that is found is put into a group with its value
+pub regrouped_by : (t n : Rows) (id group value : ℕ) (row : Row) → Some row ≡ row_at t id → n ≡ put t id (group, value) → value ≡ row.value → n ≡ regrouped t id group
+regrouped_by t n id group value row is is_put kept = is_put ∙ by_found (lookup t id) is where
+  by_found : (found : Option (ℕ × ℕ)) → Some row ≡ option_map (λ (e : ℕ × ℕ). record { id = id; group = e.0; value = e.1 }) found → put t id (group, value) ≡ moved t id group found
+  by_found None is = absurd (cc)
+  by_found (Some (old, known)) is =
+      let whole = same_Some row (record { id = id; group = old; value = known }) is in
+      ap (λ (v : ℕ). put t id (group, v)) (kept ∙ ap (λ (r : Row). r.value) whole)

@@ -1,6 +1,6 @@
 -- What a scan writes to a buffer.
 use Rattle.std.proofs.Common.{◌≡◌, ◌≢◌, ℕ, ◌+◌, ◌%◌, ◌^◌, ◌<◌, ◌≤◌, min, zero, suc, [], ◌∷◌, ◌++◌, length, get_or, set, Option, Some, None, take, drop, refl, ap, sym, ◌∙◌, append_assoc, arith, inl, inr}
-use Rattle.std.proofs.lemmas.List.{take-map, take_at, drop_at, take_all, take-append-le, length-take-le, length-map, length-append, length-drop, drop_more, set_at, append-nil}
+use Rattle.std.proofs.lemmas.List.{take-map, take_at, drop_at, take_all, take-append-le, take-take, take_min, length-take-le, length-map, length-append, length-drop, drop_more, set_at, append-nil}
 use Rattle.std.proofs.lemmas.Bool.{lt-ltb, le-ltb, lt-leb, le-leb, eq-eqb, ne_eqb, cases_order, cases_lt}
 use Rattle.congee_map.specs.Map.{Pairs, lookup, between, Rises}
 use Rattle.congee_map.proofs.MapLaws.{lookup-below}
@@ -93,3 +93,13 @@ module _ (buffer written kept part rows : Pairs ℕ) (n : ℕ) (is : ids part �
       let back = ap (drop n) is_written ∙ drop_at (take n part) (drop n buffer) n long in
       let front' = is_kept ∙ ap ids front ∙ sym (take-map (λ (e : ℕ × ℕ). (e.0 % 2 ^ 32, e.1)) n part) ∙ ap (take n) is in
       (omega (arith, ap length (sym is) ∙ length-map part (λ (e : ℕ × ℕ). (e.0 % 2 ^ 32, e.1))), λ i. front' i ++ back i)
+
+-- A list of its own is cut to the rows that were written to it.
+pub cut_to_rows : (limit len n : ℕ) (before written rest rows items : Pairs ℕ) → len ≡ limit → length before ≡ len → n ≡ min (length before) (length rows)
+    → written ≡ take n rows ++ drop n before → items ≡ take n (take len (written ++ rest)) → items ≡ take limit rows
+cut_to_rows limit len n before written rest rows items room long count is_written is_cut =
+    let front = length-take-le n rows (omega arith) in
+    let within : n ≤ length written = omega (arith, front, ap length is_written ∙ length-append (take n rows) (drop n before)) in
+    let cut : n ≡ min limit (length rows) = omega arith in
+    is_cut ∙ take-take n len (written ++ rest) (omega arith) ∙ take-append-le n written rest within ∙ ap (take n) is_written ∙ take_at (take n rows) (drop n before) n front
+    ∙ ap (λ (k : ℕ). take k rows) cut ∙ take_min limit rows

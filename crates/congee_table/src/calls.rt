@@ -10,7 +10,7 @@ use congee_node_table::allocator::Allocator;
 use std::alloc::Global;
 
 /// A call of a table.
-#[derive(Clone, Copy, Debug, PartialEq, Eq)]
+#[derive(Clone, Copy)]
 pub enum TableCall {
     /// Sets the row of its id.
     Put(Row),
@@ -25,7 +25,7 @@ pub enum TableCall {
 }
 
 /// What a call answers.
-#[derive(Debug, PartialEq, Eq, Drop)]
+#[derive(Drop)]
 pub enum TableReply {
     /// The row that had the id.
     Found(Option<Row>),

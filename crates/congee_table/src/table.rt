@@ -2,7 +2,7 @@
 
 ghost use Rattle.std.specs.Prelude.{◌≡◌, ◌≢◌, ◌↔◌, ◌+◌, ◌≤◌, [], ◌++◌, ◌/◌, ◌%◌, ◌^◌, Some, None, IfOk, OnOk, OnErr, IsErrOf, IsOkUnless, codes, length, min, take, drop};
 ghost use Rattle.congee_map.specs.Map.{lookup, put, without, between, IsMap};
-ghost use Rattle.congee_table.specs.Index.{joined};
+ghost use Rattle.congee_table.specs.Index.{joined, rows_of, AreIndexes};
 ghost use Rattle.congee_table.specs.Rows.{row_at, IsIn, regrouped, group_rows};
 ghost use Rattle.congee_table.specs.declared.table.TableError.TheVariants.{Oom};
 
@@ -34,10 +34,10 @@ pub enum TableError {
 
 impl fmt::Display for TableError {
     fn fmt<W: fmt::Write>(&self, f: &mut fmt::Formatter<W>) -> fmt::Result {
-        match self {
-            TableError::Oom => write!(f, "out of memory"),
-            TableError::Absent => write!(f, "no row has this id"),
-        }
+        f.write_str(match self {
+            TableError::Oom => "out of memory",
+            TableError::Absent => "no row has this id",
+        })
     }
 }
 
@@ -98,8 +98,6 @@ impl<A: Allocator> Table<A> {
         ensures error { IsOkUnless result TableError.Oom }
         ensures refused { OnErr result (¬ IsIn self.old.rows row.id row.group) }
     {
-        self.second
-            .insert(joined(row.group, row.id), u64::from(row.value))?;
         let Some(number) = enter(&mut self.first, &mut self.second, row)? else {
             return Ok(None);
         };
@@ -182,29 +180,31 @@ fn row_of(id: u32, number: u64) -> Row
     }
 }
 
-// Enters the row in the first index, and answers the number that stood there. Where that is refused, the row's entry in the
-// second index is taken out.
+// Enters the row in the second index, then in the first, and answers the number that stood there. Where the first refuses, the
+// entry in the second is taken out again.
 fn enter<A: Allocator>(
     first: &mut Congee<u64, u64, A>,
     second: &mut Congee<u64, u64, A>,
     row: Row,
-) -> Result<Option<u64>, TableError>
+) -> Result<Option<u64>, OOMError>
+    requires agree { AreIndexes first.old.pairs second.old.pairs }
     ensures before { IfOk result (λ before. before ≡ lookup first.old.pairs row.id) }
     ensures ok { OnOk result (first.new.pairs
         ≡ put first.old.pairs row.id (joined row.group row.value)) }
-    ensures stays { OnOk result (second.new.pairs ≡ second.old.pairs) }
+    ensures entered { OnOk result (second.new.pairs
+        ≡ put second.old.pairs (joined row.group row.id) row.value) }
     ensures err { OnErr result (first.new.pairs ≡ first.old.pairs) }
-    ensures left { OnErr result (second.new.pairs
-        ≡ without second.old.pairs (joined row.group row.id)) }
-    ensures error { IsOkUnless result TableError.Oom }
-    ensures new { OnErr result (lookup first.old.pairs row.id ≡ None) }
+    ensures left { OnErr result (second.new.pairs ≡ second.old.pairs) }
+    ensures refused { OnErr result (¬ IsIn (rows_of first.old.pairs) row.id row.group) }
 {
-    let entry = joined(row.group, row.value);
-    let Ok(before) = first.insert(u64::from(row.id), entry) else {
-        second.remove(&joined(row.group, row.id));
-        return Err(TableError::Oom);
-    };
-    Ok(before)
+    second.insert(joined(row.group, row.id), u64::from(row.value))?;
+    match first.insert(u64::from(row.id), joined(row.group, row.value)) {
+        Ok(before) => Ok(before),
+        Err(error) => {
+            second.remove(&joined(row.group, row.id));
+            Err(error)
+        }
+    }
 }
 
 // Takes the entry of the old row out of the second index, unless it is in this group, where the new one replaces it.

@@ -1,4 +1,5 @@
-use Rattle.std.proofs.Common.{◌≡◌, ◌∷◌, [], ◌++◌, rules}
+use Rattle.std.proofs.Common.{◌≡◌, ◌∷◌, [], ◌++◌, refl, rules}
+use Rattle.std.proofs.lemmas.List.{take_all}
 use Rattle.congee_table.specs.declared.calls.TableCall.TheVariants.{Put}
 use Rattle.congee_table.proofs.RunLaws.{run_more}
 use Rattle.congee_table.proofs.calls.run_table_calls.Goals as goal
@@ -13,3 +14,13 @@ loop-call-preserved g c =
       count = search rules;
       room = search rules;
     }
+
+pub loop-call-init : goal.loop-call-init
+loop-call-init g c =
+    let empty = c.in_ok-replies.ensures.items in
+    record { run = rw empty refl; count = c.in_ok-replies.ensures.len; room = c.in_ok-replies.ensures.capacity }
+
+pub returns-clause-run : goal.returns-clause-run
+returns-clause-run g c =
+    let whole = take_all c.loop-call.call-index c.args.calls.now c.loop-call-test.false in
+    rw whole at c.loop-call.invariant.run

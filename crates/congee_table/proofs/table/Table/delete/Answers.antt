@@ -1,6 +1,7 @@
-use Rattle.std.proofs.Common.{◌≡◌, ◌/◌, ◌^◌, sym, arith, rules}
+use Rattle.std.proofs.Common.{◌≡◌, ◌/◌, ◌^◌, ap, sym, arith}
 use Rattle.congee_map.proofs.MapLaws.{without-absent}
 use Rattle.congee_table.specs.Index.{joined}
+use Rattle.congee_table.specs.declared.table.Row.{Row}
 use Rattle.congee_table.proofs.RowsLaws.{no_row_at, number_read, none_read, rows_of-without}
 use Rattle.congee_table.proofs.IndexLaws.{indexes_without}
 use Rattle.congee_table.proofs.table.Table.delete.Goals as goal
@@ -21,7 +22,9 @@ returns-in_err-number-clause-rows g c =
 
 pub invariant_of-self-2 : goal.invariant_of-self-2
 invariant_of-self-2 g c =
-    let place : c.joined.result ≡ joined (c.in_ok-number.number / 2 ^ 32) c.args.id = search rules in
+    let place : c.joined.result ≡ joined (c.in_ok-number.number / 2 ^ 32) c.args.id =
+    omega (arith, ap (λ (row : Row). row.group) c.row_of-row.ensures, ap (λ (row : Row). row.id) c.row_of-row.ensures)
+    in
     let found = number_read _ c.in_ok-number.number (rw c.from.ensures at c.in_ok-number.ensures.before) in
     rw (c.remove.ensures.pairs, c.remove-2.ensures.pairs, place, c.from.ensures)
     (indexes_without c.self.inside.first.pairs c.self.inside.second.pairs c.args.id c.self.invariant (omega arith) c.in_ok-number.number found)
