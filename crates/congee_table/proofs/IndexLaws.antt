@@ -107,6 +107,10 @@ module _ (t : Rows) (second second' : Pairs ℕ) (id : ℕ) (ids : Rises 0 (2 ^ 
         ];
   }
 
+-- there is no row of the id
+pub not_in : (first : Pairs ℕ) (id g : ℕ) → lookup first id ≡ None → ¬ IsIn (rows_of first) id g
+not_in first id g none = λ at. none-some (g, at.0) (sym (no_row first id none) ∙ at.1)
+
 module _ (first second : Pairs ℕ) (id : ℕ) (h : AreIndexes first second) (small : id < 2 ^ 32) where
   -- the number of no other id is touched
   elsewhere : (g k : ℕ) → k % 2 ^ 32 ≢ id → k ≢ joined g id
@@ -206,8 +210,7 @@ module _ (first second : Pairs ℕ) (id : ℕ) (h : AreIndexes first second) (sm
   pub entered_and_taken : (g v : ℕ) → g < 2 ^ 32 → lookup first id ≡ None → without (put second (joined g id) v) (joined g id) ≡ second
   entered_and_taken g v small_g none =
       let place = joined g id in
-      let never : (w : ℕ) → lookup (rows_of first) id ≢ Some (g, w) = λ w found. let gone = no_row first id none in cc in
-      let new = unserved (rows_of first) second g id (serves first second h) small never in
+      let new = unserved (rows_of first) second g id (serves first second h) small (λ w found. not_in first id g none (w, found)) in
       let ascends = Rises-put 0 (2 ^ 64) second place v h.numbers (omega arith) (omega arith) in
       same_from_lookups 0 (2 ^ 64) 0 (2 ^ 64) (without (put second place v) place) second (Rises-without 0 (2 ^ 64) (put second place v) place ascends) h.numbers (λ k.
       elim (cases_eq k place) [
@@ -218,10 +221,6 @@ module _ (first second : Pairs ℕ) (id : ℕ) (h : AreIndexes first second) (sm
 -- no row of the id is in the group
 pub not_served : (first second : Pairs ℕ) (id g : ℕ) → AreIndexes first second → lookup second (joined g id) ≡ None → ¬ IsIn (rows_of first) id g
 not_served first second id g h none = λ at. none-some at.0 (sym none ∙ h.agree.in_second id g at.0 at.1)
-
--- there is no row of the id
-pub not_in : (first : Pairs ℕ) (id g : ℕ) → lookup first id ≡ None → ¬ IsIn (rows_of first) id g
-not_in first id g none = λ at. none-some (g, at.0) (sym (no_row first id none) ∙ at.1)
 
 -- what holds anyway holds on an error
 pub on_err : {T E : Type 0} (result : Result T E) (P : Type 0) → P → OnErr result P
