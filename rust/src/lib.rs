@@ -206,7 +206,7 @@ impl Congee {
     }
 
     /// The pairs whose keys are within the bounds, keys ascending; none where the bounds are the wrong way round. They are
-    /// read from the map by pages of 64.
+    /// read from the map by pages, the first of 4 pairs and each four times as long, up to 64.
     ///
     /// ```
     /// # use proved_congee::{Congee, OutOfMemory};
@@ -241,6 +241,7 @@ impl Congee {
             page: [Pair::default(); PAGE],
             at: 0,
             filled: 0,
+            room: FIRST_PAGE,
         }
     }
 
@@ -287,8 +288,9 @@ impl<'a> IntoIterator for &'a Congee {
     }
 }
 
-/// How many pairs are read at once.
+/// How many pairs are read at once, at most and at first.
 const PAGE: usize = 64;
+const FIRST_PAGE: usize = 4;
 
 /// The pairs of a range, keys ascending.
 pub struct Range<'a> {
@@ -301,6 +303,8 @@ pub struct Range<'a> {
     page: [Pair; PAGE],
     at: usize,
     filled: usize,
+    /// How many pairs the next page may have.
+    room: usize,
 }
 
 impl Range<'_> {
@@ -310,10 +314,12 @@ impl Range<'_> {
             return;
         };
         self.at = 0;
-        self.filled = self.map.read_range(start, self.end, &mut self.page);
-        if self.filled == PAGE {
+        let room = self.room;
+        self.filled = self.map.read_range(start, self.end, &mut self.page[..room]);
+        if self.filled == room {
             // (the last key is below the end)
-            self.start = Some(self.page[PAGE - 1].key + 1);
+            self.start = Some(self.page[room - 1].key + 1);
+            self.room = PAGE.min(room * 4);
         }
     }
 }
@@ -338,3 +344,9 @@ impl Iterator for Range<'_> {
 }
 
 impl FusedIterator for Range<'_> {}
+
+impl fmt::Debug for Range<'_> {
+    fn fmt(&self, f: &mut fmt::Formatter<'_>) -> fmt::Result {
+        f.debug_struct("Range").finish_non_exhaustive()
+    }
+}
