@@ -33,7 +33,7 @@ use Rattle.congee_store.specs.declared.tail.Small.TheVariants.{Entry}
 use Rattle.congee_store.specs.declared.tail.Tail.TheVariants.{Upgrade, UpgradeAbove}
 use Rattle.congee_store.specs.inner.Effects.{HasClosure, IsChange, IsOrInsert, IsReturned, reply_with}
 use Rattle.congee_store.specs.inner.Facts.{Facts, named_at}
-use Rattle.congee_store.specs.inner.Shown.{flight, held_at, made_at, spots_of}
+use Rattle.congee_store.specs.inner.Shown.{cursor_at, flight, given_at, held_at, made_at, reach_at, spots_of}
 use Rattle.congee_store.specs.inner.Tables.{IsIn, IsPlaced, OnPath, While}
 use Rattle.congee_store.specs.inner.TailFacts.{CaseFacts, IsConfirmed, IsPresent, LargeCase, SmallCase, Waits, WaitsFor, Writes, found, path_to}
 use Rattle.congee_store.specs.inner.Tails.{case_slots, case_spots, case_work, pair_spots}
@@ -42,7 +42,7 @@ use Rattle.congee_store.specs.inner.Turns.{IsRead, MayFollow, Shows, work_of}
 use Rattle.congee_store.specs.inner.World.{Node, Table}
 use Rattle.congee_store.proofs.Contents.{kept_there}
 use Rattle.congee_store.proofs.Options.{none_some}
-use Rattle.congee_store.proofs.Records.{at}
+use Rattle.congee_store.proofs.Records.{IsPlain, at, plain_cursor, plain_given, plain_reach}
 use Rattle.congee_store.proofs.Ways.{known_linked, present_here}
 use Rattle.congee_reading.proofs.Checks.{ends_changed, restarts}
 use Rattle.congee_reading.proofs.Courses.{holding_as, still_current}
@@ -138,6 +138,7 @@ module _ {M : Type 0} (Granted : Type 0) (same : M → M → Bool) (t : Table M)
           op = o.op;
           op_is = o.op_is;
           outline = o.outline;
+          point = o.point;
           returned = given_returned o.op old answer returns (subst (λ (z : Outline). HasClosure z) (sym o.outline) waits.closure) (λ shares. kept (subst (λ (z : Outline). SharesAnswer z) o.outline shares));
         }
 
@@ -145,10 +146,10 @@ module _ {M : Type 0} (Granted : Type 0) (same : M → M → Bool) (t : Table M)
     asked_seen waits = wants_same old (seen_payload task.last) (sym wants ∙ waits.wants)
 
     -- the call goes on
-    hears : (c : Case) (next : Stage) → held_at next ≡ [] → made_at next ≡ [] → Waits Granted same task → Within (spots_of next) (case_spots c) → Facts Granted same t root pin (at next (answered task old answer returns))
+    hears : (c : Case) (next : Stage) → held_at next ≡ [] → made_at next ≡ [] → IsPlain next → Waits Granted same task → Within (spots_of next) (case_spots c) → Facts Granted same t root pin (at next (answered task old answer returns))
         → ((slot : ℕ) → IsIn slot (named_at next) → IsIn slot (case_slots c)) → ((slot : ℕ) → MayFollow t next task.last slot → ⊥) → work_of t (at next (answered task old answer returns)) < case_work c
         → IsRead Granted same t root pin (at (Answer c) task) env (at next (answered task old answer returns)) (report_of kind.Answer None 0 true) Going
-    hears c next held made waits within facts names reads falls = record {
+    hears c next held made plain waits within facts names reads falls = record {
       facts = facts;
       held = held;
       made = made;
@@ -162,7 +163,7 @@ module _ {M : Type 0} (Granted : Type 0) (same : M → M → Bool) (t : Table M)
       };
       does = λ s id shows.
           subst (λ (z : Flight M). DoesAs Granted same s (with_call s id z) id (flight pin (at (Answer c) task)) env (report_of kind.Answer None 0 true) Going kind.Answer)
-          (holding_as (record (flight pin (at (Answer c) task)) { spots = spots_of next; asking = Given old answer }) (held_at next) (made_at next) (sym held) (sym made)) (
+          (holding_as (record (flight pin (at (Answer c) task)) { spots = spots_of next; asking = Given old answer }) (cursor_at next (key_of task.outline)) (reach_at next (key_of task.outline)) (given_at next) (held_at next) (made_at next) (sym (plain_cursor next plain (key_of task.outline))) (sym (plain_reach next plain (key_of task.outline))) (sym (plain_given next plain)) (sym held) (sym made)) (
             inl waits.opened.undecided,
             record {
               asked = old;
@@ -210,7 +211,7 @@ module _ {M : Type 0} (Granted : Type 0) (same : M → M → Bool) (t : Table M)
       confirms : (v : M) → task.asking ≡ Wants (Some v) → value_of task.op answer ≡ Some v
           → IsRead Granted same t root pin (at (Answer (case.Present pair only)) task) env (at (Confirm pair.here) (answered task old answer returns)) (report_of kind.Answer None 0 true) Going
       confirms v asked stays =
-          hears (case.Present pair only) (Confirm pair.here) refl refl waits_here (here_within pair)
+          hears (case.Present pair only) (Confirm pair.here) refl refl tt waits_here (here_within pair)
           (record {
             small = facts.small;
             at = (
@@ -227,7 +228,7 @@ module _ {M : Type 0} (Granted : Type 0) (same : M → M → Bool) (t : Table M)
 
       puts : IsRead Granted same t root pin (at (Answer (case.Present pair only)) task) env (at (Tail (Upgrade (path_to pair) Entry)) (answered task old answer returns)) (report_of kind.Answer None 0 true) Going
       puts =
-          hears (case.Present pair only) (Tail (Upgrade (path_to pair) Entry)) refl refl waits_here (λ z w h. h)
+          hears (case.Present pair only) (Tail (Upgrade (path_to pair) Entry)) refl refl tt waits_here (λ z w h. h)
           (record {
             small = facts.small;
             at = (
@@ -244,7 +245,7 @@ module _ {M : Type 0} (Granted : Type 0) (same : M → M → Bool) (t : Table M)
       takes_out : only ≡ true → value_of task.op answer ≡ None
           → IsRead Granted same t root pin (at (Answer (case.Present pair only)) task) env (at (Tail (UpgradeAbove pair Detach)) (answered task old answer returns)) (report_of kind.Answer None 0 true) Going
       takes_out alone none =
-          hears (case.Present pair only) (Tail (UpgradeAbove pair Detach)) refl refl waits_here (λ z w h. h)
+          hears (case.Present pair only) (Tail (UpgradeAbove pair Detach)) refl refl tt waits_here (λ z w h. h)
           (record {
             small = facts.small;
             at = (
@@ -281,7 +282,7 @@ module _ {M : Type 0} (Granted : Type 0) (same : M → M → Bool) (t : Table M)
     says_small path small facts =
         let waits : WaitsFor Granted same task = facts.at.0 in
         let while : While t path.here (SmallCase Granted same small task) = facts.at.2 in
-        hears (case.Small path small) (Tail (Upgrade path small)) refl refl waits.waits (λ z w h. h)
+        hears (case.Small path small) (Tail (Upgrade path small)) refl refl tt waits.waits (λ z w h. h)
         (record {
           small = facts.small;
           at = (
@@ -299,7 +300,7 @@ module _ {M : Type 0} (Granted : Type 0) (same : M → M → Bool) (t : Table M)
     says_large pair large facts =
         let waits : WaitsFor Granted same task = facts.at.0 in
         let while : While t pair.here (LargeCase Granted same large task) = facts.at.3 in
-        hears (case.Large pair large) (Tail (UpgradeAbove pair large)) refl refl waits.waits (λ z w h. h)
+        hears (case.Large pair large) (Tail (UpgradeAbove pair large)) refl refl tt waits.waits (λ z w h. h)
         (record {
           small = facts.small;
           at = (
@@ -336,7 +337,7 @@ module _ {M : Type 0} (Granted : Type 0) (same : M → M → Bool) (t : Table M)
     pub confirm_restarts : a.word ≢ spot.word
         → IsRead Granted same t root pin (at (Confirm spot) task) env (at TakeRoot (restarted task)) (report_of kind.Check (Some spot.slot) 0 false) Going
     confirm_restarts other =
-        restarts Granted same t root pin task env placed (record { above = None; here = spot }) a here (Confirm spot) refl refl facts.small facts.at.0 spot_known (inl refl) other
+        restarts Granted same t root pin task env placed (record { above = None; here = spot }) a here (Confirm spot) refl refl tt facts.small facts.at.0 spot_known (inl refl) other
 
     module _ (word : a.word ≡ spot.word) where
       confirmed : IsConfirmed Granted same task a
@@ -356,7 +357,7 @@ module _ {M : Type 0} (Granted : Type 0) (same : M → M → Bool) (t : Table M)
           let asked : (answer : Option M) × (task.asking ≡ Given (Some confirmed.value) answer) = confirm_given Granted same task a confirmed in
           let e : old ≡ Some confirmed.value = given_same old (Some confirmed.value) answer asked.0 (sym given ∙ asked.1) in
           subst (λ (z : Option M). IsRead Granted same t root pin (at (Confirm spot) task) env (at Finish (closed progress.Decided task)) (report_of kind.Check (Some spot.slot) 0 true) (Decided (reply_with task.outline z task.returns))) (sym e)
-          (ends_changed Granted same t root pin task env placed (record { above = None; here = spot }) a here word (Confirm spot) refl refl facts.small spot_known (inl refl) (λ p. omega arith) (Some confirmed.value) confirmed.writes.seen there
+          (ends_changed Granted same t root pin task env placed (record { above = None; here = spot }) a here word (Confirm spot) refl refl tt facts.small spot_known (inl refl) (λ p. omega arith) (Some confirmed.value) confirmed.writes.seen there
           confirmed.writes.opened stays)
 
 -- WHAT ALL THIS MEANS

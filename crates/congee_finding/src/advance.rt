@@ -13,8 +13,9 @@ use crate::checking::{check, check_above};
 use congee_protocol::payload::HasMeaning;
 use congee_protocol::types::{Env, Kind, Outcome, Report};
 use congee_reading::looking::read;
-use congee_reading::stilling::{check_still, is_point};
 use congee_reading::taking::{take_below, take_root};
+use congee_scanning::stepping::step;
+use congee_store::scan::Scan;
 use congee_store::stage::{Record, Stage};
 use congee_store::stepped::Stepped;
 use congee_store::store::Store;
@@ -69,7 +70,7 @@ fn finished<P>() -> Advanced<P>
 }
 
 /// Makes the next event of a call that doesn't write. An event uses of `env`
-/// what its kind takes. A range is not served: it checks the root again and again.
+/// what its kind takes.
 pub fn advance<P: HasMeaning>(
     store: &Store<P>,
     pin: u64,
@@ -87,13 +88,7 @@ pub fn advance<P: HasMeaning>(
     let Record { stage, task } = call;
     match stage {
         Stage::TakeRoot => on(take_root(store, pin, task)),
-        Stage::Read(path) => {
-            if is_point(&task.outline) {
-                on(read(store, pin, task, path, env.torn))
-            } else {
-                on(check_still(store, pin, task, path))
-            }
-        }
+        Stage::Read(path) => on(read(store, pin, task, path, env.torn)),
         Stage::Check(path) => on(check(store, pin, task, path)),
         Stage::TakeBelow(path, slot) => on(take_below(store, pin, task, path, slot)),
         Stage::CheckAbove(path, below, fits) => {
@@ -102,6 +97,12 @@ pub fn advance<P: HasMeaning>(
         Stage::Answer(case) => on(answer(store, pin, task, case, env.answer)),
         Stage::Confirm(spot) => on(confirm(store, pin, task, spot)),
         Stage::Tail(_) => unreachable!(),
+        Stage::Scan(course, scan) => {
+            if let Scan::Finish = scan {
+                return finished();
+            }
+            on(step(store, pin, task, course, scan, env.torn))
+        }
         Stage::Finish => finished(),
     }
 }

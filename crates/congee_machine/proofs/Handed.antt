@@ -157,7 +157,7 @@ module _ {M : Type 0} (Granted : Type 0) (same : M → M → Bool) where
     does_known kind.Read h =
         reads_known h.1.knows.node.node h.1.whole (subst (λ (o : Outcome M). Sees Granted same old new id call env report out h.1.knows.node.node h.1.whole o) e h.1.sees)
     does_known kind.Upgrade h = going_unknown (sym h.1.says.1 ∙ e)
-    does_known kind.Make h = elim h.1 [ inl m ↦ going_unknown (sym m.says.1 ∙ e) | inr m ↦ refusal_known call.progress (sym m.says.1 ∙ e) ]
+    does_known kind.Make h = elim h.2 [ inl m ↦ going_unknown (sym m.says.1 ∙ e) | inr m ↦ refusal_known call.progress (sym m.says.1 ∙ e) ]
     does_known kind.Write h = subst (λ (o : Outcome M). Settles Granted same call o) e h.1.says
     does_known kind.Obsolete h = going_unknown (sym h.says.1 ∙ e)
     does_known kind.Unlock h = going_unknown (sym h.says.1 ∙ e)

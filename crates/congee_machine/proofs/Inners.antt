@@ -13,6 +13,7 @@ use Rattle.congee_protocol.specs.declared.types.Outcome.{Outcome}
 use Rattle.congee_protocol.specs.declared.types.Report.{Report}
 use Rattle.congee_sync.specs.Epoch.{PinsView, ChangesSeat, entry_at, pin_of, is_seated}
 use Rattle.congee_store.specs.declared.stage.Record.{Record}
+use Rattle.congee_store.specs.declared.stage.Task.{Task}
 use Rattle.congee_store.specs.inner.Facts.{IsSound}
 use Rattle.congee_store.specs.inner.Meant.{meant_calls, meant_record, meant_world}
 use Rattle.congee_store.specs.inner.Places.{ChangesPlace}
@@ -20,7 +21,8 @@ use Rattle.congee_store.specs.inner.Shown.{held_at, state_of}
 use Rattle.congee_store.specs.inner.Turns.{IsAdvance, IsBegun, IsTurn}
 use Rattle.congee_store.specs.inner.World.{World, record_in, call_of, table_of}
 use Rattle.congee_store.proofs.States.{meant_call, meant_place, shown_seat}
-use Rattle.congee_machine.specs.inner.Inside.{begun_record}
+use Rattle.congee_machine.specs.inner.Inside.{IsBegunBy}
+use Rattle.congee_machine.proofs.Ends.{begun_at}
 use Rattle.congee_machine.proofs.Changing.{reseated_sound, reseated, unchanged}
 use Rattle.congee_machine.proofs.Handed.{none_there, nothing_there, unrecorded}
 use Rattle.congee_machine.proofs.Turning.{begun_sound, begun_turn, on_turn, gone_turn}
@@ -131,17 +133,18 @@ module _ {P M : Type 0} (meaning : P → M) where
           )
 
       -- A CALL BEGINS, or doesn't.
-      pub begins : (op : Op M) (r : Record P) → key_of op < 2 ^ 64 → meant_record meaning r ≡ begun_record op → call_of w id ≡ None
+      pub begins : (op : Op M) (r : Record P) → key_of op < 2 ^ 64 → IsBegunBy op (meant_record meaning r) → call_of w id ≡ None
           → ChangesSeat w.pins pins id (is_seated w.pins id) (Some w.pins.count) → ChangesPlace w.calls calls id (Some (Some r))
           → IsSound Granted same (meant_world meaning (record w { pins = pins; calls = calls }))
           × IsBegun Granted same (meant_world meaning w) (meant_world meaning (record w { pins = pins; calls = calls })) id op (report_of kind.Start None 0 true)
-      begins op r least is none enters places =
-          let there : ChangesPlace (meant_calls meaning w.calls) (meant_calls meaning calls) id (Some (Some (begun_record op))) =
+      begins op r least begun none enters places =
+          let is : meant_record meaning r ≡ begun_at op r.stage = ap (λ (task : Task M). record { stage = r.stage; task = task }) begun.task in
+          let there : ChangesPlace (meant_calls meaning w.calls) (meant_calls meaning calls) id (Some (Some (begun_at op r.stage))) =
           subst (λ (q : Record M). ChangesPlace (meant_calls meaning w.calls) (meant_calls meaning calls) id (Some (Some q))) is (meant_changes w.calls calls id (Some (Some r)) places)
           in (
-            begun_sound Granted same (meant_world meaning w) pins (meant_calls meaning calls) id sound small op least
+            begun_sound Granted same (meant_world meaning w) pins (meant_calls meaning calls) id sound small op r.stage begun.stage least
                 (meant_call meaning w id ∙ ap (in_some (meant_record meaning)) none) enters there,
-            begun_turn Granted same (meant_world meaning w) pins (meant_calls meaning calls) id sound small op least
+            begun_turn Granted same (meant_world meaning w) pins (meant_calls meaning calls) id sound small op r.stage begun.stage least
                 (meant_call meaning w id ∙ ap (in_some (meant_record meaning)) none) enters there,
           )
 

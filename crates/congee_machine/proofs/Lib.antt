@@ -6,4 +6,5 @@ pub mod Moving
 pub mod Reclaiming
 pub mod Roots
 pub mod Stocked
+pub mod Ends
 pub mod Turning

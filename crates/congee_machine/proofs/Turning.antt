@@ -4,30 +4,29 @@ use Rattle.congee_map.specs.Map.{lookup, without}
 use Rattle.congee_protocol.specs.Calls.{key_of, outline_of}
 use Rattle.congee_protocol.specs.Content.{IsContent}
 use Rattle.congee_protocol.specs.Deciding.{Carries}
-use Rattle.congee_protocol.specs.Kinds.{DoesAs, begun, report_of}
+use Rattle.congee_protocol.specs.Kinds.{DoesAs, MayEnd, report_of}
 use Rattle.congee_protocol.specs.State.{State, with_call}
 use Rattle.congee_protocol.specs.declared.types.Env.{Env}
 use Rattle.congee_protocol.specs.declared.types.Kind.TheVariants as kind
 use Rattle.congee_protocol.specs.declared.types.Op.{Op}
-use Rattle.congee_protocol.specs.declared.types.Op.TheVariants.{Range}
 use Rattle.congee_protocol.specs.declared.types.Outcome.{Outcome}
 use Rattle.congee_protocol.specs.declared.types.Report.{Report}
 use Rattle.congee_sync.specs.Epoch.{PinsView, ChangesSeat, pin_of, is_seated}
 use Rattle.congee_store.specs.declared.stage.Record.{Record}
 use Rattle.congee_store.specs.declared.stage.Stage.{Stage}
-use Rattle.congee_store.specs.declared.stage.Stage.TheVariants.{TakeRoot, Finish}
 use Rattle.congee_store.specs.inner.Tables.{Guarantees}
-use Rattle.congee_store.specs.inner.Facts.{Facts, FactsAt, Holding, IsSound}
+use Rattle.congee_store.specs.inner.Facts.{Facts, Holding, IsSound}
 use Rattle.congee_store.specs.inner.Places.{ChangesPlace}
-use Rattle.congee_store.specs.inner.Shown.{flight, flight_in, held_at, made_at, state_of}
+use Rattle.congee_store.specs.inner.Scans.{BeginsAt}
+use Rattle.congee_store.specs.inner.Shown.{flight, flight_in, held_at, state_of}
 use Rattle.congee_store.specs.inner.Turns.{IsAdvance, IsBegun, IsCourse, IsRead, IsTurn}
 use Rattle.congee_store.specs.inner.World.{World, Table, table_on, table_of, record_in, call_of}
 use Rattle.congee_store.proofs.Changes.{same_content}
 use Rattle.congee_store.proofs.Holding.{holds_nothing}
 use Rattle.congee_store.proofs.Options.{none_some, some_same}
-use Rattle.congee_store.proofs.Replies.{key_is, returned_first}
+use Rattle.congee_store.proofs.Replies.{key_is}
 use Rattle.congee_store.proofs.States.{shows, shown_flight, call_put, call_gone}
-use Rattle.congee_machine.specs.inner.Inside.{begun_record}
+use Rattle.congee_machine.proofs.Ends.{begun_at, begun_facts, begun_holds, end_holds, end_may, flight_begun}
 use Rattle.congee_machine.proofs.Changing.{HeldBy, changed_sound, held_record, none_held, others_stay, rest_stays}
 
 module _ {M : Type 0} where
@@ -36,10 +35,6 @@ module _ {M : Type 0} where
       → lookup (state_of w).flights id ≡ Some (flight pin r)
   flown w id pin r small found pinned =
       shown_flight w id small ∙ (ap (λ x. flight_in x (pin_of w.pins id)) found ∙ ap (λ x. flight_in (Some r) x) pinned)
-
-  flight_begun : (op : Op M) (count : ℕ) → flight count (begun_record op) ≡ begun op count
-  flight_begun (Range a b n) count = refl
-  flight_begun op count = refl
 
   -- nodes that stay as they are leave to all calls what they rely on
   nothing_leaves : (t u : Table M) → ((s : ℕ) → u s ≡ t s) → (Mine : ℕ → Type 0) (p : ℕ) → Guarantees t u Mine p
@@ -53,50 +48,50 @@ module _ {M : Type 0} where
 module _ {M : Type 0} (Granted : Type 0) (same : M → M → Bool) (w : World M) (pins : PinsView) (calls : List (ℕ × Option (Record M))) (id : ℕ)
     (sound : IsSound Granted same w) (small : id < 2 ^ 64) where
   -- A CALL BEGINS.
-  pub begun_sound : (op : Op M) → key_of op < 2 ^ 64 → call_of w id ≡ None
+  pub begun_sound : (op : Op M) (at : Stage) → BeginsAt (outline_of op) at → key_of op < 2 ^ 64 → call_of w id ≡ None
       → ChangesSeat w.pins pins id (is_seated w.pins id) (Some w.pins.count)
-      → ChangesPlace w.calls calls id (Some (Some (begun_record op)))
+      → ChangesPlace w.calls calls id (Some (Some (begun_at op at)))
       → IsSound Granted same (record w { pins = pins; calls = calls })
-  begun_sound op least free enters places =
-      let facts : Facts Granted same (table_of w) w.root w.pins.count (begun_record op) = record {
+  begun_sound op at first least free enters places =
+      let facts : Facts Granted same (table_of w) w.root w.pins.count (begun_at op at) = record {
         small = subst (λ k. k < 2 ^ 64) (key_is op (outline_of op) refl) least;
-        at = (record { opened = record { undecided = refl; op = op; op_is = refl; outline = refl; returned = returned_first op }; fresh = refl }, refl);
+        at = begun_facts Granted same (table_of w) w.root w.pins.count op at least first;
       } in
-      changed_sound w pins calls id (is_seated w.pins id) (Some w.pins.count) (Some (Some (begun_record op))) enters places Granted same sound
-      (λ q p e f. subst (λ (x : Record M). Facts Granted same (table_of w) w.root p x) (some_same (begun_record op) q e)
-      (subst (λ n. Facts Granted same (table_of w) w.root n (begun_record op)) (some_same w.pins.count p f) facts))
+      changed_sound w pins calls id (is_seated w.pins id) (Some w.pins.count) (Some (Some (begun_at op at))) enters places Granted same sound
+      (λ q p e f. subst (λ (x : Record M). Facts Granted same (table_of w) w.root p x) (some_same (begun_at op at) q e)
+      (subst (λ n. Facts Granted same (table_of w) w.root n (begun_at op at)) (some_same w.pins.count p f) facts))
       (λ q e. refl)
       (λ p f. refl)
       (λ e. refl)
       (λ p f. let e : w.pins.count ≡ p = some_same w.pins.count p f in omega arith)
-      (none_held (Some (begun_record op)) (call_of w id) (holds_nothing TakeRoot refl) (λ s h. let held = held_record (call_of w id) s h in absurd (none_some held.0 (sym free ∙ held.1))))
+      (none_held (Some (begun_at op at)) (call_of w id) (holds_nothing at (begun_holds op at first)) (λ s h. let held = held_record (call_of w id) s h in absurd (none_some held.0 (sym free ∙ held.1))))
       (λ q e. small)
 
-  pub begun_turn : (op : Op M) → key_of op < 2 ^ 64 → call_of w id ≡ None
+  pub begun_turn : (op : Op M) (at : Stage) → BeginsAt (outline_of op) at → key_of op < 2 ^ 64 → call_of w id ≡ None
       → ChangesSeat w.pins pins id (is_seated w.pins id) (Some w.pins.count)
-      → ChangesPlace w.calls calls id (Some (Some (begun_record op)))
+      → ChangesPlace w.calls calls id (Some (Some (begun_at op at)))
       → IsBegun Granted same w (record w { pins = pins; calls = calls }) id op (report_of kind.Start None 0 true)
-  begun_turn op least free enters places =
+  begun_turn op at first least free enters places =
       let now : World M = record w { pins = pins; calls = calls } in
       let pin = w.pins.count in
-      let place : Option (Option (Record M)) = Some (Some (begun_record op)) in
+      let place : Option (Option (Record M)) = Some (Some (begun_at op at)) in
       record {
         before = sound;
-        after = begun_sound op least free enters places;
+        after = begun_sound op at first least free enters places;
         others = λ o ne. ap record_in (places.others o ne);
         nodes = λ s. ap (λ l. table_on w.slots l s) enters.slots;
         root = refl;
-        record_is = begun_record op;
+        record_is = begun_at op at;
         here = ap record_in places.here;
-        stage = refl;
+        stage = first;
         outline = refl;
         start = record {
           is = refl;
           free = shown_flight w id small ∙ ap (λ x. flight_in x (pin_of w.pins id)) free;
-          after = call_put w now id pin (begun_record op) small (ap record_in places.here) enters.pinned
+          after = call_put w now id pin (begun_at op at) small (ap record_in places.here) enters.pinned
               (others_stay w pins calls id (is_seated w.pins id) (Some pin) place enters places)
               (rest_stays w pins calls id (is_seated w.pins id) (Some pin) place enters places refl)
-              ∙ ap (λ f. with_call (state_of w) id f) (flight_begun op pin);
+              ∙ ap (λ f. with_call (state_of w) id f) (flight_begun op at pin first);
         };
       }
 
@@ -177,9 +172,8 @@ module _ {M : Type 0} (Granted : Type 0) (same : M → M → Bool) (w : World M)
         (others_stay w pins calls id (is_seated w.pins id) None place leaves places)
         (rest_stays w pins calls id (is_seated w.pins id) None place leaves places refl)
         in
-        let facts : FactsAt Granted same (table_of w) w.root pin r.task Finish =
-        subst (λ (stage : Stage). FactsAt Granted same (table_of w) w.root pin r.task stage) advance.0 (sound.facts id pin r found pinned).at
-        in
+        let may : MayEnd (flight pin r) = end_may Granted same (table_of w) w.root pin r.task r.stage advance.0 (sound.facts id pin r found pinned).at in
+        let holds = end_holds r.stage advance.0 in
         record {
           before = sound;
           after = changed_sound w pins calls id (is_seated w.pins id) None place leaves places Granted same sound
@@ -189,7 +183,7 @@ module _ {M : Type 0} (Granted : Type 0) (same : M → M → Bool) (w : World M)
               room
               (λ p f. absurd (none_some p f))
               (none_held (record_in place) (call_of w id) (λ s h. let there = held_record (record_in place) s h in none_some there.0 (sym gone ∙ there.1))
-              (nothing_held (ap held_at advance.0)))
+              (nothing_held holds.0))
               (λ q e. small);
           call = r;
           pin = pin;
@@ -204,7 +198,7 @@ module _ {M : Type 0} (Granted : Type 0) (same : M → M → Bool) (w : World M)
             call = flight pin r;
             in_flight = flown w id pin r small found pinned;
             event = subst (λ (x : Report). DoesAs Granted same (state_of w) (state_of now) id (flight pin r) env x out x.kind) (sym advance.1)
-                (record { says = (refl, advance.2); may = inl facts; held = ap held_at advance.0; made = ap made_at advance.0; after = after });
+                (record { says = (refl, advance.2); may = may; held = holds.0; made = holds.1; after = after });
           };
           carries = λ m c. record {
             call = flight pin r;

@@ -23,7 +23,7 @@ ghost use Rattle.congee_stats.specs.StatsText.{all_entries, all_nodes};
 ghost use Rattle.congee_stats.specs.Stays.{NoCountStays};
 ghost use Rattle.congee_stats.specs.Visits.{visits_below};
 ghost use Rattle.congee_machine.specs.Shape.{reachable};
-ghost use Rattle.congee_machine.specs.inner.Inside.{begun_record, inside, state_in, meant_in};
+ghost use Rattle.congee_machine.specs.inner.Inside.{IsBegunBy, inside, state_in, meant_in};
 
 use crate::counting::count;
 use congee_base::base_node::{NodeSize, NodeType};
@@ -33,6 +33,7 @@ use congee_node_table::allocator::Allocator;
 use congee_node_table::tree_node::TreeNode;
 use congee_protocol::payload::HasMeaning;
 use congee_protocol::types::{Asking, Env, Kind, Op, Outcome, Progress, Report, Seen};
+use congee_scanning::course::first_stage;
 use congee_stats::NodeStats;
 use congee_store::calls::Calls;
 use congee_store::content::content;
@@ -68,14 +69,15 @@ fn started() -> Report
 // The record of a call that begins.
 fn begun<P: HasMeaning>(op: Op<P>, returns: Option<P>) -> Record<P>
     requires { in_some P.meaning returns ≡ returned_at (op_of P.meaning op) }
-    ensures begins { meant_record P.meaning result ≡ begun_record (op_of P.meaning op) }
+    ensures begins { IsBegunBy (op_of P.meaning op) (meant_record P.meaning result) }
     ensures small { key_of (op_of P.meaning op) < 2 ^ 64 }
 {
     let _key = op.key();
+    let outline = op.outline();
     Record {
-        stage: Stage::TakeRoot,
+        stage: first_stage(&outline),
         task: Task {
-            outline: op.outline(),
+            outline,
             op: Some(op),
             last: None,
             spare: None,

@@ -36,7 +36,7 @@ module _ {M : Type 0} (Granted : Type 0) (same : M → M → Bool) (v w : M) (ch
     hears Granted same (Some v) (Some w) refl (inl refl) refl,
     (
       _,
-      upgrades Granted same 1 refl refl (inl refl) refl refl not_last_0,
+      upgrades Granted same 1 refl refl (inl refl) tt refl refl not_last_0,
       (
         _,
         writes Granted same 1 (Some (Payload w)) None 1 (Decided (Computed (Some (v, Some w)))) refl (inl refl) refl refl refl refl (ltb-false _ _ refl) refl (record { op = ComputeIfPresent 1; op_is = refl; undecided = refl; point = tt; asked = λ g. (Some w, refl); reply = λ g. refl }),
@@ -51,10 +51,10 @@ module _ {M : Type 0} (Granted : Type 0) (same : M → M → Bool) (v w : M) (ch
     hears Granted same (Some v) None refl (inl refl) refl,
     (
       _,
-      upgrades Granted same 0 refl refl (inl refl) refl refl not_last_1,
+      upgrades Granted same 0 refl refl (inl refl) tt refl refl not_last_1,
       (
         _,
-        upgrades Granted same 1 refl refl (inl refl) refl refl not_last_0,
+        upgrades Granted same 1 refl refl (inl refl) tt refl refl not_last_0,
         (
           _,
           writes Granted same 0 None (Some (1, node_at 2 N4 seven ((1, Payload v) ∷ []))) 0 (Decided (Computed (Some (v, None)))) refl (inl refl) refl refl refl tt tt (record { slot = 1; node = _; mine = refl; here = refl }, refl, refl) (record { op = ComputeIfPresent 1; op_is = refl; undecided = refl; point = tt; asked = λ g. (None, refl); reply = λ g. refl }),
@@ -90,7 +90,7 @@ module _ {M : Type 0} (Granted : Type 0) (same : M → M → Bool) (v w : M) (ch
         hears Granted same None None refl (inl refl) refl,
         (
           _,
-          upgrades Granted same 1 refl refl (inl refl) refl refl not_last_0,
+          upgrades Granted same 1 refl refl (inl refl) tt refl refl not_last_0,
           (
             _,
             writes Granted same 1 (Some (Payload w)) None 2 (Decided (Old None)) refl (inl refl) refl refl refl refl (ltb-false _ _ refl) refl (record { op = ComputeOrInsert 2 w; op_is = refl; undecided = refl; point = tt; asked = λ g. (w, refl); reply = λ g. refl }),

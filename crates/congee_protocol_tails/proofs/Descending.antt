@@ -12,7 +12,7 @@ use Rattle.congee_protocol.specs.Local.{SeesPayloads}
 use Rattle.congee_protocol.specs.Reading.{IsReading, IsSeenOf, LooksOn, child_for}
 use Rattle.congee_protocol.specs.State.{State, Node, Flight}
 use Rattle.congee_protocol.specs.declared.types.Op.{Op}
-use Rattle.congee_protocol.specs.declared.types.Op.TheVariants.{Get, Insert, Remove, ComputeIfPresent, ComputeOrInsert, CompareExchange, Range}
+use Rattle.congee_protocol.specs.declared.types.Op.TheVariants.{Range}
 use Rattle.congee_protocol.specs.declared.types.Outcome.TheVariants.{Going}
 use Rattle.congee_protocol.specs.declared.types.Seen.{Seen}
 use Rattle.congee_protocol_tails.specs.Course.{Said, Goes, take, read, check, upgrade}
@@ -56,6 +56,10 @@ module _ {M : Type 0} where
   abbrev pub locked : Node M → Node M
   locked a = record a { word = a.word + 2 }
 
+  point_outline : (op : Op M) → IsPoint op → IsPoint (outline_of op)
+  point_outline (Range a b n) point = absurd point
+  point_outline op point = tt
+
   -- THE WAY DOWN of a point call, both words being free
   module _ (Granted : Type 0) (same : M → M → Bool) (op : Op M) (point : IsPoint op) (zero : next_byte [] (bytes_of (key_of op)) ≡ 0) (root : ℕ) (a : Node M) (root_free : IsFree root) (free : IsFree a.word) (more : List (ℕ × Node M)) (entries : ℕ) (charge : Option ℕ) where
     abbrev From : State M → Flight M → List (Said M) → State M → Type 0
@@ -75,7 +79,7 @@ module _ {M : Type 0} where
     pub goes_down : (xs : List (Said M)) (end : State M) → From here (gone_down op root a.word) xs end → From here (begun op 0) (take 0 root ∷ read 0 ∷ check 0 ∷ take 1 a.word ∷ check 0 ∷ xs) end
     goes_down xs end rest = (
       _,
-      takes Granted same 0 refl refl (inl refl) root_free (λ e. refl) refl,
+      takes Granted same 0 refl refl (inl refl) root_free (λ e. refl) (λ e. refl) refl,
       (
         _,
         reads Granted same 0 at_root refl refl (inl refl) refl (reads_root _ refl refl),
@@ -84,7 +88,7 @@ module _ {M : Type 0} where
           checks Granted same 0 _ Going refl refl (inl refl) refl ((looks_under op point).1 _ _),
           (
             _,
-            takes Granted same 1 refl refl (inl refl) free (λ e. below_root 0 e) refl,
+            takes Granted same 1 refl refl (inl refl) free (λ e. below_root 0 e) (λ e. absurd (cc)) refl,
             (_, checks Granted same 0 _ Going refl refl (inl refl) refl ((looks_under op point).1 _ _), rest),
           ),
         ),
@@ -104,8 +108,8 @@ module _ {M : Type 0} where
 
       pub locks_there : version a.word ≢ last_version → (xs : List (Said M)) (end : State M) → From (below root (locked a) more entries charge) (record reader { held = 1 ∷ [] }) xs end
           → From here (begun op 0) (take 0 root ∷ read 0 ∷ check 0 ∷ take 1 a.word ∷ check 0 ∷ read 1 ∷ check 1 ∷ upgrade 1 ∷ xs) end
-      locks_there room xs end rest = looks_there (upgrade 1 ∷ xs) end (_, upgrades Granted same 1 refl refl (inl refl) refl free room, rest)
+      locks_there room xs end rest = looks_there (upgrade 1 ∷ xs) end (_, upgrades Granted same 1 refl refl (inl refl) (point_outline op point) refl free room, rest)
 
       pub locks_both : version root ≢ last_version → version a.word ≢ last_version → (xs : List (Said M)) (end : State M) → From (below (root + 2) (locked a) more entries charge) (record reader { held = 1 ∷ 0 ∷ [] }) xs end
           → From here (begun op 0) (take 0 root ∷ read 0 ∷ check 0 ∷ take 1 a.word ∷ check 0 ∷ read 1 ∷ check 1 ∷ upgrade 0 ∷ upgrade 1 ∷ xs) end
-      locks_both root_room room xs end rest = looks_there (upgrade 0 ∷ upgrade 1 ∷ xs) end (_, upgrades Granted same 0 refl refl (inl refl) refl root_free root_room, (_, upgrades Granted same 1 refl refl (inl refl) refl free room, rest))
+      locks_both root_room room xs end rest = looks_there (upgrade 0 ∷ upgrade 1 ∷ xs) end (_, upgrades Granted same 0 refl refl (inl refl) (point_outline op point) refl root_free root_room, (_, upgrades Granted same 1 refl refl (inl refl) (point_outline op point) refl free room, rest))

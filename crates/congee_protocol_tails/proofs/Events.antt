@@ -4,7 +4,8 @@ use Rattle.congee_base.specs.Form.{Fits}
 use Rattle.congee_map.specs.Map.{lookup, put, without}
 use Rattle.congee_node_table.specs.TableNode.{TableNode, MayHave}
 use Rattle.congee_node_table.specs.declared.child.Child.{Child}
-use Rattle.congee_protocol.specs.Kinds.{Becomes, DoesAs, Knows, IsStep, IsAtWork, GivesBack, SharesAnswer, refused, refusal, Finds, Settles, MayEnd, begun, report_of, with_word, with_made, with_retired, not_locked, unlocked}
+use Rattle.congee_protocol.specs.Calls.{IsPoint}
+use Rattle.congee_protocol.specs.Kinds.{Becomes, DoesAs, Knows, IsStep, IsAtWork, MayMake, GivesBack, SharesAnswer, refused, refusal, Finds, Settles, MayEnd, begun, report_of, with_word, with_made, with_retired, not_locked, unlocked}
 use Rattle.congee_protocol.specs.Lists.{is_in, off, without_all}
 use Rattle.congee_protocol.specs.Local.{SeesPayloads}
 use Rattle.congee_sync.specs.Lock.{IsFree, version, last_version}
@@ -87,15 +88,16 @@ module _ {M : Type 0} where
     holds_it {s = s} slot mine here = record { slot = slot; node = node_in s slot; mine = mine; here = here }
 
     pub takes : {s : State M} (slot : ℕ) → lookup s.flights 5 ≡ Some (call_in s) → lookup s.nodes slot ≡ Some (node_in s slot) → IsAtWork (call_in s) → IsFree (node_in s slot).word
-        → (slot ≡ s.root → call_in s ≡ back (call_in s)) → lookup (put (call_in s).spots slot (node_in s slot).word) slot ≡ Some (node_in s slot).word
+        → (slot ≡ s.root → call_in s ≡ back (call_in s)) → ((call_in s).spots ≡ [] → slot ≡ s.root) → lookup (put (call_in s).spots slot (node_in s slot).word) slot ≡ Some (node_in s slot).word
         → IsStep Granted same s (after_take s slot) 5 plain (report_of kind.Take (Some slot) (node_in s slot).word true) Going
-    takes {s = s} slot in_flight here work free anew known = steps in_flight (
+    takes {s = s} slot in_flight here work free anew first known = steps in_flight (
       work,
       record {
         slot = slot;
         node = node_in s slot;
         here = here;
         anew = anew;
+        first = first;
         says = (refl, refl);
         ok = ((λ t. free), (λ t. refl));
         becomes = becomes _ (record (call_in s) { spots = put (call_in s).spots slot (node_in s slot).word });
@@ -134,12 +136,13 @@ module _ {M : Type 0} where
       },
     )
 
-    pub upgrades : {s : State M} (slot : ℕ) → lookup s.flights 5 ≡ Some (call_in s) → lookup s.nodes slot ≡ Some (node_in s slot) → IsAtWork (call_in s)
+    pub upgrades : {s : State M} (slot : ℕ) → lookup s.flights 5 ≡ Some (call_in s) → lookup s.nodes slot ≡ Some (node_in s slot) → IsAtWork (call_in s) → IsPoint (call_in s).outline
         → lookup (call_in s).spots slot ≡ Some (node_in s slot).word → IsFree (node_in s slot).word → version (node_in s slot).word ≢ last_version
         → IsStep Granted same s (after_upgrade s slot) 5 plain (report_of kind.Upgrade (Some slot) 0 true) Going
-    upgrades {s = s} slot in_flight here work known free room = steps in_flight (
+    upgrades {s = s} slot in_flight here work point known free room = steps in_flight (
       work,
       record {
+        point = point;
         knows = knows slot here known;
         says = (refl, refl);
         ok = ((λ t. (record { same = refl; free = free; room = room }, refl)), (λ t. refl));
@@ -149,12 +152,13 @@ module _ {M : Type 0} where
     )
 
     -- an Upgrade that the schedule lets fail
-    pub upgrade_fails : {s : State M} (slot : ℕ) → lookup s.flights 5 ≡ Some (call_in s) → lookup s.nodes slot ≡ Some (node_in s slot) → IsAtWork (call_in s)
+    pub upgrade_fails : {s : State M} (slot : ℕ) → lookup s.flights 5 ≡ Some (call_in s) → lookup s.nodes slot ≡ Some (node_in s slot) → IsAtWork (call_in s) → IsPoint (call_in s).outline
         → lookup (call_in s).spots slot ≡ Some (node_in s slot).word
         → IsStep Granted same s (with_call s 5 (not_locked (call_in s).held (call_in s))) 5 failing (report_of kind.Upgrade (Some slot) 0 false) Going
-    upgrade_fails {s = s} slot in_flight here work known = steps in_flight (
+    upgrade_fails {s = s} slot in_flight here work point known = steps in_flight (
       work,
       record {
+        point = point;
         knows = knows slot here known;
         says = (refl, refl);
         ok = ((λ t. absurd (false_true t)), (λ t. absurd (true_false t.1)));
@@ -164,12 +168,13 @@ module _ {M : Type 0} where
     )
 
     -- a Make that is refused, after which so much is charged
-    pub make_refused : {s : State M} (charge : Option ℕ) → lookup s.flights 5 ≡ Some (call_in s) → IsAtWork (call_in s) → (call_in s).held ≢ []
+    pub make_refused : {s : State M} (charge : Option ℕ) → lookup s.flights 5 ≡ Some (call_in s) → IsAtWork (call_in s) → MayMake (call_in s) → (call_in s).held ≢ []
         → GivesBack s (without_all s.nodes (call_in s).made) charge
         → IsStep Granted same s (with_call (record s { nodes = without_all s.nodes (call_in s).made; charge = charge }) 5 (refused (call_in s).progress (record (call_in s) { made = [] }))) 5 plain
         (report_of kind.Make None 0 true) (refusal (call_in s).progress)
-    make_refused {s = s} charge in_flight work holds gives_back = steps in_flight (
+    make_refused {s = s} charge in_flight work may holds gives_back = steps in_flight (
       work,
+      may,
       inr (record {
         charge = charge;
         says = (refl, refl);
@@ -209,10 +214,11 @@ module _ {M : Type 0} where
       },
     )
 
-    pub makes : {s : State M} (slot : ℕ) (made : TableNode M) → lookup s.flights 5 ≡ Some (call_in s) → IsAtWork (call_in s) → lookup s.nodes slot ≡ None → (call_in s).held ≢ [] → IsNew s (call_in s) made
+    pub makes : {s : State M} (slot : ℕ) (made : TableNode M) → lookup s.flights 5 ≡ Some (call_in s) → IsAtWork (call_in s) → MayMake (call_in s) → lookup s.nodes slot ≡ None → (call_in s).held ≢ [] → IsNew s (call_in s) made
         → IsStep Granted same s (after_make s slot made) 5 plain (report_of kind.Make (Some slot) 0 true) Going
-    makes {s = s} slot made in_flight work free holds new = steps in_flight (
+    makes {s = s} slot made in_flight work may free holds new = steps in_flight (
       work,
+      may,
       inl (record {
         slot = slot;
         made = made;

@@ -27,7 +27,7 @@ module _ {M : Type 0} (Granted : Type 0) (same : M → M → Bool) (v w : M) (ch
     record { is = refl; free = refl; after = refl },
     locks_both Granted same (Insert 4 w) tt refl 4 (leaf (four v)) refl refl [] 4 charge no_room_there (record { child = refl; count = refl; full = no_room five_four }) not_last_1 not_last_0 (drop 9 course.growth_of_a_leaf) _ (
       _,
-      makes Granted same 2 (record { form = N16; prefix = seven; children = put (four v) 4 (Payload w) }) refl (inl refl) refl (cons_nil _ _) (new_with (four v) 4 (Payload w) (record { holds = refl }) refl refl refl (ltb-false _ _ refl, ltb-true _ _ refl, (ltb-false _ _ refl, ltb-true _ _ refl, (ltb-false _ _ refl, ltb-true _ _ refl, (ltb-false _ _ refl, ltb-true _ _ refl, (ltb-false _ _ refl, ltb-true _ _ refl, tt))))) (ltb-false _ _ refl) ((refl, inl (record { from = record { slot = 1; node = _; mine = refl; here = refl }; prefix_is = refl; entry = refl })), ((refl, inl (record { from = record { slot = 1; node = _; mine = refl; here = refl }; prefix_is = refl; entry = refl })), ((refl, inl (record { from = record { slot = 1; node = _; mine = refl; here = refl }; prefix_is = refl; entry = refl })), ((refl, inl (record { from = record { slot = 1; node = _; mine = refl; here = refl }; prefix_is = refl; entry = refl })), tt))))),
+      makes Granted same 2 (record { form = N16; prefix = seven; children = put (four v) 4 (Payload w) }) refl (inl refl) (tt, inl refl) refl (cons_nil _ _) (new_with (four v) 4 (Payload w) (record { holds = refl }) refl refl refl (ltb-false _ _ refl, ltb-true _ _ refl, (ltb-false _ _ refl, ltb-true _ _ refl, (ltb-false _ _ refl, ltb-true _ _ refl, (ltb-false _ _ refl, ltb-true _ _ refl, (ltb-false _ _ refl, ltb-true _ _ refl, tt))))) (ltb-false _ _ refl) ((refl, inl (record { from = record { slot = 1; node = _; mine = refl; here = refl }; prefix_is = refl; entry = refl })), ((refl, inl (record { from = record { slot = 1; node = _; mine = refl; here = refl }; prefix_is = refl; entry = refl })), ((refl, inl (record { from = record { slot = 1; node = _; mine = refl; here = refl }; prefix_is = refl; entry = refl })), ((refl, inl (record { from = record { slot = 1; node = _; mine = refl; here = refl }; prefix_is = refl; entry = refl })), tt))))),
       (
         _,
         writes Granted same 0 (Some (node 2)) None 5 (Decided (Old None)) refl (inl refl) refl refl refl (ltb-true _ _ refl) tt refl (record { op = Insert 4 w; op_is = refl; undecided = refl; point = tt; asked = λ g. refl; reply = λ g. refl }),
@@ -42,10 +42,10 @@ module _ {M : Type 0} (Granted : Type 0) (same : M → M → Bool) (v w : M) (ch
     record { is = refl; free = refl; after = refl },
     locks_both Granted same (Insert 0 w) tt refl 4 (node_at 0 N4 (0 ∷ []) (four_slots v)) refl refl (four_leaves v []) 4 charge no_room_there (record { child = refl; count = refl; full = no_room five_four }) not_last_1 not_last_0 (drop 9 course.growth_of_an_inner_node) _ (
       _,
-      makes Granted same 6 (record { form = N4; prefix = seven; children = put [] 0 (Payload w) }) refl (inl refl) refl (cons_nil _ _) (new_with [] 0 (Payload w) (record { holds = refl }) refl refl refl (ltb-false _ _ refl, ltb-true _ _ refl, tt) (ltb-false _ _ refl) tt),
+      makes Granted same 6 (record { form = N4; prefix = seven; children = put [] 0 (Payload w) }) refl (inl refl) (tt, inl refl) refl (cons_nil _ _) (new_with [] 0 (Payload w) (record { holds = refl }) refl refl refl (ltb-false _ _ refl, ltb-true _ _ refl, tt) (ltb-false _ _ refl) tt),
       (
         _,
-        makes Granted same 7 (record { form = N16; prefix = 0 ∷ []; children = put (four_slots v) 0 (node 6) }) refl (inl refl) refl (cons_nil _ _) (new_with (four_slots v) 0 (node 6) (record { holds = refl }) refl refl (ltb-true _ _ refl) (ltb-false _ _ refl, ltb-true _ _ refl, (ltb-false _ _ refl, ltb-true _ _ refl, (ltb-false _ _ refl, ltb-true _ _ refl, (ltb-false _ _ refl, ltb-true _ _ refl, (ltb-false _ _ refl, ltb-true _ _ refl, tt))))) (ltb-false _ _ refl) (((ltb-true _ _ refl), inl (record { from = record { slot = 1; node = _; mine = refl; here = refl }; prefix_is = refl; entry = refl })), (((ltb-true _ _ refl), inl (record { from = record { slot = 1; node = _; mine = refl; here = refl }; prefix_is = refl; entry = refl })), (((ltb-true _ _ refl), inl (record { from = record { slot = 1; node = _; mine = refl; here = refl }; prefix_is = refl; entry = refl })), (((ltb-true _ _ refl), inl (record { from = record { slot = 1; node = _; mine = refl; here = refl }; prefix_is = refl; entry = refl })), tt))))),
+        makes Granted same 7 (record { form = N16; prefix = 0 ∷ []; children = put (four_slots v) 0 (node 6) }) refl (inl refl) (tt, inl refl) refl (cons_nil _ _) (new_with (four_slots v) 0 (node 6) (record { holds = refl }) refl refl (ltb-true _ _ refl) (ltb-false _ _ refl, ltb-true _ _ refl, (ltb-false _ _ refl, ltb-true _ _ refl, (ltb-false _ _ refl, ltb-true _ _ refl, (ltb-false _ _ refl, ltb-true _ _ refl, (ltb-false _ _ refl, ltb-true _ _ refl, tt))))) (ltb-false _ _ refl) (((ltb-true _ _ refl), inl (record { from = record { slot = 1; node = _; mine = refl; here = refl }; prefix_is = refl; entry = refl })), (((ltb-true _ _ refl), inl (record { from = record { slot = 1; node = _; mine = refl; here = refl }; prefix_is = refl; entry = refl })), (((ltb-true _ _ refl), inl (record { from = record { slot = 1; node = _; mine = refl; here = refl }; prefix_is = refl; entry = refl })), (((ltb-true _ _ refl), inl (record { from = record { slot = 1; node = _; mine = refl; here = refl }; prefix_is = refl; entry = refl })), tt))))),
         (
           _,
           writes Granted same 0 (Some (node 7)) None 5 (Decided (Old None)) refl (inl refl) refl refl refl (ltb-true _ _ refl) tt refl (record { op = Insert 0 w; op_is = refl; undecided = refl; point = tt; asked = λ g. refl; reply = λ g. refl }),

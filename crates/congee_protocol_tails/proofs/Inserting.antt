@@ -27,7 +27,7 @@ module _ {M : Type 0} (Granted : Type 0) (same : M → M → Bool) (v w : M) (ch
   looks_at_root : (xs : List (Said M)) (end : State M) → From (record (begun (Insert 1 v) 0) { spots = (0, 0) ∷ []; seen = Some nothing_seen }) xs end → From (begun (Insert 1 v) 0) (take 0 0 ∷ read 0 ∷ check 0 ∷ xs) end
   looks_at_root xs end rest = (
     _,
-    takes Granted same 0 refl refl (inl refl) refl (λ e. refl) refl,
+    takes Granted same 0 refl refl (inl refl) refl (λ e. refl) (λ e. refl) refl,
     (
       _,
       reads Granted same 0 nothing_seen refl refl (inl refl) refl (record { child = refl; count = refl; full = with_room tt }),
@@ -39,10 +39,10 @@ module _ {M : Type 0} (Granted : Type 0) (same : M → M → Bool) (v w : M) (ch
   fills_the_root : From (begun (Insert 1 v) 0) course.into_the_root (with_leaf 0 ((1, Payload v) ∷ []) 1 (add_charge charge 64))
   fills_the_root = looks_at_root (drop 3 course.into_the_root) _ (
     _,
-    upgrades Granted same 0 refl refl (inl refl) refl refl not_last_0,
+    upgrades Granted same 0 refl refl (inl refl) tt refl refl not_last_0,
     (
       _,
-      makes Granted same 1 (record { form = N4; prefix = seven; children = put [] 1 (Payload v) }) refl (inl refl) refl (cons_nil _ _) (new_with [] 1 (Payload v) (record { holds = refl }) refl refl refl (ltb-false _ _ refl, ltb-true _ _ refl, tt) (ltb-false _ _ refl) tt),
+      makes Granted same 1 (record { form = N4; prefix = seven; children = put [] 1 (Payload v) }) refl (inl refl) (tt, inl refl) refl (cons_nil _ _) (new_with [] 1 (Payload v) (record { holds = refl }) refl refl refl (ltb-false _ _ refl, ltb-true _ _ refl, tt) (ltb-false _ _ refl) tt),
       (
         _,
         writes Granted same 0 (Some (node 1)) None 1 (Decided (Old None)) refl (inl refl) refl refl refl (ltb-true _ _ refl) tt refl (record { op = Insert 1 v; op_is = refl; undecided = refl; point = tt; asked = λ g. refl; reply = λ g. refl }),
@@ -60,10 +60,10 @@ module _ {M : Type 0} (Granted : Type 0) (same : M → M → Bool) (v w : M) (ch
     record { is = refl; free = refl; after = refl },
     looks_at_root (drop 3 course.first_make_refused) _ (
       _,
-      upgrades Granted same 0 refl refl (inl refl) refl refl not_last_0,
+      upgrades Granted same 0 refl refl (inl refl) tt refl refl not_last_0,
       (
         _,
-        make_refused Granted same charge refl (inl refl) (cons_nil _ _) (record { size = 0; sizes = refl; charged = same_charge charge }),
+        make_refused Granted same charge refl (inl refl) (tt, inl refl) (cons_nil _ _) (record { size = 0; sizes = refl; charged = same_charge charge }),
         (_, unlocks Granted same 0 refl refl refl, (_, ends Granted same refl (inl refused_not_open) refl refl, refl)),
       ),
     ),
@@ -73,7 +73,7 @@ module _ {M : Type 0} (Granted : Type 0) (same : M → M → Bool) (v w : M) (ch
   upgrade_failed = (
     _,
     record { is = refl; free = refl; after = refl },
-    looks_at_root (drop 3 course.upgrade_failed) _ (_, upgrade_fails Granted same 0 refl refl (inl refl) refl, fills_the_root),
+    looks_at_root (drop 3 course.upgrade_failed) _ (_, upgrade_fails Granted same 0 refl refl (inl refl) tt refl, fills_the_root),
   )
 
   -- what is seen of a node with one child, where the key has none
@@ -97,7 +97,7 @@ module _ {M : Type 0} (Granted : Type 0) (same : M → M → Bool) (v w : M) (ch
     record { is = refl; free = refl; after = refl },
     locks_there Granted same (Insert 256 w) tt refl 4 (node_at 0 N4 six ((0, node 2) ∷ [])) refl refl ((2, leaf ((1, Payload v) ∷ [])) ∷ []) 1 charge another (record { child = refl; count = refl; full = with_room (ltb-false _ _ refl) }) not_last_0 (drop 8 course.below_an_inner_node) _ (
       _,
-      makes Granted same 3 (record { form = N4; prefix = 0 ∷ 0 ∷ 0 ∷ 0 ∷ 0 ∷ 0 ∷ 1 ∷ []; children = put [] 0 (Payload w) }) refl (inl refl) refl (cons_nil _ _) (new_with [] 0 (Payload w) (record { holds = refl }) refl refl refl (ltb-false _ _ refl, ltb-true _ _ refl, tt) (ltb-false _ _ refl) tt),
+      makes Granted same 3 (record { form = N4; prefix = 0 ∷ 0 ∷ 0 ∷ 0 ∷ 0 ∷ 0 ∷ 1 ∷ []; children = put [] 0 (Payload w) }) refl (inl refl) (tt, inl refl) refl (cons_nil _ _) (new_with [] 0 (Payload w) (record { holds = refl }) refl refl refl (ltb-false _ _ refl, ltb-true _ _ refl, tt) (ltb-false _ _ refl) tt),
       (
         _,
         writes Granted same 1 (Some (node 3)) None 2 (Decided (Old None)) refl (inl refl) refl refl refl (ltb-true _ _ refl) (ltb-false _ _ refl) refl (record { op = Insert 256 w; op_is = refl; undecided = refl; point = tt; asked = λ g. refl; reply = λ g. refl }),

@@ -47,7 +47,7 @@ module _ {M : Type 0} (Granted : Type 0) (same : M → M → Bool) (v w : M) (ch
     record { is = refl; free = refl; after = refl },
     looks_there Granted same (Remove 1) tt refl 4 (leaf ((1, Payload v) ∷ [])) refl refl [] 1 charge (one_key v) (record { child = λ g. refl; count = refl; full = with_room (ltb-false _ _ refl) }) (drop 7 (course.second_upgrade_failed v)) _ (
       _,
-      upgrades Granted same 0 refl refl (inl refl) refl refl not_last_1,
-      (_, upgrade_fails Granted same 1 refl refl (inl refl) refl, (_, unlocks Granted same 0 refl refl refl, takes_out 8 refl not_last_2)),
+      upgrades Granted same 0 refl refl (inl refl) tt refl refl not_last_1,
+      (_, upgrade_fails Granted same 1 refl refl (inl refl) tt refl, (_, unlocks Granted same 0 refl refl refl, takes_out 8 refl not_last_2)),
     ),
   )

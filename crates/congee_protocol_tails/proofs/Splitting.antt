@@ -32,13 +32,13 @@ module _ {M : Type 0} (Granted : Type 0) (same : M → M → Bool) (v w : M) (ch
     record { is = refl; free = refl; after = refl },
     goes_down Granted same (Insert 256 w) tt refl 4 (leaf ((1, Payload v) ∷ [])) refl refl [] 1 charge (upgrade 0 ∷ upgrade 1 ∷ make 2 ∷ xs) end (
       _,
-      upgrades Granted same 0 refl refl (inl refl) refl refl not_last_1,
+      upgrades Granted same 0 refl refl (inl refl) tt refl refl not_last_1,
       (
         _,
-        upgrades Granted same 1 refl refl (inl refl) refl refl not_last_0,
+        upgrades Granted same 1 refl refl (inl refl) tt refl refl not_last_0,
         (
           _,
-          makes Granted same 2 new_leaf refl (inl refl) refl (cons_nil _ _) (new_with [] 0 (Payload w) (record { holds = refl }) refl refl refl (ltb-false _ _ refl, ltb-true _ _ refl, tt) (ltb-false _ _ refl) tt),
+          makes Granted same 2 new_leaf refl (inl refl) (tt, inl refl) refl (cons_nil _ _) (new_with [] 0 (Payload w) (record { holds = refl }) refl refl refl (ltb-false _ _ refl, ltb-true _ _ refl, tt) (ltb-false _ _ refl) tt),
           rest,
         ),
       ),
@@ -48,7 +48,7 @@ module _ {M : Type 0} (Granted : Type 0) (same : M → M → Bool) (v w : M) (ch
   pub split : IsCourse Granted same (with_leaf 0 ((1, Payload v) ∷ []) 1 charge) (Insert 256 w) course.split (with_middle v w charge)
   split = makes_a_leaf (drop 8 course.split) _ (
     _,
-    makes Granted same 3 (record { form = N4; prefix = six; children = put ((0, node 1) ∷ []) 1 (node 2) }) refl (inl refl) refl (cons_nil _ _) (new_with ((0, node 1) ∷ []) 1 (node 2) (record { holds = refl }) refl refl (ltb-true _ _ refl) (ltb-false _ _ refl, ltb-true _ _ refl, (ltb-false _ _ refl, ltb-true _ _ refl, tt)) (ltb-false _ _ refl) (((ltb-true _ _ refl), inr (record { moved = record { slot = 1; node = _; mine = refl; here = refl }; is = refl; begins = record { holds = refl } })), tt)),
+    makes Granted same 3 (record { form = N4; prefix = six; children = put ((0, node 1) ∷ []) 1 (node 2) }) refl (inl refl) (tt, inl refl) refl (cons_nil _ _) (new_with ((0, node 1) ∷ []) 1 (node 2) (record { holds = refl }) refl refl (ltb-true _ _ refl) (ltb-false _ _ refl, ltb-true _ _ refl, (ltb-false _ _ refl, ltb-true _ _ refl, tt)) (ltb-false _ _ refl) (((ltb-true _ _ refl), inr (record { moved = record { slot = 1; node = _; mine = refl; here = refl }; is = refl; begins = record { holds = refl } })), tt)),
     (
       _,
       writes Granted same 0 (Some (node 3)) None 2 (Decided (Old None)) refl (inl refl) refl refl refl (ltb-true _ _ refl) tt refl (record { op = Insert 256 w; op_is = refl; undecided = refl; point = tt; asked = λ g. refl; reply = λ g. refl }),
@@ -59,6 +59,6 @@ module _ {M : Type 0} (Granted : Type 0) (same : M → M → Bool) (v w : M) (ch
   pub second_make_refused : IsCourse Granted same (with_leaf 0 ((1, Payload v) ∷ []) 1 charge) (Insert 256 w) course.second_make_refused (as_before v charge)
   second_make_refused = makes_a_leaf (drop 8 course.second_make_refused) _ (
     _,
-    make_refused Granted same charge refl (inl refl) (cons_nil _ _) (record { size = 64; sizes = refl; charged = refl }),
+    make_refused Granted same charge refl (inl refl) (tt, inl refl) (cons_nil _ _) (record { size = 64; sizes = refl; charged = refl }),
     (_, unlocks Granted same 1 refl refl refl, (_, unlocks Granted same 0 refl refl refl, (_, ends Granted same refl (inl refused_not_open) refl refl, refl))),
   )

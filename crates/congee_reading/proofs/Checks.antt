@@ -32,7 +32,7 @@ use Rattle.congee_store.specs.inner.TailFacts.{Waits, WaitsFor, found}
 use Rattle.congee_store.specs.inner.Tails.{case_slots, case_spots, case_work}
 use Rattle.congee_store.specs.inner.Tasks.{IsFreshly, IsOpen, Agrees, Saw, SawNode, Sees, closed, key_bytes, restarted}
 use Rattle.congee_store.specs.inner.Facts.{Facts, named_at}
-use Rattle.congee_store.specs.inner.Shown.{flight, spots_of, held_at, made_at}
+use Rattle.congee_store.specs.inner.Shown.{cursor_at, flight, given_at, held_at, made_at, reach_at, spots_of}
 use Rattle.congee_store.specs.inner.Turns.{IsRead, MayFollow, Shows, work_of}
 use Rattle.congee_store.specs.inner.World.{Node, Table}
 use Rattle.congee_store.proofs.Contents.{kept_there, none_there}
@@ -40,9 +40,9 @@ use Rattle.congee_store.proofs.Options.{none_some, some_same}
 use Rattle.congee_store.proofs.Reaching.{one, seen_at}
 use Rattle.congee_store.proofs.Ways.{check_absent, check_present, check_below, check_mismatch}
 use Rattle.congee_store.proofs.Unlike.{decided_open}
-use Rattle.congee_store.proofs.Records.{at}
+use Rattle.congee_store.proofs.Records.{IsPlain, at, plain_cursor, plain_given, plain_reach}
 use Rattle.congee_store.proofs.Replies.{returned_wants}
-use Rattle.congee_reading.proofs.Courses.{forgets, holding_as, still_current, below_other, below_not_root, descends}
+use Rattle.congee_reading.proofs.Courses.{forgets, holding_as, plain_as, still_current, below_other, below_not_root, descends}
 use Rattle.congee_reading.proofs.Events.{Within, check_ok, check_fails, looks_on}
 use Rattle.congee_reading.proofs.Spots.{here_known, above_known, step_down}
 use Rattle.congee_reading.proofs.Takes.{restarted_fresh}
@@ -89,9 +89,9 @@ module _ {M : Type 0} where
 module _ {M : Type 0} (Granted : Type 0) (same : M → M → Bool) (t : Table M) (root pin : ℕ) (task : Task M) (env : Env M) (placed : IsPlaced t root) (path : Path) (a : Node M)
     (here : t path.here.slot ≡ Some a) where
   -- a Check that fails
-  pub restarts : (stage : Stage) → held_at stage ≡ [] → made_at stage ≡ [] → key_of task.outline < 2 ^ 64 → IsOpen task → lookup (spots_of stage) path.here.slot ≡ Some path.here.word → IsIn path.here.slot (named_at stage) → a.word ≢ path.here.word
+  pub restarts : (stage : Stage) → held_at stage ≡ [] → made_at stage ≡ [] → IsPlain stage → key_of task.outline < 2 ^ 64 → IsOpen task → lookup (spots_of stage) path.here.slot ≡ Some path.here.word → IsIn path.here.slot (named_at stage) → a.word ≢ path.here.word
       → IsRead Granted same t root pin (at stage task) env (at TakeRoot (restarted task)) (report_of kind.Check (Some path.here.slot) 0 false) Going
-  restarts stage held made small opened known named other = record {
+  restarts stage held made plain small opened known named other = record {
     facts = record { small = small; at = (restarted_fresh task opened, refl) };
     held = refl;
     made = refl;
@@ -99,30 +99,30 @@ module _ {M : Type 0} (Granted : Type 0) (same : M → M → Bool) (t : Table M)
         (λ served. inl (record { forgotten = refl; work = omega arith }, (λ current calm. other (current path.here.slot path.here.word known a here))));
     does = λ s id shows.
         subst (λ (z : Flight M). DoesAs Granted same s (with_call s id z) id (flight pin (at stage task)) env (report_of kind.Check (Some path.here.slot) 0 false) Going kind.Check)
-        (holding_as (back (flight pin (at stage task))) [] [] held made)
+        (plain_as stage (key_of task.outline) (back (flight pin (at stage task))) [] [] plain refl (inl refl) refl held made)
         (check_fails Granted same s id (flight pin (at stage task)) env (inl opened.undecided) path.here.slot path.here.word (one a) (seen_at t root s shows path.here.slot a here) known other);
     carries = λ s shows m content. refl;
   }
 
   pub check_restarts : Facts Granted same t root pin (at (Check path) task) → a.word ≢ path.here.word
       → IsRead Granted same t root pin (at (Check path) task) env (at TakeRoot (restarted task)) (report_of kind.Check (Some path.here.slot) 0 false) Going
-  check_restarts facts other = let f = facts.at in restarts (Check path) refl refl facts.small f.0.opened (here_known path) (inl refl) other
+  check_restarts facts other = let f = facts.at in restarts (Check path) refl refl tt facts.small f.0.opened (here_known path) (inl refl) other
 
   pub still_restarts : Facts Granted same t root pin (at (Read path) task) → a.word ≢ path.here.word
       → IsRead Granted same t root pin (at (Read path) task) env (at TakeRoot (restarted task)) (report_of kind.Check (Some path.here.slot) 0 false) Going
-  still_restarts facts other = let f = facts.at in restarts (Read path) refl refl facts.small f.0.opened (here_known path) (inl refl) other
+  still_restarts facts other = let f = facts.at in restarts (Read path) refl refl tt facts.small f.0.opened (here_known path) (inl refl) other
 
   pub above_restarts : (below : Spot) (fits : Bool) → Facts Granted same t root pin (at (CheckAbove path below fits) task) → a.word ≢ path.here.word
       → IsRead Granted same t root pin (at (CheckAbove path below fits) task) env (at TakeRoot (restarted task)) (report_of kind.Check (Some path.here.slot) 0 false) Going
-  above_restarts below fits facts other = let f = facts.at in restarts (CheckAbove path below fits) refl refl facts.small f.0.opened (above_known path below f.6) (inr (inl refl)) other
+  above_restarts below fits facts other = let f = facts.at in restarts (CheckAbove path below fits) refl refl tt facts.small f.0.opened (above_known path below f.6) (inr (inl refl)) other
 
   module _ (word : a.word ≡ path.here.word) where
     -- a Check that passes, after which the call goes on
-    pub goes : (stage next : Stage) → held_at stage ≡ [] → made_at stage ≡ [] → held_at next ≡ [] → made_at next ≡ [] → IsFreshly task → lookup (spots_of stage) path.here.slot ≡ Some path.here.word → IsIn path.here.slot (named_at stage) → Within (spots_of next) (spots_of stage)
+    pub goes : (stage next : Stage) → held_at stage ≡ [] → made_at stage ≡ [] → held_at next ≡ [] → made_at next ≡ [] → IsPlain stage → IsPlain next → IsFreshly task → lookup (spots_of stage) path.here.slot ≡ Some path.here.word → IsIn path.here.slot (named_at stage) → Within (spots_of next) (spots_of stage)
         → Facts Granted same t root pin (at next task) → ((slot : ℕ) → IsIn slot (named_at next) → (slot ≡ root) ⊎ (IsIn slot (named_at stage) ⊎ MayFollow t stage task.last slot))
         → ((slot : ℕ) → MayFollow t next task.last slot → ⊥) → (IsPoint task.outline → work_of t (at next task) < work_of t (at stage task))
         → IsRead Granted same t root pin (at stage task) env (at next task) (report_of kind.Check (Some path.here.slot) 0 true) Going
-    goes stage next held made held_next made_next fresh known named within facts names reads falls = record {
+    goes stage next held made held_next made_next plain plain_next fresh known named within facts names reads falls = record {
       facts = facts;
       held = held_next;
       made = made_next;
@@ -136,9 +136,11 @@ module _ {M : Type 0} (Granted : Type 0) (same : M → M → Bool) (t : Table M)
       };
       does = λ s id shows.
           subst (λ (z : Flight M). DoesAs Granted same s (with_call s id z) id (flight pin (at stage task)) env (report_of kind.Check (Some path.here.slot) 0 true) Going kind.Check)
-          (holding_as (record (flight pin (at stage task)) { spots = spots_of next }) (held_at next) (made_at next) (held ∙ sym held_next) (made ∙ sym made_next))
+          (holding_as (record (flight pin (at stage task)) { spots = spots_of next }) (cursor_at next (key_of task.outline)) (reach_at next (key_of task.outline)) (given_at next) (held_at next) (made_at next)
+          (plain_cursor stage plain (key_of task.outline) ∙ sym (plain_cursor next plain_next (key_of task.outline))) (plain_reach stage plain (key_of task.outline) ∙ sym (plain_reach next plain_next (key_of task.outline)))
+          (plain_given stage plain ∙ sym (plain_given next plain_next)) (held ∙ sym held_next) (made ∙ sym made_next))
           (check_ok Granted same s id (flight pin (at stage task)) env (inl fresh.opened.undecided) path.here.slot path.here.word (one a) (seen_at t root s shows path.here.slot a here) known
-          (flight pin (at stage task)) (spots_of next) Going word (looks_on s task.outline (flight pin (at stage task)) refl) within);
+          (flight pin (at stage task)) (spots_of next) Going word (looks_on s task.outline (flight pin (at stage task)) (plain_cursor stage plain (key_of task.outline) ∙ sym (plain_reach stage plain (key_of task.outline)))) within);
       carries = λ s shows m content. refl;
     }
 
@@ -151,7 +153,7 @@ module _ {M : Type 0} (Granted : Type 0) (same : M → M → Bool) (t : Table M)
         let child : saw.seen.child ≡ Some (below_at slot) = ap (λ (z : Seen M). z.child) one_seen ∙ saw_node.child in
         let led : LedTo t path.here (key_bytes task) slot = λ (b : Node M) (h : t path.here.slot ≡ Some b) (e : b.word ≡ path.here.word).
         sym (child_point task.outline point (key_of task.outline) b.node) ∙ (saw.agrees b h e).below slot child in
-        goes (Check path) (TakeBelow path slot) refl refl refl refl f.0 (here_known path) (inl refl) (λ z w h. h)
+        goes (Check path) (TakeBelow path slot) refl refl refl refl tt tt f.0 (here_known path) (inl refl) (λ z w h. h)
         (record {
           small = facts.small;
           at = (
@@ -167,44 +169,23 @@ module _ {M : Type 0} (Granted : Type 0) (same : M → M → Bool) (t : Table M)
         (λ z h. elim h [ inl e ↦ inr (inr (subst (λ (x : ℕ). SawNode task.last x) e saw_node, record { node = a; here = here; word = word })) | inr e ↦ inr (inl e) ])
         (λ z h. h) (λ served. omega arith)
 
-    -- a range reads again
-    pub check_again : Facts Granted same t root pin (at (Check path) task) → (IsPoint task.outline → ⊥)
-        → IsRead Granted same t root pin (at (Check path) task) env (at (Read path) task) (report_of kind.Check (Some path.here.slot) 0 true) Going
-    check_again facts other =
-        let f = facts.at in
-        goes (Check path) (Read path) refl refl refl refl f.0 (here_known path) (inl refl) (λ z w h. h) (record { small = facts.small; at = (f.0, f.1) }) (λ z h. inr (inl h)) (λ z h. h) (λ served. absurd (other served))
-
-    -- and so does one before it reads
-    pub still_again : Facts Granted same t root pin (at (Read path) task) → (IsPoint task.outline → ⊥)
-        → IsRead Granted same t root pin (at (Read path) task) env (at (Read path) task) (report_of kind.Check (Some path.here.slot) 0 true) Going
-    still_again facts other =
-        let f = facts.at in
-        goes (Read path) (Read path) refl refl refl refl f.0 (here_known path) (inl refl) (λ z w h. h) facts (λ z h. inr (inl h)) (λ z h. h) (λ served. absurd (other served))
-
     pub above_goes : (below : Spot) → Facts Granted same t root pin (at (CheckAbove path below true) task)
         → IsRead Granted same t root pin (at (CheckAbove path below true) task) env (at (Read (record { above = Some path.here; here = below })) task) (report_of kind.Check (Some path.here.slot) 0 true) Going
     above_goes below facts =
         let f = facts.at in
         let on : OnPath t root pin (key_bytes task) path = f.1 in
-        goes (CheckAbove path below true) (Read (record { above = Some path.here; here = below })) refl refl refl refl f.0 (above_known path below f.6) (inr (inl refl)) (step_down path below)
+        goes (CheckAbove path below true) (Read (record { above = Some path.here; here = below })) refl refl refl refl tt tt f.0 (above_known path below f.6) (inr (inl refl)) (step_down path below)
         (record { small = facts.small; at = (f.0, record { above = (on.here, on.way, f.2); here = f.4; way = λ (b : Node M) (h : t below.slot ≡ Some b). (f.5 b h).0 refl; apart = λ (p : Spot) (e : Some path.here ≡ Some p). subst (λ (z : Spot). z.slot ≢ below.slot) (some_same path.here p e) (λ q. f.6 (sym q)) }) })
         (λ z h. elim h [ inl e ↦ inr (inl (inl e)) | inr more ↦ elim more [ inl e ↦ inr (inl (inr (inl e))) | inr never ↦ absurd never ] ])
         (λ z h. h) (λ served. descends t root placed pin (key_bytes task) path on below.slot f.2 a here word)
 
-    -- a range looks again
-    pub above_again : (below : Spot) (fits : Bool) → Facts Granted same t root pin (at (CheckAbove path below fits) task) → (IsPoint task.outline → ⊥)
-        → IsRead Granted same t root pin (at (CheckAbove path below fits) task) env (at (CheckAbove path below fits) task) (report_of kind.Check (Some path.here.slot) 0 true) Going
-    above_again below fits facts other =
-        let f = facts.at in
-        goes (CheckAbove path below fits) (CheckAbove path below fits) refl refl refl refl f.0 (above_known path below f.6) (inr (inl refl)) (λ z w h. h) facts (λ z h. inr (inl h)) (λ z h. h) (λ served. absurd (other served))
-
     -- THE CALL ASKS its closure with what the last Read reported
-    pub asks_at : (stage : Stage) (case : Case) (old : Option M) → held_at stage ≡ [] → made_at stage ≡ [] → IsFreshly task → lookup (spots_of stage) path.here.slot ≡ Some path.here.word → IsIn path.here.slot (named_at stage)
+    pub asks_at : (stage : Stage) (case : Case) (old : Option M) → held_at stage ≡ [] → made_at stage ≡ [] → IsPlain stage → IsFreshly task → lookup (spots_of stage) path.here.slot ≡ Some path.here.word → IsIn path.here.slot (named_at stage)
         → Within (case_spots case) (spots_of stage) → AsksWith task.outline (seen_payload task.last) old → Facts Granted same t root pin (at (Answer case) (asking task old))
         → ((slot : ℕ) → IsIn slot (case_slots case) → (slot ≡ root) ⊎ (IsIn slot (named_at stage) ⊎ MayFollow t stage task.last slot))
         → (IsPoint task.outline → case_work case < work_of t (at stage task))
         → IsRead Granted same t root pin (at stage task) env (at (Answer case) (asking task old)) (report_of kind.Check (Some path.here.slot) 0 true) (Ask old)
-    asks_at stage case old held made fresh known named within asks facts names falls = record {
+    asks_at stage case old held made plain fresh known named within asks facts names falls = record {
       facts = facts;
       held = refl;
       made = refl;
@@ -218,7 +199,7 @@ module _ {M : Type 0} (Granted : Type 0) (same : M → M → Bool) (t : Table M)
       };
       does = λ s id shows.
           subst (λ (z : Flight M). DoesAs Granted same s (with_call s id z) id (flight pin (at stage task)) env (report_of kind.Check (Some path.here.slot) 0 true) (Ask old) kind.Check)
-          (holding_as (record (flight pin (at stage task)) { spots = case_spots case; asking = Wants old }) [] [] held made)
+          (plain_as stage (key_of task.outline) (record (flight pin (at stage task)) { spots = case_spots case; asking = Wants old }) [] [] plain refl (inr refl) refl held made)
           (check_ok Granted same s id (flight pin (at stage task)) env (inl fresh.opened.undecided) path.here.slot path.here.word (one a) (seen_at t root s shows path.here.slot a here) known
           (record (flight pin (at stage task)) { asking = Wants old }) (case_spots case) (Ask old) word
           (record { undecided = fresh.opened.undecided; fresh = fresh.fresh; is = asks }, refl) within);
@@ -226,7 +207,7 @@ module _ {M : Type 0} (Granted : Type 0) (same : M → M → Bool) (t : Table M)
     }
 
     -- THE CALL IS DECIDED with a reply that leaves all
-    module _ (stage : Stage) (held : held_at stage ≡ []) (made : made_at stage ≡ []) (small : key_of task.outline < 2 ^ 64) (known : lookup (spots_of stage) path.here.slot ≡ Some path.here.word) (named : IsIn path.here.slot (named_at stage))
+    module _ (stage : Stage) (held : held_at stage ≡ []) (made : made_at stage ≡ []) (plain : IsPlain stage) (small : key_of task.outline < 2 ^ 64) (known : lookup (spots_of stage) path.here.slot ≡ Some path.here.word) (named : IsIn path.here.slot (named_at stage))
         (more : IsPoint task.outline → 1 < work_of t (at stage task)) where
       pub ends : (reply : Reply M) → Tells Granted same (flight pin (at stage task)) reply
           → ((s : State M) → Shows t root s → (m : Pairs M) → IsContent s m → Leads same m m (flight pin (at stage task)) reply)
@@ -238,7 +219,7 @@ module _ {M : Type 0} (Granted : Type 0) (same : M → M → Bool) (t : Table M)
         course = forgets t (inr named) (λ z h. h) (λ z h. h) refl refl (λ point. inr (more point));
         does = λ s id shows.
             subst (λ (z : Flight M). DoesAs Granted same s (with_call s id z) id (flight pin (at stage task)) env (report_of kind.Check (Some path.here.slot) 0 true) (Decided reply) kind.Check)
-            (holding_as (record (settled progress.Decided (flight pin (at stage task))) { spots = [] }) [] [] held made)
+            (plain_as stage (key_of task.outline) (record (settled progress.Decided (flight pin (at stage task))) { spots = [] }) [] [] plain refl (inr refl) refl held made)
             (check_ok Granted same s id (flight pin (at stage task)) env (inl tells.0.undecided) path.here.slot path.here.word (one a) (seen_at t root s shows path.here.slot a here) known
             (settled progress.Decided (flight pin (at stage task))) [] (Decided reply) word (tells.0, tells.1, refl) (λ z w h. absurd (none_some w h)));
         carries = λ s shows m content. leads s shows m content;
@@ -251,15 +232,15 @@ module _ {M : Type 0} (Granted : Type 0) (same : M → M → Bool) (t : Table M)
         pub ends_left : (fresh : IsFreshly task) (reply : Reply M) → IsLeft same fresh.opened.op stands reply
             → IsRead Granted same t root pin (at stage task) env (at Finish (closed progress.Decided task)) (report_of kind.Check (Some path.here.slot) 0 true) (Decided reply)
         ends_left fresh reply left =
-            ends reply (left_tells Granted same pin stage task fresh.opened stands reply fresh.fresh left seen)
-            (λ s shows m content. left_leads Granted same pin stage task fresh.opened stands reply fresh.fresh left m (there s shows m content))
+            ends reply (left_tells Granted same pin stage plain task fresh.opened stands reply fresh.fresh left seen)
+            (λ s shows m content. left_leads Granted same pin stage plain task fresh.opened stands reply fresh.fresh left m (there s shows m content))
 
         -- what it would store stands there already
         pub ends_changed : (opened : IsOpen task) → IsChange same opened.op task.asking stands stands
             → IsRead Granted same t root pin (at stage task) env (at Finish (closed progress.Decided task)) (report_of kind.Check (Some path.here.slot) 0 true) (Decided (reply_with task.outline stands task.returns))
         ends_changed opened change =
-            ends (reply_with task.outline stands task.returns) (same_tells Granted same pin stage task opened stands change seen)
-            (λ s shows m content. same_leads Granted same pin stage task opened stands change m content.map (there s shows m content))
+            ends (reply_with task.outline stands task.returns) (same_tells Granted same pin stage plain task opened stands change seen)
+            (λ s shows m content. same_leads Granted same pin stage plain task opened stands change m content.map (there s shows m content))
 
     -- WHAT A POINT CALL HAS SEEN at a node on its key's way
     module _ (facts : Facts Granted same t root pin (at (Check path) task)) (point : IsPoint task.outline) where
@@ -325,7 +306,7 @@ module _ {M : Type 0} (Granted : Type 0) (same : M → M → Bool) (task : Task 
   pub asking_open : IsOpen (asking task old)
   asking_open =
       let o = fresh.opened in
-      record { undecided = o.undecided; op = o.op; op_is = o.op_is; outline = o.outline; returned = returned_wants o.op task.asking old task.returns o.returned }
+      record { undecided = o.undecided; op = o.op; op_is = o.op_is; outline = o.outline; point = o.point; returned = returned_wants o.op task.asking old task.returns o.returned }
 
   pub asking_waits : HasClosure task.outline → old ≡ seen_payload task.last → Waits Granted same (asking task old)
   asking_waits closure is = record { opened = asking_open; closure = closure; wants = ap (λ (z : Option M). Wants z) is }

@@ -15,7 +15,8 @@ use Rattle.congee_protocol.specs.declared.types.Kind.{Kind}
 use Rattle.congee_protocol.specs.declared.types.Outcome.{Outcome}
 use Rattle.congee_store.specs.inner.Facts.{named_at}
 use Rattle.congee_store.specs.inner.Tables.{byte_at, IsLinked, IsBelow, IsIn, IsPlaced, LedTo, NeedsHolder, OnPath}
-use Rattle.congee_store.specs.inner.Shown.{spots_of, held_at, made_at}
+use Rattle.congee_store.specs.inner.Shown.{cursor_at, given_at, held_at, made_at, reach_at, spots_of}
+use Rattle.congee_store.proofs.Records.{IsPlain, plain_cursor, plain_given, plain_reach}
 use Rattle.congee_store.specs.inner.Turns.{depth_in, work_of, IsCourse, IsCurrent, IsUndisturbed, MayFollow, StartsOver}
 use Rattle.congee_store.specs.inner.World.{Node, Table, is_linked}
 use Rattle.congee_store.proofs.Options.{none_some, some_same}
@@ -29,16 +30,29 @@ neither word locked obsolete =
     let l : word / 2 % 2 ≢ 1 = locked in
     let o : word % 2 ≢ 1 = obsolete in omega arith
 
--- a call that holds and has made so much
-pub holding_as : {M : Type 0} (call : Flight M) (held made : List ℕ) → call.held ≡ held → call.made ≡ made → call ≡ record call { held = held; made = made }
-holding_as call held made h m = ap (λ (x : List ℕ). record call { held = x }) h ∙ ap (λ (x : List ℕ). record call { held = held; made = x }) m
+-- a call that is so far, holds and has made so much
+pub holding_as : {M : Type 0} (call : Flight M) (cursor reach given : ℕ) (held made : List ℕ) → call.cursor ≡ cursor → call.reach ≡ reach → call.given ≡ given → call.held ≡ held → call.made ≡ made
+    → call ≡ record call { cursor = cursor; reach = reach; given = given; held = held; made = made }
+holding_as call cursor reach given held made c r g h m =
+    ap (λ (x : ℕ). record call { cursor = x }) c
+    ∙ (ap (λ (x : ℕ). record call { cursor = cursor; reach = x }) r
+    ∙ (ap (λ (x : ℕ). record call { cursor = cursor; reach = reach; given = x }) g
+    ∙ (ap (λ (x : List ℕ). record call { cursor = cursor; reach = reach; given = given; held = x }) h
+    ∙ ap (λ (x : List ℕ). record call { cursor = cursor; reach = reach; given = given; held = held; made = x }) m)))
+
+-- the same of one at a stage of a point call
+pub plain_as : {M : Type 0} (stage : Stage) (key : ℕ) (call : Flight M) (held made : List ℕ) → IsPlain stage → call.cursor ≡ cursor_at stage key → (call.reach ≡ cursor_at stage key) ⊎ (call.reach ≡ reach_at stage key) → call.given ≡ given_at stage → call.held ≡ held → call.made ≡ made
+    → call ≡ record call { cursor = key; reach = key; given = 0; held = held; made = made }
+plain_as stage key call held made plain c r g h m =
+    holding_as call key key 0 held made (c ∙ plain_cursor stage plain key)
+    (elim r [ inl e ↦ e ∙ plain_cursor stage plain key | inr e ↦ e ∙ plain_reach stage plain key ]) (g ∙ plain_given stage plain) h m
 
 -- no node is held
 abbrev pub NoneHeld : {M : Type 0} → Table M → Type 0
 NoneHeld t = (s : ℕ) → NeedsHolder t s → ⊥
 
 -- where nobody disturbs a call that holds nothing
-pub none_held : {M : Type 0} (t : Table M) (stage : Stage) (env : Env M) → held_at stage ≡ [] → made_at stage ≡ [] → IsUndisturbed t stage env → NoneHeld t
+pub none_held : {M : Type 0} {k : Kind} (t : Table M) (stage : Stage) (env : Env M) → held_at stage ≡ [] → made_at stage ≡ [] → IsUndisturbed t stage env k → NoneHeld t
 none_held t stage env held made calm s needs =
     elim (calm.alone s needs) [
       | inl h ↦ false_true (subst (λ (z : List ℕ). IsTrue (is_in s z)) held h)
@@ -63,7 +77,7 @@ module _ {M : Type 0} (t : Table M) where
   -- the course of an event at a slot, after which the call names no slot and remembers no word
   pub forgets : {root : ℕ} {call next : Record M} {env : Env M} {k : Kind} {slot word : ℕ} {ok : Bool} {out : Outcome M} → (slot ≡ root) ⊎ IsIn slot (named_at call.stage)
       → ((z : ℕ) → IsIn z (named_at next.stage) → ⊥) → ((z : ℕ) → MayFollow t next.stage next.task.last z → ⊥) → spots_of next.stage ≡ [] → next.task.outline ≡ call.task.outline
-      → (IsPoint call.task.outline → (StartsOver t next × (IsCurrent t call.stage → IsUndisturbed t call.stage env → ⊥)) ⊎ (work_of t next < work_of t call))
+      → (IsPoint call.task.outline → (StartsOver t next × (IsCurrent t call.stage → IsUndisturbed t call.stage env k → ⊥)) ⊎ (work_of t next < work_of t call))
       → IsCourse t t root call env next (report_of k (Some slot) word ok) out
   forgets {root = root} {call = call} {slot = slot} known names reads spots outline falls = record {
     touches = λ z e make. subst (λ (x : ℕ). (x ≡ root) ⊎ IsIn x (named_at call.stage)) (some_same slot z e) known;

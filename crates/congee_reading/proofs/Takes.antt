@@ -1,5 +1,7 @@
 -- What a Take leaves of its call.
-use Rattle.std.proofs.Common.{◌≡◌, ℕ, ◌<◌, ◌^◌, Bool, true, false, IsTrue, ◌↔◌, [], Option, Some, None, ◌⊎◌, inl, inr, refl, sym, subst, ap, ◌∙◌, arith}
+use Rattle.std.proofs.Common.{◌≡◌, ℕ, List, ◌<◌, ◌^◌, Bool, true, false, IsTrue, ◌↔◌, [], Option, Some, None, ◌⊎◌, inl, inr, refl, sym, subst, ap, ◌∙◌, arith}
+use Rattle.congee_map.proofs.MapLaws.{lookup-put_same}
+use Rattle.congee_map.specs.Map.{lookup}
 use Rattle.congee_node_table.specs.Key.{Begins}
 use Rattle.congee_protocol.specs.Calls.{key_of}
 use Rattle.congee_protocol.specs.Kinds.{DoesAs, report_of}
@@ -19,14 +21,15 @@ use Rattle.congee_store.specs.declared.stage.Task.{Task}
 use Rattle.congee_store.specs.inner.Tables.{IsSafe, IsPlaced, IsThere, IsIn}
 use Rattle.congee_store.specs.inner.Tasks.{IsFreshly, IsOpen, key_bytes, restarted}
 use Rattle.congee_store.specs.inner.Facts.{Facts, named_at}
-use Rattle.congee_store.specs.inner.Shown.{flight, held_at, made_at}
+use Rattle.congee_store.specs.inner.Shown.{flight, held_at, made_at, spots_of}
+use Rattle.congee_store.specs.inner.Tails.{above_spots, path_spots}
 use Rattle.congee_store.specs.inner.Turns.{IsCurrent, IsRead, Shows}
 use Rattle.congee_store.specs.inner.World.{Node, Standing, Table, is_linked}
 use Rattle.congee_store.proofs.Options.{none_some, some_same}
 use Rattle.congee_store.proofs.Reaching.{one, seen_at}
-use Rattle.congee_store.proofs.Records.{at}
+use Rattle.congee_store.proofs.Records.{IsPlain, at}
 use Rattle.congee_store.proofs.Replies.{returned_fresh}
-use Rattle.congee_reading.proofs.Courses.{NoneHeld, forgets, none_held, holding_as, taken_current, root_free, below_free}
+use Rattle.congee_reading.proofs.Courses.{NoneHeld, forgets, none_held, plain_as, taken_current, root_free, below_free}
 use Rattle.congee_reading.proofs.Events.{take, not_by, is_by}
 
 abbrev pub top_path : ℕ → ℕ → Path
@@ -40,10 +43,16 @@ restarted_fresh task o = record {
     op = o.op;
     op_is = o.op_is;
     outline = o.outline;
+    point = o.point;
     returned = returned_fresh o.op task.asking task.returns o.returned;
   };
   fresh = refl;
 }
+
+-- a path has a word that is remembered
+path_known : (path : Path) → path_spots path ≡ [] → ⊥
+path_known path e =
+    none_some path.here.word (sym (ap (λ (z : List (ℕ × ℕ)). lookup z path.here.slot) e) ∙ lookup-put_same (above_spots path.above) path.here.slot path.here.word)
 
 module _ {M : Type 0} (Granted : Type 0) (same : M → M → Bool) (t : Table M) (root pin : ℕ) (task : Task M) (env : Env M) (placed : IsPlaced t root) where
   -- at the root all is new
@@ -82,16 +91,17 @@ module _ {M : Type 0} (Granted : Type 0) (same : M → M → Bool) (t : Table M)
           keeps = taken_current t TakeRoot (Read (top_path root a.word)) root a here refl;
           falls = λ served. inr (omega arith);
         };
-        does = λ s id shows. take Granted same s id (flight pin (at TakeRoot task)) env (inl f.0.opened.undecided) root (one a) true (seen_at t root s shows root a here) (λ e. is_new f.0 f.1) (is_by free);
+        does = λ s id shows. take Granted same s id (flight pin (at TakeRoot task)) env (inl f.0.opened.undecided) root (one a) true (seen_at t root s shows root a here) (λ e. is_new f.0 f.1) (λ e. sym shows.root_is) (is_by free);
         carries = λ s shows m content. refl;
       }
 
   -- a Take that fails
-  take_restarts : (stage : Stage) (slot : ℕ) (a : Node M) → held_at stage ≡ [] → made_at stage ≡ [] → key_of task.outline < 2 ^ 64 → IsFreshly task → t slot ≡ Some a → (IsFree a.word → ⊥)
+  take_restarts : (stage : Stage) (slot : ℕ) (a : Node M) → held_at stage ≡ [] → made_at stage ≡ [] → IsPlain stage → key_of task.outline < 2 ^ 64 → IsFreshly task → t slot ≡ Some a → (IsFree a.word → ⊥)
       → (slot ≡ root) ⊎ IsIn slot (named_at stage) → (IsCurrent t stage → NoneHeld t → IsFree a.word)
       → ((s : State M) → Shows t root s → slot ≡ s.root → flight pin (at stage task) ≡ back (flight pin (at stage task)))
+      → ((s : State M) → Shows t root s → spots_of stage ≡ [] → slot ≡ s.root)
       → IsRead Granted same t root pin (at stage task) env (at TakeRoot (restarted task)) (report_of kind.Take (Some slot) a.word false) Going
-  take_restarts stage slot a held made small fresh here free known frees anew =
+  take_restarts stage slot a held made plain small fresh here free known frees anew first =
       let next : Record M = at TakeRoot (restarted task) in
       record {
         facts = record { small = small; at = (restarted_fresh task fresh.opened, refl) };
@@ -101,8 +111,8 @@ module _ {M : Type 0} (Granted : Type 0) (same : M → M → Bool) (t : Table M)
             (λ served. inl (record { forgotten = refl; work = omega arith }, (λ current calm. free (frees current (none_held t stage env held made calm)))));
         does = λ s id shows.
             subst (λ (z : Flight M). DoesAs Granted same s (with_call s id z) id (flight pin (at stage task)) env (report_of kind.Take (Some slot) a.word false) Going kind.Take)
-            (holding_as (back (flight pin (at stage task))) [] [] held made)
-            (take Granted same s id (flight pin (at stage task)) env (inl fresh.opened.undecided) slot (one a) false (seen_at t root s shows slot a here) (anew s shows) (not_by free));
+            (plain_as stage (key_of task.outline) (back (flight pin (at stage task))) [] [] plain refl (inl refl) refl held made)
+            (take Granted same s id (flight pin (at stage task)) env (inl fresh.opened.undecided) slot (one a) false (seen_at t root s shows slot a here) (anew s shows) (first s shows) (not_by free));
         carries = λ s shows m content. refl;
       }
 
@@ -110,7 +120,7 @@ module _ {M : Type 0} (Granted : Type 0) (same : M → M → Bool) (t : Table M)
       → IsRead Granted same t root pin (at TakeRoot task) env (at TakeRoot (restarted task)) (report_of kind.Take (Some root) a.word false) Going
   root_restarts a facts here free =
       let f = facts.at in
-      take_restarts TakeRoot root a refl refl facts.small f.0 here free (inl refl) (λ current none. root_free t root placed a none here) (λ s shows e. is_new f.0 f.1)
+      take_restarts TakeRoot root a refl refl tt facts.small f.0 here free (inl refl) (λ current none. root_free t root placed a none here) (λ s shows e. is_new f.0 f.1) (λ s shows e. sym shows.root_is)
 
   pub below_ok : (path : Path) (slot : ℕ) (a : Node M) (fits : Bool) → Facts Granted same t root pin (at (TakeBelow path slot) task) → t slot ≡ Some a → IsFree a.word
       → (IsTrue fits ↔ Begins a.node.prefix (key_bytes task))
@@ -144,7 +154,7 @@ module _ {M : Type 0} (Granted : Type 0) (same : M → M → Bool) (t : Table M)
           falls = λ served. inr (omega arith);
         };
         does = λ s id shows. take Granted same s id (flight pin (at (TakeBelow path slot) task)) env (inl f.0.opened.undecided) slot (one a) true (seen_at t root s shows slot a here)
-            (λ e. absurd (f.5 (e ∙ shows.root_is))) (is_by free);
+            (λ e. absurd (f.5 (e ∙ shows.root_is))) (λ e. absurd (path_known path e)) (is_by free);
         carries = λ s shows m content. refl;
       }
 
@@ -152,6 +162,6 @@ module _ {M : Type 0} (Granted : Type 0) (same : M → M → Bool) (t : Table M)
       → IsRead Granted same t root pin (at (TakeBelow path slot) task) env (at TakeRoot (restarted task)) (report_of kind.Take (Some slot) a.word false) Going
   below_restarts path slot a facts here free =
       let f = facts.at in
-      take_restarts (TakeBelow path slot) slot a refl refl facts.small f.0 here free (inr (inl refl))
+      take_restarts (TakeBelow path slot) slot a refl refl tt facts.small f.0 here free (inr (inl refl))
       (λ current none. below_free t root placed pin (key_bytes task) path f.1 slot f.2 a current none here)
-      (λ s shows e. absurd (f.5 (e ∙ shows.root_is)))
+      (λ s shows e. absurd (f.5 (e ∙ shows.root_is))) (λ s shows e. absurd (path_known path e))

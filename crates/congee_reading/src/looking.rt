@@ -72,10 +72,10 @@ fn read_whole<P: HasMeaning>(
 
 /// What a Read found, and, if that is a payload, a share more of it, and one for a closure.
 #[derive(Drop)]
-struct Looked<P> {
-    seen: Seen<P>,
-    spare: Option<P>,
-    question: Option<P>,
+pub struct Looked<P> {
+    pub seen: Seen<P>,
+    pub spare: Option<P>,
+    pub question: Option<P>,
 }
 
 // What stands under the key's byte of a node. Where a share is refused a call that needs none leaves it open, and
@@ -118,14 +118,17 @@ pub fn child_at<'a, P: Drop>(node: &'a TreeNode<P>, key: u64) -> Option<ChildRef
 
 /// A child, with the shares of its payload that a call keeps.
 #[derive(Drop)]
-struct Shares<P> {
-    child: Option<Child<P>>,
-    spare: Option<P>,
-    question: Option<P>,
+pub struct Shares<P> {
+    pub child: Option<Child<P>>,
+    pub spare: Option<P>,
+    pub question: Option<P>,
 }
 
-// The child and a share more of its payload, and a third one where the call has a closure.
-fn shared<P: HasMeaning>(child: Option<ChildRef<'_, P>>, asks: bool) -> Result<Shares<P>, OOMError>
+/// The child and a share more of its payload, and a third one where the call has a closure.
+pub fn shared<P: HasMeaning>(
+    child: Option<ChildRef<'_, P>>,
+    asks: bool,
+) -> Result<Shares<P>, OOMError>
     ensures child { IfOk result (λ x. in_some (child_of P.meaning) x.child
         ≡ in_some (child_of P.meaning) (seen child.entry)) }
     ensures spare { IfOk result (λ x. in_some P.meaning x.spare
@@ -171,8 +174,8 @@ fn share_if<P: HasMeaning>(payload: &P, asks: bool) -> Result<Option<P>, OOMErro
     }
 }
 
-// The count of a node's children, and whether it is full, beside what was found.
-fn noted<P: Drop>(node: &TreeNode<P>, shares: Shares<P>) -> Looked<P>
+/// The count of a node's children, and whether it is full, beside what was found.
+pub fn noted<P: Drop>(node: &TreeNode<P>, shares: Shares<P>) -> Looked<P>
     ensures child { result.seen.child ≡ shares.child }
     ensures spare { result.spare ≡ shares.spare }
     ensures question { result.question ≡ shares.question }

@@ -5,9 +5,9 @@ use Rattle.congee_map.proofs.MapLaws.{lookup-without_same, lookup-without_other}
 use Rattle.congee_map.specs.Map.{Pairs, lookup, without}
 use Rattle.congee_protocol.specs.Alone.{Passes, EndsWithin, AllEnd}
 use Rattle.congee_protocol.specs.Alone.{IsUndisturbed as AreAlone}
-use Rattle.congee_protocol.specs.Calls.{Outline, IsPoint, outline_of}
+use Rattle.congee_protocol.specs.Calls.{Outline, IsPoint}
 use Rattle.congee_protocol.specs.Kinds.{IsReclaim}
-use Rattle.congee_protocol.specs.Runs.{IsServed, same_number}
+use Rattle.congee_protocol.specs.Runs.{same_number}
 use Rattle.congee_protocol.specs.State.{State}
 use Rattle.congee_protocol.specs.State as state
 use Rattle.congee_protocol.specs.declared.trace.Line.{Line}
@@ -15,6 +15,8 @@ use Rattle.congee_protocol.specs.declared.trace.Line.TheVariants.{Done as Made, 
 use Rattle.congee_protocol.specs.declared.types.Env.{Env}
 use Rattle.congee_protocol.specs.declared.types.Event.{Event}
 use Rattle.congee_protocol.specs.declared.types.Event.TheVariants.{Start, Step, Reclaim}
+use Rattle.congee_protocol.specs.declared.types.Kind.{Kind}
+use Rattle.congee_protocol.specs.declared.types.Kind.TheVariants as kind
 use Rattle.congee_protocol.specs.declared.types.Op.{Op}
 use Rattle.congee_protocol.specs.declared.types.Op.TheVariants.{Range}
 use Rattle.congee_protocol.specs.declared.types.Outcome.{Outcome}
@@ -36,6 +38,7 @@ use Rattle.congee_store.specs.declared.tail.Small.TheVariants.{Entry, Leaf}
 use Rattle.congee_store.specs.declared.tail.Tail.{Tail as AnyTail}
 use Rattle.congee_store.specs.declared.tail.Tail.TheVariants.{Upgrade, Unlock, UpgradeAbove, UpgradeBelow}
 use Rattle.congee_store.specs.inner.Facts.{Facts, FactsAt, Holding, IsSound}
+use Rattle.congee_store.specs.inner.Scans.{BeginsAt}
 use Rattle.congee_store.specs.inner.Shown.{flight, shown, spots_of, state_of}
 use Rattle.congee_store.specs.inner.Tables.{Guarantees, Known}
 use Rattle.congee_store.specs.inner.Tails.{case_work, large_work, small_work, tail_work, unlock_work}
@@ -157,9 +160,9 @@ current_left w after slot report r stage c = λ s word known a here.
     let had = words_left w after slot report r s a here in sym had.is ∙ c s word known had.node had.here
 
 -- Where no other call holds a node, each that needs a holder is this call's.
-undisturbed_inside : (w : World ℕ) (id : ℕ) (call : Record ℕ) (env : Env ℕ) → IsSound (Unit {0}) same_number w → call_of w id ≡ Some call → env.fail ≡ false → AreAlone (state_of w) id
-    → IsUndisturbed (table_of w) call.stage env
-undisturbed_inside w id call env sound found whole alone = record {
+undisturbed_inside : (w : World ℕ) (id : ℕ) (call : Record ℕ) (env : Env ℕ) (k : Kind) → IsSound (Unit {0}) same_number w → call_of w id ≡ Some call → (k ≡ kind.Upgrade → env.fail ≡ false) → AreAlone (state_of w) id
+    → IsUndisturbed (table_of w) call.stage env k
+undisturbed_inside w id call env k sound found whole alone = record {
   whole = whole;
   versions = λ s a here. alone.versions s _ (shown_node w s ∙ ap shown here);
   alone = λ s need.
@@ -193,41 +196,13 @@ left_anew : (t : Table ℕ) (call : Record ℕ) (n : ℕ) → spots_of call.stag
 left_anew t call n forgotten h =
     inl ((λ slot word known a here. absurd (none_some word (subst (λ (l : List (ℕ × ℕ)). lookup l slot ≡ Some word) forgotten known))), h)
 
+begins_at_root : (outline : Outline) (at : Stage) → IsPoint outline → BeginsAt outline at → at ≡ TakeRoot
+begins_at_root (Range a b n) at point first = absurd point
+begins_at_root outline at point first = first
+
 left_at_root : (t : Table ℕ) (call : Record ℕ) → call.stage ≡ TakeRoot → IsLeft t call 39
 left_at_root t call e =
     left_anew t call 39 (ap spots_of e) (subst (λ (s : Stage). work t call.task.progress s ≤ 39) (sym e) (omega arith))
-
--- every call in flight is a point call
-abbrev pub AllServed : World ℕ → Type 0
-AllServed w = (id : ℕ) → id < 2 ^ 64 → (r : Record ℕ) → call_of w id ≡ Some r → IsPoint r.task.outline
-
-served_outline : (id : ℕ) (op : Op ℕ) → IsServed (Start id op) → IsPoint (outline_of op)
-served_outline id (Range a b n) h = h
-served_outline id op h = tt
-
-served_begun : (w after : World ℕ) (id : ℕ) (op : Op ℕ) (report : Report) → AllServed w → IsServed (Start id op) → IsBegun (Unit {0}) same_number w after id op report → AllServed after
-served_begun w after id op report all served begun o small r found =
-    elim (eqb_tells o id) [
-      | inl same ↦
-          let is : begun.record_is ≡ r = some_same begun.record_is r (sym begun.here ∙ subst (λ (z : ℕ). call_of after z ≡ Some r) same.1 found) in
-          subst (λ (l : Outline). IsPoint l) (sym begun.outline ∙ ap (λ (q : Record ℕ). q.task.outline) is) (served_outline id op served)
-      | inr off ↦ all o small r (sym (begun.others o off.1) ∙ found)
-    ]
-
-served_turned : (w after : World ℕ) (id : ℕ) (env : Env ℕ) (report : Report) (out : Outcome ℕ) → AllServed w → IsTurn (Unit {0}) same_number w after id env report out → AllServed after
-served_turned w after id env report out all turn o small r found =
-    elim (eqb_tells o id) [
-      | inl same ↦
-          let course : IsCourse (table_of w) (table_of after) w.root turn.call env r report out = turn.course r (subst (λ (z : ℕ). call_of after z ≡ Some r) same.1 found) in
-          subst (λ (l : Outline). IsPoint l) (sym course.outline) (all o small turn.call (subst (λ (z : ℕ). call_of w z ≡ Some turn.call) (sym same.1) turn.found))
-      | inr off ↦ all o small r (sym (turn.others o off.1) ∙ found)
-    ]
-
-served_next : (w after : World ℕ) (event : Event ℕ) (line : Line) → AllServed w → Plays w event line after → AllServed after
-served_next w after event Skipped all p = subst (λ (z : World ℕ). AllServed z) (sym p.1) all
-served_next w after (Start id op) (Made report out seen) all p = served_begun w after id op report all p.0 p.1
-served_next w after (Step id env) (Made report out seen) all p = served_turned w after id env report out all p.0
-served_next w after (Reclaim slot) (Made report out seen) all p = λ id small r found. all id small r (sym (p.0.calls id) ∙ found)
 
 -- the call of one number
 module _ (id : ℕ) (small : id < 2 ^ 64) where
@@ -235,19 +210,20 @@ module _ (id : ℕ) (small : id < 2 ^ 64) where
   pub record Has (w : World ℕ) (n : ℕ) : Type 0 where
     pub call : Record ℕ
     pub found : call_of w id ≡ Some call
+    pub point : IsPoint call.task.outline
     pub left : IsLeft (table_of w) call n
 
-  module _ (w after : World ℕ) (env : Env ℕ) (report : Report) (out : Outcome ℕ) (n : ℕ) (sound : IsSound (Unit {0}) same_number w) (all : AllServed w) (has : Has w n)
+  module _ (w after : World ℕ) (env : Env ℕ) (report : Report) (out : Outcome ℕ) (n : ℕ) (sound : IsSound (Unit {0}) same_number w) (has : Has w n)
       (turn : IsTurn (Unit {0}) same_number w after id env report out) where
-    less : (next : Record ℕ) → env.fail ≡ false → AreAlone (state_of w) id → IsLeft (table_of w) turn.call n → IsCourse (table_of w) (table_of after) w.root turn.call env next report out
+    less : (next : Record ℕ) → IsPoint turn.call.task.outline → (report.kind ≡ kind.Upgrade → env.fail ≡ false) → AreAlone (state_of w) id → IsLeft (table_of w) turn.call n → IsCourse (table_of w) (table_of after) w.root turn.call env next report out
         → (1 < n) × IsLeft (table_of after) next (n - 1)
-    less next whole alone l course =
+    less next point whole alone l course =
         let some : 0 < work_of (table_of after) next = some_work (table_of after) next.task.progress next.stage in
         let was : 0 < work_of (table_of w) turn.call = some_work (table_of w) turn.call.task.progress turn.call.stage in
-        elim (course.falls (all id small turn.call turn.found)) [
+        elim (course.falls point) [
           | inl back ↦
               elim l [
-                | inl now ↦ absurd (back.1 now.0 (undisturbed_inside w id turn.call env sound turn.found whole alone))
+                | inl now ↦ absurd (back.1 now.0 (undisturbed_inside w id turn.call env report.kind sound turn.found whole alone))
                 | inr late ↦ (omega (arith, late, was), left_anew (table_of after) next (n - 1) back.0.forgotten (let most = back.0.work in omega (arith, late, was, most)))
               ]
           | inr falls ↦
@@ -257,14 +233,16 @@ module _ (id : ℕ) (small : id < 2 ^ 64) where
               ]
         ]
 
-    turn_at : (next : Option (Record ℕ)) → env.fail ≡ false → AreAlone (state_of w) id → call_of after id ≡ next → (out ≡ Done) ⊎ ((1 < n) × Has after (n - 1))
+    turn_at : (next : Option (Record ℕ)) → (report.kind ≡ kind.Upgrade → env.fail ≡ false) → AreAlone (state_of w) id → call_of after id ≡ next → (out ≡ Done) ⊎ ((1 < n) × Has after (n - 1))
     turn_at None whole alone e = inl (turn.ends e).0
     turn_at (Some next) whole alone e =
         let same : has.call ≡ turn.call = some_same has.call turn.call (sym has.found ∙ turn.found) in
-        let l = less next whole alone (subst (λ (r : Record ℕ). IsLeft (table_of w) r n) same has.left) (turn.course next e) in
-        inr (l.0, record { call = next; found = e; left = l.1 })
+        let point : IsPoint turn.call.task.outline = subst (λ (r : Record ℕ). IsPoint r.task.outline) same has.point in
+        let course : IsCourse (table_of w) (table_of after) w.root turn.call env next report out = turn.course next e in
+        let l = less next point whole alone (subst (λ (r : Record ℕ). IsLeft (table_of w) r n) same has.left) course in
+        inr (l.0, record { call = next; found = e; point = subst (λ (o : Outline). IsPoint o) (sym course.outline) point; left = l.1 })
 
-    turned : env.fail ≡ false → AreAlone (state_of w) id → (out ≡ Done) ⊎ ((1 < n) × Has after (n - 1))
+    turned : (report.kind ≡ kind.Upgrade → env.fail ≡ false) → AreAlone (state_of w) id → (out ≡ Done) ⊎ ((1 < n) × Has after (n - 1))
     turned whole alone = turn_at (call_of after id) whole alone refl
 
   -- what it has left is what it had before another's Start
@@ -274,7 +252,7 @@ module _ (id : ℕ) (small : id < 2 ^ 64) where
         | inl same ↦
             let f = in_flight w id has.call sound small has.found in
             absurd (none_some (flight f.0 has.call) (sym (subst (λ (z : ℕ). lookup (state_of w).flights z ≡ None) (sym same.1) begun.start.free) ∙ f.2))
-        | inr off ↦ record { call = has.call; found = begun.others id off.1 ∙ has.found; left = left_same (table_of w) (table_of after) begun.nodes has.call n has.left }
+        | inr off ↦ record { call = has.call; found = begun.others id off.1 ∙ has.found; point = has.point; left = left_same (table_of w) (table_of after) begun.nodes has.call n has.left }
       ]
 
   -- what it has left is what it had before a Reclaim: no node that it knows is reclaimed
@@ -287,66 +265,73 @@ module _ (id : ℕ) (small : id < 2 ^ 64) where
       record {
         call = has.call;
         found = freed.calls id ∙ has.found;
+        point = has.point;
         left = left_by (table_of w) (table_of after) has.call n same (current_left w after slot report freed.reclaim has.call.stage) has.left;
       }
 
-  passes : (w after : World ℕ) (event : Event ℕ) (line : Line) (n : ℕ) (rest : ℕ → Type 0) → IsSound (Unit {0}) same_number w → AllServed w → Has w n → Plays w event line after
+  passes : (w after : World ℕ) (event : Event ℕ) (line : Line) (n : ℕ) (rest : ℕ → Type 0) → IsSound (Unit {0}) same_number w → Has w n → Plays w event line after
       → ((k : ℕ) → Has after k → rest k) → Passes id (state_of w) event line n rest
-  passes w after (Start i op) Skipped n rest sound all has p then = then n (subst (λ (z : World ℕ). Has z n) (sym p.1) has)
-  passes w after (Step i env) Skipped n rest sound all has p then = then n (subst (λ (z : World ℕ). Has z n) (sym p.1) has)
-  passes w after (Reclaim slot) Skipped n rest sound all has p then = then n (subst (λ (z : World ℕ). Has z n) (sym p.1) has)
-  passes w after (Start i op) (Made report out seen) n rest sound all has p then = then n (begun_has w after i op report n sound has p.1)
-  passes w after (Reclaim slot) (Made report out seen) n rest sound all has p then = then n (freed_has w after slot report n sound has p.0)
-  passes w after (Step i env) (Made report out seen) n rest sound all has p then = λ mine whole granted undisturbed.
+  passes w after (Start i op) Skipped n rest sound has p then = then n (subst (λ (z : World ℕ). Has z n) (sym p.1) has)
+  passes w after (Step i env) Skipped n rest sound has p then = then n (subst (λ (z : World ℕ). Has z n) (sym p.1) has)
+  passes w after (Reclaim slot) Skipped n rest sound has p then = then n (subst (λ (z : World ℕ). Has z n) (sym p.1) has)
+  passes w after (Start i op) (Made report out seen) n rest sound has p then = then n (begun_has w after i op report n sound has p.0)
+  passes w after (Reclaim slot) (Made report out seen) n rest sound has p then = then n (freed_has w after slot report n sound has p.0)
+  passes w after (Step i env) (Made report out seen) n rest sound has p then = λ mine whole granted undisturbed.
       let turn : IsTurn (Unit {0}) same_number w after id env report out = subst (λ (z : ℕ). IsTurn (Unit {0}) same_number w after z env report out) mine p.0 in
-      elim (turned w after env report out n sound all has turn whole undisturbed) [
+      elim (turned w after env report out n sound has turn whole undisturbed) [
         | inl done ↦ inl done
         | inr more ↦ inr (more.0, then (n - 1) more.1)
       ]
 
-  ends_within : (w : World ℕ) (m : Pairs ℕ) (xs : List Move) (last : World ℕ) (k : Pairs ℕ) (n : ℕ) → IsSound (Unit {0}) same_number w → AllServed w → Has w n → AreMoves w m xs last k
+  ends_within : (w : World ℕ) (m : Pairs ℕ) (xs : List Move) (last : World ℕ) (k : Pairs ℕ) (n : ℕ) → IsSound (Unit {0}) same_number w → Has w n → AreMoves w m xs last k
       → EndsWithin id (entries_of xs) (state_of w) n
-  ends_within w m [] last k n sound all has are = tt
-  ends_within w m (x ∷ xs) last k n sound all has are =
-      passes w x.inside x.event x.line n _ sound all has are.0.plays
-      (λ left more. ends_within x.inside x.content xs last k left (sound_next w x.inside x.event x.line sound are.0.plays) (served_next w x.inside x.event x.line all are.0.plays) more are.1)
+  ends_within w m [] last k n sound has are = tt
+  ends_within w m (x ∷ xs) last k n sound has are =
+      passes w x.inside x.event x.line n _ sound has are.0.plays
+      (λ left more. ends_within x.inside x.content xs last k left (sound_next w x.inside x.event x.line sound are.0.plays) more are.1)
 
   -- a call that has just begun
-  begins : (w after : World ℕ) (event : Event ℕ) (line : Line) (r : Record ℕ) → call_of w id ≡ None → call_of after id ≡ Some r → Plays w event line after → Has after 39
-  begins w after event Skipped r none found p = absurd (none_some r (sym none ∙ subst (λ (z : World ℕ). call_of z id ≡ Some r) p.1 found))
-  begins w after (Start i op) (Made report out seen) r none found p =
+  begins : (w after : World ℕ) (event : Event ℕ) (line : Line) (r : Record ℕ) → IsPoint r.task.outline → call_of w id ≡ None → call_of after id ≡ Some r → Plays w event line after → Has after 39
+  begins w after event Skipped r point none found p = absurd (none_some r (sym none ∙ subst (λ (z : World ℕ). call_of z id ≡ Some r) p.1 found))
+  begins w after (Start i op) (Made report out seen) r point none found p =
       elim (eqb_tells id i) [
         | inl same ↦
-            let here : call_of after id ≡ Some p.1.record_is = subst (λ (z : ℕ). call_of after z ≡ Some p.1.record_is) (sym same.1) p.1.here in
-            record { call = p.1.record_is; found = here; left = left_at_root (table_of after) p.1.record_is p.1.stage }
-        | inr off ↦ absurd (none_some r (sym none ∙ (sym (p.1.others id off.1) ∙ found)))
+            let here : call_of after id ≡ Some p.0.record_is = subst (λ (z : ℕ). call_of after z ≡ Some p.0.record_is) (sym same.1) p.0.here in
+            let as_point : IsPoint p.0.record_is.task.outline = subst (λ (z : Record ℕ). IsPoint z.task.outline) (some_same r p.0.record_is (sym found ∙ here)) point in
+            record {
+              call = p.0.record_is;
+              found = here;
+              point = as_point;
+              left = left_at_root (table_of after) p.0.record_is (begins_at_root p.0.record_is.task.outline p.0.record_is.stage as_point p.0.stage);
+            }
+        | inr off ↦ absurd (none_some r (sym none ∙ (sym (p.0.others id off.1) ∙ found)))
       ]
-  begins w after (Step i env) (Made report out seen) r none found p =
+  begins w after (Step i env) (Made report out seen) r point none found p =
       elim (eqb_tells id i) [
         | inl same ↦ absurd (none_some p.0.call (sym none ∙ subst (λ (z : ℕ). call_of w z ≡ Some p.0.call) (sym same.1) p.0.found))
         | inr off ↦ absurd (none_some r (sym none ∙ (sym (p.0.others id off.1) ∙ found)))
       ]
-  begins w after (Reclaim slot) (Made report out seen) r none found p = absurd (none_some r (sym none ∙ (sym (p.0.calls id) ∙ found)))
+  begins w after (Reclaim slot) (Made report out seen) r point none found p = absurd (none_some r (sym none ∙ (sym (p.0.calls id) ∙ found)))
 
 -- from anywhere on, whatever it remembers
-has_some : (w : World ℕ) (id : ℕ) (small : id < 2 ^ 64) (r : Record ℕ) → call_of w id ≡ Some r → Has id small w 80
-has_some w id small r found =
+has_some : (w : World ℕ) (id : ℕ) (small : id < 2 ^ 64) (r : Record ℕ) → IsPoint r.task.outline → call_of w id ≡ Some r → Has id small w 80
+has_some w id small r point found =
     let most : work_of (table_of w) r ≤ 40 = most_work (table_of w) r.task.progress r.stage in
-    record { call = r; found = found; left = inr (omega (arith, most)) }
+    record { call = r; found = found; point = point; left = inr (omega (arith, most)) }
 
 -- Each point call that is alone ends: within 40 events from its start on, within 80 from any event on.
-pub all_end : (w : World ℕ) (m : Pairs ℕ) (xs : List Move) (last : World ℕ) (n : Pairs ℕ) → IsSound (Unit {0}) same_number w → AllServed w → AreMoves w m xs last n
+pub all_end : (w : World ℕ) (m : Pairs ℕ) (xs : List Move) (last : World ℕ) (n : Pairs ℕ) → IsSound (Unit {0}) same_number w → AreMoves w m xs last n
     → AllEnd (state_of w) (entries_of xs)
-all_end w m [] last n sound all are = tt
-all_end w m (x ∷ xs) last n sound all are =
-    let next : IsSound (Unit {0}) same_number x.inside = sound_next w x.inside x.event x.line sound are.0.plays in
-    let served : AllServed x.inside = served_next w x.inside x.event x.line all are.0.plays in (
+all_end w m [] last n sound are = tt
+all_end w m (x ∷ xs) last n sound are =
+    let next : IsSound (Unit {0}) same_number x.inside = sound_next w x.inside x.event x.line sound are.0.plays in (
       (λ id call point. (
-        (λ here. let f = flies w id call here in ends_within id f.small w m (x ∷ xs) last n 80 sound all (has_some w id f.small f.call f.found) are),
+        (λ here. let f = flies w id call here in ends_within id f.small w m (x ∷ xs) last n 80 sound (has_some w id f.small f.call (subst (λ (o : Outline). IsPoint o) (sym f.outline) point) f.found) are),
         (λ none here.
             let f = flies x.inside id call here in
             let before : call_of w id ≡ None = no_call w id sound f.small none in
-            ends_within id f.small x.inside x.content xs last n 39 next served (begins id f.small w x.inside x.event x.line f.call before f.found are.0.plays) are.1),
+            ends_within id f.small x.inside x.content xs last n 39 next
+            (begins id f.small w x.inside x.event x.line f.call (subst (λ (o : Outline). IsPoint o) (sym f.outline) point) before f.found are.0.plays) are.1),
       )),
-      all_end x.inside x.content xs last n next served are.1,
+      all_end x.inside x.content xs last n next are.1,
     )

@@ -185,8 +185,8 @@ module _ (old new : State ℕ) (id : ℕ) (call : Flight ℕ) (env : Env ℕ) (r
       by_ok report.ok
       (λ good. going out d.1.says.1 _ _ (d.1.locks good) (record { outline = refl; op = refl; progress = refl }))
       (λ bad. going out d.1.says.1 old _ (d.1.fails bad) (not_locked_lasts call.held call))
-  step_turns map kind.Make (t, inl d) = going out d.says.1 _ _ d.becomes (record { outline = refl; op = refl; progress = refl })
-  step_turns map kind.Make (t, inr d) = made_none call.progress refl out d.says.1 _ d.becomes
+  step_turns map kind.Make (t, may, inl d) = going out d.says.1 _ _ d.becomes (record { outline = refl; op = refl; progress = refl })
+  step_turns map kind.Make (t, may, inr d) = made_none call.progress refl out d.says.1 _ d.becomes
   step_turns map kind.Write d = wrote out d.1.says _ d.1.becomes
   step_turns map kind.Obsolete d = going out d.says.1 _ _ d.becomes (record { outline = refl; op = refl; progress = refl })
   step_turns map kind.Unlock d = going out d.says.1 _ _ d.becomes (freed call.progress)
@@ -227,13 +227,13 @@ event_turns : (old new : State ℕ) (id : ℕ) (event : Event ℕ) (line : Line)
 event_turns old new id (Start i op) Skipped c map h m = (c, refl, stays id c old new m (ap (λ (s : State ℕ). lookup s.flights id) h.1))
 event_turns old new id (Step i env) Skipped c map h m = (c, refl, stays id c old new m (ap (λ (s : State ℕ). lookup s.flights id) h.1))
 event_turns old new id (Reclaim slot) Skipped c map h m = (c, refl, stays id c old new m (ap (λ (s : State ℕ). lookup s.flights id) h.1))
-event_turns old new id (Reclaim slot) (Made report out seen) c map h m = (c, refl, stays id c old new m (ap (λ (s : State ℕ). lookup s.flights id) h.2.0.after))
+event_turns old new id (Reclaim slot) (Made report out seen) c map h m = (c, refl, stays id c old new m (ap (λ (s : State ℕ). lookup s.flights id) h.1.0.after))
 event_turns old new id (Start i op) (Made report out seen) c map h m =
     elim (eqb_tells i id) [
       | inl at ↦
-          let was : c ≡ None = none_matches c (subst (λ (f : Option (Flight ℕ)). Matches c f) (subst (λ (n : ℕ). lookup old.flights n ≡ None) at.1 h.2.0.free) m) in
+          let was : c ≡ None = none_matches c (subst (λ (f : Option (Flight ℕ)). Matches c f) (subst (λ (n : ℕ). lookup old.flights n ≡ None) at.1 h.1.0.free) m) in
           let here : lookup new.flights id ≡ Some (begun op old.count) =
-          subst (λ (n : ℕ). lookup new.flights n ≡ Some (begun op old.count)) at.1 (ap (λ (s : State ℕ). lookup s.flights i) h.2.0.after ∙ lookup-put_same old.flights i (begun op old.count)) in (
+          subst (λ (n : ℕ). lookup new.flights n ≡ Some (begun op old.count)) at.1 (ap (λ (s : State ℕ). lookup s.flights i) h.1.0.after ∙ lookup-put_same old.flights i (begun op old.count)) in (
             Some (op, progress.Open),
             ((λ e. (was, refl)), (λ ne. absurd (ne at.1))),
             subst (λ (f : Option (Flight ℕ)). Matches (Some (op, progress.Open)) f) (sym here) (record { outline = refl; payloads = λ o e. some_same o op (sym e) }, refl),
@@ -241,19 +241,19 @@ event_turns old new id (Start i op) (Made report out seen) c map h m =
       | inr off ↦ (
         c,
         ((λ e. absurd (off.1 e)), (λ ne. refl)),
-        stays id c old new m (ap (λ (s : State ℕ). lookup s.flights id) h.2.0.after ∙ lookup-put_other old.flights i (begun op old.count) id (λ e. off.1 (sym e))),
+        stays id c old new m (ap (λ (s : State ℕ). lookup s.flights id) h.1.0.after ∙ lookup-put_other old.flights i (begun op old.count) id (λ e. off.1 (sym e))),
       )
     ]
 event_turns old new id (Step i env) (Made report out seen) c map h m =
     elim (eqb_tells i id) [
       | inl at ↦
-          let step : IsStep (Unit {0}) same_number old new id env report out = subst (λ (n : ℕ). IsStep (Unit {0}) same_number old new n env report out) at.1 h.2.0 in
+          let step : IsStep (Unit {0}) same_number old new id env report out = subst (λ (n : ℕ). IsStep (Unit {0}) same_number old new n env report out) at.1 h.1.0 in
           let r = own_step old new id env report out c map step m in
           (r.0, ((λ e. r.1), (λ ne. absurd (ne at.1))), r.2)
       | inr off ↦ (
         c,
         ((λ e. absurd (off.1 e)), (λ ne. refl)),
-        stays id c old new m (others_stay (Unit {0}) same_number old new i h.2.0.call h.2.0.call env report out id (λ e. off.1 (sym e)) report.kind h.2.0.event),
+        stays id c old new m (others_stay (Unit {0}) same_number old new i h.1.0.call h.1.0.call env report out id (λ e. off.1 (sym e)) report.kind h.1.0.event),
       )
     ]
 

@@ -1,6 +1,7 @@
 -- From the events that were made one by one to the theorem on the whole run.
 use Rattle.std.proofs.Common.{◌≡◌, ℕ, ◌^◌, ◌<◌, List, [], Option, None, refl, sym, subst, ap, ◌∙◌}
 use Rattle.congee_map.specs.Map.{Pairs, lookup}
+use Rattle.congee_protocol.proofs.Scanning.{all_scan}
 use Rattle.congee_protocol.specs.Alone.{AllEnd}
 use Rattle.congee_protocol.specs.Content.{IsContent}
 use Rattle.congee_protocol.specs.Orderly.{IsOrderly}
@@ -13,7 +14,6 @@ use Rattle.congee_protocol.specs.declared.types.Event.{Event}
 use Rattle.congee_store.specs.inner.Facts.{IsSound}
 use Rattle.congee_store.specs.inner.Shown.{state_of}
 use Rattle.congee_store.specs.inner.World.{World, call_of}
-use Rattle.congee_store.proofs.Options.{none_some}
 use Rattle.congee_replay.specs.inner.Played.{entries_of, SoFar}
 use Rattle.congee_replay.proofs.Alone.{all_end}
 use Rattle.congee_replay.proofs.Flying.{no_call}
@@ -60,5 +60,6 @@ replayed first last root charge events lines decided content is sound so_far sta
           (subst (λ (es : List (Event ℕ)). IsOrderly id None es (lines_of entries)) so_far.events_are (orderly (fresh root charge) [] entries content id refl run));
       touching = all_touch root first [] so_far.moves last so_far.content sound (ap (λ (s : State ℕ). s.root) is) none so_far.are_moves;
       ends = subst (λ (s : State ℕ). AllEnd s entries) is
-          (all_end first [] so_far.moves last so_far.content sound (λ id small r found. absurd (none_some r (sym (none id small) ∙ found))) so_far.are_moves);
+          (all_end first [] so_far.moves last so_far.content sound so_far.are_moves);
+      scans = all_scan (fresh root charge) [] entries content run;
     }

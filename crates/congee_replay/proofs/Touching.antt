@@ -26,14 +26,19 @@ use Rattle.congee_store.specs.declared.stage.Path.{Path}
 use Rattle.congee_store.specs.declared.stage.Record.{Record}
 use Rattle.congee_store.specs.declared.stage.Spot.{Spot}
 use Rattle.congee_store.specs.declared.stage.Stage.{Stage}
-use Rattle.congee_store.specs.declared.stage.Stage.TheVariants.{TakeRoot, Read, Check, TakeBelow, CheckAbove, Answer, Confirm, Tail, Finish}
+use Rattle.congee_store.specs.declared.stage.Stage.TheVariants.{TakeRoot, Read, Check, TakeBelow, CheckAbove, Answer, Confirm, Tail, Scan, Finish}
 use Rattle.congee_store.specs.declared.stage.Task.{Task}
+use Rattle.congee_store.specs.declared.scan.Course.{Course}
+use Rattle.congee_store.specs.declared.scan.Scan.{Scan as AnyScan}
+use Rattle.congee_store.specs.declared.scan.Scan.TheVariants as scan
 use Rattle.congee_store.specs.declared.tail.Case.{Case}
 use Rattle.congee_store.specs.declared.tail.Case.TheVariants as case
 use Rattle.congee_store.specs.declared.tail.Pair.{Pair}
 use Rattle.congee_store.specs.declared.tail.Tail.{Tail as AnyTail}
 use Rattle.congee_store.specs.declared.tail.Tail.TheVariants.{Upgrade, Write, MakeLeaf, Link, Unlock, UpgradeAbove, UpgradeBelow, MakeLeafBelow, Grow, MakeMiddle, Replace, Insert as Insertion, Detach, Obsolete, UnlockBelow}
 use Rattle.congee_store.specs.inner.Tables.{IsIn, IsBelow, IsPlaced, IsSafe, Known, IsThere, CameFrom, OnPath, Guarantees}
+use Rattle.congee_store.specs.inner.ScanSpots.{named_on}
+use Rattle.congee_store.specs.inner.Scans.{BeginsAt, ScanFacts, SawFirst}
 use Rattle.congee_store.specs.inner.Tasks.{SawNode, Saw, key_bytes}
 use Rattle.congee_store.specs.inner.Facts.{named_at, Facts, FactsAt, IsSound}
 use Rattle.congee_store.specs.inner.Shown.{shown, state_of}
@@ -122,6 +127,20 @@ module _ (t : Table ℕ) (pin : ℕ) where
   case_there root task (case.Small path small) slot f h = path_there t root pin (key_bytes task) path slot f.1 h
   case_there root task (case.Large pair large) slot f h = two_there pair slot (still_there pair.here f.2) (still_there pair.above f.4) h
 
+  -- a node that a range is at, and one that it goes to
+  two_spots : (one other : Spot) (slot : ℕ) → Known t pin one → IsThere t pin other.slot → IsIn slot (other.slot ∷ one.slot ∷ []) → IsThere t pin slot
+  two_spots one other slot kn there h =
+      elim h [ inl e ↦ subst (λ (z : ℕ). IsThere t pin z) e there | inr more ↦ one_there one.slot slot (still_there one kn) more ]
+
+  scan_there : (root : ℕ) (task : Task ℕ) (course : Course) (at : AnyScan) (slot : ℕ) → ScanFacts t root pin task course at → IsIn slot (named_on at) → IsThere t pin slot
+  scan_there root task course scan.TakeRoot slot f h = absurd h
+  scan_there root task course (scan.Read spot) slot f h = one_there spot.slot slot (still_there spot f.here) h
+  scan_there root task course (scan.Check spot) slot f h = one_there spot.slot slot (still_there spot f.0.here) h
+  scan_there root task course (scan.TakeBelow spot below) slot f h =
+      elim h [ inl e ↦ subst (λ (z : ℕ). IsThere t pin z) e f.2 | inr more ↦ one_there spot.slot slot (still_there spot f.0.here) more ]
+  scan_there root task course (scan.CheckAbove spot below from) slot f h = two_spots spot below slot f.0.here (still_there below f.2) h
+  scan_there root task course scan.Finish slot f h = absurd h
+
 module _ (t : Table ℕ) (root pin : ℕ) (r : Record ℕ) (placed : IsPlaced t root) where
   abbrev key : List ℕ
   key = bytes_of (key_of r.task.outline)
@@ -137,6 +156,7 @@ module _ (t : Table ℕ) (root pin : ℕ) (r : Record ℕ) (placed : IsPlaced t 
   named_there (Answer case) slot f h = case_there t pin root r.task case slot f h
   named_there (Confirm spot) slot f h = one_there t pin spot.slot slot (still_there t pin spot f.1) h
   named_there (Tail tail) slot f h = tail_there t pin root r.task tail slot f h
+  named_there (Scan course at) slot f h = scan_there t pin root r.task course at slot f h
   named_there Finish slot f h = absurd h
 
   -- a slot that was read where the word still stands has one
@@ -151,7 +171,26 @@ module _ (t : Table ℕ) (root pin : ℕ) (r : Record ℕ) (placed : IsPlaced t 
       ((s.agrees stands.node stands.here stands.word).below slot child) in
       let below : IsBelow t stands.node at.0 slot = placed.below path.here.slot stands.node linked at.0 slot at.1 in
       record { node = below.node; here = below.linked.here; safe = subst (λ z. IsSafe pin z) (sym below.linked.standing) tt }
+  follow_there (Scan course (scan.Check spot)) slot f h =
+      let s : SawFirst t r.task course spot = f.1 in
+      let one_seen : s.seen ≡ h.0.seen = some_same s.seen h.0.seen (sym s.is ∙ h.0.is) in
+      let child : s.seen.child ≡ Some (below_at slot) = ap (λ (z : Seen ℕ). z.child) one_seen ∙ h.0.child in
+      let stands : Stays t spot = h.1 in
+      let linked = known_linked t root key placed pin spot stands.node f.0.here stands.here stands.word in
+      let at = first_entry 0 256 (bound_at course.cursor stands.node.node.prefix) stands.node.node.children (below_at slot) (placed.ordered spot.slot stands.node linked)
+      (sym (s.stands stands.node stands.here stands.word).0 ∙ child) in
+      let below : IsBelow t stands.node at.0 slot = placed.below spot.slot stands.node linked at.0 slot at.1 in
+      record { node = below.node; here = below.linked.here; safe = subst (λ z. IsSafe pin z) (sym below.linked.standing) tt }
   follow_there stage slot f h = absurd h
+
+-- a call that begins names no slot
+begun_trusts : (outline : Outline) (at : Stage) → BeginsAt outline at → (t : Table ℕ) (last : Option (Seen ℕ)) (slot : ℕ) → IsIn slot (named_at at) ⊎ MayFollow t at last slot → ⊥
+begun_trusts (Range a b n) at first t last slot h =
+    elim first [
+      | inl top ↦ elim (subst (λ (s : Stage). IsIn slot (named_at s) ⊎ MayFollow t s last slot) top h) [ inl named ↦ named | inr follows ↦ follows ]
+      | inr over ↦ elim (subst (λ (s : Stage). IsIn slot (named_at s) ⊎ MayFollow t s last slot) over.0 h) [ inl named ↦ named | inr follows ↦ follows ]
+    ]
+begun_trusts outline at first t last slot h = elim (subst (λ (s : Stage). IsIn slot (named_at s) ⊎ MayFollow t s last slot) first h) [ inl named ↦ named | inr follows ↦ follows ]
 
 -- the slots that a call may touch next, or after its next event
 abbrev pub Trusts : Table ℕ → Record ℕ → ℕ → Type 0
@@ -178,15 +217,18 @@ module _ (t t' : Table ℕ) (root pin : ℕ) (Mine : ℕ → Type 0) (leaves : G
 
   followed : (stage : Stage) (slot : ℕ) → FactsAt (Unit {0}) same_number t root pin r.task stage → MayFollow t' stage r.task.last slot → MayFollow t stage r.task.last slot
   followed (Check path) slot f h = (h.0, stayed path.here f.1.here h.1)
+  followed (Scan course (scan.Check spot)) slot f h = (h.0, stayed spot f.0.here h.1)
   followed stage slot f h = h
 
 same_follows : (t t' : Table ℕ) (same : (s : ℕ) → t' s ≡ t s) (stage : Stage) (last : Option (Seen ℕ)) (slot : ℕ) → MayFollow t' stage last slot → MayFollow t stage last slot
 same_follows t t' same (Check path) last slot h = (h.0, record { node = h.1.node; here = sym (same path.here.slot) ∙ h.1.here; word = h.1.word })
+same_follows t t' same (Scan course (scan.Check spot)) last slot h = (h.0, record { node = h.1.node; here = sym (same spot.slot) ∙ h.1.here; word = h.1.word })
 same_follows t t' same stage last slot h = h
 
 -- a slot that may be followed was seen
 saw_of : (t : Table ℕ) (stage : Stage) (last : Option (Seen ℕ)) (slot : ℕ) → MayFollow t stage last slot → SawNode last slot
 saw_of t (Check path) last slot h = h.0
+saw_of t (Scan course (scan.Check spot)) last slot h = h.0
 saw_of t stage last slot h = absurd h
 
 -- the entries before tell of the slot, or it is the root's
@@ -283,21 +325,18 @@ module _ (root : ℕ) (w : World ℕ) (past : List Entry) (sound : IsSound (Unit
     (λ o narrow r found slot t.
         elim (eqb_tells o id) [
           | inl same ↦
-              let is : p.1.record_is ≡ r = some_same p.1.record_is r (sym p.1.here ∙ subst (λ (z : ℕ). call_of after z ≡ Some r) same.1 found) in
-              let stage : r.stage ≡ TakeRoot = subst (λ (q : Record ℕ). q.stage ≡ TakeRoot) is p.1.stage in
-              elim t [
-                | inl named ↦ absurd (subst (λ (s : Stage). IsIn slot (named_at s)) stage named)
-                | inr follows ↦ absurd (subst (λ (s : Stage). MayFollow (table_of after) s r.task.last slot) stage follows)
-              ]
+              let is : p.0.record_is ≡ r = some_same p.0.record_is r (sym p.0.here ∙ subst (λ (z : ℕ). call_of after z ≡ Some r) same.1 found) in
+              let first : BeginsAt r.task.outline r.stage = subst (λ (q : Record ℕ). BeginsAt q.task.outline q.stage) is p.0.stage in
+              absurd (begun_trusts r.task.outline r.stage first (table_of after) r.task.last slot t)
           | inr off ↦
               let before : Trusts (table_of w) r slot = elim t [
                 | inl named ↦ inl named
-                | inr follows ↦ inr (same_follows (table_of w) (table_of after) p.1.nodes r.stage r.task.last slot follows)
+                | inr follows ↦ inr (same_follows (table_of w) (table_of after) p.0.nodes r.stage r.task.last slot follows)
               ] in
               longer (record { event = Start id op; line = Made report out seen; after = state_of after; content = content }) o slot (in_use after o r slot next narrow found t)
-              (λ v. ((λ e. off.1 (sym e)), v)) (vouched o narrow r (sym (p.1.others o off.1) ∙ found) slot before)
+              (λ v. ((λ e. off.1 (sym e)), v)) (vouched o narrow r (sym (p.0.others o off.1) ∙ found) slot before)
         ]),
-    p.1.root ∙ at,
+    p.0.root ∙ at,
   )
   vouched_next (Step id env) (Made report out seen) after content next p = (turn_vouched id env report out seen after content p.0 p.1, p.0.root ∙ at)
   vouched_next (Reclaim s) (Made report out seen) after content next p = (

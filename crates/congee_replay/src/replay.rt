@@ -27,7 +27,7 @@ struct Happened {
     decided: Option<Decision>,
 }
 
-// An event that isn't enabled, or the start of a call that isn't served yet.
+// An event that isn't enabled.
 fn skipped() -> Happened
     ensures { result ≡ record { line = Line.Skipped; decided = None } }
 {
@@ -61,7 +61,7 @@ fn decision(
     }
 }
 
-// A Start: skipped where the number is in flight or the call is not served.
+// A Start: skipped where the number is in flight.
 fn start<A: Allocator>(
     machine: &mut Inner<u64, A>,
     id: u64,
@@ -71,9 +71,6 @@ fn start<A: Allocator>(
     ensures { IfOk result (λ h. IsHappening (inside A.charge machine.old) (event.Start id op.now)
         h.line h.decided (inside A.charge machine.new)) }
 {
-    if !op.is_served() {
-        return Ok(skipped());
-    }
     if machine.is_in_flight(id) {
         return Ok(skipped());
     }
@@ -153,8 +150,8 @@ fn note(decided: &mut Vec<Decision>, decision: Option<Decision>) -> Result<(), A
 
 /// Runs a schedule on a fresh machine with this budget.
 ///
-/// An event that is not enabled, or starts a `Range`, which is not served yet, is `Skipped` and changes nothing. `OOMError`
-/// where memory is missing for the root, for a `Start` or for the trace itself; then there is no trace.
+/// An event that is not enabled is `Skipped` and changes nothing. `OOMError` where memory is missing for the root, for a
+/// `Start` or for the trace itself; then there is no trace.
 pub fn replay_with<A: Allocator>(
     alloc: Global,
     budget: A,
@@ -182,8 +179,8 @@ pub fn replay_with<A: Allocator>(
 
 /// Runs a schedule on a fresh machine that no budget limits.
 ///
-/// An event that is not enabled, or starts a `Range`, which is not served yet, is `Skipped` and changes nothing. `OOMError`
-/// where memory is missing for the root, for a `Start` or for the trace itself; then there is no trace.
+/// An event that is not enabled is `Skipped` and changes nothing. `OOMError` where memory is missing for the root, for a
+/// `Start` or for the trace itself; then there is no trace.
 pub fn replay(alloc: Global, events: &[Event<u64>]) -> Result<Trace, OOMError>
     ensures { IfOk result (λ trace. IsReplayed events.now trace.lines.items trace.decided.items
         trace.content.items) }

@@ -60,8 +60,8 @@ module _ (old new : State ℕ) (id : ℕ) (call : Flight ℕ) (env : Env ℕ) (r
   decides reply kind.Check d = by_ok report.ok (λ good. let local = (d.1.passes good).0 in (local.op, local.op_is)) (λ bad. other reply _ refl (d.1.fails bad).0)
   decides reply kind.Read d = read_decides reply d.1.knows.node.node d.1.whole d.1.sees
   decides reply kind.Upgrade d = other reply _ refl d.1.says.1
-  decides reply kind.Make (t, inl d) = other reply _ refl d.says.1
-  decides reply kind.Make (t, inr d) = other reply _ (no_refusal call.progress) d.says.1
+  decides reply kind.Make (t, may, inl d) = other reply _ refl d.says.1
+  decides reply kind.Make (t, may, inr d) = other reply _ (no_refusal call.progress) d.says.1
   decides reply kind.Write d = (d.1.says.op, d.1.says.op_is)
   decides reply kind.Obsolete d = other reply _ refl d.says.1
   decides reply kind.Unlock d = other reply _ refl d.says.1
@@ -86,7 +86,7 @@ line_decides old new (Reclaim slot) Skipped h = refl
 line_decides old new (Start id op) (Made report out seen) h = refl
 line_decides old new (Reclaim slot) (Made report out seen) h = refl
 line_decides old new (Step id env) (Made report out seen) h =
-    let step = h.2.0 in
+    let step = h.1.0 in
     rw step.in_flight (outcome_decides old new id step.call env report out seen step.event)
 
 run_decides : (old : State ℕ) (m n : Pairs ℕ) (xs : List Entry) → IsRun old m xs n → decisions_told (events_of xs) (lines_of xs) ≡ map number_and_reply (decided_in old xs)

@@ -1,14 +1,15 @@
 -- The machine's inside as data.
-use Rattle.std.specs.Prelude.{ℕ, Option, Some, None}
+use Rattle.std.specs.Prelude.{◌≡◌, ℕ, Option, Some, None}
 use Rattle.congee_protocol.specs.Calls.{outline_of}
 use Rattle.congee_protocol.specs.State.{State}
 use Rattle.congee_protocol.specs.declared.types.Asking.TheVariants.{Fresh}
 use Rattle.congee_protocol.specs.declared.types.Op.{Op}
 use Rattle.congee_protocol.specs.declared.types.Progress.TheVariants.{Open}
 use Rattle.congee_store.specs.declared.stage.Record.{Record}
-use Rattle.congee_store.specs.declared.stage.Stage.TheVariants.{TakeRoot}
+use Rattle.congee_store.specs.declared.stage.Task.{Task}
 use Rattle.congee_store.specs.inner.Effects.{returned_at}
 use Rattle.congee_store.specs.inner.Meant.{meant_world}
+use Rattle.congee_store.specs.inner.Scans.{BeginsAt}
 use Rattle.congee_store.specs.inner.Shown.{state_of}
 use Rattle.congee_store.specs.inner.World.{World}
 use Rattle.congee_machine.specs.declared.inner.Inner.{Inner}
@@ -33,11 +34,10 @@ module _ {P A : Type 0} where
   abbrev pub meant_in : {M : Type 0} → (P → M) → (A → Option ℕ) → Inner P A → World M
   meant_in meaning charge m = meant_world meaning (inside charge m)
 
--- the record of a call that begins
-abbrev pub begun_record : {M : Type 0} → Op M → Record M
-begun_record op = record {
-  stage = TakeRoot;
-  task = record {
+module _ {M : Type 0} where
+  -- A CALL THAT BEGINS: its task, and what it does next
+  abbrev pub begun_task : Op M → Task M
+  begun_task op = record {
     outline = outline_of op;
     op = Some op;
     last = None;
@@ -46,5 +46,8 @@ begun_record op = record {
     returns = returned_at op;
     asking = Fresh;
     progress = Open;
-  };
-}
+  }
+
+  pub record IsBegunBy (op : Op M) (call : Record M) : Type 0 where
+    pub task : call.task ≡ begun_task op
+    pub stage : BeginsAt (outline_of op) call.stage

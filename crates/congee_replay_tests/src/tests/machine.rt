@@ -165,11 +165,11 @@ fn a_removed_leaf_is_not_counted(rt: HostRuntime) -> Result<(), Fail> {
     Ok(())
 }
 
-type Shared = Machine<Arc<u64>, Budget>;
+pub(super) type Shared = Machine<Arc<u64>, Budget>;
 
 // An event of a call whose payloads are shared.
-fn shared_event() -> Env<Arc<u64>> {
-    let child: Option<Child<Arc<u64>>> = None;
+pub(super) fn shared_event<P: Drop>() -> Env<P> {
+    let child: Option<Child<P>> = None;
     let torn = Seen {
         child,
         count: 0,

@@ -181,7 +181,10 @@ fn is_exchanged(
 }
 
 // Whether the map answers a decided call so; the call is made on the map.
-fn is_answered(map: &mut BTreeMap<u64, u64>, decision: &Decision) -> Result<bool, AllocError> {
+pub(super) fn is_answered(
+    map: &mut BTreeMap<u64, u64>,
+    decision: &Decision,
+) -> Result<bool, AllocError> {
     match (&decision.op, &decision.reply) {
         (Op::Get(key), Reply::Old(old)) => Ok(map.get(key).copied() == *old),
         (Op::Insert(key, value), Reply::Old(old)) => Ok(map.insert(*key, *value)? == *old),

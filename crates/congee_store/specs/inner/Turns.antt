@@ -10,6 +10,7 @@ use Rattle.congee_protocol.specs.Kinds.{DoesAs, IsReclaim, IsStart, IsStep, repo
 use Rattle.congee_protocol.specs.State.{State, with_call}
 use Rattle.congee_protocol.specs.declared.types.Env.{Env}
 use Rattle.congee_protocol.specs.declared.types.Kind.TheVariants as kind
+use Rattle.congee_protocol.specs.declared.types.Kind.{Kind}
 use Rattle.congee_protocol.specs.declared.types.Op.{Op}
 use Rattle.congee_protocol.specs.declared.types.Outcome.{Outcome}
 use Rattle.congee_protocol.specs.declared.types.Outcome.TheVariants.{Done}
@@ -21,7 +22,9 @@ use Rattle.congee_sync.specs.Lock.{version, last_version}
 use Rattle.congee_store.specs.declared.stage.Record.{Record}
 use Rattle.congee_store.specs.declared.stage.Spot.{Spot}
 use Rattle.congee_store.specs.declared.stage.Stage.{Stage}
-use Rattle.congee_store.specs.declared.stage.Stage.TheVariants.{TakeRoot, Read, Check, TakeBelow, CheckAbove, Answer, Confirm, Tail, Finish}
+use Rattle.congee_store.specs.declared.stage.Stage.TheVariants.{TakeRoot, Read, Check, TakeBelow, CheckAbove, Answer, Confirm, Tail, Scan, Finish}
+use Rattle.congee_store.specs.declared.scan.Scan.TheVariants as scan
+use Rattle.congee_store.specs.inner.Scans.{BeginsAt, IsAtEnd}
 use Rattle.congee_store.specs.inner.Tables.{Guarantees, NeedsHolder, IsIn}
 use Rattle.congee_store.specs.inner.Tasks.{SawNode}
 use Rattle.congee_store.specs.inner.Facts.{Holding, named_at, Facts, IsSound}
@@ -45,6 +48,7 @@ module _ {M : Type 0} where
   work t progress (Answer case) = case_work case
   work t progress (Confirm spot) = 2
   work t progress (Tail tail) = tail_work progress tail
+  work t progress (Scan course scan) = 1
   work t progress Finish = 1
 
   abbrev pub work_of : Table M → Record M → ℕ
@@ -57,8 +61,8 @@ module _ {M : Type 0} where
 
   -- Nobody disturbs the event of a call: no upgrade is made to fail, no node has the last version, and the call alone
   -- holds what is held.
-  pub record IsUndisturbed (t : Table M) (stage : Stage) (env : Env M) : Type 0 where
-    pub whole : env.fail ≡ false
+  pub record IsUndisturbed (t : Table M) (stage : Stage) (env : Env M) (k : Kind) : Type 0 where
+    pub whole : k ≡ kind.Upgrade → env.fail ≡ false
     pub versions : (s : ℕ) (a : Node M) → t s ≡ Some a → version a.word ≢ last_version
     pub alone : (s : ℕ) → NeedsHolder t s → Holding stage s
 
@@ -75,6 +79,7 @@ module _ {M : Type 0} where
   -- the last Read reported this slot, and its node's word is the remembered one
   abbrev pub MayFollow : Table M → Stage → Option (Seen M) → ℕ → Type 0
   MayFollow t (Check path) last slot = SawNode last slot × Stays t path.here
+  MayFollow t (Scan course (scan.Check spot)) last slot = SawNode last slot × Stays t spot
   MayFollow t _ last slot = ⊥
 
   -- THE COURSE of a call that goes on: what it touches, which slots it knows of then and whence, and that its work falls
@@ -90,7 +95,7 @@ module _ {M : Type 0} where
     pub outline : next.task.outline ≡ call.task.outline
     pub keeps : IsCurrent t call.stage → IsCurrent t' next.stage
     pub falls : IsPoint call.task.outline
-        → (StartsOver t' next × (IsCurrent t call.stage → IsUndisturbed t call.stage env → ⊥))
+        → (StartsOver t' next × (IsCurrent t call.stage → IsUndisturbed t call.stage env report.kind → ⊥))
         ⊎ (work_of t' next < work_of t call)
 
   -- what the state shows of these nodes
@@ -117,7 +122,7 @@ module _ {M : Type 0} (Granted : Type 0) (same : M → M → Bool) where
       → Outcome M → Type 0
   IsAdvance t root pin call env (Some next) report out = IsRead t root pin call env next report out
   IsAdvance t root pin call env None report out =
-      (call.stage ≡ Finish) × (report ≡ report_of kind.Finish None 0 true) × (out ≡ Done)
+      IsAtEnd call.stage × (report ≡ report_of kind.Finish None 0 true) × (out ≡ Done)
 
   -- A START
   pub record IsBegun (w w' : World M) (id : ℕ) (op : Op M) (report : Report) : Type 0 where
@@ -128,7 +133,7 @@ module _ {M : Type 0} (Granted : Type 0) (same : M → M → Bool) where
     pub root : w'.root ≡ w.root
     pub record_is : Record M
     pub here : call_of w' id ≡ Some record_is
-    pub stage : record_is.stage ≡ TakeRoot
+    pub stage : BeginsAt record_is.task.outline record_is.stage
     pub outline : record_is.task.outline ≡ outline_of op
     pub start : IsStart (state_of w) (state_of w') id op report
 

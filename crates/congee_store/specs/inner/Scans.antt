@@ -1,0 +1,97 @@
+-- WHAT A RANGE KNOWS before its next event.
+use Rattle.std.specs.Prelude.{◌≡◌, ◌≢◌, ℕ, ◌<◌, ◌≤◌, ◌^◌, max, Option, Some, None, ◌⊎◌}
+use Rattle.congee_node_table.specs.Key.{low, high}
+use Rattle.congee_node_table.specs.declared.child.Child.TheVariants.{Node as below_at}
+use Rattle.congee_protocol.specs.Calls.{Outline}
+use Rattle.congee_protocol.specs.Local.{payload_in}
+use Rattle.congee_protocol.specs.Reading.{HasAll, bound_at, first_from}
+use Rattle.congee_protocol.specs.declared.types.Asking.TheVariants.{Fresh}
+use Rattle.congee_protocol.specs.declared.types.Op.TheVariants.{Range}
+use Rattle.congee_protocol.specs.declared.types.Progress.TheVariants as progress
+use Rattle.congee_protocol.specs.declared.types.Seen.{Seen}
+use Rattle.congee_store.specs.declared.scan.Course.{Course}
+use Rattle.congee_store.specs.declared.scan.Scan.{Scan}
+use Rattle.congee_store.specs.declared.scan.Scan.TheVariants.{TakeRoot, Read, Check, TakeBelow, CheckAbove, Finish}
+use Rattle.congee_store.specs.declared.stage.Spot.{Spot}
+use Rattle.congee_store.specs.declared.stage.Stage.{Stage}
+use Rattle.congee_store.specs.declared.stage.Stage.TheVariants as stage
+use Rattle.congee_store.specs.declared.stage.Task.{Task}
+use Rattle.congee_store.specs.inner.Tables.{IsThere, Known, While}
+use Rattle.congee_store.specs.inner.World.{Node, Table}
+
+-- WHERE A CALL BEGINS: at the root, and a range that has nothing to give at its end
+abbrev pub first_course : ℕ → Course
+first_course start = record { cursor = start; reach = start; given = 0 }
+
+abbrev pub BeginsAt : Outline → Stage → Type 0
+BeginsAt (Range a b n) at = (at ≡ stage.Scan (first_course a) TakeRoot)
+    ⊎ ((at ≡ stage.Scan (first_course a) Finish) × HasAll (Range a b n) a 0)
+BeginsAt _ at = at ≡ stage.TakeRoot
+
+-- AND WHERE IT ENDS
+abbrev pub IsAtEnd : Stage → Type 0
+IsAtEnd stage.Finish = Unit {0}
+IsAtEnd (stage.Scan course Finish) = Unit {0}
+IsAtEnd _ = ⊥
+
+module _ {M : Type 0} where
+  -- A RANGE that goes on
+  pub record IsRanging (task : Task M) (course : Course) : Type 0 where
+    pub start : ℕ
+    pub end : ℕ
+    pub limit : ℕ
+    pub outline : task.outline ≡ Range start end limit
+    pub undecided : task.progress ≡ progress.Open
+    pub fresh : task.asking ≡ Fresh
+    pub order : course.cursor ≤ course.reach
+    pub small : course.reach < 2 ^ 64
+    pub most : course.given ≤ limit
+
+  -- IT LOOKS AT a node from its reach on, which is its cursor or the first key that may stand there
+  abbrev pub LooksAt : Table M → ℕ → ℕ → ℕ → Type 0
+  LooksAt t slot cursor reach = (a : Node M) → t slot ≡ Some a
+      → (reach ≡ max cursor (low a.node.prefix)) × (cursor < high a.node.prefix)
+
+  -- from where it would look at a node, unless its cursor is past all keys that may stand there
+  abbrev pub GoesTo : Table M → ℕ → ℕ → Option ℕ → Type 0
+  GoesTo t slot cursor (Some reach) = (reach < 2 ^ 64) × LooksAt t slot cursor reach
+  GoesTo t slot cursor None = (a : Node M) → t slot ≡ Some a → high a.node.prefix ≤ cursor
+
+  -- the first child of a node that it looks at leads to this slot
+  abbrev pub LeadsFirst : Table M → Spot → ℕ → ℕ → Type 0
+  LeadsFirst t spot cursor slot = While t spot (λ a.
+      first_from (bound_at cursor a.node.prefix) a.node.children ≡ Some (below_at slot))
+
+  -- it is at a node whose word it remembers
+  pub record IsAt (t : Table M) (pin : ℕ) (task : Task M) (course : Course) (spot : Spot) : Type 0 where
+    pub ranging : IsRanging task course
+    pub here : Known t pin spot
+    pub looks : LooksAt t spot.slot course.cursor course.reach
+
+  -- what its last Read reported stands there, and it keeps one more share of a payload
+  pub record SawFirst (t : Table M) (task : Task M) (course : Course) (spot : Spot) : Type 0 where
+    pub seen : Seen M
+    pub is : task.last ≡ Some seen
+    pub stands : While t spot (λ a.
+        (seen.child ≡ first_from (bound_at course.cursor a.node.prefix) a.node.children)
+        × (task.spare ≡ payload_in seen.child))
+
+  -- it has all, or was refused
+  abbrev pub IsDone : Task M → Course → Type 0
+  IsDone task course = (task.progress ≡ progress.Refused)
+      ⊎ ((task.progress ≡ progress.Open) × HasAll task.outline course.reach course.given)
+
+  -- THE FACTS
+  abbrev pub ScanFacts : Table M → ℕ → ℕ → Task M → Course → Scan → Type 0
+  ScanFacts t root pin task course TakeRoot =
+      IsRanging task course × (course.reach ≡ course.cursor) × (task.last ≡ None)
+  ScanFacts t root pin task course (Read spot) = IsAt t pin task course spot
+  ScanFacts t root pin task course (Check spot) =
+      IsAt t pin task course spot × SawFirst t task course spot
+  ScanFacts t root pin task course (TakeBelow spot slot) = IsAt t pin task course spot
+      × LeadsFirst t spot course.cursor slot × IsThere t pin slot × (slot ≢ root)
+      × (slot ≢ spot.slot)
+  ScanFacts t root pin task course (CheckAbove spot below from) = IsAt t pin task course spot
+      × LeadsFirst t spot course.cursor below.slot × Known t pin below
+      × GoesTo t below.slot course.cursor from × (below.slot ≢ spot.slot)
+  ScanFacts t root pin task course Finish = IsDone task course
