@@ -112,7 +112,8 @@ static inline int congee_insert(struct congee *map, uint64_t key, uint64_t value
     return 1;
 }
 
-/* Takes the key out. Answers 1 with the value before in *old, or 0 where the key is absent, and *old stays. Takes no memory. */
+/* Takes the key out. Answers 1 with the value before in *old, or 0 where the key is absent, and *old stays. Is never refused: nodes
+ * that are empty then are given back, and one that has few entries left is put into a smaller form where memory allows. */
 static inline int congee_remove(struct congee *map, uint64_t key, uint64_t *old) {
     struct congee_handle handle = {map};
     uint64_t it = 0;

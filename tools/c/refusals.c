@@ -1,5 +1,6 @@
 /* Each of the first 400 allocations fails in turn: the call answers CONGEE_OOM, everything is as it was, and nothing leaks.
- * Then the least limits, and one below each. Linked with --wrap for malloc, realloc and free. */
+ * Then each that removals make, alone and with all after it: none of them is refused. Then the least limits, and one below
+ * each. Linked with --wrap for malloc, realloc and free. */
 #include "congee.h"
 #include <stdio.h>
 #include <stdlib.h>
@@ -7,6 +8,7 @@
 enum { FIRST = 400, KEYS = 3000 };
 
 static long left = -1; /* how many allocations succeed before one fails, or none for -1 */
+static long failed;    /* how many have failed */
 static long live;      /* how many blocks are out */
 
 void *__real_malloc(size_t);
@@ -14,6 +16,7 @@ void *__real_realloc(void *, size_t);
 void __real_free(void *);
 
 static bool is_refused(void) {
+    failed += left == 0;
     if (left == 0)
         return true;
     left -= left > 0;
@@ -75,6 +78,31 @@ static long fill(struct congee *map) {
     return refused;
 }
 
+/* Fills a map, and takes its keys out with so many allocations granted: the next one fails, or all after them. Each key is
+ * answered. Says whether one failed. */
+static bool empty(long granted, bool all_after) {
+    struct congee *map;
+    need(congee_new(&map) == 0, "a map");
+    need(fill(map) == 0, "an insertion with memory");
+    left = granted;
+    failed = 0;
+    for (uint64_t i = KEYS; i-- > 0;) {
+        uint64_t value = 99, charged = congee_charged(map);
+        need(congee_remove(map, key_of(i), &value) == 1 && value == i, "a removal");
+        need(congee_charged(map) <= charged, "the charge of a removal");
+        if (failed == 1 && left == 0 && !all_after) {
+            left = -1;
+            check(map, i);
+        }
+    }
+    left = -1;
+    check(map, 0);
+    need(congee_charged(map) == 2104, "the charge of an emptied map");
+    congee_free(map);
+    need(live == 0, "a block leaks");
+    return failed > 0;
+}
+
 static int insert_with_limit(uint64_t limit) {
     struct congee *map;
     if (congee_new_with_limit(&map, limit) == CONGEE_OOM) {
@@ -88,7 +116,7 @@ static int insert_with_limit(uint64_t limit) {
 }
 
 int main(void) {
-    long maps = 0, insertions = 0;
+    long maps = 0, insertions = 0, removals = 0;
     for (long fail = 0; fail < FIRST; fail++) {
         struct congee *map;
         left = fail;
@@ -106,10 +134,13 @@ int main(void) {
     }
     need(maps + insertions == FIRST, "each of the allocations failed once");
     left = -1;
+    while (empty(removals, false) && empty(removals, true))
+        removals++;
+    need(removals >= KEYS / 20, "each leaf takes memory for a smaller node");
     need(insert_with_limit(2103) == -2, "a limit below the first node's size");
     need(insert_with_limit(2104) == CONGEE_OOM && insert_with_limit(2167) == CONGEE_OOM, "a limit below a leaf's size");
     need(insert_with_limit(2168) == 0, "the least limit for one pair");
     need(live == 0, "a block leaks");
-    printf("%ld maps and %ld insertions refused, no block lost\n", maps, insertions);
+    printf("%ld maps, %ld insertions and %ld smaller nodes refused, no block lost\n", maps, insertions, removals);
     return 0;
 }

@@ -84,6 +84,25 @@ static void call(struct congee *map, uint64_t *seed, unsigned removals) {
     need(congee_count(map) == count && congee_is_empty(map) == (count == 0), "count and is_empty");
 }
 
+/* A window of keys moves on: the charge is never more than that of the first four windows. */
+static void move_window(uint64_t apart) {
+    enum { WINDOW = 1024, STEPS = 60000 };
+    struct congee *map;
+    uint64_t most = 0;
+    if (congee_new(&map))
+        exit(1);
+    for (uint64_t i = 0; i < STEPS; i++) {
+        need(congee_insert(map, i * apart, i, NULL) == 0, "the window's next key");
+        if (i >= WINDOW)
+            need(congee_remove(map, (i - WINDOW) * apart, NULL) == 1, "the window's last key");
+        uint64_t charged = congee_charged(map);
+        if (i < 4 * WINDOW && charged > most)
+            most = charged;
+        need(charged <= most, "the charge of a window that moves on");
+    }
+    congee_free(map);
+}
+
 int main(void) {
     struct congee *map;
     uint64_t seed = 7, out;
@@ -99,7 +118,10 @@ int main(void) {
     for (int i = 0; i < KEYS; i++)
         need(congee_remove(map, keys[i], &out) == stands[i], "the last removals");
     need(congee_is_empty(map) && congee_count(map) == 0, "an emptied map is empty");
+    need(congee_charged(map) == 2104, "the charge of an emptied map");
     congee_free(map);
+    move_window(1);
+    move_window(256);
     printf("%d calls, %" PRIu64 " pairs at the end\n", CALLS, left);
     return 0;
 }

@@ -1,4 +1,4 @@
-/* What a call costs from C, in nanoseconds of the processor: the least of so many rounds. */
+/* What a call costs from C, in nanoseconds of the processor: the least of so many rounds; and a window of keys that moves on. */
 #define _POSIX_C_SOURCE 199309L
 #include "congee.h"
 #include <inttypes.h>
@@ -63,6 +63,34 @@ static int times(uint64_t n, bool is_dense) {
     return 0;
 }
 
+/* A window of keys moves on: what it is charged in the end, and what its first range costs. */
+static int move_window(uint64_t apart) {
+    enum { WINDOW = 1000, STEPS = 4000000 };
+    static struct congee_pair page[PAGE];
+    struct congee *map;
+    uint64_t sum = 0;
+    double least = 1e18, start = now();
+    if (congee_new(&map))
+        return 1;
+    for (uint64_t i = 0; i < STEPS; i++) {
+        sum += (uint64_t)congee_insert(map, i * apart, i, NULL);
+        if (i >= WINDOW)
+            sum += (uint64_t)congee_remove(map, (i - WINDOW) * apart, NULL);
+    }
+    double step = (now() - start) / STEPS;
+    for (int round = 0; round < ROUNDS; round++) {
+        start = now();
+        sum += congee_range(map, 0, UINT64_MAX, page, PAGE);
+        double time = now() - start;
+        least = time < least ? time : least;
+    }
+    printf("C     window of %d keys %5" PRIu64 " apart, moved %d times: charged %" PRIu64 ", range of 100 %8.1f, insert and remove %6.1f  (%" PRIx64 ")\n",
+           WINDOW, apart, STEPS, congee_charged(map), least, step, sum);
+    congee_free(map);
+    return 0;
+}
+
 int main(void) {
-    return times(10000, true) || times(10000, false) || times(1000000, true) || times(1000000, false);
+    return times(10000, true) || times(10000, false) || times(1000000, true) || times(1000000, false) || move_window(1) ||
+           move_window(256) || move_window(65536);
 }

@@ -58,7 +58,26 @@ fn check_range(map: &Congee, plain: &BTreeMap<u64, u64>, seed: &mut u64) {
     }
 }
 
+/// A window of keys moves on: the charge is never more than that of the first four windows.
+fn move_window(apart: u64) {
+    const WINDOW: u64 = 1024;
+    let mut map = Congee::new().unwrap();
+    let mut most = 0;
+    for i in 0..60_000 {
+        assert_eq!(map.insert(i * apart, i), Ok(None));
+        if i >= WINDOW {
+            assert_eq!(map.remove((i - WINDOW) * apart), Some(i - WINDOW));
+        }
+        if i < 4 * WINDOW {
+            most = most.max(map.charged());
+        }
+        assert!(map.charged() <= most);
+    }
+}
+
 fn main() {
+    move_window(1);
+    move_window(256);
     let mut map = Congee::new().unwrap();
     let mut plain = BTreeMap::new();
     let mut seed = 7;

@@ -10,6 +10,7 @@ mod leaks;
 mod rows;
 mod scans;
 mod shared_values;
+mod shrinking;
 mod sizes;
 mod statistics;
 mod table;

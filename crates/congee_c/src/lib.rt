@@ -111,7 +111,7 @@ pub extern "C" fn congee_c_insert(
     }
 }
 
-/// Takes the key out. Answers 1 where a value stood there, which is written to `before`, or 0. Takes no memory.
+/// Takes the key out. Answers 1 where a value stood there, which is written to `before`, or 0. Is never refused.
 #[unsafe(no_mangle)]
 pub extern "C" fn congee_c_remove(handle: &mut Handle, key: u64, before: &mut u64) -> i32
     ensures code { result ≡ is_there (lookup handle.old.held.map.pairs key) }
@@ -202,10 +202,11 @@ pub extern "C" fn congee_c_count(handle: &mut Handle) -> u64
 }
 
 /// The sum in bytes of the stated sizes of the map's nodes, which its limit is charged for, or the greatest `u64` where it is
-/// more. Takes constant time.
+/// more: 2104 for an empty map. Takes constant time.
 #[unsafe(no_mangle)]
 pub extern "C" fn congee_c_charged(handle: &mut Handle) -> u64
     ensures charge { result ≡ capped (charge_of handle.old.held.map.nodes) }
+    ensures bare { handle.old.held.map.pairs ≡ [] → result ≡ 2104 }
     ensures same { handle.new.held ≡ handle.old.held }
     ensures place { handle.new.ptr ≡ handle.old.ptr }
 {

@@ -1,6 +1,6 @@
 //! A computation at a key that is present: what a closure returns takes the place of the payload, or the payload goes.
 //!
-//! Takes no memory.
+//! Is never refused: where the payload goes, this is a removal.
 
 ghost use Rattle.std.specs.Prelude.{◌≡◌, ◌+◌, ◌≤◌, Option, None};
 ghost use Rattle.std.specs.Fn.{TakesAt, CalledAt};
@@ -15,7 +15,7 @@ use crate::insertion::{change_payload, standing};
 use crate::removal::take_out;
 use crate::tree::Tree;
 use congee_node_table::allocator::Allocator;
-use congee_paths::descent::seek;
+use congee_paths::descent::seek_along;
 use congee_paths::reads::Reads;
 use std::sync::ledger::Ledger;
 
@@ -42,7 +42,8 @@ impl<P: Drop, A: Allocator> Tree<P, A> {
         ensures reads { reads.new ≡ reads.old + on_path self.old.nodes key.now }
         ensures few { on_path self.old.nodes key.now ≤ 8 }
     {
-        let spot = seek(&self.nodes, self.root, key, reads);
+        let mut trail = [self.root; 8];
+        let spot = seek_along(&self.nodes, self.root, key, reads, &mut trail);
         let Some(payload) = standing(&self.nodes, spot.slot, &spot.stop) else {
             return None;
         };
@@ -52,7 +53,14 @@ impl<P: Drop, A: Allocator> Tree<P, A> {
                 Some(before)
             }
             None => {
-                let Some(before) = take_out(&mut self.nodes, &mut self.supply, &spot, key) else {
+                let Some(before) = take_out(
+                    &mut self.nodes,
+                    &mut self.supply,
+                    &spot,
+                    &trail,
+                    key,
+                    true,
+                ) else {
                     unreachable!()
                 };
                 self.count -= 1;

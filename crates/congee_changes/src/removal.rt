@@ -1,24 +1,29 @@
-//! A removal: a payload goes out of its leaf, and a leaf that is empty then goes out of the node above it.
+//! A removal: a payload goes out of its leaf, each node that is empty then goes out of the one above it, and the first that
+//! isn't goes into a smaller form where few children are left.
 //!
-//! Takes no memory. An inner node that is empty then stays.
+//! Is never refused: without memory for the smaller form the node keeps its own.
 
-ghost use Rattle.std.specs.Prelude.{◌≡◌, ◌+◌, ◌≤◌, IfSome, IfNone, IsSome, Some, None};
+ghost use Rattle.std.specs.Prelude.{◌≡◌, ◌↔◌, ℕ, ◌+◌, ◌<◌, ◌≤◌, length, slice_index, true, false, IfSome, IfNone, IsTrue, IsSome, Some, None};
 ghost use Rattle.std.specs.Int.{from_be_bytes, w64};
-ghost use Rattle.congee_changes.specs.Reduce.{Reduces};
+ghost use Rattle.congee_base.specs.Form.{few_in};
+ghost use Rattle.congee_changes.specs.Reduce.{Reduces, ReducesInPlace};
 ghost use Rattle.congee_changes.specs.Tree.{payload_at, ChargesForNodes};
 ghost use Rattle.congee_map.specs.Map.{without};
-ghost use Rattle.congee_node_table.specs.Table.{node_at};
+ghost use Rattle.congee_node_table.specs.Table.{Table, node_at};
+ghost use Rattle.congee_node_table.specs.TableNode.{TableNode};
 ghost use Rattle.congee_paths.specs.Path.{on_path};
-ghost use Rattle.congee_supply.specs.inner.Supply.{IsCountedAt, Alike};
+ghost use Rattle.congee_paths.specs.inner.Descent.{SeeksTo};
+ghost use Rattle.congee_supply.specs.inner.Supply.{IsCountedAt, AreFew, Alike};
 ghost use Rattle.congee_changes.specs.inner.Writes.{SameElsewhere, HasLeafFor, NothingStands, WasChild, Stands};
-ghost use Rattle.congee_changes.specs.inner.Takes.{IsPresentIn, TakesChild, TakesOnPath, TakesPayload, KeepsBut, IsChildOnPath, DetachesEmpty, TakesOutAt};
+ghost use Rattle.congee_changes.specs.inner.Takes.{IsPresentIn, TakesChild, TakesOnPath, TakesPayload, KeepsBut, IsChildOnPath};
+ghost use Rattle.congee_changes.specs.inner.Rise.{ThinsAt, HasRisen, IsWholeBefore, IsRemoval};
 
 use crate::tree::Tree;
 use congee_base::base_node::NodeType;
 use congee_node_table::allocator::Allocator;
 use congee_node_table::child::Child;
 use congee_node_table::tree_node::TreeNode;
-use congee_paths::descent::{Spot, Stop, seek};
+use congee_paths::descent::{Spot, Stop, seek_along};
 use congee_paths::reads::Reads;
 use congee_supply::supply::Supply;
 use slab::Slab;
@@ -37,41 +42,110 @@ fn take_child<P: Drop>(nodes: &mut Slab<TreeNode<P>>, slot: usize, byte: u8) -> 
     node.remove(byte)
 }
 
-// Takes the node in a slot out of the one above it on the key's path, and gives its slot back.
-fn detach<P: Drop>(nodes: &mut Slab<TreeNode<P>>, parent: usize, slot: usize, key: &[u8; 8])
+// Takes the node in a slot out of the one above it on the key's path, gives its slot back, and returns its form.
+fn detach<P: Drop>(
+    nodes: &mut Slab<TreeNode<P>>,
+    parent: usize,
+    slot: usize,
+    key: &[u8; 8],
+) -> NodeType
     requires { IsChildOnPath nodes.old.slots parent slot key.now }
     ensures keeps { KeepsBut parent slot nodes.old.slots nodes.new.slots }
     ensures taken { TakesOnPath nodes.old.slots nodes.new.slots parent key.now }
     ensures gives_back { node_at nodes.new.slots slot ≡ None }
+    ensures form { (n : TableNode P) → node_at nodes.old.slots slot ≡ Some n → result ≡ n.form }
 {
     let Some(above) = nodes.get(parent) else {
         unreachable!()
     };
     let byte = key[above.base().prefix().len()];
     take_child(nodes, parent, byte);
-    nodes.remove(slot);
+    let node = nodes.remove(slot);
+    node.base().get_type()
 }
 
-// Takes the leaf in a slot out of the node above it where it is empty, and returns its form then.
-fn detach_if_empty<P: Drop>(
-    nodes: &mut Slab<TreeNode<P>>,
-    parent: usize,
-    slot: usize,
-    key: &[u8; 8],
-) -> Option<NodeType>
-    requires { IsChildOnPath nodes.old.slots parent slot key.now }
-    ensures { DetachesEmpty nodes.old.slots nodes.new.slots slot parent key.now result }
+// Whether the node in a slot has no children.
+fn is_empty<P: Drop>(nodes: &Slab<TreeNode<P>>, slot: usize) -> bool
+    requires { IsSome (node_at nodes.now.slots slot) }
+    ensures { (n : TableNode P) → node_at nodes.now.slots slot ≡ Some n
+        → IsTrue result ↔ (length n.children ≡ 0) }
 {
-    let Some(leaf) = nodes.get(slot) else {
+    match nodes.get(slot) {
+        Some(node) => node.base().value_count() == 0,
+        None => unreachable!(),
+    }
+}
+
+// Whether the node in a slot has few children, or none.
+#[inline(always)]
+fn is_due<P: Drop>(nodes: &Slab<TreeNode<P>>, slot: usize) -> bool
+    requires { IsSome (node_at nodes.now.slots slot) }
+    ensures { (n : TableNode P) → node_at nodes.now.slots slot ≡ Some n
+        → IsTrue result ↔ (length n.children ≤ few_in n.form) }
+{
+    match nodes.get(slot) {
+        Some(node) => node.is_due(),
+        None => unreachable!(),
+    }
+}
+
+// Puts the node in a slot into its next smaller form where few children are left, if nodes are to shrink. Without memory for
+// that it stays.
+fn shrink_if_due<P: Drop, A: Allocator>(
+    nodes: &mut Slab<TreeNode<P>>,
+    supply: &mut Supply<A>,
+    slot: usize,
+    shrinks: bool,
+)
+    requires counted { IsCountedAt nodes.old.slots slot supply.old.forms }
+    requires few { AreFew supply.old.forms }
+    ensures keeps { SameElsewhere slot nodes.old.slots nodes.new.slots }
+    ensures thins { ThinsAt nodes.old.slots nodes.new.slots slot shrinks
+        supply.old.forms supply.new.forms }
+    ensures alike { Alike A.charge supply.old supply.new }
+{
+    let Some(node) = nodes.get_mut(slot) else {
         unreachable!()
     };
-    let base = leaf.base();
-    if base.value_count() != 0 {
-        return None;
+    if shrinks && node.is_due() {
+        // (a refusal changes nothing)
+        let _ = supply.shrink(node);
     }
-    let form = base.get_type();
-    detach(nodes, parent, slot, key);
-    Some(form)
+}
+
+// From the node at a place of the trail upwards, which has lost a child: each that is empty goes out of the one above it, and
+// its size is given back; the first that isn't, and isn't the root, goes into a smaller form where few children are left.
+fn tidy<P: Drop, A: Allocator>(
+    nodes: &mut Slab<TreeNode<P>>,
+    supply: &mut Supply<A>,
+    trail: &[usize; 8],
+    above: usize,
+    key: &[u8; 8],
+    shrinks: bool,
+)
+    requires short { above < 8 }
+    requires begins { (s : Table P)
+        × IsWholeBefore s (slice_index trail.now 0) key.now trail.now above supply.old.forms
+        × HasRisen s (slice_index trail.now 0) key.now nodes.old.slots
+        (slice_index trail.now above) above supply.old.forms supply.old.forms }
+    ensures ends { (s : Table P)
+        → IsWholeBefore s (slice_index trail.now 0) key.now trail.now above supply.old.forms
+        → HasRisen s (slice_index trail.now 0) key.now nodes.old.slots
+        (slice_index trail.now above) above supply.old.forms supply.old.forms
+        → IsRemoval s (slice_index trail.now 0) key.now shrinks nodes.new.slots supply.new.forms }
+    ensures alike { Alike A.charge supply.old supply.new }
+{
+    let mut at = above;
+    'up: while at > 0 {
+        let slot = trail[at];
+        if !is_empty(nodes, slot) {
+            shrink_if_due(nodes, supply, slot, shrinks);
+            return;
+        }
+        let form = detach(nodes, trail[at - 1], slot, key);
+        supply.give_back(form);
+        at -= 1;
+    }
 }
 
 // Takes the payload that stands where a way down ended out of its leaf, if one does.
@@ -95,23 +169,27 @@ fn take_payload<P: Drop>(nodes: &mut Slab<TreeNode<P>>, slot: usize, stop: &Stop
     }
 }
 
-/// Takes the payload that stands where a way down ended out of its leaf, if one does, and the leaf out of the node above it
-/// where it has no other. Gives back the leaf's size then.
+/// Takes the payload that stands where a way down ended out of its leaf, if one does, and tidies up from there, if there is
+/// anything to do: no emptied node stays but the root. Where nodes aren't to shrink, takes no memory.
+#[inline(always)]
 pub(crate) fn take_out<P: Drop, A: Allocator>(
     nodes: &mut Slab<TreeNode<P>>,
     supply: &mut Supply<A>,
     spot: &Spot,
+    trail: &[usize; 8],
     key: &[u8; 8],
+    shrinks: bool,
 ) -> Option<P>
+    requires spot { SeeksTo nodes.old.slots (slice_index trail.now 0) key.now spot.now }
     requires leaf { HasLeafFor nodes.old.slots spot.now.slot spot.now.stop }
-    requires linked { (payload : P) → Stands nodes.old.slots spot.now.slot spot.now.stop payload
-        → IsChildOnPath nodes.old.slots spot.now.parent spot.now.slot key.now }
-    requires counted { IsCountedAt nodes.old.slots spot.now.slot supply.old.forms }
+    requires short { spot.now.above < 8 }
+    requires whole { IsWholeBefore nodes.old.slots (slice_index trail.now 0) key.now trail.now
+        spot.now.above supply.old.forms }
     ensures before { IfSome result (λ before.
         Stands nodes.old.slots spot.now.slot spot.now.stop before) }
     ensures taken { IsSome result
-        → TakesOutAt nodes.old.slots nodes.new.slots spot.now key.now
-        supply.old.forms supply.new.forms }
+        → IsRemoval nodes.old.slots (slice_index trail.now 0) key.now shrinks
+        nodes.new.slots supply.new.forms }
     ensures none { IfNone result (NothingStands nodes.old.slots spot.now.slot spot.now.stop) }
     ensures same { IfNone result (nodes.new.slots ≡ nodes.old.slots) }
     ensures unchanged { IfNone result (supply.new ≡ supply.old) }
@@ -120,16 +198,19 @@ pub(crate) fn take_out<P: Drop, A: Allocator>(
     let Some(before) = take_payload(nodes, spot.slot, &spot.stop) else {
         return None;
     };
-    let detached = detach_if_empty(nodes, spot.parent, spot.slot, key);
-    supply.give_back_if_some(detached);
+    if is_due(nodes, spot.slot) {
+        tidy(nodes, supply, trail, spot.above, key, shrinks);
+    }
     Some(before)
 }
 
 impl<P: Drop, A: Allocator> Tree<P, A> {
-    /// Takes out the pair at the key, and returns its payload. `reads` goes up by one for each node on the key's path.
+    /// Takes out the pair at the key, and returns its payload. Is never refused. `reads` goes up by one for each node on the
+    /// key's path.
     ///
     /// Searches no node twice on the way to the key: those above the leaf on the way down, and the leaf by what takes the
-    /// payload out. Only a leaf that is empty then costs one search more, of the node above it.
+    /// payload out. Only a node that is empty then costs one search more, of the node above it. One that has few children
+    /// then goes into a smaller form, where budget and machine have the memory for that.
     pub fn remove<L: Ledger>(&mut self, key: &[u8; 8], reads: &mut Reads<L>) -> Option<P>
         ensures before { result ≡ payload_at self.old key.now }
         ensures pairs { self.new.pairs ≡ without self.old.pairs (from_be_bytes w64 key.now) }
@@ -138,8 +219,42 @@ impl<P: Drop, A: Allocator> Tree<P, A> {
         ensures reads { reads.new ≡ reads.old + on_path self.old.nodes key.now }
         ensures few { on_path self.old.nodes key.now ≤ 8 }
     {
-        let spot = seek(&self.nodes, self.root, key, reads);
-        let Some(before) = take_out(&mut self.nodes, &mut self.supply, &spot, key) else {
+        self.take::<L>(key, reads, true)
+    }
+
+    /// The same, where no node goes into a smaller form: takes no memory. For a tree that is drained.
+    pub fn remove_in_place<L: Ledger>(&mut self, key: &[u8; 8], reads: &mut Reads<L>) -> Option<P>
+        ensures before { result ≡ payload_at self.old key.now }
+        ensures pairs { self.new.pairs ≡ without self.old.pairs (from_be_bytes w64 key.now) }
+        ensures shape { ReducesInPlace result self.old.nodes key.now self.new.nodes }
+        ensures charge { ChargesForNodes A.charge self.old self.new }
+        ensures reads { reads.new ≡ reads.old + on_path self.old.nodes key.now }
+        ensures few { on_path self.old.nodes key.now ≤ 8 }
+    {
+        self.take::<L>(key, reads, false)
+    }
+
+    #[inline(always)]
+    fn take<L: Ledger>(&mut self, key: &[u8; 8], reads: &mut Reads<L>, shrinks: bool) -> Option<P>
+        ensures before { result ≡ payload_at self.old key.now }
+        ensures pairs { self.new.pairs ≡ without self.old.pairs (from_be_bytes w64 key.now) }
+        ensures shape { Reduces result self.old.nodes key.now self.new.nodes }
+        ensures in_place { shrinks ≡ false
+            → ReducesInPlace result self.old.nodes key.now self.new.nodes }
+        ensures charge { ChargesForNodes A.charge self.old self.new }
+        ensures reads { reads.new ≡ reads.old + on_path self.old.nodes key.now }
+        ensures few { on_path self.old.nodes key.now ≤ 8 }
+    {
+        let mut trail = [self.root; 8];
+        let spot = seek_along(&self.nodes, self.root, key, reads, &mut trail);
+        let Some(before) = take_out(
+            &mut self.nodes,
+            &mut self.supply,
+            &spot,
+            &trail,
+            key,
+            shrinks,
+        ) else {
             return None;
         };
         self.count -= 1;

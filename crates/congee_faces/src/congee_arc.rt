@@ -6,6 +6,7 @@ ghost use Rattle.congee_faces.specs.Face.{ChargedAlike, ChargedFor, FaceUnchange
 ghost use Rattle.congee_map.specs.Map.{lookup, put, without, with_answer};
 ghost use Rattle.congee_map.specs.Refusal.{NeedsNode};
 ghost use Rattle.congee_supply.specs.Charge.{charge_of};
+ghost use Rattle.congee_changes.specs.Reduce.{AreFilled};
 ghost use Rattle.congee_changes.specs.Tree.{root_alone};
 
 use congee_map::error::OOMError;
@@ -76,9 +77,12 @@ impl<K: Word, P: Payload, A: Allocator> PayloadCongee<K, P, A> {
         self.tree.is_empty()
     }
 
-    /// The sum of the stated sizes of the nodes of the map's tree, which its allocator is charged for. Takes no memory.
+    /// The sum of the stated sizes of the nodes of the map's tree, which its allocator is charged for. No node but the root is
+    /// empty, and an empty map has no other. Takes no memory.
     pub fn charged(&self) -> u128
-        ensures { result ≡ charge_of self.now.nodes }
+        ensures sizes { result ≡ charge_of self.now.nodes }
+        ensures filled { AreFilled self.now.nodes }
+        ensures bare { self.now.pairs ≡ [] → result ≡ 2104 }
     {
         self.tree.charged()
     }
@@ -112,7 +116,8 @@ impl<K: Word, P: Payload, A: Allocator> PayloadCongee<K, P, A> {
         fresh::insert::<Brand, P, A>(&mut self.tree, key.into_u64(), payload, blank)
     }
 
-    /// Takes the key out, and returns the payload that stood there. Takes no memory.
+    /// Takes the key out, and returns the payload that stood there. Is never refused: the nodes that are empty then go, and one
+    /// that has few entries left goes into a smaller form where there is memory for that.
     pub fn remove(&mut self, key: K) -> Option<P>
         ensures before { result ≡ lookup self.old.pairs (K.number key) }
         ensures pairs { self.new.pairs ≡ without self.old.pairs (K.number key) }
@@ -123,7 +128,7 @@ impl<K: Word, P: Payload, A: Allocator> PayloadCongee<K, P, A> {
     }
 
     /// Where the key is present, calls the closure with its payload, once, and stores what it returns; its `None` takes
-    /// the key out. Returns the payload that stood there. Takes no memory.
+    /// the key out. Returns the payload that stood there. Is never refused.
     pub fn compute_if_present<F: FnMut(&P) -> Option<P>>(&mut self, key: K, f: &mut F) -> Option<P>
         requires { (standing : P) → lookup self.old.pairs (K.number key) ≡ Some standing
             → TakesAt F.FnMut f.old standing }

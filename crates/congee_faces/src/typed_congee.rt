@@ -12,6 +12,7 @@ ghost use Rattle.congee_stats.specs.StatsText.{all_nodes, all_entries};
 ghost use Rattle.congee_stats.specs.Stays.{NoCountStays};
 ghost use Rattle.congee_stats.specs.Visits.{visits_below};
 ghost use Rattle.congee_supply.specs.Charge.{charge_of};
+ghost use Rattle.congee_changes.specs.Reduce.{AreFilled};
 ghost use Rattle.congee_changes.specs.Tree.{root_alone};
 
 use congee_map::error::OOMError;
@@ -111,7 +112,8 @@ impl<K: Word, V: Word, A: Allocator, D: Drainer<K, V>> Congee<K, V, A, D> {
         Ok(read_back(before))
     }
 
-    /// Takes the key out, and returns the value that stood there, read back from its number. Takes no memory.
+    /// Takes the key out, and returns the value that stood there, read back from its number. Is never refused: the nodes that
+    /// are empty then go, and one that has few entries left goes into a smaller form where there is memory for that.
     pub fn remove(&mut self, key: &K) -> Option<V>
         ensures before { result
             ≡ option_map V.of_number (lookup self.old.pairs (K.number key.now)) }
@@ -145,9 +147,12 @@ impl<K: Word, V: Word, A: Allocator, D: Drainer<K, V>> Congee<K, V, A, D> {
         self.tree.value_count()
     }
 
-    /// The sum of the stated sizes of the nodes of the map's tree, which its allocator is charged for. Takes no memory.
+    /// The sum of the stated sizes of the nodes of the map's tree, which its allocator is charged for. No node but the root is
+    /// empty, and an empty map has no other. Takes no memory.
     pub fn charged(&self) -> u128
-        ensures { result ≡ charge_of self.now.nodes }
+        ensures sizes { result ≡ charge_of self.now.nodes }
+        ensures filled { AreFilled self.now.nodes }
+        ensures bare { self.now.pairs ≡ [] → result ≡ 2104 }
     {
         self.tree.charged()
     }
@@ -212,7 +217,7 @@ impl<K: Word, V: Word, A: Allocator, D: Drainer<K, V>> Congee<K, V, A, D> {
     }
 
     /// Where the key is present, calls the closure with its number, once, and stores what it returns; its `None` takes
-    /// the key out. Returns both numbers, the old and the new one. Takes no memory.
+    /// the key out. Returns both numbers, the old and the new one. Is never refused.
     pub fn compute_if_present<F: FnMut(u64) -> Option<u64>>(
         &mut self,
         key: &K,
@@ -280,7 +285,7 @@ impl<K: Word, V: Word, A: Allocator, D: Drainer<K, V>> Congee<K, V, A, D> {
 
     /// Where the number of `old` stands at the key, puts `new` there, or takes the key out for `None`, and returns `Ok`
     /// with `new` itself. Otherwise changes nothing, and returns `Err` with the value that stands there, read back from
-    /// its number, or with `None` where the key is absent. One path through the tree. Takes no memory.
+    /// its number, or with `None` where the key is absent. One path through the tree. Is never refused.
     pub fn compare_exchange(
         &mut self,
         key: &K,

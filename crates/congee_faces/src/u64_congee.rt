@@ -7,6 +7,7 @@ ghost use Rattle.congee_map.specs.Map.{lookup, put, without, between};
 ghost use Rattle.congee_faces.specs.Face.{ChargedAlike, ChargedFor, FaceUnchanged};
 ghost use Rattle.congee_map.specs.Refusal.{NeedsNode};
 ghost use Rattle.congee_supply.specs.Charge.{charge_of};
+ghost use Rattle.congee_changes.specs.Reduce.{AreFilled};
 ghost use Rattle.congee_changes.specs.Tree.{root_alone};
 
 use crate::typed_congee::Congee;
@@ -80,7 +81,8 @@ impl<V: Word, A: Allocator> U64Congee<V, A> {
         self.map.insert(key, val)
     }
 
-    /// Takes the key out, and returns the value that stood there, read back from its number. Takes no memory.
+    /// Takes the key out, and returns the value that stood there, read back from its number. Is never refused: the nodes that
+    /// are empty then go, and one that has few entries left goes into a smaller form where there is memory for that.
     pub fn remove(&mut self, key: u64) -> Option<V>
         ensures before { result ≡ option_map V.of_number (lookup self.old.pairs key) }
         ensures pairs { self.new.pairs ≡ without self.old.pairs key }
@@ -89,9 +91,12 @@ impl<V: Word, A: Allocator> U64Congee<V, A> {
         self.map.remove(&key)
     }
 
-    /// The sum of the stated sizes of the nodes of the map's tree, which its allocator is charged for. Takes no memory.
+    /// The sum of the stated sizes of the nodes of the map's tree, which its allocator is charged for. No node but the root is
+    /// empty, and an empty map has no other. Takes no memory.
     pub fn charged(&self) -> u128
-        ensures { result ≡ charge_of self.now.nodes }
+        ensures sizes { result ≡ charge_of self.now.nodes }
+        ensures filled { AreFilled self.now.nodes }
+        ensures bare { self.now.pairs ≡ [] → result ≡ 2104 }
     {
         self.map.charged()
     }

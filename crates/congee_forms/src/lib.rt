@@ -8,3 +8,4 @@ pub mod node_16;
 pub mod node_256;
 pub mod node_4;
 pub mod node_48;
+pub mod smaller;

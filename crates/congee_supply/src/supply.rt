@@ -1,10 +1,10 @@
 //! What the nodes of a tree are taken from: the machine's memory, and a budget that is charged for each of them.
 
-ghost use Rattle.std.specs.Prelude.{◌≡◌, ◌+◌, ◌*◌, ◌<◌, ◌^◌, [], length, Some, None, IfOk, OnOk, OnErr};
+ghost use Rattle.std.specs.Prelude.{◌≡◌, ◌+◌, ◌*◌, ◌<◌, ◌^◌, [], length, IfOk, OnOk, OnErr};
 ghost use Rattle.congee_node_table.specs.Charge.{add_charge, Covers};
-ghost use Rattle.congee_base.specs.Form.{Fits, next_form, stated_size};
+ghost use Rattle.congee_base.specs.Form.{Fits, next_form, smaller_form, stated_size};
 ghost use Rattle.congee_base.specs.declared.base_node.NodeType.{NodeType};
-ghost use Rattle.congee_supply.specs.inner.Supply.{count, with_form, with_gone, no_forms, size_of, Alike, Charges, ChargesNothing, Trades};
+ghost use Rattle.congee_supply.specs.inner.Supply.{count, with_form, no_forms, size_of, Alike, Charges, ChargesNothing, Trades};
 
 use congee_base::base_node::{NodeSize, NodeType};
 use congee_map::error::OOMError;
@@ -135,18 +135,6 @@ impl<A: Allocator> Supply<A> {
         self.budget.deallocate(NodeSize::of(form));
     }
 
-    /// Gives back the size of a node, if there is one.
-    pub fn give_back_if_some(&mut self, form: Option<NodeType>)
-        requires { (gone : NodeType) → form ≡ Some gone → 0 < count gone self.old.forms }
-        ensures forms { self.old.forms ≡ with_gone form self.new.forms }
-        ensures alike { Alike A.charge self.old self.new }
-        ensures none { form ≡ None → self.new ≡ self.old }
-    {
-        if let Some(form) = form {
-            self.give_back(form);
-        }
-    }
-
     /// The root of an empty tree.
     pub fn root<P: Drop>(&mut self) -> Result<TreeNode<P>, OOMError>
         requires { count N256 self.old.forms < 2 ^ 63 }
@@ -215,6 +203,28 @@ impl<A: Allocator> Supply<A> {
         self.give_back(if grown.is_ok() { small } else { large });
         grown
     }
+
+    /// Puts a node with few children into its next smaller form. The size of that form is charged before the size of the old
+    /// one is given back. A refusal leaves node and charge.
+    pub fn shrink<P: Drop>(&mut self, node: &mut TreeNode<P>) -> Result<(), OOMError>
+        requires counted { 0 < count node.old.form self.old.forms }
+        requires room { count (smaller_form node.old.form) self.old.forms < 2 ^ 63 }
+        requires few { Fits (smaller_form node.old.form) (length node.old.children) }
+        ensures ok { OnOk result
+            (node.new ≡ record node.old { form = smaller_form node.old.form }) }
+        ensures err { OnErr result (node.new ≡ node.old) }
+        ensures forms { OnOk result
+            (Trades self.old.forms node.old.form (smaller_form node.old.form) self.new.forms) }
+        ensures same { OnErr result (self.new.forms ≡ self.old.forms) }
+        ensures alike { Alike A.charge self.old self.new }
+    {
+        let large = node.base().get_type();
+        let small = smaller(large);
+        self.charge(small)?;
+        let shrunk = node.shrink(self.alloc);
+        self.give_back(if shrunk.is_ok() { large } else { small });
+        shrunk
+    }
 }
 
 impl<A: Allocator> Drop for Supply<A> {
@@ -249,5 +259,16 @@ fn larger(form: NodeType) -> NodeType
         NodeType::N4 => NodeType::N16,
         NodeType::N16 => NodeType::N48,
         NodeType::N48 | NodeType::N256 => NodeType::N256,
+    }
+}
+
+// The form that a node with few children goes into.
+fn smaller(form: NodeType) -> NodeType
+    ensures { result ≡ smaller_form form }
+{
+    match form {
+        NodeType::N4 | NodeType::N16 => NodeType::N4,
+        NodeType::N48 => NodeType::N16,
+        NodeType::N256 => NodeType::N48,
     }
 }

@@ -114,7 +114,7 @@ impl<A: Allocator> Table<A> {
         Some(row_of(id, number))
     }
 
-    /// Takes the row of the id out, and gives it back. Takes no memory.
+    /// Takes the row of the id out, and gives it back. Is never refused.
     pub fn delete(&mut self, id: u32) -> Option<Row>
         ensures before { result ≡ row_at self.old.rows id }
         ensures rows { self.new.rows ≡ without self.old.rows id }

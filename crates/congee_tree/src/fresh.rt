@@ -2,10 +2,12 @@
 
 ghost use Rattle.std.specs.Prelude.{◌≡◌, ◌<◌, Option, None, IfOk, OnOk, OnErr, option_copied};
 ghost use Rattle.std.specs.Fn.{TakesAt, CalledAt};
+ghost use Rattle.std.specs.Int.{to_be_bytes, w64};
 ghost use Rattle.std.specs.Option.{ForSome};
 ghost use Rattle.congee_changes.specs.Closure.{TakesOption, CalledAtOption};
 ghost use Rattle.congee_map.specs.Map.{lookup, put, without, with_answer, IsMap};
 ghost use Rattle.congee_map.specs.Refusal.{NeedsNode};
+ghost use Rattle.congee_changes.specs.Reduce.{ReducesInPlace};
 ghost use Rattle.congee_changes.specs.Tree.{ChargesForNodes, StoresSame};
 
 use crate::tree::RawCongee;
@@ -65,6 +67,24 @@ pub fn remove<L: Ledger, P: Payload, A: Allocator>(
 {
     let mut reads = Reads::<L>::new(blank);
     tree.remove(&key.to_be_bytes(), &mut reads)
+}
+
+/// The same, where no node goes into a smaller form: takes no memory.
+pub fn remove_in_place<L: Ledger, P: Payload, A: Allocator>(
+    tree: &mut RawCongee<P, A>,
+    key: u64,
+    blank: Blank,
+) -> Option<P>
+    requires name { blank.name ≡ L.name }
+    requires parts { blank.parts ≡ L.parts }
+    requires some { 0 < blank.parts }
+    ensures before { result ≡ lookup tree.old.pairs key }
+    ensures pairs { tree.new.pairs ≡ without tree.old.pairs key }
+    ensures shape { ReducesInPlace result tree.old.nodes (to_be_bytes w64 key) tree.new.nodes }
+    ensures charge { ChargesForNodes A.charge tree.old tree.new }
+{
+    let mut reads = Reads::<L>::new(blank);
+    tree.remove_in_place(&key.to_be_bytes(), &mut reads)
 }
 
 /// Where the key is present, calls the closure, once, and stores what it returns; its `None` takes the key out. Returns

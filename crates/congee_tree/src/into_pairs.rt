@@ -4,7 +4,7 @@ ghost use Rattle.std.specs.Prelude.{◌≡◌, ◌<◌};
 ghost use Rattle.std.specs.Iterator.{YieldsFirst, item_count};
 ghost use Rattle.congee_map.specs.Map.{IsMap};
 
-use crate::fresh::remove;
+use crate::fresh::remove_in_place;
 use crate::tree::RawCongee;
 use congee_map::payload::Payload;
 use congee_node_table::allocator::Allocator;
@@ -13,8 +13,8 @@ use std::sync::ledger::Blank;
 
 /// The pairs of a tree by value, keys ascending, as numbers. Contracts see the list of those that are left.
 ///
-/// A pair is taken out when it is asked for, and takes no memory. Each step reads two paths, since it goes on at the key
-/// after the last one and doesn't pass what is already emptied.
+/// A pair is taken out when it is asked for, and takes no memory: no node goes into a smaller form. Each step reads two paths,
+/// since it goes on at the key after the last one.
 #[derive(Drop)]
 pub struct IntoPairs<P: Payload, A: Allocator> {
     tree: RawCongee<P, A>,
@@ -57,7 +57,8 @@ impl<P: Payload, A: Allocator> Iterator for IntoPairs<P, A> {
         let Some(key) = self.tree.key_from(self.from) else {
             return None;
         };
-        let Some(payload) = remove::<Brand, P, A>(&mut self.tree, key, Blank::new(1)) else {
+        let blank = Blank::new(1);
+        let Some(payload) = remove_in_place::<Brand, P, A>(&mut self.tree, key, blank) else {
             unreachable!()
         };
         self.from = key.saturating_add(1);

@@ -9,7 +9,7 @@ ghost use Rattle.congee_changes.specs.Closure.{TakesOption, CalledAtOption};
 ghost use Rattle.congee_map.specs.Map.{put, without, with_answer, IsMap};
 ghost use Rattle.congee_map.specs.Refusal.{NeedsNode};
 ghost use Rattle.congee_node_table.specs.Shape.{Reshapes};
-ghost use Rattle.congee_changes.specs.Reduce.{Reduces, Recomputes};
+ghost use Rattle.congee_changes.specs.Reduce.{AreFilled, Reduces, ReducesInPlace, Recomputes};
 ghost use Rattle.congee_stats.specs.LevelCounts.{capped};
 ghost use Rattle.congee_stats.specs.Stats.{IsTally};
 ghost use Rattle.congee_stats.specs.StatsText.{all_nodes, all_entries};
@@ -127,8 +127,9 @@ impl<P: Payload, A: Allocator> RawCongee<P, A> {
         self.tree.compute_or_insert(key, f, reads)
     }
 
-    /// Takes out the pair at the key, and returns its payload. Takes no memory. `reads` goes up by one for each node on
-    /// the key's path.
+    /// Takes out the pair at the key, and returns its payload. Is never refused: each node but the root that is empty then
+    /// goes, and the one that stays goes into a smaller form where it has few children and there is memory for that. `reads`
+    /// goes up by one for each node on the key's path.
     pub fn remove<L: Ledger>(&mut self, key: &[u8; 8], reads: &mut Reads<L>) -> Option<P>
         ensures before { result ≡ payload_at self.old key.now }
         ensures pairs { self.new.pairs ≡ without self.old.pairs (from_be_bytes w64 key.now) }
@@ -140,9 +141,21 @@ impl<P: Payload, A: Allocator> RawCongee<P, A> {
         self.tree.remove(key, reads)
     }
 
+    /// The same, where no node goes into a smaller form: takes no memory. For a tree that is drained.
+    pub fn remove_in_place<L: Ledger>(&mut self, key: &[u8; 8], reads: &mut Reads<L>) -> Option<P>
+        ensures before { result ≡ payload_at self.old key.now }
+        ensures pairs { self.new.pairs ≡ without self.old.pairs (from_be_bytes w64 key.now) }
+        ensures shape { ReducesInPlace result self.old.nodes key.now self.new.nodes }
+        ensures charge { ChargesForNodes A.charge self.old self.new }
+        ensures reads { reads.new ≡ reads.old + on_path self.old.nodes key.now }
+        ensures few { on_path self.old.nodes key.now ≤ 8 }
+    {
+        self.tree.remove_in_place(key, reads)
+    }
+
     /// Calls the closure at the payload at the key, where there is one: the payload that it returns takes the place of that
-    /// one, and its `None` takes the pair out. Returns the payload that stood there. Takes no memory. `reads` goes up by one
-    /// for each node on the key's path.
+    /// one, and its `None` takes the pair out, as a removal does. Returns the payload that stood there. Is never refused.
+    /// `reads` goes up by one for each node on the key's path.
     pub fn compute_if_present<F: FnMut(&P) -> Option<P>, L: Ledger>(
         &mut self,
         key: &[u8; 8],
@@ -179,9 +192,12 @@ impl<P: Payload, A: Allocator> RawCongee<P, A> {
         self.tree.value_count()
     }
 
-    /// The sum of the stated sizes of the tree's nodes, which its budget is charged for.
+    /// The sum of the stated sizes of the tree's nodes, which its budget is charged for. No node but the root is empty, and
+    /// in an empty tree there is no other.
     pub fn charged(&self) -> u128
-        ensures { result ≡ charge_of self.now.nodes }
+        ensures sizes { result ≡ charge_of self.now.nodes }
+        ensures filled { AreFilled self.now.nodes }
+        ensures bare { self.now.pairs ≡ [] → result ≡ 2104 }
     {
         self.tree.charged()
     }

@@ -3,6 +3,7 @@
 ghost use Rattle.std.specs.Prelude.{None};
 
 use super::asserts::{assert_number, assert_old, assert_put, assert_test};
+use super::leaks::Tally;
 use super::rows::{Wanted, assert_rows};
 use crate::calls::Call;
 use crate::{Allocator, Budget, Congee, NodeSize, OOMError};
@@ -213,6 +214,10 @@ impl Counts {
     fn charged(&self) -> u64 {
         self.charged.load(Ordering::Relaxed)
     }
+
+    fn left(&self) -> u64 {
+        self.requests.load(Ordering::Relaxed)
+    }
 }
 
 // Grants so many requests, and refuses the one after them. Tells what is charged.
@@ -373,5 +378,86 @@ fn each_request_refused(rt: HostRuntime) -> Result<(), Fail> {
         assert_each(&rt, rt.alloc(), &counts, computes)?;
         assert_number(&rt, u128::from(counts.charged()), 0);
     }
+    Ok(())
+}
+
+// A map with 300 keys, each its own value: in a leaf of each of the two largest forms.
+fn with_keys<'a>(alloc: Global, counts: &'a Counts) -> Result<CountedMap<'a>, OOMError> {
+    counts.grant(1000);
+    let mut map = Congee::new(alloc, Counted { counts })?;
+    for key in 0..300u64 {
+        map.insert(key, key)?;
+    }
+    Ok(map)
+}
+
+// Takes all keys out, with the request after so many refused: each is answered, and what is charged is what is held.
+fn assert_removed(
+    rt: &impl Abort,
+    alloc: Global,
+    counts: &Counts,
+    granted: u64,
+) -> Result<(), OOMError> {
+    let mut map = with_keys(alloc, counts)?;
+    counts.grant(granted);
+    for key in 0..300u64 {
+        assert_old(rt, key, map.remove(&key), Some(key));
+        assert_number(rt, map.charged(), u128::from(counts.charged()));
+    }
+    assert_number(rt, map.charged(), 2104);
+    Ok(())
+}
+
+#[test]
+fn each_smaller_node_refused(rt: HostRuntime) -> Result<(), Fail> {
+    let counts = Counts::new();
+    for granted in 0..7 {
+        assert_removed(&rt, rt.alloc(), &counts, granted)?;
+        assert_number(&rt, u128::from(counts.charged()), 0);
+    }
+    Ok(())
+}
+
+// Drains the map. Returns how many pairs the closure was handed.
+fn drained(alloc: Global, counts: &Counts, granted: u64) -> Result<u64, OOMError> {
+    let map = with_keys(alloc, counts)?;
+    counts.grant(granted);
+    let mut count = 0u64;
+    map.drain(&mut |_key: u64, _value: u64| count = count.wrapping_add(1));
+    Ok(count)
+}
+
+#[test]
+fn a_drain_asks_for_nothing(rt: HostRuntime) -> Result<(), Fail> {
+    let counts = Counts::new();
+    let handed = drained(rt.alloc(), &counts, 7)?;
+    assert_eq!(rt; (handed, counts.left(), counts.charged()), (300, 7, 0));
+    Ok(())
+}
+
+// Drops a map whose drainer counts the pairs.
+fn dropped(alloc: Global, counts: &Counts, told: &AtomicU64, granted: u64) -> Result<(), OOMError> {
+    counts.grant(1000);
+    let mut map = Congee::new_with_drainer(alloc, Counted { counts }, Tally { told })?;
+    for key in 0..300u64 {
+        map.insert(key, key)?;
+    }
+    counts.grant(granted);
+    Ok(())
+}
+
+#[test]
+fn a_drainer_at_the_drop_asks_for_nothing(rt: HostRuntime) -> Result<(), Fail> {
+    let counts = Counts::new();
+    let told = AtomicU64::new(0);
+    dropped(rt.alloc(), &counts, &told, 7)?;
+    assert_eq!(rt;
+        (
+            told.load(Ordering::Relaxed),
+            counts.left(),
+            counts.charged()
+        ),
+        (300, 7, 0)
+    );
     Ok(())
 }

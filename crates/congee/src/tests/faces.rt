@@ -129,7 +129,7 @@ fn keys_with_one_number_are_one_key(rt: HostRuntime) -> Result<(), Fail> {
 }
 
 #[test]
-fn empty_where_an_emptied_node_stays(rt: HostRuntime) -> Result<(), Fail> {
+fn empty_where_all_leaves_went(rt: HostRuntime) -> Result<(), Fail> {
     const ROWS: [Row; 11] = [
         (Call::IsEmpty, Wanted::Tested(true)),
         (Call::Insert(1, 1), Wanted::Old(None)),

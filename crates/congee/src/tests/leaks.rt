@@ -34,8 +34,8 @@ impl Allocator for Metered<'_> {
 
 /// Counts the pairs that it is told of.
 #[derive(Drop)]
-struct Tally<'a> {
-    told: &'a AtomicU64,
+pub(super) struct Tally<'a> {
+    pub(super) told: &'a AtomicU64,
 }
 
 impl Drainer<u64, u64> for Tally<'_> {
