@@ -112,8 +112,9 @@ static inline int congee_insert(struct congee *map, uint64_t key, uint64_t value
     return 1;
 }
 
-/* Takes the key out. Answers 1 with the value before in *old, or 0 where the key is absent, and *old stays. Is never refused: nodes
- * that are empty then are given back, and one that has few entries left is put into a smaller form where memory allows. */
+/* Takes the key out. Answers 1 with the value before in *old, or 0 where the key is absent, and *old stays. Is never refused:
+ * nodes that are empty then are given back, and one that has few entries left is put into a smaller form where there is
+ * memory for that. */
 static inline int congee_remove(struct congee *map, uint64_t key, uint64_t *old) {
     struct congee_handle handle = {map};
     uint64_t it = 0;
@@ -159,7 +160,7 @@ static inline uint64_t congee_count(struct congee *map) {
     return congee_c_count(&handle);
 }
 
-/* The sum in bytes of the stated sizes of the map's nodes, in constant time. */
+/* The sum in bytes of the stated sizes of the map's nodes, in constant time: 2104 for an empty map. */
 static inline uint64_t congee_charged(struct congee *map) {
     struct congee_handle handle = {map};
     return congee_c_charged(&handle);
