@@ -268,11 +268,8 @@ fn assert_mixed(rt: &impl Abort, alloc: Global, limit: u64) -> Result<(), OOMErr
         } else {
             take_out(rt, &mut both, key, choice.wrapping_shr(50) % 3);
         }
-        if i % 16 == 0 {
-            both.assert_content(rt);
-        }
+        both.assert_content(rt);
     }
-    both.assert_content(rt);
     Ok(())
 }
 
