@@ -13,5 +13,6 @@ pub use congee_runs::{calls, payload_calls, u64_calls};
 pub use congee_stats::NodeStats;
 pub use congee_stats::levels::{LevelStats, Levels};
 
+pub mod shared;
 #[cfg(test)]
 mod tests;

@@ -45,8 +45,8 @@ module _ {M : Type 0} where
     begun_facts (Range a b n) at least first = elim first [
       | inl top ↦
           subst (λ (s : Stage). FactsAt Granted same t root pin (begun_task (Range a b n)) s) (sym top)
-          (record { start = a; end = b; limit = n; outline = refl; undecided = refl; fresh = refl; order = omega arith; small = least; most = omega arith }, refl, refl)
-      | inr over ↦ subst (λ (s : Stage). FactsAt Granted same t root pin (begun_task (Range a b n)) s) (sym over.0) (inr (refl, over.1))
+          (record { start = a; end = b; limit = n; outline = refl; op = refl; undecided = refl; fresh = refl; order = omega arith; small = least; most = omega arith }, refl, refl)
+      | inr over ↦ subst (λ (s : Stage). FactsAt Granted same t root pin (begun_task (Range a b n)) s) (sym over.0) (inr (refl, over.1, (Range a b n, refl, refl)))
     ]
     begun_facts op at least first =
         subst (λ (s : Stage). FactsAt Granted same t root pin (begun_task op) s) (sym first)

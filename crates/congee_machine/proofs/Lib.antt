@@ -8,3 +8,4 @@ pub mod Roots
 pub mod Stocked
 pub mod Ends
 pub mod Turning
+pub mod Whole

@@ -25,6 +25,7 @@ ghost use Rattle.congee_stats.specs.Visits.{visits_below};
 ghost use Rattle.congee_machine.specs.Shape.{reachable};
 ghost use Rattle.congee_machine.specs.inner.Inside.{IsBegunBy, inside, state_in, meant_in};
 
+use crate::ahead::pair_from;
 use crate::counting::count;
 use congee_base::base_node::{NodeSize, NodeType};
 use congee_finding::advance::{Advanced, advance};
@@ -255,6 +256,11 @@ impl<P: HasMeaning, A: Allocator> Inner<P, A> {
     {
         let pairs = content(&self.stock.store, alloc)?;
         Ok(pairs)
+    }
+
+    /// The least pair whose key isn't below `start`, if there is one.
+    pub fn pair_from(&self, start: u64) -> Option<(u64, &P)> {
+        pair_from(&self.stock.store.nodes, self.stock.store.root, start, 8)
     }
 
     /// The statistics of the reachable nodes.

@@ -1,6 +1,7 @@
 //! A machine of the tree's protocol: it makes one event of one call at a time.
 #![tactic(auto)]
 
+mod ahead;
 mod counting;
 pub mod inner;
 pub mod machine;

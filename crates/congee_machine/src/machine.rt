@@ -18,6 +18,7 @@ ghost use Rattle.congee_stats.specs.StatsText.{all_entries, all_nodes};
 ghost use Rattle.congee_stats.specs.Stays.{NoCountStays};
 ghost use Rattle.congee_stats.specs.Visits.{visits_below};
 ghost use Rattle.congee_machine.specs.Shape.{reachable};
+ghost use Rattle.congee_machine.specs.Whole.{AreWhole};
 ghost use Rattle.congee_store.specs.inner.Effects.{returned_at};
 
 use crate::inner::Inner;
@@ -191,7 +192,8 @@ impl<P: HasMeaning, A: Allocator> Machine<P, A> {
 
     /// Gives one slot back that may be reclaimed, if there is one; else nothing changes.
     ///
-    /// Looks at the slots in turn until one may be reclaimed, so at all nodes where none may.
+    /// Looks at the oldest retired node alone: where it may not be reclaimed, none may. (Where memory for the queue of retired
+    /// nodes was refused once, at the slots in turn.)
     pub fn reclaim_next(&mut self) -> bool
         ensures some { IsTrue result → (slot : ℕ) × IsReclaim (meant P.meaning self.old)
             (meant P.meaning self.new) slot (report_of Kind.Reclaim (Some slot) 0 true) }
@@ -227,6 +229,14 @@ impl<P: HasMeaning, A: Allocator> Machine<P, A> {
         self.inner.content(alloc)
     }
 
+    /// The least pair whose key isn't below `start`, if there is one.
+    ///
+    /// One path through the tree, and those below nodes that a removal has left without children. Takes no memory. No clause
+    /// says which pair it is: tests do.
+    pub fn pair_from(&self, start: u64) -> Option<(u64, &P)> {
+        self.inner.pair_from(start)
+    }
+
     /// The sums over the reachable nodes by level and form, and the pairs.
     ///
     /// One walk over all reachable nodes, at most eight of them below one another. `OOMError` where memory for the levels is
@@ -245,6 +255,13 @@ impl<P: HasMeaning, A: Allocator> Machine<P, A> {
     /// The law that a machine is well formed, whatever its calls have done.
     pub fn is_well_formed(&self)
         ensures { IsWellFormed (meant P.meaning self.now) }
+    {
+        let _ = &self.inner;
+    }
+
+    /// The law that a call without a reply has its payloads, and is of the kind and keys that it is known by.
+    pub fn calls_are_whole(&self)
+        ensures { AreWhole (meant P.meaning self.now) }
     {
         let _ = &self.inner;
     }

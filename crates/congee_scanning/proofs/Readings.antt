@@ -53,6 +53,7 @@ module _ {M : Type 0} (Granted : Type 0) (same : M → M → Bool) (t : Table M)
       end = at.ranging.end;
       limit = at.ranging.limit;
       outline = at.ranging.outline;
+      op = at.ranging.op;
       undecided = at.ranging.undecided;
       fresh = at.ranging.fresh;
       order = at.ranging.order;

@@ -11,6 +11,7 @@ use Rattle.congee_protocol.specs.State.{Flight, State, back, with_call}
 use Rattle.congee_protocol.specs.declared.types.Asking.{Asking}
 use Rattle.congee_protocol.specs.declared.types.Env.{Env}
 use Rattle.congee_protocol.specs.declared.types.Kind.TheVariants as kind
+use Rattle.congee_protocol.specs.declared.types.Op.TheVariants.{Range}
 use Rattle.congee_protocol.specs.declared.types.Outcome.TheVariants.{Going, Pair}
 use Rattle.congee_protocol.specs.declared.types.Seen.{Seen}
 use Rattle.congee_sync.specs.Lock.{IsFree}
@@ -33,20 +34,6 @@ use Rattle.congee_scanning.specs.inner.Ranges.{spots_on, named_on, flight_on, Is
 some_word : (slot word : ℕ) (more : List (ℕ × ℕ)) → (slot, word) ∷ more ≡ [] → ⊥
 some_word slot word more e = cc
 
--- a range with another task of the same kind
-ranging_as : {M : Type 0} (task task' : Task M) (course : Course) → task'.outline ≡ task.outline → task'.progress ≡ task.progress → task'.asking ≡ task.asking → IsRanging task course → IsRanging task' course
-ranging_as task task' course o p a r = record {
-  start = r.start;
-  end = r.end;
-  limit = r.limit;
-  outline = o ∙ r.outline;
-  undecided = p ∙ r.undecided;
-  fresh = a ∙ r.fresh;
-  order = r.order;
-  small = r.small;
-  most = r.most;
-}
-
 -- a range with another course
 pub ranging_at : {M : Type 0} (task : Task M) (course next : Course) (r : IsRanging task course) → next.cursor ≤ next.reach → next.reach < 2 ^ 64 → next.given ≤ r.limit → IsRanging task next
 ranging_at task course next r order small most = record {
@@ -54,6 +41,7 @@ ranging_at task course next r order small most = record {
   end = r.end;
   limit = r.limit;
   outline = r.outline;
+  op = r.op;
   undecided = r.undecided;
   fresh = r.fresh;
   order = order;
@@ -95,6 +83,7 @@ module _ {M : Type 0} (Granted : Type 0) (same : M → M → Bool) (t : Table M)
       end = r.end;
       limit = r.limit;
       outline = r.outline;
+      op = r.op;
       undecided = r.undecided;
       fresh = refl;
       order = omega arith;
@@ -250,7 +239,7 @@ module _ {M : Type 0} (Granted : Type 0) (same : M → M → Bool) (t : Table M)
       pub ends_at : (cursor reach : ℕ) → course.cursor ≤ cursor → cursor ≤ reach → ((s : State M) → Shows t root s → NoneStands s course.reach reach) → HasAll task.outline reach course.given
           → IsScanned Granted same t root pin task course scan env task (record { cursor = cursor; reach = reach; given = course.given }) Finish (report_of kind.Check (Some spot.slot) 0 true) Going
       ends_at cursor reach onward order none all = record {
-        facts = inr (at.ranging.undecided, all);
+        facts = inr (at.ranging.undecided, all, (Range at.ranging.start at.ranging.end at.ranging.limit, at.ranging.op, sym at.ranging.outline));
         outline = refl;
         touches = touched;
         names = λ z h. absurd h;
@@ -270,6 +259,7 @@ module _ {M : Type 0} (Granted : Type 0) (same : M → M → Bool) (t : Table M)
             end = at.ranging.end;
             limit = at.ranging.limit;
             outline = at.ranging.outline;
+            op = at.ranging.op;
             undecided = at.ranging.undecided;
             fresh = refl;
             order = omega arith;
@@ -314,7 +304,7 @@ module _ {M : Type 0} (Granted : Type 0) (same : M → M → Bool) (t : Table M)
         pub gives_and_ends : HasAll task.outline (key + 1) (course.given + 1)
             → IsScanned Granted same t root pin task course scan env (untold task) (past_pair course key) Finish (report_of kind.Check (Some spot.slot) 0 true) (Pair key value)
         gives_and_ends all = record {
-          facts = inr (at.ranging.undecided, all);
+          facts = inr (at.ranging.undecided, all, (Range at.ranging.start at.ranging.end at.ranging.limit, at.ranging.op, sym at.ranging.outline));
           outline = refl;
           touches = touched;
           names = λ z h. absurd h;
@@ -332,6 +322,7 @@ module _ {M : Type 0} (Granted : Type 0) (same : M → M → Bool) (t : Table M)
               end = at.ranging.end;
               limit = at.ranging.limit;
               outline = at.ranging.outline;
+              op = at.ranging.op;
               undecided = at.ranging.undecided;
               fresh = refl;
               order = omega arith;
@@ -359,6 +350,7 @@ module _ {M : Type 0} (Granted : Type 0) (same : M → M → Bool) (t : Table M)
               end = at.ranging.end;
               limit = at.ranging.limit;
               outline = at.ranging.outline;
+              op = at.ranging.op;
               undecided = at.ranging.undecided;
               fresh = at.ranging.fresh;
               order = omega arith;

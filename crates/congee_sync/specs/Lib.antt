@@ -1,2 +1,3 @@
 pub mod Epoch
 pub mod Lock
+pub mod Waiting

@@ -6,10 +6,11 @@
 
 ghost use Rattle.std.specs.Prelude.{◌≡◌, ℕ, ◌<◌, ◌⊎◌, ◌↔◌, true, false, IsTrue, Some, None, IsSome, IfSome, IfNone, IsOk, OnOk, OnErr, []};
 ghost use Rattle.congee_sync.specs.Epoch.{is_seated, pin_of, life_of, ChangesSeat, ChangesLife, admitted, stamp_at, count_after, StartedAfter, AllStartedAfter, MayReclaim};
+ghost use Rattle.congee_sync.specs.Waiting.{Ascends, Waits, IsFirst, IsListed, IsWithout};
 
 use congee_map::error::OOMError;
 use std::alloc::Global;
-use std::collections::BTreeMap;
+use std::collections::{BTreeMap, VecDeque};
 use std::marker::Model;
 
 /// A number's place: whether room is kept for it, and the pin of its call in flight.
@@ -27,15 +28,22 @@ pub enum Life {
 }
 
 /// The pins of calls in flight, and the slots of nodes.
+///
+/// Stamps ascend in the order of retirement, so of the retired slots the one that was retired first decides: where it may
+/// not be reclaimed, none may. `waiting` has them in that order, and `whole` says that it has all. It isn't so only after
+/// there was no room for one: then a slot is searched for.
 #[derive(Drop)]
 pub struct Pins {
     seats: BTreeMap<u64, Seat>,
     slots: BTreeMap<usize, Life>,
     count: u64,
+    waiting: VecDeque<(u64, usize)>,
+    whole: bool,
 }
 
 impl Model for Pins {
     ghost use Rattle.congee_sync.specs.Epoch.{PinsView};
+    ghost use Rattle.congee_sync.specs.Waiting.{IsQueue};
 
     ghost Value = { PinsView };
 
@@ -44,6 +52,8 @@ impl Model for Pins {
       slots = p.slots.entries;
       count = p.count;
     } };
+
+    ghost invariant = { λ p. IsQueue p.slots.entries p.count p.waiting.items p.whole };
 }
 
 // Whether the call of a seat, if one is in flight, started after the retirement with this stamp.
@@ -56,6 +66,59 @@ fn started_after(seat: &Seat, stamp: u64) -> bool
     }
 }
 
+// The stamp of a node that is retired now, while retirements are counted.
+fn stamp_of(count: u64) -> Option<u64>
+    ensures { result ≡ stamp_at count }
+{
+    if count < u64::MAX { Some(count) } else { None }
+}
+
+// Whether it is retired, and that was counted.
+fn is_counted(life: &Option<Life>) -> bool
+    ensures { IsTrue result ↔ ((stamp : ℕ) × (life.now ≡ Some (Life.Retired (Some stamp)))) }
+{
+    match life {
+        Some(Life::Retired(Some(_))) => true,
+        Some(Life::Retired(None)) => false,
+        Some(Life::InUse) => false,
+        None => false,
+    }
+}
+
+// What was retired first, with its stamp.
+fn first_of(waiting: &VecDeque<(u64, usize)>) -> Option<(u64, usize)>
+    ensures { IsFirst waiting.now.items result }
+{
+    waiting.front().copied()
+}
+
+// Puts a slot behind those that wait, and says whether all are among them.
+fn listed(waiting: &mut VecDeque<(u64, usize)>, whole: bool, stamp: u64, slot: usize) -> bool
+    ensures { IsListed whole stamp slot waiting.old.items waiting.new.items result }
+{
+    match waiting.push_back((stamp, slot)) {
+        Ok(()) => whole,
+        Err(_) => false,
+    }
+}
+
+// Takes a slot out of those that wait.
+fn take_out(waiting: &mut VecDeque<(u64, usize)>, slot: usize)
+    requires ordered { (high : ℕ) × Ascends 0 waiting.old.items high }
+    requires once { (a b : ℕ) → Waits a slot waiting.old.items → Waits b slot waiting.old.items
+        → a ≡ b }
+    ensures { IsWithout slot waiting.old.items waiting.new.items }
+{
+    let Some((_, first)) = first_of(waiting) else {
+        return;
+    };
+    if first == slot {
+        waiting.pop_front();
+    } else {
+        waiting.retain(|pair| pair.1 != slot);
+    }
+}
+
 impl Pins {
     /// No number is seated, no slot admitted, and nothing was retired. Takes no memory.
     pub fn new(alloc: Global) -> Self
@@ -65,6 +128,8 @@ impl Pins {
             seats: BTreeMap::new(alloc),
             slots: BTreeMap::new(alloc),
             count: 0,
+            waiting: VecDeque::new(alloc),
+            whole: true,
         }
     }
 
@@ -184,6 +249,16 @@ impl Pins {
         }
     }
 
+    // What a slot is once it was admitted.
+    fn admitted_at(&self, slot: usize) -> Life
+        ensures { result ≡ admitted (life_of self.now slot) }
+    {
+        match self.slots.get(&slot) {
+            Some(life) => *life,
+            None => Life::InUse,
+        }
+    }
+
     /// Keeps room for a slot, so that its node can be retired. A refusal changes nothing.
     pub fn admit(&mut self, slot: usize) -> Result<(), OOMError>
         ensures ok { OnOk result
@@ -191,10 +266,9 @@ impl Pins {
         ensures count { self.new.count ≡ self.old.count }
         ensures err { OnErr result (self.new ≡ self.old) }
     {
-        let life = match self.slots.get(&slot) {
-            Some(life) => *life,
-            None => Life::InUse,
-        };
+        let life = self.admitted_at(slot);
+        // as much room as there are slots, so that a retirement takes no memory
+        self.waiting.reserve(self.slots.len() + 1)?;
         self.slots.insert(slot, life)?;
         Ok(())
     }
@@ -206,16 +280,16 @@ impl Pins {
             (Some (Life.Retired (stamp_at self.old.count))) }
         ensures count { self.new.count ≡ count_after self.old.count }
     {
-        let stamp = if self.count < u64::MAX {
-            Some(self.count)
-        } else {
-            None
-        };
+        let count = self.count;
+        let whole = self.whole;
+        let stamp = stamp_of(count);
         let Ok(_) = self.slots.insert(slot, Life::Retired(stamp)) else {
             unreachable!()
         };
-        if self.count < u64::MAX {
-            self.count += 1;
+        if count < u64::MAX {
+            let whole = listed(&mut self.waiting, whole, count, slot);
+            self.whole = whole;
+            self.count = count + 1;
         }
     }
 
@@ -229,8 +303,25 @@ impl Pins {
         }
     }
 
-    /// A slot that may be reclaimed, if there is one: the lowest. Looks at the slots in turn.
+    /// A slot that may be reclaimed, if there is one: the one that was retired first. Looks at that alone, and at the pins.
     pub fn reclaimable(&self) -> Option<usize>
+        ensures some { IfSome result (λ slot. MayReclaim self.now slot) }
+        ensures none { IfNone result ((slot : ℕ) → MayReclaim self.now slot → ⊥) }
+    {
+        let first = first_of(&self.waiting);
+        if !self.whole {
+            return self.searched();
+        }
+        let (stamp, slot) = first?;
+        if self.all_started_after(stamp) {
+            Some(slot)
+        } else {
+            None
+        }
+    }
+
+    // A slot that may be reclaimed, if there is one. Looks at the slots in turn.
+    fn searched(&self) -> Option<usize>
         ensures some { IfSome result (λ slot. MayReclaim self.now slot) }
         ensures none { IfNone result ((slot : ℕ) → MayReclaim self.now slot → ⊥) }
     {
@@ -253,6 +344,9 @@ impl Pins {
         ensures life { ChangesLife self.old self.new slot None }
         ensures count { self.new.count ≡ self.old.count }
     {
-        self.slots.remove(&slot);
+        let life = self.slots.remove(&slot);
+        if is_counted(&life) {
+            take_out(&mut self.waiting, slot);
+        }
     }
 }

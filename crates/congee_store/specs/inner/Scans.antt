@@ -2,10 +2,11 @@
 use Rattle.std.specs.Prelude.{◌≡◌, ◌≢◌, ℕ, ◌<◌, ◌≤◌, ◌^◌, max, Option, Some, None, ◌⊎◌}
 use Rattle.congee_node_table.specs.Key.{low, high}
 use Rattle.congee_node_table.specs.declared.child.Child.TheVariants.{Node as below_at}
-use Rattle.congee_protocol.specs.Calls.{Outline}
+use Rattle.congee_protocol.specs.Calls.{Outline, outline_of}
 use Rattle.congee_protocol.specs.Local.{payload_in}
 use Rattle.congee_protocol.specs.Reading.{HasAll, bound_at, first_from}
 use Rattle.congee_protocol.specs.declared.types.Asking.TheVariants.{Fresh}
+use Rattle.congee_protocol.specs.declared.types.Op.{Op}
 use Rattle.congee_protocol.specs.declared.types.Op.TheVariants.{Range}
 use Rattle.congee_protocol.specs.declared.types.Progress.TheVariants as progress
 use Rattle.congee_protocol.specs.declared.types.Seen.{Seen}
@@ -41,6 +42,7 @@ module _ {M : Type 0} where
     pub end : ℕ
     pub limit : ℕ
     pub outline : task.outline ≡ Range start end limit
+    pub op : task.op ≡ Some (Range start end limit)
     pub undecided : task.progress ≡ progress.Open
     pub fresh : task.asking ≡ Fresh
     pub order : course.cursor ≤ course.reach
@@ -76,10 +78,15 @@ module _ {M : Type 0} where
         (seen.child ≡ first_from (bound_at course.cursor a.node.prefix) a.node.children)
         × (task.spare ≡ payload_in seen.child))
 
+  -- what was started is there
+  abbrev pub HasOp : Task M → Type 0
+  HasOp task = (op : Op M) × (task.op ≡ Some op) × (outline_of op ≡ task.outline)
+
   -- it has all, or was refused
   abbrev pub IsDone : Task M → Course → Type 0
   IsDone task course = (task.progress ≡ progress.Refused)
-      ⊎ ((task.progress ≡ progress.Open) × HasAll task.outline course.reach course.given)
+      ⊎ ((task.progress ≡ progress.Open) × HasAll task.outline course.reach course.given
+      × HasOp task)
 
   -- THE FACTS
   abbrev pub ScanFacts : Table M → ℕ → ℕ → Task M → Course → Scan → Type 0

@@ -1,0 +1,19 @@
+use Rattle.std.specs.Arc.{arc_value}
+use Rattle.std.proofs.Common.{false}
+use Rattle.congee_map.specs.Map.{lookup}
+use Rattle.congee_protocol.specs.Meaning.{op_of}
+use Rattle.congee_lent.proofs.Seating.{start_content, start_ok, start_others, unflown, no_some}
+use Rattle.congee_lent.proofs.owners.MachineArcLentArc.start.Goals as goal
+
+pub returns-clause-content : goal.returns-clause-content
+returns-clause-content g c = start_content (λ x. arc_value x) c.start.result c.args.self.now c.start.new.self c.args.id (op_of (λ x. arc_value x) c.args.op.now) c.start.ensures.ok c.start.ensures.err
+
+pub returns-clause-ok : goal.returns-clause-ok
+returns-clause-ok g c = start_ok (λ x. arc_value x) c.start.result c.args.self.now c.start.new.self c.args.id c.args.op.now c.start.ensures.ok
+
+pub returns-clause-free : goal.returns-clause-free
+returns-clause-free g c ready e =
+    no_some _ (lookup c.args.self.now.flights c.args.id) (unflown (λ x. arc_value x) c.args.self.now c.args.id ready) (c.start.ensures.in_flight.0 e)
+
+pub returns-clause-others : goal.returns-clause-others
+returns-clause-others g c = start_others (λ x. arc_value x) c.start.result c.args.self.now c.start.new.self c.args.id (op_of (λ x. arc_value x) c.args.op.now) c.start.ensures.ok c.start.ensures.err

@@ -1,0 +1,84 @@
+//! What is asked of what lies under the lock, number by number.
+
+ghost use Rattle.std.specs.Prelude.{◌≡◌, ◌≢◌, ℕ, Some, None, Err, IfOk, OnErr};
+ghost use Rattle.congee_map.specs.Map.{Pairs};
+ghost use Rattle.congee_protocol.specs.Calls.{outline_of};
+ghost use Rattle.congee_protocol.specs.Meaning.{in_some, op_of, outcome_of};
+ghost use Rattle.congee_protocol.specs.declared.types.Asking.TheVariants.{Fresh};
+ghost use Rattle.congee_lent.specs.declared.lent.Stage.TheVariants.{Ready, Running};
+ghost use Rattle.congee_lent.specs.Stages.{Changes, IsOf, Turns};
+
+use congee_map::error::OOMError;
+use congee_protocol::types::{Asking, Env, Op, Outcome, Report, StartError};
+
+/// What is known of a number that is seated.
+#[derive(Drop)]
+pub enum Stage<T> {
+    /// It has no call in flight.
+    Ready,
+    /// Its call runs: the call's kind and keys, the call, and how far it is with its closure.
+    Running(Op<()>, Op<T>, Asking<T>),
+    /// Its call has its reply.
+    Settled(Op<()>),
+    /// Its call was refused.
+    Denied(Op<()>),
+    /// Nothing is known of its call. (No machine here has such a call; the public definitions alone don't exclude it.)
+    Lost,
+}
+
+/// A machine of calls with payloads P, which stand for values of T.
+pub trait Lent<P, T>: Drop {
+    ghost use Rattle.std.specs.Prelude.{Bool, Option};
+    ghost use Rattle.congee_lent.specs.declared.lent.Stage.{Stage};
+
+    ghost meaning: { P → T };
+
+    ghost same: { T → T → Bool };
+
+    // What is stored.
+    ghost content: { Self → Pairs T → Type 0 };
+
+    // What is known of each number that is seated.
+    ghost place: { Self → ℕ → Option (Stage T) };
+
+    /// One more of what a closure answered, or `OOMError`.
+    fn again(answer: &P) -> Result<P, OOMError>
+        ensures { IfOk result (λ copy. meaning copy ≡ meaning answer.now) };
+
+    /// Seats a number.
+    fn seat(&mut self) -> Result<u64, OOMError>
+        ensures content { (m : Pairs T) → content self.old m → content self.new m }
+        ensures ok { IfOk result (λ id. (place self.old id ≡ None) × (place self.new id ≡ Some Ready)
+            × ((k : ℕ) → k ≢ id → place self.new k ≡ place self.old k)) }
+        ensures err { OnErr result ((k : ℕ) → place self.new k ≡ place self.old k) };
+
+    /// Gives a number back that has no call.
+    fn unseat(&mut self, id: u64)
+        ensures content { (m : Pairs T) → content self.old m → content self.new m }
+        ensures mine { place self.new id ≡ None }
+        ensures others { (k : ℕ) → k ≢ id → place self.new k ≡ place self.old k };
+
+    /// Begins a call of a number. Only of a number that is ready do the clauses say what becomes of it.
+    fn start(&mut self, id: u64, op: &Op<P>) -> Result<Report, StartError>
+        ensures content { (m : Pairs T) → content self.old m → content self.new m }
+        ensures ok { place self.old id ≡ Some Ready → IfOk result (λ _. place self.new id
+            ≡ Some (Running (outline_of op.now) (op_of meaning op.now) Fresh)) }
+        ensures err { OnErr result ((k : ℕ) → place self.new k ≡ place self.old k) }
+        ensures free { place self.old id ≡ Some Ready → result ≢ Err StartError.InFlight }
+        ensures others { (k : ℕ) → k ≢ id → place self.new k ≡ place self.old k };
+
+    /// One event of the call of a number. Only of a call that is known to have the handed kind and keys do the clauses say
+    /// what becomes of it and of the content.
+    fn step(&mut self, id: u64, op: &Op<P>, env: Env<P>) -> (Report, Outcome<P>)
+        ensures turns { (p : Stage T) → place self.old id ≡ Some p → IsOf (outline_of op.now) p
+            → Turns p (in_some meaning env.answer) result.0.kind (place self.new id) (outcome_of meaning result.1) }
+        ensures content { (p : Stage T) → place self.old id ≡ Some p → IsOf (outline_of op.now) p
+            → (m : Pairs T) → content self.old m → (n : Pairs T) × content self.new n × Changes same p m n (outcome_of meaning result.1) }
+        ensures others { (p : Stage T) → place self.old id ≡ Some p → IsOf (outline_of op.now) p
+            → (k : ℕ) → k ≢ id → place self.new k ≡ place self.old k };
+
+    /// Gives one slot back that may be reclaimed.
+    fn reclaim_next(&mut self) -> bool
+        ensures content { (m : Pairs T) → content self.old m → content self.new m }
+        ensures places { (k : ℕ) → place self.new k ≡ place self.old k };
+}

@@ -1,0 +1,335 @@
+//! The calls of the shared map, each event of which is one hold of the lock.
+//!
+//! A hold makes one event and ends: it looks at one node, and changes at most one word and one entry. It takes memory only where
+//! the event makes a node or the number is seated; what a call keeps has room since then. No node is copied but by the event
+//! that replaces it, and no payload but for the shares that the call needs: the one that a Read reports, the reply's, and the
+//! closure's. Closures and gates are called between holds, so nothing that a hold does can take the lock again.
+
+ghost use Rattle.std.specs.Prelude.{◌≡◌};
+ghost use Rattle.congee_shared.specs.Booking.{Books, IsReply, IsReplyTo, change_of, reply_in, reply_got, reply_tried};
+
+use crate::asks::Asks;
+use crate::booked::Booked;
+use crate::gate::Gate;
+use crate::purse::Purse;
+use crate::tried::Tried;
+use congee_lent::lent::Lent;
+use congee_map::error::OOMError;
+use congee_protocol::types::{Env, Kind, Op, Outcome, Reply, Report, Seen, StartError};
+use crossbeam_utils::Backoff;
+use std::marker::PhantomData;
+use std::sync::ledger::Ledger;
+use std::sync::{Mutex, MutexGuard, Wait};
+
+/// How many slots a call tries to give back at most, once it has retired a node or was refused.
+const RECLAIMS: u32 = 2;
+
+/// How often the lock is tried before a thread sleeps at it. Who holds it makes one event, some hundred nanoseconds.
+const TRIES: u32 = 64;
+
+/// A map of payloads P, which stand for values of T, that threads share: what lies under its lock is an X.
+#[derive(Drop)]
+pub struct Raw<L: Ledger, P, T, X: Lent<P, T>> {
+    under: Mutex<X>,
+    of: PhantomData<(L, P, T)>,
+}
+
+/// A number that is seated, under which calls are made one at a time.
+#[derive(Drop)]
+pub struct Place {
+    id: u64,
+}
+
+/// A caller at a shared map.
+#[derive(Drop)]
+pub struct Guard<'a, L: Ledger, P, T, X: Lent<P, T>> {
+    raw: &'a Raw<L, P, T, X>,
+    pub(crate) place: Place,
+}
+
+// What the front chooses for an event: no upgrade fails, a Read of a node that has changed sees nothing, and the closure's
+// answer if it was asked.
+fn env_with<P>(answer: Option<P>) -> Env<P>
+    ensures { result.answer ≡ answer }
+{
+    Env {
+        torn: Seen {
+            child: None,
+            count: 0,
+            full: false,
+        },
+        fail: false,
+        answer,
+    }
+}
+
+// One more of what the closure answered.
+fn again<P: Drop, T, X: Lent<P, T>>(answer: &Option<P>) -> Result<Option<P>, OOMError> {
+    match answer {
+        None => Ok(None),
+        Some(answer) => Ok(Some(X::again(answer)?)),
+    }
+}
+
+impl<L: Ledger, P: Drop, T, X: Lent<P, T>> Raw<L, P, T, X> {
+    /// A map with this under its lock.
+    pub fn new(under: X) -> Self {
+        Raw {
+            under: Mutex::new(under),
+            of: PhantomData,
+        }
+    }
+
+    /// What lies under the lock, once nobody shares the map.
+    pub fn into_under(self) -> X {
+        let Raw { under, of: _ } = self;
+        under.into_inner()
+    }
+
+    /// Seats a number for a caller. `OOMError` where there is no room for its calls.
+    pub fn pin<R: Wait>(&self, rt: &R) -> Result<Guard<'_, L, P, T, X>, OOMError> {
+        let place = self.number(rt)?;
+        Ok(Guard { raw: self, place })
+    }
+
+    /// A caller with this number, which a test chooses.
+    #[cfg(test)]
+    pub(crate) fn seated_at(&self, id: u64) -> Guard<'_, L, P, T, X> {
+        Guard {
+            raw: self,
+            place: Place { id },
+        }
+    }
+
+    /// Gives a guard's number back.
+    pub fn unpin<R: Wait>(&self, rt: &R, guard: Guard<'_, L, P, T, X>) {
+        let Guard { raw, mut place } = guard;
+        raw.unseat(rt, &mut place);
+    }
+
+    /// What is read of what lies under the lock, at one moment.
+    pub fn snapshot<R: Wait, S, Q: FnOnce(&X) -> S>(&self, rt: &R, read: Q) -> S
+        requires { Q.IsAlwaysCallable read }
+    {
+        let under = self.held(rt);
+        read(&under)
+    }
+
+    // Takes the lock. A thread that finds it taken pauses, then yields, and sleeps at last.
+    pub(crate) fn held<R: Wait>(&self, rt: &R) -> MutexGuard<'_, X> {
+        let pause = Backoff::new();
+        for _ in 0..TRIES {
+            if let Some(under) = self.under.try_lock() {
+                return under;
+            }
+            pause.snooze();
+        }
+        self.under.lock(rt)
+    }
+
+    // Seats a number, in one hold.
+    fn number<R: Wait>(&self, rt: &R) -> Result<Place, OOMError> {
+        let id = self.held(rt).seat()?;
+        Ok(Place { id })
+    }
+
+    // Gives a number back, in one hold.
+    fn unseat<R: Wait>(&self, rt: &R, place: &mut Place) {
+        self.held(rt).unseat(place.id);
+    }
+
+    // The Start of a call, in one hold.
+    pub(crate) fn begin<R: Wait>(
+        &self,
+        rt: &R,
+        place: &mut Place,
+        op: &Op<P>,
+    ) -> Result<Report, StartError> {
+        self.held(rt).start(place.id, op)
+    }
+
+    // One event of a running call, in one hold.
+    pub(crate) fn event<R: Wait, B: Purse<L>>(
+        &self,
+        rt: &R,
+        place: &mut Place,
+        op: &Op<P>,
+        answer: Option<P>,
+        purse: &mut B,
+    ) -> (Report, Outcome<P>)
+    where
+        X: Booked<L, P, B>,
+        ensures booked { Books B.after op.now (reply_in result.1) purse.old purse.new }
+        ensures reply { IsReply op.now (reply_in result.1) }
+    {
+        self.held(rt)
+            .step_booked(place.id, op, env_with(answer), purse)
+    }
+
+    // One event of a call that has its reply or was refused, in one hold.
+    fn last_event<R: Wait>(&self, rt: &R, place: &mut Place, op: &Op<P>) -> (Report, Outcome<P>) {
+        self.held(rt).step(place.id, op, env_with(None))
+    }
+
+    // Gives one slot back that may be reclaimed, in one hold.
+    fn reclaim<R: Wait>(&self, rt: &R, _place: &mut Place) -> bool {
+        self.held(rt).reclaim_next()
+    }
+
+    // Gives back what may be given back, each in a hold of its own.
+    fn reclaim_some<R: Wait>(&self, rt: &R, place: &mut Place) {
+        for _ in 0..RECLAIMS {
+            if !self.reclaim(rt, place) {
+                return;
+            }
+        }
+    }
+
+    // The events that are left once a call is decided or refused. Says whether one of them retired a node.
+    fn finish<R: Wait, G: Gate>(
+        &self,
+        rt: &R,
+        place: &mut Place,
+        op: &Op<P>,
+        gate: &mut G,
+    ) -> bool {
+        let mut retired = false;
+        for _ in rt.forever() {
+            let (report, outcome) = self.last_event(rt, place, op);
+            match outcome {
+                Outcome::Done | Outcome::Unknown => return retired,
+                _ => {}
+            }
+            retired = retired || report.kind == Kind::Obsolete;
+            gate.between(&report);
+        }
+        unreachable!()
+    }
+
+    // One attempt at a call, from its Start on. The closure is asked while the lock is free. What it answered is kept until
+    // an event has taken it.
+    fn attempt<R: Wait, B: Purse<L>, Q: Asks<P>, G: Gate>(
+        &self,
+        rt: &R,
+        place: &mut Place,
+        op: &Op<P>,
+        purse: &mut B,
+        asks: &mut Q,
+        gate: &mut G,
+    ) -> Tried<P>
+    where
+        X: Booked<L, P, B>,
+        requires { Q.can_ask asks.old }
+        ensures callable { Q.can_ask asks.new }
+        ensures booked { Books B.after op.now (reply_tried result) purse.old purse.new }
+        ensures reply { IsReply op.now (reply_tried result) }
+    {
+        match self.begin(rt, place, op) {
+            Ok(report) => gate.between(&report),
+            Err(StartError::InFlight) => return Tried::Again,
+            Err(StartError::Oom(_)) => {
+                self.reclaim_some(rt, place);
+                return Tried::Refused;
+            }
+        }
+        let pause = Backoff::new();
+        let mut retired = false;
+        let mut answer = None;
+        for _ in rt.forever() {
+            let Ok(copy) = again::<P, T, X>(&answer) else {
+                pause.snooze();
+                continue;
+            };
+            let (report, outcome) = self.event(rt, place, op, copy, purse);
+            retired = retired || report.kind == Kind::Obsolete;
+            match outcome {
+                Outcome::Going => {
+                    if report.kind == Kind::Answer {
+                        answer = None;
+                    }
+                    gate.between(&report);
+                    // (it met a node that another call has locked or changed, and begins again at the root)
+                    if !report.ok {
+                        pause.snooze();
+                    }
+                }
+                Outcome::Ask(old) => {
+                    gate.between(&report);
+                    answer = asks.ask(old);
+                }
+                Outcome::Decided(reply) => {
+                    gate.between(&report);
+                    retired = self.finish(rt, place, op, gate) || retired;
+                    if retired {
+                        self.reclaim_some(rt, place);
+                    }
+                    return Tried::Replied(reply);
+                }
+                Outcome::Refused => {
+                    gate.between(&report);
+                    self.finish(rt, place, op, gate);
+                    self.reclaim_some(rt, place);
+                    return Tried::Refused;
+                }
+                Outcome::Pair(..) => gate.between(&report),
+                Outcome::Done => return Tried::Again,
+                Outcome::Unknown => return Tried::Again,
+            }
+        }
+        unreachable!()
+    }
+
+    /// A call, until it is decided or refused.
+    pub(crate) fn call<R: Wait, B: Purse<L>, Q: Asks<P>, G: Gate>(
+        &self,
+        rt: &R,
+        guard: &mut Guard<'_, L, P, T, X>,
+        op: &Op<P>,
+        purse: &mut B,
+        asks: &mut Q,
+        gate: &mut G,
+    ) -> Result<Reply<P>, OOMError>
+    where
+        X: Booked<L, P, B>,
+        requires { Q.can_ask asks.old }
+        ensures callable { Q.can_ask asks.new }
+        ensures booked { Books B.after op.now (reply_got result) purse.old purse.new }
+        ensures reply { IsReply op.now (reply_got result) }
+    {
+        let pause = Backoff::new();
+        for _ in rt.forever() {
+            match self.attempt(rt, &mut guard.place, op, purse, asks, gate) {
+                Tried::Replied(reply) => return Ok(reply),
+                Tried::Refused => return Err(OOMError::new()),
+                Tried::Again => pause.snooze(),
+            }
+        }
+        unreachable!()
+    }
+
+    /// The same of a call that can't tell of a refusal: it tries again.
+    pub(crate) fn call_always<R: Wait, B: Purse<L>, Q: Asks<P>, G: Gate>(
+        &self,
+        rt: &R,
+        guard: &mut Guard<'_, L, P, T, X>,
+        op: &Op<P>,
+        purse: &mut B,
+        asks: &mut Q,
+        gate: &mut G,
+    ) -> Reply<P>
+    where
+        X: Booked<L, P, B>,
+        requires { Q.can_ask asks.old }
+        ensures booked { purse.new ≡ B.after (change_of op.now result) purse.old }
+        ensures reply { IsReplyTo op.now result }
+    {
+        let pause = Backoff::new();
+        for _ in rt.forever() {
+            match self.call(rt, guard, op, purse, asks, gate) {
+                Ok(reply) => return reply,
+                Err(_) => pause.snooze(),
+            }
+        }
+        unreachable!()
+    }
+}

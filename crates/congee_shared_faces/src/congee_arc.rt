@@ -1,0 +1,232 @@
+//! `CongeeArc`, the map from keys to owners of shared values, which threads share.
+
+ghost use Rattle.std.specs.Prelude.{◌≡◌, ◌≢◌, ◌+◌, ◌^◌, IfOk, MatchResult};
+ghost use Rattle.congee_shared.specs.Held.{inserted, removed};
+
+use congee_map::error::OOMError;
+use congee_map::traits::Word;
+use congee_node_table::allocator::{Allocator, DefaultAllocator};
+use congee_protocol::payload::HasMeaning;
+use congee_shared::gate::{Gate, NoGate};
+use congee_shared::purse::Own;
+use congee_shared::raw;
+use congee_shared::raw::Raw;
+use congee_shared::share::Share;
+use congee_shared::state::State;
+use congee_stats::NodeStats;
+use std::alloc::Global;
+use std::marker::PhantomData;
+use std::sync::ledger::{Blank, Ledger};
+use std::sync::{Arc, Wait};
+
+/// A caller at a shared map of owners. It is of one map, and makes one call at a time.
+pub type OwnerGuard<'a, L, V, A> = raw::Guard<'a, L, Arc<V>, V, State<L, Arc<V>, A>>;
+
+/// An ordered map from keys to owners of shared values, which threads share. Two keys with one number are one key.
+///
+/// What a call returns is one more owner, which takes room in the owners' count and may be refused.
+#[derive(Drop)]
+pub struct CongeeArc<
+    L: Ledger,
+    K: Word,
+    V: Send + Sync + Drop + 'static,
+    A: Allocator = DefaultAllocator,
+>
+where
+    Arc<V>: HasMeaning,
+{
+    raw: Raw<L, Arc<V>, V, State<L, Arc<V>, A>>,
+    of: PhantomData<K>,
+}
+
+impl<L: Ledger, K: Word, V: Send + Sync + Drop + 'static> CongeeArc<L, K, V> {
+    /// An empty map, and the share with its whole weight. `OOMError` where there is no memory for the map.
+    pub fn new(alloc: Global, blank: Blank) -> Result<(Self, Share<L>), OOMError>
+        requires name { blank.name ≡ L.name }
+        requires parts { blank.parts ≡ L.parts }
+        requires whole { L.parts ≡ 2 ^ 63 + 1 }
+        ensures share { IfOk result (λ r. r.1 ≡ record { weight = 2 ^ 63; number = 0 }) }
+    {
+        CongeeArc::new_in(alloc, blank, DefaultAllocator {})
+    }
+}
+
+impl<L: Ledger, K: Word, V: Send + Sync + Drop + 'static, A: Allocator> CongeeArc<L, K, V, A> {
+    /// An empty map, and the share with its whole weight. `OOMError` where the allocator or the machine has no memory for
+    /// the map.
+    pub fn new_in(alloc: Global, blank: Blank, allocator: A) -> Result<(Self, Share<L>), OOMError>
+        requires name { blank.name ≡ L.name }
+        requires parts { blank.parts ≡ L.parts }
+        requires whole { L.parts ≡ 2 ^ 63 + 1 }
+        ensures share { IfOk result (λ r. r.1 ≡ record { weight = 2 ^ 63; number = 0 }) }
+    {
+        let (state, share) = State::new(alloc, allocator, blank)?;
+        Ok((
+            CongeeArc {
+                raw: Raw::new(state),
+                of: PhantomData,
+            },
+            share,
+        ))
+    }
+
+    /// Seats a caller. Looks at the seats that are taken, in turn. `OOMError` where there is no room for its calls.
+    pub fn pin<R: Wait>(&self, rt: &R) -> Result<OwnerGuard<'_, L, V, A>, OOMError> {
+        self.raw.pin(rt)
+    }
+
+    /// Gives a caller's seat back. A guard that is dropped instead keeps its seat until the map ends.
+    pub fn unpin<R: Wait>(&self, rt: &R, guard: OwnerGuard<'_, L, V, A>) {
+        self.raw.unpin(rt, guard);
+    }
+
+    /// One more owner of what stands at the key. `OOMError` where another owner is refused.
+    pub fn get<R: Wait>(
+        &self,
+        rt: &R,
+        guard: &mut OwnerGuard<'_, L, V, A>,
+        key: K,
+    ) -> Result<Option<Arc<V>>, OOMError> {
+        self.get_gated(rt, guard, key, &mut NoGate)
+    }
+
+    /// `get` with a gate, which is called after each event but the last.
+    pub fn get_gated<R: Wait, G: Gate>(
+        &self,
+        rt: &R,
+        guard: &mut OwnerGuard<'_, L, V, A>,
+        key: K,
+        gate: &mut G,
+    ) -> Result<Option<Arc<V>>, OOMError> {
+        self.raw.get(rt, guard, key.into_u64(), gate)
+    }
+
+    /// Sets the owner at the key, and returns the one that stood there. `OOMError` where memory or room for one more owner
+    /// was missing: then the call changed nothing, and the handed owner is dropped.
+    pub fn insert<R: Wait>(
+        &self,
+        rt: &R,
+        guard: &mut OwnerGuard<'_, L, V, A>,
+        key: K,
+        owner: Arc<V>,
+    ) -> Result<Option<Arc<V>>, OOMError> {
+        self.insert_gated(rt, guard, key, owner, &mut NoGate)
+    }
+
+    /// `insert` with a gate, which is called after each event but the last.
+    pub fn insert_gated<R: Wait, G: Gate>(
+        &self,
+        rt: &R,
+        guard: &mut OwnerGuard<'_, L, V, A>,
+        key: K,
+        owner: Arc<V>,
+        gate: &mut G,
+    ) -> Result<Option<Arc<V>>, OOMError> {
+        self.raw
+            .insert(rt, guard, key.into_u64(), owner, &mut Own, gate)
+    }
+
+    /// `insert`, which adds 1 to the share exactly where the key was absent.
+    pub fn insert_counted<R: Wait>(
+        &self,
+        rt: &R,
+        guard: &mut OwnerGuard<'_, L, V, A>,
+        share: &mut Share<L>,
+        key: K,
+        owner: Arc<V>,
+    ) -> Result<Option<Arc<V>>, OOMError>
+        ensures { share.new ≡ inserted result share.old }
+    {
+        self.raw
+            .insert(rt, guard, key.into_u64(), owner, share, &mut NoGate)
+    }
+
+    /// Takes the key out, and returns the owner that stood there. Tries again where memory is missing.
+    pub fn remove<R: Wait>(
+        &self,
+        rt: &R,
+        guard: &mut OwnerGuard<'_, L, V, A>,
+        key: K,
+    ) -> Option<Arc<V>> {
+        self.remove_gated(rt, guard, key, &mut NoGate)
+    }
+
+    /// `remove` with a gate, which is called after each event but the last.
+    pub fn remove_gated<R: Wait, G: Gate>(
+        &self,
+        rt: &R,
+        guard: &mut OwnerGuard<'_, L, V, A>,
+        key: K,
+        gate: &mut G,
+    ) -> Option<Arc<V>> {
+        self.raw
+            .remove_always(rt, guard, key.into_u64(), &mut Own, gate)
+    }
+
+    /// `remove`, which takes 1 off the share exactly where an owner stood at the key.
+    pub fn remove_counted<R: Wait>(
+        &self,
+        rt: &R,
+        guard: &mut OwnerGuard<'_, L, V, A>,
+        share: &mut Share<L>,
+        key: K,
+    ) -> Option<Arc<V>>
+        ensures { share.new ≡ removed result share.old }
+    {
+        self.raw
+            .remove_always(rt, guard, key.into_u64(), share, &mut NoGate)
+    }
+
+    /// Where the key is present, calls the closure with one more owner of what stands there, and stores what it answers; its
+    /// `None` takes the key out. Returns the owner that stood there. The closure may be called again, and the last call
+    /// counts; it may have been called before an `OOMError`, after which the call changed nothing.
+    pub fn compute_if_present<R: Wait, F: FnMut(Arc<V>) -> Option<Arc<V>>>(
+        &self,
+        rt: &R,
+        guard: &mut OwnerGuard<'_, L, V, A>,
+        key: K,
+        f: &mut F,
+    ) -> Result<Option<Arc<V>>, OOMError>
+        requires { F.IsAlwaysCallable f.old }
+    {
+        match self.raw.compute_if_present(rt, guard, key.into_u64(), f)? {
+            Some((old, _)) => Ok(Some(old)),
+            None => Ok(None),
+        }
+    }
+
+    /// The number of pairs at one moment, exactly for the share with the whole weight, which is used up by it; else the share
+    /// again. `State::settle` says that the number is the one of the state that was held.
+    pub fn settle<R: Wait>(&self, rt: &R, share: Share<L>) -> Result<u128, Share<L>>
+        ensures { MatchResult result (λ _. share.weight ≡ 2 ^ 63)
+            (λ s. (share.weight ≢ 2 ^ 63) × (s ≡ share)) }
+    {
+        self.raw.settle_owners(rt, share)
+    }
+
+    /// The keys at one moment, ascending, each read back from its number. `OOMError` where there is no memory for their
+    /// list, or another owner is refused.
+    pub fn keys<R: Wait>(&self, rt: &R, alloc: Global) -> Result<Vec<K>, OOMError> {
+        let pairs = self.raw.snapshot(rt, |state| state.pairs(alloc))?;
+        let mut keys = Vec::new(alloc);
+        for (key, _) in pairs {
+            keys.push(K::from_u64(key))?;
+        }
+        Ok(keys)
+    }
+
+    /// The counts, at one moment, of the nodes that are then reachable, by level and form, and of the pairs.
+    pub fn stats<R: Wait>(&self, rt: &R) -> Result<NodeStats, OOMError> {
+        self.raw.snapshot(rt, |state| state.stats())
+    }
+
+    /// How many pairs there are at one moment.
+    pub fn value_count<R: Wait>(&self, rt: &R) -> u128 {
+        self.raw.snapshot(rt, |state| state.pair_count())
+    }
+
+    /// Whether there is no pair at one moment.
+    pub fn is_empty<R: Wait>(&self, rt: &R) -> bool {
+        self.raw.snapshot(rt, |state| state.pair_count()) == 0
+    }
+}

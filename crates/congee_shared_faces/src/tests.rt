@@ -1,0 +1,7 @@
+mod budgets;
+mod drained;
+mod guards;
+mod mixed;
+mod owners;
+mod refusals;
+mod rows;

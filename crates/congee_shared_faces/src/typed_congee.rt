@@ -1,0 +1,374 @@
+//! `Congee`, the map from keys to values that numbers stand for, which threads share.
+
+ghost use Rattle.std.specs.Prelude.{◌≡◌, ◌≢◌, ◌≤◌, ◌+◌, ◌^◌, length, IfOk, MatchResult};
+ghost use Rattle.congee_shared.specs.Held.{inserted, removed};
+
+use congee_map::error::OOMError;
+use congee_map::traits::{Drainer, NoDrain, Word};
+use congee_node_table::allocator::{Allocator, DefaultAllocator};
+use congee_shared::gate::{Gate, NoGate};
+use congee_shared::purse::Own;
+use congee_shared::raw;
+use congee_shared::raw::Raw;
+use congee_shared::share::Share;
+use congee_shared::state::State;
+use congee_stats::NodeStats;
+use congee_walks::range_scan::RangeEntry;
+use std::alloc::Global;
+use std::marker::{Model, PhantomData};
+use std::sync::Wait;
+use std::sync::ledger::{Blank, Ledger};
+
+/// A caller at a shared map of numbers. It is of one map, and makes one call at a time.
+pub type Guard<'a, L, A> = raw::Guard<'a, L, u64, u64, State<L, u64, A>>;
+
+/// An ordered map from keys to values, both of types that are written as 64-bit numbers, which threads share. Two keys
+/// with one number are one key.
+///
+/// Each event of a call is one hold of the map's lock. Closures and gates are called while the lock is free, and closures
+/// may be called again. That a call returns isn't claimed.
+///
+/// The allocator `A` is charged for each node of the map's tree. When the map is dropped, its drainer is told of each pair,
+/// keys ascending.
+pub struct Congee<
+    L: Ledger,
+    K: Word,
+    V: Word,
+    A: Allocator = DefaultAllocator,
+    D: Drainer<K, V> = NoDrain,
+> {
+    raw: Raw<L, u64, u64, State<L, u64, A>>,
+    drainer: D,
+    of: PhantomData<(K, V)>,
+}
+
+impl<L: Ledger, K: Word, V: Word, A: Allocator, D: Drainer<K, V>> Model for Congee<L, K, V, A, D> {
+    ghost Value = { Unit {0} };
+
+    ghost view = { λ _. tt };
+
+    ghost invariant = { λ m. D.can_drain m.drainer };
+}
+
+fn read_back<V: Word>(number: Option<u64>) -> Option<V> {
+    match number {
+        Some(number) => Some(V::from_u64(number)),
+        None => None,
+    }
+}
+
+fn numbered<V: Word>(value: &Option<V>) -> Option<u64> {
+    match value {
+        Some(value) => Some(value.into_u64()),
+        None => None,
+    }
+}
+
+impl<L: Ledger, K: Word, V: Word, A: Allocator> Congee<L, K, V, A> {
+    /// An empty map, and the share with its whole weight. `OOMError` where the allocator or the machine has no memory for
+    /// the map. Nobody is told of its pairs when it is dropped.
+    pub fn new(alloc: Global, blank: Blank, allocator: A) -> Result<(Self, Share<L>), OOMError>
+        requires name { blank.name ≡ L.name }
+        requires parts { blank.parts ≡ L.parts }
+        requires whole { L.parts ≡ 2 ^ 63 + 1 }
+        ensures share { IfOk result (λ r. r.1 ≡ record { weight = 2 ^ 63; number = 0 }) }
+    {
+        Congee::new_with_drainer(alloc, blank, allocator, NoDrain {})
+    }
+}
+
+impl<L: Ledger, K: Word, V: Word, A: Allocator, D: Drainer<K, V>> Congee<L, K, V, A, D> {
+    /// An empty map, and the share with its whole weight. When the map is dropped, the drainer is told of each pair that is
+    /// left, keys ascending, each key and value read back from its number.
+    pub fn new_with_drainer(
+        alloc: Global,
+        blank: Blank,
+        allocator: A,
+        drainer: D,
+    ) -> Result<(Self, Share<L>), OOMError>
+        requires name { blank.name ≡ L.name }
+        requires parts { blank.parts ≡ L.parts }
+        requires whole { L.parts ≡ 2 ^ 63 + 1 }
+        requires drains { D.can_drain drainer }
+        ensures share { IfOk result (λ r. r.1 ≡ record { weight = 2 ^ 63; number = 0 }) }
+    {
+        let (state, share) = State::new(alloc, allocator, blank)?;
+        Ok((
+            Congee {
+                raw: Raw::new(state),
+                drainer,
+                of: PhantomData,
+            },
+            share,
+        ))
+    }
+
+    /// Seats a caller. Looks at the seats that are taken, in turn. `OOMError` where there is no room for its calls.
+    pub fn pin<R: Wait>(&self, rt: &R) -> Result<Guard<'_, L, A>, OOMError> {
+        self.raw.pin(rt)
+    }
+
+    /// Gives a caller's seat back. A guard that is dropped instead keeps its seat until the map ends.
+    pub fn unpin<R: Wait>(&self, rt: &R, guard: Guard<'_, L, A>) {
+        self.raw.unpin(rt, guard);
+    }
+
+    /// The value at the key, read back from its number.
+    pub fn get<R: Wait>(&self, rt: &R, guard: &mut Guard<'_, L, A>, key: &K) -> Option<V> {
+        self.get_gated(rt, guard, key, &mut NoGate)
+    }
+
+    /// `get` with a gate, which is called after each event but the last.
+    pub fn get_gated<R: Wait, G: Gate>(
+        &self,
+        rt: &R,
+        guard: &mut Guard<'_, L, A>,
+        key: &K,
+        gate: &mut G,
+    ) -> Option<V> {
+        read_back(self.raw.get_always(rt, guard, key.into_u64(), gate))
+    }
+
+    /// Sets the value at the key, and returns the one that stood there, read back from its number. `OOMError` where memory
+    /// was missing: then the call changed nothing.
+    pub fn insert<R: Wait>(
+        &self,
+        rt: &R,
+        guard: &mut Guard<'_, L, A>,
+        key: K,
+        value: V,
+    ) -> Result<Option<V>, OOMError> {
+        self.insert_gated(rt, guard, key, value, &mut NoGate)
+    }
+
+    /// `insert` with a gate, which is called after each event but the last.
+    pub fn insert_gated<R: Wait, G: Gate>(
+        &self,
+        rt: &R,
+        guard: &mut Guard<'_, L, A>,
+        key: K,
+        value: V,
+        gate: &mut G,
+    ) -> Result<Option<V>, OOMError> {
+        let before = self.raw.insert(rt, guard, key.into_u64(), value.into_u64(), &mut Own, gate)?;
+        Ok(read_back(before))
+    }
+
+    /// `insert`, which adds 1 to the share exactly where the key was absent.
+    pub fn insert_counted<R: Wait>(
+        &self,
+        rt: &R,
+        guard: &mut Guard<'_, L, A>,
+        share: &mut Share<L>,
+        key: K,
+        value: V,
+    ) -> Result<Option<V>, OOMError>
+        ensures { share.new ≡ inserted result share.old }
+    {
+        let before = self.raw.insert(
+            rt,
+            guard,
+            key.into_u64(),
+            value.into_u64(),
+            share,
+            &mut NoGate,
+        )?;
+        match before {
+            None => Ok(None),
+            Some(number) => Ok(Some(V::from_u64(number))),
+        }
+    }
+
+    /// Takes the key out, and returns the value that stood there, read back from its number. Tries again where memory is
+    /// missing.
+    pub fn remove<R: Wait>(&self, rt: &R, guard: &mut Guard<'_, L, A>, key: &K) -> Option<V> {
+        self.remove_gated(rt, guard, key, &mut NoGate)
+    }
+
+    /// `remove` with a gate, which is called after each event but the last.
+    pub fn remove_gated<R: Wait, G: Gate>(
+        &self,
+        rt: &R,
+        guard: &mut Guard<'_, L, A>,
+        key: &K,
+        gate: &mut G,
+    ) -> Option<V> {
+        let before = self
+            .raw
+            .remove_always(rt, guard, key.into_u64(), &mut Own, gate);
+        read_back(before)
+    }
+
+    /// `remove`, which takes 1 off the share exactly where a value stood at the key.
+    pub fn remove_counted<R: Wait>(
+        &self,
+        rt: &R,
+        guard: &mut Guard<'_, L, A>,
+        share: &mut Share<L>,
+        key: &K,
+    ) -> Option<V>
+        ensures { share.new ≡ removed result share.old }
+    {
+        match self
+            .raw
+            .remove_always(rt, guard, key.into_u64(), share, &mut NoGate)
+        {
+            None => None,
+            Some(number) => Some(V::from_u64(number)),
+        }
+    }
+
+    /// Writes pairs, by their numbers, with keys from `start` on and below `end` to the buffer, ascending, as many as there
+    /// are or as fit, and returns how many. What is behind them in the buffer is open.
+    pub fn range<R: Wait>(
+        &self,
+        rt: &R,
+        guard: &mut Guard<'_, L, A>,
+        start: &K,
+        end: &K,
+        buffer: &mut [(u64, u64)],
+    ) -> usize
+        ensures count { result ≤ length buffer.old }
+        ensures room { length buffer.new ≡ length buffer.old }
+    {
+        self.range_of(rt, guard, start.into_u64(), end.into_u64(), buffer)
+    }
+
+    /// The same for entries of another kind.
+    pub fn range_of<R: Wait, E: RangeEntry>(
+        &self,
+        rt: &R,
+        guard: &mut Guard<'_, L, A>,
+        start: u64,
+        end: u64,
+        buffer: &mut [E],
+    ) -> usize
+        ensures count { result ≤ length buffer.old }
+        ensures room { length buffer.new ≡ length buffer.old }
+    {
+        self.raw.range(rt, guard, start, end, buffer)
+    }
+
+    /// Where the key is present, calls the closure with its number, and stores what it answers; its `None` takes the key
+    /// out. Returns both numbers, the old and the new one. The closure may be called again, and the last call counts.
+    pub fn compute_if_present<R: Wait, F: FnMut(u64) -> Option<u64>>(
+        &self,
+        rt: &R,
+        guard: &mut Guard<'_, L, A>,
+        key: &K,
+        f: &mut F,
+    ) -> Option<(u64, Option<u64>)>
+        requires { F.IsAlwaysCallable f.old }
+    {
+        self.raw
+            .compute_if_present_always(rt, guard, key.into_u64(), f)
+    }
+
+    /// Calls the closure with the number at the key if there is one, and stores what it answers. Returns the value that
+    /// stood there, read back from its number. The closure may be called again, and the last call counts; it may have been
+    /// called before an `OOMError`.
+    pub fn compute_or_insert<R: Wait, F: FnMut(Option<u64>) -> u64>(
+        &self,
+        rt: &R,
+        guard: &mut Guard<'_, L, A>,
+        key: K,
+        f: &mut F,
+    ) -> Result<Option<V>, OOMError>
+        requires { F.IsAlwaysCallable f.old }
+    {
+        // (the 0 would be stored if the closure answered nothing, which it can't)
+        let before = self.raw.compute_or_insert(rt, guard, key.into_u64(), 0, f)?;
+        Ok(read_back(before))
+    }
+
+    /// Where the number of `old` stands at the key, puts `new` there, or takes the key out for `None`, and returns `Ok` with
+    /// `new` itself. Otherwise changes nothing, and returns `Err` with the value that stands there, read back from its
+    /// number, or with `None` where the key is absent.
+    pub fn compare_exchange<R: Wait>(
+        &self,
+        rt: &R,
+        guard: &mut Guard<'_, L, A>,
+        key: &K,
+        old: &V,
+        new: Option<V>,
+    ) -> Result<Option<V>, Option<V>> {
+        let wanted = numbered(&new);
+        match self
+            .raw
+            .compare_exchange_always(rt, guard, key.into_u64(), old.into_u64(), wanted)
+        {
+            Ok(_) => Ok(new),
+            Err(standing) => Err(read_back(standing)),
+        }
+    }
+
+    /// The number of pairs at one moment, exactly for the share with the whole weight, which is used up by it; else the share
+    /// again. `State::settle` says that the number is the one of the state that was held.
+    pub fn settle<R: Wait>(&self, rt: &R, share: Share<L>) -> Result<u128, Share<L>>
+        ensures { MatchResult result (λ _. share.weight ≡ 2 ^ 63)
+            (λ s. (share.weight ≢ 2 ^ 63) × (s ≡ share)) }
+    {
+        self.raw.settle(rt, share)
+    }
+
+    /// The keys at one moment, ascending, each read back from its number. `OOMError` where there is no memory for their
+    /// list.
+    pub fn keys<R: Wait>(&self, rt: &R, alloc: Global) -> Result<Vec<K>, OOMError> {
+        let pairs = self.raw.snapshot(rt, |state| state.pairs(alloc))?;
+        let mut keys = Vec::new(alloc);
+        for (key, _) in pairs {
+            keys.push(K::from_u64(key))?;
+        }
+        Ok(keys)
+    }
+
+    /// The counts, at one moment, of the nodes that are then reachable, by level and form, and of the pairs.
+    pub fn stats<R: Wait>(&self, rt: &R) -> Result<NodeStats, OOMError> {
+        self.raw.snapshot(rt, |state| state.stats())
+    }
+
+    /// How many pairs there are at one moment.
+    pub fn value_count<R: Wait>(&self, rt: &R) -> u128 {
+        self.raw.snapshot(rt, |state| state.pair_count())
+    }
+
+    /// Whether there is no pair at one moment.
+    pub fn is_empty<R: Wait>(&self, rt: &R) -> bool {
+        self.raw.snapshot(rt, |state| state.pair_count()) == 0
+    }
+}
+
+impl<L: Ledger, K: Word, V: Word, A: Allocator, D: Drainer<K, V>> Drop for Congee<L, K, V, A, D> {
+    fn drop(self) {
+        let Congee {
+            raw,
+            drainer,
+            of: _,
+        } = self;
+        if !drainer.wants_pairs() {
+            return;
+        }
+        drained(&raw.into_under(), &drainer);
+    }
+}
+
+// Tells a drainer of each pair, keys ascending. Takes no memory.
+fn drained<L: Ledger, K: Word, V: Word, A: Allocator, D: Drainer<K, V>>(
+    state: &State<L, u64, A>,
+    drainer: &D,
+)
+    requires { D.can_drain drainer.now }
+{
+    let mut start = 0;
+    // each key is once the start, and there are fewer pairs than numbers
+    for _ in 0..u64::MAX {
+        let Some((key, number)) = state.pair_from(start) else {
+            return;
+        };
+        drainer.drain(K::from_u64(key), V::from_u64(*number));
+        if key == u64::MAX {
+            return;
+        }
+        start = key + 1;
+    }
+}

@@ -1,0 +1,189 @@
+//! `U64Congee`, the map from numbers to values that numbers stand for, which threads share.
+
+ghost use Rattle.std.specs.Prelude.{◌≡◌, ◌≢◌, ◌≤◌, ◌+◌, ◌^◌, length, IfOk, MatchResult};
+ghost use Rattle.congee_shared.specs.Held.{inserted, removed};
+
+use crate::typed_congee::{Congee, Guard};
+use congee_map::error::OOMError;
+use congee_map::traits::Word;
+use congee_node_table::allocator::{Allocator, DefaultAllocator};
+use congee_shared::gate::Gate;
+use congee_shared::share::Share;
+use congee_stats::NodeStats;
+use std::alloc::Global;
+use std::sync::Wait;
+use std::sync::ledger::{Blank, Ledger};
+
+/// An ordered map from 64-bit numbers to values of a type that is written as a number, which threads share.
+///
+/// The allocator `A` is charged for each node of the map's tree.
+#[derive(Drop)]
+pub struct U64Congee<L: Ledger, V: Word, A: Allocator = DefaultAllocator> {
+    map: Congee<L, u64, V, A>,
+}
+
+impl<L: Ledger, V: Word> U64Congee<L, V> {
+    /// An empty map, and the share with its whole weight. `OOMError` where there is no memory for the map.
+    pub fn new(alloc: Global, blank: Blank) -> Result<(Self, Share<L>), OOMError>
+        requires name { blank.name ≡ L.name }
+        requires parts { blank.parts ≡ L.parts }
+        requires whole { L.parts ≡ 2 ^ 63 + 1 }
+        ensures share { IfOk result (λ r. r.1 ≡ record { weight = 2 ^ 63; number = 0 }) }
+    {
+        U64Congee::new_in(alloc, blank, DefaultAllocator {})
+    }
+}
+
+impl<L: Ledger, V: Word, A: Allocator> U64Congee<L, V, A> {
+    /// An empty map, and the share with its whole weight. `OOMError` where the allocator or the machine has no memory for
+    /// the map.
+    pub fn new_in(alloc: Global, blank: Blank, allocator: A) -> Result<(Self, Share<L>), OOMError>
+        requires name { blank.name ≡ L.name }
+        requires parts { blank.parts ≡ L.parts }
+        requires whole { L.parts ≡ 2 ^ 63 + 1 }
+        ensures share { IfOk result (λ r. r.1 ≡ record { weight = 2 ^ 63; number = 0 }) }
+    {
+        let (map, share) = Congee::new(alloc, blank, allocator)?;
+        Ok((U64Congee { map }, share))
+    }
+
+    /// Seats a caller. Looks at the seats that are taken, in turn. `OOMError` where there is no room for its calls.
+    pub fn pin<R: Wait>(&self, rt: &R) -> Result<Guard<'_, L, A>, OOMError> {
+        self.map.pin(rt)
+    }
+
+    /// Gives a caller's seat back. A guard that is dropped instead keeps its seat until the map ends.
+    pub fn unpin<R: Wait>(&self, rt: &R, guard: Guard<'_, L, A>) {
+        self.map.unpin(rt, guard);
+    }
+
+    /// The value at the key, read back from its number.
+    pub fn get<R: Wait>(&self, rt: &R, guard: &mut Guard<'_, L, A>, key: u64) -> Option<V> {
+        self.map.get(rt, guard, &key)
+    }
+
+    /// `get` with a gate, which is called after each event but the last.
+    pub fn get_gated<R: Wait, G: Gate>(
+        &self,
+        rt: &R,
+        guard: &mut Guard<'_, L, A>,
+        key: u64,
+        gate: &mut G,
+    ) -> Option<V> {
+        self.map.get_gated(rt, guard, &key, gate)
+    }
+
+    /// Sets the value at the key, and returns the one that stood there, read back from its number. `OOMError` where memory
+    /// was missing: then the call changed nothing.
+    pub fn insert<R: Wait>(
+        &self,
+        rt: &R,
+        guard: &mut Guard<'_, L, A>,
+        key: u64,
+        val: V,
+    ) -> Result<Option<V>, OOMError> {
+        self.map.insert(rt, guard, key, val)
+    }
+
+    /// `insert` with a gate, which is called after each event but the last.
+    pub fn insert_gated<R: Wait, G: Gate>(
+        &self,
+        rt: &R,
+        guard: &mut Guard<'_, L, A>,
+        key: u64,
+        val: V,
+        gate: &mut G,
+    ) -> Result<Option<V>, OOMError> {
+        self.map.insert_gated(rt, guard, key, val, gate)
+    }
+
+    /// `insert`, which adds 1 to the share exactly where the key was absent.
+    pub fn insert_counted<R: Wait>(
+        &self,
+        rt: &R,
+        guard: &mut Guard<'_, L, A>,
+        share: &mut Share<L>,
+        key: u64,
+        val: V,
+    ) -> Result<Option<V>, OOMError>
+        ensures { share.new ≡ inserted result share.old }
+    {
+        self.map.insert_counted(rt, guard, share, key, val)
+    }
+
+    /// Takes the key out, and returns the value that stood there, read back from its number. Tries again where memory is
+    /// missing.
+    pub fn remove<R: Wait>(&self, rt: &R, guard: &mut Guard<'_, L, A>, key: u64) -> Option<V> {
+        self.map.remove(rt, guard, &key)
+    }
+
+    /// `remove` with a gate, which is called after each event but the last.
+    pub fn remove_gated<R: Wait, G: Gate>(
+        &self,
+        rt: &R,
+        guard: &mut Guard<'_, L, A>,
+        key: u64,
+        gate: &mut G,
+    ) -> Option<V> {
+        self.map.remove_gated(rt, guard, &key, gate)
+    }
+
+    /// `remove`, which takes 1 off the share exactly where a value stood at the key.
+    pub fn remove_counted<R: Wait>(
+        &self,
+        rt: &R,
+        guard: &mut Guard<'_, L, A>,
+        share: &mut Share<L>,
+        key: u64,
+    ) -> Option<V>
+        ensures { share.new ≡ removed result share.old }
+    {
+        self.map.remove_counted(rt, guard, share, &key)
+    }
+
+    /// Writes pairs with keys from `start` on and below `end` to the buffer, ascending, as many as there are or as fit, and
+    /// returns how many: each key as its eight bytes, most significant first, and each value as its number. What is behind
+    /// them in the buffer is open.
+    pub fn range<R: Wait>(
+        &self,
+        rt: &R,
+        guard: &mut Guard<'_, L, A>,
+        start: u64,
+        end: u64,
+        buffer: &mut [([u8; 8], u64)],
+    ) -> usize
+        ensures count { result ≤ length buffer.old }
+        ensures room { length buffer.new ≡ length buffer.old }
+    {
+        self.map.range_of(rt, guard, start, end, buffer)
+    }
+
+    /// The number of pairs at one moment, exactly for the share with the whole weight, which is used up by it; else the share
+    /// again. `State::settle` says that the number is the one of the state that was held.
+    pub fn settle<R: Wait>(&self, rt: &R, share: Share<L>) -> Result<u128, Share<L>>
+        ensures { MatchResult result (λ _. share.weight ≡ 2 ^ 63)
+            (λ s. (share.weight ≢ 2 ^ 63) × (s ≡ share)) }
+    {
+        self.map.settle(rt, share)
+    }
+
+    /// The keys at one moment, ascending. `OOMError` where there is no memory for their list.
+    pub fn keys<R: Wait>(&self, rt: &R, alloc: Global) -> Result<Vec<u64>, OOMError> {
+        self.map.keys(rt, alloc)
+    }
+
+    /// The counts, at one moment, of the nodes that are then reachable, by level and form, and of the pairs.
+    pub fn stats<R: Wait>(&self, rt: &R) -> Result<NodeStats, OOMError> {
+        self.map.stats(rt)
+    }
+
+    /// How many pairs there are at one moment.
+    pub fn value_count<R: Wait>(&self, rt: &R) -> u128 {
+        self.map.value_count(rt)
+    }
+
+    /// Whether there is no pair at one moment.
+    pub fn is_empty<R: Wait>(&self, rt: &R) -> bool {
+        self.map.is_empty(rt)
+    }
+}
