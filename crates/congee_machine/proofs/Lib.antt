@@ -5,6 +5,7 @@ pub mod Inners
 pub mod Moving
 pub mod Reclaiming
 pub mod Roots
+pub mod Seeking
 pub mod Stocked
 pub mod Ends
 pub mod Turning

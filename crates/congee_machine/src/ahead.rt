@@ -1,34 +1,55 @@
-//! The least pair from a key on: a path through the tree that takes no memory.
+//! The first pair from a key on: a path through the tree that takes no memory.
 
-use congee_base::base_node::Node;
+ghost use Rattle.std.specs.Prelude.{◌≡◌};
+ghost use Rattle.congee_node_table.specs.Key.{low};
+ghost use Rattle.congee_store.specs.inner.Walks.{meant_nodes};
+ghost use Rattle.congee_walks.specs.Scan.{from_key};
+ghost use Rattle.congee_walks.specs.inner.Scan.{HasSubtree, EachSubtree};
+ghost use Rattle.congee_machine.specs.First.{first_pair, meant_pair};
+ghost use Rattle.congee_machine.specs.inner.FirstByte.{IsFirstByte};
+
+use congee_base::base_node::{BaseNode, Node};
 use congee_node_table::child::ChildRef;
+use congee_node_table::tree_node::TreeNode;
+use congee_protocol::payload::HasMeaning;
 use congee_store::stage::Stored;
 use slab::Slab;
 
-/// The least pair in the tree of a slot whose key isn't below `start`, looked for on so many levels.
-pub fn pair_from<P: Drop>(
+// From which byte on a node with this base may have keys that aren't below `start`; `first` is its least key.
+fn first_byte(base: &BaseNode, first: u64, start: u64) -> usize
+    requires { first ≡ low base.now.prefix }
+    ensures { IsFirstByte base.now.prefix start result }
+{
+    let shift = 8 * (7 - base.prefix().len());
+    (start.saturating_sub(first) >> shift) as usize
+}
+
+/// The first pair of the tree in a slot whose key isn't below `start`.
+pub fn pair_from<P: HasMeaning>(
     nodes: &Slab<Stored<P>>,
     slot: usize,
     start: u64,
-    levels: u32,
-) -> Option<(u64, &P)> {
-    let levels = levels.checked_sub(1)?;
-    let node = &nodes.get(slot)?.node;
+) -> Option<(u64, &P)>
+    requires { HasSubtree (meant_nodes P.meaning nodes.now.slots) slot }
+    ensures { EachSubtree (meant_nodes P.meaning nodes.now.slots) slot (λ pairs.
+        meant_pair P.meaning result ≡ first_pair (from_key start pairs)) }
+{
+    let Some(stored) = nodes.get(slot) else {
+        unreachable!()
+    };
+    let node = &stored.node;
     let base = node.base();
     let first = base.first_key();
-    let shift = 8 * (7 - base.prefix().len());
-    let mut from = (start.saturating_sub(first) >> shift) as usize;
-    // a node has 256 children at most
-    for _ in 0..257u32 {
-        let (byte, child) = node.first_from(from)?;
+    let mut from = first_byte(base, first, start);
+    'children: while let Some((byte, child)) = node.first_from(from) {
         let found = match child {
-            ChildRef::Payload(payload) => Some((first | u64::from(byte), payload)),
-            ChildRef::Node(below) => pair_from(nodes, below, start, levels),
+            ChildRef::Payload(payload) => Some((first + byte as u64, payload)),
+            ChildRef::Node(below) => pair_from(nodes, below, start),
         };
         if found.is_some() {
             return found;
         }
-        from = usize::from(byte) + 1;
+        from = byte as usize + 1;
     }
     None
 }

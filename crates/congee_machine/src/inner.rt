@@ -1,7 +1,7 @@
 //! What a machine has inside, and the events of one call.
 
-ghost use Rattle.std.specs.Prelude.{◌≡◌, ◌↔◌, ℕ, ◌+◌, ◌<◌, ◌^◌, true, false, Some, None, IsSome, IfSome, IfNone, IfOk, IsOk, OnOk, OnErr, IsTrue, option_copied};
-ghost use Rattle.congee_map.specs.Map.{lookup};
+ghost use Rattle.std.specs.Prelude.{◌≡◌, ◌↔◌, ℕ, ◌+◌, ◌<◌, ◌^◌, true, false, Some, None, IsSome, IfSome, IfNone, IfOk, IsOk, OnOk, OnErr, IsTrue, option_copied, map};
+ghost use Rattle.congee_map.specs.Map.{Pairs, lookup};
 ghost use Rattle.congee_node_table.specs.Charge.{add_charge};
 ghost use Rattle.congee_node_table.specs.inner.Kinds.{mapped};
 ghost use Rattle.congee_protocol.specs.Calls.{key_of};
@@ -22,14 +22,18 @@ ghost use Rattle.congee_stats.specs.Stats.{IsTally};
 ghost use Rattle.congee_stats.specs.StatsText.{all_entries, all_nodes};
 ghost use Rattle.congee_stats.specs.Stays.{NoCountStays};
 ghost use Rattle.congee_stats.specs.Visits.{visits_below};
+ghost use Rattle.congee_walks.specs.Scan.{from_key};
+ghost use Rattle.congee_machine.specs.First.{first_pair, meant_pair};
 ghost use Rattle.congee_machine.specs.Shape.{reachable};
 ghost use Rattle.congee_machine.specs.inner.Inside.{IsBegunBy, inside, state_in, meant_in};
 
 use crate::ahead::pair_from;
 use crate::counting::count;
+use crate::listing::push_keys;
 use congee_base::base_node::{NodeSize, NodeType};
 use congee_finding::advance::{Advanced, advance};
 use congee_map::error::OOMError;
+use congee_map::traits::Word;
 use congee_node_table::allocator::Allocator;
 use congee_node_table::tree_node::TreeNode;
 use congee_protocol::payload::HasMeaning;
@@ -259,8 +263,25 @@ impl<P: HasMeaning, A: Allocator> Inner<P, A> {
     }
 
     /// The least pair whose key isn't below `start`, if there is one.
-    pub fn pair_from(&self, start: u64) -> Option<(u64, &P)> {
-        pair_from(&self.stock.store.nodes, self.stock.store.root, start, 8)
+    pub fn pair_from(&self, start: u64) -> Option<(u64, &P)>
+        requires sound { IsSound P.always_shared P.same_meaning (meant_in P.meaning A.charge self.now) }
+        ensures { (m : Pairs P.Meaning)
+            × IsContent (meant P.meaning (state_in A.charge self.now)) m
+            × (meant_pair P.meaning result ≡ first_pair (from_key start m)) }
+    {
+        pair_from(&self.stock.store.nodes, self.stock.store.root, start)
+    }
+
+    /// The keys of all pairs that are stored, ascending, each read back from its number.
+    pub fn keys<K: Word>(&self, alloc: Global) -> Result<Vec<K>, OOMError>
+        requires sound { IsSound P.always_shared P.same_meaning (meant_in P.meaning A.charge self.now) }
+        ensures { IfOk result (λ keys. (m : Pairs P.Meaning)
+            × IsContent (meant P.meaning (state_in A.charge self.now)) m
+            × (keys.items ≡ map K.of_number (map (λ pair. pair.0) m))) }
+    {
+        let mut keys = Vec::new(alloc);
+        push_keys(&self.stock.store.nodes, self.stock.store.root, &mut keys)?;
+        Ok(keys)
     }
 
     /// The statistics of the reachable nodes.

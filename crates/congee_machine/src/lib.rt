@@ -4,4 +4,5 @@
 mod ahead;
 mod counting;
 pub mod inner;
+mod listing;
 pub mod machine;

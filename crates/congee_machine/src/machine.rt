@@ -1,6 +1,6 @@
 //! The machine: nodes, calls in flight, pins and a budget.
 
-ghost use Rattle.std.specs.Prelude.{◌≡◌, ◌↔◌, ◌+◌, ◌<◌, ◌^◌, ℕ, true, false, Some, None, IsSome, Err, IfOk, IsOk, OnErr, IsTrue, option_copied, length};
+ghost use Rattle.std.specs.Prelude.{◌≡◌, ◌↔◌, ◌+◌, ◌<◌, ◌^◌, ℕ, true, false, Some, None, IsSome, Err, IfOk, IsOk, OnErr, IsTrue, option_copied, length, map};
 ghost use Rattle.congee_map.specs.Map.{Pairs, lookup};
 ghost use Rattle.congee_node_table.specs.Charge.{add_charge};
 ghost use Rattle.congee_node_table.specs.inner.Kinds.{mapped};
@@ -17,12 +17,15 @@ ghost use Rattle.congee_stats.specs.Stats.{IsTally};
 ghost use Rattle.congee_stats.specs.StatsText.{all_entries, all_nodes};
 ghost use Rattle.congee_stats.specs.Stays.{NoCountStays};
 ghost use Rattle.congee_stats.specs.Visits.{visits_below};
+ghost use Rattle.congee_walks.specs.Scan.{from_key};
+ghost use Rattle.congee_machine.specs.First.{first_pair, meant_pair};
 ghost use Rattle.congee_machine.specs.Shape.{reachable};
 ghost use Rattle.congee_machine.specs.Whole.{AreWhole};
 ghost use Rattle.congee_store.specs.inner.Effects.{returned_at};
 
 use crate::inner::Inner;
 use congee_map::error::OOMError;
+use congee_map::traits::Word;
 use congee_node_table::allocator::Allocator;
 use congee_protocol::payload::HasMeaning;
 use congee_protocol::types::{Env, Kind, Op, Outcome, Report, Seen, StartError};
@@ -231,10 +234,24 @@ impl<P: HasMeaning, A: Allocator> Machine<P, A> {
 
     /// The least pair whose key isn't below `start`, if there is one.
     ///
-    /// One path through the tree, and those below nodes that a removal has left without children. Takes no memory. No clause
-    /// says which pair it is: tests do.
-    pub fn pair_from(&self, start: u64) -> Option<(u64, &P)> {
+    /// One path through the tree, and those below nodes that a removal has left without children. Takes no memory.
+    pub fn pair_from(&self, start: u64) -> Option<(u64, &P)>
+        ensures { (m : Pairs P.Meaning) × IsContent (meant P.meaning self.now) m
+            × (meant_pair P.meaning result ≡ first_pair (from_key start m)) }
+    {
         self.inner.pair_from(start)
+    }
+
+    /// The keys of all pairs that are stored, ascending, each read back from its number.
+    ///
+    /// One walk over all reachable nodes, at most eight of them below one another. `OOMError` where memory for the vector is
+    /// missing. No payload is shared.
+    pub fn keys<K: Word>(&self, alloc: Global) -> Result<Vec<K>, OOMError>
+        ensures { IfOk result (λ keys. (m : Pairs P.Meaning)
+            × IsContent (meant P.meaning self.now) m
+            × (keys.items ≡ map K.of_number (map (λ pair. pair.0) m))) }
+    {
+        self.inner.keys(alloc)
     }
 
     /// The sums over the reachable nodes by level and form, and the pairs.
