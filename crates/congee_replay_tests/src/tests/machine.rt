@@ -165,6 +165,34 @@ fn a_removed_leaf_is_not_counted(rt: HostRuntime) -> Result<(), Fail> {
     Ok(())
 }
 
+// The first pair from a key on.
+fn pair_from(machine: &Numbers, start: u64) -> Option<(u64, u64)> {
+    let (key, payload) = machine.pair_from(start)?;
+    Some((key, *payload))
+}
+
+fn finds_pairs(machine: &Numbers) -> bool {
+    pair_from(machine, 0) == Some((0, 0))
+        && pair_from(machine, 2) == Some((256, 5))
+        && pair_from(machine, 257).is_none()
+}
+
+fn has_keys(machine: &Numbers, alloc: Global) -> Result<bool, OOMError> {
+    let keys: Vec<u64> = machine.keys(alloc)?;
+    Ok(keys.as_slice() == [0, 1, 256].as_slice())
+}
+
+fn keys_of_two_leaves(alloc: Global) -> Result<bool, Fail> {
+    let machine = of_pairs(alloc, &[(0, 0), (1, 1), (256, 5)])?;
+    Ok(finds_pairs(&machine) && has_keys(&machine, alloc)?)
+}
+
+#[test]
+fn keys_and_pairs_from_a_key_on_are_found(rt: HostRuntime) -> Result<(), Fail> {
+    assert!(rt; keys_of_two_leaves(rt.alloc())?);
+    Ok(())
+}
+
 pub(super) type Shared = Machine<Arc<u64>, Budget>;
 
 // An event of a call whose payloads are shared.
