@@ -12,7 +12,7 @@ pub use congee_node_table::allocator::{Allocator, Budget, DefaultAllocator};
 pub use congee_runs::{calls, payload_calls, u64_calls};
 pub use congee_stats::NodeStats;
 pub use congee_stats::levels::{LevelStats, Levels};
+pub use congee_threads::{locked, shared};
 
-pub mod shared;
 #[cfg(test)]
 mod tests;

@@ -6,10 +6,12 @@ ghost use Rattle.congee_protocol.specs.Calls.{outline_of};
 ghost use Rattle.congee_protocol.specs.Meaning.{in_some, op_of, outcome_of};
 ghost use Rattle.congee_protocol.specs.declared.types.Asking.TheVariants.{Fresh};
 ghost use Rattle.congee_lent.specs.declared.lent.Stage.TheVariants.{Ready, Running};
-ghost use Rattle.congee_lent.specs.Stages.{Changes, IsOf, Turns};
+ghost use Rattle.congee_lent.specs.Changing.{Counts, reply_in, reply_opened};
+ghost use Rattle.congee_lent.specs.Stages.{Changes, IsOf, Opens, Turns};
 
+use crate::event::Event;
 use congee_map::error::OOMError;
-use congee_protocol::types::{Asking, Env, Op, Outcome, Report, StartError};
+use congee_protocol::types::{Asking, Env, Op, StartError};
 
 /// What is known of a number that is seated.
 #[derive(Drop)]
@@ -22,11 +24,11 @@ pub enum Stage<T> {
     Settled(Op<()>),
     /// Its call was refused.
     Denied(Op<()>),
-    /// Nothing is known of its call. (No machine here has such a call; the public definitions alone don't exclude it.)
+    /// Nothing is known of its call. (No map here has such a call; the public definitions alone don't exclude it.)
     Lost,
 }
 
-/// A machine of calls with payloads P, which stand for values of T.
+/// A map of payloads P, which stand for values of T, whose calls are made of events. A call is known by its number.
 pub trait Lent<P, T>: Drop {
     ghost use Rattle.std.specs.Prelude.{Bool, Option};
     ghost use Rattle.congee_lent.specs.declared.lent.Stage.{Stage};
@@ -38,6 +40,9 @@ pub trait Lent<P, T>: Drop {
     // What is stored.
     ghost content: { Self → Pairs T → Type 0 };
 
+    // How many pairs are stored.
+    ghost entries: { Self → ℕ };
+
     // What is known of each number that is seated.
     ghost place: { Self → ℕ → Option (Stage T) };
 
@@ -48,6 +53,7 @@ pub trait Lent<P, T>: Drop {
     /// Seats a number.
     fn seat(&mut self) -> Result<u64, OOMError>
         ensures content { (m : Pairs T) → content self.old m → content self.new m }
+        ensures entries { entries self.new ≡ entries self.old }
         ensures ok { IfOk result (λ id. (place self.old id ≡ None) × (place self.new id ≡ Some Ready)
             × ((k : ℕ) → k ≢ id → place self.new k ≡ place self.old k)) }
         ensures err { OnErr result ((k : ℕ) → place self.new k ≡ place self.old k) };
@@ -55,30 +61,38 @@ pub trait Lent<P, T>: Drop {
     /// Gives a number back that has no call.
     fn unseat(&mut self, id: u64)
         ensures content { (m : Pairs T) → content self.old m → content self.new m }
+        ensures entries { entries self.new ≡ entries self.old }
         ensures mine { place self.new id ≡ None }
         ensures others { (k : ℕ) → k ≢ id → place self.new k ≡ place self.old k };
 
-    /// Begins a call of a number. Only of a number that is ready do the clauses say what becomes of it.
-    fn start(&mut self, id: u64, op: &Op<P>) -> Result<Report, StartError>
-        ensures content { (m : Pairs T) → content self.old m → content self.new m }
-        ensures ok { place self.old id ≡ Some Ready → IfOk result (λ _. place self.new id
-            ≡ Some (Running (outline_of op.now) (op_of meaning op.now) Fresh)) }
+    /// The first event of a call of a number: the call begins, asks its closure, or is decided, and then over. A refusal
+    /// leaves all as it was. Only of a number that is ready do the clauses say what becomes of it.
+    fn open(&mut self, id: u64, op: &Op<P>) -> Result<Event<P>, StartError>
+        ensures opens { place self.old id ≡ Some Ready → IfOk result (λ event.
+            Opens (outline_of op.now) (op_of meaning op.now) (place self.new id) (outcome_of meaning event.outcome)) }
+        ensures content { IfOk result (λ event. (m : Pairs T) → content self.old m → (n : Pairs T) × content self.new n
+            × Changes same (Running (outline_of op.now) (op_of meaning op.now) Fresh) m n (outcome_of meaning event.outcome)) }
+        ensures counts { Counts op.now (reply_opened result) (entries self.old) (entries self.new) }
         ensures err { OnErr result ((k : ℕ) → place self.new k ≡ place self.old k) }
+        ensures refused { OnErr result ((m : Pairs T) → content self.old m → content self.new m) }
         ensures free { place self.old id ≡ Some Ready → result ≢ Err StartError.InFlight }
         ensures others { (k : ℕ) → k ≢ id → place self.new k ≡ place self.old k };
 
     /// One event of the call of a number. Only of a call that is known to have the handed kind and keys do the clauses say
     /// what becomes of it and of the content.
-    fn step(&mut self, id: u64, op: &Op<P>, env: Env<P>) -> (Report, Outcome<P>)
+    fn step(&mut self, id: u64, op: &Op<P>, env: Env<P>) -> Event<P>
         ensures turns { (p : Stage T) → place self.old id ≡ Some p → IsOf (outline_of op.now) p
-            → Turns p (in_some meaning env.answer) result.0.kind (place self.new id) (outcome_of meaning result.1) }
+            → Turns p (in_some meaning env.answer) result.report.kind (place self.new id) (outcome_of meaning result.outcome) }
         ensures content { (p : Stage T) → place self.old id ≡ Some p → IsOf (outline_of op.now) p
-            → (m : Pairs T) → content self.old m → (n : Pairs T) × content self.new n × Changes same p m n (outcome_of meaning result.1) }
+            → (m : Pairs T) → content self.old m → (n : Pairs T) × content self.new n
+            × Changes same p m n (outcome_of meaning result.outcome) }
+        ensures counts { Counts op.now (reply_in result.outcome) (entries self.old) (entries self.new) }
         ensures others { (p : Stage T) → place self.old id ≡ Some p → IsOf (outline_of op.now) p
             → (k : ℕ) → k ≢ id → place self.new k ≡ place self.old k };
 
     /// Gives one slot back that may be reclaimed.
     fn reclaim_next(&mut self) -> bool
         ensures content { (m : Pairs T) → content self.old m → content self.new m }
+        ensures entries { entries self.new ≡ entries self.old }
         ensures places { (k : ℕ) → place self.new k ≡ place self.old k };
 }

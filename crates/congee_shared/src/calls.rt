@@ -1,13 +1,13 @@
 //! The point calls, by number and payload.
 
 ghost use Rattle.std.specs.Prelude.{◌≡◌};
-ghost use Rattle.congee_shared.specs.Booking.{BooksInsert, IsOld, IsComputed, IsExchanged, if_present};
+ghost use Rattle.congee_lent.specs.Changing.{IsOld, IsComputed, IsExchanged, if_present};
+ghost use Rattle.congee_counted.specs.Booking.{BooksInsert};
 
 use crate::asks::{Always, IfPresent, Nobody};
-use crate::booked::Booked;
 use crate::gate::{Gate, NoGate};
-use crate::purse::{Own, Purse};
 use crate::raw::{Guard, Raw};
+use congee_counted::purse::{Own, Purse};
 use congee_lent::lent::Lent;
 use congee_map::error::OOMError;
 use congee_protocol::types::{Op, Reply};
@@ -44,17 +44,14 @@ fn exchanged_in<P: Drop>(reply: Reply<P>) -> Result<Option<P>, Option<P>>
     }
 }
 
-impl<L: Ledger, P: Drop, T, X: Lent<P, T>> Raw<L, P, T, X> {
+impl<L: Ledger, P: Drop, T, M: Lent<P, T>> Raw<L, P, T, M> {
     pub fn get<R: Wait, G: Gate>(
         &self,
         rt: &R,
-        guard: &mut Guard<'_, L, P, T, X>,
+        guard: &mut Guard<'_, L, P, T, M>,
         key: u64,
         gate: &mut G,
-    ) -> Result<Option<P>, OOMError>
-    where
-        X: Booked<L, P, Own>,
-    {
+    ) -> Result<Option<P>, OOMError> {
         let reply = self.call(rt, guard, &Op::Get(key), &mut Own, &mut Nobody, gate)?;
         Ok(old_in(reply))
     }
@@ -62,27 +59,22 @@ impl<L: Ledger, P: Drop, T, X: Lent<P, T>> Raw<L, P, T, X> {
     pub fn get_always<R: Wait, G: Gate>(
         &self,
         rt: &R,
-        guard: &mut Guard<'_, L, P, T, X>,
+        guard: &mut Guard<'_, L, P, T, M>,
         key: u64,
         gate: &mut G,
-    ) -> Option<P>
-    where
-        X: Booked<L, P, Own>,
-    {
+    ) -> Option<P> {
         old_in(self.call_always(rt, guard, &Op::Get(key), &mut Own, &mut Nobody, gate))
     }
 
     pub fn insert<R: Wait, B: Purse<L>, G: Gate>(
         &self,
         rt: &R,
-        guard: &mut Guard<'_, L, P, T, X>,
+        guard: &mut Guard<'_, L, P, T, M>,
         key: u64,
         payload: P,
         purse: &mut B,
         gate: &mut G,
     ) -> Result<Option<P>, OOMError>
-    where
-        X: Booked<L, P, B>,
         ensures { BooksInsert B.after result purse.old purse.new }
     {
         let op = Op::Insert(key, payload);
@@ -93,13 +85,11 @@ impl<L: Ledger, P: Drop, T, X: Lent<P, T>> Raw<L, P, T, X> {
     pub fn remove_always<R: Wait, B: Purse<L>, G: Gate>(
         &self,
         rt: &R,
-        guard: &mut Guard<'_, L, P, T, X>,
+        guard: &mut Guard<'_, L, P, T, M>,
         key: u64,
         purse: &mut B,
         gate: &mut G,
     ) -> Option<P>
-    where
-        X: Booked<L, P, B>,
         ensures { purse.new ≡ B.after (if_present result) purse.old }
     {
         old_in(self.call_always(rt, guard, &Op::Remove(key), purse, &mut Nobody, gate))
@@ -108,12 +98,10 @@ impl<L: Ledger, P: Drop, T, X: Lent<P, T>> Raw<L, P, T, X> {
     pub fn compute_if_present<R: Wait, F: FnMut(P) -> Option<P>>(
         &self,
         rt: &R,
-        guard: &mut Guard<'_, L, P, T, X>,
+        guard: &mut Guard<'_, L, P, T, M>,
         key: u64,
         f: &mut F,
     ) -> Result<Option<(P, Option<P>)>, OOMError>
-    where
-        X: Booked<L, P, Own>,
         requires { F.IsAlwaysCallable f.old }
     {
         let mut answer = IfPresent { call: f };
@@ -131,12 +119,10 @@ impl<L: Ledger, P: Drop, T, X: Lent<P, T>> Raw<L, P, T, X> {
     pub fn compute_if_present_always<R: Wait, F: FnMut(P) -> Option<P>>(
         &self,
         rt: &R,
-        guard: &mut Guard<'_, L, P, T, X>,
+        guard: &mut Guard<'_, L, P, T, M>,
         key: u64,
         f: &mut F,
     ) -> Option<(P, Option<P>)>
-    where
-        X: Booked<L, P, Own>,
         requires { F.IsAlwaysCallable f.old }
     {
         let mut answer = IfPresent { call: f };
@@ -148,13 +134,11 @@ impl<L: Ledger, P: Drop, T, X: Lent<P, T>> Raw<L, P, T, X> {
     pub fn compute_or_insert<R: Wait, F: FnMut(Option<P>) -> P>(
         &self,
         rt: &R,
-        guard: &mut Guard<'_, L, P, T, X>,
+        guard: &mut Guard<'_, L, P, T, M>,
         key: u64,
         otherwise: P,
         f: &mut F,
     ) -> Result<Option<P>, OOMError>
-    where
-        X: Booked<L, P, Own>,
         requires { F.IsAlwaysCallable f.old }
     {
         let op = Op::ComputeOrInsert(key, otherwise);
@@ -166,14 +150,11 @@ impl<L: Ledger, P: Drop, T, X: Lent<P, T>> Raw<L, P, T, X> {
     pub fn compare_exchange_always<R: Wait>(
         &self,
         rt: &R,
-        guard: &mut Guard<'_, L, P, T, X>,
+        guard: &mut Guard<'_, L, P, T, M>,
         key: u64,
         old: P,
         new: Option<P>,
-    ) -> Result<Option<P>, Option<P>>
-    where
-        X: Booked<L, P, Own>,
-    {
+    ) -> Result<Option<P>, Option<P>> {
         let op = Op::CompareExchange(key, old, new);
         exchanged_in(self.call_always(rt, guard, &op, &mut Own, &mut Nobody, &mut NoGate))
     }

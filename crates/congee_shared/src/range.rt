@@ -1,18 +1,18 @@
-//! The pairs of a range, each event of which is one hold of the lock.
+//! The pairs of a range: those of one moment, in one hold, or those that a call of many events finds.
 
 ghost use Rattle.std.specs.Prelude.{◌≡◌, ◌≤◌, length, IfSome};
 
-use crate::booked::Booked;
-use crate::purse::Own;
 use crate::raw::{Guard, Place, Raw};
-use congee_lent::lent::Lent;
+use congee_counted::purse::Own;
+use congee_lent::event::Event;
+use congee_lent::snapshots::Pages;
 use congee_protocol::types::{Op, Outcome};
 use congee_walks::range_scan::RangeEntry;
 use crossbeam_utils::Backoff;
 use std::sync::Wait;
 use std::sync::ledger::Ledger;
 
-impl<L: Ledger, X: Lent<u64, u64> + Booked<L, u64, Own>> Raw<L, u64, u64, X> {
+impl<L: Ledger, M: Pages> Raw<L, u64, u64, M> {
     /// Writes pairs with keys from `start` on and below `end` to the buffer, ascending, as many as there are or as fit, and
     /// returns how many. What is behind them in the buffer is open.
     ///
@@ -20,7 +20,7 @@ impl<L: Ledger, X: Lent<u64, u64> + Booked<L, u64, Own>> Raw<L, u64, u64, X> {
     pub fn range<R: Wait, E: RangeEntry>(
         &self,
         rt: &R,
-        guard: &mut Guard<'_, L, u64, u64, X>,
+        guard: &mut Guard<'_, L, u64, u64, M>,
         start: u64,
         end: u64,
         buffer: &mut [E],
@@ -28,6 +28,9 @@ impl<L: Ledger, X: Lent<u64, u64> + Booked<L, u64, Own>> Raw<L, u64, u64, X> {
         ensures count { result ≤ length buffer.old }
         ensures room { length buffer.new ≡ length buffer.old }
     {
+        if let Some(found) = self.page(rt, start, end, buffer) {
+            return found;
+        }
         let op = Op::Range(start, end, buffer.len() as u64);
         let pause = Backoff::new();
         for _ in rt.forever() {
@@ -39,7 +42,21 @@ impl<L: Ledger, X: Lent<u64, u64> + Booked<L, u64, Own>> Raw<L, u64, u64, X> {
         unreachable!()
     }
 
-    // One attempt at a range, from its Start on; `None` where its number was in flight, or wasn't.
+    // The range at one moment, in one hold; `None` where a range is a call of many events.
+    fn page<R: Wait, E: RangeEntry>(
+        &self,
+        rt: &R,
+        start: u64,
+        end: u64,
+        buffer: &mut [E],
+    ) -> Option<usize>
+        ensures count { IfSome result (λ n. n ≤ length buffer.old) }
+        ensures room { length buffer.new ≡ length buffer.old }
+    {
+        self.held(rt).page(start, end, buffer)
+    }
+
+    // One attempt at a range, from its first event on; `None` where its number was in flight, or wasn't.
     fn scan<R: Wait, E: RangeEntry>(
         &self,
         rt: &R,
@@ -50,14 +67,14 @@ impl<L: Ledger, X: Lent<u64, u64> + Booked<L, u64, Own>> Raw<L, u64, u64, X> {
         ensures count { IfSome result (λ n. n ≤ length buffer.old) }
         ensures room { length buffer.new ≡ length buffer.old }
     {
-        let Ok(_) = self.begin(rt, place, op) else {
+        let Ok(_) = self.begin(rt, place, op, &mut Own) else {
             return None;
         };
         let pause = Backoff::new();
         let mut found = 0;
         let mut whole = true;
         for _ in rt.forever() {
-            let (report, outcome) = self.event(rt, place, op, None, &mut Own);
+            let Event { report, outcome } = self.event(rt, place, op, None, &mut Own);
             match outcome {
                 Outcome::Going => {
                     if !report.ok {

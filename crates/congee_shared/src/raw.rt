@@ -6,18 +6,20 @@
 //! closure's. Closures and gates are called between holds, so nothing that a hold does can take the lock again.
 
 ghost use Rattle.std.specs.Prelude.{◌≡◌};
-ghost use Rattle.congee_shared.specs.Booking.{Books, IsReply, IsReplyTo, change_of, reply_in, reply_got, reply_tried};
+ghost use Rattle.congee_lent.specs.Changing.{IsReply, IsReplyTo, change_of, reply_in, reply_opened};
+ghost use Rattle.congee_counted.specs.Booking.{Books};
+ghost use Rattle.congee_shared.specs.Replies.{reply_got, reply_tried};
 
 use crate::asks::Asks;
-use crate::booked::Booked;
 use crate::gate::Gate;
-use crate::purse::Purse;
 use crate::tried::Tried;
+use congee_counted::purse::{Own, Purse};
+use congee_counted::state::State;
+use congee_lent::event::Event;
 use congee_lent::lent::Lent;
 use congee_map::error::OOMError;
 use congee_protocol::types::{Env, Kind, Op, Outcome, Reply, Report, Seen, StartError};
 use crossbeam_utils::Backoff;
-use std::marker::PhantomData;
 use std::sync::ledger::Ledger;
 use std::sync::{Mutex, MutexGuard, Wait};
 
@@ -27,11 +29,11 @@ const RECLAIMS: u32 = 2;
 /// How often the lock is tried before a thread sleeps at it. Who holds it makes one event, some hundred nanoseconds.
 const TRIES: u32 = 64;
 
-/// A map of payloads P, which stand for values of T, that threads share: what lies under its lock is an X.
+/// A map of payloads P, which stand for values of T, that threads share: what lies under its lock is a map M of calls, and the
+/// ledger in which its pairs are counted.
 #[derive(Drop)]
-pub struct Raw<L: Ledger, P, T, X: Lent<P, T>> {
-    under: Mutex<X>,
-    of: PhantomData<(L, P, T)>,
+pub struct Raw<L: Ledger, P, T, M: Lent<P, T>> {
+    under: Mutex<State<L, P, T, M>>,
 }
 
 /// A number that is seated, under which calls are made one at a time.
@@ -42,8 +44,8 @@ pub struct Place {
 
 /// A caller at a shared map.
 #[derive(Drop)]
-pub struct Guard<'a, L: Ledger, P, T, X: Lent<P, T>> {
-    raw: &'a Raw<L, P, T, X>,
+pub struct Guard<'a, L: Ledger, P, T, M: Lent<P, T>> {
+    raw: &'a Raw<L, P, T, M>,
     pub(crate) place: Place,
 }
 
@@ -64,37 +66,36 @@ fn env_with<P>(answer: Option<P>) -> Env<P>
 }
 
 // One more of what the closure answered.
-fn again<P: Drop, T, X: Lent<P, T>>(answer: &Option<P>) -> Result<Option<P>, OOMError> {
+fn again<P: Drop, T, M: Lent<P, T>>(answer: &Option<P>) -> Result<Option<P>, OOMError> {
     match answer {
         None => Ok(None),
-        Some(answer) => Ok(Some(X::again(answer)?)),
+        Some(answer) => Ok(Some(M::again(answer)?)),
     }
 }
 
-impl<L: Ledger, P: Drop, T, X: Lent<P, T>> Raw<L, P, T, X> {
+impl<L: Ledger, P: Drop, T, M: Lent<P, T>> Raw<L, P, T, M> {
     /// A map with this under its lock.
-    pub fn new(under: X) -> Self {
+    pub fn new(state: State<L, P, T, M>) -> Self {
         Raw {
-            under: Mutex::new(under),
-            of: PhantomData,
+            under: Mutex::new(state),
         }
     }
 
     /// What lies under the lock, once nobody shares the map.
-    pub fn into_under(self) -> X {
-        let Raw { under, of: _ } = self;
+    pub fn into_state(self) -> State<L, P, T, M> {
+        let Raw { under } = self;
         under.into_inner()
     }
 
     /// Seats a number for a caller. `OOMError` where there is no room for its calls.
-    pub fn pin<R: Wait>(&self, rt: &R) -> Result<Guard<'_, L, P, T, X>, OOMError> {
+    pub fn pin<R: Wait>(&self, rt: &R) -> Result<Guard<'_, L, P, T, M>, OOMError> {
         let place = self.number(rt)?;
         Ok(Guard { raw: self, place })
     }
 
     /// A caller with this number, which a test chooses.
     #[cfg(test)]
-    pub(crate) fn seated_at(&self, id: u64) -> Guard<'_, L, P, T, X> {
+    pub(crate) fn seated_at(&self, id: u64) -> Guard<'_, L, P, T, M> {
         Guard {
             raw: self,
             place: Place { id },
@@ -102,21 +103,13 @@ impl<L: Ledger, P: Drop, T, X: Lent<P, T>> Raw<L, P, T, X> {
     }
 
     /// Gives a guard's number back.
-    pub fn unpin<R: Wait>(&self, rt: &R, guard: Guard<'_, L, P, T, X>) {
+    pub fn unpin<R: Wait>(&self, rt: &R, guard: Guard<'_, L, P, T, M>) {
         let Guard { raw, mut place } = guard;
         raw.unseat(rt, &mut place);
     }
 
-    /// What is read of what lies under the lock, at one moment.
-    pub fn snapshot<R: Wait, S, Q: FnOnce(&X) -> S>(&self, rt: &R, read: Q) -> S
-        requires { Q.IsAlwaysCallable read }
-    {
-        let under = self.held(rt);
-        read(&under)
-    }
-
     // Takes the lock. A thread that finds it taken pauses, then yields, and sleeps at last.
-    pub(crate) fn held<R: Wait>(&self, rt: &R) -> MutexGuard<'_, X> {
+    pub(crate) fn held<R: Wait>(&self, rt: &R) -> MutexGuard<'_, State<L, P, T, M>> {
         let pause = Backoff::new();
         for _ in 0..TRIES {
             if let Some(under) = self.under.try_lock() {
@@ -138,14 +131,18 @@ impl<L: Ledger, P: Drop, T, X: Lent<P, T>> Raw<L, P, T, X> {
         self.held(rt).unseat(place.id);
     }
 
-    // The Start of a call, in one hold.
-    pub(crate) fn begin<R: Wait>(
+    // The first event of a call, in one hold.
+    pub(crate) fn begin<R: Wait, B: Purse<L>>(
         &self,
         rt: &R,
         place: &mut Place,
         op: &Op<P>,
-    ) -> Result<Report, StartError> {
-        self.held(rt).start(place.id, op)
+        purse: &mut B,
+    ) -> Result<Event<P>, StartError>
+        ensures booked { Books B.after op.now (reply_opened result) purse.old purse.new }
+        ensures reply { IsReply op.now (reply_opened result) }
+    {
+        self.held(rt).open(place.id, op, purse)
     }
 
     // One event of a running call, in one hold.
@@ -156,19 +153,16 @@ impl<L: Ledger, P: Drop, T, X: Lent<P, T>> Raw<L, P, T, X> {
         op: &Op<P>,
         answer: Option<P>,
         purse: &mut B,
-    ) -> (Report, Outcome<P>)
-    where
-        X: Booked<L, P, B>,
-        ensures booked { Books B.after op.now (reply_in result.1) purse.old purse.new }
-        ensures reply { IsReply op.now (reply_in result.1) }
+    ) -> Event<P>
+        ensures booked { Books B.after op.now (reply_in result.outcome) purse.old purse.new }
+        ensures reply { IsReply op.now (reply_in result.outcome) }
     {
-        self.held(rt)
-            .step_booked(place.id, op, env_with(answer), purse)
+        self.held(rt).step(place.id, op, env_with(answer), purse)
     }
 
     // One event of a call that has its reply or was refused, in one hold.
-    fn last_event<R: Wait>(&self, rt: &R, place: &mut Place, op: &Op<P>) -> (Report, Outcome<P>) {
-        self.held(rt).step(place.id, op, env_with(None))
+    fn last_event<R: Wait>(&self, rt: &R, place: &mut Place, op: &Op<P>) -> Event<P> {
+        self.held(rt).step(place.id, op, env_with(None), &mut Own)
     }
 
     // Gives one slot back that may be reclaimed, in one hold.
@@ -185,7 +179,7 @@ impl<L: Ledger, P: Drop, T, X: Lent<P, T>> Raw<L, P, T, X> {
         }
     }
 
-    // The events that are left once a call is decided or refused. Says whether one of them retired a node.
+    // The events that are left once a call is decided or refused. Returns whether one of them retired a node.
     fn finish<R: Wait, G: Gate>(
         &self,
         rt: &R,
@@ -195,7 +189,7 @@ impl<L: Ledger, P: Drop, T, X: Lent<P, T>> Raw<L, P, T, X> {
     ) -> bool {
         let mut retired = false;
         for _ in rt.forever() {
-            let (report, outcome) = self.last_event(rt, place, op);
+            let Event { report, outcome } = self.last_event(rt, place, op);
             match outcome {
                 Outcome::Done | Outcome::Unknown => return retired,
                 _ => {}
@@ -206,8 +200,7 @@ impl<L: Ledger, P: Drop, T, X: Lent<P, T>> Raw<L, P, T, X> {
         unreachable!()
     }
 
-    // One attempt at a call, from its Start on. The closure is asked while the lock is free. What it answered is kept until
-    // an event has taken it.
+    // One attempt at a call, from its first event on. Where that one decides, the call is over by it.
     fn attempt<R: Wait, B: Purse<L>, Q: Asks<P>, G: Gate>(
         &self,
         rt: &R,
@@ -217,30 +210,64 @@ impl<L: Ledger, P: Drop, T, X: Lent<P, T>> Raw<L, P, T, X> {
         asks: &mut Q,
         gate: &mut G,
     ) -> Tried<P>
-    where
-        X: Booked<L, P, B>,
         requires { Q.can_ask asks.old }
         ensures callable { Q.can_ask asks.new }
         ensures booked { Books B.after op.now (reply_tried result) purse.old purse.new }
         ensures reply { IsReply op.now (reply_tried result) }
     {
-        match self.begin(rt, place, op) {
-            Ok(report) => gate.between(&report),
+        let Event { report, outcome } = match self.begin(rt, place, op, purse) {
+            Ok(event) => event,
             Err(StartError::InFlight) => return Tried::Again,
             Err(StartError::Oom(_)) => {
                 self.reclaim_some(rt, place);
                 return Tried::Refused;
             }
+        };
+        match outcome {
+            Outcome::Decided(reply) => Tried::Replied(reply),
+            Outcome::Going => {
+                gate.between(&report);
+                self.go_on(rt, place, op, None, purse, asks, gate)
+            }
+            Outcome::Ask(old) => {
+                gate.between(&report);
+                let answer = asks.ask(old);
+                self.go_on(rt, place, op, answer, purse, asks, gate)
+            }
+            // (no first event ends so)
+            Outcome::Pair(..) => Tried::Again,
+            Outcome::Refused => Tried::Again,
+            Outcome::Done => Tried::Again,
+            Outcome::Unknown => Tried::Again,
         }
+    }
+
+    // The events of a call that runs. The closure is asked while the lock is free. What it answered is kept until an event has
+    // taken it.
+    fn go_on<R: Wait, B: Purse<L>, Q: Asks<P>, G: Gate>(
+        &self,
+        rt: &R,
+        place: &mut Place,
+        op: &Op<P>,
+        answered: Option<P>,
+        purse: &mut B,
+        asks: &mut Q,
+        gate: &mut G,
+    ) -> Tried<P>
+        requires { Q.can_ask asks.old }
+        ensures callable { Q.can_ask asks.new }
+        ensures booked { Books B.after op.now (reply_tried result) purse.old purse.new }
+        ensures reply { IsReply op.now (reply_tried result) }
+    {
         let pause = Backoff::new();
         let mut retired = false;
-        let mut answer = None;
+        let mut answer = answered;
         for _ in rt.forever() {
-            let Ok(copy) = again::<P, T, X>(&answer) else {
+            let Ok(copy) = again::<P, T, M>(&answer) else {
                 pause.snooze();
                 continue;
             };
-            let (report, outcome) = self.event(rt, place, op, copy, purse);
+            let Event { report, outcome } = self.event(rt, place, op, copy, purse);
             retired = retired || report.kind == Kind::Obsolete;
             match outcome {
                 Outcome::Going => {
@@ -283,14 +310,12 @@ impl<L: Ledger, P: Drop, T, X: Lent<P, T>> Raw<L, P, T, X> {
     pub(crate) fn call<R: Wait, B: Purse<L>, Q: Asks<P>, G: Gate>(
         &self,
         rt: &R,
-        guard: &mut Guard<'_, L, P, T, X>,
+        guard: &mut Guard<'_, L, P, T, M>,
         op: &Op<P>,
         purse: &mut B,
         asks: &mut Q,
         gate: &mut G,
     ) -> Result<Reply<P>, OOMError>
-    where
-        X: Booked<L, P, B>,
         requires { Q.can_ask asks.old }
         ensures callable { Q.can_ask asks.new }
         ensures booked { Books B.after op.now (reply_got result) purse.old purse.new }
@@ -311,14 +336,12 @@ impl<L: Ledger, P: Drop, T, X: Lent<P, T>> Raw<L, P, T, X> {
     pub(crate) fn call_always<R: Wait, B: Purse<L>, Q: Asks<P>, G: Gate>(
         &self,
         rt: &R,
-        guard: &mut Guard<'_, L, P, T, X>,
+        guard: &mut Guard<'_, L, P, T, M>,
         op: &Op<P>,
         purse: &mut B,
         asks: &mut Q,
         gate: &mut G,
     ) -> Reply<P>
-    where
-        X: Booked<L, P, B>,
         requires { Q.can_ask asks.old }
         ensures booked { purse.new ≡ B.after (change_of op.now result) purse.old }
         ensures reply { IsReplyTo op.now result }

@@ -1,18 +1,18 @@
 //! `CongeeArc`, the map from keys to owners of shared values, which threads share.
 
 ghost use Rattle.std.specs.Prelude.{◌≡◌, ◌≢◌, ◌+◌, ◌^◌, IfOk, MatchResult};
-ghost use Rattle.congee_shared.specs.Held.{inserted, removed};
+ghost use Rattle.congee_counted.specs.Held.{inserted, removed};
 
+use congee_counted::purse::Own;
+use congee_counted::share::Share;
+use congee_counted::state::State;
+use congee_lent::snapshots::{Made, Snapshots};
 use congee_map::error::OOMError;
 use congee_map::traits::Word;
-use congee_node_table::allocator::{Allocator, DefaultAllocator};
-use congee_protocol::payload::HasMeaning;
+use congee_node_table::allocator::DefaultAllocator;
 use congee_shared::gate::{Gate, NoGate};
-use congee_shared::purse::Own;
 use congee_shared::raw;
 use congee_shared::raw::Raw;
-use congee_shared::share::Share;
-use congee_shared::state::State;
 use congee_stats::NodeStats;
 use std::alloc::Global;
 use std::marker::PhantomData;
@@ -20,28 +20,27 @@ use std::sync::ledger::{Blank, Ledger};
 use std::sync::{Arc, Wait};
 
 /// A caller at a shared map of owners. It is of one map, and makes one call at a time.
-pub type OwnerGuard<'a, L, V, A> = raw::Guard<'a, L, Arc<V>, V, State<L, Arc<V>, A>>;
+pub type OwnerGuard<'a, L, V, M> = raw::Guard<'a, L, Arc<V>, V, M>;
 
 /// An ordered map from keys to owners of shared values, which threads share. Two keys with one number are one key.
 ///
 /// What a call returns is one more owner, which takes room in the owners' count and may be refused.
 #[derive(Drop)]
-pub struct CongeeArc<
-    L: Ledger,
-    K: Word,
-    V: Send + Sync + Drop + 'static,
-    A: Allocator = DefaultAllocator,
->
-where
-    Arc<V>: HasMeaning,
-{
-    raw: Raw<L, Arc<V>, V, State<L, Arc<V>, A>>,
+pub struct CongeeArc<L: Ledger, K: Word, V: Send + Sync + Drop + 'static, M: Snapshots<Arc<V>, V>> {
+    raw: Raw<L, Arc<V>, V, M>,
     of: PhantomData<K>,
 }
 
-impl<L: Ledger, K: Word, V: Send + Sync + Drop + 'static> CongeeArc<L, K, V> {
+impl<L: Ledger, K: Word, V: Send + Sync + Drop + 'static, M: Snapshots<Arc<V>, V>> CongeeArc<
+    L,
+    K,
+    V,
+    M,
+> {
     /// An empty map, and the share with its whole weight. `OOMError` where there is no memory for the map.
     pub fn new(alloc: Global, blank: Blank) -> Result<(Self, Share<L>), OOMError>
+    where
+        M: Made<Arc<V>, V, DefaultAllocator>,
         requires name { blank.name ≡ L.name }
         requires parts { blank.parts ≡ L.parts }
         requires whole { L.parts ≡ 2 ^ 63 + 1 }
@@ -49,12 +48,16 @@ impl<L: Ledger, K: Word, V: Send + Sync + Drop + 'static> CongeeArc<L, K, V> {
     {
         CongeeArc::new_in(alloc, blank, DefaultAllocator {})
     }
-}
 
-impl<L: Ledger, K: Word, V: Send + Sync + Drop + 'static, A: Allocator> CongeeArc<L, K, V, A> {
-    /// An empty map, and the share with its whole weight. `OOMError` where the allocator or the machine has no memory for
-    /// the map.
-    pub fn new_in(alloc: Global, blank: Blank, allocator: A) -> Result<(Self, Share<L>), OOMError>
+    /// An empty map, and the share with its whole weight. The allocator is charged for each node of the map's tree.
+    /// `OOMError` where it or the machine has no memory for the map.
+    pub fn new_in<A>(
+        alloc: Global,
+        blank: Blank,
+        allocator: A,
+    ) -> Result<(Self, Share<L>), OOMError>
+    where
+        M: Made<Arc<V>, V, A>,
         requires name { blank.name ≡ L.name }
         requires parts { blank.parts ≡ L.parts }
         requires whole { L.parts ≡ 2 ^ 63 + 1 }
@@ -71,12 +74,12 @@ impl<L: Ledger, K: Word, V: Send + Sync + Drop + 'static, A: Allocator> CongeeAr
     }
 
     /// Seats a caller. Looks at the seats that are taken, in turn. `OOMError` where there is no room for its calls.
-    pub fn pin<R: Wait>(&self, rt: &R) -> Result<OwnerGuard<'_, L, V, A>, OOMError> {
+    pub fn pin<R: Wait>(&self, rt: &R) -> Result<OwnerGuard<'_, L, V, M>, OOMError> {
         self.raw.pin(rt)
     }
 
     /// Gives a caller's seat back. A guard that is dropped instead keeps its seat until the map ends.
-    pub fn unpin<R: Wait>(&self, rt: &R, guard: OwnerGuard<'_, L, V, A>) {
+    pub fn unpin<R: Wait>(&self, rt: &R, guard: OwnerGuard<'_, L, V, M>) {
         self.raw.unpin(rt, guard);
     }
 
@@ -84,29 +87,29 @@ impl<L: Ledger, K: Word, V: Send + Sync + Drop + 'static, A: Allocator> CongeeAr
     pub fn get<R: Wait>(
         &self,
         rt: &R,
-        guard: &mut OwnerGuard<'_, L, V, A>,
+        guard: &mut OwnerGuard<'_, L, V, M>,
         key: K,
     ) -> Result<Option<Arc<V>>, OOMError> {
         self.get_gated(rt, guard, key, &mut NoGate)
     }
 
-    /// `get` with a gate, which is called after each event but the last.
+    /// `get` with a gate, which is called after each event but the last of the call.
     pub fn get_gated<R: Wait, G: Gate>(
         &self,
         rt: &R,
-        guard: &mut OwnerGuard<'_, L, V, A>,
+        guard: &mut OwnerGuard<'_, L, V, M>,
         key: K,
         gate: &mut G,
     ) -> Result<Option<Arc<V>>, OOMError> {
         self.raw.get(rt, guard, key.into_u64(), gate)
     }
 
-    /// Sets the owner at the key, and returns the one that stood there. `OOMError` where memory or room for one more owner
+    /// Sets the owner at the key, and returns the one that was stored. `OOMError` where memory or room for one more owner
     /// was missing: then the call changed nothing, and the handed owner is dropped.
     pub fn insert<R: Wait>(
         &self,
         rt: &R,
-        guard: &mut OwnerGuard<'_, L, V, A>,
+        guard: &mut OwnerGuard<'_, L, V, M>,
         key: K,
         owner: Arc<V>,
     ) -> Result<Option<Arc<V>>, OOMError> {
@@ -117,7 +120,7 @@ impl<L: Ledger, K: Word, V: Send + Sync + Drop + 'static, A: Allocator> CongeeAr
     pub fn insert_gated<R: Wait, G: Gate>(
         &self,
         rt: &R,
-        guard: &mut OwnerGuard<'_, L, V, A>,
+        guard: &mut OwnerGuard<'_, L, V, M>,
         key: K,
         owner: Arc<V>,
         gate: &mut G,
@@ -130,7 +133,7 @@ impl<L: Ledger, K: Word, V: Send + Sync + Drop + 'static, A: Allocator> CongeeAr
     pub fn insert_counted<R: Wait>(
         &self,
         rt: &R,
-        guard: &mut OwnerGuard<'_, L, V, A>,
+        guard: &mut OwnerGuard<'_, L, V, M>,
         share: &mut Share<L>,
         key: K,
         owner: Arc<V>,
@@ -145,7 +148,7 @@ impl<L: Ledger, K: Word, V: Send + Sync + Drop + 'static, A: Allocator> CongeeAr
     pub fn remove<R: Wait>(
         &self,
         rt: &R,
-        guard: &mut OwnerGuard<'_, L, V, A>,
+        guard: &mut OwnerGuard<'_, L, V, M>,
         key: K,
     ) -> Option<Arc<V>> {
         self.remove_gated(rt, guard, key, &mut NoGate)
@@ -155,7 +158,7 @@ impl<L: Ledger, K: Word, V: Send + Sync + Drop + 'static, A: Allocator> CongeeAr
     pub fn remove_gated<R: Wait, G: Gate>(
         &self,
         rt: &R,
-        guard: &mut OwnerGuard<'_, L, V, A>,
+        guard: &mut OwnerGuard<'_, L, V, M>,
         key: K,
         gate: &mut G,
     ) -> Option<Arc<V>> {
@@ -167,7 +170,7 @@ impl<L: Ledger, K: Word, V: Send + Sync + Drop + 'static, A: Allocator> CongeeAr
     pub fn remove_counted<R: Wait>(
         &self,
         rt: &R,
-        guard: &mut OwnerGuard<'_, L, V, A>,
+        guard: &mut OwnerGuard<'_, L, V, M>,
         share: &mut Share<L>,
         key: K,
     ) -> Option<Arc<V>>
@@ -183,7 +186,7 @@ impl<L: Ledger, K: Word, V: Send + Sync + Drop + 'static, A: Allocator> CongeeAr
     pub fn compute_if_present<R: Wait, F: FnMut(Arc<V>) -> Option<Arc<V>>>(
         &self,
         rt: &R,
-        guard: &mut OwnerGuard<'_, L, V, A>,
+        guard: &mut OwnerGuard<'_, L, V, M>,
         key: K,
         f: &mut F,
     ) -> Result<Option<Arc<V>>, OOMError>
@@ -201,32 +204,27 @@ impl<L: Ledger, K: Word, V: Send + Sync + Drop + 'static, A: Allocator> CongeeAr
         ensures { MatchResult result (λ _. share.weight ≡ 2 ^ 63)
             (λ s. (share.weight ≢ 2 ^ 63) × (s ≡ share)) }
     {
-        self.raw.settle_owners(rt, share)
+        self.raw.settle(rt, share)
     }
 
-    /// The keys at one moment, ascending, each read back from its number. `OOMError` where there is no memory for their
-    /// list, or another owner is refused.
+    /// The keys at one moment, ascending, each read back from its number. No owner is counted for it. `OOMError` where there
+    /// is no memory for their list.
     pub fn keys<R: Wait>(&self, rt: &R, alloc: Global) -> Result<Vec<K>, OOMError> {
-        let pairs = self.raw.snapshot(rt, |state| state.pairs(alloc))?;
-        let mut keys = Vec::new(alloc);
-        for (key, _) in pairs {
-            keys.push(K::from_u64(key))?;
-        }
-        Ok(keys)
+        self.raw.keys(rt, alloc)
     }
 
     /// The counts, at one moment, of the nodes that are then reachable, by level and form, and of the pairs.
     pub fn stats<R: Wait>(&self, rt: &R) -> Result<NodeStats, OOMError> {
-        self.raw.snapshot(rt, |state| state.stats())
+        self.raw.stats(rt)
     }
 
     /// How many pairs there are at one moment.
     pub fn value_count<R: Wait>(&self, rt: &R) -> u128 {
-        self.raw.snapshot(rt, |state| state.pair_count())
+        self.raw.pair_count(rt)
     }
 
     /// Whether there is no pair at one moment.
     pub fn is_empty<R: Wait>(&self, rt: &R) -> bool {
-        self.raw.snapshot(rt, |state| state.pair_count()) == 0
+        self.raw.pair_count(rt) == 0
     }
 }

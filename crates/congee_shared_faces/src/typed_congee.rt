@@ -1,17 +1,17 @@
 //! `Congee`, the map from keys to values that numbers stand for, which threads share.
 
 ghost use Rattle.std.specs.Prelude.{◌≡◌, ◌≢◌, ◌≤◌, ◌+◌, ◌^◌, length, IfOk, MatchResult};
-ghost use Rattle.congee_shared.specs.Held.{inserted, removed};
+ghost use Rattle.congee_counted.specs.Held.{inserted, removed};
 
+use congee_counted::purse::Own;
+use congee_counted::share::Share;
+use congee_counted::state::State;
+use congee_lent::snapshots::{Made, Pages};
 use congee_map::error::OOMError;
 use congee_map::traits::{Drainer, NoDrain, Word};
-use congee_node_table::allocator::{Allocator, DefaultAllocator};
 use congee_shared::gate::{Gate, NoGate};
-use congee_shared::purse::Own;
 use congee_shared::raw;
 use congee_shared::raw::Raw;
-use congee_shared::share::Share;
-use congee_shared::state::State;
 use congee_stats::NodeStats;
 use congee_walks::range_scan::RangeEntry;
 use std::alloc::Global;
@@ -20,29 +20,22 @@ use std::sync::Wait;
 use std::sync::ledger::{Blank, Ledger};
 
 /// A caller at a shared map of numbers. It is of one map, and makes one call at a time.
-pub type Guard<'a, L, A> = raw::Guard<'a, L, u64, u64, State<L, u64, A>>;
+pub type Guard<'a, L, M> = raw::Guard<'a, L, u64, u64, M>;
 
 /// An ordered map from keys to values, both of types that are written as 64-bit numbers, which threads share. Two keys
 /// with one number are one key.
 ///
-/// Each event of a call is one hold of the map's lock. Closures and gates are called while the lock is free, and closures
-/// may be called again. That a call returns isn't claimed.
+/// Each event of a call is one hold of the map's lock; what lies under it, `M`, decides how many events a call takes. Closures
+/// and gates are called while the lock is free, and closures may be called again. That a call returns isn't claimed.
 ///
-/// The allocator `A` is charged for each node of the map's tree. When the map is dropped, its drainer is told of each pair,
-/// keys ascending.
-pub struct Congee<
-    L: Ledger,
-    K: Word,
-    V: Word,
-    A: Allocator = DefaultAllocator,
-    D: Drainer<K, V> = NoDrain,
-> {
-    raw: Raw<L, u64, u64, State<L, u64, A>>,
+/// When the map is dropped, its drainer is called with each pair, keys ascending.
+pub struct Congee<L: Ledger, K: Word, V: Word, M: Pages, D: Drainer<K, V> = NoDrain> {
+    raw: Raw<L, u64, u64, M>,
     drainer: D,
     of: PhantomData<(K, V)>,
 }
 
-impl<L: Ledger, K: Word, V: Word, A: Allocator, D: Drainer<K, V>> Model for Congee<L, K, V, A, D> {
+impl<L: Ledger, K: Word, V: Word, M: Pages, D: Drainer<K, V>> Model for Congee<L, K, V, M, D> {
     ghost Value = { Unit {0} };
 
     ghost view = { λ _. tt };
@@ -64,10 +57,12 @@ fn numbered<V: Word>(value: &Option<V>) -> Option<u64> {
     }
 }
 
-impl<L: Ledger, K: Word, V: Word, A: Allocator> Congee<L, K, V, A> {
-    /// An empty map, and the share with its whole weight. `OOMError` where the allocator or the machine has no memory for
-    /// the map. Nobody is told of its pairs when it is dropped.
-    pub fn new(alloc: Global, blank: Blank, allocator: A) -> Result<(Self, Share<L>), OOMError>
+impl<L: Ledger, K: Word, V: Word, M: Pages> Congee<L, K, V, M> {
+    /// An empty map, and the share with its whole weight. The allocator is charged for each node of the map's tree.
+    /// `OOMError` where it or the machine has no memory for the map.
+    pub fn new<A>(alloc: Global, blank: Blank, allocator: A) -> Result<(Self, Share<L>), OOMError>
+    where
+        M: Made<u64, u64, A>,
         requires name { blank.name ≡ L.name }
         requires parts { blank.parts ≡ L.parts }
         requires whole { L.parts ≡ 2 ^ 63 + 1 }
@@ -77,15 +72,17 @@ impl<L: Ledger, K: Word, V: Word, A: Allocator> Congee<L, K, V, A> {
     }
 }
 
-impl<L: Ledger, K: Word, V: Word, A: Allocator, D: Drainer<K, V>> Congee<L, K, V, A, D> {
-    /// An empty map, and the share with its whole weight. When the map is dropped, the drainer is told of each pair that is
-    /// left, keys ascending, each key and value read back from its number.
-    pub fn new_with_drainer(
+impl<L: Ledger, K: Word, V: Word, M: Pages, D: Drainer<K, V>> Congee<L, K, V, M, D> {
+    /// An empty map, and the share with its whole weight. When the map is dropped, the drainer is called with each pair that
+    /// is left, keys ascending, each key and value read back from its number.
+    pub fn new_with_drainer<A>(
         alloc: Global,
         blank: Blank,
         allocator: A,
         drainer: D,
     ) -> Result<(Self, Share<L>), OOMError>
+    where
+        M: Made<u64, u64, A>,
         requires name { blank.name ≡ L.name }
         requires parts { blank.parts ≡ L.parts }
         requires whole { L.parts ≡ 2 ^ 63 + 1 }
@@ -104,37 +101,37 @@ impl<L: Ledger, K: Word, V: Word, A: Allocator, D: Drainer<K, V>> Congee<L, K, V
     }
 
     /// Seats a caller. Looks at the seats that are taken, in turn. `OOMError` where there is no room for its calls.
-    pub fn pin<R: Wait>(&self, rt: &R) -> Result<Guard<'_, L, A>, OOMError> {
+    pub fn pin<R: Wait>(&self, rt: &R) -> Result<Guard<'_, L, M>, OOMError> {
         self.raw.pin(rt)
     }
 
     /// Gives a caller's seat back. A guard that is dropped instead keeps its seat until the map ends.
-    pub fn unpin<R: Wait>(&self, rt: &R, guard: Guard<'_, L, A>) {
+    pub fn unpin<R: Wait>(&self, rt: &R, guard: Guard<'_, L, M>) {
         self.raw.unpin(rt, guard);
     }
 
     /// The value at the key, read back from its number.
-    pub fn get<R: Wait>(&self, rt: &R, guard: &mut Guard<'_, L, A>, key: &K) -> Option<V> {
+    pub fn get<R: Wait>(&self, rt: &R, guard: &mut Guard<'_, L, M>, key: &K) -> Option<V> {
         self.get_gated(rt, guard, key, &mut NoGate)
     }
 
-    /// `get` with a gate, which is called after each event but the last.
+    /// `get` with a gate, which is called after each event but the last of the call.
     pub fn get_gated<R: Wait, G: Gate>(
         &self,
         rt: &R,
-        guard: &mut Guard<'_, L, A>,
+        guard: &mut Guard<'_, L, M>,
         key: &K,
         gate: &mut G,
     ) -> Option<V> {
         read_back(self.raw.get_always(rt, guard, key.into_u64(), gate))
     }
 
-    /// Sets the value at the key, and returns the one that stood there, read back from its number. `OOMError` where memory
+    /// Sets the value at the key, and returns the one that was stored, read back from its number. `OOMError` where memory
     /// was missing: then the call changed nothing.
     pub fn insert<R: Wait>(
         &self,
         rt: &R,
-        guard: &mut Guard<'_, L, A>,
+        guard: &mut Guard<'_, L, M>,
         key: K,
         value: V,
     ) -> Result<Option<V>, OOMError> {
@@ -145,7 +142,7 @@ impl<L: Ledger, K: Word, V: Word, A: Allocator, D: Drainer<K, V>> Congee<L, K, V
     pub fn insert_gated<R: Wait, G: Gate>(
         &self,
         rt: &R,
-        guard: &mut Guard<'_, L, A>,
+        guard: &mut Guard<'_, L, M>,
         key: K,
         value: V,
         gate: &mut G,
@@ -158,7 +155,7 @@ impl<L: Ledger, K: Word, V: Word, A: Allocator, D: Drainer<K, V>> Congee<L, K, V
     pub fn insert_counted<R: Wait>(
         &self,
         rt: &R,
-        guard: &mut Guard<'_, L, A>,
+        guard: &mut Guard<'_, L, M>,
         share: &mut Share<L>,
         key: K,
         value: V,
@@ -179,9 +176,9 @@ impl<L: Ledger, K: Word, V: Word, A: Allocator, D: Drainer<K, V>> Congee<L, K, V
         }
     }
 
-    /// Takes the key out, and returns the value that stood there, read back from its number. Tries again where memory is
+    /// Takes the key out, and returns the value that was stored, read back from its number. Tries again where memory is
     /// missing.
-    pub fn remove<R: Wait>(&self, rt: &R, guard: &mut Guard<'_, L, A>, key: &K) -> Option<V> {
+    pub fn remove<R: Wait>(&self, rt: &R, guard: &mut Guard<'_, L, M>, key: &K) -> Option<V> {
         self.remove_gated(rt, guard, key, &mut NoGate)
     }
 
@@ -189,7 +186,7 @@ impl<L: Ledger, K: Word, V: Word, A: Allocator, D: Drainer<K, V>> Congee<L, K, V
     pub fn remove_gated<R: Wait, G: Gate>(
         &self,
         rt: &R,
-        guard: &mut Guard<'_, L, A>,
+        guard: &mut Guard<'_, L, M>,
         key: &K,
         gate: &mut G,
     ) -> Option<V> {
@@ -203,7 +200,7 @@ impl<L: Ledger, K: Word, V: Word, A: Allocator, D: Drainer<K, V>> Congee<L, K, V
     pub fn remove_counted<R: Wait>(
         &self,
         rt: &R,
-        guard: &mut Guard<'_, L, A>,
+        guard: &mut Guard<'_, L, M>,
         share: &mut Share<L>,
         key: &K,
     ) -> Option<V>
@@ -223,7 +220,7 @@ impl<L: Ledger, K: Word, V: Word, A: Allocator, D: Drainer<K, V>> Congee<L, K, V
     pub fn range<R: Wait>(
         &self,
         rt: &R,
-        guard: &mut Guard<'_, L, A>,
+        guard: &mut Guard<'_, L, M>,
         start: &K,
         end: &K,
         buffer: &mut [(u64, u64)],
@@ -238,7 +235,7 @@ impl<L: Ledger, K: Word, V: Word, A: Allocator, D: Drainer<K, V>> Congee<L, K, V
     pub fn range_of<R: Wait, E: RangeEntry>(
         &self,
         rt: &R,
-        guard: &mut Guard<'_, L, A>,
+        guard: &mut Guard<'_, L, M>,
         start: u64,
         end: u64,
         buffer: &mut [E],
@@ -254,7 +251,7 @@ impl<L: Ledger, K: Word, V: Word, A: Allocator, D: Drainer<K, V>> Congee<L, K, V
     pub fn compute_if_present<R: Wait, F: FnMut(u64) -> Option<u64>>(
         &self,
         rt: &R,
-        guard: &mut Guard<'_, L, A>,
+        guard: &mut Guard<'_, L, M>,
         key: &K,
         f: &mut F,
     ) -> Option<(u64, Option<u64>)>
@@ -265,12 +262,12 @@ impl<L: Ledger, K: Word, V: Word, A: Allocator, D: Drainer<K, V>> Congee<L, K, V
     }
 
     /// Calls the closure with the number at the key if there is one, and stores what it answers. Returns the value that
-    /// stood there, read back from its number. The closure may be called again, and the last call counts; it may have been
+    /// was stored, read back from its number. The closure may be called again, and the last call counts; it may have been
     /// called before an `OOMError`.
     pub fn compute_or_insert<R: Wait, F: FnMut(Option<u64>) -> u64>(
         &self,
         rt: &R,
-        guard: &mut Guard<'_, L, A>,
+        guard: &mut Guard<'_, L, M>,
         key: K,
         f: &mut F,
     ) -> Result<Option<V>, OOMError>
@@ -287,7 +284,7 @@ impl<L: Ledger, K: Word, V: Word, A: Allocator, D: Drainer<K, V>> Congee<L, K, V
     pub fn compare_exchange<R: Wait>(
         &self,
         rt: &R,
-        guard: &mut Guard<'_, L, A>,
+        guard: &mut Guard<'_, L, M>,
         key: &K,
         old: &V,
         new: Option<V>,
@@ -314,31 +311,26 @@ impl<L: Ledger, K: Word, V: Word, A: Allocator, D: Drainer<K, V>> Congee<L, K, V
     /// The keys at one moment, ascending, each read back from its number. `OOMError` where there is no memory for their
     /// list.
     pub fn keys<R: Wait>(&self, rt: &R, alloc: Global) -> Result<Vec<K>, OOMError> {
-        let pairs = self.raw.snapshot(rt, |state| state.pairs(alloc))?;
-        let mut keys = Vec::new(alloc);
-        for (key, _) in pairs {
-            keys.push(K::from_u64(key))?;
-        }
-        Ok(keys)
+        self.raw.keys(rt, alloc)
     }
 
     /// The counts, at one moment, of the nodes that are then reachable, by level and form, and of the pairs.
     pub fn stats<R: Wait>(&self, rt: &R) -> Result<NodeStats, OOMError> {
-        self.raw.snapshot(rt, |state| state.stats())
+        self.raw.stats(rt)
     }
 
     /// How many pairs there are at one moment.
     pub fn value_count<R: Wait>(&self, rt: &R) -> u128 {
-        self.raw.snapshot(rt, |state| state.pair_count())
+        self.raw.pair_count(rt)
     }
 
     /// Whether there is no pair at one moment.
     pub fn is_empty<R: Wait>(&self, rt: &R) -> bool {
-        self.raw.snapshot(rt, |state| state.pair_count()) == 0
+        self.raw.pair_count(rt) == 0
     }
 }
 
-impl<L: Ledger, K: Word, V: Word, A: Allocator, D: Drainer<K, V>> Drop for Congee<L, K, V, A, D> {
+impl<L: Ledger, K: Word, V: Word, M: Pages, D: Drainer<K, V>> Drop for Congee<L, K, V, M, D> {
     fn drop(self) {
         let Congee {
             raw,
@@ -348,13 +340,13 @@ impl<L: Ledger, K: Word, V: Word, A: Allocator, D: Drainer<K, V>> Drop for Conge
         if !drainer.wants_pairs() {
             return;
         }
-        drained(&raw.into_under(), &drainer);
+        drained(&raw.into_state(), &drainer);
     }
 }
 
-// Tells a drainer of each pair, keys ascending. Takes no memory.
-fn drained<L: Ledger, K: Word, V: Word, A: Allocator, D: Drainer<K, V>>(
-    state: &State<L, u64, A>,
+// Calls a drainer with each pair, keys ascending. Takes no memory.
+fn drained<L: Ledger, K: Word, V: Word, M: Pages, D: Drainer<K, V>>(
+    state: &State<L, u64, u64, M>,
     drainer: &D,
 )
     requires { D.can_drain drainer.now }

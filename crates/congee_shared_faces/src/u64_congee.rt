@@ -1,14 +1,15 @@
 //! `U64Congee`, the map from numbers to values that numbers stand for, which threads share.
 
 ghost use Rattle.std.specs.Prelude.{◌≡◌, ◌≢◌, ◌≤◌, ◌+◌, ◌^◌, length, IfOk, MatchResult};
-ghost use Rattle.congee_shared.specs.Held.{inserted, removed};
+ghost use Rattle.congee_counted.specs.Held.{inserted, removed};
 
 use crate::typed_congee::{Congee, Guard};
+use congee_counted::share::Share;
+use congee_lent::snapshots::{Made, Pages};
 use congee_map::error::OOMError;
 use congee_map::traits::Word;
-use congee_node_table::allocator::{Allocator, DefaultAllocator};
+use congee_node_table::allocator::DefaultAllocator;
 use congee_shared::gate::Gate;
-use congee_shared::share::Share;
 use congee_stats::NodeStats;
 use std::alloc::Global;
 use std::sync::Wait;
@@ -16,15 +17,17 @@ use std::sync::ledger::{Blank, Ledger};
 
 /// An ordered map from 64-bit numbers to values of a type that is written as a number, which threads share.
 ///
-/// The allocator `A` is charged for each node of the map's tree.
+/// What lies under its lock, `M`, decides how many events a call takes.
 #[derive(Drop)]
-pub struct U64Congee<L: Ledger, V: Word, A: Allocator = DefaultAllocator> {
-    map: Congee<L, u64, V, A>,
+pub struct U64Congee<L: Ledger, V: Word, M: Pages> {
+    map: Congee<L, u64, V, M>,
 }
 
-impl<L: Ledger, V: Word> U64Congee<L, V> {
+impl<L: Ledger, V: Word, M: Pages> U64Congee<L, V, M> {
     /// An empty map, and the share with its whole weight. `OOMError` where there is no memory for the map.
     pub fn new(alloc: Global, blank: Blank) -> Result<(Self, Share<L>), OOMError>
+    where
+        M: Made<u64, u64, DefaultAllocator>,
         requires name { blank.name ≡ L.name }
         requires parts { blank.parts ≡ L.parts }
         requires whole { L.parts ≡ 2 ^ 63 + 1 }
@@ -32,12 +35,16 @@ impl<L: Ledger, V: Word> U64Congee<L, V> {
     {
         U64Congee::new_in(alloc, blank, DefaultAllocator {})
     }
-}
 
-impl<L: Ledger, V: Word, A: Allocator> U64Congee<L, V, A> {
-    /// An empty map, and the share with its whole weight. `OOMError` where the allocator or the machine has no memory for
-    /// the map.
-    pub fn new_in(alloc: Global, blank: Blank, allocator: A) -> Result<(Self, Share<L>), OOMError>
+    /// An empty map, and the share with its whole weight. The allocator is charged for each node of the map's tree.
+    /// `OOMError` where it or the machine has no memory for the map.
+    pub fn new_in<A>(
+        alloc: Global,
+        blank: Blank,
+        allocator: A,
+    ) -> Result<(Self, Share<L>), OOMError>
+    where
+        M: Made<u64, u64, A>,
         requires name { blank.name ≡ L.name }
         requires parts { blank.parts ≡ L.parts }
         requires whole { L.parts ≡ 2 ^ 63 + 1 }
@@ -48,37 +55,37 @@ impl<L: Ledger, V: Word, A: Allocator> U64Congee<L, V, A> {
     }
 
     /// Seats a caller. Looks at the seats that are taken, in turn. `OOMError` where there is no room for its calls.
-    pub fn pin<R: Wait>(&self, rt: &R) -> Result<Guard<'_, L, A>, OOMError> {
+    pub fn pin<R: Wait>(&self, rt: &R) -> Result<Guard<'_, L, M>, OOMError> {
         self.map.pin(rt)
     }
 
     /// Gives a caller's seat back. A guard that is dropped instead keeps its seat until the map ends.
-    pub fn unpin<R: Wait>(&self, rt: &R, guard: Guard<'_, L, A>) {
+    pub fn unpin<R: Wait>(&self, rt: &R, guard: Guard<'_, L, M>) {
         self.map.unpin(rt, guard);
     }
 
     /// The value at the key, read back from its number.
-    pub fn get<R: Wait>(&self, rt: &R, guard: &mut Guard<'_, L, A>, key: u64) -> Option<V> {
+    pub fn get<R: Wait>(&self, rt: &R, guard: &mut Guard<'_, L, M>, key: u64) -> Option<V> {
         self.map.get(rt, guard, &key)
     }
 
-    /// `get` with a gate, which is called after each event but the last.
+    /// `get` with a gate, which is called after each event but the last of the call.
     pub fn get_gated<R: Wait, G: Gate>(
         &self,
         rt: &R,
-        guard: &mut Guard<'_, L, A>,
+        guard: &mut Guard<'_, L, M>,
         key: u64,
         gate: &mut G,
     ) -> Option<V> {
         self.map.get_gated(rt, guard, &key, gate)
     }
 
-    /// Sets the value at the key, and returns the one that stood there, read back from its number. `OOMError` where memory
+    /// Sets the value at the key, and returns the one that was stored, read back from its number. `OOMError` where memory
     /// was missing: then the call changed nothing.
     pub fn insert<R: Wait>(
         &self,
         rt: &R,
-        guard: &mut Guard<'_, L, A>,
+        guard: &mut Guard<'_, L, M>,
         key: u64,
         val: V,
     ) -> Result<Option<V>, OOMError> {
@@ -89,7 +96,7 @@ impl<L: Ledger, V: Word, A: Allocator> U64Congee<L, V, A> {
     pub fn insert_gated<R: Wait, G: Gate>(
         &self,
         rt: &R,
-        guard: &mut Guard<'_, L, A>,
+        guard: &mut Guard<'_, L, M>,
         key: u64,
         val: V,
         gate: &mut G,
@@ -101,7 +108,7 @@ impl<L: Ledger, V: Word, A: Allocator> U64Congee<L, V, A> {
     pub fn insert_counted<R: Wait>(
         &self,
         rt: &R,
-        guard: &mut Guard<'_, L, A>,
+        guard: &mut Guard<'_, L, M>,
         share: &mut Share<L>,
         key: u64,
         val: V,
@@ -111,9 +118,9 @@ impl<L: Ledger, V: Word, A: Allocator> U64Congee<L, V, A> {
         self.map.insert_counted(rt, guard, share, key, val)
     }
 
-    /// Takes the key out, and returns the value that stood there, read back from its number. Tries again where memory is
+    /// Takes the key out, and returns the value that was stored, read back from its number. Tries again where memory is
     /// missing.
-    pub fn remove<R: Wait>(&self, rt: &R, guard: &mut Guard<'_, L, A>, key: u64) -> Option<V> {
+    pub fn remove<R: Wait>(&self, rt: &R, guard: &mut Guard<'_, L, M>, key: u64) -> Option<V> {
         self.map.remove(rt, guard, &key)
     }
 
@@ -121,7 +128,7 @@ impl<L: Ledger, V: Word, A: Allocator> U64Congee<L, V, A> {
     pub fn remove_gated<R: Wait, G: Gate>(
         &self,
         rt: &R,
-        guard: &mut Guard<'_, L, A>,
+        guard: &mut Guard<'_, L, M>,
         key: u64,
         gate: &mut G,
     ) -> Option<V> {
@@ -132,7 +139,7 @@ impl<L: Ledger, V: Word, A: Allocator> U64Congee<L, V, A> {
     pub fn remove_counted<R: Wait>(
         &self,
         rt: &R,
-        guard: &mut Guard<'_, L, A>,
+        guard: &mut Guard<'_, L, M>,
         share: &mut Share<L>,
         key: u64,
     ) -> Option<V>
@@ -147,7 +154,7 @@ impl<L: Ledger, V: Word, A: Allocator> U64Congee<L, V, A> {
     pub fn range<R: Wait>(
         &self,
         rt: &R,
-        guard: &mut Guard<'_, L, A>,
+        guard: &mut Guard<'_, L, M>,
         start: u64,
         end: u64,
         buffer: &mut [([u8; 8], u64)],

@@ -1,0 +1,4 @@
+pub mod Contents
+pub mod Current
+pub mod Opened
+pub mod Turned

@@ -1,0 +1,4 @@
+mod Deciding
+mod Seating
+mod Stepping
+mod Turning

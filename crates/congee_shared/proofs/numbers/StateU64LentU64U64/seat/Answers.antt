@@ -1,9 +1,0 @@
-use Rattle.std.proofs.Common.{ℕ}
-use Rattle.congee_lent.proofs.Seating.{seat_content, seat_ok}
-use Rattle.congee_shared.proofs.numbers.StateU64LentU64U64.seat.Goals as goal
-
-pub returns-clause-content : goal.returns-clause-content
-returns-clause-content g c = seat_content (λ (x : ℕ). x) c.seat.result c.args.self.now.machine c.seat.new.self.machine c.seat.ensures.ok c.seat.ensures.err
-
-pub returns-clause-ok : goal.returns-clause-ok
-returns-clause-ok g c = seat_ok (λ (x : ℕ). x) c.seat.result c.args.self.now.machine c.seat.new.self.machine c.seat.ensures.ok

@@ -1,5 +1,0 @@
-use Rattle.congee_shared_faces.proofs.tests.guards.a_guard_goes_to_another_thread.Given as goal
-
--- the ledger that was just opened
-abbrev pub ghosts-passed_on : goal.ghosts-passed_on
-ghosts-passed_on g a = record { name = a.blank.name; parts = a.blank.parts }

@@ -1,5 +1,0 @@
-use Rattle.congee_shared_faces.proofs.tests.guards.guards_are_dropped_with_their_seats.Given as goal
-
--- the ledger that was just opened
-abbrev pub ghosts-dropped : goal.ghosts-dropped
-ghosts-dropped g a = record { name = a.blank.name; parts = a.blank.parts }

@@ -1,5 +1,0 @@
-use Rattle.congee_shared_faces.proofs.tests.guards.nine_guards_in_one_thread.Given as goal
-
--- the ledger that was just opened
-abbrev pub ghosts-nine_callers : goal.ghosts-nine_callers
-ghosts-nine_callers g a = record { name = a.blank.name; parts = a.blank.parts }
