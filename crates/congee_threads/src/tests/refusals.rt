@@ -20,11 +20,11 @@ use std::thread::{Threads, join};
 
 // Refuses the request of this number, counted from 1, and grants all others.
 #[derive(Drop)]
-struct OneRefused<'a> {
-    left: &'a AtomicU64,
+struct OneRefused {
+    left: AtomicU64,
 }
 
-impl Allocator for OneRefused<'_> {
+impl Allocator for OneRefused {
     ghost charge = { λ _. None };
 
     fn allocate(&mut self, _size: NodeSize) -> Result<(), OOMError> {
@@ -86,19 +86,24 @@ fn stored<L: Ledger, M: Pages, R: Wait>(
     Err("refused twice".into())
 }
 
-// How many calls were refused where the request of the number in `left` is; none where the map itself was.
-fn refused_at<'a, L: Ledger, M: Pages + Made<u64, u64, OneRefused<'a>>, R: Wait>(
+// How many calls were refused where the request of this number is; none where the map itself was.
+fn refused_at<L: Ledger, M: Pages + Made<u64, u64, OneRefused>, R: Wait>(
     rt: &R,
     alloc: Global,
     blank: Blank,
-    left: &'a AtomicU64,
+    request: u64,
 ) -> Result<Option<u64>, Fail>
     requires name { blank.name ≡ L.name }
     requires parts { blank.parts ≡ L.parts }
     requires whole { L.parts ≡ 2 ^ 63 + 1 }
 {
-    let Ok((map, mut share)) = Congee::<L, u64, u64, M>::new(alloc, blank, OneRefused { left })
-    else {
+    let Ok((map, mut share)) = Congee::<L, u64, u64, M>::new(
+        alloc,
+        blank,
+        OneRefused {
+            left: AtomicU64::new(request),
+        },
+    ) else {
         return Ok(None);
     };
     let mut refused = 0u64;
@@ -128,12 +133,11 @@ fn refused_at<'a, L: Ledger, M: Pages + Made<u64, u64, OneRefused<'a>>, R: Wait>
 fn each_request_is_refused_in_turn(rt: HostRuntime) -> Result<(), Fail> {
     let mut lost = 0u64;
     for request in 1..40u64 {
-        let left = AtomicU64::new(request);
-        let refused = refused_at::<Brand, Events<u64, OneRefused<'_>>, _>(
+        let refused = refused_at::<Brand, Events<u64, OneRefused>, _>(
             &rt,
             rt.alloc(),
             Blank::new((1 << 63) + 1),
-            &left,
+            request,
         )?;
         assert!(rt;
             refused.is_none() == (request == 1) && refused.unwrap_or(0) <= 1,
@@ -150,12 +154,11 @@ fn each_request_is_refused_in_turn(rt: HostRuntime) -> Result<(), Fail> {
 fn each_request_of_the_tree_is_refused_in_turn(rt: HostRuntime) -> Result<(), Fail> {
     let mut lost = 0u64;
     for request in 1..40u64 {
-        let left = AtomicU64::new(request);
-        let refused = refused_at::<Brand, Direct<u64, OneRefused<'_>>, _>(
+        let refused = refused_at::<Brand, Direct<u64, OneRefused>, _>(
             &rt,
             rt.alloc(),
             Blank::new((1 << 63) + 1),
-            &left,
+            request,
         )?;
         assert!(rt;
             refused.is_none() == (request == 1) && refused.unwrap_or(0) <= 1,

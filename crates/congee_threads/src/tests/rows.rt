@@ -364,11 +364,11 @@ fn two_threads_count_up_by_closures(rt: HostRuntime) -> Result<(), Fail> {
 }
 
 // A computation of one caller whose closure looks at another key by a second caller. What it found there.
-fn look_and_store<'a, L: Ledger, M: Pages, R: Wait>(
+fn look_at_events<'a, L: Ledger, R: Wait>(
     rt: &R,
-    map: &'a Map<L, M>,
-    guard: &mut Guard<'a, L, M>,
-    other: &mut Guard<'a, L, M>,
+    map: &'a Map<L, Machine>,
+    guard: &mut Guard<'a, L, Machine>,
+    other: &mut Guard<'a, L, Machine>,
 ) -> Result<Option<u64>, Fail> {
     let mut found = None;
     let mut looks = |_old: Option<u64>| -> u64 {
@@ -381,7 +381,7 @@ fn look_and_store<'a, L: Ledger, M: Pages, R: Wait>(
 }
 
 // A closure that calls the map itself.
-fn calls_the_map<L: Ledger, M: Pages + Made<u64, u64, DefaultAllocator>, R: Wait>(
+fn calls_at_events<L: Ledger, R: Wait>(
     rt: &R,
     alloc: Global,
     blank: Blank,
@@ -390,20 +390,56 @@ fn calls_the_map<L: Ledger, M: Pages + Made<u64, u64, DefaultAllocator>, R: Wait
     requires parts { blank.parts ≡ L.parts }
     requires whole { L.parts ≡ 2 ^ 63 + 1 }
 {
-    let (map, _) = made::<L, M>(alloc, blank)?;
+    let (map, _) = made::<L, Machine>(alloc, blank)?;
     let mut guard = map.pin(rt)?;
     let mut other = map.pin(rt)?;
     map.insert(rt, &mut guard, 3, 30)?;
-    let found = look_and_store(rt, &map, &mut guard, &mut other)?;
+    let found = look_at_events(rt, &map, &mut guard, &mut other)?;
+    let stored = map.get(rt, &mut guard, &4);
+    Ok((found, stored))
+}
+
+// A computation of one caller whose closure looks at another key by a second caller. What it found there.
+fn look_at_the_tree<'a, L: Ledger, R: Wait>(
+    rt: &R,
+    map: &'a Map<L, Tree>,
+    guard: &mut Guard<'a, L, Tree>,
+    other: &mut Guard<'a, L, Tree>,
+) -> Result<Option<u64>, Fail> {
+    let mut found = None;
+    let mut looks = |_old: Option<u64>| -> u64 {
+        found = map.get(rt, other, &3);
+        7
+    };
+    let stored = map.compute_or_insert(rt, guard, 4, &mut looks);
+    stored?;
+    Ok(found)
+}
+
+// A closure that calls the map itself.
+fn calls_at_the_tree<L: Ledger, R: Wait>(
+    rt: &R,
+    alloc: Global,
+    blank: Blank,
+) -> Result<(Option<u64>, Option<u64>), Fail>
+    requires name { blank.name ≡ L.name }
+    requires parts { blank.parts ≡ L.parts }
+    requires whole { L.parts ≡ 2 ^ 63 + 1 }
+{
+    let (map, _) = made::<L, Tree>(alloc, blank)?;
+    let mut guard = map.pin(rt)?;
+    let mut other = map.pin(rt)?;
+    map.insert(rt, &mut guard, 3, 30)?;
+    let found = look_at_the_tree(rt, &map, &mut guard, &mut other)?;
     let stored = map.get(rt, &mut guard, &4);
     Ok((found, stored))
 }
 
 #[test]
 fn a_closure_calls_the_map(rt: HostRuntime) -> Result<(), Fail> {
-    let found = calls_the_map::<Brand, Machine, _>(&rt, rt.alloc(), Blank::new((1 << 63) + 1))?;
+    let found = calls_at_events::<Brand, _>(&rt, rt.alloc(), Blank::new((1 << 63) + 1))?;
     assert!(rt; found == (Some(30), Some(7)));
-    let found = calls_the_map::<Brand, Tree, _>(&rt, rt.alloc(), Blank::new((1 << 63) + 1))?;
+    let found = calls_at_the_tree::<Brand, _>(&rt, rt.alloc(), Blank::new((1 << 63) + 1))?;
     assert!(rt; found == (Some(30), Some(7)));
     Ok(())
 }
