@@ -4,10 +4,10 @@
  *
  *     cc -Iinclude prog.c out/c-library/libcongee.a      (tools/c-library builds the archive)
  *
- * What the caller owes. Nothing checks it, and the theorem holds for programs that keep it:
+ * What the caller must ensure. Nothing checks it, and the theorem holds only for programs that do:
  *
- *   - A map is a pointer that congee_new or congee_new_with_limit gave and congee_free hasn't taken. Nobody reads, copies or
- *     changes what it points to.
+ *   - A map is a pointer that congee_new or congee_new_with_limit returned and that wasn't passed to congee_free since.
+ *     Nobody reads, copies or changes what it points to.
  *   - One call at a time on a map, reads included. Maps are independent of one another. A map may go to another thread
  *     where a lock, the start or the join of a thread, or a sequentially consistent atomic orders the calls; to share
  *     one, put it behind a lock.
@@ -20,8 +20,9 @@
  *   - malloc, realloc and free, which the library calls, are of one allocator and align blocks as C asks.
  *   - The names that begin with congee_c_ or rattle_ are the archive's, and this header is of the same version.
  *
- * A refusal (CONGEE_OOM) comes where malloc finds no memory or the map's limit is reached, and leaves everything as it was:
- * the map, its charge, and the places. errno says nothing about it. A place is written only where a function's text says so.
+ * A refusal (CONGEE_OOM) comes if malloc finds no memory or the map's limit is reached. It changes nothing: not the
+ * map, its charge or the places. errno carries no information about it. A place is written only in the cases that a
+ * function's comment lists.
  */
 #ifndef CONGEE_H
 #define CONGEE_H
@@ -66,9 +67,9 @@ uint64_t congee_c_charged(struct congee_handle *handle);
  * 4, 16, 48 or 256 entries. The first node is of the largest size, so a smaller limit is refused here. Answers 0 with
  * the map in *out, or CONGEE_OOM with null there.
  *
- * The limit bounds these sizes, not the memory that malloc lends: over a million random keys 88 bytes a key are charged, and
- * 155 held. Where a node grows, the larger one is charged while the smaller still is, so a map near its limit may refuse a key
- * that would fit afterwards. */
+ * The limit bounds these sizes, not the memory that malloc allocates: with a million random keys 88 bytes a key are
+ * charged, and 155 held. When a node grows, the larger one is charged while the smaller still is, so a map near its
+ * limit may refuse a key that would fit afterwards. */
 static inline int congee_new_with_limit(struct congee **out, uint64_t bytes) {
     struct congee_handle made = {NULL};
     int code = congee_c_new(bytes, &made);
@@ -81,7 +82,7 @@ static inline int congee_new(struct congee **out) {
     return congee_new_with_limit(out, UINT64_MAX);
 }
 
-/* Frees all memory of the map. Null is let be. */
+/* Frees all memory of the map. For null it does nothing. */
 static inline void congee_free(struct congee *map) {
     struct congee_handle handle = {map};
     if (map)
@@ -99,8 +100,8 @@ static inline int congee_get(struct congee *map, uint64_t key, uint64_t *value) 
     return 1;
 }
 
-/* Sets the value at the key. Answers 0 for a new key, and *old stays; 1 with the value before in *old; or CONGEE_OOM, which
- * only a new key meets that needs a node of its own or a larger one. */
+/* Sets the key's value. Answers 0 for a new key, and *old is unchanged; 1 with the previous value in *old; or
+ * CONGEE_OOM, only for a new key that needs a node of its own or a larger one. */
 static inline int congee_insert(struct congee *map, uint64_t key, uint64_t value, uint64_t *old) {
     struct congee_handle handle = {map};
     uint64_t it = 0;
@@ -112,8 +113,8 @@ static inline int congee_insert(struct congee *map, uint64_t key, uint64_t value
     return 1;
 }
 
-/* Takes the key out. Answers 1 with the value before in *old, or 0 where the key is absent, and *old stays. Is never refused:
- * nodes that are empty then are given back, and one that has few entries left is put into a smaller form where there is
+/* Removes the key. Answers 1 with the previous value in *old, or 0 if the key is absent, and *old is unchanged. Is
+ * never refused: nodes that are empty then are freed, and one that has few entries left gets a smaller form if there is
  * memory for that. */
 static inline int congee_remove(struct congee *map, uint64_t key, uint64_t *old) {
     struct congee_handle handle = {map};
@@ -125,8 +126,8 @@ static inline int congee_remove(struct congee *map, uint64_t key, uint64_t *old)
     return 1;
 }
 
-/* Puts `desired` at the key where `expected` stands, and answers 1. Answers 2 with the value in *found where another one
- * stands there, and 0 where the key is absent; the map stays then. Takes no memory. */
+/* If the key's value is `expected`, replaces it by `desired` and answers 1. If it is another, answers 2 with that value
+ * in *found, and if the key is absent, answers 0; the map is unchanged then. Takes no memory. */
 static inline int congee_compare_exchange(struct congee *map, uint64_t key, uint64_t expected, uint64_t desired,
                                           uint64_t *found) {
     struct congee_handle handle = {map};
@@ -139,10 +140,10 @@ static inline int congee_compare_exchange(struct congee *map, uint64_t key, uint
     return 2;
 }
 
-/* Writes the first pairs with start <= key < end to the buffer, keys ascending, n at most, and answers how many; the rest of
- * the buffer stays. So the greatest key is in no range: look it up. To go on, begin at the last key plus 1. Takes no
- * memory. It reads the nodes that hold these pairs and two paths from the root, of at most eight nodes each, whatever else
- * the map has. */
+/* Writes the first pairs with start <= key < end to the buffer, keys ascending, n at most, and answers how many; the
+ * rest of the buffer is unchanged. So UINT64_MAX is in no range: look it up. To go on, begin at the last key plus 1.
+ * Takes no memory. It reads the nodes that hold these pairs and two paths from the root, of at most eight nodes each,
+ * whatever else the map has. */
 static inline size_t congee_range(struct congee *map, uint64_t start, uint64_t end, struct congee_pair *buffer, size_t n) {
     struct congee_handle handle = {map};
     return n == 0 ? 0 : congee_c_range(&handle, start, end, buffer, n);

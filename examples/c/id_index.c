@@ -5,7 +5,7 @@
 #include <inttypes.h>
 #include <stdio.h>
 
-/* Enters a record, and says what came of it. */
+/* Enters a record, and prints the outcome. */
 static void enter(struct congee *index, uint64_t id, uint64_t place) {
     uint64_t before;
     switch (congee_insert(index, id, place, &before)) {
@@ -20,7 +20,7 @@ static void enter(struct congee *index, uint64_t id, uint64_t place) {
     }
 }
 
-/* Tells of a record that was moved, unless another move came first. */
+/* Moves a record unless another move came first, and prints the outcome. */
 static void move(struct congee *index, uint64_t id, uint64_t from, uint64_t to) {
     uint64_t found;
     switch (congee_compare_exchange(index, id, from, to, &found)) {

@@ -19,7 +19,7 @@ static bool map_pages(struct congee *table, uint64_t page, uint64_t frame, uint6
     return true;
 }
 
-/* Unmaps the pages from the first on and below the last, and says how many were mapped. */
+/* Unmaps the pages from the first on and below the last, and returns how many were mapped. */
 static uint64_t unmap_pages(struct congee *table, uint64_t first, uint64_t last) {
     struct congee_pair mapped[BATCH] = {{0, 0}};
     uint64_t count = 0;

@@ -4,7 +4,7 @@
 
 use proved_congee::{Congee, OutOfMemory, Pair};
 
-/// Enters a record, and says what came of it.
+/// Enters a record, and prints the outcome.
 fn enter(index: &mut Congee, id: u64, place: u64) {
     match index.insert(id, place) {
         Ok(None) => println!("record {id} is at {place}"),
@@ -13,7 +13,7 @@ fn enter(index: &mut Congee, id: u64, place: u64) {
     }
 }
 
-/// Tells of a record that was moved, unless another move came first.
+/// Moves a record unless another move came first, and prints the outcome.
 fn shift(index: &mut Congee, id: u64, from: u64, to: u64) {
     match index.compare_exchange(id, from, to) {
         Ok(()) => println!("record {id} moved to {to}"),

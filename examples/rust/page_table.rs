@@ -19,7 +19,7 @@ fn map_pages(table: &mut Congee, page: u64, frame: u64, count: u64) -> Result<()
     Ok(())
 }
 
-/// Unmaps the pages from the first on and below the last, and says how many were mapped.
+/// Unmaps the pages from the first on and below the last, and returns how many were mapped.
 fn unmap_pages(table: &mut Congee, first: u64, last: u64) -> usize {
     let mapped: Vec<u64> = table.range(first..last).map(|(page, _)| page).collect();
     mapped.iter().filter_map(|page| table.remove(*page)).count()

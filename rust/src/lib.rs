@@ -109,9 +109,10 @@ pub struct Congee {
 // SAFETY: the library proves that a map may go to another thread (`unsafe impl Send for Handle`).
 unsafe impl Send for Congee {}
 
-// SAFETY of the calls below. The address is one that `congee_c_new` gave and that `drop` hasn't handed back. Nothing else
-// uses the map during a call: a `Congee` isn't `Sync`, so that no two threads are in a call on it, and the library calls
-// nothing back. The handle and each place that the library writes to are locals or borrowed as `&mut`, and initialised.
+// SAFETY of the calls below. The address is one that `congee_c_new` returned and that `drop` hasn't freed. Nothing else
+// uses the map during a call: a `Congee` isn't `Sync`, so that no two threads are in a call on it, and the library
+// calls nothing back. The handle and each place that the library writes to are locals or borrowed as `&mut`, and
+// initialised.
 impl Congee {
     /// An empty map.
     pub fn new() -> Result<Congee, OutOfMemory> {
@@ -155,8 +156,8 @@ impl Congee {
         self.get(key).is_some()
     }
 
-    /// Sets the value at the key, and returns the one that stood there. Only a new key that needs a node of its own or a
-    /// larger one is refused.
+    /// Sets the key's value, and returns the previous one. Only a new key that needs a node of its own or a larger one
+    /// is refused.
     pub fn insert(&mut self, key: u64, value: u64) -> Result<Option<u64>, OutOfMemory> {
         let mut before = 0;
         match unsafe { congee_c_insert(&mut self.handle(), key, value, &mut before) } {
@@ -166,15 +167,15 @@ impl Congee {
         }
     }
 
-    /// Takes the key out, and returns the value before. Is never refused.
+    /// Removes the key, and returns its previous value. Is never refused.
     pub fn remove(&mut self, key: u64) -> Option<u64> {
         let mut before = 0;
         let code = unsafe { congee_c_remove(&mut self.handle(), key, &mut before) };
         (code == 1).then_some(before)
     }
 
-    /// Puts `desired` at the key where `expected` stands. Otherwise changes nothing, and returns as an error the value that
-    /// stands there, or `None` where the key is absent.
+    /// Replaces the key's value by `desired` if it is `expected`. Otherwise changes nothing, and returns as an error
+    /// the current value, or `None` if the key is absent.
     pub fn compare_exchange(
         &mut self,
         key: u64,
@@ -191,8 +192,8 @@ impl Congee {
         }
     }
 
-    /// Writes the first pairs with `start <= key < end` to the buffer, keys ascending, as many as there are or as fit, and
-    /// returns how many. The rest of the buffer stays. So the greatest key is in no such range.
+    /// Writes the first pairs with `start <= key < end` to the buffer, keys ascending, as many as there are or as fit,
+    /// and returns how many. The rest of the buffer is unchanged. So `u64::MAX` is in no such range.
     pub fn read_range(&self, start: u64, end: u64, buffer: &mut [Pair]) -> usize {
         unsafe {
             congee_c_range(
@@ -205,8 +206,8 @@ impl Congee {
         }
     }
 
-    /// The pairs whose keys are within the bounds, keys ascending; none where the bounds are the wrong way round. They are
-    /// read from the map by pages, the first of 4 pairs and each four times as long, up to 64.
+    /// The pairs whose keys are within the bounds, keys ascending; none if the bounds are reversed. They are read from
+    /// the map by pages, the first of 4 pairs and each four times as long, up to 64.
     ///
     /// ```
     /// # use proved_congee::{Congee, OutOfMemory};
@@ -298,7 +299,7 @@ pub struct Range<'a> {
     /// Where the next page begins, if there may be one.
     start: Option<u64>,
     end: u64,
-    /// Whether the greatest key belongs to the range and wasn't asked for yet.
+    /// Whether the key `u64::MAX` belongs to the range and wasn't looked up yet.
     has_last: bool,
     page: [Pair; PAGE],
     at: usize,

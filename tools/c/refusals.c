@@ -52,7 +52,7 @@ static uint64_t key_of(uint64_t i) {
     return i / 20 * 0x0100010001000100u + i % 20;
 }
 
-/* The keys below a place stand in the map, each with its place, and no other key. */
+/* The map has the keys below a place, each with its place as its value, and no other key. */
 static void check(struct congee *map, uint64_t below) {
     uint64_t value;
     need(congee_count(map) == below, "the count after a refusal");
@@ -60,7 +60,7 @@ static void check(struct congee *map, uint64_t below) {
         need(congee_get(map, key_of(i), &value) == (i < below) && (i >= below || value == i), "a pair after a refusal");
 }
 
-/* Fills a map with one allocation refused, and says how often an insertion was. */
+/* Fills a map with one allocation refused, and returns how many insertions were refused. */
 static long fill(struct congee *map) {
     long refused = 0;
     for (uint64_t i = 0; i < KEYS; i++) {
@@ -78,8 +78,8 @@ static long fill(struct congee *map) {
     return refused;
 }
 
-/* Fills a map, and takes its keys out with so many allocations granted: the next one fails, or all after them. Each key is
- * answered. Says whether one failed. */
+/* Fills a map, and removes its keys with so many allocations granted: the next one fails, or all after them. Each
+ * removal is answered. Returns whether one failed. */
 static bool empty(long granted, bool all_after) {
     struct congee *map;
     need(congee_new(&map) == 0, "a map");

@@ -1,5 +1,5 @@
-/* Stands before the C library's allocator (LD_PRELOAD): the request for memory whose number is REFUSED_REQUEST, counted
- * from 1, finds none. The number of requests made is kept in the first eight bytes of the file that REQUESTS names. */
+/* Wraps the C library's allocator (LD_PRELOAD): the request for memory whose number is REFUSED_REQUEST, counted from 1,
+ * finds none. The number of requests made is kept in the first eight bytes of the file that REQUESTS names. */
 #define _GNU_SOURCE
 #include <errno.h>
 #include <fcntl.h>

@@ -1,4 +1,4 @@
-/* Three million mixed calls, each answer compared with what an array of the keys says. */
+/* Three million mixed calls, each answer compared with an array of the keys. */
 #include "congee.h"
 #include <inttypes.h>
 #include <stdio.h>
@@ -26,7 +26,7 @@ static void need(bool holds, const char *what) {
     }
 }
 
-/* Eight full leaves, then keys that differ in all bytes; 0 is the first and the greatest number the last. */
+/* Eight full leaves, then keys that differ in all bytes; 0 is the first and UINT64_MAX the last. */
 static void make_keys(void) {
     for (uint64_t i = 0; i < KEYS; i++)
         keys[i] = i < KEYS / 2 ? (i / 256) << 40 | i % 256 : ((uint64_t)1 << 60) + i * 0x0001010101010101u;

@@ -14,7 +14,7 @@ fn next(state: &mut u64) -> u64 {
     z ^ (z >> 31)
 }
 
-/// One of 4096 keys, 0 and the greatest number among them.
+/// One of 4096 keys, 0 and `u64::MAX` among them.
 fn key(state: &mut u64) -> u64 {
     (next(state) % 4096).wrapping_mul(0x0010010010010010) | (next(state) % 2 * 0xf)
 }
@@ -32,7 +32,7 @@ fn bound(state: &mut u64) -> Bound<u64> {
     }
 }
 
-/// Whether `BTreeMap::range` takes the bounds: it panics where they are the wrong way round.
+/// Whether `BTreeMap::range` takes the bounds: it panics if they are reversed.
 fn is_range(bounds: (Bound<u64>, Bound<u64>)) -> bool {
     match bounds {
         (Bound::Excluded(start), Bound::Excluded(end)) => start < end,

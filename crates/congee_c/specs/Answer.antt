@@ -11,6 +11,6 @@ abbrev pub put_if_there : Option ℕ → ℕ → ℕ
 put_if_there None held = held
 put_if_there (Some value) held = value
 
--- a refusal for want of memory: -1
+-- a refusal for lack of memory: -1
 abbrev pub oom : ℤ
 oom = negsuc 0

@@ -1,6 +1,6 @@
 -- What is charged to a map's limit.
 use Rattle.std.specs.Prelude.{ℕ, Option, Some}
-use Rattle.congee_node_table.specs.Charge.{BudgetView}
+use Rattle.node_table.specs.Charge.{BudgetView}
 
 -- a limit of so many bytes, none of them charged
 abbrev pub limit_of : ℕ → BudgetView

@@ -58,7 +58,7 @@ impl Handle {
         }
     }
 
-    /// The map, where it stands on the heap.
+    /// The map, at its place on the heap.
     pub fn as_mut(&mut self) -> &mut Held
         ensures* writes_back { sem 𝓛
             (follows the_row held_row self.entry.ghost_name result.ghost_name (with_held self.old)) }

@@ -2,11 +2,11 @@
 
 ghost use Rattle.std.specs.Prelude.{◌≡◌, [], IfOk};
 ghost use Rattle.congee_c.specs.Limit.{limit_of, limit_charge};
-ghost use Rattle.congee_faces.specs.Face.{ChargedFor};
+ghost use Rattle.face_maps.specs.Face.{ChargedFor};
 
-use congee_faces::typed_congee::Congee;
-use congee_map::error::OOMError;
-use congee_node_table::allocator::Budget;
+use face_maps::typed_congee::Congee;
+use node_table::allocator::Budget;
+use spec_map::error::OOMError;
 use std::alloc::Global;
 
 /// The map, under a type without parameters, as C needs it.

@@ -1,17 +1,17 @@
-//! The map from `u64` to `u64` for C and Rust programs: `include/congee.h` declares what stands here.
+//! The map from `u64` to `u64` for C and Rust programs. `include/congee.h` declares these functions.
 //!
-//! C holds a `Handle`, one word that owns a map on the heap. Each call takes it by `&mut`, so C makes one call on a map at a
-//! time, reads included. A call leaves the map where it stands (`place`), so C may keep its address alone.
+//! C holds a `Handle`, one word that owns a map on the heap. Each call takes it by `&mut`, so C makes one call on a map
+//! at a time, reads included. A call doesn't move the map (`place`), so C may keep its address alone.
 //!
-//! An answer is an `i32`: 0, 1 or 2 as each call says, and -1 where there is no memory.
+//! An answer is an `i32`: 0, 1 or 2 with the meaning that each call documents, and -1 if there is no memory.
 #![tactic(auto)]
 
 ghost use Rattle.std.specs.Prelude.{◌≡◌, ◌≢◌, ℕ, pos, ◌⊎◌, ◌↔◌, ◌++◌, [], Some, None, IfSome, IsSome, IsTrue, length, min, map, take, drop};
-ghost use Rattle.congee_map.specs.Map.{lookup, put, without, between};
-ghost use Rattle.congee_map.specs.Refusal.{NeedsNode};
-ghost use Rattle.congee_stats.specs.LevelCounts.{capped};
-ghost use Rattle.congee_supply.specs.Charge.{charge_of};
-ghost use Rattle.congee_faces.specs.Face.{ChargedAlike, ChargedFor, FaceUnchanged};
+ghost use Rattle.spec_map.specs.Map.{lookup, put, without, between};
+ghost use Rattle.spec_map.specs.Refusal.{NeedsNode};
+ghost use Rattle.node_stats.specs.LevelCounts.{capped};
+ghost use Rattle.tree_path.specs.Charge.{charge_of};
+ghost use Rattle.face_maps.specs.Face.{ChargedAlike, ChargedFor, FaceUnchanged};
 ghost use Rattle.congee_c.specs.Answer.{is_there, put_if_there, oom};
 ghost use Rattle.congee_c.specs.Limit.{limit_of, limit_charge};
 
@@ -19,11 +19,11 @@ mod handle;
 mod held;
 mod room;
 
-use congee_walks::range_scan::RangeEntry;
 pub use handle::Handle;
 use held::Held;
 pub use room::Room;
 use std::alloc::Global;
+use tree_walk::range_scan::RangeEntry;
 
 /// The answer of a call that found no memory.
 const OOM: i32 = -1;
@@ -44,8 +44,8 @@ impl RangeEntry for Pair {
     }
 }
 
-/// Writes the handle of a new, empty map to `out` and answers 0, or answers `OOM` and writes nothing. The stated sizes of
-/// the map's nodes are charged to a limit in bytes, which refuses what goes past it; the greatest number is none.
+/// Writes the handle of a new, empty map to `out` and answers 0, or answers `OOM` and writes nothing. The stated sizes
+/// of the map's nodes are charged to a limit in bytes, which refuses what goes past it; `u64::MAX` is no limit.
 #[unsafe(no_mangle)]
 pub extern "C" fn congee_c_new(alloc: Global, limit: u64, out: &mut Room) -> i32
     requires { out.old.held ≡ None }
@@ -84,8 +84,8 @@ pub extern "C" fn congee_c_get(handle: &mut Handle, key: u64, value: &mut u64) -
     answer(handle.as_mut().map.get(&key), value)
 }
 
-/// Sets the value at the key. Answers 0 for a new key, and 1 where a value stood there, which is written to `before`. For a
-/// new key that needs a node it may find no memory: then it answers `OOM`, and all is as it was.
+/// Sets the key's value. Answers 0 for a new key, and 1 for a present one, whose previous value is written to `before`.
+/// For a new key that needs a node it may find no memory: then it answers `OOM`, and nothing changes.
 #[unsafe(no_mangle)]
 pub extern "C" fn congee_c_insert(
     handle: &mut Handle,
@@ -111,7 +111,7 @@ pub extern "C" fn congee_c_insert(
     }
 }
 
-/// Takes the key out. Answers 1 where a value stood there, which is written to `before`, or 0. Is never refused.
+/// Removes the key. Answers 1 if it was present, with its previous value in `before`, or 0. Is never refused.
 #[unsafe(no_mangle)]
 pub extern "C" fn congee_c_remove(handle: &mut Handle, key: u64, before: &mut u64) -> i32
     ensures code { result ≡ is_there (lookup handle.old.held.map.pairs key) }
@@ -124,8 +124,8 @@ pub extern "C" fn congee_c_remove(handle: &mut Handle, key: u64, before: &mut u6
     answer(handle.as_mut().map.remove(&key), before)
 }
 
-/// Where `expected` stands at the key, puts `desired` there and answers 1. Where another value stands there, writes it to
-/// `found` and answers 2. Where the key is absent, answers 0. Takes no memory.
+/// If the key's value is `expected`, replaces it by `desired` and answers 1. If it is another, writes it to `found` and
+/// answers 2. If the key is absent, answers 0. Takes no memory.
 #[unsafe(no_mangle)]
 pub extern "C" fn congee_c_compare_exchange(
     handle: &mut Handle,
@@ -142,11 +142,11 @@ pub extern "C" fn congee_c_compare_exchange(
         → (result ≡ pos 1)
         × (handle.new.held.map.pairs ≡ put handle.old.held.map.pairs key desired)
         × (found.new ≡ found.old) }
-    ensures other { (standing : ℕ) → lookup handle.old.held.map.pairs key ≡ Some standing
-        → standing ≢ expected
+    ensures other { (current : ℕ) → lookup handle.old.held.map.pairs key ≡ Some current
+        → current ≢ expected
         → (result ≡ pos 2)
         × (handle.new.held.map.pairs ≡ handle.old.held.map.pairs)
-        × (found.new ≡ standing) }
+        × (found.new ≡ current) }
     ensures charge { ChargedAlike limit_charge handle.old.held.map handle.new.held.map }
     ensures place { handle.new.ptr ≡ handle.old.ptr }
 {
@@ -154,15 +154,15 @@ pub extern "C" fn congee_c_compare_exchange(
     match held.map.compare_exchange(&key, &expected, Some(desired)) {
         Ok(_) => 1,
         Err(None) => 0,
-        Err(Some(standing)) => {
-            *found = standing;
+        Err(Some(current)) => {
+            *found = current;
             2
         }
     }
 }
 
-/// Writes the first pairs with keys from `start` on and below `end`, keys ascending, as many as there are or as fit, and
-/// answers how many. The rest of the buffer stays. Takes no memory.
+/// Writes the first pairs with keys from `start` on and below `end`, keys ascending, as many as there are or as fit,
+/// and answers how many. The rest of the buffer stays. Takes no memory.
 #[unsafe(no_mangle)]
 pub extern "C" fn congee_c_range(
     handle: &mut Handle,
@@ -191,7 +191,7 @@ pub extern "C" fn congee_c_is_empty(handle: &mut Handle) -> bool
     handle.as_mut().map.is_empty()
 }
 
-/// How many pairs there are, or the greatest `u64` where there are more. Takes constant time.
+/// How many pairs there are; saturates at `u64::MAX`. Takes constant time.
 #[unsafe(no_mangle)]
 pub extern "C" fn congee_c_count(handle: &mut Handle) -> u64
     ensures count { result ≡ capped (length handle.old.held.map.pairs) }
@@ -201,8 +201,8 @@ pub extern "C" fn congee_c_count(handle: &mut Handle) -> u64
     narrowed(handle.as_mut().map.value_count())
 }
 
-/// The sum in bytes of the stated sizes of the map's nodes, which its limit is charged for, or the greatest `u64` where it is
-/// more: 2104 for an empty map. Takes constant time.
+/// The sum in bytes of the stated sizes of the map's nodes, which its limit is charged for: 2104 for an empty map.
+/// Saturates at `u64::MAX`. Takes constant time.
 #[unsafe(no_mangle)]
 pub extern "C" fn congee_c_charged(handle: &mut Handle) -> u64
     ensures charge { result ≡ capped (charge_of handle.old.held.map.nodes) }
@@ -227,7 +227,7 @@ fn answer(value: Option<u64>, place: &mut u64) -> i32
     }
 }
 
-// The number, or the greatest `u64` where it is more.
+// The number; saturates at `u64::MAX`.
 fn narrowed(number: u128) -> u64
     ensures { result ≡ capped number }
 {

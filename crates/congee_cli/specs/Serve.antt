@@ -1,9 +1,9 @@
 -- What the program is asked for, and how it ends.
 use Rattle.std.specs.Prelude.{◌≡◌, ℕ, ◌<◌, ◌^◌, List, [], ◌∷◌, Option, Some, None, Result, Ok, Err, codes, decimal}
-use Rattle.congee_schedule.specs.declared.schedule.ScheduleError.{ScheduleError}
-use Rattle.congee_schedule.specs.declared.schedule.ScheduleError.TheVariants as schedule
-use Rattle.congee_service.specs.declared.run.RunError.{RunError}
-use Rattle.congee_service.specs.declared.run.RunError.TheVariants as run
+use Rattle.text_schedule.specs.declared.schedule.ScheduleError.{ScheduleError}
+use Rattle.text_schedule.specs.declared.schedule.ScheduleError.TheVariants as schedule
+use Rattle.text_run.specs.declared.run.RunError.{RunError}
+use Rattle.text_run.specs.declared.run.RunError.TheVariants as run
 
 -- the words after the program's name ask for a run, with this limit if there is one
 abbrev pub AsksRun : List (List ℕ) → Option ℕ → Type 0

@@ -1,20 +1,20 @@
-//! The program `congee`: serves commands on an ordered map, or replays a schedule of the protocol's events, a line each.
+//! The program `congee`: serves commands on an ordered map, or replays a schedule of the protocol's events.
 #![tactic(auto)]
 
 pub mod serve;
 #[cfg(test)]
 mod tests;
 
-use crate::serve::{serve, tell_no_memory};
-use congee_lines::watched::Watched;
+use crate::serve::{report_no_memory, serve};
 use std::alloc::AllocError;
 use std::env;
 use std::io::ErrorKind;
 use std::process::ExitCode;
+use text_lines::watched::Watched;
 
 fn main(rt: HostRuntime) -> ExitCode {
     let Ok(words) = words_of(&rt) else {
-        return ExitCode::from(tell_no_memory(&mut rt.stderr()));
+        return ExitCode::from(report_no_memory(&mut rt.stderr()));
     };
     let mut input = Watched::new(rt.stdin());
     let mut output = Watched::new(rt.stdout());
@@ -28,8 +28,8 @@ fn main(rt: HostRuntime) -> ExitCode {
     ExitCode::from(status)
 }
 
-// The words after the program's name. Where one of them is no text there are none, and nothing is
-// served. An error is want of memory.
+// The words after the program's name. If one of them isn't text there are none, and nothing is
+// served. An error means that there is no memory.
 fn words_of(rt: &HostRuntime) -> Result<Vec<String>, AllocError> {
     match env::args(rt) {
         Ok(mut all) => {

@@ -1,32 +1,32 @@
 //! The program, but for its streams.
 
 ghost use Rattle.std.specs.Prelude.{◌≡◌, ℕ, ◌↔◌, Option, Result, IfSome, IfNone, map, string_bytes};
-ghost use Rattle.congee_lines.specs.Watched.{HasFailed};
-ghost use Rattle.congee_schedule.specs.Schedule.{EndsSchedule};
-ghost use Rattle.congee_schedule.specs.declared.schedule.ScheduleError.{ScheduleError as HowScheduled};
-ghost use Rattle.congee_service.specs.Run.{EndsRun};
-ghost use Rattle.congee_service.specs.declared.run.RunError.{RunError as HowRun};
+ghost use Rattle.text_lines.specs.Watched.{HasFailed};
+ghost use Rattle.text_schedule.specs.Schedule.{EndsSchedule};
+ghost use Rattle.text_schedule.specs.declared.schedule.ScheduleError.{ScheduleError as HowScheduled};
+ghost use Rattle.text_run.specs.Run.{EndsRun};
+ghost use Rattle.text_run.specs.declared.run.RunError.{RunError as HowRun};
 ghost use Rattle.congee_cli.specs.Serve.{AsksRun, AsksSchedule, AsksNothing, run_status, schedule_status};
-ghost use Rattle.congee_cli.specs.inner.Asked.{Asks};
+ghost use Rattle.congee_cli.specs.inner.Asked.{AsksMode};
 
-use congee_lines::number::number;
-use congee_lines::pending::Pending;
-use congee_lines::watched::Watched;
-use congee_schedule::schedule::{ScheduleError, schedule};
-use congee_service::run::{RunError, run};
 use std::alloc::Global;
 use std::io::{Read, Write};
+use text_lines::number::number;
+use text_lines::pending::Pending;
+use text_lines::watched::Watched;
+use text_run::run::{RunError, run};
+use text_schedule::schedule::{ScheduleError, schedule};
 
 /// What the words after the program's name ask for.
 #[derive(Clone, Copy)]
-enum Asked {
+enum Mode {
     /// A run, with a limit in bytes for the nodes of the map or without one.
     Run(Option<u64>),
     Schedule,
 }
 
 /// Does what the words after the program's name ask for, and returns the exit status. The words are
-/// judged before anything is read. What went wrong is told on `errors` in one line; whether that
+/// checked before anything is read. What went wrong is written to `errors` in one line; whether that
 /// works changes nothing.
 pub fn serve<R: Read, W: Write, E: Write>(
     alloc: Global,
@@ -53,21 +53,21 @@ pub fn serve<R: Read, W: Write, E: Write>(
     ensures untouched { result ≡ 2 → (input.new ≡ input.old) × (output.new ≡ output.old) }
 {
     match asked_by(words) {
-        Some(Asked::Run(limit)) => end_run(errors, run(alloc, input, output, limit)),
-        Some(Asked::Schedule) => end_schedule(errors, schedule(alloc, input, output)),
+        Some(Mode::Run(limit)) => end_run(errors, run(alloc, input, output, limit)),
+        Some(Mode::Schedule) => end_schedule(errors, schedule(alloc, input, output)),
         None => tell(errors, 2, b"usage: congee run [LIMIT] | congee schedule\n"),
     }
 }
 
-// Tells how a run ended, and returns the status.
+// Writes why a run failed, if it did, and returns the status.
 fn end_run<E: Write>(errors: &mut E, ended: Result<(), RunError>) -> u8
     ensures { result ≡ run_status ended }
 {
     match ended {
         Ok(()) => 0,
-        Err(RunError::Read) => tell_broken(errors),
-        Err(RunError::Write) => tell_broken(errors),
-        Err(RunError::Oom) => tell_no_memory(errors),
+        Err(RunError::Read) => report_broken(errors),
+        Err(RunError::Write) => report_broken(errors),
+        Err(RunError::Oom) => report_no_memory(errors),
     }
 }
 
@@ -77,28 +77,28 @@ fn end_schedule<E: Write>(errors: &mut E, ended: Result<(), ScheduleError>) -> u
 {
     match ended {
         Ok(()) => 0,
-        Err(ScheduleError::Read) => tell_broken(errors),
-        Err(ScheduleError::Write) => tell_broken(errors),
-        Err(ScheduleError::Oom) => tell_no_memory(errors),
-        Err(ScheduleError::Line(number)) => tell_bad_line(errors, number),
+        Err(ScheduleError::Read) => report_broken(errors),
+        Err(ScheduleError::Write) => report_broken(errors),
+        Err(ScheduleError::Oom) => report_no_memory(errors),
+        Err(ScheduleError::Line(number)) => report_bad_line(errors, number),
         Err(ScheduleError::Events) => tell(errors, 4, b"congee: too many events\n"),
     }
 }
 
-fn tell_broken<E: Write>(errors: &mut E) -> u8
+fn report_broken<E: Write>(errors: &mut E) -> u8
     ensures { result ≡ 1 }
 {
     tell(errors, 1, b"congee: input or output failed\n")
 }
 
-/// Tells on `errors` that memory was missing, and returns the exit status for it.
-pub fn tell_no_memory<E: Write>(errors: &mut E) -> u8
+/// Writes to `errors` that memory was missing, and returns the exit status for it.
+pub fn report_no_memory<E: Write>(errors: &mut E) -> u8
     ensures { result ≡ 3 }
 {
     tell(errors, 3, b"congee: Allocator is out of memory!\n")
 }
 
-fn tell_bad_line<E: Write>(errors: &mut E, number: u64) -> u8
+fn report_bad_line<E: Write>(errors: &mut E, number: u64) -> u8
     ensures { result ≡ 4 }
 {
     let mut text = Pending::new();
@@ -117,16 +117,16 @@ fn tell<E: Write>(errors: &mut E, status: u8, text: &[u8]) -> u8
 }
 
 // What the words ask for. `None` where they ask for nothing that there is.
-fn asked_by(words: &[String]) -> Option<Asked>
-    ensures some { IfSome result (Asks (map string_bytes words.now)) }
+fn asked_by(words: &[String]) -> Option<Mode>
+    ensures some { IfSome result (AsksMode (map string_bytes words.now)) }
     ensures none { IfNone result (AsksNothing (map string_bytes words.now)) }
 {
     match words {
-        [name] if name.as_str() == "run" => Some(Asked::Run(None)),
+        [name] if name.as_str() == "run" => Some(Mode::Run(None)),
         [name, limit] if name.as_str() == "run" => {
-            Some(Asked::Run(Some(number(limit.as_bytes())?)))
+            Some(Mode::Run(Some(number(limit.as_bytes())?)))
         }
-        [name] if name.as_str() == "schedule" => Some(Asked::Schedule),
+        [name] if name.as_str() == "schedule" => Some(Mode::Schedule),
         _ => None,
     }
 }

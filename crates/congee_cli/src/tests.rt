@@ -3,18 +3,18 @@
 mod schedules;
 
 use crate::serve::serve;
-use congee_lines::watched::Watched;
 use std::alloc::{AllocError, Global};
 use std::io;
 use std::io::{ErrorKind, Read, Write};
 use std::test::Fail;
+use text_lines::watched::Watched;
 
 const USAGE: &str = "usage: congee run [LIMIT] | congee schedule\n";
 
 const BROKEN: &str = "congee: input or output failed\n";
 
-/// What a run gives. It is `Copy`: what a run owns stays in helpers that return it or a `bool`, since each assertion
-/// beside an owned value makes a test dearer to prove.
+/// The outcome of a run. It is `Copy`: what a run owns stays in helpers that return it or a `bool`, since each
+/// assertion beside an owned value makes a test more expensive to prove.
 #[derive(Clone, Copy)]
 struct Outcome<'a> {
     status: u8,
@@ -45,7 +45,7 @@ fn words_of(alloc: Global, words: &[&str]) -> Result<Vec<String>, AllocError> {
     Ok(list)
 }
 
-// Whether a run of the words has this status, tells this, and its streams failed or not.
+// Whether a run of the words has this status, writes this to `errors`, and its streams failed or not.
 fn ends<R: Read + Drop, W: Write>(
     alloc: Global,
     words: &[String],
@@ -68,7 +68,7 @@ fn ends<R: Read + Drop, W: Write>(
         && output.failed() == wanted.writer_failed
 }
 
-// Whether a run of the words gives this.
+// Whether a run of the words has this outcome.
 fn gives<R: Read + Drop>(
     alloc: Global,
     words: &[&str],
@@ -248,7 +248,7 @@ fn add_listed(text: &mut String, count: u64, with_values: bool) -> Result<(), Al
     text.push_str("\n")
 }
 
-// What such lines give a writer with room for all of it, and one that is full after so many bytes.
+// Whether such lines are answered in full to a writer with room, or in part to one that is full after so many bytes.
 fn gives_list(
     alloc: Global,
     line: &str,
@@ -292,7 +292,7 @@ fn answers_longer_than_the_buffer(rt: HostRuntime) -> Result<(), Fail> {
     Ok(())
 }
 
-// Gives its bytes, a few at a time. Before the rest of them it fails once, or says once that there are no more.
+// Gives its bytes, a few at a time. Before the rest of them it fails once, or reports once that there are no more.
 #[derive(Drop)]
 struct Torn<'a> {
     first: &'a [u8],
@@ -418,8 +418,8 @@ impl Write for Full {
     }
 }
 
-// Whether what this word asks for, at a writer with room for so many bytes, breaks off, and has written the first ones of
-// these.
+// Whether what this word asks for, at a writer with room for so many bytes, breaks off, and has written the first ones
+// of these.
 fn fills(
     alloc: Global,
     word: &str,

@@ -6,17 +6,14 @@ mod stats;
 mod tree_node;
 
 ghost use Rattle.std.specs.Prelude.{◌≡◌, ℕ, ◌+◌, []};
-ghost use Rattle.congee_base.specs.Form.{Fits};
+ghost use Rattle.node_base.specs.Form.{Fits};
 
-use crate::any_node::AnyNode;
-use crate::base_node::{CopyTo, Node, NodeSize, NodeType, grown};
-use crate::error::OOMError;
+use crate::base_node::{CopyTo, Node, NodeSize, NodeType};
 use crate::node_4::Node4;
 use crate::node_16::Node16;
 use crate::node_48::Node48;
 use crate::node_256::Node256;
-use congee_base::few::Few;
-use std::alloc::Global;
+use node_base::few::Few;
 use std::mem::size_of;
 use std::process::Abort;
 use std::test::Fail;
@@ -42,7 +39,7 @@ fn take<N: Node<u32>>(node: &mut N, byte: u8) -> Option<u32> {
     Some(node.remove(byte))
 }
 
-// Whether a scan gives exactly these.
+// Whether a scan returns exactly these.
 fn scans<N: Node<u32>>(node: &N, start: u8, end: u8, wanted: &[(u8, u32)]) -> bool {
     let mut children = node.get_children(start, end);
     for (byte, child) in wanted {
@@ -74,7 +71,7 @@ fn puts<N: Node<u32>>(node: &mut N, children: &[(u8, u32)]) -> bool {
     true
 }
 
-// Takes what stands under these bytes out; whether that is what is wanted.
+// Removes the children under these bytes; whether they are the wanted ones.
 fn takes<N: Node<u32>>(node: &mut N, wanted: &[(u8, Option<u32>)]) -> bool {
     for (byte, child) in wanted {
         if take(node, *byte) != *child {
@@ -84,7 +81,7 @@ fn takes<N: Node<u32>>(node: &mut N, wanted: &[(u8, Option<u32>)]) -> bool {
     true
 }
 
-// Whether this stands under these bytes.
+// Whether these are the children under these bytes.
 fn finds<N: Node<u32>>(node: &N, wanted: &[(u8, Option<u32>)]) -> bool {
     for (byte, child) in wanted {
         if node.get_child(*byte).copied() != *child {
@@ -121,7 +118,7 @@ fn scans_rows<N: Node<u32>>(node: &N) -> bool {
     true
 }
 
-// Every call of the contract at one form. The node is empty at first, under the prefix 7, 8. Whether each step is right.
+// Every call of the contract at one form. The node is empty at first, under the prefix 7, 8. Whether each is right.
 fn calls<N: Node<u32>>(node: &mut N, form: NodeType, capacity: Option<u16>) -> [bool; 11] {
     let room = capacity.unwrap_or(60);
     [
@@ -152,13 +149,8 @@ fn every_call_at_every_form(rt: HostRuntime) -> Result<(), Fail> {
         calls(&mut Node16::new(alloc, prefix)?, NodeType::N16, Some(16)),
         calls(&mut Node48::new(alloc, prefix)?, NodeType::N48, Some(48)),
         calls(&mut Node256::new(alloc, prefix)?, NodeType::N256, None),
-        calls(
-            &mut AnyNode::N4(Node4::new(alloc, prefix)?),
-            NodeType::N4,
-            Some(4),
-        ),
     ];
-    assert_eq!(rt; right, [[true; 11]; 5]);
+    assert_eq!(rt; right, [[true; 11]; 4]);
     Ok(())
 }
 
@@ -194,7 +186,7 @@ fn removed_places_are_used_again(rt: HostRuntime) -> Result<(), Fail> {
     Ok(())
 }
 
-// Two children, of which the second is taken out: its byte still stands past the count.
+// Two children, of which the second is removed: its byte is still in the array, past the count.
 fn forgets_a_byte<N: Node<u32>>(node: &mut N) -> bool {
     puts(node, &[(3, 30), (7, 70)]) && takes(node, &[(7, Some(70))]) && finds(node, &[(7, None)])
 }
@@ -217,17 +209,25 @@ fn bytes_past_the_count_never_match(rt: HostRuntime) -> Result<(), Fail> {
 }
 
 // Fills a node, into which so many go, and makes it larger by one child: 100 and the byte, under the byte.
-fn grows<A: Node<u32>, B: Node<u32>>(rt: &impl Abort, mut old: A, into: B, room: u8, byte: u8) -> B
+fn grows<A: Node<u32>, B: Node<u32>>(
+    rt: &impl Abort,
+    mut old: A,
+    mut into: B,
+    room: u8,
+    byte: u8,
+) -> B
     requires empty { B.children into ≡ [] }
     requires room { (a : A) (n : ℕ) → Fits (A.form a) n → Fits (B.form into) (n + 1) }
 {
     assert!(rt; fill(&mut old, 60) == room);
     let _ = old.base();
     assert!(rt; old.get_child(byte).is_none());
-    grown(old, into, byte, u32::from(byte).wrapping_add(100))
+    old.copy_to(&mut into);
+    assert!(rt; put(&mut into, byte, u32::from(byte).wrapping_add(100)));
+    into
 }
 
-// Whether a node has this prefix and so many children, and a scan from 0 gives these.
+// Whether a node has this prefix and so many children, and a scan from 0 returns these.
 fn has<N: Node<u32>>(node: &N, prefix: u8, count: u16, end: u8, wanted: &[(u8, u32)]) -> bool {
     node.base().prefix() == [prefix].as_slice()
         && node.base().value_count() == count
@@ -258,24 +258,6 @@ fn growth_keeps_every_child(rt: HostRuntime) -> Result<(), Fail> {
     Ok(())
 }
 
-// Puts a child under each byte, in steps of so many from 0 on, and grows the node where it is full.
-fn grows_through_all_forms(
-    alloc: Global,
-    node: &mut AnyNode<u32>,
-    step: u8,
-) -> Result<bool, OOMError> {
-    for i in 0..=255u8 {
-        let byte = i.wrapping_mul(step);
-        if node.is_full() {
-            node.grow(alloc)?;
-        }
-        if !put(node, byte, u32::from(byte).wrapping_mul(3)) {
-            return Ok(false);
-        }
-    }
-    Ok(has_every_byte(node) && has_base(node, NodeType::N256, &[7, 8], 256))
-}
-
 // Whether each byte has three times itself.
 fn has_every_byte<N: Node<u32>>(node: &N) -> bool {
     for byte in 0..=255u8 {
@@ -289,17 +271,8 @@ fn has_every_byte<N: Node<u32>>(node: &N) -> bool {
 // Ascending, descending and without order: an odd step comes to each byte once.
 const STEPS: [u8; 3] = [1, 255, 167];
 
-#[test]
-fn one_value_grows_through_all_forms(rt: HostRuntime) -> Result<(), Fail> {
-    for step in STEPS {
-        let mut node = AnyNode::N4(Node4::new(rt.alloc(), &[7, 8])?);
-        let is_right = grows_through_all_forms(rt.alloc(), &mut node, step)?;
-        assert!(rt; is_right);
-    }
-    Ok(())
-}
-
-// Fills an empty node, its bytes in steps of so many. Whether each call is then right, and once a child is out and in again.
+// Fills an empty node, its bytes in steps of so many. Whether each call is then right, and once a child is out and in
+// again.
 fn fills_every_byte<N: Node<u32>>(node: &mut N, step: u8) -> [bool; 9] {
     let mut room = true;
     for i in 0..=255u8 {
@@ -349,8 +322,7 @@ fn sizes_are_stated(rt: HostRuntime) -> Result<(), Fail> {
         size_of::<Node16<u64>>(),
         size_of::<Node48<u64>>(),
         size_of::<Node256<u64>>(),
-        size_of::<AnyNode<u64>>(),
     ];
-    assert_eq!(rt; sizes, [40, 56, 56, 48, 48, 64]);
+    assert_eq!(rt; sizes, [40, 56, 56, 48, 48]);
     Ok(())
 }

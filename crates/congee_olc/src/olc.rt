@@ -1,5 +1,5 @@
 //! The machine.
 
-pub use congee_machine::machine;
-pub use congee_protocol::{payload, trace, types};
-pub use congee_replay::replay;
+pub use olc_machine::machine;
+pub use olc_replay::replay;
+pub use spec_olc::{payload, trace, types};

@@ -1,4 +1,20 @@
 //! Lock words and pins, call by call.
 
+mod closures;
+mod courses;
 mod epoch;
+mod insertions;
 mod lock;
+mod longest;
+mod machine;
+mod many_pairs;
+mod memory;
+mod pairs;
+mod parts;
+mod range_oracle;
+mod range_owners;
+mod ranges;
+mod reclaiming;
+mod refusals;
+mod removals;
+mod schedules;

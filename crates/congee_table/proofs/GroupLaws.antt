@@ -2,11 +2,11 @@
 use Rattle.std.proofs.Common.{◌≡◌, ◌≢◌, ℕ, ◌+◌, ◌%◌, ◌^◌, ◌<◌, ◌≤◌, Bool, true, false, if◌then◌else◌, ◌==◌, ◌&&◌, nat_le, [], ◌∷◌, Option, Some, None, map, refl, ap, sym, subst, ◌∙◌, arith, inl, inr}
 use Rattle.std.proofs.lemmas.Option.{some_pair_parts, none-some}
 use Rattle.std.proofs.lemmas.Bool.{lt-ltb, le-ltb, lt-leb, le-leb, eq-eqb, ne_eqb, cases_eq, cases_lt}
-use Rattle.congee_map.specs.Map.{Pairs, lookup, between, Rises}
-use Rattle.congee_map.proofs.MapLaws.{Rises-wider, lookup-below, lookup-between_inside, lookup-between_outside, same_from_lookups}
-use Rattle.congee_map.proofs.JoinLaws.{lookup-above}
+use Rattle.spec_map.specs.Map.{Pairs, lookup, between, Rises}
+use Rattle.spec_map.proofs.MapLaws.{Rises-wider, lookup-below, lookup-between_inside, lookup-between_outside, same_from_lookups}
+use Rattle.spec_map.proofs.JoinLaws.{lookup-above}
 use Rattle.congee_table.specs.Rows.{Rows, group_rows}
-use Rattle.congee_table.specs.Index.{joined, rows_of, AreIndexes}
+use Rattle.congee_table.specs.Index.{joined_halves, rows_of, AreIndexes}
 use Rattle.congee_table.proofs.IndexLaws.{Serves, serves, unserved}
 
 -- the pairs of a range ascend within it
@@ -38,22 +38,22 @@ Rises-inside low high s e (x ∷ xs) h =
 abbrev pub ids : Pairs ℕ → Pairs ℕ
 ids es = map (λ e. (e.0 % 2 ^ 32, e.1)) es
 
-Rises-ids : (g a : ℕ) (es : Pairs ℕ) → Rises (joined g a) (joined g (2 ^ 32)) es → Rises a (2 ^ 32) (ids es)
+Rises-ids : (g a : ℕ) (es : Pairs ℕ) → Rises (joined_halves g a) (joined_halves g (2 ^ 32)) es → Rises a (2 ^ 32) (ids es)
 Rises-ids g a [] h = tt
 Rises-ids g a (x ∷ xs) h =
-    let next : x.0 + 1 ≡ joined g (x.0 % 2 ^ 32 + 1) = omega (arith, h.0, h.1) in
-    (omega (arith, h.0, h.1), omega arith, Rises-ids g (x.0 % 2 ^ 32 + 1) xs (subst (λ n. Rises n (joined g (2 ^ 32)) xs) next h.2))
+    let next : x.0 + 1 ≡ joined_halves g (x.0 % 2 ^ 32 + 1) = omega (arith, h.0, h.1) in
+    (omega (arith, h.0, h.1), omega arith, Rises-ids g (x.0 % 2 ^ 32 + 1) xs (subst (λ n. Rises n (joined_halves g (2 ^ 32)) xs) next h.2))
 
-lookup-ids : (g a k : ℕ) (es : Pairs ℕ) → Rises (joined g a) (joined g (2 ^ 32)) es → k < 2 ^ 32 → lookup (ids es) k ≡ lookup es (joined g k)
+lookup-ids : (g a k : ℕ) (es : Pairs ℕ) → Rises (joined_halves g a) (joined_halves g (2 ^ 32)) es → k < 2 ^ 32 → lookup (ids es) k ≡ lookup es (joined_halves g k)
 lookup-ids g a k [] h small = refl
 lookup-ids g a k (x ∷ xs) h small =
-    let next : x.0 + 1 ≡ joined g (x.0 % 2 ^ 32 + 1) = omega (arith, h.0, h.1) in
-    elim (cases_eq x.0 (joined g k)) [
-      | inl same ↦ rw (eq-eqb x.0 (joined g k) same, eq-eqb (x.0 % 2 ^ 32) k (omega arith)) refl
+    let next : x.0 + 1 ≡ joined_halves g (x.0 % 2 ^ 32 + 1) = omega (arith, h.0, h.1) in
+    elim (cases_eq x.0 (joined_halves g k)) [
+      | inl same ↦ rw (eq-eqb x.0 (joined_halves g k) same, eq-eqb (x.0 % 2 ^ 32) k (omega arith)) refl
       | inr other ↦
           let apart : x.0 % 2 ^ 32 ≢ k = λ e. other (omega (arith, h.0, h.1)) in
-          rw (ne_eqb x.0 (joined g k) other, ne_eqb (x.0 % 2 ^ 32) k apart)
-          (lookup-ids g (x.0 % 2 ^ 32 + 1) k xs (subst (λ n. Rises n (joined g (2 ^ 32)) xs) next h.2) small)
+          rw (ne_eqb x.0 (joined_halves g k) other, ne_eqb (x.0 % 2 ^ 32) k apart)
+          (lookup-ids g (x.0 % 2 ^ 32 + 1) k xs (subst (λ n. Rises n (joined_halves g (2 ^ 32)) xs) next h.2) small)
     ]
 
 -- a row or none, by a test
@@ -103,33 +103,33 @@ module _ (g from : ℕ) where
       ]
 
   -- from there on the second index has the values of the group's rows
-  served : (t : Rows) (second : Pairs ℕ) (k : ℕ) → Serves t second → k < 2 ^ 32 → from ≤ k → lookup second (joined g k) ≡ of_group k (lookup t k)
+  served : (t : Rows) (second : Pairs ℕ) (k : ℕ) → Serves t second → k < 2 ^ 32 → from ≤ k → lookup second (joined_halves g k) ≡ of_group k (lookup t k)
   served t second k h small l = by_row (lookup t k) refl where
-    by_row : (found : Option (ℕ × ℕ)) → lookup t k ≡ found → lookup second (joined g k) ≡ of_group k found
+    by_row : (found : Option (ℕ × ℕ)) → lookup t k ≡ found → lookup second (joined_halves g k) ≡ of_group k found
     by_row None none = unserved t second g k h small (λ w is. none-some (g, w) (sym none ∙ is))
     by_row (Some (group, value)) is =
         elim (cases_eq group g) [
-          | inl same ↦ rw (eq-eqb group g same, le-leb from k l) (ap (λ n. lookup second (joined n k)) (sym same) ∙ h.has k group value is)
+          | inl same ↦ rw (eq-eqb group g same, le-leb from k l) (ap (λ n. lookup second (joined_halves n k)) (sym same) ∙ h.has k group value is)
           | inr other ↦
               rw (ne_eqb group g other)
               (unserved t second g k h small (λ w is'. other (some_pair_parts group g value w (sym is ∙ is')).0))
         ]
 
   module _ (first second : Pairs ℕ) (h : AreIndexes first second) (small_from : from < 2 ^ 32) where
-    scanned : (k : ℕ) → lookup (ids (between second (joined g from) (joined g (2 ^ 32)))) k ≡ lookup (group_rows (rows_of first) g from) k
+    scanned : (k : ℕ) → lookup (ids (between second (joined_halves g from) (joined_halves g (2 ^ 32)))) k ≡ lookup (group_rows (rows_of first) g from) k
     scanned k =
-        let part = between second (joined g from) (joined g (2 ^ 32)) in
-        let inside = Rises-inside 0 (2 ^ 64) (joined g from) (joined g (2 ^ 32)) second h.numbers in
+        let part = between second (joined_halves g from) (joined_halves g (2 ^ 32)) in
+        let inside = Rises-inside 0 (2 ^ 64) (joined_halves g from) (joined_halves g (2 ^ 32)) second h.numbers in
         let rows = lookup-group_rows 0 (2 ^ 32) (rows_of first) k h.ids in
         elim (cases_lt k (2 ^ 32)) [
           | inl small ↦
               lookup-ids g from k part inside small ∙
               elim (cases_lt k from) [
                 | inl less ↦
-                    lookup-between_outside second (joined g from) (joined g (2 ^ 32)) (joined g k) (inl (omega arith))
+                    lookup-between_outside second (joined_halves g from) (joined_halves g (2 ^ 32)) (joined_halves g k) (inl (omega arith))
                     ∙ sym (rows ∙ before_from k (lookup (rows_of first) k) less)
                 | inr on ↦
-                    lookup-between_inside second (joined g from) (joined g (2 ^ 32)) (joined g k) (omega arith) (omega arith)
+                    lookup-between_inside second (joined_halves g from) (joined_halves g (2 ^ 32)) (joined_halves g k) (omega arith) (omega arith)
                     ∙ served (rows_of first) second k (serves first second h) small on ∙ sym rows
               ]
           | inr more ↦
@@ -137,14 +137,14 @@ module _ (g from : ℕ) where
               ∙ sym (lookup-above 0 (2 ^ 32) (group_rows (rows_of first) g from) k (Rises-group_rows 0 (2 ^ 32) (rows_of first) h.ids) more)
         ]
 
-    scan_whole : ids (between second (joined g from) (joined g (2 ^ 32))) ≡ group_rows (rows_of first) g from
+    scan_whole : ids (between second (joined_halves g from) (joined_halves g (2 ^ 32))) ≡ group_rows (rows_of first) g from
     scan_whole =
-        let part = between second (joined g from) (joined g (2 ^ 32)) in
-        let inside = Rises-inside 0 (2 ^ 64) (joined g from) (joined g (2 ^ 32)) second h.numbers in
+        let part = between second (joined_halves g from) (joined_halves g (2 ^ 32)) in
+        let inside = Rises-inside 0 (2 ^ 64) (joined_halves g from) (joined_halves g (2 ^ 32)) second h.numbers in
         same_from_lookups from (2 ^ 32) 0 (2 ^ 32) (ids part) (group_rows (rows_of first) g from)
         (Rises-ids g from part inside) (Rises-group_rows 0 (2 ^ 32) (rows_of first) h.ids) scanned
 
-    pub scan_is : (start last : ℕ) → start ≡ joined g from → last ≡ joined g 4294967295 → ids (between second start (last + 1)) ≡ group_rows (rows_of first) g from
+    pub scan_is : (start last : ℕ) → start ≡ joined_halves g from → last ≡ joined_halves g 4294967295 → ids (between second start (last + 1)) ≡ group_rows (rows_of first) g from
     scan_is start last start_is last_is =
-        let after : last + 1 ≡ joined g (2 ^ 32) = omega arith in
+        let after : last + 1 ≡ joined_halves g (2 ^ 32) = omega arith in
         (λ i. ids (between second (start_is i) (after i))) ∙ scan_whole

@@ -1,12 +1,12 @@
--- The rows that a first index stands for, after a change.
+-- The rows that a first index represents, after a change.
 use Rattle.std.proofs.Common.{◌≡◌, ℕ, ◌/◌, ◌%◌, ◌^◌, ◌<◌, [], ◌∷◌, Option, Some, None, refl, ap, sym, ◌∙◌, arith, inl, inr}
 use Rattle.std.specs.Option.{option_map}
 use Rattle.std.proofs.lemmas.Option.{same_Some, some_pair_parts}
 use Rattle.std.proofs.lemmas.Bool.{lt-ltb, le-ltb, eq-eqb, ne_eqb, cases_order, cases_eq}
-use Rattle.congee_map.specs.Map.{Pairs, lookup, put, without}
-use Rattle.congee_table.specs.Rows.{Rows, row_at, IsIn, moved, regrouped}
+use Rattle.spec_map.specs.Map.{Pairs, lookup, put, without}
+use Rattle.congee_table.specs.Rows.{Rows, row_at, IsInGroup, moved, regrouped}
 use Rattle.congee_table.specs.declared.table.Row.{Row}
-use Rattle.congee_table.specs.Index.{joined, rows_of}
+use Rattle.congee_table.specs.Index.{joined_halves, rows_of}
 
 -- the group and the value of a number
 abbrev pub parts : ℕ → ℕ × ℕ
@@ -33,7 +33,7 @@ no_row_at first k none = ap (option_map (λ (e : ℕ × ℕ). record { id = k; g
 pub row_at_number : (first : Pairs ℕ) (k n : ℕ) → lookup first k ≡ Some n → row_at (rows_of first) k ≡ Some (record { id = k; group = n / 2 ^ 32; value = n % 2 ^ 32 })
 row_at_number first k n is = ap (option_map (λ (e : ℕ × ℕ). record { id = k; group = e.0; value = e.1 })) (row_of_number first k n is)
 
--- a number that the map answers is read as itself
+-- a number that the map returns is read as itself
 pub number_read : (found : Option ℕ) (n : ℕ) → Some n ≡ option_map (λ number. number) found → found ≡ Some n
 number_read None n is = absurd (cc)
 number_read (Some m) n is = sym is
@@ -42,13 +42,13 @@ pub none_read : (found : Option ℕ) → None ≡ option_map (λ number. number)
 none_read None is = refl
 none_read (Some m) is = absurd (cc)
 
-pub number_of_row : (first : Pairs ℕ) (k g v : ℕ) → lookup (rows_of first) k ≡ Some (g, v) → lookup first k ≡ Some (joined g v)
+pub number_of_row : (first : Pairs ℕ) (k g v : ℕ) → lookup (rows_of first) k ≡ Some (g, v) → lookup first k ≡ Some (joined_halves g v)
 number_of_row first k g v is = rejoined (lookup first k) g v (rw (lookup-rows_of first k) at is) where
-  rejoined : (found : Option ℕ) (g v : ℕ) → option_map parts found ≡ Some (g, v) → found ≡ Some (joined g v)
+  rejoined : (found : Option ℕ) (g v : ℕ) → option_map parts found ≡ Some (g, v) → found ≡ Some (joined_halves g v)
   rejoined None g v is = absurd (cc)
   rejoined (Some n) g v is =
       let both = some_pair_parts (n / 2 ^ 32) g (n % 2 ^ 32) v is in
-      let whole : n ≡ joined g v = omega (arith, both.0, both.1) in
+      let whole : n ≡ joined_halves g v = omega (arith, both.0, both.1) in
       ap Some whole
 
 pub rows_of-put : (first : Pairs ℕ) (k n : ℕ) → rows_of (put first k n) ≡ put (rows_of first) k (parts n)
@@ -61,11 +61,11 @@ rows_of-put (e ∷ es) k n =
     ]
 
 -- the rows after a number that joins a group and a value
-pub rows_of-put_joined : (first : Pairs ℕ) (k g v : ℕ) → v < 2 ^ 32 → rows_of (put first k (joined g v)) ≡ put (rows_of first) k (g, v)
+pub rows_of-put_joined : (first : Pairs ℕ) (k g v : ℕ) → v < 2 ^ 32 → rows_of (put first k (joined_halves g v)) ≡ put (rows_of first) k (g, v)
 rows_of-put_joined first k g v small =
-    let high : joined g v / 2 ^ 32 ≡ g = omega arith in
-    let low : joined g v % 2 ^ 32 ≡ v = omega arith in
-    rows_of-put first k (joined g v) ∙ ap (λ e. put (rows_of first) k e) (λ i. (high i, low i))
+    let high : joined_halves g v / 2 ^ 32 ≡ g = omega arith in
+    let low : joined_halves g v % 2 ^ 32 ≡ v = omega arith in
+    rows_of-put first k (joined_halves g v) ∙ ap (λ e. put (rows_of first) k e) (λ i. (high i, low i))
 
 pub rows_of-without : (first : Pairs ℕ) (k : ℕ) → rows_of (without first k) ≡ without (rows_of first) k
 rows_of-without [] k = refl
@@ -76,7 +76,7 @@ rows_of-without (e ∷ es) k =
     ]
 
 -- a row that is found is in its group
-pub row_in : (t : Rows) (id : ℕ) (row : Row) → Some row ≡ row_at t id → IsIn t id row.group
+pub row_in : (t : Rows) (id : ℕ) (row : Row) → Some row ≡ row_at t id → IsInGroup t id row.group
 row_in t id row is = found_in (lookup t id) is where
   found_in : (found : Option (ℕ × ℕ)) → Some row ≡ option_map (λ (e : ℕ × ℕ). record { id = id; group = e.0; value = e.1 }) found → (value : ℕ) × (found ≡ Some (row.group, value))
   found_in None is = absurd (cc)

@@ -1,4 +1,4 @@
--- A run that goes on by one call.
+-- A run with one call more.
 use Rattle.std.proofs.Common.{ℕ, ◌+◌, ◌<◌, List, [], ◌∷◌, ◌++◌, length, get_or, take, subst}
 use Rattle.std.proofs.lemmas.List.{take_more}
 use Rattle.congee_table.specs.Rows.{Rows}

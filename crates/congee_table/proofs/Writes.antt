@@ -2,9 +2,9 @@
 use Rattle.std.proofs.Common.{◌≡◌, ◌≢◌, ℕ, ◌+◌, ◌%◌, ◌^◌, ◌<◌, ◌≤◌, min, zero, suc, [], ◌∷◌, ◌++◌, length, get_or, set, Option, Some, None, take, drop, refl, ap, sym, ◌∙◌, append_assoc, arith, inl, inr}
 use Rattle.std.proofs.lemmas.List.{take-map, take_at, drop_at, take_all, take-append-le, take-take, take_min, length-take-le, length-map, length-append, length-drop, drop_more, set_at, append-nil}
 use Rattle.std.proofs.lemmas.Bool.{lt-ltb, le-ltb, lt-leb, le-leb, eq-eqb, ne_eqb, cases_order, cases_lt}
-use Rattle.congee_map.specs.Map.{Pairs, lookup, between, Rises}
-use Rattle.congee_map.proofs.MapLaws.{lookup-below}
-use Rattle.congee_map.proofs.RangeLaws.{between-above}
+use Rattle.spec_map.specs.Map.{Pairs, lookup, between, Rises}
+use Rattle.spec_map.proofs.MapLaws.{lookup-below}
+use Rattle.spec_map.proofs.RangeLaws.{between-above}
 use Rattle.congee_table.proofs.GroupLaws.{ids}
 
 -- one pair more that is left its lower half
@@ -42,7 +42,7 @@ between-last low high s k (x ∷ xs) h l =
           rw (le-leb s x.0 (omega arith), le-ltb x.0 (k + 1) (omega arith), le-ltb x.0 k (omega arith), ne_eqb x.0 k (omega arith), none, none', lookup-below (x.0 + 1) high xs k h.2 (omega arith)) refl
     ]
 
--- A scan of a part wrote the first n of its pairs. What more there is comes after them.
+-- A scan of a part wrote the first n of its pairs. Any further pairs come after them.
 module _ (index buffer written : Pairs ℕ) (start last n : ℕ) (ordered : Rises 0 (2 ^ 64) index) (forward : start ≤ last)
     (count : n ≡ min (length buffer) (length (between index start last))) (is_written : written ≡ take n (between index start last) ++ drop n buffer) where
   long_written : length written ≡ length buffer

@@ -1,7 +1,7 @@
 -- The legal runs of a table's calls.
 use Rattle.std.specs.Prelude.{◌≡◌, List, [], ◌∷◌, None, take}
-use Rattle.congee_map.specs.Map.{lookup, put, without}
-use Rattle.congee_table.specs.Rows.{Rows, row_at, IsIn, regrouped, group_rows}
+use Rattle.spec_map.specs.Map.{lookup, put, without}
+use Rattle.congee_table.specs.Rows.{Rows, row_at, IsInGroup, regrouped, group_rows}
 use Rattle.congee_table.specs.declared.calls.TableCall.{TableCall}
 use Rattle.congee_table.specs.declared.calls.TableCall.TheVariants.{Put, Get, Delete, Regroup, Group}
 use Rattle.congee_table.specs.declared.calls.TableReply.{TableReply}
@@ -11,12 +11,12 @@ use Rattle.congee_table.specs.declared.table.TableError.TheVariants.{Oom, Absent
 
 -- Which calls may find no memory. A run lists a group in a list of its own, which takes memory;
 -- the call itself doesn't.
-abbrev pub MayRefuse : Rows → TableCall → Type 0
-MayRefuse t (Put row) = ¬ IsIn t row.id row.group
-MayRefuse t (Get id) = ⊥
-MayRefuse t (Delete id) = ⊥
-MayRefuse t (Regroup id group) = ¬ (lookup t id ≡ None) × ¬ IsIn t id group
-MayRefuse t (Group group from limit) = Unit {0}
+abbrev pub MayRefuseCall : Rows → TableCall → Type 0
+MayRefuseCall t (Put row) = ¬ IsInGroup t row.id row.group
+MayRefuseCall t (Get id) = ⊥
+MayRefuseCall t (Delete id) = ⊥
+MayRefuseCall t (Regroup id group) = ¬ (lookup t id ≡ None) × ¬ IsInGroup t id group
+MayRefuseCall t (Group group from limit) = Unit {0}
 
 -- which calls miss the row that they are about
 abbrev pub Misses : Rows → TableCall → Type 0
@@ -28,7 +28,7 @@ Misses t (Group group from limit) = ⊥
 
 -- the rows allow this error of the call
 abbrev pub MayFail : Rows → TableCall → TableError → Type 0
-MayFail t call Oom = MayRefuse t call
+MayFail t call Oom = MayRefuseCall t call
 MayFail t call Absent = Misses t call
 
 -- the rows allow this reply to the call
@@ -36,25 +36,25 @@ abbrev pub MayReply : Rows → TableCall → TableReply → Type 0
 MayReply t (Put row) (Found before) = before ≡ row_at t row.id
 MayReply t (Get id) (Found row) = row ≡ row_at t id
 MayReply t (Delete id) (Found before) = before ≡ row_at t id
-MayReply t (Regroup id group) (Regrouped old) = IsIn t id old
+MayReply t (Regroup id group) (Regrouped old) = IsInGroup t id old
 MayReply t (Group group from limit) (Listed rows) =
     rows.items ≡ take limit (group_rows t group from)
 MayReply t call (Failed error) = MayFail t call error
 MayReply t call reply = ⊥
 
--- the rows after a call that was done
-abbrev pub after : Rows → TableCall → Rows
-after t (Put row) = put t row.id (row.group, row.value)
-after t (Get id) = t
-after t (Delete id) = without t id
-after t (Regroup id group) = regrouped t id group
-after t (Group group from limit) = t
+-- the rows after a call that succeeded
+abbrev pub rows_after : Rows → TableCall → Rows
+rows_after t (Put row) = put t row.id (row.group, row.value)
+rows_after t (Get id) = t
+rows_after t (Delete id) = without t id
+rows_after t (Regroup id group) = regrouped t id group
+rows_after t (Group group from limit) = t
 
 -- the rows after a call with this reply: a call that failed changes nothing
 abbrev pub after_reply : Rows → TableCall → TableReply → Rows
-after_reply t call (Found row) = after t call
-after_reply t call (Regrouped old) = after t call
-after_reply t call (Listed rows) = after t call
+after_reply t call (Found row) = rows_after t call
+after_reply t call (Regrouped old) = rows_after t call
+after_reply t call (Listed rows) = rows_after t call
 after_reply t call (Failed error) = t
 
 -- A LEGAL RUN: from the rows t on, each reply is one that the rows allow in its turn, and they

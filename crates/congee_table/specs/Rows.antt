@@ -2,7 +2,7 @@
 -- values.
 use Rattle.std.specs.Prelude.{◌≡◌, ℕ, List, Option, Some, None, ◌==◌, ◌&&◌, nat_le, map, filter}
 use Rattle.std.specs.Option.{option_map}
-use Rattle.congee_map.specs.Map.{Pairs, lookup, put}
+use Rattle.spec_map.specs.Map.{Pairs, lookup, put}
 use Rattle.congee_table.specs.declared.table.Row.{Row}
 
 -- each id's group and value
@@ -10,7 +10,7 @@ abbrev pub Rows : Type 0
 Rows = Pairs (ℕ × ℕ)
 
 -- what a contract sees of a table: its rows, and what the allocators of its two indexes are charged
-pub record View : Type 0 where
+pub record RowsView : Type 0 where
   pub rows : Rows
   pub charged : ℕ × ℕ
 
@@ -19,8 +19,8 @@ abbrev pub row_at : Rows → ℕ → Option Row
 row_at t id = option_map (λ e. record { id = id; group = e.0; value = e.1 }) (lookup t id)
 
 -- the row with this id is in this group
-abbrev pub IsIn : Rows → ℕ → ℕ → Type 0
-IsIn t id group = (value : ℕ) × (lookup t id ≡ Some (group, value))
+abbrev pub IsInGroup : Rows → ℕ → ℕ → Type 0
+IsInGroup t id group = (value : ℕ) × (lookup t id ≡ Some (group, value))
 
 -- the rows with the found row in this group
 abbrev pub moved : Rows → ℕ → ℕ → Option (ℕ × ℕ) → Rows

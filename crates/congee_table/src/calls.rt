@@ -5,8 +5,8 @@ ghost use Rattle.congee_table.specs.Rows.{group_rows};
 ghost use Rattle.congee_table.specs.Calls.{IsRun};
 
 use crate::table::{Row, Table, TableError};
-use congee_map::error::OOMError;
-use congee_node_table::allocator::Allocator;
+use node_table::allocator::Allocator;
+use spec_map::error::OOMError;
 use std::alloc::Global;
 
 /// A call of a table.
@@ -16,7 +16,7 @@ pub enum TableCall {
     Put(Row),
     /// The row of an id.
     Get(u32),
-    /// Takes the row of an id out.
+    /// Removes the row of an id.
     Delete(u32),
     /// Moves the row of the first number to the group of the second.
     Regroup(u32, u32),
@@ -24,7 +24,7 @@ pub enum TableCall {
     Group(u32, u32, usize),
 }
 
-/// What a call answers.
+/// What a call returns.
 #[derive(Drop)]
 pub enum TableReply {
     /// The row that had the id.
@@ -33,12 +33,12 @@ pub enum TableReply {
     Regrouped(u32),
     /// The rows of a group, by id and value.
     Listed(Vec<(u64, u64)>),
-    /// Why the call wasn't done. Nothing was changed.
+    /// Why the call failed. Nothing was changed.
     Failed(TableError),
 }
 
-/// Makes one call. The rows of a group are written into a list of their own, and where there is no memory for that the call
-/// isn't made.
+/// Makes one call. The rows of a group are written into a list of their own; without memory for that the call isn't
+/// made.
 pub fn make_table_call<A: Allocator>(
     alloc: Global,
     table: &mut Table<A>,
@@ -81,8 +81,8 @@ fn listed<A: Allocator>(
     Ok(rows)
 }
 
-/// Makes the calls, one after another, and answers their replies. `OOMError` comes where there is no memory for the list of
-/// replies; then the rows are as they were.
+/// Makes the calls, one after another, and returns their replies. `OOMError` comes where there is no memory for the
+/// list of replies; then the rows are unchanged.
 pub fn run_table_calls<A: Allocator>(
     alloc: Global,
     table: &mut Table<A>,

@@ -1,13 +1,13 @@
 //! Numbers of 64 bits as two halves of 32 bits.
 
 ghost use Rattle.std.specs.Prelude.{◌≡◌, ◌/◌, ◌%◌, ◌^◌, map};
-ghost use Rattle.congee_table.specs.Index.{joined};
+ghost use Rattle.congee_table.specs.Index.{joined_halves};
 
 /// One more than the greatest half.
 const BASE: u64 = 1 << 32;
 
-pub(crate) fn joined(high: u32, low: u32) -> u64
-    ensures { result ≡ joined high low }
+pub(crate) fn joined_halves(high: u32, low: u32) -> u64
+    ensures { result ≡ joined_halves high low }
 {
     u64::from(high) * BASE + u64::from(low)
 }

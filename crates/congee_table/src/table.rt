@@ -1,21 +1,21 @@
 //! The table: its rows, its calls and their errors.
 
 ghost use Rattle.std.specs.Prelude.{◌≡◌, ◌≢◌, ◌↔◌, ◌+◌, ◌≤◌, [], ◌++◌, ◌/◌, ◌%◌, ◌^◌, Some, None, IfOk, OnOk, OnErr, IsErrOf, IsOkUnless, codes, length, min, take, drop};
-ghost use Rattle.congee_map.specs.Map.{lookup, put, without, between, IsMap};
-ghost use Rattle.congee_table.specs.Index.{joined, rows_of, AreIndexes};
-ghost use Rattle.congee_table.specs.Rows.{row_at, IsIn, regrouped, group_rows};
+ghost use Rattle.spec_map.specs.Map.{lookup, put, without, between, IsMap};
+ghost use Rattle.congee_table.specs.Index.{joined_halves, rows_of, AreIndexes};
+ghost use Rattle.congee_table.specs.Rows.{row_at, IsInGroup, regrouped, group_rows};
 ghost use Rattle.congee_table.specs.declared.table.TableError.TheVariants.{Oom};
 
-use crate::numbers::{high, joined, keep_low, low};
-use congee_faces::typed_congee::Congee;
-use congee_map::error::OOMError;
-use congee_node_table::allocator::Allocator;
+use crate::numbers::{high, joined_halves, keep_low, low};
+use face_maps::typed_congee::Congee;
+use node_table::allocator::Allocator;
+use spec_map::error::OOMError;
 use std::alloc::Global;
 use std::error::Error;
 use std::fmt;
 use std::marker::Model;
 
-/// What a table holds of an id.
+/// The row of an id.
 #[derive(Clone, Copy, Debug, PartialEq, Eq)]
 pub struct Row {
     pub id: u32,
@@ -23,7 +23,7 @@ pub struct Row {
     pub value: u32,
 }
 
-/// Why a call wasn't done. The rows are as they were.
+/// Why a call failed. The rows are unchanged.
 #[derive(Clone, Copy, Debug, PartialEq, Eq)]
 pub enum TableError {
     /// An allocator refused, or memory was missing.
@@ -53,7 +53,7 @@ impl From<OOMError> for TableError {
 
 /// An ordered table of rows, each with an id of its own, and a second index by group.
 ///
-/// The first index takes an id to its group and value, the second a group and an id to the value. Each is a map of its
+/// The first index maps an id to its group and value, the second a group and an id to the value. Each is a map of its
 /// own, with its own allocator. Contracts see the rows.
 #[derive(Drop)]
 pub struct Table<A: Allocator> {
@@ -62,11 +62,11 @@ pub struct Table<A: Allocator> {
 }
 
 impl<A: Allocator> Model for Table<A> {
-    ghost use Rattle.congee_faces.specs.Face.{stated_charge};
-    ghost use Rattle.congee_table.specs.Rows.{View};
+    ghost use Rattle.face_maps.specs.Face.{stated_charge};
+    ghost use Rattle.congee_table.specs.Rows.{RowsView};
     ghost use Rattle.congee_table.specs.Index.{rows_of, AreIndexes};
 
-    ghost Value = { View };
+    ghost Value = { RowsView };
 
     ghost view = { λ t. record {
       rows = rows_of t.first.pairs;
@@ -77,8 +77,8 @@ impl<A: Allocator> Model for Table<A> {
 }
 
 impl<A: Allocator> Table<A> {
-    /// An empty table over these allocators, of which the second serves the index by group. `Oom` comes where one of them or
-    /// the machine has no memory for it.
+    /// An empty table over these allocators, of which the second is for the index by group. `Oom` comes where one of
+    /// them or the machine has no memory for it.
     pub fn new(alloc: Global, first: A, second: A) -> Result<Self, TableError>
         ensures rows { IfOk result (λ table. table.rows ≡ []) }
         ensures error { IsOkUnless result TableError.Oom }
@@ -89,14 +89,14 @@ impl<A: Allocator> Table<A> {
         })
     }
 
-    /// Sets the row of its id, and gives back the one that it replaces. `Oom` comes only for a row that is new in its group,
-    /// and leaves the rows as they were.
+    /// Sets the row of its id, and returns the one that it replaces. `Oom` comes only for a row that is new in its
+    /// group, and leaves the rows unchanged.
     pub fn put(&mut self, row: Row) -> Result<Option<Row>, TableError>
         ensures before { IfOk result (λ before. before ≡ row_at self.old.rows row.id) }
         ensures ok { OnOk result (self.new.rows ≡ put self.old.rows row.id (row.group, row.value)) }
         ensures err { OnErr result (self.new.rows ≡ self.old.rows) }
         ensures error { IsOkUnless result TableError.Oom }
-        ensures refused { OnErr result (¬ IsIn self.old.rows row.id row.group) }
+        ensures refused { OnErr result (¬ IsInGroup self.old.rows row.id row.group) }
     {
         let Some(number) = enter(&mut self.first, &mut self.second, row)? else {
             return Ok(None);
@@ -114,25 +114,25 @@ impl<A: Allocator> Table<A> {
         Some(row_of(id, number))
     }
 
-    /// Takes the row of the id out, and gives it back. Is never refused.
+    /// Removes the row of the id, and returns it. Never fails.
     pub fn delete(&mut self, id: u32) -> Option<Row>
         ensures before { result ≡ row_at self.old.rows id }
         ensures rows { self.new.rows ≡ without self.old.rows id }
     {
         let number = self.first.remove(&u64::from(id))?;
         let row = row_of(id, number);
-        self.second.remove(&joined(row.group, row.id));
+        self.second.remove(&joined_halves(row.group, row.id));
         Some(row)
     }
 
-    /// Moves the row of the id to this group, and answers the group that it was in. `Absent` comes where no row has the id,
-    /// `Oom` only where its row is in another group. Both leave the rows as they were.
+    /// Moves the row of the id to this group, and returns the group that it was in. `Absent` comes where no row has the
+    /// id, `Oom` only where its row is in another group. Both leave the rows unchanged.
     pub fn regroup(&mut self, id: u32, group: u32) -> Result<u32, TableError>
-        ensures old { IfOk result (λ old. IsIn self.old.rows id old) }
+        ensures old { IfOk result (λ old. IsInGroup self.old.rows id old) }
         ensures ok { OnOk result (self.new.rows ≡ regrouped self.old.rows id group) }
         ensures err { OnErr result (self.new.rows ≡ self.old.rows) }
         ensures absent { IsErrOf result TableError.Absent ↔ (lookup self.old.rows id ≡ None) }
-        ensures refused { OnErr result (¬ IsIn self.old.rows id group) }
+        ensures refused { OnErr result (¬ IsInGroup self.old.rows id group) }
     {
         let Some(row) = self.get(id) else {
             return Err(TableError::Absent);
@@ -145,17 +145,17 @@ impl<A: Allocator> Table<A> {
         Ok(row.group)
     }
 
-    /// Writes the first rows of the group with ids from this one on to the buffer, by id and value, ids ascending, as many as
-    /// there are or as fit, and answers how many. The rest of the buffer stays. Takes no memory: it is one scan of the second
-    /// index, and one look-up for the greatest id, which no scan reaches in the last group.
+    /// Writes the first rows of the group with ids from this one on to the buffer, by id and value, ids ascending, as
+    /// many as there are or as fit, and returns how many. The rest of the buffer is unchanged. Takes no memory: it is
+    /// one scan of the second index, and one look-up for the greatest id, which a scan of the last group can't include.
     pub fn group(&self, group: u32, from: u32, buffer: &mut [(u64, u64)]) -> usize
         ensures count { result
             ≡ min (length buffer.old) (length (group_rows self.now.rows group from)) }
         ensures written { buffer.new
             ≡ take result (group_rows self.now.rows group from) ++ drop result buffer.old }
     {
-        let start = joined(group, from);
-        let last = joined(group, u32::MAX);
+        let start = joined_halves(group, from);
+        let last = joined_halves(group, u32::MAX);
         let count = range_to(&self.second, start, last, buffer);
         keep_low(&mut buffer[..count]);
         count
@@ -180,8 +180,8 @@ fn row_of(id: u32, number: u64) -> Row
     }
 }
 
-// Enters the row in the second index, then in the first, and answers the number that stood there. Where the first refuses, the
-// entry in the second is taken out again.
+// Enters the row in the second index, then in the first, and returns the number that the first index had for its id.
+// Where the first refuses, the entry in the second is removed again.
 fn enter<A: Allocator>(
     first: &mut Congee<u64, u64, A>,
     second: &mut Congee<u64, u64, A>,
@@ -190,36 +190,36 @@ fn enter<A: Allocator>(
     requires agree { AreIndexes first.old.pairs second.old.pairs }
     ensures before { IfOk result (λ before. before ≡ lookup first.old.pairs row.id) }
     ensures ok { OnOk result (first.new.pairs
-        ≡ put first.old.pairs row.id (joined row.group row.value)) }
+        ≡ put first.old.pairs row.id (joined_halves row.group row.value)) }
     ensures entered { OnOk result (second.new.pairs
-        ≡ put second.old.pairs (joined row.group row.id) row.value) }
+        ≡ put second.old.pairs (joined_halves row.group row.id) row.value) }
     ensures err { OnErr result (first.new.pairs ≡ first.old.pairs) }
     ensures left { OnErr result (second.new.pairs ≡ second.old.pairs) }
-    ensures refused { OnErr result (¬ IsIn (rows_of first.old.pairs) row.id row.group) }
+    ensures refused { OnErr result (¬ IsInGroup (rows_of first.old.pairs) row.id row.group) }
 {
-    second.insert(joined(row.group, row.id), u64::from(row.value))?;
-    match first.insert(u64::from(row.id), joined(row.group, row.value)) {
+    second.insert(joined_halves(row.group, row.id), u64::from(row.value))?;
+    match first.insert(u64::from(row.id), joined_halves(row.group, row.value)) {
         Ok(before) => Ok(before),
         Err(error) => {
-            second.remove(&joined(row.group, row.id));
+            second.remove(&joined_halves(row.group, row.id));
             Err(error)
         }
     }
 }
 
-// Takes the entry of the old row out of the second index, unless it is in this group, where the new one replaces it.
+// Removes the entry of the old row from the second index, unless it is in this group, where the new one replaces it.
 fn leave<A: Allocator>(second: &mut Congee<u64, u64, A>, old: Row, group: u32)
     ensures same { old.group ≡ group → second.new.pairs ≡ second.old.pairs }
     ensures other { old.group ≢ group
-        → second.new.pairs ≡ without second.old.pairs (joined old.group old.id) }
+        → second.new.pairs ≡ without second.old.pairs (joined_halves old.group old.id) }
 {
     if old.group != group {
-        second.remove(&joined(old.group, old.id));
+        second.remove(&joined_halves(old.group, old.id));
     }
 }
 
-// Writes the first pairs with keys from `start` to `last` to the buffer, as a scan does, and also that of the greatest key,
-// which no scan reaches.
+// Writes the first pairs with keys from `start` to `last`, both included, to the buffer: a scan, which excludes its
+// end, and then the pair of `last`.
 fn range_to<A: Allocator>(
     index: &Congee<u64, u64, A>,
     start: u64,

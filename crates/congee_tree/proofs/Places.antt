@@ -6,9 +6,9 @@ use Rattle.std.specs.Ordering.{nat_cmp, ordering_index}
 use Rattle.std.proofs.lemmas.Cmp.{ranked}
 use Rattle.std.proofs.lemmas.Bool.{lt-ltb, le-ltb, eq-eqb, ne_eqb, cases_order}
 use Rattle.std.proofs.lemmas.Bool.Decides.{nat_tests}
-use Rattle.congee_map.specs.Map.{Pairs, lookup, put, without, Rises}
-use Rattle.congee_map.proofs.MapLaws.{lookup-below}
-use Rattle.congee_tree.specs.inner.Place.{IsAt, IsGapFor}
+use Rattle.spec_map.specs.Map.{Pairs, lookup, put, without, Rises}
+use Rattle.spec_map.proofs.MapLaws.{lookup-below}
+use Rattle.congee_tree.specs.inner.Place.{IsPairAt, IsGapFor}
 
 module _ {P : Type 0} where
   -- a key at a place is in the range
@@ -25,7 +25,7 @@ module _ {P : Type 0} where
   rises_on a b (e ∷ m) (suc i) (suc j) d h l p = rises_on (e.0 + 1) b m i j d h.2 (omega arith) (omega arith)
 
 module _ {P : Type 0} (m : Pairs P) (a b : ℕ) (rises : Rises a b m) (k : ℕ) where
-  -- the comparisons with k rise along the list, as a binary search asks
+  -- the comparisons with k rise along the list, as a binary search requires
   comparisons_rise : IsNonDecreasingBy (λ pair. ordering_index (nat_cmp pair.0 k)) m
   comparisons_rise i j d le in_range =
       elim (cases_order i j) [
@@ -35,7 +35,7 @@ module _ {P : Type 0} (m : Pairs P) (a b : ℕ) (rises : Rises a b m) (k : ℕ) 
       ]
 
   -- a binary search by key ends at the key, or at the gap for it
-  pub searched : (r : Result ℕ ℕ) → IsSearchInRange r (length m) → IsBinarySearchResult (λ pair. nat_cmp pair.0 k) m r → record { found : IfOk r (IsAt m k); absent : IfErr r (IsGapFor m k) }
+  pub searched : (r : Result ℕ ℕ) → IsSearchInRange r (length m) → IsBinarySearchResult (λ pair. nat_cmp pair.0 k) m r → record { found : IfOk r (IsPairAt m k); absent : IfErr r (IsGapFor m k) }
   searched (Ok at) in_range equal = record { found = record { in_range = in_range; has_key = λ d. ranked _ k _ (sym (equal d)) }; absent = tt }
   searched (Err at) in_range parted = record {
     found = tt;
@@ -98,15 +98,15 @@ module _ {P : Type 0} where
       let less : x.0 < k = gap.smaller_before 0 x (omega arith) in
       rw (lt-ltb x.0 k less) (ap (λ t. x ∷ t) (put_in_gap m k at v (gap_next x m k at gap)))
 
-  -- what a place that was found tells of a pair that was read there
-  pub lookup_found : (a b : ℕ) (m : Pairs P) (k i : ℕ) (e : ℕ × P) → Rises a b m → IsAt m k i → e ≡ get_or m i e → lookup m k ≡ Some e.1
+  -- a pair that was read at a place that was found is the key's
+  pub lookup_found : (a b : ℕ) (m : Pairs P) (k i : ℕ) (e : ℕ × P) → Rises a b m → IsPairAt m k i → e ≡ get_or m i e → lookup m k ≡ Some e.1
   lookup_found a b m k i e h at read =
       lookup_at a b m k i e h at.in_range (at.has_key e) ∙ ap (λ (x : ℕ × P). Some x.1) (sym read)
 
   -- a write there is one of the whole map
-  pub put_found : (a b : ℕ) (m : Pairs P) (k i : ℕ) (e : ℕ × P) (v : P) → Rises a b m → IsAt m k i → put m k v ≡ set m i (k, v)
+  pub put_found : (a b : ℕ) (m : Pairs P) (k i : ℕ) (e : ℕ × P) (v : P) → Rises a b m → IsPairAt m k i → put m k v ≡ set m i (k, v)
   put_found a b m k i e v h at = put_at a b m k i e v h at.in_range (at.has_key e)
 
   -- and so is a removal
-  pub without_found : (a b : ℕ) (m : Pairs P) (k i : ℕ) (e : ℕ × P) → Rises a b m → IsAt m k i → without m k ≡ remove m i
+  pub without_found : (a b : ℕ) (m : Pairs P) (k i : ℕ) (e : ℕ × P) → Rises a b m → IsPairAt m k i → without m k ≡ remove m i
   without_found a b m k i e h at = without_at a b m k i e h at.in_range (at.has_key e)

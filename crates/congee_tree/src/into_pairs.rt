@@ -2,19 +2,19 @@
 
 ghost use Rattle.std.specs.Prelude.{◌≡◌, ◌<◌};
 ghost use Rattle.std.specs.Iterator.{YieldsFirst, item_count};
-ghost use Rattle.congee_map.specs.Map.{IsMap};
+ghost use Rattle.spec_map.specs.Map.{IsMap};
 
-use crate::fresh::remove_in_place;
+use crate::by_number::remove_in_place;
 use crate::tree::RawCongee;
-use congee_map::payload::Payload;
-use congee_node_table::allocator::Allocator;
+use node_table::allocator::Allocator;
+use spec_map::payload::Payload;
 use std::marker::{Brand, Model};
 use std::sync::ledger::Blank;
 
 /// The pairs of a tree by value, keys ascending, as numbers. Contracts see the list of those that are left.
 ///
-/// A pair is taken out when it is asked for, and takes no memory: no node goes into a smaller form. Each step reads two paths,
-/// since it goes on at the key after the last one.
+/// A pair is removed from the tree when it is asked for, which takes no memory: no node shrinks. Each step reads two
+/// paths, since it continues at the key after the last one.
 #[derive(Drop)]
 pub struct IntoPairs<P: Payload, A: Allocator> {
     tree: RawCongee<P, A>,
@@ -25,7 +25,7 @@ pub struct IntoPairs<P: Payload, A: Allocator> {
 impl<P: Payload, A: Allocator> Model for IntoPairs<P, A> {
     ghost use Rattle.std.specs.Prelude.{◌^◌};
     ghost use Rattle.std.specs.Coded.{coded×, coded_list, coded_ℕ};
-    ghost use Rattle.congee_map.specs.Map.{Pairs, Rises};
+    ghost use Rattle.spec_map.specs.Map.{Pairs, Rises};
 
     ghost Value = { Pairs P };
 

@@ -3,11 +3,11 @@
 //! Its contract is the definition of the ordered map, call for call. So tests may compare any other body with it.
 
 ghost use Rattle.std.specs.Prelude.{◌≡◌, ℕ, [], length, IfOk, IfErr, OnOk, OnErr, option_copied};
-ghost use Rattle.congee_map.specs.Map.{lookup, put, without, IsMap};
-ghost use Rattle.congee_map.specs.Refusal.{IsNew};
-ghost use Rattle.congee_tree.specs.inner.Place.{IsAt, IsGapFor};
+ghost use Rattle.spec_map.specs.Map.{lookup, put, without, IsMap};
+ghost use Rattle.spec_map.specs.Refusal.{IsNewKey};
+ghost use Rattle.congee_tree.specs.inner.Place.{IsPairAt, IsGapFor};
 
-use congee_map::error::OOMError;
+use spec_map::error::OOMError;
 use std::alloc::Global;
 use std::marker::Model;
 use std::mem;
@@ -21,7 +21,7 @@ pub struct SortedPairs<P> {
 
 impl<P> Model for SortedPairs<P> {
     ghost use Rattle.std.specs.Coded.{coded×, coded_list, coded_ℕ};
-    ghost use Rattle.congee_map.specs.Map.{Pairs, IsMap};
+    ghost use Rattle.spec_map.specs.Map.{Pairs, IsMap};
 
     ghost Value = { Pairs P };
 
@@ -59,13 +59,13 @@ impl<P: Drop> SortedPairs<P> {
         &self.pairs
     }
 
-    /// Sets the value at the key, and returns the one that stood there. A refusal changes nothing, and only a new key
-    /// is refused, where the vector finds no memory to grow.
+    /// Sets the value at the key, and returns the previous one. `OOMError` comes only for a new key, where the vector
+    /// finds no memory to grow, and changes nothing.
     pub fn insert(&mut self, key: u64, value: P) -> Result<Option<P>, OOMError>
         ensures before { IfOk result (λ before. before ≡ lookup self.old key) }
         ensures ok { OnOk result (self.new ≡ put self.old key value) }
         ensures err { OnErr result (self.new ≡ self.old) }
-        ensures refused { OnErr result (IsNew self.old key) }
+        ensures refused { OnErr result (IsNewKey self.old key) }
     {
         match search(&self.pairs, key) {
             Ok(at) => {
@@ -79,7 +79,7 @@ impl<P: Drop> SortedPairs<P> {
         }
     }
 
-    /// Takes out the pair at the key, and returns its value. Takes no memory.
+    /// Removes the pair at the key, and returns its value. Takes no memory.
     pub fn remove(&mut self, key: u64) -> Option<P>
         ensures before { result ≡ lookup self.old key }
         ensures pairs { self.new ≡ without self.old key }
@@ -94,7 +94,7 @@ impl<P: Drop> SortedPairs<P> {
 // Where the key is, or where it would go.
 fn search<P>(pairs: &[(u64, P)], key: u64) -> Result<usize, usize>
     requires { IsMap pairs.now }
-    ensures found { IfOk result (IsAt pairs.now key) }
+    ensures found { IfOk result (IsPairAt pairs.now key) }
     ensures absent { IfErr result (IsGapFor pairs.now key) }
 {
     pairs.binary_search_by_key(&key, |pair| pair.0)

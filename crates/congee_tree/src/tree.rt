@@ -1,52 +1,52 @@
-//! `RawCongee`, the adaptive radix tree that the typed faces stand on (*The Adaptive Radix Tree*, Leis et al.): the tree of
-//! `congee_changes`, and the walks over it.
+//! `RawCongee`, the adaptive radix tree under the typed faces (*The Adaptive Radix Tree*, Leis et al.): the tree of
+//! `tree_edit`, and the walks over it.
 
 ghost use Rattle.std.specs.Prelude.{◌≡◌, ◌+◌, ◌≤◌, ◌<◌, ◌^◌, ◌↔◌, [], length, Option, Some, None, IfOk, OnOk, OnErr, IsTrue, option_copied};
 ghost use Rattle.std.specs.Fn.{TakesAt, CalledAt};
 ghost use Rattle.std.specs.Option.{ForSome};
 ghost use Rattle.std.specs.Int.{from_be_bytes, w64};
-ghost use Rattle.congee_changes.specs.Closure.{TakesOption, CalledAtOption};
-ghost use Rattle.congee_map.specs.Map.{put, without, with_answer, IsMap};
-ghost use Rattle.congee_map.specs.Refusal.{NeedsNode};
-ghost use Rattle.congee_node_table.specs.Shape.{Reshapes};
-ghost use Rattle.congee_changes.specs.Reduce.{AreFilled, Reduces, ReducesInPlace, Recomputes};
-ghost use Rattle.congee_stats.specs.LevelCounts.{capped};
-ghost use Rattle.congee_stats.specs.Stats.{IsTally};
-ghost use Rattle.congee_stats.specs.StatsText.{all_nodes, all_entries};
-ghost use Rattle.congee_stats.specs.Stays.{NoCountStays};
-ghost use Rattle.congee_stats.specs.Visits.{visits_below};
-ghost use Rattle.congee_node_table.specs.Charge.{add_charge};
-ghost use Rattle.congee_supply.specs.Charge.{charge_of};
-ghost use Rattle.congee_paths.specs.Path.{on_path};
-ghost use Rattle.congee_changes.specs.Tree.{payload_at, root_alone, ChargesForNodes, StoresSame};
+ghost use Rattle.tree_edit.specs.Closure.{TakesOption, CalledAtOption};
+ghost use Rattle.spec_map.specs.Map.{put, without, with_answer, IsMap};
+ghost use Rattle.spec_map.specs.Refusal.{NeedsNode};
+ghost use Rattle.node_table.specs.Shape.{Reshapes};
+ghost use Rattle.tree_edit.specs.Reduce.{AreFilled, Reduces, ReducesInPlace, Recomputes};
+ghost use Rattle.node_stats.specs.LevelCounts.{capped};
+ghost use Rattle.node_stats.specs.Stats.{IsTally};
+ghost use Rattle.node_stats.specs.StatsText.{all_nodes, all_entries};
+ghost use Rattle.node_stats.specs.Stays.{NoCountSaturates};
+ghost use Rattle.node_stats.specs.Visits.{visits_below};
+ghost use Rattle.node_table.specs.Charge.{add_charge};
+ghost use Rattle.tree_path.specs.Charge.{charge_of};
+ghost use Rattle.tree_path.specs.Path.{on_path};
+ghost use Rattle.tree_edit.specs.Tree.{payload_at, root_alone, ChargesForNodes, StoresSame};
 
 use crate::into_pairs::IntoPairs;
-use congee_changes::tree::Tree;
-use congee_map::error::OOMError;
-use congee_map::payload::Payload;
-use congee_map::traits::Word;
-use congee_node_table::allocator::Allocator;
-use congee_paths::reads::Reads;
-use congee_stats::NodeStats;
-use congee_walks::range_scan::{RangeEntry, scan};
-use congee_walks::statistics::count_subtree;
-use congee_walks::walk::{key_from, push_keys};
+use node_stats::NodeStats;
+use node_table::allocator::Allocator;
+use spec_map::error::OOMError;
+use spec_map::payload::Payload;
+use spec_map::traits::Word;
 use std::alloc::Global;
 use std::marker::Model;
 use std::sync::ledger::Ledger;
+use tree_edit::tree::Tree;
+use tree_path::reads::ReadCount;
+use tree_walk::range_scan::{RangeEntry, scan};
+use tree_walk::statistics::count_subtree;
+use tree_walk::walk::{key_from, push_keys};
 
 /// An ordered map from keys of eight bytes, most significant first, to payloads.
 ///
 /// Contracts see the list of its pairs by the keys' numbers (byte order is numeric order), and the list of its nodes.
 ///
-/// The budget is charged for each node from before it is made until it is gone, at the latest at the drop of the tree.
+/// The budget is charged for each node from before it is made until it is freed, at the latest at the drop of the tree.
 #[derive(Drop)]
 pub struct RawCongee<P: Payload, A: Allocator> {
     tree: Tree<P, A>,
 }
 
 impl<P: Payload, A: Allocator> Model for RawCongee<P, A> {
-    ghost use Rattle.congee_changes.specs.Tree.{TreeView, tree_code};
+    ghost use Rattle.tree_edit.specs.Tree.{TreeView, tree_code};
 
     ghost Value = { TreeView P A };
 
@@ -69,7 +69,7 @@ impl<P: Payload, A: Allocator> RawCongee<P, A> {
     }
 
     /// The payload at the key. Takes no memory. `reads` goes up by one for each node on the key's path.
-    pub fn get<L: Ledger>(&self, key: &[u8; 8], reads: &mut Reads<L>) -> Option<&P>
+    pub fn get<L: Ledger>(&self, key: &[u8; 8], reads: &mut ReadCount<L>) -> Option<&P>
         ensures value { option_copied result ≡ payload_at self.now key.now }
         ensures reads { reads.new ≡ reads.old + on_path self.now.nodes key.now }
         ensures few { on_path self.now.nodes key.now ≤ 8 }
@@ -77,14 +77,14 @@ impl<P: Payload, A: Allocator> RawCongee<P, A> {
         self.tree.get(key, reads)
     }
 
-    /// Sets the payload at the key, and returns the one that stood there. `OOMError` comes only for a new
-    /// key that needs a node of its own or a larger one, where memory is missing for that, and leaves the tree as it was;
-    /// the handed payload is dropped then. `reads` goes up by one for each node on the key's path.
+    /// Sets the payload at the key, and returns the previous one. `OOMError` comes only for a new key that needs a node
+    /// of its own or a larger one, where memory is missing for that, and leaves the tree unchanged; the given payload
+    /// is dropped then. `reads` goes up by one for each node on the key's path.
     pub fn insert<L: Ledger>(
         &mut self,
         key: &[u8; 8],
         payload: P,
-        reads: &mut Reads<L>,
+        reads: &mut ReadCount<L>,
     ) -> Result<Option<P>, OOMError>
         ensures before { IfOk result (λ before. before ≡ payload_at self.old key.now) }
         ensures ok { OnOk result
@@ -100,15 +100,15 @@ impl<P: Payload, A: Allocator> RawCongee<P, A> {
         self.tree.insert(key, payload, reads)
     }
 
-    /// Sets what the closure makes of the payload at the key, or of `None`, and returns the payload that stood there. The
-    /// closure is called once, after all memory is taken. `OOMError` comes only for a new key that needs a node of its own
-    /// or a larger one, where memory is missing for that; it leaves the tree as it was, and the closure isn't called then.
-    /// `reads` goes up by one for each node on the key's path.
+    /// Sets the key's payload to what the closure returns for the current payload or `None`, and returns the previous
+    /// one. The closure is called once, after all memory is taken. `OOMError` comes only for a new key that needs a
+    /// node of its own or a larger one, where memory is missing for that; the tree is unchanged then, and the closure
+    /// isn't called. `reads` goes up by one for each node on the key's path.
     pub fn compute_or_insert<F: FnMut(Option<&P>) -> P, L: Ledger>(
         &mut self,
         key: &[u8; 8],
         f: &mut F,
-        reads: &mut Reads<L>,
+        reads: &mut ReadCount<L>,
     ) -> Result<Option<P>, OOMError>
         requires { TakesOption F.FnMut f.old (payload_at self.old key.now) }
         ensures before { IfOk result (λ before. before ≡ payload_at self.old key.now) }
@@ -127,10 +127,10 @@ impl<P: Payload, A: Allocator> RawCongee<P, A> {
         self.tree.compute_or_insert(key, f, reads)
     }
 
-    /// Takes out the pair at the key, and returns its payload. Is never refused: each node but the root that is empty then
-    /// goes, and the one that stays goes into a smaller form where it has few children and there is memory for that. `reads`
-    /// goes up by one for each node on the key's path.
-    pub fn remove<L: Ledger>(&mut self, key: &[u8; 8], reads: &mut Reads<L>) -> Option<P>
+    /// Removes the pair at the key, and returns its payload. Never fails: each node but the root that is empty then is
+    /// freed, and the last one left on the path, unless it is the root, shrinks if it has few children and there is
+    /// memory for that. `reads` goes up by one for each node on the key's path.
+    pub fn remove<L: Ledger>(&mut self, key: &[u8; 8], reads: &mut ReadCount<L>) -> Option<P>
         ensures before { result ≡ payload_at self.old key.now }
         ensures pairs { self.new.pairs ≡ without self.old.pairs (from_be_bytes w64 key.now) }
         ensures shape { Reduces result self.old.nodes key.now self.new.nodes }
@@ -141,8 +141,12 @@ impl<P: Payload, A: Allocator> RawCongee<P, A> {
         self.tree.remove(key, reads)
     }
 
-    /// The same, where no node goes into a smaller form: takes no memory. For a tree that is drained.
-    pub fn remove_in_place<L: Ledger>(&mut self, key: &[u8; 8], reads: &mut Reads<L>) -> Option<P>
+    /// The same, where no node shrinks: takes no memory. For a tree that is drained.
+    pub fn remove_in_place<L: Ledger>(
+        &mut self,
+        key: &[u8; 8],
+        reads: &mut ReadCount<L>,
+    ) -> Option<P>
         ensures before { result ≡ payload_at self.old key.now }
         ensures pairs { self.new.pairs ≡ without self.old.pairs (from_be_bytes w64 key.now) }
         ensures shape { ReducesInPlace result self.old.nodes key.now self.new.nodes }
@@ -153,22 +157,22 @@ impl<P: Payload, A: Allocator> RawCongee<P, A> {
         self.tree.remove_in_place(key, reads)
     }
 
-    /// Calls the closure at the payload at the key, where there is one: the payload that it returns takes the place of that
-    /// one, and its `None` takes the pair out, as a removal does. Returns the payload that stood there. Is never refused.
-    /// `reads` goes up by one for each node on the key's path.
+    /// Calls the closure on the key's payload, where the key is present: the payload that it returns replaces that one,
+    /// and `None` removes the pair, as a removal does. Returns the previous payload. Never fails. `reads` goes up by
+    /// one for each node on the key's path.
     pub fn compute_if_present<F: FnMut(&P) -> Option<P>, L: Ledger>(
         &mut self,
         key: &[u8; 8],
         f: &mut F,
-        reads: &mut Reads<L>,
+        reads: &mut ReadCount<L>,
     ) -> Option<P>
         requires { ForSome (payload_at self.old key.now) (TakesAt F.FnMut f.old) }
         ensures ordered { IsMap self.old.pairs }
         ensures before { result ≡ payload_at self.old key.now }
         ensures absent { payload_at self.old key.now ≡ None
             → (self.new ≡ self.old) × (f.new ≡ f.old) }
-        ensures present { ForSome (payload_at self.old key.now) (λ standing. (answer : Option P)
-            × CalledAt F.FnMut f.old standing answer f.new
+        ensures present { ForSome (payload_at self.old key.now) (λ current. (answer : Option P)
+            × CalledAt F.FnMut f.old current answer f.new
             × (self.new.pairs ≡ with_answer self.old.pairs (from_be_bytes w64 key.now) answer)
             × Recomputes answer self.old.nodes key.now self.new.nodes) }
         ensures charge { ChargesForNodes A.charge self.old self.new }
@@ -176,6 +180,13 @@ impl<P: Payload, A: Allocator> RawCongee<P, A> {
         ensures few { on_path self.old.nodes key.now ≤ 8 }
     {
         self.tree.compute_if_present(key, f, reads)
+    }
+
+    /// The law that the pairs ascend, each key once, and that the keys have 64 bits.
+    pub fn law_ordered(&self)
+        ensures { IsMap self.now.pairs }
+    {
+        let _ = self.tree.table();
     }
 
     /// Whether there is no pair.
@@ -192,8 +203,8 @@ impl<P: Payload, A: Allocator> RawCongee<P, A> {
         self.tree.value_count()
     }
 
-    /// The sum of the stated sizes of the tree's nodes, which its budget is charged for. No node but the root is empty, and
-    /// in an empty tree there is no other.
+    /// The sum of the stated sizes of the tree's nodes, which its budget is charged for. No node but the root is empty,
+    /// and in an empty tree there is no other.
     pub fn charged(&self) -> u128
         ensures sizes { result ≡ charge_of self.now.nodes }
         ensures filled { AreFilled self.now.nodes }
@@ -205,14 +216,14 @@ impl<P: Payload, A: Allocator> RawCongee<P, A> {
     /// The counts of the tree's nodes by level and form, and of its pairs. Reads each node once. `OOMError` comes where
     /// there is no memory for the levels, of which there are eight at most.
     ///
-    /// Each entry of a node is a pair or leads to a node, and none leads to the root: where no count stays at the greatest
-    /// `u64`, the entries are the pairs plus the nodes minus 1.
+    /// Each entry of a node is a pair or leads to a node, and none leads to the root: where no count saturates at
+    /// `u64::MAX`, the entries are the pairs plus the nodes minus 1.
     pub fn stats(&self) -> Result<NodeStats, OOMError>
         ensures levels { IfOk result (λ stats.
             IsTally (visits_below 0 self.now.nodes) stats.levels) }
         ensures pairs { IfOk result (λ stats. stats.kv_pairs ≡ capped (length self.now.pairs)) }
         ensures entries { IfOk result (λ stats.
-            NoCountStays stats.levels → stats.kv_pairs + 1 < 2 ^ 64
+            NoCountSaturates stats.levels → stats.kv_pairs + 1 < 2 ^ 64
             → all_entries stats.levels + 1 ≡ stats.kv_pairs + all_nodes stats.levels) }
     {
         let mut stats = NodeStats::empty(self.tree.memory());
@@ -226,10 +237,10 @@ impl<P: Payload, A: Allocator> RawCongee<P, A> {
 impl<A: Allocator> RawCongee<u64, A> {
     ghost use Rattle.std.specs.Prelude.{◌≡◌, ◌++◌, length, map, min, take, drop};
     ghost use Rattle.std.specs.Int.{from_be_bytes, w64};
-    ghost use Rattle.congee_map.specs.Map.{between};
+    ghost use Rattle.spec_map.specs.Map.{between};
 
-    /// Writes the first pairs with `start <= key < end`, keys ascending, and returns their number: all of them, or as many
-    /// as the buffer has places for. The places after them stay as they were. Takes no memory.
+    /// Writes the first pairs with `start <= key < end`, keys ascending, and returns their number: all of them, or as
+    /// many as the buffer has places for. The places after them are unchanged. Takes no memory.
     pub fn range<E: RangeEntry>(&self, start: &[u8; 8], end: &[u8; 8], buffer: &mut [E]) -> usize
         ensures count { let first = from_be_bytes w64 start.now in
             let past = from_be_bytes w64 end.now in
@@ -249,10 +260,10 @@ impl<A: Allocator> RawCongee<u64, A> {
 impl<P: Payload, A: Allocator> RawCongee<P, A> {
     ghost use Rattle.std.specs.Prelude.{◌≡◌, IfOk, map};
     ghost use Rattle.std.specs.List.{FoldsTo};
-    ghost use Rattle.congee_walks.specs.Scan.{from_key, first_number};
+    ghost use Rattle.tree_walk.specs.Scan.{from_key, first_number};
 
-    /// The keys, ascending, each read back from its number. The one vector is made with room for all of them; `OOMError`
-    /// comes where there is no memory for it.
+    /// The keys, ascending, each read back from its number. The one vector is made with room for all of them;
+    /// `OOMError` comes where there is no memory for it.
     pub fn keys<K: Word>(&self) -> Result<Vec<K>, OOMError>
         ensures { IfOk result (λ keys.
             keys.items ≡ map K.of_number (map (λ pair. pair.0) self.now.pairs)) }
@@ -278,12 +289,12 @@ impl<P: Payload, A: Allocator> RawCongee<P, A> {
     pub fn into_pairs(self) -> IntoPairs<P, A>
         ensures { result ≡ self.pairs }
     {
-        // A look at the table tells the proof that the keys are in order.
+        // For the proof: brings the order of the keys into scope.
         let _ = self.tree.table();
         IntoPairs::new(self)
     }
 
-    /// Calls the closure with each pair, keys ascending, and gives the tree up. Takes no memory.
+    /// Calls the closure with each pair, keys ascending, and consumes the tree. Takes no memory.
     pub fn drain<F: FnMut(u64, P)>(self, f: &mut F)
         requires { F.IsAlwaysCallable f.old }
         ensures { FoldsTo (λ state pair next. F.step state pair.0 pair.1 tt next) f.old self.pairs f.new }

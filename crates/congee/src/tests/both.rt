@@ -27,24 +27,24 @@ impl Both {
         })
     }
 
-    /// Inserts the key into both, which return alike.
+    /// Inserts the key into both, which return the same.
     pub(super) fn insert(&mut self, rt: &impl Abort, key: u64, value: u64) {
         let wanted = self.plain.insert(key, value);
         assert_put(rt, key, self.map.insert(key, value), wanted);
     }
 
-    /// Removes the key from both, which return alike.
+    /// Removes the key from both, which return the same.
     pub(super) fn remove(&mut self, rt: &impl Abort, key: u64) {
         assert_old(rt, key, self.map.remove(&key), self.plain.remove(key));
     }
 
-    /// Both return alike at the key.
+    /// Both return the same at the key.
     pub(super) fn assert_get(&self, rt: &impl Abort, key: u64) {
         assert_old(rt, key, self.map.get(&key), self.plain.get(key).copied());
     }
 
-    // Adds the plain map's pairs of a range to the list, as many as a buffer of this size has room for, and then what is
-    // left of the buffer. Returns how many pairs those are.
+    // Adds the plain map's pairs of a range to the list, as many as a buffer of this size has room for, and then the
+    // rest of the buffer. Returns how many pairs those are.
     fn add_wanted(
         &self,
         list: &mut Vec<(u64, u64)>,
@@ -79,8 +79,8 @@ impl Both {
         Ok(count)
     }
 
-    /// A range into a buffer of this size gives what the plain map has there, and leaves the rest of the buffer. Returns
-    /// how many pairs it gives.
+    /// A range into a buffer of this size writes what the plain map has there, and leaves the rest of the buffer
+    /// unchanged. Returns how many pairs it writes.
     pub(super) fn assert_range(
         &self,
         rt: &impl Abort,

@@ -1,4 +1,4 @@
-//! Budgets: what is charged, what is refused, and what stands after a refusal.
+//! Budgets: what is charged, what is refused, and the pairs after a refusal.
 
 ghost use Rattle.std.specs.Prelude.{None};
 
@@ -45,7 +45,7 @@ fn assert_enough(rt: &impl Abort, map: &mut Congee<u64, u64, Budget>, row: &Leas
     assert_number(rt, map.charged(), row.after);
 }
 
-// The limit isn't enough, and the map stays as it was.
+// The limit isn't enough, and the map is unchanged.
 fn assert_refused(rt: &impl Abort, map: &mut Congee<u64, u64, Budget>, row: &Least) {
     assert_number(rt, map.charged(), row.before);
     assert_put(rt, row.key, map.insert(row.key, 7), Err(OOMError::new()));
@@ -57,7 +57,7 @@ fn assert_refused(rt: &impl Abort, map: &mut Congee<u64, u64, Budget>, row: &Lea
     }
 }
 
-// The limit is enough, or it isn't.
+// The limit is enough or not.
 fn assert_at(
     rt: &impl Abort,
     alloc: Global,
@@ -220,7 +220,7 @@ impl Counts {
     }
 }
 
-// Grants so many requests, and refuses the one after them. Tells what is charged.
+// Grants so many requests, and refuses the one after them. Counts what is charged.
 #[derive(Drop)]
 struct Counted<'a> {
     counts: &'a Counts,
@@ -281,20 +281,20 @@ fn is_enough(
     let after = counts.charged();
     assert_number(rt, map.charged(), u128::from(after));
     let enough = result.is_ok();
-    let (wanted, stands, called) = if enough {
+    let (wanted, at_key, called) = if enough {
         (Ok(None), Some(key), computes)
     } else {
         assert_number(rt, u128::from(after), u128::from(before));
         (Err(OOMError::new()), None, false)
     };
     assert_put(rt, key, result, wanted);
-    assert_old(rt, key, map.get(&key), stands);
+    assert_old(rt, key, map.get(&key), at_key);
     assert_number(rt, u128::from(calls), u128::from(called));
     enough
 }
 
-// Makes the insertion of a new key again and again, its first request refused, then its second and so on, until one is
-// granted all. Returns how many it asked for.
+// Makes the insertion of a new key again and again, its first request refused, then its second and so on, until all are
+// granted. Returns how many it made.
 fn requests_of(
     rt: &impl Abort,
     map: &mut CountedMap<'_>,
@@ -349,7 +349,7 @@ fn assert_never_refused(rt: &impl Abort, alloc: Global, map: &mut CountedMap<'_>
     assert_number(rt, map.charged(), u128::from(counts.charged()));
 }
 
-// Each request of a map is refused once, and what is charged goes back when it is dropped.
+// Each request of a map is refused once, and all that is charged is uncharged at its drop.
 fn assert_each(
     rt: &impl Abort,
     alloc: Global,
@@ -391,7 +391,8 @@ fn with_keys<'a>(alloc: Global, counts: &'a Counts) -> Result<CountedMap<'a>, OO
     Ok(map)
 }
 
-// Takes all keys out, with the request after so many refused: each is answered, and what is charged is what is held.
+// Removes all keys, with the request after so many refused: each removal returns the key's value, and the map is
+// charged what its allocator counts.
 fn assert_removed(
     rt: &impl Abort,
     alloc: Global,
@@ -418,7 +419,7 @@ fn each_smaller_node_refused(rt: HostRuntime) -> Result<(), Fail> {
     Ok(())
 }
 
-// Drains the map. Returns how many pairs the closure was handed.
+// Drains the map. Returns with how many pairs the closure was called.
 fn drained(alloc: Global, counts: &Counts, granted: u64) -> Result<u64, OOMError> {
     let map = with_keys(alloc, counts)?;
     counts.grant(granted);

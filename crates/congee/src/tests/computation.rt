@@ -1,4 +1,4 @@
-//! Computations and removals at a key: what the closure sees, what it leaves, and how many pairs there are.
+//! Computations and removals at a key: what the closure is called with, what it leaves, and how many pairs there are.
 
 use super::asserts::{assert_number, assert_old, assert_put, assert_test};
 use crate::{Congee, DefaultAllocator, OOMError};
@@ -7,46 +7,47 @@ use std::test::Fail;
 
 type Map = Congee<u64, u64>;
 
-// Puts what the closure returns at the key if it is present, or takes it out; returns what stood there, and what the closure
-// saw.
+// Stores what the closure returns at the key if it is present, or removes the key; returns the previous value, and what
+// the closure was called with.
 fn compute_if_present(map: &mut Map, key: u64, answer: Option<u64>) -> [Option<u64>; 2] {
     let mut seen = None;
-    let mut note = |standing: u64| -> Option<u64> {
-        seen = Some(standing);
+    let mut note = |current: u64| -> Option<u64> {
+        seen = Some(current);
         answer
     };
     match map.compute_if_present(&key, &mut note) {
-        Some((standing, _)) => [Some(standing), seen],
+        Some((current, _)) => [Some(current), seen],
         None => [None, seen],
     }
 }
 
-// Puts what the closure returns at the key; returns what stood there, and what the closure saw, if it was called.
+// Stores what the closure returns at the key; returns the previous value, and what the closure was called with, if it
+// was.
 fn compute_or_insert(
     map: &mut Map,
     key: u64,
     answer: u64,
 ) -> (Result<Option<u64>, OOMError>, Option<Option<u64>>) {
     let mut seen = None;
-    let mut note = |standing: Option<u64>| -> u64 {
-        seen = Some(standing);
+    let mut note = |current: Option<u64>| -> u64 {
+        seen = Some(current);
         answer
     };
     let before = map.compute_or_insert(key, &mut note);
     (before, seen)
 }
 
-// The closure sees what stands at key 7, if anything does, and that is returned.
-fn assert_changed(rt: &impl Abort, map: &mut Map, answer: Option<u64>, standing: Option<u64>) {
+// The closure is called with the current value of key 7, if it is present, and that is returned.
+fn assert_changed(rt: &impl Abort, map: &mut Map, answer: Option<u64>, current: Option<u64>) {
     for found in compute_if_present(map, 7, answer) {
-        assert_old(rt, 7, found, standing);
+        assert_old(rt, 7, found, current);
     }
 }
 
-// The closure sees what stands, if anything does, and that is returned.
-fn assert_set(rt: &impl Abort, map: &mut Map, key: u64, answer: u64, standing: Option<u64>) {
+// The closure is called with the key's current value, if it is present, and that is returned.
+fn assert_set(rt: &impl Abort, map: &mut Map, key: u64, answer: u64, current: Option<u64>) {
     let found = compute_or_insert(map, key, answer);
-    assert_eq!(rt; found, (Ok(standing), Some(standing)), "{key}");
+    assert_eq!(rt; found, (Ok(current), Some(current)), "{key}");
 }
 
 fn count_of(map: &Map) -> Result<usize, OOMError> {
@@ -84,13 +85,13 @@ fn assert_sets(rt: &impl Abort, map: &mut Map) -> Result<(), OOMError> {
 }
 
 #[test]
-fn closures_see_what_stands(rt: HostRuntime) -> Result<(), Fail> {
+fn closures_see_the_current_value(rt: HostRuntime) -> Result<(), Fail> {
     assert_changes(&rt, &mut Congee::new(rt.alloc(), DefaultAllocator {})?)?;
     assert_sets(&rt, &mut Congee::new(rt.alloc(), DefaultAllocator {})?)?;
     Ok(())
 }
 
-// Key 5 is taken out of 17 keys in one leaf, and put there again.
+// Key 5 is removed from 17 keys in one leaf, and inserted again.
 fn assert_removal(rt: &impl Abort, map: &mut Map) -> Result<(), OOMError> {
     for key in 0..17u64 {
         assert_put(rt, key, map.insert(key, key), Ok(None));

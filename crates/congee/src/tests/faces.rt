@@ -14,7 +14,8 @@ use std::alloc::Global;
 use std::process::Abort;
 use std::test::Fail;
 
-// A call with what it has to return. Rows are constants: where a test makes them, each part of each is dear to prove.
+// A call with what it has to return. Rows are constants: where a test makes them, each part of each is expensive to
+// prove.
 type Row = (Call<u64, u64>, Wanted<'static, u64, u64>);
 
 /// Written as its value divided by two; n is read back as 2n.
@@ -65,7 +66,7 @@ fn calls_by_numbers(rt: HostRuntime) -> Result<(), Fail> {
         (U64Call::Insert(0, 8), None),
         (U64Call::Get(u64::MAX), Some(7)),
         (U64Call::Get(0), Some(8)),
-        // another key is set, overwritten and taken out
+        // another key is set, overwritten and removed
         (U64Call::Remove(7), None),
         (U64Call::Insert(7, 70), None),
         (U64Call::Get(7), Some(70)),
@@ -93,7 +94,7 @@ fn reads_values_back_from_their_numbers(rt: HostRuntime) -> Result<(), Fail> {
 }
 
 #[test]
-fn several_keys_stand_beside_each_other(rt: HostRuntime) -> Result<(), Fail> {
+fn several_keys_beside_each_other(rt: HostRuntime) -> Result<(), Fail> {
     const ROWS: [Row; 13] = [
         (Call::Insert(1, 4), Wanted::Old(None)),
         (Call::Insert(2, 7), Wanted::Old(None)),
@@ -148,7 +149,7 @@ fn empty_where_all_leaves_went(rt: HostRuntime) -> Result<(), Fail> {
 }
 
 #[test]
-fn exchanges_where_the_value_stands(rt: HostRuntime) -> Result<(), Fail> {
+fn exchanges_the_expected_value(rt: HostRuntime) -> Result<(), Fail> {
     const ROWS: [Row; 8] = [
         (
             Call::CompareExchange(1, 42, Some(43)),
@@ -194,25 +195,25 @@ fn exchange_returns_the_handed_value(rt: HostRuntime) -> Result<(), Fail> {
     Ok(())
 }
 
-// Raises the number at the key by one, or takes the greatest one out, and counts the calls of its closure.
+// Raises the number at the key by one, or removes the key at `u64::MAX`, and counts the calls of its closure.
 fn raise(map: &mut Congee<u64, u64>, key: u64, calls: &mut u32) -> Option<(u64, Option<u64>)> {
-    let mut raise = |standing: u64| -> Option<u64> {
+    let mut raise = |current: u64| -> Option<u64> {
         *calls = calls.wrapping_add(1);
-        standing.checked_add(1)
+        current.checked_add(1)
     };
     map.compute_if_present(&key, &mut raise)
 }
 
-// A raise at key 1 returns this, and then this stands there.
+// A raise at key 1 returns this, and then its value is this.
 fn assert_raised(
     rt: &impl Abort,
     map: &mut Congee<u64, u64>,
     calls: &mut u32,
     wanted: Option<(u64, Option<u64>)>,
-    standing: Option<u64>,
+    current: Option<u64>,
 ) {
     assert_eq!(rt; raise(map, 1, calls), wanted);
-    assert_old(rt, 1, map.get(&1), standing);
+    assert_old(rt, 1, map.get(&1), current);
 }
 
 #[test]
@@ -226,22 +227,22 @@ fn computes_where_a_key_is_present(rt: HostRuntime) -> Result<(), Fail> {
     let mut map: Congee<u64, u64> = Congee::new(rt.alloc(), DefaultAllocator {})?;
     assert_raised(&rt, &mut map, &mut calls, None, None);
     assert_put(&rt, 1, map.insert(1, u64::MAX - 1), Ok(None));
-    for (raised, standing) in ROWS {
-        assert_raised(&rt, &mut map, &mut calls, raised, standing);
+    for (raised, current) in ROWS {
+        assert_raised(&rt, &mut map, &mut calls, raised, current);
     }
     assert_number(&rt, u128::from(calls), 2);
     Ok(())
 }
 
-// Puts what stands at the key raised by one there, or 11; counts the calls of its closure.
+// Raises the number at the key by one, or stores 11 at a new one; counts the calls of its closure.
 fn raise_or_begin(
     map: &mut Congee<u64, Half>,
     key: u64,
     calls: &mut u32,
 ) -> Result<Option<Half>, OOMError> {
-    let mut count = |standing: Option<u64>| -> u64 {
+    let mut count = |current: Option<u64>| -> u64 {
         *calls = calls.wrapping_add(1);
-        standing.unwrap_or(10).wrapping_add(1)
+        current.unwrap_or(10).wrapping_add(1)
     };
     map.compute_or_insert(key, &mut count)
 }
@@ -353,14 +354,14 @@ fn runs_a_list_of_calls_by_numbers(rt: HostRuntime) -> Result<(), Fail> {
     Ok(())
 }
 
-fn is_told_so(alloc: Global, error: OOMError, wanted: &str) -> Result<bool, Fail> {
+fn reports_it(alloc: Global, error: OOMError, wanted: &str) -> Result<bool, Fail> {
     let told = format!(in alloc; "{error}, {error:?}")?;
     Ok(told.as_str() == wanted)
 }
 
 #[test]
-fn tells_of_missing_memory(rt: HostRuntime) -> Result<(), Fail> {
+fn reports_missing_memory(rt: HostRuntime) -> Result<(), Fail> {
     let text = "Allocator is out of memory!, Allocator is out of memory!";
-    assert_test(&rt, is_told_so(rt.alloc(), OOMError::new(), text)?, true);
+    assert_test(&rt, reports_it(rt.alloc(), OOMError::new(), text)?, true);
     Ok(())
 }

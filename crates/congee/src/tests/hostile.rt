@@ -12,7 +12,7 @@ use std::process::Abort;
 use std::sync::atomic::{AtomicU64, Ordering};
 use std::test::Fail;
 
-// Whether values come back as their numbers are read, and out of an exchange as they were handed in.
+// Whether values come back as their numbers are read, and out of an exchange as they were passed in.
 fn reads_back(map: &mut Congee<u64, Half>) -> bool {
     matches!(map.insert(1, Half(7)), Ok(None))
         && matches!(map.get(&1), Some(Half(6)))
@@ -52,14 +52,14 @@ impl Word for Zero {
     }
 }
 
-// How many pairs two ranges hold, one of them the other way round.
+// How many pairs two ranges contain, one of them with its ends exchanged.
 fn in_ranges(map: &Congee<Zero, u64>) -> [usize; 2] {
     let mut buffer = [(0, 0); 2];
     let first = map.range(&Zero(0), &Zero(9), &mut buffer);
     [first, map.range(&Zero(9), &Zero(0), &mut buffer)]
 }
 
-// Whether all keys are one key, which no range holds.
+// Whether all keys are one key, which no range contains.
 fn has_one_key(map: &mut Congee<Zero, u64>) -> bool {
     matches!(map.insert(Zero(1), 10), Ok(None))
         && matches!(map.insert(Zero(2), 20), Ok(Some(10)))
@@ -89,7 +89,7 @@ fn stores_four(map: &mut Budgeted) -> bool {
     true
 }
 
-// Whether a full node takes no fifth key where the budget has no larger one, and takes it in another's place.
+// Whether a full node takes no fifth key where the budget has no larger one, and takes it in place of another.
 fn takes_a_place(map: &mut Budgeted) -> bool {
     stores_four(map)
         && map.insert(4, 4).is_err()
@@ -110,7 +110,7 @@ fn full_node_takes_a_key_in_anothers_place(rt: HostRuntime) -> Result<(), Fail> 
     Ok(())
 }
 
-// Puts the number of the closure's own calls at key 1. Returns that number, and what stands there then.
+// Stores the number of the closure's own calls at key 1. Returns that number, and the value of the key then.
 fn numbered(map: &mut Budgeted) -> (u64, Option<u64>) {
     let mut calls = 0u64;
     let mut number = |_standing: Option<u64>| -> u64 {
@@ -132,7 +132,7 @@ fn closure_counts_its_calls(rt: HostRuntime) -> Result<(), Fail> {
     Ok(())
 }
 
-/// Refuses every second request. Counts the bytes that are granted and not given back.
+/// Refuses every second request. Counts the bytes that are granted and not yet freed.
 #[derive(Drop)]
 struct Fickle<'a> {
     requests: &'a AtomicU64,
@@ -157,7 +157,7 @@ impl Allocator for Fickle<'_> {
 
 type FickleMap<'a> = Congee<u64, u64, Fickle<'a>>;
 
-// A call of each kind, at a key of a few. Returns what stood there, or nothing where it is refused.
+// A call of each kind, at a key of a few. Returns the previous value, or `None` where memory is refused.
 fn make(map: &mut FickleMap<'_>, key: u64, value: u64) -> Option<Option<u64>> {
     match value % 5 {
         0 => Some(map.remove(&key)),
@@ -169,7 +169,7 @@ fn make(map: &mut FickleMap<'_>, key: u64, value: u64) -> Option<Option<u64>> {
     }
 }
 
-// The same at the plain map.
+// The same for the plain map.
 fn make_plain(plain: &mut SortedPairs<u64>, key: u64, value: u64) -> Option<u64> {
     match value % 5 {
         0 => plain.remove(key),
@@ -178,8 +178,8 @@ fn make_plain(plain: &mut SortedPairs<u64>, key: u64, value: u64) -> Option<u64>
     }
 }
 
-// Makes so many calls at both maps; a refused one is made at the first alone. The replies are the same all along, and what
-// is held is what is charged. Returns how many were refused.
+// Makes so many calls on both maps; a refused one is made on the first alone. The replies are the same throughout, and
+// the map is charged what its allocator counts. Returns how many calls were refused.
 fn assert_fickle(
     rt: &impl Abort,
     map: &mut FickleMap<'_>,

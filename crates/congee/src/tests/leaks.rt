@@ -1,4 +1,4 @@
-//! What maps give back: the sizes of their nodes to an allocator whose count outlives them, and the owners that they hold.
+//! What maps free: the sizes of their nodes, in an allocator whose count outlives them, and the owners that they hold.
 
 ghost use Rattle.std.specs.Prelude.{None};
 
@@ -8,7 +8,7 @@ use std::sync::Arc;
 use std::sync::atomic::{AtomicU64, Ordering};
 use std::test::Fail;
 
-/// Grants so many requests, and refuses the ones after them. Counts the bytes that are granted and not given back.
+/// Grants so many requests, and refuses the ones after them. Counts the bytes that are granted and not yet freed.
 #[derive(Drop)]
 struct Metered<'a> {
     held: &'a AtomicU64,
@@ -32,7 +32,7 @@ impl Allocator for Metered<'_> {
     }
 }
 
-/// Counts the pairs that it is told of.
+/// Counts the pairs that it is called with.
 #[derive(Drop)]
 pub(super) struct Tally<'a> {
     pub(super) told: &'a AtomicU64,
@@ -80,7 +80,7 @@ fn dropped(
     Ok(is_refused(&mut map, keys))
 }
 
-// The same of a map that is drained. Returns how many pairs the closure is handed.
+// The same of a map that is drained. Returns with how many pairs the closure is called.
 fn drained(alloc: Global, held: &AtomicU64, told: &AtomicU64, keys: u64) -> Result<u64, OOMError> {
     let mut map = map_over(alloc, held, told, 100)?;
     is_refused(&mut map, keys);
@@ -89,7 +89,8 @@ fn drained(alloc: Global, held: &AtomicU64, told: &AtomicU64, keys: u64) -> Resu
     Ok(count)
 }
 
-// What is still held, and how many pairs were told, after the drop of a map with so many keys.
+// The bytes that are still held, and with how many pairs the drainer was called, after the drop of a map with so many
+// keys.
 fn after_drop(alloc: Global, requests: u64, keys: u64) -> (Option<bool>, u64, u64) {
     let held = AtomicU64::new(0);
     let told = AtomicU64::new(0);
@@ -98,7 +99,7 @@ fn after_drop(alloc: Global, requests: u64, keys: u64) -> (Option<bool>, u64, u6
     (refused, left, told.load(Ordering::Relaxed))
 }
 
-// The same after its drain, with how many pairs the closure was handed.
+// The same after its drain, with how many pairs the closure was called with.
 fn after_drain(alloc: Global, keys: u64) -> (Option<u64>, u64, u64) {
     let held = AtomicU64::new(0);
     let told = AtomicU64::new(0);
@@ -146,7 +147,7 @@ fn numbers_dropped(alloc: Global, held: &AtomicU64, keys: u64) -> Result<(), OOM
     Ok(())
 }
 
-// What is still held then.
+// The bytes that are still held then.
 fn held_by_numbers(alloc: Global, keys: u64) -> Option<u64> {
     let held = AtomicU64::new(0);
     match numbers_dropped(alloc, &held, keys) {
@@ -162,7 +163,7 @@ fn map_from_numbers_gives_sizes_back(rt: HostRuntime) {
 
 type Owners<'a> = CongeeArc<u64, u64, Metered<'a>>;
 
-// Owners of one value go in and come out again. Returns how many there are beside the first after each step.
+// Stores owners of one value and takes them out again. Returns how many there are, the first included, after each step.
 fn owners_within(map: &mut Owners<'_>, owner: &Arc<u64>) -> Result<[usize; 5], OOMError> {
     for key in 0..300u64 {
         map.insert(key, owner.clone()?)?;
@@ -190,7 +191,7 @@ fn owners_until_dropped(
     owners_within(&mut CongeeArc::new_in(alloc, allocator)?, owner)
 }
 
-// How many there are after each step and at the end, and what is still held then.
+// How many there are after each step and at the end, and the bytes that are still held then.
 fn owners(alloc: Global) -> Result<([usize; 5], usize, u64), OOMError> {
     let held = AtomicU64::new(0);
     let owner = Arc::new(alloc, 7u64)?;
@@ -205,7 +206,7 @@ fn owners_are_given_back(rt: HostRuntime) -> Result<(), Fail> {
     Ok(())
 }
 
-// Hands owners of one value over until one is refused. Returns how many weren't.
+// Inserts owners of one value until one is refused. Returns how many weren't.
 fn stored_until_refused(
     map: &mut CongeeArc<u64, u64, Budget>,
     owner: &Arc<u64>,
@@ -219,7 +220,7 @@ fn stored_until_refused(
     Ok(100)
 }
 
-// How many are stored under a limit, and how many owners there are while the map stands.
+// How many are stored under a limit, and how many owners there are while the map exists.
 fn owners_after_refusal(alloc: Global, limit: u64) -> Result<(u64, usize), OOMError> {
     let owner = Arc::new(alloc, 7u64)?;
     let mut map = CongeeArc::new_in(alloc, Budget::new(limit))?;

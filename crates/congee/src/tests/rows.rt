@@ -1,7 +1,7 @@
 //! Rows of calls with what each has to return, and their comparison with the replies of a map.
 //!
-//! Rows are `Copy`. A reply is owned by a helper that returns a `bool` or a number, since each assertion beside an owned
-//! value makes a test dearer to prove.
+//! Rows are `Copy`. A reply is owned by a helper that returns a `bool` or a number, since each assertion beside an
+//! owned value makes a test more expensive to prove.
 
 use super::asserts::assert_number;
 use crate::calls::{Call, Reply, make_call, run_calls};
@@ -62,7 +62,7 @@ pub(super) fn assert_rows<K: Word + Debug + PartialEq, V: Word + Debug + Partial
     }
 }
 
-/// Makes them at a new map.
+/// Makes them on a new map.
 pub(super) fn assert_run<K: Word + Debug + PartialEq, V: Word + Debug + PartialEq>(
     rt: &impl Abort,
     alloc: Global,
@@ -109,7 +109,7 @@ fn list_wanted<K: Word + PartialEq, V: Word + PartialEq>(
     Ok(count_wanted(&replies, rows))
 }
 
-/// Makes the calls of the rows at a new map, as one list, and compares the replies.
+/// Makes the calls of the rows on a new map, as one list, and compares the replies.
 pub(super) fn assert_list<K: Word + PartialEq, V: Word + PartialEq>(
     rt: &impl Abort,
     alloc: Global,
@@ -149,7 +149,7 @@ fn number_replies<V: Word + PartialEq>(
     is_number_wanted(&make_u64_call(alloc, map, call), wanted)
 }
 
-/// Makes the calls of the rows at a new map, one after another, each of which returns a value or none.
+/// Makes the calls of the rows on a new map, one after another, each of which returns a value or none.
 pub(super) fn assert_number_run<V: Word + Debug + PartialEq>(
     rt: &impl Abort,
     alloc: Global,
@@ -199,7 +199,7 @@ fn number_list_wanted<V: Word + PartialEq>(
     Ok(count_number_wanted(&replies, rows))
 }
 
-/// Makes the calls of the rows at a new map, as one list, and compares the replies.
+/// Makes the calls of the rows on a new map, as one list, and compares the replies.
 pub(super) fn assert_number_list<V: Word + PartialEq>(
     rt: &impl Abort,
     alloc: Global,

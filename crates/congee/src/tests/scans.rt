@@ -7,14 +7,15 @@ use std::alloc::Global;
 use std::process::Abort;
 use std::test::Fail;
 
-/// The keys of a map, how many of them are put there, a range of it into a buffer of some size, and how many pairs that is.
+/// The keys of a map, how many of them are stored, a range of it into a buffer of some size, and how many pairs that
+/// is.
 type Scan = ([u64; 3], usize, (u64, u64), usize, usize);
 
 const NEAR: [u64; 3] = [4294967295, 4294967247, 0];
 
 const LOW: u64 = 4294967179;
 
-// Numbers alone: a call for each row would be dear to prove.
+// Numbers alone: a call for each row would be expensive to prove.
 const SCANS: [Scan; 14] = [
     ([1, 0, 0], 1, (1, 2), 2, 1),
     ([0, 0, 0], 1, (0, 10), 8, 1),
@@ -148,7 +149,7 @@ fn small_and_large_scans(rt: HostRuntime) -> Result<(), Fail> {
     Ok(())
 }
 
-// Ranges round a key, up to it and from it on.
+// Ranges around a key, up to it and from it on.
 fn assert_ranges_at(rt: &impl Abort, alloc: Global, both: &Both, key: u64) -> Result<(), OOMError> {
     let ranges = [
         (key.wrapping_sub(100), key.wrapping_add(300), 40),
@@ -163,7 +164,7 @@ fn assert_ranges_at(rt: &impl Abort, alloc: Global, both: &Both, key: u64) -> Re
 
 fn assert_changing(rt: &impl Abort, alloc: Global, both: &mut Both) -> Result<(), OOMError> {
     for i in 0..3000u64 {
-        // keys in a few places of 64 bits, so that paths part at each byte
+        // keys in a few places of 64 bits, so that paths differ at each byte
         let key = (scattered(i) % 300).wrapping_shl(8 * (i % 7) as u32);
         if scattered(i).wrapping_shr(40) % 3 == 0 {
             both.remove(rt, key);

@@ -23,7 +23,7 @@ fn is_owner(owner: Option<&Arc<String>>, wanted: Option<Text>) -> bool {
     }
 }
 
-/// A call at a map of texts.
+/// A call on a map of texts.
 #[derive(Clone, Copy, Debug)]
 enum Said {
     Get(u64),
@@ -43,7 +43,7 @@ enum Wanted {
     Listed(&'static [u64]),
 }
 
-// The call that is said so.
+// The call of the row.
 fn made_of(alloc: Global, said: Said) -> Result<PayloadCall<u64, Arc<String>>, AllocError> {
     Ok(match said {
         Said::Get(key) => PayloadCall::Get(key),
@@ -106,7 +106,7 @@ fn wanted_replies(
     Ok(count_wanted(&replies_to(alloc, map, rows)?, rows))
 }
 
-// The calls, made at a new map, have the wanted replies.
+// The calls, made on a new map, have the wanted replies.
 fn assert_run(rt: &impl Abort, alloc: Global, rows: &[(Said, Wanted)]) -> Result<(), OOMError> {
     let count = wanted_replies(alloc, &mut CongeeArc::new(alloc)?, rows)?;
     assert_number(rt, count as u128, rows.len() as u128);
@@ -140,8 +140,8 @@ fn gives_back_what_is_replaced(rt: HostRuntime) -> Result<(), Fail> {
     Ok(())
 }
 
-// Puts the owner, or none, in the place of what stands at the key. Returns whether the closure saw the wanted text there,
-// or wasn't called where none is wanted, and whether the call gave that back.
+// Replaces the current value of the key by the owner, or removes the key for none. Returns whether the closure was
+// called with the wanted text, or wasn't called where none is wanted, and whether the call returned that text.
 fn changes(
     map: &mut CongeeArc<u64, String>,
     key: u64,
@@ -150,8 +150,8 @@ fn changes(
 ) -> bool {
     let mut seen = wanted.is_none();
     let mut next = given;
-    let mut change = |standing: &Arc<String>| -> Option<Arc<String>> {
-        seen = is_owner(Some(standing), wanted);
+    let mut change = |current: &Arc<String>| -> Option<Arc<String>> {
+        seen = is_owner(Some(current), wanted);
         next.take()
     };
     let old = map.compute_if_present(key, &mut change);
@@ -174,12 +174,12 @@ fn assert_changes(
 }
 
 #[test]
-fn computes_on_what_stands(rt: HostRuntime) -> Result<(), Fail> {
+fn computes_on_the_current_value(rt: HostRuntime) -> Result<(), Fail> {
     assert_changes(&rt, rt.alloc(), &mut CongeeArc::new(rt.alloc())?)?;
     Ok(())
 }
 
-// Puts an owner of the key's own number there; returns whether none was.
+// Stores an owner of the key's own number; returns whether the key was absent.
 fn is_first_owner(
     alloc: Global,
     map: &mut CongeeArc<u64, u64>,

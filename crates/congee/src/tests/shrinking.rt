@@ -1,4 +1,4 @@
-//! Nodes that shrink and nodes that go: what is charged after each call.
+//! Nodes that shrink and nodes that are removed: what is charged after each call.
 
 mod node_list;
 mod weighed;
@@ -40,7 +40,7 @@ fn assert_each(rt: &impl Abort, map: &mut Limited, steps: &[Step]) {
     }
 }
 
-// The steps at a new map with a limit.
+// The steps on a new map with a limit.
 fn assert_steps(
     rt: &impl Abort,
     alloc: Global,
@@ -58,7 +58,7 @@ fn fill(map: &mut Limited, keys: u64) -> Result<(), OOMError> {
     Ok(())
 }
 
-// The steps at a map with a limit, in which the first keys from 0 on stand.
+// The steps on a map with a limit that stores the first keys from 0 on.
 fn assert_steps_after(
     rt: &impl Abort,
     alloc: Global,
@@ -161,7 +161,8 @@ fn one_form_at_a_time(rt: HostRuntime) -> Result<(), Fail> {
     Ok(())
 }
 
-// Six nodes that have one key alone in the end, and go with it: its leaf and the five above that.
+// Six nodes that have one key alone in the end, and are removed with it: its leaf and the five
+// above that.
 #[test]
 fn a_chain_goes(rt: HostRuntime) -> Result<(), Fail> {
     const STEPS: [Step; 12] = [
@@ -208,7 +209,8 @@ fn each_border(rt: HostRuntime) -> Result<(), Fail> {
     Ok(())
 }
 
-// One key below so many nodes that have another child alone each; those go, and then the key.
+// One key below so many nodes that each have one other child; those children are removed, and then
+// the key.
 fn assert_chain(rt: &impl Abort, alloc: Global, length: u64) -> Result<(), OOMError> {
     let mut both = Weighed::new(alloc, u64::MAX)?;
     both.insert(rt, 0, 0);
@@ -247,7 +249,7 @@ fn key_of(choice: u64) -> u64 {
     (choice % 64).wrapping_mul(apart)
 }
 
-// Each of the three calls that take a key out.
+// Each of the three calls that remove a key.
 fn take_out(rt: &impl Abort, both: &mut Weighed, key: u64, call: u64) {
     match call {
         0 => both.remove(rt, key),
@@ -281,7 +283,7 @@ fn charged_like_a_list_of_nodes(rt: HostRuntime) -> Result<(), Fail> {
     Ok(())
 }
 
-// A window of a thousand keys moves on: what is charged stays that of the first.
+// A window of a thousand keys moves on: what is charged is still what the first window was charged.
 fn assert_flat(rt: &impl Abort, alloc: Global, apart: u64) -> Result<(), OOMError> {
     let mut map = Congee::new(alloc, Budget::new(u64::MAX))?;
     let mut most = 0u128;

@@ -11,7 +11,7 @@ fn fill(map: &mut Congee<u64, u64>, pairs: u64) -> Result<(), OOMError> {
     Ok(())
 }
 
-fn keys_told(map: &Congee<u64, u64>) -> Result<u64, OOMError> {
+fn keys_noted(map: &Congee<u64, u64>) -> Result<u64, OOMError> {
     let keys = map.keys()?;
     Ok(keys.len() as u64)
 }
@@ -26,16 +26,16 @@ fn pairs_ranged(alloc: Global, map: &Congee<u64, u64>) -> Result<u64, OOMError> 
     Ok(map.range(&0, &u64::MAX, &mut buffer) as u64)
 }
 
-// How many pairs the list of keys, the statistics and a range tell of.
+// How many pairs the list of keys, the statistics and a range report.
 fn told(alloc: Global, map: &Congee<u64, u64>) -> Result<[u64; 3], OOMError> {
     Ok([
-        keys_told(map)?,
+        keys_noted(map)?,
         pairs_counted(map)?,
         pairs_ranged(alloc, map)?,
     ])
 }
 
-fn told_of(alloc: Global, pairs: u64) -> Result<[u64; 3], OOMError> {
+fn noted_of(alloc: Global, pairs: u64) -> Result<[u64; 3], OOMError> {
     let mut map = Congee::new(alloc, DefaultAllocator {})?;
     fill(&mut map, pairs)?;
     told(alloc, &map)
@@ -44,7 +44,7 @@ fn told_of(alloc: Global, pairs: u64) -> Result<[u64; 3], OOMError> {
 #[test]
 fn no_size_is_refused(rt: HostRuntime) -> Result<(), Fail> {
     for pairs in [0, 1, 2000] {
-        let told = told_of(rt.alloc(), pairs)?;
+        let told = noted_of(rt.alloc(), pairs)?;
         assert_eq!(rt; told, [pairs, pairs, pairs]);
     }
     Ok(())

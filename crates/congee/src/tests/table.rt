@@ -1,4 +1,4 @@
-//! The table of rows, which stands on the typed face.
+//! The table of rows, which is built on the typed face.
 
 // A row by its id, group and value, also in a constant.
 macro_rules! row {

@@ -32,7 +32,7 @@ fn key_of(kind: Kind, i: u64) -> u64 {
     }
 }
 
-// Both maps return alike at the first keys and their neighbours.
+// Both maps return the same at the first keys and their neighbours.
 fn assert_kind_alike(rt: &impl Abort, both: &Both, kind: Kind, count: u64) {
     for i in 0..count {
         let key = key_of(kind, i);
@@ -42,7 +42,7 @@ fn assert_kind_alike(rt: &impl Abort, both: &Both, kind: Kind, count: u64) {
     }
 }
 
-// Both maps are alike all along while keys of this kind go in.
+// Both maps return the same throughout while keys of this kind are inserted.
 fn assert_kind(rt: &impl Abort, both: &mut Both, kind: Kind) {
     for i in 0..2000u64 {
         both.insert(rt, key_of(kind, i), i);
@@ -79,7 +79,7 @@ pub(super) fn crowded(i: u64) -> u64 {
     (x % 6).wrapping_shl(8 * (x.wrapping_shr(16) % 8) as u32)
 }
 
-// Both maps return alike at each such key.
+// Both maps return the same at each such key.
 fn assert_crowd_alike(rt: &impl Abort, both: &Both) {
     for place in 0..8u32 {
         for byte in 0..7u64 {
@@ -107,7 +107,7 @@ fn removals_agree_with_the_plain_map(rt: HostRuntime) -> Result<(), Fail> {
     Ok(())
 }
 
-// Puts two keys that part at this byte into an empty map.
+// Inserts two keys that differ at this byte into an empty map.
 fn assert_split(rt: &impl Abort, map: &mut U64Congee<u64>, place: u32) {
     let first = 0x1111_1111_1111_1111u64;
     let other = first ^ 0x33u64.wrapping_shl(8 * (place & 7));
@@ -118,7 +118,7 @@ fn assert_split(rt: &impl Abort, map: &mut U64Congee<u64>, place: u32) {
     assert_old(rt, other, map.get(other), Some(2));
 }
 
-// Puts 256 keys so far apart into an empty map, one after another.
+// Inserts 256 keys so far apart into an empty map, one after another.
 fn assert_growth(rt: &impl Abort, map: &mut U64Congee<u64>, shift: u32) {
     for i in 0..256u64 {
         let key = i.wrapping_shl(shift);

@@ -12,7 +12,7 @@ fn has_keys(map: &Congee<u64, u64>, wanted: &[u64]) -> Result<bool, OOMError> {
     Ok(keys.as_slice() == wanted)
 }
 
-// 17 keys in one leaf, one of them taken out and put back, and then keys far from them.
+// 17 keys in one leaf, one of them removed and inserted again, and then keys far from them.
 fn assert_all_keys(rt: &impl Abort, map: &mut Congee<u64, u64>) -> Result<(), OOMError> {
     let wanted = [
         0,
@@ -58,7 +58,7 @@ fn keys_ascend(rt: HostRuntime) -> Result<(), Fail> {
     Ok(())
 }
 
-/// Notes what it is told.
+/// Records the pairs that it is called with.
 #[derive(Drop)]
 struct Notes<'a> {
     told: &'a RefCell<Vec<(u64, u64)>>,
@@ -76,7 +76,7 @@ impl Drainer<u64, u64> for Notes<'_> {
 
 type NotedMap<'a> = Congee<u64, u64, DefaultAllocator, Notes<'a>>;
 
-// Puts three pairs into a map whose drainer notes what it is told.
+// Inserts three pairs into a map whose drainer records its pairs.
 fn fill(map: &mut NotedMap<'_>) -> Result<(), OOMError> {
     for (key, value) in [(2, 20), (1, 10), (u64::MAX, 30)] {
         map.insert(key, value)?;
@@ -91,8 +91,8 @@ fn noted<'a>(alloc: Global, told: &'a RefCell<Vec<(u64, u64)>>) -> Result<NotedM
     Ok(map)
 }
 
-// What the drainer is told when the map is dropped.
-fn told_at_drop(alloc: Global) -> Result<Vec<(u64, u64)>, OOMError> {
+// The pairs that the drainer is called with when the map is dropped.
+fn called_at_drop(alloc: Global) -> Result<Vec<(u64, u64)>, OOMError> {
     let told = RefCell::new(Vec::new(alloc));
     let map = noted(alloc, &told)?;
     drop(map);
@@ -100,14 +100,14 @@ fn told_at_drop(alloc: Global) -> Result<Vec<(u64, u64)>, OOMError> {
 }
 
 #[test]
-fn drainer_is_told_at_the_drop(rt: HostRuntime) -> Result<(), Fail> {
+fn drainer_is_called_at_the_drop(rt: HostRuntime) -> Result<(), Fail> {
     let wanted = [(1, 10), (2, 20), (u64::MAX, 30)];
-    assert_pairs(&rt, 0, &told_at_drop(rt.alloc())?, &wanted);
+    assert_pairs(&rt, 0, &called_at_drop(rt.alloc())?, &wanted);
     Ok(())
 }
 
-// What the closure of a drain is told, and then what the drainer is.
-fn told_by_drain(alloc: Global) -> Result<Vec<(u64, u64)>, OOMError> {
+// The pairs that the closure of a drain is called with, and then those that the drainer is.
+fn called_by_drain(alloc: Global) -> Result<Vec<(u64, u64)>, OOMError> {
     let told = RefCell::new(Vec::new(alloc));
     let map = noted(alloc, &told)?;
     let mut list = Vec::new(alloc);
@@ -122,9 +122,9 @@ fn told_by_drain(alloc: Global) -> Result<Vec<(u64, u64)>, OOMError> {
 }
 
 #[test]
-fn drain_tells_its_closure_alone(rt: HostRuntime) -> Result<(), Fail> {
+fn drain_calls_its_closure_alone(rt: HostRuntime) -> Result<(), Fail> {
     let wanted = [(1, 10), (2, 20), (u64::MAX, 30)];
-    assert_pairs(&rt, 0, &told_by_drain(rt.alloc())?, &wanted);
+    assert_pairs(&rt, 0, &called_by_drain(rt.alloc())?, &wanted);
     Ok(())
 }
 
@@ -136,7 +136,7 @@ fn tell<D: Drainer<u64, u64>>(drainer: &D) -> bool
 }
 
 #[test]
-fn closure_is_told(rt: HostRuntime) -> Result<(), Fail> {
+fn closure_is_called(rt: HostRuntime) -> Result<(), Fail> {
     let told = RefCell::new((0u64, 0u64));
     let drainer = FnDrain::new(|key: u64, value: u64| {
         let _ = told.try_replace((key, value));
@@ -148,7 +148,7 @@ fn closure_is_told(rt: HostRuntime) -> Result<(), Fail> {
 }
 
 #[test]
-fn nobody_is_told(rt: HostRuntime) -> Result<(), Fail> {
+fn nobody_is_called(rt: HostRuntime) -> Result<(), Fail> {
     assert_test(&rt, tell(&NoDrain {}), false);
     Ok(())
 }

@@ -1,4 +1,4 @@
-//! Whole schedules: the events that lines say, and what is told of them.
+//! Whole schedules: the events that lines parse as, and what is written for them.
 
 use crate::tests::{BROKEN, Outcome, Torn, fills, gives};
 use std::test::Fail;
@@ -53,12 +53,12 @@ const REPLAYED: [(&str, &str); 14] = [
         "start 0 insert 1 1\nstep 0 8\nstart 0 insert 256 2\nstep 0 13\nstart 0 insert 65536 3\nstep 0 13\nstart 0 remove 1\nstep 0 21\nstart 0 remove 256\nstep 0 21\nstart 1 range 0 131072 1\nstep 1 23\n",
         "0 ok none\n0 ok none\n0 ok none\n0 1\n0 2\n1 pair 65536 3\ncontent 65536=3\n",
     ),
-    // the greatest key is given by no range
+    // no range contains the key 2^64 - 1
     (
         "start 0 insert 18446744073709551615 7\nstep 0 8\nstart 1 range 0 18446744073709551615 9\nstep 1 9\n",
         "0 ok none\nskipped\ncontent 18446744073709551615=7\n",
     ),
-    // no answer: another value stands for it, and a present key is taken out
+    // a closure that answers nothing: `orinsert` stores its own value, and `present` removes the key
     (
         "start 0 orinsert 2 7\nstep 0 9\nstart 1 orinsert 2 9\nstep 1 7\nanswer 1 8\nstep 1 4\nstart 2 present 2\nstep 2 7\nanswer 2 none\nstep 2 6\n",
         "0 ok none\n1 ok 7\n2 8 none\ncontent\n",
@@ -68,7 +68,7 @@ const REPLAYED: [(&str, &str); 14] = [
         "start 0 insert 1 42\nstep 0 8\nstart 1 cas 1 42 none\nstep 1 13\nstart 2 cas 1 42 43\nstep 2 4\nstart 3 present 1\nstep 3 4\nstart 4 remove 1\nstep 4 4\n",
         "0 ok none\n1 ok none\n2 err none\n3 none\n4 none\ncontent\n",
     ),
-    // numbers of calls, slots, keys and values go to the greatest
+    // numbers of calls, slots, keys and values go up to 2^64 - 1
     (
         "start 18446744073709551615 insert 18446744073709551615 18446744073709551615\nstep 18446744073709551615 8\nreclaim 18446744073709551615\ntorn 18446744073709551615 node 18446744073709551615\n",
         "18446744073709551615 ok none\nskipped\nskipped\ncontent 18446744073709551615=18446744073709551615\n",
@@ -90,7 +90,7 @@ fn replays(rt: HostRuntime) -> Result<(), Fail> {
     Ok(())
 }
 
-/// Lines that say nothing.
+/// Lines that aren't events.
 const BAD: [&str; 34] = [
     "\n",
     "start",
@@ -138,8 +138,8 @@ fn bad_lines(rt: HostRuntime) -> Result<(), Fail> {
     Ok(())
 }
 
-/// Eleven times as many steps as a line may have are more than a schedule may have; ten times aren't. What is read, and
-/// what is told.
+/// Eleven times as many steps as a line may have are more than a schedule may have; ten times aren't. The input, and
+/// what is written to `errors`.
 const FAULTS: [(&str, &str); 5] = [
     ("start 1 get 1\nstep  1\n", "congee: bad line 2\n"),
     (
@@ -170,7 +170,7 @@ fn first_fault(rt: HostRuntime) -> Result<(), Fail> {
     Ok(())
 }
 
-// A read fails in a line, whatever stood in it; a bad line before that is told.
+// A read fails in a line, whatever was read of it; a bad line before that is reported.
 #[test]
 fn torn_schedules(rt: HostRuntime) -> Result<(), Fail> {
     let broken = Outcome {

@@ -1,4 +1,4 @@
-//! Texts of worked rows, counts that stay at the greatest number, and what the derives show.
+//! Texts of worked rows, counts that saturate, and what the derives show.
 
 use crate::base_node::NodeType;
 use crate::error::OOMError;

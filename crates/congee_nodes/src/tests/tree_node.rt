@@ -1,7 +1,7 @@
 //! Both kinds of nodes of a table: each call once.
 
 ghost use Rattle.std.specs.Prelude.{◌≡◌, [], ◌∷◌};
-ghost use Rattle.congee_base.specs.declared.base_node.NodeType.TheVariants.{N4};
+ghost use Rattle.node_base.specs.declared.base_node.NodeType.TheVariants.{N4};
 
 use crate::base_node::NodeType;
 use crate::child::{Child, ChildRef};
@@ -92,7 +92,7 @@ fn roots_have_room_for_each_byte(rt: HostRuntime) -> Result<(), Fail> {
     Ok(())
 }
 
-// A table's slot holds a node of payloads of 8 bytes in 64 bytes, its own tag included, whatever the node's form and kind.
+// A table's slot holds a node of payloads of 8 bytes in 64 bytes, its tag included, whatever the node's form and kind.
 #[test]
 fn slots_are_small(rt: HostRuntime) -> Result<(), Fail> {
     assert_eq!(rt; size_of::<TreeNode<u64>>(), 56);

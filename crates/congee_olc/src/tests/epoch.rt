@@ -1,10 +1,10 @@
 //! Pins and retirements in turn, at the counts where they meet.
 
 ghost use Rattle.std.specs.Prelude.{◌≡◌, None};
-ghost use Rattle.congee_sync.specs.Epoch.{life_of};
+ghost use Rattle.olc_words.specs.Epoch.{life_of};
 
 use crate::epoch::Pins;
-use congee_map::error::OOMError;
+use spec_map::error::OOMError;
 use std::alloc::Global;
 use std::test::Fail;
 

@@ -1,9 +1,9 @@
 -- Places of keys among ascending pairs.
 use Rattle.std.specs.Prelude.{◌≡◌, ℕ, ◌<◌, ◌≤◌, length, slice_index_or}
-use Rattle.congee_map.specs.Map.{Pairs}
+use Rattle.spec_map.specs.Map.{Pairs}
 
 -- the pair at this place has the key
-pub record IsAt {P : Type 0} (m : Pairs P) (k at : ℕ) : Type 0 where
+pub record IsPairAt {P : Type 0} (m : Pairs P) (k at : ℕ) : Type 0 where
   pub in_range : at < length m
   pub has_key : (d : ℕ × P) → (slice_index_or m at d).0 ≡ k
 

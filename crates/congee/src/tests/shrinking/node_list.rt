@@ -1,5 +1,5 @@
-//! The nodes of a map as a plain list, by the rules of the tree alone: what is charged after each call, and whether a limit
-//! refuses an insertion.
+//! The nodes of a map as a plain list, by the rules of the tree alone: what is charged after each call, and whether a
+//! limit refuses an insertion.
 
 use crate::OOMError;
 use std::alloc::Global;
@@ -31,7 +31,7 @@ impl Form {
         }
     }
 
-    // With so many entries at most, a node but the root is due.
+    // A node other than the root that has at most so many entries is due to shrink.
     fn few(self) -> u64 {
         match self {
             Form::N4 => 0,
@@ -58,8 +58,8 @@ impl Form {
     }
 }
 
-/// A node: how many bytes its prefix has, these bytes as the first of a number with zeros behind them, its form, and how many
-/// entries it has.
+/// A node: how many bytes its prefix has, these bytes as the first of a number with zeros behind them, its form, and
+/// how many entries it has.
 #[derive(Clone, Copy)]
 struct Item {
     length: u32,
@@ -68,7 +68,7 @@ struct Item {
     entries: u64,
 }
 
-// The length of a place whose node is gone: no prefix has so many bytes.
+// The length of a place whose node is removed: no prefix has so many bytes.
 const GONE: u32 = 9;
 
 // The first bytes of a key, with zeros behind them.
@@ -157,7 +157,7 @@ impl NodeList {
         first
     }
 
-    // Puts a node in the place of the one with its prefix.
+    // Replaces the node with its prefix by another.
     fn write(&mut self, new: Item) {
         for item in self.items.iter_mut() {
             if item.length == new.length && item.bits == new.bits {
@@ -194,7 +194,7 @@ impl NodeList {
         })
     }
 
-    // One entry more in a node, which grows for it where it is full, and a size besides. Returns whether that is granted.
+    // One entry more in a node, which grows for it if it is full, and another size. Returns whether that is granted.
     fn fill(&mut self, node: Item, besides: u64) -> bool {
         let mut more = node;
         if node.entries == node.form.room() {
@@ -211,7 +211,7 @@ impl NodeList {
         true
     }
 
-    // A node that has the bytes that the key and another node share, and the key's leaf. Returns whether they are granted.
+    // A node with the bytes that the key and another node share, and the key's leaf. Returns whether they are granted.
     fn split(&mut self, key: u64, lower: Item) -> Result<bool, OOMError> {
         if !self.charge(128) {
             return Ok(false);

@@ -46,7 +46,7 @@ impl Weighed {
         assert_number(rt, self.map.charged(), u128::from(self.nodes.charged()));
     }
 
-    /// Inserts a key: the map answers and is charged like the lists.
+    /// Inserts a key: the map returns and is charged the same as the lists.
     pub(super) fn insert(&mut self, rt: &impl Abort, key: u64, value: u64) {
         let wanted = self.inserted(key, value);
         assert_put(rt, key, self.map.insert(key, value), wanted);
@@ -60,25 +60,25 @@ impl Weighed {
         self.assert_charged(rt);
     }
 
-    /// Takes a key out by a computation, the same.
+    /// Removes a key by a computation, the same.
     pub(super) fn compute_nothing(&mut self, rt: &impl Abort, key: u64) {
         let wanted = self.removed(key);
         let mut nothing = |_standing: u64| -> Option<u64> { None };
         let before = match self.map.compute_if_present(&key, &mut nothing) {
-            Some((standing, _)) => Some(standing),
+            Some((current, _)) => Some(current),
             None => None,
         };
         assert_old(rt, key, before, wanted);
         self.assert_charged(rt);
     }
 
-    /// Takes a key out by an exchange, the same.
+    /// Removes a key by an exchange, the same.
     pub(super) fn exchange_for_nothing(&mut self, rt: &impl Abort, key: u64) {
         let wanted = self.removed(key);
         let old = wanted.unwrap_or(0);
         let before = match self.map.compare_exchange(&key, &old, None) {
             Ok(_) => Some(old),
-            Err(standing) => standing,
+            Err(current) => current,
         };
         assert_old(rt, key, before, wanted);
         self.assert_charged(rt);

@@ -16,7 +16,7 @@ const ROWS: [(TableCall, Wanted); 4] = [
     (TableCall::Group(5, 0, 8), Wanted::Listed(&[(1, 10)])),
 ];
 
-/// How many calls were answered right, and what is charged.
+/// How many calls returned the right reply, and what is charged.
 type Outcome = (u32, (u128, u128));
 
 fn outcome(alloc: Global, first: u64, second: u64) -> Option<Outcome> {

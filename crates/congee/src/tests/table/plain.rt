@@ -1,4 +1,4 @@
-//! A plain list of rows, ids ascending, and whether a table answers like it.
+//! A plain list of rows, ids ascending, and whether a table returns the same.
 
 use crate::Allocator;
 use congee_table::calls::TableCall;
@@ -33,7 +33,7 @@ fn delete(list: &mut Vec<Row>, id: u32) -> Option<Row> {
     Some(row)
 }
 
-// Answers the row before. There is no row after it where there was no memory for it.
+// Returns the row before. There is no row after it where there was no memory for it.
 fn put(list: &mut Vec<Row>, row: Row) -> Option<Row> {
     let before = delete(list, row.id);
     let place = place(list, row.id);
@@ -63,8 +63,8 @@ fn group(list: &[Row], group: u32, from: u32, buffer: &mut [(u64, u64)]) -> usiz
     count
 }
 
-/// Whether both have the same rows in this group from this id on, of which so many are asked for, and leave the rest of the
-/// buffer.
+/// Whether both list the same rows of this group from this id on, of which so many are asked for, and leave the rest of
+/// the buffer unchanged.
 pub(super) fn lists_alike<A: Allocator>(
     table: &Table<A>,
     list: &[Row],
@@ -79,8 +79,8 @@ pub(super) fn lists_alike<A: Allocator>(
     count == group(list, of, from, &mut wanted[..limit]) && rows == wanted
 }
 
-/// Makes the call at both. Whether they answer alike, or the error of a table that has no memory for the call: then the list
-/// stays as it was, too.
+/// Makes the call on both. Whether they return the same, or the error of a table that has no memory for the call: then
+/// the list is unchanged, too.
 pub(super) fn answers_alike<A: Allocator>(
     table: &mut Table<A>,
     list: &mut Vec<Row>,

@@ -43,7 +43,7 @@ fn call_of(i: u64) -> TableCall {
     }
 }
 
-// How many of the calls answer like the list.
+// How many of the calls return the same as on the list.
 fn alike(table: &mut Table<DefaultAllocator>, list: &mut Vec<Row>) -> u32 {
     let mut alike = 0u32;
     for i in 0..2000 {
@@ -54,7 +54,7 @@ fn alike(table: &mut Table<DefaultAllocator>, list: &mut Vec<Row>) -> u32 {
     alike
 }
 
-// How many answer like the list, and whether a good many rows are left.
+// How many return the same as on the list, and whether a good many rows are left.
 fn run(alloc: Global) -> (u32, bool) {
     let mut list = Vec::new(alloc);
     match Table::new(alloc, DefaultAllocator {}, DefaultAllocator {}) {

@@ -52,7 +52,7 @@ const CALLS: [TableCall; 15] = [
 
 const ALL: u64 = 1000;
 
-// How many requests each index grants, of which the first is for its root, and the place of the call that is refused then.
+// How many requests each index grants, the first for its root, and the place of the call that is refused then.
 const REFUSED: [(u64, u64, usize); 14] = [
     (1, ALL, 0),
     (2, ALL, 2),
@@ -87,7 +87,7 @@ fn is_alike(table: &Table<Granting>, list: &[Row]) -> bool {
     true
 }
 
-// Whether the call brings a row into another group, which alone may be refused.
+// Whether the call moves a row into another group or adds one, which alone may be refused.
 fn may_be_refused(list: &[Row], call: TableCall) -> bool {
     match call {
         TableCall::Put(row) => !matches!(find(list, row.id), Some(old) if old.group == row.group),
@@ -96,8 +96,8 @@ fn may_be_refused(list: &[Row], call: TableCall) -> bool {
     }
 }
 
-// Makes the calls. Whether those before this place are answered right, the one there is refused, each later one is answered
-// right or may be refused, and all leave the rows of the list, which a refusal doesn't change.
+// Makes the calls. Whether those before this place return the right reply, the one there is refused, each later one
+// returns the right reply or may be refused, and all leave the rows of the list, which a refusal doesn't change.
 fn are_right(table: &mut Table<Granting>, list: &mut Vec<Row>, refused: usize) -> bool {
     for i in 0..CALLS.len() {
         let is_right = match answers_alike(table, list, CALLS[i]) {

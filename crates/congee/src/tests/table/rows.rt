@@ -1,11 +1,11 @@
-//! Rows of calls, with what each has to answer.
+//! Rows of calls, with what each has to return.
 
 use crate::{Allocator, DefaultAllocator};
 use congee_table::calls::{TableCall, TableReply, make_table_call, run_table_calls};
 use congee_table::table::{Row, Table, TableError};
 use std::alloc::Global;
 
-/// What a call has to answer.
+/// What a call has to return.
 #[derive(Clone, Copy)]
 pub(super) enum Wanted {
     Found(Option<Row>),
@@ -24,7 +24,7 @@ fn is_right(reply: &TableReply, wanted: &Wanted) -> bool {
     }
 }
 
-/// Makes the calls, one after another, and counts those that answer as they have to.
+/// Makes the calls, one after another, and counts those that return what they have to.
 pub(super) fn right_replies<A: Allocator>(
     alloc: Global,
     table: &mut Table<A>,
@@ -73,7 +73,7 @@ const MOVES: [(TableCall, Wanted); 7] = [
     (TableCall::Group(5, 0, 8), Wanted::Listed(&[])),
 ];
 
-// The greatest id, which no scan reaches in the last group.
+// The greatest id, which no scan of the last group includes.
 const MAX: u32 = 4294967295;
 
 const LAST_GROUP: [(TableCall, Wanted); 7] = [
@@ -102,7 +102,7 @@ fn right_of(replies: &[TableReply], wanted: &[Wanted]) -> u32 {
     right
 }
 
-// Makes the calls of the example as one run, and counts those that answer as they have to.
+// Makes the calls of the example as one run, and counts those that return what they have to.
 fn right_in_run(alloc: Global, table: &mut Table<DefaultAllocator>) -> u32 {
     match run_table_calls(alloc, table, &EXAMPLE) {
         Ok(replies) => right_of(&replies, &REPLIES),

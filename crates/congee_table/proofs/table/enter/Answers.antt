@@ -4,10 +4,10 @@ use Rattle.congee_table.proofs.table.enter.Goals as goal
 
 pub returns-in_err-insert-clause-refused : goal.returns-in_err-insert-clause-refused
 returns-in_err-insert-clause-refused g c =
-    let absent = rw c.joined.ensures at c.in_err-insert.ensures.refused.absent in
+    let absent = rw c.joined_halves.ensures at c.in_err-insert.ensures.refused.absent in
     on_err c.from_residual.result _ (not_served c.args.first.now.pairs c.args.second.now.pairs c.args.row.id c.args.row.group c.requires.agree absent)
 
--- what was entered is taken out again
+-- what was entered is removed again
 pub returns-in-Err-clause-left : goal.returns-in-Err-clause-left
 returns-in-Err-clause-left g c =
     let row = c.args.row in

@@ -3,7 +3,7 @@ use Rattle.std.proofs.lemmas.List.Sorted.{answers_always}
 use Rattle.congee_tree.proofs.Places.{searched}
 use Rattle.congee_tree.proofs.sorted_pairs.search.Goals as goal
 
--- the closure gives a pair's key
+-- the closure returns a pair's key
 pub returns : goal.returns
 returns g c =
     let facts = c.binary_search_by_key.ensures in

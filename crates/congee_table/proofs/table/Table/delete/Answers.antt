@@ -1,6 +1,6 @@
 use Rattle.std.proofs.Common.{◌≡◌, ◌/◌, ◌^◌, ap, sym, arith}
-use Rattle.congee_map.proofs.MapLaws.{without-absent}
-use Rattle.congee_table.specs.Index.{joined}
+use Rattle.spec_map.proofs.MapLaws.{without-absent}
+use Rattle.congee_table.specs.Index.{joined_halves}
 use Rattle.congee_table.specs.declared.table.Row.{Row}
 use Rattle.congee_table.proofs.RowsLaws.{no_row_at, number_read, none_read, rows_of-without}
 use Rattle.congee_table.proofs.IndexLaws.{indexes_without}
@@ -22,7 +22,7 @@ returns-in_err-number-clause-rows g c =
 
 pub invariant_of-self-2 : goal.invariant_of-self-2
 invariant_of-self-2 g c =
-    let place : c.joined.result ≡ joined (c.in_ok-number.number / 2 ^ 32) c.args.id =
+    let place : c.joined_halves.result ≡ joined_halves (c.in_ok-number.number / 2 ^ 32) c.args.id =
     omega (arith, ap (λ (row : Row). row.group) c.row_of-row.ensures, ap (λ (row : Row). row.id) c.row_of-row.ensures)
     in
     let found = number_read _ c.in_ok-number.number (rw c.from.ensures at c.in_ok-number.ensures.before) in

@@ -1,7 +1,7 @@
 use Rattle.std.proofs.Common.{arith, rules, ◌^◌, ◌∙◌, subst, sym}
-use Rattle.congee_map.specs.Map.{Rises}
-use Rattle.congee_map.proofs.MapLaws.{Rises-wider}
-use Rattle.congee_walks.proofs.WalkLaws.{none_left, first_left, left_after}
+use Rattle.spec_map.specs.Map.{Rises}
+use Rattle.spec_map.proofs.MapLaws.{Rises-wider}
+use Rattle.tree_walk.proofs.WalkLaws.{none_left, first_left, left_after}
 use Rattle.congee_tree.proofs.into_pairs.IntoPairsIterator.next.Goals as goal
 
 pub returns-in_default-clause-steps : goal.returns-in_default-clause-steps

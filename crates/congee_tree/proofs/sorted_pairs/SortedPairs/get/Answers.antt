@@ -9,7 +9,7 @@ returns-in-Ok g c =
     let found = lookup_found 0 (2 ^ 64) c.self.inside.pairs.items c.args.key c.in-Ok.at c.index.result.now c.self.invariant at c.index.ensures in
     rw (← c.self.view_is) (sym found)
 
--- the key is not there
+-- the key is absent
 pub returns-in-Err : goal.returns-in-Err
 returns-in-Err g c =
     let gap = rw c.deref.ensures.value at c.in-Err.ensures.absent in

@@ -1,12 +1,12 @@
 use Rattle.std.proofs.Common.{◌^◌, sym, subst, arith}
 use Rattle.std.proofs.lemmas.Result.{err_from_is_err_and}
-use Rattle.congee_map.specs.Map.{IsMap}
-use Rattle.congee_map.proofs.MapLaws.{Rises-put}
+use Rattle.spec_map.specs.Map.{IsMap}
+use Rattle.spec_map.proofs.MapLaws.{Rises-put}
 use Rattle.congee_tree.proofs.Places.{lookup_found, put_found, lookup_in_gap, put_in_gap}
 use Rattle.congee_tree.proofs.sorted_pairs.SortedPairs.insert.Goals as goal
 use Rattle.congee_tree.proofs.sorted_pairs.SortedPairs.insert.Goals.{In-Err}
 
--- the key was there, and its pair is written over
+-- the key was present, and its pair is overwritten
 pub invariant_of-self : goal.invariant_of-self
 invariant_of-self g c =
     let at = rw c.deref.ensures.value at c.in-Ok.ensures.found in
@@ -44,7 +44,7 @@ returns-in_ok-insert-in-Err-clause-ok g c =
     let gap = rw c.deref.ensures.value at c.in-Err.ensures.absent in
     rw (← c.self.view_is, c.in_ok-insert-in-Err.ensures.items) (sym (put_in_gap c.self.inside.pairs.items c.args.key c.in-Err.at c.args.value gap))
 
--- only a key that was not there is refused
+-- memory is refused only for a key that was absent
 pub returns-in_err-insert-in-Err-clause-refused : goal.returns-in_err-insert-in-Err-clause-refused
 returns-in_err-insert-in-Err-clause-refused g c =
     let p = err_from_is_err_and c.from_residual.result c.from_residual.ensures.1 in

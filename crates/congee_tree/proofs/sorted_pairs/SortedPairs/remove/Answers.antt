@@ -1,10 +1,10 @@
 use Rattle.std.proofs.Common.{◌^◌, sym, subst}
-use Rattle.congee_map.specs.Map.{IsMap}
-use Rattle.congee_map.proofs.MapLaws.{Rises-without, without-absent}
+use Rattle.spec_map.specs.Map.{IsMap}
+use Rattle.spec_map.proofs.MapLaws.{Rises-without, without-absent}
 use Rattle.congee_tree.proofs.Places.{lookup_found, lookup_in_gap, without_found}
 use Rattle.congee_tree.proofs.sorted_pairs.SortedPairs.remove.Goals as goal
 
--- the pair at the key's place is taken out
+-- the pair at the key's place is removed
 pub invariant_of-self : goal.invariant_of-self
 invariant_of-self g c =
     let at = rw c.deref.ensures.value at c.in-Ok.ensures.found in
@@ -22,7 +22,7 @@ returns-in-Ok-clause-pairs g c =
     let at = rw c.deref.ensures.value at c.in-Ok.ensures.found in
     rw (← c.self.view_is, c.remove.ensures.items) (sym (without_found 0 (2 ^ 64) c.self.inside.pairs.items c.args.key c.in-Ok.at c.remove.result c.self.invariant at))
 
--- the key is not there
+-- the key is absent
 pub returns-in-Err-clause-before : goal.returns-in-Err-clause-before
 returns-in-Err-clause-before g c =
     let gap = rw c.deref.ensures.value at c.in-Err.ensures.absent in

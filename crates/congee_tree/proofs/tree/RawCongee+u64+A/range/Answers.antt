@@ -1,6 +1,6 @@
 use Rattle.std.proofs.Common.{ℕ, ◌∙◌, ap}
-use Rattle.congee_changes.specs.Tree.{TreeView}
-use Rattle.congee_walks.proofs.ScanLaws.{range_count, range_written}
+use Rattle.tree_edit.specs.Tree.{TreeView}
+use Rattle.tree_walk.proofs.ScanLaws.{range_count, range_written}
 use Rattle.congee_tree.proofs.tree.RawCongee+u64+A.range.Goals as goal
 
 pub returns-clause-count : goal.returns-clause-count

@@ -1,4 +1,4 @@
-use Rattle.congee_changes.proofs.CountLaws.{is_map}
+use Rattle.tree_edit.proofs.CountLaws.{is_map}
 use Rattle.congee_tree.proofs.tree.RawCongee.into_pairs.Goals as goal
 
 pub new-requires : goal.new-requires

@@ -1,6 +1,6 @@
 use Rattle.std.proofs.Common.{◌∙◌, ap, sym, arith, length}
-use Rattle.congee_changes.specs.Tree.{TreeView}
-use Rattle.congee_walks.proofs.WalkLaws.{root_room, root_keys}
+use Rattle.tree_edit.specs.Tree.{TreeView}
+use Rattle.tree_walk.proofs.WalkLaws.{root_room, root_keys}
 use Rattle.congee_tree.proofs.tree.RawCongee.keys.Goals as goal
 
 pub push_keys-requires : goal.push_keys-requires

@@ -1,7 +1,7 @@
 use Rattle.std.proofs.Common.{rules, []}
-use Rattle.congee_paths.specs.inner.Root.{depth}
-use Rattle.congee_stats.proofs.EntryLaws.{entries_counted}
-use Rattle.congee_walks.proofs.VisitedLaws.{count_root, whole_sums}
+use Rattle.tree_path.specs.inner.Root.{depth}
+use Rattle.node_stats.proofs.EntryLaws.{entries_counted}
+use Rattle.tree_walk.proofs.VisitedLaws.{count_root, whole_sums}
 use Rattle.congee_tree.proofs.tree.RawCongee.stats.Goals as goal
 
 pub returns-clause-levels : goal.returns-clause-levels

@@ -1,3 +1,0 @@
-pub mod Entry
-pub mod Events
-pub mod inner

@@ -1,7 +1,0 @@
-//! The protocol's machine as what lies under a lock: each event of a call is one event of the machine.
-#![tactic(auto)]
-
-mod calls;
-pub mod events;
-pub mod numbers;
-pub mod owners;

@@ -1,5 +1,0 @@
-use Rattle.congee_lines.proofs.LawLemmas.{cut_once}
-use Rattle.congee_lines.proofs.laws.one_cut.Goals as goal
-
-pub returns : goal.returns
-returns c = cut_once

@@ -1,5 +1,0 @@
-use Rattle.congee_lines.proofs.Numbers.{IsFront}
-use Rattle.congee_lines.proofs.number.number.Given as goal
-
-abbrev pub invariant-loop-byte : goal.invariant-loop-byte
-invariant-loop-byte l = IsFront l.word l.byte-index l.n

@@ -1,7 +1,0 @@
-pub mod Bytes
-pub mod Grammar
-pub mod Lines
-pub mod Number
-pub mod Value
-pub mod Watched
-pub mod inner

@@ -1,8 +1,0 @@
-//! A machine of the tree's protocol: it makes one event of one call at a time.
-#![tactic(auto)]
-
-mod ahead;
-mod counting;
-pub mod inner;
-mod listing;
-pub mod machine;

@@ -1,5 +1,0 @@
-use Rattle.congee_map.proofs.Runs.{run_of_tree}
-use Rattle.congee_map.proofs.laws.tree_refuses_less.Goals as goal
-
-pub returns : goal.returns
-returns g c same m n deeds legal = run_of_tree same m n deeds legal

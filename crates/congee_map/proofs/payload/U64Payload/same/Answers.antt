@@ -1,5 +1,0 @@
-use Rattle.std.proofs.Common.{rules}
-use Rattle.congee_map.proofs.payload.U64Payload.same.Goals as goal
-
-pub returns : goal.returns
-returns c = search rules

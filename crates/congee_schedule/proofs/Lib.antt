@@ -1,4 +1,0 @@
-pub mod Decided
-pub mod Ending
-pub mod Saying
-pub mod Texts

@@ -1,5 +1,0 @@
-use Rattle.congee_schedule.proofs.Decided.{lines_decide}
-use Rattle.congee_schedule.proofs.laws.decided_lines.Goals as goal
-
-pub returns : goal.returns
-returns c = lines_decide

@@ -1,3 +1,0 @@
-pub mod Schedule
-pub mod Texts
-pub mod inner

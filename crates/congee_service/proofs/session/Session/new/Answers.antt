@@ -1,5 +1,0 @@
-use Rattle.congee_service.proofs.Running.{serves_none}
-use Rattle.congee_service.proofs.session.Session.new.Goals as goal
-
-pub returns : goal.returns
-returns g c o = rw (c.in_ok-new.ensures.pairs, c.new-2.ensures, c.new-3.ensures) (serves_none o)

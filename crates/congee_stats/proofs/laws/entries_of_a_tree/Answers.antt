@@ -1,5 +1,0 @@
-use Rattle.congee_stats.proofs.EntryLaws.{entries_counted}
-use Rattle.congee_stats.proofs.laws.entries_of_a_tree.Goals as goal
-
-pub returns : goal.returns
-returns g c s levels slot q tree = entries_counted s levels q slot tree

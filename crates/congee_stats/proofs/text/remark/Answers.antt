@@ -1,5 +1,0 @@
-use Rattle.std.proofs.Common.{rules}
-use Rattle.congee_stats.proofs.text.remark.Goals as goal
-
-pub returns-then-load-full_load : goal.returns-then-load-full_load
-returns-then-load-full_load c = search rules

@@ -1,5 +1,0 @@
-use Rattle.std.proofs.Common.{rules}
-use Rattle.congee_sync.proofs.epoch.Pins.may_reclaim.Goals as goal
-
-pub returns-in-Some-Retired-Some : goal.returns-in-Some-Retired-Some
-returns-in-Some-Retired-Some c = search rules

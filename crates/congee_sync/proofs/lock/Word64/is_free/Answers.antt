@@ -1,5 +1,0 @@
-use Rattle.std.proofs.Common.{rules}
-use Rattle.congee_sync.proofs.lock.Word64.is_free.Goals as goal
-
-pub returns : goal.returns
-returns c = search rules

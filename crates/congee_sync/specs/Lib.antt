@@ -1,3 +1,0 @@
-pub mod Epoch
-pub mod Lock
-pub mod Waiting

@@ -1,0 +1,127 @@
+-- One bit a byte, and the places of the bytes whose bit is set.
+use Rattle.std.proofs.Common.{◌≡◌, ◌≢◌, ℕ, zero, suc, ◌+◌, ◌-◌, ◌*◌, ◌/◌, ◌%◌, ◌^◌, ◌<◌, ◌≤◌, List, length, get_or, slice_get, slice_index, set, replicate, None, refl, ap, sym, subst, ◌∙◌, arith, inl, inr, w64}
+use Rattle.std.specs.Int.{bit_at}
+use Rattle.std.specs.Int.Count.{count_trailing_zeros}
+use Rattle.std.proofs.lemmas.Option.{slice_get_past}
+use Rattle.std.proofs.lemmas.Nat.{pow_pos}
+use Rattle.std.proofs.lemmas.Bool.{cases_eq, cases_lt, eq-eqb, ne_eqb}
+use Rattle.std.proofs.lemmas.List.{get_or-set_same, get_or-set_other, get_or_past}
+use Rattle.std.proofs.lemmas.Nat.Bits.{bit_at-zero, bit_at_above, bit_at_cat_high, bit_at-trailing_zeros}
+use Rattle.std.proofs.Math.Nat.{div-add-mod, div-le_self, mod-lt, mul_comm}
+use Rattle.node_base.specs.inner.Marked.{mark_at, marked_place, marked_child}
+use Rattle.node_base.specs.inner.Row.{at_place, under}
+use Rattle.node_base.proofs.RowLaws.{under-same}
+
+-- a word that is written at the place of a bit
+pub marked-here : (ws : List ℕ) (b w n : ℕ) → b / 64 < length ws → bit_at w (b % 64) ≡ n → mark_at (set ws (b / 64) w) b ≡ n
+marked-here ws b w n l e = ap (λ x. bit_at x (b % 64)) (get_or-set_same ws (b / 64) w 0 l) ∙ e
+
+pub marked-other : (ws : List ℕ) (b i w : ℕ) → b / 64 < length ws → ((j : ℕ) → j < 64 → j ≢ b % 64 → bit_at w j ≡ bit_at (get_or ws (b / 64) 0) j) → i ≢ b → mark_at (set ws (b / 64) w) i ≡ mark_at ws i
+marked-other ws b i w l kept other =
+    elim (cases_eq (i / 64) (b / 64)) [
+      | inl same ↦
+          ap (λ q. bit_at (get_or (set ws (b / 64) w) q 0) (i % 64)) same
+          ∙ ap (λ x. bit_at x (i % 64)) (get_or-set_same ws (b / 64) w 0 l)
+          ∙ kept (i % 64) (omega arith) (omega (arith, same, other))
+          ∙ ap (λ q. bit_at (get_or ws q 0) (i % 64)) (sym same)
+      | inr differ ↦ ap (λ x. bit_at x (i % 64)) (get_or-set_other ws (b / 64) (i / 64) w 0 differ)
+    ]
+
+-- a shift leaves the bits from its place on
+bit_at-shr : (n k i : ℕ) → 0 < 2 ^ k → bit_at (n / 2 ^ k) i ≡ bit_at n (k + i)
+bit_at-shr n k i some =
+    let parts : n / 2 ^ k * 2 ^ k + n % 2 ^ k ≡ n = ap (λ x. x + n % 2 ^ k) (mul_comm (n / 2 ^ k) (2 ^ k)) ∙ div-add-mod n (2 ^ k) in
+    let high = bit_at_cat_high (n / 2 ^ k) k (n % 2 ^ k) (k + i) (mod-lt n some) (omega arith) in
+    let back : k + i - k ≡ i = omega arith in
+    sym (ap (bit_at (n / 2 ^ k)) back) ∙ sym high ∙ ap (λ x. bit_at x (k + i)) parts
+
+module _ (ws : List ℕ) (at word : ℕ) (is : word ≡ get_or ws (at / 64) 0 / 2 ^ (at % 64)) where
+  -- the bits of a shifted word, up to the word's end
+  mark-shifted : (i : ℕ) → at % 64 + i < 64 → mark_at ws (at + i) ≡ bit_at word i
+  mark-shifted i l =
+      let q : (at + i) / 64 ≡ at / 64 = omega (arith, l) in
+      let r : (at + i) % 64 ≡ at % 64 + i = omega (arith, l) in
+      ap (λ x. bit_at (get_or ws x 0) ((at + i) % 64)) q
+      ∙ ap (bit_at (get_or ws (at / 64) 0)) r
+      ∙ sym (bit_at-shr (get_or ws (at / 64) 0) (at % 64) i (pow_pos (at % 64)))
+      ∙ ap (λ x. bit_at x i) (sym is)
+
+  -- no bit is set in what is left of an empty word
+  pub none_marked : word ≡ 0 → (i : ℕ) → at ≤ i → i < (at / 64 + 1) * 64 → mark_at ws i ≡ 0
+  none_marked zero' i l m =
+      let e : i ≡ at + (i - at) = omega arith in
+      ap (mark_at ws) e ∙ mark-shifted (i - at) (omega arith) ∙ ap (λ x. bit_at x (i - at)) zero' ∙ bit_at-zero (i - at)
+
+  -- the lowest bit that is set
+  pub first_marked : word ≢ 0 → get_or ws (at / 64) 0 < 2 ^ 64 → (at % 64 + count_trailing_zeros 64 word < 64) × (mark_at ws (at + count_trailing_zeros 64 word) ≡ 1) × ((i : ℕ) → at ≤ i → i < at + count_trailing_zeros 64 word → mark_at ws i ≡ 0)
+  first_marked some fits =
+      let less : word ≤ get_or ws (at / 64) 0 = subst (λ x. x ≤ get_or ws (at / 64) 0) (sym is) (div-le_self (get_or ws (at / 64) 0) (2 ^ (at % 64))) in
+      let h = bit_at-trailing_zeros w64 word (omega (arith, some)) (omega (arith, less, fits)) in
+      let t = count_trailing_zeros 64 word in
+      let inside : at % 64 + count_trailing_zeros 64 word < 64 =
+      elim (cases_lt (at % 64 + count_trailing_zeros 64 word) 64) [
+        | inl below ↦ below
+        | inr above ↦
+            absurd (let z : bit_at word (count_trailing_zeros 64 word) ≡ 0 = ap (λ x. bit_at x (count_trailing_zeros 64 word)) is
+            ∙ bit_at-shr (get_or ws (at / 64) 0) (at % 64) (count_trailing_zeros 64 word) (pow_pos (at % 64))
+            ∙ bit_at_above (get_or ws (at / 64) 0) 64 (at % 64 + count_trailing_zeros 64 word) fits above in
+            let o = h.1 in omega (arith, z, o))
+      ]
+      in (
+        inside,
+        mark-shifted (count_trailing_zeros 64 word) inside ∙ h.1,
+        λ i l m. (let e : i ≡ at + (i - at) = omega arith in
+            ap (mark_at ws) e ∙ mark-shifted (i - at) (omega (arith, inside)) ∙ h.2 (i - at) (omega arith)),
+      )
+
+-- the bits past the last word aren't set
+pub mark-beyond : (ws : List ℕ) → length ws ≡ 4 → (i : ℕ) → 256 ≤ i → mark_at ws i ≡ 0
+mark-beyond ws four i l = ap (λ x. bit_at x (i % 64)) (get_or_past ws (i / 64) 0 (omega (arith, four, l))) ∙ bit_at-zero (i % 64)
+
+module _ (ws is : List ℕ) (b : ℕ) where
+  pub place-set : mark_at ws b ≡ 1 → marked_place ws is b ≡ slice_index is b
+  place-set one = rw (eq-eqb (mark_at ws b) 1 one) refl
+
+  pub place-clear : mark_at ws b ≢ 1 → marked_place ws is b ≡ 256
+  place-clear other = rw (ne_eqb (mark_at ws b) 1 other) refl
+
+  -- a place that some row reaches is that of a byte whose bit is set
+  pub place-reached : marked_place ws is b < 256 → (mark_at ws b ≡ 1) × (marked_place ws is b ≡ slice_index is b)
+  place-reached l =
+      elim (cases_eq (mark_at ws b) 1) [
+        | inl one ↦ (one, place-set one)
+        | inr other ↦ absurd (let l' = rw (ne_eqb (mark_at ws b) 1 other) at l in omega (arith, l'))
+      ]
+
+  pub place-same : (vs js : List ℕ) → mark_at vs b ≡ mark_at ws b → (mark_at ws b ≡ 1 → slice_index js b ≡ slice_index is b) → marked_place vs js b ≡ marked_place ws is b
+  place-same vs js mark index =
+      elim (cases_eq (mark_at ws b) 1) [
+        | inl one ↦ rw (mark, eq-eqb (mark_at ws b) 1 one) (index one)
+        | inr other ↦ rw (mark, ne_eqb (mark_at ws b) 1 other) refl
+      ]
+
+module _ {C : Type 0} (ws is : List ℕ) (cs : List C) where
+  pub child-set : (b : ℕ) → mark_at ws b ≡ 1 → marked_child ws is cs b ≡ slice_get cs (slice_index is b)
+  child-set b one = rw (eq-eqb (mark_at ws b) 1 one) refl
+
+  pub child-clear : (b : ℕ) → mark_at ws b ≡ 0 → marked_child ws is cs b ≡ None
+  child-clear b none = rw (ne_eqb (mark_at ws b) 1 (omega (arith, none))) refl
+
+  child-at_place : length cs ≤ 256 → (b : ℕ) → marked_child ws is cs b ≡ at_place (marked_place ws is) cs b
+  child-at_place small b =
+      elim (cases_eq (mark_at ws b) 1) [
+        | inl one ↦ rw (eq-eqb (mark_at ws b) 1 one) refl
+        | inr other ↦ rw (ne_eqb (mark_at ws b) 1 other) (sym (slice_get_past cs 256 small))
+      ]
+
+  pub under-marked : length cs ≤ 256 → (b n : ℕ) → under (marked_child ws is cs) b n ≡ under (at_place (marked_place ws is) cs) b n
+  under-marked small b n = under-same (marked_child ws is cs) (at_place (marked_place ws is) cs) b n (λ d l m. child-at_place small d)
+
+-- no bit is set where all words are 0
+pub none-set : (n b : ℕ) (is : List ℕ) → marked_place (replicate n 0) is b ≡ 256
+none-set n b is = place-clear (replicate n 0) is b (λ e. (let z = ap (λ x. bit_at x (b % 64)) (get_or-zeros n (b / 64)) ∙ bit_at-zero (b % 64) in omega (arith, z, e)))
+  where
+    get_or-zeros : (n i : ℕ) → get_or {A = ℕ} (replicate n 0) i 0 ≡ 0
+    get_or-zeros zero i = refl
+    get_or-zeros (suc n) zero = refl
+    get_or-zeros (suc n) (suc i) = get_or-zeros n i

@@ -1,0 +1,64 @@
+//! A mask of 256 bits, one for each byte: which bytes of a node have a child, in 32 bytes.
+
+ghost use Rattle.std.specs.Prelude.{IsTrue, false, ◌≡◌, ◌≢◌, ℕ, ◌+◌, ◌<◌, ◌≤◌, IfSome, IfNone, slice_index};
+ghost use Rattle.node_base.specs.inner.Marked.{mark_at};
+
+/// Whether the bit of a byte is set.
+pub fn is_marked(words: &[u64; 4], byte: u8) -> bool
+    ensures set { IsTrue result → mark_at words.now byte ≡ 1 }
+    ensures clear { result ≡ false → mark_at words.now byte ≡ 0 }
+{
+    (words[byte as usize / 64] >> (byte as usize % 64)) & 1 == 1
+}
+
+/// Sets the bit of a byte; the others stay.
+pub fn mark(words: &mut [u64; 4], byte: u8)
+    ensures here { mark_at words.new byte ≡ 1 }
+    ensures others { (i : ℕ) → i < 256 → i ≢ byte → mark_at words.new i ≡ mark_at words.old i }
+{
+    words[byte as usize / 64] |= 1 << (byte as usize % 64);
+}
+
+/// The mask of the bytes whose place in an index is below a limit.
+pub fn marks_below(index: &[u8; 256], limit: u8) -> [u64; 4]
+    ensures set { (b : ℕ) → b < 256 → slice_index index.now b < limit → mark_at result b ≡ 1 }
+    ensures clear { (b : ℕ) → b < 256 → limit ≤ slice_index index.now b → mark_at result b ≡ 0 }
+{
+    let mut words = [0; 4];
+    for b in 0..256 {
+        if index[b] < limit {
+            mark(&mut words, b as u8);
+        }
+    }
+    words
+}
+
+/// Clears the bit of a byte; the others stay.
+pub fn unmark(words: &mut [u64; 4], byte: u8)
+    ensures here { mark_at words.new byte ≡ 0 }
+    ensures others { (i : ℕ) → i < 256 → i ≢ byte → mark_at words.new i ≡ mark_at words.old i }
+{
+    words[byte as usize / 64] &= !(1 << (byte as usize % 64));
+}
+
+/// The first byte from this number on whose bit is set, or `None`. A word without set bits is passed in one step, and
+/// the number itself is looked at first: where most bits are set, the processor needn't wait for a search.
+pub fn next_marked(words: &[u64; 4], from: usize) -> Option<u8>
+    ensures order { IfSome result (λ byte. from ≤ byte) }
+    ensures here { IfSome result (λ byte. mark_at words.now byte ≡ 1) }
+    ensures free { IfSome result (λ byte. (i : ℕ) → from ≤ i → i < byte → mark_at words.now i ≡ 0) }
+    ensures none { IfNone result ((i : ℕ) → from ≤ i → mark_at words.now i ≡ 0) }
+{
+    let mut at = from;
+    while at < 256 {
+        if is_marked(words, at as u8) {
+            return Some(at as u8);
+        }
+        let word = words[at / 64] >> (at % 64);
+        if word != 0 {
+            return Some((at + word.trailing_zeros() as usize) as u8);
+        }
+        at = (at / 64 + 1) * 64;
+    }
+    None
+}

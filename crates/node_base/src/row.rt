@@ -1,0 +1,214 @@
+//! Children in a row, and the index of all bytes, which the larger forms keep: for each byte the place of its child.
+
+ghost use Rattle.std.specs.Prelude.{IsTrue, ◌≡◌, ◌≢◌, ℕ, ◌+◌, ◌<◌, ◌≤◌, [], ◌∷◌, ◌++◌, length, replicate, IfSome, IfNone, slice_index, vec_len, vec_capacity};
+ghost use Rattle.node_base.specs.inner.Row.{Apart, SameChildren};
+
+use crate::lanes::first_below;
+
+/// Puts a child at the end of a row with room for it.
+pub fn add<C: Drop>(row: &mut Vec<C>, child: C)
+    requires room { vec_len row.old < vec_capacity row.old }
+    ensures added { row.new.items ≡ row.old.items ++ child ∷ [] }
+    ensures capacity { vec_capacity row.old ≤ vec_capacity row.new }
+{
+    match row.push(child) {
+        Ok(()) => {}
+        Err(_) => unreachable!(),
+    }
+}
+
+/// Moves a whole row to the end of another with room for it.
+pub fn move_row<C>(from: &mut Vec<C>, to: &mut Vec<C>)
+    requires room { vec_len to.old + vec_len from.old ≤ vec_capacity to.old }
+    ensures moved { to.new.items ≡ to.old.items ++ from.old.items }
+    ensures none { from.new.items ≡ [] }
+    ensures capacity { vec_capacity to.old ≤ vec_capacity to.new }
+    ensures room_stays { vec_capacity from.new ≡ vec_capacity from.old }
+{
+    match to.append(from) {
+        Ok(()) => {}
+        Err(_) => unreachable!(),
+    }
+}
+
+/// Gives all bytes one place.
+pub fn place_all(index: &mut [u8; 256], place: u8)
+    ensures { index.new ≡ replicate 256 place }
+{
+    *index = [place; 256];
+}
+
+/// Gives each of these bytes its place among them; the other bytes keep the places that they have.
+pub fn place_bytes(index: &mut [u8; 256], bytes: &[u8])
+    requires few { length bytes.now ≤ 256 }
+    requires apart { (i j : ℕ) → i < j → j < length bytes.now
+        → slice_index bytes.now i ≢ slice_index bytes.now j }
+    ensures placed { (i : ℕ) → i < length bytes.now
+        → slice_index index.new (slice_index bytes.now i) ≡ i }
+    ensures others { (b : ℕ) → ((i : ℕ) → i < length bytes.now → slice_index bytes.now i ≢ b)
+        → slice_index index.new b ≡ slice_index index.old b }
+{
+    for i in 0..bytes.len() {
+        index[bytes[i] as usize] = i as u8;
+    }
+}
+
+/// Every byte that has the place `from` gets the place `to`; the others keep theirs.
+///
+/// It writes each byte of the index, whether or not it changes, so that the compiler can do many at once.
+pub fn redirect(index: &mut [u8; 256], from: u8, to: u8)
+    ensures moved { (b : ℕ) → b < 256 → slice_index index.old b ≡ from
+        → slice_index index.new b ≡ to }
+    ensures others { (b : ℕ) → b < 256 → slice_index index.old b ≢ from
+        → slice_index index.new b ≡ slice_index index.old b }
+{
+    for i in 0..256 {
+        index[i] = if index[i] == from { to } else { index[i] };
+    }
+}
+
+// A byte from this number on, before which none has a place below the limit. It passes sixteen bytes in a step, and
+// ends within the last sixteen at the latest.
+fn pass_free(index: &[u8; 256], from: usize, limit: u8) -> usize
+    ensures order { from ≤ result }
+    ensures free { (b : ℕ) → from ≤ b → b < result → limit ≤ slice_index index.now b }
+{
+    let mut at = from;
+    while at <= 240 {
+        let Some(lanes) = index[at..].first_chunk() else {
+            return at;
+        };
+        let skip = first_below(lanes, limit);
+        at += skip;
+        if skip < 16 {
+            return at;
+        }
+    }
+    at
+}
+
+/// The first byte from this number on whose place is below a count, or `None`.
+pub fn next_placed(index: &[u8; 256], from: usize, count: usize) -> Option<u8>
+    ensures order { IfSome result (λ byte. from ≤ byte) }
+    ensures here { IfSome result (λ byte. slice_index index.now byte < count) }
+    ensures free { IfSome result (λ byte. (b : ℕ) → from ≤ b → b < byte
+        → count ≤ slice_index index.now b) }
+    ensures none { IfNone result ((b : ℕ) → from ≤ b → b < 256
+        → count ≤ slice_index index.now b) }
+{
+    let mut at = if count > 255 {
+        from
+    } else {
+        pass_free(index, from, count as u8)
+    };
+    while at < 256 {
+        if (index[at] as usize) < count {
+            return Some(at as u8);
+        }
+        at += 1;
+    }
+    None
+}
+
+/// Whether each byte has its own number as its place.
+pub fn is_by_byte(index: &[u8; 256]) -> bool
+    ensures { IsTrue result → (b : ℕ) → b < 256 → slice_index index.now b ≡ b }
+{
+    // as bytes, and to the end in any case, so that the compiler can compare many at once
+    let mut same = true;
+    for b in 0..256 {
+        same = same & (index[b] == b as u8);
+    }
+    same
+}
+
+// Swaps the child of a byte with the child at the place of the byte's number.
+fn settle<C>(row: &mut [C], index: &mut [u8; 256], byte: u8)
+    requires full { length row.old ≡ 256 }
+    requires apart { Apart (slice_index index.old) }
+    ensures full { length row.new ≡ 256 }
+    ensures apart { Apart (slice_index index.new) }
+    ensures here { slice_index index.new byte ≡ byte }
+    ensures settled { (b : ℕ) → b < 256 → slice_index index.old b ≡ b
+        → slice_index index.new b ≡ b }
+    ensures children { SameChildren (slice_index index.old) row.old (slice_index index.new) row.new }
+{
+    let i = index[byte as usize];
+    if i != byte {
+        row.swap(byte as usize, i as usize);
+        redirect(index, byte, i);
+        index[byte as usize] = byte;
+    }
+}
+
+// The byte of each place that a byte has.
+fn owners_of(index: &[u8; 256]) -> [u8; 256]
+    requires { Apart (slice_index index.now) }
+    ensures { (b : ℕ) → b < 256 → slice_index result (slice_index index.now b) ≡ b }
+{
+    let mut owners = [0; 256];
+    for b in 0..256 {
+        owners[index[b] as usize] = b as u8;
+    }
+    owners
+}
+
+// As `settle`, for one of many bytes: which byte has the place is at hand, and no pass over the index has to find it.
+fn settle_by_owner<C>(row: &mut [C], index: &mut [u8; 256], owners: &mut [u8; 256], byte: u8)
+    requires full { length row.old ≡ 256 }
+    requires apart { Apart (slice_index index.old) }
+    requires owners { (b : ℕ) → b < 256 → slice_index owners.old (slice_index index.old b) ≡ b }
+    ensures full { length row.new ≡ 256 }
+    ensures apart { Apart (slice_index index.new) }
+    ensures owners { (b : ℕ) → b < 256 → slice_index owners.new (slice_index index.new b) ≡ b }
+    ensures here { slice_index index.new byte ≡ byte }
+    ensures settled { (b : ℕ) → b < 256 → slice_index index.old b ≡ b
+        → slice_index index.new b ≡ b }
+    ensures children { SameChildren (slice_index index.old) row.old (slice_index index.new) row.new }
+{
+    let i = index[byte as usize];
+    if i != byte {
+        row.swap(byte as usize, i as usize);
+        let other = owners[byte as usize];
+        // always, as each place of a full row has its byte
+        if index[other as usize] == byte {
+            index[other as usize] = i;
+        }
+        owners[i as usize] = other;
+        index[byte as usize] = byte;
+        owners[byte as usize] = byte;
+    }
+}
+
+// Sorts a row from any order: at most 255 exchanges.
+fn settle_all<C>(row: &mut [C], index: &mut [u8; 256])
+    requires full { length row.old ≡ 256 }
+    requires apart { Apart (slice_index index.old) }
+    ensures full { length row.new ≡ 256 }
+    ensures placed { (b : ℕ) → b < 256 → slice_index index.new b ≡ b }
+    ensures children { SameChildren (slice_index index.old) row.old (slice_index index.new) row.new }
+{
+    let mut owners = owners_of(index);
+    for b in 0..256usize {
+        settle_by_owner(row, index, &mut owners, b as u8);
+    }
+}
+
+/// Sorts a row that has a child for each byte: the child of each comes to the place of its number.
+///
+/// The child of the byte that came last is moved first: where a child was taken out of a sorted row and another put in,
+/// that is all.
+// out of line, as a node fills seldom
+#[inline(never)]
+pub fn sort_by_byte<C>(row: &mut [C], index: &mut [u8; 256], last: u8)
+    requires full { length row.old ≡ 256 }
+    requires apart { Apart (slice_index index.old) }
+    ensures full { length row.new ≡ 256 }
+    ensures placed { (b : ℕ) → b < 256 → slice_index index.new b ≡ b }
+    ensures children { SameChildren (slice_index index.old) row.old (slice_index index.new) row.new }
+{
+    settle(row, index, last);
+    if !is_by_byte(index) {
+        settle_all(row, index);
+    }
+}

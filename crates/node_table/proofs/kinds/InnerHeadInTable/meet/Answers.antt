@@ -1,0 +1,29 @@
+use Rattle.std.proofs.Common.{◌≡◌, ◌∙◌, Some, None, sym, subst}
+use Rattle.spec_map.specs.Map.{lookup}
+use Rattle.node_table.specs.Key.{next_byte}
+use Rattle.node_table.specs.inner.Kinds.{slots}
+use Rattle.node_table.specs.declared.child.Child.TheVariants.{Node}
+use Rattle.node_table.proofs.BeginLaws.{begun, parted}
+use Rattle.node_table.proofs.KindLaws.{lookup-mapped_some, lookup-mapped_none}
+use Rattle.node_table.proofs.kinds.InnerHeadInTable.meet.Goals as goal
+
+pub returns-then-not-begins : goal.returns-then-not-begins
+returns-then-not-begins g c = parted _ _ _ _ c.begins.ensures c.base-base.ensures.prefix c.requires.word c.if-not-begins.true
+
+pub returns-in-Some : goal.returns-in-Some
+returns-in-Some g c =
+    let es = g.H.Head.children c.args.self.now.head c.args.row.now in
+    let same : c.prefix.result.now ≡ g.H.Head.prefix c.args.self.now.head = c.prefix.ensures.bytes ∙ c.base-base.ensures.prefix in (
+      begun _ _ _ _ c.begins.ensures c.base-base.ensures.prefix c.requires.word c.if-not-begins.false,
+      c.requires.kind.1,
+      subst (λ q. lookup (slots {P = g.row.P.Denot} es) (next_byte q c.args.key.now) ≡ Some (Node c.in-Some.slot.now)) same (lookup-mapped_some (λ slot. Node slot) es _ _ (sym c.in-Some.ensures.found)),
+    )
+
+pub returns-in-None : goal.returns-in-None
+returns-in-None g c =
+    let es = g.H.Head.children c.args.self.now.head c.args.row.now in
+    let same : c.prefix.result.now ≡ g.H.Head.prefix c.args.self.now.head = c.prefix.ensures.bytes ∙ c.base-base.ensures.prefix in (
+      begun _ _ _ _ c.begins.ensures c.base-base.ensures.prefix c.requires.word c.if-not-begins.false,
+      c.requires.kind.1,
+      subst (λ q. lookup (slots {P = g.row.P.Denot} es) (next_byte q c.args.key.now) ≡ None) same (lookup-mapped_none (λ slot. Node slot) es _ (sym c.in-None.ensures.found)),
+    )

@@ -1,0 +1,28 @@
+use Rattle.spec_olc.specs.Meaning.{env_of}
+use Rattle.olc_state.specs.inner.Meant.{meant_table, meant_task}
+use Rattle.olc_decide.proofs.Absent.{asks_above, leaves_above, absent_meant, stores_above}
+use Rattle.olc_decide.proofs.finding.absent_above.Goals as goal
+
+pub returns-in-Leaves : goal.returns-in-Leaves
+returns-in-Leaves g c = record {
+  reads = λ env.
+      let known = c.requires.facts.at.1.here in
+      rw (c.decided.ensures, c.report-report.ensures, c.reply_absent-reply.ensures, absent_meant g.P.HasMeaning.meaning c.args.task.outline)
+      (leaves_above g.P.Payload.always_shared g.P.HasMeaning.same_meaning (meant_table g.P.HasMeaning.meaning c.args.store.now) c.args.store.now.root c.args.pin (meant_task g.P.HasMeaning.meaning c.args.task) (env_of g.P.HasMeaning.meaning env) c.requires.placed c.requires.point c.args.path known.node known.here (c.requires.at_key known.node known.here) c.args.below c.requires.facts c.in-Leaves.ensures);
+}
+
+pub returns-in-Stores : goal.returns-in-Stores
+returns-in-Stores g c = record {
+  reads = λ env.
+      let known = c.requires.facts.at.1.here in
+      rw (c.going.ensures, c.report-report.ensures)
+      (stores_above g.P.Payload.always_shared g.P.HasMeaning.same_meaning (meant_table g.P.HasMeaning.meaning c.args.store.now) c.args.store.now.root c.args.pin (meant_task g.P.HasMeaning.meaning c.args.task) (env_of g.P.HasMeaning.meaning env) c.requires.placed c.requires.point c.args.path known.node known.here (c.requires.at_key known.node known.here) c.args.below c.requires.facts c.in-Stores.ensures);
+}
+
+pub returns-in-Asks : goal.returns-in-Asks
+returns-in-Asks g c = record {
+  reads = λ env.
+      let known = c.requires.facts.at.1.here in
+      rw (c.asks.ensures, c.report-report.ensures)
+      (asks_above g.P.Payload.always_shared g.P.HasMeaning.same_meaning (meant_table g.P.HasMeaning.meaning c.args.store.now) c.args.store.now.root c.args.pin (meant_task g.P.HasMeaning.meaning c.args.task) (env_of g.P.HasMeaning.meaning env) c.requires.placed c.requires.point c.args.path known.node known.here (c.requires.at_key known.node known.here) c.args.below c.requires.facts c.in-Asks.ensures);
+}

@@ -1,0 +1,11 @@
+pub mod Alone
+pub mod Flying
+pub mod Happening
+pub mod Histories
+pub mod Linear
+pub mod Numbers
+pub mod Orders
+pub mod Playing
+pub mod Replaying
+pub mod Standing
+pub mod Touching

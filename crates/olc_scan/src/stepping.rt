@@ -1,0 +1,71 @@
+//! The next event of a range, by its stage.
+
+ghost use Rattle.std.specs.Prelude.{◌≡◌, ◌≢◌};
+ghost use Rattle.spec_olc.specs.declared.types.Env.{Env};
+ghost use Rattle.olc_descend.specs.inner.Reads.{KnowsMeant, ReadsOnly};
+ghost use Rattle.olc_state.specs.inner.Meant.{meant_table};
+ghost use Rattle.olc_state.specs.inner.Tables.{IsPlaced};
+
+use crate::course::Scanned;
+use crate::scanning::{check, check_above, read, take_below, take_root};
+use olc_state::scan::{RangeProgress, Scan};
+use olc_state::stage::{Record, Stage, Task};
+use olc_state::stepped::Stepped;
+use olc_state::store::Store;
+use spec_olc::payload::HasMeaning;
+use spec_olc::types::Seen;
+
+// A range after an event, as a call.
+fn stepped<P: Drop>(scanned: Scanned<P>) -> Stepped<P>
+    ensures { result ≡ record {
+      call = record { stage = Stage.Scan scanned.course scanned.scan; task = scanned.task };
+      report = scanned.report;
+      outcome = scanned.outcome;
+    } }
+{
+    let Scanned {
+        task,
+        course,
+        scan,
+        report,
+        outcome,
+    } = scanned;
+    Stepped {
+        call: Record {
+            stage: Stage::Scan(course, scan),
+            task,
+        },
+        report,
+        outcome,
+    }
+}
+
+/// The next event of a range that hasn't ended. A Read reports `torn` if its node's word isn't the remembered one.
+pub fn step<P: HasMeaning>(
+    store: &Store<P>,
+    pin: u64,
+    task: Task<P>,
+    course: RangeProgress,
+    scan: Scan,
+    torn: Seen<P>,
+) -> Stepped<P>
+    requires placed { IsPlaced (meant_table P.meaning store.now) store.now.root }
+    requires facts { KnowsMeant P.always_shared P.same_meaning P.meaning store.now pin
+        (record { stage = Stage.Scan course scan; task = task }) }
+    requires goes { scan ≢ Scan.Finish }
+    ensures { (env : Env P) → env.torn ≡ torn
+        → ReadsOnly P.always_shared P.same_meaning P.meaning store.now pin
+        (record { stage = Stage.Scan course scan; task = task }) env
+        result.call result.report result.outcome }
+{
+    match scan {
+        Scan::TakeRoot => stepped(take_root(store, pin, task, course)),
+        Scan::Read(here) => stepped(read(store, pin, task, course, here, torn)),
+        Scan::Check(here) => stepped(check(store, pin, task, course, here)),
+        Scan::TakeBelow(here, slot) => stepped(take_below(store, pin, task, course, here, slot)),
+        Scan::CheckAbove(here, below, from) => {
+            stepped(check_above(store, pin, task, course, here, below, from))
+        }
+        Scan::Finish => unreachable!(),
+    }
+}

@@ -1,0 +1,52 @@
+-- A Make as the code makes it, granted and refused.
+use Rattle.std.proofs.Common.{◌≡◌, ℕ, ◌<◌, ◌^◌, Bool, true, [], ◌∷◌, Option, Some, None}
+use Rattle.node_table.specs.TableNode.{TableNode}
+use Rattle.spec_olc.specs.Calls.{key_of}
+use Rattle.spec_olc.specs.Kinds.{report_of}
+use Rattle.spec_olc.specs.Meaning.{env_of}
+use Rattle.spec_olc.specs.State.{State}
+use Rattle.spec_olc.specs.Writing.{IsNewNode}
+use Rattle.spec_olc.specs.declared.types.Env.{Env}
+use Rattle.spec_olc.specs.declared.types.Kind.TheVariants as kind
+use Rattle.spec_olc.specs.declared.types.Outcome.TheVariants.{Going, Refused}
+use Rattle.spec_olc.specs.declared.types.Progress.TheVariants as progress
+use Rattle.olc_state.specs.declared.stage.Task.{Task}
+use Rattle.olc_state.specs.declared.stock.Stock.{Stock}
+use Rattle.olc_state.specs.declared.tail.Tail as tails
+use Rattle.olc_state.specs.inner.Meant.{meant_task}
+use Rattle.olc_state.specs.inner.Shown.{flight}
+use Rattle.olc_state.specs.inner.Stocks.{IsStoreSound, StockMoves, counts_in, table_in}
+use Rattle.olc_state.specs.inner.TailFacts.{TailFacts}
+use Rattle.olc_state.specs.inner.Tails.{made_in, one_more, tail_work}
+use Rattle.olc_state.specs.inner.Turns.{ShowsNodes}
+use Rattle.olc_write.specs.inner.Makings.{AddsPrivate, GivesUp, gone}
+use Rattle.olc_write.proofs.MakingMoves.{Follows, at, granted, refuses}
+use Rattle.olc_write.proofs.MakingFacts.{Enters, some_stored}
+use Rattle.olc_write.proofs.MakingStocks.{made_of}
+
+module _ {P A M : Type 0} (meaning : P → M) (charge : A → Option ℕ) (Granted : Type 0) (same : M → M → Bool) (old new : Stock P A) (kept : IsStoreSound meaning charge old) (pin : ℕ) (task : Task P) (env : Env P) (tail next : tails.Tail)
+    (small : key_of task.outline < 2 ^ 64) (undecided : task.progress ≡ progress.Open) (own : Enters (meant_task meaning task)) (follows : Follows tail next) where
+  pub granted_moves : (slot : ℕ) (a : TableNode M) → AddsPrivate meaning charge old new slot a → made_in next ≡ slot ∷ made_in tail → tail_work task.progress next < tail_work task.progress tail
+      → ((s : State M) → ShowsNodes (table_in meaning charge old) old.store.root s → IsNewNode s (flight pin (at tail (meant_task meaning task))) a)
+      → TailFacts Granted same (table_in meaning charge new) old.store.root pin (meant_task meaning task) next
+      → StockMoves meaning charge Granted same old new pin (at tail task) env (at next task) (report_of kind.Make (Some slot) 0 true) Going
+  granted_moves slot a adds made less is_new facts = record {
+    kept = adds.rest.kept;
+    move = granted Granted same (table_in meaning charge old) (table_in meaning charge new) old.store.root pin (counts_in meaning charge old) (counts_in meaning charge new) (meant_task meaning task) (env_of meaning env) tail next kept.placed
+        slot a (made_of (table_in meaning charge old) (table_in meaning charge new) slot a adds.empty adds.here adds.others) adds.rest.count adds.rest.entries adds.charged undecided own.point (some_stored (meant_task meaning task) own) follows made less is_new
+        (record { small = small; at = facts });
+    root = adds.rest.root;
+    seats = adds.rest.seats;
+  }
+
+  pub refused_moves : (made : Option ℕ) → made_in tail ≡ one_more made → GivesUp meaning charge old new made → made_in next ≡ [] → tail_work progress.Refused next < tail_work task.progress tail
+      → TailFacts Granted same (table_in meaning charge new) old.store.root pin (gone (meant_task meaning task)) next
+      → StockMoves meaning charge Granted same old new pin (at tail task) env (at next (gone task)) (report_of kind.Make None 0 true) Refused
+  refused_moves made is gives none less facts = record {
+    kept = gives.rest.kept;
+    move = refuses Granted same (table_in meaning charge old) (table_in meaning charge new) old.store.root pin (counts_in meaning charge old) (counts_in meaning charge new) (meant_task meaning task) (env_of meaning env) tail next kept.placed
+        made is gives.up gives.rest.count gives.rest.entries undecided own.point (some_stored (meant_task meaning task) own) follows none less
+        (record { small = small; at = facts });
+    root = gives.rest.root;
+    seats = gives.rest.seats;
+  }

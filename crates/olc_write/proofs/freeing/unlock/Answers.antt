@@ -1,0 +1,31 @@
+use Rattle.std.proofs.Common.{inl, inr, sym, ◌∙◌}
+use Rattle.olc_state.proofs.Unlike.{false_true}
+use Rattle.olc_write.proofs.Freed.{unlock_ends, unlock_restarts}
+use Rattle.olc_write.proofs.Stocked.{frees_moves}
+use Rattle.olc_write.proofs.freeing.unlock.Goals as goal
+
+pub returns-then-is_open : goal.returns-then-is_open
+returns-then-is_open g c =
+    let held = c.requires.facts.at.0 in
+    let sets = c.unlock_node.ensures.sets held.node held.linked.here in
+    record {
+      moves = λ env.
+          rw (c.back.ensures, c.report-report.ensures)
+          (frees_moves g.P.HasMeaning.meaning g.A.Allocator.charge g.P.Payload.always_shared g.P.HasMeaning.same_meaning c.args.stock.now _ c.args.pin _ env _ _ _ c.requires.kept
+          c.args.spot held sets c.unlock_node.ensures.sizes c.unlock_node.ensures.lives
+          (unlock_restarts g.P.Payload.always_shared g.P.HasMeaning.same_meaning _ c.args.stock.now.store.root c.args.pin _ _ _ c.requires.kept.placed _ c.args.spot c.requires.facts sets.here sets.others
+          (elim c.requires.facts.at.1 [ inl opened ↦ opened | inr over ↦ absurd (over (c.is_open.ensures.0 c.if-is_open.true)) ])));
+    }
+
+pub returns-else-is_open : goal.returns-else-is_open
+returns-else-is_open g c =
+    let held = c.requires.facts.at.0 in
+    let sets = c.unlock_node.ensures.sets held.node held.linked.here in
+    record {
+      moves = λ env.
+          rw (c.going.ensures, c.report-report.ensures)
+          (frees_moves g.P.HasMeaning.meaning g.A.Allocator.charge g.P.Payload.always_shared g.P.HasMeaning.same_meaning c.args.stock.now _ c.args.pin _ env _ _ _ c.requires.kept
+          c.args.spot held sets c.unlock_node.ensures.sizes c.unlock_node.ensures.lives
+          (unlock_ends g.P.Payload.always_shared g.P.HasMeaning.same_meaning _ c.args.stock.now.store.root c.args.pin _ _ _ c.requires.kept.placed _ c.args.spot c.requires.facts sets.here sets.others
+          (λ undecided. false_true (sym c.if-is_open.false ∙ c.is_open.ensures.1 undecided))));
+    }

@@ -1,0 +1,31 @@
+use Rattle.std.proofs.Common.{◌≡◌, sym, ap, ◌∙◌}
+use Rattle.olc_state.proofs.Unlike.{false_true}
+use Rattle.olc_write.proofs.Stocked.{locks_moves, same_moves}
+use Rattle.olc_write.proofs.Upgraded.{small_next, upgrade_fails, upgrade_locks}
+use Rattle.olc_write.proofs.locking.upgrade.Goals as goal
+use Rattle.olc_write.proofs.locking.upgrade.Goals.{in-Entry, in-Leaf}
+
+pub returns-after-small : goal.returns-after-small
+returns-after-small g c =
+    let known = c.requires.facts.at.1.here in
+    let can = (c.lock.ensures.exactly known.node known.here).0 c.if-lock.true in
+    let sets = c.lock.ensures.sets known.node known.here c.if-lock.true in
+    let next : c.match-small.next ≡ small_next c.args.small c.args.path.here = elim c.match-small.branch [ in-Entry w ↦ w.next-is ∙ sym (ap (λ z. small_next z c.args.path.here) w.in-Entry.is) | in-Leaf w ↦ w.next-is ∙ sym (ap (λ z. small_next z c.args.path.here) w.in-Leaf.is) ] in
+    record {
+      moves = λ env e.
+          rw (c.going.ensures, c.report.ensures, next)
+          (locks_moves g.P.HasMeaning.meaning g.A.Allocator.charge g.P.Payload.always_shared g.P.HasMeaning.same_meaning c.args.stock.now _ c.args.pin _ env _ _ _ c.requires.kept
+          c.args.path.here known.node known.here known can.0 sets c.lock.ensures.sizes c.lock.ensures.lives
+          (upgrade_locks g.P.Payload.always_shared g.P.HasMeaning.same_meaning _ c.args.stock.now.store.root c.args.pin _ _ _ c.requires.kept.placed c.args.path c.args.small c.requires.facts known.node known.here _ can.0 (e ∙ can.1) sets.here sets.others));
+    }
+
+pub returns-else-lock : goal.returns-else-lock
+returns-else-lock g c =
+    let known = c.requires.facts.at.1.here in
+    record {
+      moves = λ env e.
+          rw (c.back.ensures, c.report-else-lock.ensures)
+          (same_moves g.P.HasMeaning.meaning g.A.Allocator.charge g.P.Payload.always_shared g.P.HasMeaning.same_meaning c.args.stock.now _ c.args.pin _ env _ _ _ c.requires.kept (c.lock.ensures.rest c.if-lock.false)
+          (upgrade_fails g.P.Payload.always_shared g.P.HasMeaning.same_meaning _ c.args.stock.now.store.root c.args.pin _ _ _ c.requires.kept.placed c.args.path c.args.small c.requires.facts known.node known.here
+          (λ may whole. false_true (sym c.if-lock.false ∙ (c.lock.ensures.exactly known.node known.here).1 (may, sym e ∙ whole)))));
+    }

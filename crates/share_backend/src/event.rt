@@ -1,0 +1,10 @@
+//! The event of a call.
+
+use spec_olc::types::{Outcome, Report};
+
+/// An event of a call: its report, and how the call goes on.
+#[derive(Drop)]
+pub struct EventResult<P> {
+    pub report: Report,
+    pub outcome: Outcome<P>,
+}

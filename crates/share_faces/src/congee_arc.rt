@@ -1,0 +1,235 @@
+//! `CongeeArc`, the map from keys to owners of shared values, which threads share.
+
+ghost use Rattle.std.specs.Prelude.{◌≡◌, ◌≢◌, ◌+◌, ◌^◌, IfOk, MatchResult, map};
+ghost use Rattle.spec_map.specs.Map.{Pairs, IsMap};
+ghost use Rattle.share_state.specs.Held.{inserted, removed};
+
+use node_stats::NodeStats;
+use node_table::allocator::DefaultAllocator;
+use share_backend::snapshots::{Made, Snapshots};
+use share_raw::gate::{Gate, NoGate};
+use share_raw::raw;
+use share_raw::raw::Raw;
+use share_state::purse::OwnPurse;
+use share_state::share::Share;
+use share_state::state::LockedState;
+use spec_map::error::OOMError;
+use spec_map::traits::Word;
+use std::alloc::Global;
+use std::marker::PhantomData;
+use std::sync::ledger::{Blank, Ledger};
+use std::sync::{Arc, Wait};
+
+/// A caller of a shared map of owners. It belongs to one map, and makes one call at a time.
+pub type OwnerGuard<'a, L, V, M> = raw::Guard<'a, L, Arc<V>, V, M>;
+
+/// An ordered map from keys to owners of shared values, which threads share. Two keys with one number are one key.
+///
+/// A call returns one more owner, which needs room in the count of owners and may be refused.
+#[derive(Drop)]
+pub struct CongeeArc<L: Ledger, K: Word, V: Send + Sync + Drop + 'static, M: Snapshots<Arc<V>, V>> {
+    raw: Raw<L, Arc<V>, V, M>,
+    of: PhantomData<K>,
+}
+
+impl<L: Ledger, K: Word, V: Send + Sync + Drop + 'static, M: Snapshots<Arc<V>, V>> CongeeArc<
+    L,
+    K,
+    V,
+    M,
+> {
+    /// An empty map, and the share with its whole weight. `OOMError` if there is no memory for the map.
+    pub fn new(alloc: Global, blank: Blank) -> Result<(Self, Share<L>), OOMError>
+    where
+        M: Made<Arc<V>, V, DefaultAllocator>,
+        requires name { blank.name ≡ L.name }
+        requires parts { blank.parts ≡ L.parts }
+        requires whole { L.parts ≡ 2 ^ 63 + 1 }
+        ensures share { IfOk result (λ r. r.1 ≡ record { weight = 2 ^ 63; number = 0 }) }
+    {
+        CongeeArc::new_in(alloc, blank, DefaultAllocator {})
+    }
+
+    /// An empty map, and the share with its whole weight. The allocator is charged for each node of the map's tree.
+    /// `OOMError` if it or the machine has no memory for the map.
+    pub fn new_in<A>(
+        alloc: Global,
+        blank: Blank,
+        allocator: A,
+    ) -> Result<(Self, Share<L>), OOMError>
+    where
+        M: Made<Arc<V>, V, A>,
+        requires name { blank.name ≡ L.name }
+        requires parts { blank.parts ≡ L.parts }
+        requires whole { L.parts ≡ 2 ^ 63 + 1 }
+        ensures share { IfOk result (λ r. r.1 ≡ record { weight = 2 ^ 63; number = 0 }) }
+    {
+        let (state, share) = LockedState::new(alloc, allocator, blank)?;
+        Ok((
+            CongeeArc {
+                raw: Raw::new(state),
+                of: PhantomData,
+            },
+            share,
+        ))
+    }
+
+    /// Seats a caller. Looks at the seats that are taken, in turn. `OOMError` if there is no memory for its calls.
+    pub fn pin<R: Wait>(&self, rt: &R) -> Result<OwnerGuard<'_, L, V, M>, OOMError> {
+        self.raw.pin(rt)
+    }
+
+    /// Frees a caller's seat. A guard that is dropped instead keeps its seat until the map ends.
+    pub fn unpin<R: Wait>(&self, rt: &R, guard: OwnerGuard<'_, L, V, M>) {
+        self.raw.unpin(rt, guard);
+    }
+
+    /// One more owner of the key's current value. `OOMError` if another owner is refused.
+    pub fn get<R: Wait>(
+        &self,
+        rt: &R,
+        guard: &mut OwnerGuard<'_, L, V, M>,
+        key: K,
+    ) -> Result<Option<Arc<V>>, OOMError> {
+        self.get_gated(rt, guard, key, &mut NoGate)
+    }
+
+    /// `get` with a gate, which is called after each event but the last of the call.
+    pub fn get_gated<R: Wait, G: Gate>(
+        &self,
+        rt: &R,
+        guard: &mut OwnerGuard<'_, L, V, M>,
+        key: K,
+        gate: &mut G,
+    ) -> Result<Option<Arc<V>>, OOMError> {
+        self.raw.get(rt, guard, key.into_u64(), gate)
+    }
+
+    /// Stores an owner at the key, and returns the previous one. `OOMError` if memory or room for one more owner
+    /// was missing: then the call changed nothing, and the handed owner is dropped.
+    pub fn insert<R: Wait>(
+        &self,
+        rt: &R,
+        guard: &mut OwnerGuard<'_, L, V, M>,
+        key: K,
+        owner: Arc<V>,
+    ) -> Result<Option<Arc<V>>, OOMError> {
+        self.insert_gated(rt, guard, key, owner, &mut NoGate)
+    }
+
+    /// `insert` with a gate, which is called after each event but the last.
+    pub fn insert_gated<R: Wait, G: Gate>(
+        &self,
+        rt: &R,
+        guard: &mut OwnerGuard<'_, L, V, M>,
+        key: K,
+        owner: Arc<V>,
+        gate: &mut G,
+    ) -> Result<Option<Arc<V>>, OOMError> {
+        self.raw
+            .insert(rt, guard, key.into_u64(), owner, &mut OwnPurse, gate)
+    }
+
+    /// `insert`, which adds 1 to the share exactly if the key was absent.
+    pub fn insert_counted<R: Wait>(
+        &self,
+        rt: &R,
+        guard: &mut OwnerGuard<'_, L, V, M>,
+        share: &mut Share<L>,
+        key: K,
+        owner: Arc<V>,
+    ) -> Result<Option<Arc<V>>, OOMError>
+        ensures { share.new ≡ inserted result share.old }
+    {
+        self.raw
+            .insert(rt, guard, key.into_u64(), owner, share, &mut NoGate)
+    }
+
+    /// Removes the key, and returns the previous owner. Tries again while memory is missing.
+    pub fn remove<R: Wait>(
+        &self,
+        rt: &R,
+        guard: &mut OwnerGuard<'_, L, V, M>,
+        key: K,
+    ) -> Option<Arc<V>> {
+        self.remove_gated(rt, guard, key, &mut NoGate)
+    }
+
+    /// `remove` with a gate, which is called after each event but the last.
+    pub fn remove_gated<R: Wait, G: Gate>(
+        &self,
+        rt: &R,
+        guard: &mut OwnerGuard<'_, L, V, M>,
+        key: K,
+        gate: &mut G,
+    ) -> Option<Arc<V>> {
+        self.raw
+            .remove_always(rt, guard, key.into_u64(), &mut OwnPurse, gate)
+    }
+
+    /// `remove`, which subtracts 1 from the share exactly if an owner was stored at the key.
+    pub fn remove_counted<R: Wait>(
+        &self,
+        rt: &R,
+        guard: &mut OwnerGuard<'_, L, V, M>,
+        share: &mut Share<L>,
+        key: K,
+    ) -> Option<Arc<V>>
+        ensures { share.new ≡ removed result share.old }
+    {
+        self.raw
+            .remove_always(rt, guard, key.into_u64(), share, &mut NoGate)
+    }
+
+    /// If the key is present, calls the closure with one more owner of the current value, and stores its answer. For
+    /// `None` it removes the key. Returns the previous owner. The closure may be called again, and the last call
+    /// counts. It may have been called before an `OOMError`, after which the call changed nothing.
+    pub fn compute_if_present<R: Wait, F: FnMut(Arc<V>) -> Option<Arc<V>>>(
+        &self,
+        rt: &R,
+        guard: &mut OwnerGuard<'_, L, V, M>,
+        key: K,
+        f: &mut F,
+    ) -> Result<Option<Arc<V>>, OOMError>
+        requires { F.IsAlwaysCallable f.old }
+    {
+        match self.raw.compute_if_present(rt, guard, key.into_u64(), f)? {
+            Some((old, _)) => Ok(Some(old)),
+            None => Ok(None),
+        }
+    }
+
+    /// The number of pairs at one moment, exactly if the share has the whole weight: then the share is used up.
+    /// Otherwise returns the share. By the contract of `LockedState::settle`, the number is that of the state under the
+    /// lock.
+    pub fn settle<R: Wait>(&self, rt: &R, share: Share<L>) -> Result<u128, Share<L>>
+        ensures { MatchResult result (λ _. share.weight ≡ 2 ^ 63)
+            (λ s. (share.weight ≢ 2 ^ 63) × (s ≡ share)) }
+    {
+        self.raw.settle(rt, share)
+    }
+
+    /// The keys at one moment, ascending, each read back from its number. No owner is counted for it. `OOMError` if
+    /// there is no memory for the list.
+    pub fn keys<R: Wait>(&self, rt: &R, alloc: Global) -> Result<Vec<K>, OOMError>
+        ensures ascending { IfOk result (λ keys. (m : Pairs V) × IsMap m
+            × (keys.items ≡ map K.of_number (map (λ pair. pair.0) m))) }
+    {
+        self.raw.keys(rt, alloc)
+    }
+
+    /// The sums over the nodes that are reachable at one moment, by level and form, and the number of pairs.
+    pub fn stats<R: Wait>(&self, rt: &R) -> Result<NodeStats, OOMError> {
+        self.raw.stats(rt)
+    }
+
+    /// The number of pairs at one moment.
+    pub fn value_count<R: Wait>(&self, rt: &R) -> u128 {
+        self.raw.pair_count(rt)
+    }
+
+    /// Whether the map has no pair at one moment.
+    pub fn is_empty<R: Wait>(&self, rt: &R) -> bool {
+        self.raw.pair_count(rt) == 0
+    }
+}

@@ -1,0 +1,10 @@
+//! The faces of the map that threads share, over any map under its lock: with typed keys and values, with numbers as
+//! keys, and with owners as values.
+#![tactic(auto)]
+
+pub mod congee_arc;
+pub mod typed_congee;
+pub mod u64_congee;
+
+pub use share_raw::gate::{Gate, NoGate};
+pub use share_state::share::Share;

@@ -1,0 +1,200 @@
+//! `U64Congee`, the map from numbers to values that numbers represent, which threads share.
+
+ghost use Rattle.std.specs.Prelude.{◌≡◌, ◌≢◌, ℕ, ◌≤◌, ◌+◌, ◌^◌, length, IfOk, MatchResult, map};
+ghost use Rattle.spec_map.specs.Map.{Pairs, IsMap};
+ghost use Rattle.share_state.specs.Held.{inserted, removed};
+
+use crate::typed_congee::{Congee, Guard};
+use node_stats::NodeStats;
+use node_table::allocator::DefaultAllocator;
+use share_backend::snapshots::{Made, Pages};
+use share_raw::gate::Gate;
+use share_state::share::Share;
+use spec_map::error::OOMError;
+use spec_map::traits::Word;
+use std::alloc::Global;
+use std::sync::Wait;
+use std::sync::ledger::{Blank, Ledger};
+
+/// An ordered map from 64-bit numbers to values of a type that is written as a number, which threads share.
+///
+/// The map under its lock, `M`, decides how many events a call takes.
+#[derive(Drop)]
+pub struct U64Congee<L: Ledger, V: Word, M: Pages> {
+    map: Congee<L, u64, V, M>,
+}
+
+impl<L: Ledger, V: Word, M: Pages> U64Congee<L, V, M> {
+    /// An empty map, and the share with its whole weight. `OOMError` if there is no memory for the map.
+    pub fn new(alloc: Global, blank: Blank) -> Result<(Self, Share<L>), OOMError>
+    where
+        M: Made<u64, u64, DefaultAllocator>,
+        requires name { blank.name ≡ L.name }
+        requires parts { blank.parts ≡ L.parts }
+        requires whole { L.parts ≡ 2 ^ 63 + 1 }
+        ensures share { IfOk result (λ r. r.1 ≡ record { weight = 2 ^ 63; number = 0 }) }
+    {
+        U64Congee::new_in(alloc, blank, DefaultAllocator {})
+    }
+
+    /// An empty map, and the share with its whole weight. The allocator is charged for each node of the map's tree.
+    /// `OOMError` if it or the machine has no memory for the map.
+    pub fn new_in<A>(
+        alloc: Global,
+        blank: Blank,
+        allocator: A,
+    ) -> Result<(Self, Share<L>), OOMError>
+    where
+        M: Made<u64, u64, A>,
+        requires name { blank.name ≡ L.name }
+        requires parts { blank.parts ≡ L.parts }
+        requires whole { L.parts ≡ 2 ^ 63 + 1 }
+        ensures share { IfOk result (λ r. r.1 ≡ record { weight = 2 ^ 63; number = 0 }) }
+    {
+        let (map, share) = Congee::new(alloc, blank, allocator)?;
+        Ok((U64Congee { map }, share))
+    }
+
+    /// Seats a caller. Looks at the seats that are taken, in turn. `OOMError` if there is no memory for its calls.
+    pub fn pin<R: Wait>(&self, rt: &R) -> Result<Guard<'_, L, M>, OOMError> {
+        self.map.pin(rt)
+    }
+
+    /// Frees a caller's seat. A guard that is dropped instead keeps its seat until the map ends.
+    pub fn unpin<R: Wait>(&self, rt: &R, guard: Guard<'_, L, M>) {
+        self.map.unpin(rt, guard);
+    }
+
+    /// The current value of the key, read back from its number.
+    pub fn get<R: Wait>(&self, rt: &R, guard: &mut Guard<'_, L, M>, key: u64) -> Option<V> {
+        self.map.get(rt, guard, &key)
+    }
+
+    /// `get` with a gate, which is called after each event but the last of the call.
+    pub fn get_gated<R: Wait, G: Gate>(
+        &self,
+        rt: &R,
+        guard: &mut Guard<'_, L, M>,
+        key: u64,
+        gate: &mut G,
+    ) -> Option<V> {
+        self.map.get_gated(rt, guard, &key, gate)
+    }
+
+    /// Stores a value at the key, and returns the previous one, read back from its number. `OOMError` if memory was
+    /// missing: then the call changed nothing.
+    pub fn insert<R: Wait>(
+        &self,
+        rt: &R,
+        guard: &mut Guard<'_, L, M>,
+        key: u64,
+        val: V,
+    ) -> Result<Option<V>, OOMError> {
+        self.map.insert(rt, guard, key, val)
+    }
+
+    /// `insert` with a gate, which is called after each event but the last.
+    pub fn insert_gated<R: Wait, G: Gate>(
+        &self,
+        rt: &R,
+        guard: &mut Guard<'_, L, M>,
+        key: u64,
+        val: V,
+        gate: &mut G,
+    ) -> Result<Option<V>, OOMError> {
+        self.map.insert_gated(rt, guard, key, val, gate)
+    }
+
+    /// `insert`, which adds 1 to the share exactly if the key was absent.
+    pub fn insert_counted<R: Wait>(
+        &self,
+        rt: &R,
+        guard: &mut Guard<'_, L, M>,
+        share: &mut Share<L>,
+        key: u64,
+        val: V,
+    ) -> Result<Option<V>, OOMError>
+        ensures { share.new ≡ inserted result share.old }
+    {
+        self.map.insert_counted(rt, guard, share, key, val)
+    }
+
+    /// Removes the key, and returns the previous value, read back from its number. Tries again while memory is missing.
+    pub fn remove<R: Wait>(&self, rt: &R, guard: &mut Guard<'_, L, M>, key: u64) -> Option<V> {
+        self.map.remove(rt, guard, &key)
+    }
+
+    /// `remove` with a gate, which is called after each event but the last.
+    pub fn remove_gated<R: Wait, G: Gate>(
+        &self,
+        rt: &R,
+        guard: &mut Guard<'_, L, M>,
+        key: u64,
+        gate: &mut G,
+    ) -> Option<V> {
+        self.map.remove_gated(rt, guard, &key, gate)
+    }
+
+    /// `remove`, which subtracts 1 from the share exactly if a value was stored at the key.
+    pub fn remove_counted<R: Wait>(
+        &self,
+        rt: &R,
+        guard: &mut Guard<'_, L, M>,
+        share: &mut Share<L>,
+        key: u64,
+    ) -> Option<V>
+        ensures { share.new ≡ removed result share.old }
+    {
+        self.map.remove_counted(rt, guard, share, &key)
+    }
+
+    /// Writes pairs with keys from `start` on and below `end` to the buffer, ascending, as many as there are or as fit,
+    /// and returns how many: each key as its eight bytes, most significant first, and each value as its number. The
+    /// buffer's entries after them are unspecified.
+    pub fn range<R: Wait>(
+        &self,
+        rt: &R,
+        guard: &mut Guard<'_, L, M>,
+        start: u64,
+        end: u64,
+        buffer: &mut [([u8; 8], u64)],
+    ) -> usize
+        ensures count { result ≤ length buffer.old }
+        ensures room { length buffer.new ≡ length buffer.old }
+    {
+        self.map.range_of(rt, guard, start, end, buffer)
+    }
+
+    /// The number of pairs at one moment, exactly if the share has the whole weight: then the share is used up.
+    /// Otherwise returns the share. By the contract of `LockedState::settle`, the number is that of the state under the
+    /// lock.
+    pub fn settle<R: Wait>(&self, rt: &R, share: Share<L>) -> Result<u128, Share<L>>
+        ensures { MatchResult result (λ _. share.weight ≡ 2 ^ 63)
+            (λ s. (share.weight ≢ 2 ^ 63) × (s ≡ share)) }
+    {
+        self.map.settle(rt, share)
+    }
+
+    /// The keys at one moment, ascending. `OOMError` if there is no memory for the list.
+    pub fn keys<R: Wait>(&self, rt: &R, alloc: Global) -> Result<Vec<u64>, OOMError>
+        ensures ascending { IfOk result (λ keys. (m : Pairs ℕ) × IsMap m
+            × (keys.items ≡ map (λ pair. pair.0) m)) }
+    {
+        self.map.keys(rt, alloc)
+    }
+
+    /// The sums over the nodes that are reachable at one moment, by level and form, and the number of pairs.
+    pub fn stats<R: Wait>(&self, rt: &R) -> Result<NodeStats, OOMError> {
+        self.map.stats(rt)
+    }
+
+    /// The number of pairs at one moment.
+    pub fn value_count<R: Wait>(&self, rt: &R) -> u128 {
+        self.map.value_count(rt)
+    }
+
+    /// Whether the map has no pair at one moment.
+    pub fn is_empty<R: Wait>(&self, rt: &R) -> bool {
+        self.map.is_empty(rt)
+    }
+}

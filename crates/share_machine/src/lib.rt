@@ -1,0 +1,7 @@
+//! The protocol's machine as the map under a lock: each event of a call is one event of the machine.
+#![tactic(auto)]
+
+mod calls;
+pub mod events;
+pub mod numbers;
+pub mod owners;

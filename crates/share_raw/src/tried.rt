@@ -1,0 +1,13 @@
+//! The result of one attempt at a call.
+
+use spec_olc::types::Reply;
+
+/// The result of one attempt at a call, from its Start on.
+#[derive(Drop)]
+pub enum Tried<P> {
+    Replied(Reply<P>),
+    /// Memory was missing.
+    Refused,
+    /// The call wasn't decided: its number had a call in flight already, or none any more.
+    Again,
+}

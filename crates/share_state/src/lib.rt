@@ -1,0 +1,6 @@
+//! The state under a shared map's lock: the map, and the ledger in which the number of its pairs is booked.
+#![tactic(auto)]
+
+pub mod purse;
+pub mod share;
+pub mod state;

@@ -1,0 +1,160 @@
+//! A tree whose changes are counted by key.
+
+ghost use Rattle.std.specs.Prelude.{◌≡◌, [], None, IfOk, OnOk, OnErr, IsSome, IsTrue, option_copied};
+ghost use Rattle.spec_map.specs.Map.{IsMap, lookup, put, without, with_answer};
+ghost use Rattle.node_table.specs.inner.Kinds.{mapped};
+ghost use Rattle.spec_olc.specs.Meaning.{in_some};
+ghost use Rattle.share_tree.specs.inner.Current.{change_count, CountsRise, AnswerHolds};
+
+use crate::changes::ChangeCounts;
+use crate::seat::Question;
+use congee_tree::by_number;
+use congee_tree::tree::RawCongee;
+use node_table::allocator::Allocator;
+use spec_map::error::OOMError;
+use spec_olc::payload::HasMeaning;
+use std::alloc::Global;
+use std::marker::{Brand, Model};
+use std::sync::ledger::Blank;
+
+/// The tree, and how often its pairs were changed.
+///
+/// Contracts see its pairs and nodes, and the counts. While a key's count is the same, and hasn't saturated, so is what
+/// is stored at the key.
+#[derive(Drop)]
+pub(crate) struct Counted<P: HasMeaning, A: Allocator> {
+    tree: RawCongee<P, A>,
+    changes: ChangeCounts,
+}
+
+impl<P: HasMeaning, A: Allocator> Model for Counted<P, A> {
+    ghost use Rattle.spec_map.specs.Map.{IsMap};
+    ghost use Rattle.share_tree.specs.inner.Contents.{Contents};
+
+    ghost Value = { Contents P };
+
+    ghost view = { λ c. record {
+      pairs = c.tree.pairs;
+      nodes = c.tree.nodes;
+      counts = c.changes;
+    } };
+
+    ghost invariant = { λ c. IsMap c.tree.pairs };
+}
+
+impl<P: HasMeaning, A: Allocator> Counted<P, A> {
+    /// An empty tree.
+    pub(crate) fn new(alloc: Global, budget: A) -> Result<Self, OOMError>
+        ensures { IfOk result (λ tree. tree.pairs ≡ []) }
+    {
+        Ok(Counted {
+            tree: RawCongee::new(alloc, budget)?,
+            changes: ChangeCounts::new(),
+        })
+    }
+
+    /// The tree itself, to read.
+    pub(crate) fn tree(&self) -> &RawCongee<P, A>
+        ensures pairs { result.now.pairs ≡ self.now.pairs }
+        ensures nodes { result.now.nodes ≡ self.now.nodes }
+        ensures ordered { IsMap self.now.pairs }
+    {
+        &self.tree
+    }
+
+    /// For the proof: brings the order of the keys into scope.
+    pub(crate) fn is_ordered(&self)
+        ensures { IsMap self.now.pairs }
+    {
+        let _ = &self.tree;
+    }
+
+    /// A key's count of changes.
+    pub(crate) fn count(&self, key: u64) -> u64
+        ensures { result ≡ change_count self.now.counts key }
+    {
+        self.changes.of(key)
+    }
+
+    /// What is stored at a key.
+    #[tactic(auto, using(crate::proofs::Mapped::lookup_mapped))]
+    pub(crate) fn look(&self, key: u64) -> Option<&P>
+        ensures { in_some P.meaning (option_copied result)
+            ≡ lookup (mapped P.meaning self.now.pairs) key }
+    {
+        by_number::get::<Brand, P, A>(&self.tree, key, Blank::new(1))
+    }
+
+    /// Stores a payload at a key, and returns what was stored there. `OOMError` if a new key needs a node for which
+    /// there is no memory: then nothing has changed.
+    #[tactic(auto, using(crate::proofs::Mapped::lookup_mapped, crate::proofs::Mapped::put_mapped))]
+    pub(crate) fn insert(&mut self, key: u64, value: P) -> Result<Option<P>, OOMError>
+        ensures before { IfOk result (λ old. in_some P.meaning old
+            ≡ lookup (mapped P.meaning self.old.pairs) key) }
+        ensures ok { OnOk result (mapped P.meaning self.new.pairs
+            ≡ put (mapped P.meaning self.old.pairs) key (P.meaning value)) }
+        ensures err { OnErr result (self.new.pairs ≡ self.old.pairs) }
+        ensures refused { OnErr result (lookup (mapped P.meaning self.old.pairs) key ≡ None) }
+        ensures onward { CountsRise P.meaning self.old self.new }
+    {
+        let old = by_number::insert::<Brand, P, A>(&mut self.tree, key, value, Blank::new(1))?;
+        self.changes.raise(key);
+        Ok(old)
+    }
+
+    /// Removes a key, and returns what was stored there.
+    #[tactic(auto, using(crate::proofs::Mapped::lookup_mapped, crate::proofs::Mapped::without_mapped))]
+    pub(crate) fn remove(&mut self, key: u64) -> Option<P>
+        ensures before { in_some P.meaning result ≡ lookup (mapped P.meaning self.old.pairs) key }
+        ensures pairs { mapped P.meaning self.new.pairs
+            ≡ without (mapped P.meaning self.old.pairs) key }
+        ensures onward { CountsRise P.meaning self.old self.new }
+    {
+        match by_number::remove::<Brand, P, A>(&mut self.tree, key, Blank::new(1)) {
+            Some(old) => {
+                self.changes.raise(key);
+                Some(old)
+            }
+            None => None,
+        }
+    }
+
+    /// Replaces what is stored at a key, or removes the key for `None`.
+    pub(crate) fn set(&mut self, key: u64, wanted: Option<P>)
+        requires present { IsSome (lookup (mapped P.meaning self.old.pairs) key) }
+        ensures pairs { mapped P.meaning self.new.pairs
+            ≡ with_answer (mapped P.meaning self.old.pairs) key (in_some P.meaning wanted) }
+        ensures onward { CountsRise P.meaning self.old self.new }
+    {
+        match wanted {
+            None => {
+                self.remove(key);
+            }
+            Some(wanted) => {
+                if self.insert(key, wanted).is_err() {
+                    unreachable!()
+                }
+            }
+        }
+    }
+
+    /// Whether what a closure was asked with is still stored. May return false
+    /// although it is: values behind owners aren't compared.
+    pub(crate) fn still_has(&self, question: &Question<P>) -> bool
+        requires { AnswerHolds P.meaning self.now question.now }
+        ensures { IsTrue result → lookup (mapped P.meaning self.now.pairs) question.now.key
+            ≡ in_some P.meaning question.now.old }
+    {
+        let count = self.count(question.key);
+        if question.at == count && count < u64::MAX {
+            return true;
+        }
+        match &question.old {
+            Some(old) => match self.look(question.key) {
+                Some(stored) => stored.same(old),
+                None => false,
+            },
+            None => self.look(question.key).is_none(),
+        }
+    }
+}

@@ -1,0 +1,48 @@
+-- Calls on an ordered map, and what they return.
+use Rattle.std.specs.Prelude.{ℕ, Bool, List, Option, Result}
+
+-- A call with keys of type K and values of type V. The two compute calls have a closure besides.
+pub data Call (K V : Type 0) : Type 0 where
+  get : K → Call K V
+  insert : K → V → Call K V
+  remove : K → Call K V
+  -- the expected value, and what replaces it: a value, or nothing, which removes the key
+  compare_exchange : K → V → Option V → Call K V
+  compute_if_present : K → Call K V
+  compute_or_insert : K → Call K V
+  is_empty : Call K V
+  value_count : Call K V
+  keys : Call K V
+  -- from a key on, below a key, at most so many pairs
+  range : K → K → ℕ → Call K V
+  drain : Call K V
+
+-- What the closure of a call was called with and what it returned, if it was called. It is passed what is stored, of
+-- type P, and returns such a value, or nothing.
+abbrev pub ClosureCall : Type 0 → Type 0
+ClosureCall P = Option (Option P × Option P)
+
+-- A reply with keys of type K and values of type V, over what is stored, of type P.
+pub data Reply (K V P : Type 0) : Type 0 where
+  -- the key's previous value
+  old_value : Option V → Reply K V P
+  -- Ok: what is stored now; Err: the current value, which isn't the expected one
+  exchanged : Result (Option V) (Option V) → Reply K V P
+  -- the previous value and what the closure returned; none if it wasn't called
+  computed : Option (P × Option P) → Reply K V P
+  tested : Bool → Reply K V P
+  counted : ℕ → Reply K V P
+  listed : List K → Reply K V P
+  ranged : List (ℕ × P) → Reply K V P
+  drained : List (K × V) → Reply K V P
+
+-- the outcome: a reply, or a refusal for lack of memory
+pub data Answer (K V P : Type 0) : Type 0 where
+  replied : Reply K V P → Answer K V P
+  refused : Answer K V P
+
+-- an operation: a call, what its closure was passed and returned, and the outcome
+pub record Operation (K V P : Type 0) : Type 0 where
+  pub call : Call K V
+  pub asked : ClosureCall P
+  pub answer : Answer K V P

@@ -1,0 +1,53 @@
+-- OBSTRUCTION-FREE: a point call that runs alone ends within a fixed number of its own events.
+use Rattle.std.specs.Prelude.{◌≡◌, ◌≢◌, ℕ, ◌-◌, ◌<◌, false, List, [], ◌∷◌, Some, None, ◌⊎◌}
+use Rattle.spec_map.specs.Map.{lookup}
+use Rattle.spec_olc.specs.Calls.{IsPoint}
+use Rattle.spec_olc.specs.Lock.{version, last_version}
+use Rattle.spec_olc.specs.Runs.{Transition}
+use Rattle.spec_olc.specs.State.{State, CallState, VersionedNode}
+use Rattle.spec_olc.specs.declared.trace.Line.{Line}
+use Rattle.spec_olc.specs.declared.trace.Line.TheVariants.{Done as Made}
+use Rattle.spec_olc.specs.declared.types.Event.{Event}
+use Rattle.spec_olc.specs.declared.types.Event.TheVariants.{Step}
+use Rattle.spec_olc.specs.declared.types.Kind.TheVariants as kind
+use Rattle.spec_olc.specs.declared.types.Outcome.TheVariants.{Refused, Done}
+
+-- the bound from the call's Start on, which counts as one, and from any event on
+abbrev pub from_its_start : ℕ
+from_its_start = 40
+
+abbrev pub from_any_event : ℕ
+from_any_event = 80
+
+-- no other call holds a node, and no node has the last version
+pub record IsUncontended (s : State ℕ) (id : ℕ) : Type 0 where
+  pub others : (other : ℕ) (call : CallState ℕ) → lookup s.calls other ≡ Some call → other ≢ id
+      → call.held ≡ []
+  pub versions : (slot : ℕ) (a : VersionedNode ℕ) → lookup s.nodes slot ≡ Some a
+      → version a.word ≢ last_version
+
+-- One event, when the call has `left` events of its own, this one included. The claim ends at a
+-- step of another call, at an Upgrade that the schedule makes fail, at a refusal, and at a step in
+-- a state that isn't `IsUncontended`. A Start of another number, a Reclaim and a skipped event
+-- neither count nor end it.
+abbrev pub CountsDown : ℕ → State ℕ → Event ℕ → Line → ℕ → (ℕ → Type 0) → Type 0
+CountsDown id now (Step i env) (Made report out seen) left rest =
+    i ≡ id → (report.kind ≡ kind.Upgrade → env.fail ≡ false) → out ≢ Refused
+    → IsUncontended now id
+    → (out ≡ Done) ⊎ ((1 < left) × rest (left - 1))
+CountsDown id now event line left rest = rest left
+
+abbrev pub EndsWithin : ℕ → List Transition → State ℕ → ℕ → Type 0
+EndsWithin id [] now left = Unit {0}
+EndsWithin id (x ∷ xs) now left =
+    CountsDown id now x.event x.line left (λ n. EndsWithin id xs x.after n)
+
+-- Each point call in flight ends within 80 of its own events from here on, and each one that starts
+-- here within 40.
+abbrev pub AllEndAlone : State ℕ → List Transition → Type 0
+AllEndAlone now [] = Unit {0}
+AllEndAlone now (x ∷ xs) = ((id : ℕ) (call : CallState ℕ) → IsPoint call.outline
+    → (lookup now.calls id ≡ Some call → EndsWithin id (x ∷ xs) now from_any_event)
+    × (lookup now.calls id ≡ None → lookup x.after.calls id ≡ Some call
+    → EndsWithin id xs x.after (from_its_start - 1)))
+    × AllEndAlone x.after xs

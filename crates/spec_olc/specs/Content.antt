@@ -1,0 +1,35 @@
+-- The reachable nodes, and the map that they store.
+use Rattle.std.specs.Prelude.{◌≡◌, ℕ, [], ◌∷◌, ◌++◌, Some, ◌↔◌}
+use Rattle.node_table.specs.Key.{low}
+use Rattle.spec_map.specs.Map.{Pairs, lookup, IsMap}
+use Rattle.node_table.specs.declared.child.Child.{Child}
+use Rattle.node_table.specs.declared.child.Child.TheVariants.{Payload, Node as node}
+use Rattle.spec_olc.specs.State.{VersionedNode, State}
+
+module _ {M : Type 0} where
+  -- the slot is reachable: the root's, or that of a child of a reachable node
+  pub data Reaches (s : State M) : ℕ → Type 0 where
+    at_root : Reaches s s.root
+    by_child : {below : ℕ} (above byte : ℕ) (a : VersionedNode M) → Reaches s above
+        → lookup s.nodes above ≡ Some a → lookup a.node.children byte ≡ Some (node below)
+        → Reaches s below
+
+  -- the node in this slot is reachable and has this child under this byte
+  pub record HasEntry (s : State M) (slot byte : ℕ) (child : Child M) : Type 0 where
+    pub above : VersionedNode M
+    pub reaches : Reaches s slot
+    pub here : lookup s.nodes slot ≡ Some above
+    pub entry : lookup above.node.children byte ≡ Some child
+
+  -- the value is stored at the key: it is a payload of a reachable node, and the key is the node's
+  -- prefix followed by the payload's byte
+  pub record IsStoredAt (s : State M) (key : ℕ) (value : M) : Type 0 where
+    pub slot : ℕ
+    pub byte : ℕ
+    pub payload : HasEntry s slot byte (Payload value)
+    pub key_is : key ≡ low (payload.above.node.prefix ++ byte ∷ [])
+
+  -- THE CONTENT: the map of all payloads of reachable nodes, each at its key
+  pub record IsContent (s : State M) (m : Pairs M) : Type 0 where
+    pub map : IsMap m
+    pub pairs : (key : ℕ) (value : M) → (lookup m key ≡ Some value) ↔ IsStoredAt s key value

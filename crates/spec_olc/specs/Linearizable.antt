@@ -1,0 +1,119 @@
+-- LINEARIZABLE: each point call that is decided takes effect at one event between its Start and its
+-- Finish, its LINEARIZATION POINT, and these calls in the order of their points are a legal run of
+-- one ordered map. (A call that is refused has no effect; ranges are in `Scans`.) Stated by the
+-- schedule and its trace alone: the events, the line of each, the decided calls and the content at
+-- the end. No node, lock or slot is mentioned. `Made` is `Line::Done`: the event was done.
+use Rattle.std.specs.Prelude.{◌≡◌, ◌≢◌, ℕ, ◌==◌, List, [], ◌∷◌, Option, Some, None, if◌then◌else◌}
+use Rattle.spec_map.specs.Map.{Pairs}
+use Rattle.spec_olc.specs.Calls.{IsPoint}
+use Rattle.spec_olc.specs.Runs.{IsHistory}
+use Rattle.spec_olc.specs.declared.trace.Decision.{Decision}
+use Rattle.spec_olc.specs.declared.trace.Line.{Line}
+use Rattle.spec_olc.specs.declared.trace.Line.TheVariants.{Done as Made, Skipped}
+use Rattle.spec_olc.specs.declared.types.Asking.{Asking}
+use Rattle.spec_olc.specs.declared.types.Asking.TheVariants.{Fresh, Wants, Given}
+use Rattle.spec_olc.specs.declared.types.Event.{Event}
+use Rattle.spec_olc.specs.declared.types.Event.TheVariants.{Start, Step, Reclaim}
+use Rattle.spec_olc.specs.declared.types.Kind.{Kind}
+use Rattle.spec_olc.specs.declared.types.Kind.TheVariants.{Answer}
+use Rattle.spec_olc.specs.declared.types.Op.{Op}
+use Rattle.spec_olc.specs.declared.types.Outcome.{Outcome}
+use Rattle.spec_olc.specs.declared.types.Outcome.TheVariants.{Going, Ask, Pair, Decided, Refused, Done, Unknown}
+use Rattle.spec_olc.specs.declared.types.Progress.{Progress}
+use Rattle.spec_olc.specs.declared.types.Progress.TheVariants as progress
+use Rattle.spec_olc.specs.declared.types.Reply.{Reply}
+
+-- A PENDING CALL, as the trace so far shows it: the call as its Start has it; whether it is open,
+-- decided or refused; the last question to its closure since its Start, and the answer to it, if
+-- it has one.
+pub record PendingCall : Type 0 where
+  pub op : Op ℕ
+  pub progress : Progress
+  pub asking : Asking ℕ
+
+-- at its Start it is open, and its closure wasn't called
+abbrev pub just_started : Op ℕ → PendingCall
+just_started op = record { op = op; progress = progress.Open; asking = Fresh }
+
+-- the pending calls by their numbers: at the beginning there are none
+abbrev pub none_pending : ℕ → Option PendingCall
+none_pending number = None
+
+-- the same pending calls, but under one number this one, or none
+abbrev pub with_pending
+    : (ℕ → Option PendingCall) → ℕ → Option PendingCall → ℕ → Option PendingCall
+with_pending calls id call number = if number == id then call else calls number
+
+-- an Answer answers the last question, if that has no answer yet; no other event does
+abbrev pub answered : Kind → Option ℕ → Asking ℕ → Asking ℕ
+answered Answer answer (Wants old) = Given old answer
+answered kind answer asking = asking
+
+-- THE CALL AFTER A STEP of this kind, with this answer of its closure and this outcome; after the
+-- last step it isn't pending any more
+abbrev pub after_step : Kind → Option ℕ → Outcome ℕ → PendingCall → Option PendingCall
+after_step kind answer (Ask old) call = Some (record call { asking = Wants old })
+after_step kind answer (Decided reply) call = Some (record call { progress = progress.Decided })
+after_step kind answer Refused call = Some (record call { progress = progress.Refused })
+after_step kind answer Done call = None
+after_step kind answer out call = Some (record call { asking = answered kind answer call.asking })
+
+-- WHAT A STEP MAY REPORT: that its call is decided or refused, only while it is open, so once at
+-- most; that it asks its closure, only while it is open; that it is done, if it is a point call,
+-- only after that. A range is never decided, and only a range gives pairs. With what a closure is
+-- asked, and which pairs are given, isn't said here.
+abbrev pub MayReport : PendingCall → Outcome ℕ → Type 0
+MayReport call (Ask old) = call.progress ≡ progress.Open
+MayReport call (Pair key value) = IsPoint call.op → ⊥
+MayReport call (Decided reply) = IsPoint call.op × (call.progress ≡ progress.Open)
+MayReport call Refused = call.progress ≡ progress.Open
+MayReport call Done = IsPoint call.op → call.progress ≢ progress.Open
+MayReport call Unknown = ⊥
+MayReport call out = Unit {0}
+
+-- what a decision has of the closure, if anything, is the last question to it and the answer
+abbrev pub IsLast : Option (Option ℕ × Option ℕ) → Asking ℕ → Type 0
+IsLast None asking = Unit {0}
+IsLast (Some (old, answer)) asking = asking ≡ Given old answer
+
+-- THE DECISION of the pending call of this number, with this reply
+pub record IsDecisionOf (id : ℕ) (call : PendingCall) (reply : Reply ℕ) (d : Decision)
+    : Type 0 where
+  pub number : d.id ≡ id
+  pub op : d.op ≡ call.op
+  pub asked : IsLast d.asked call.asking
+  pub replied : d.reply ≡ reply
+
+-- A step that reports a reply is a linearization point: its decision is the first of those that
+-- remain, and then there are the later ones. Any other step decides nothing.
+abbrev pub Decides : ℕ → PendingCall → Outcome ℕ → List Decision → List Decision → Type 0
+Decides id call (Decided reply) decided later =
+    (d : Decision) × IsDecisionOf id call reply d × (decided ≡ d ∷ later)
+Decides id call out decided later = decided ≡ later
+
+-- THE LINEARIZATION POINTS of a trace, from where these calls are pending to its end: a call starts
+-- where none is pending under its number, only a pending call has steps, and the decisions are
+-- those of the linearization points, in their order. Any event may be skipped; which are is in
+-- `Runs`.
+abbrev pub Linearizes
+    : (ℕ → Option PendingCall) → List (Event ℕ) → List Line → List Decision → Type 0
+Linearizes calls [] [] [] = Unit {0}
+Linearizes calls (Start id op ∷ events) (Made report out seen ∷ lines) decided =
+    (calls id ≡ None)
+    × Linearizes (with_pending calls id (Some (just_started op))) events lines decided × (out ≡ Going)
+Linearizes calls (Step id env ∷ events) (Made report out seen ∷ lines) decided =
+    (call : PendingCall) × (later : List Decision) × (calls id ≡ Some call)
+    × MayReport call out × Decides id call out decided later
+    × Linearizes (with_pending calls id (after_step report.kind env.answer out call))
+    events lines later
+Linearizes calls (Reclaim slot ∷ events) (Made report out seen ∷ lines) decided =
+    (out ≡ Going) × Linearizes calls events lines decided
+Linearizes calls (event ∷ events) (Skipped ∷ lines) decided = Linearizes calls events lines decided
+Linearizes calls _ _ _ = ⊥
+
+-- A LINEARIZABLE TRACE: its decisions are those of its linearization points, and they are a legal
+-- run from the empty map to the content.
+pub record IsLinearizable (events : List (Event ℕ)) (lines : List Line) (decided : List Decision)
+    (content : Pairs ℕ) : Type 0 where
+  pub points : Linearizes none_pending events lines decided
+  pub legal : IsHistory [] decided content

@@ -1,0 +1,88 @@
+-- What a call may make and write: what it stores, what it has made, and copies of what it holds.
+use Rattle.std.specs.Prelude.{◌≡◌, ℕ, List, [], ◌∷◌, ◌++◌, length, map, Option, Some, None, IsTrue, if◌then◌else◌, ◌⊎◌}
+use Rattle.node_base.specs.Form.{Fits}
+use Rattle.node_table.specs.Key.{Begins, next_byte}
+use Rattle.spec_map.specs.Map.{lookup, put, with_answer, Rises}
+use Rattle.node_table.specs.TableNode.{TableNode, MayHave}
+use Rattle.node_table.specs.declared.child.Child.{Child}
+use Rattle.node_table.specs.declared.child.Child.TheVariants.{Payload, Node as node}
+use Rattle.spec_olc.specs.Calls.{bytes_of, stored}
+use Rattle.spec_olc.specs.Lists.{is_in}
+use Rattle.spec_olc.specs.State.{CallState, VersionedNode, State, publish}
+
+module _ {M : Type 0} where
+  -- the byte of the call's key that follows a prefix
+  abbrev pub byte_below : CallState M → List ℕ → ℕ
+  byte_below call prefix = next_byte prefix (bytes_of call.cursor)
+
+  -- an entry of its own: the payload that it stores, a node that it made, or None if it stores none
+  abbrev pub IsOwn : CallState M → Option (Child M) → Type 0
+  IsOwn call None = stored call.op call.asking ≡ None
+  IsOwn call (Some (Payload v)) = stored call.op call.asking ≡ Some v
+  IsOwn call (Some (node slot)) = IsTrue (is_in slot call.made)
+
+  -- a node that the call holds
+  pub record HeldNode (s : State M) (call : CallState M) : Type 0 where
+    pub slot : ℕ
+    pub node : VersionedNode M
+    pub mine : IsTrue (is_in slot call.held)
+    pub here : lookup s.nodes slot ≡ Some node
+
+  -- an entry of a held node with the same prefix
+  pub record IsCopied (s : State M) (call : CallState M) (prefix : List ℕ) (byte : ℕ)
+      (child : Child M) : Type 0 where
+    pub from : HeldNode s call
+    pub prefix_is : from.node.node.prefix ≡ prefix
+    pub entry : lookup from.node.node.children byte ≡ Some child
+
+  -- a held node itself, which moves below a new one
+  pub record IsMoved (s : State M) (call : CallState M) (prefix : List ℕ) (byte : ℕ)
+      (child : Child M) : Type 0 where
+    pub moved : HeldNode s call
+    pub is : child ≡ node moved.slot
+    pub begins : Begins (prefix ++ byte ∷ []) moved.node.node.prefix
+
+  -- A NEW NODE of a call: its prefix begins the call's key; each entry is its own, copied or moved
+  pub record IsNewNode (s : State M) (call : CallState M) (a : TableNode M) : Type 0 where
+    pub way : Begins a.prefix (bytes_of call.cursor)
+    pub ascending : Rises 0 256 a.children
+    pub fits : Fits a.form (length a.children)
+    pub entries : (byte : ℕ) (child : Child M) → lookup a.children byte ≡ Some child
+        → MayHave a.prefix child
+        × (((byte ≡ byte_below call a.prefix) × IsOwn call (Some child))
+        ⊎ (IsCopied s call a.prefix byte child ⊎ IsMoved s call a.prefix byte child))
+
+  abbrev pub with_children : VersionedNode M → List (ℕ × Child M) → VersionedNode M
+  with_children a children = record a { node = record a.node { children = children } }
+
+  -- the node with this entry under the call's byte, or with none there
+  abbrev pub changed : CallState M → VersionedNode M → Option (Child M) → VersionedNode M
+  changed call a child =
+      with_children a (with_answer a.node.children (byte_below call a.node.prefix) child)
+
+  -- the nodes, with those in these slots published
+  abbrev pub linked : List ℕ → List (ℕ × VersionedNode M) → List (ℕ × VersionedNode M)
+  linked made nodes = map (λ e. if is_in e.0 made then (e.0, publish e.1) else e) nodes
+
+  -- the entry of a node under the call's byte
+  abbrev pub entry_below : CallState M → VersionedNode M → Option (Child M)
+  entry_below call a = lookup a.node.children (byte_below call a.node.prefix)
+
+  -- The node that a Write takes out: one that the call holds, if it was the entry and None replaces
+  -- it. The Write empties it. A node that another one replaces keeps its children.
+  abbrev pub TakesOut :
+      State M → CallState M → Option (Child M) → Option (Child M) → Option (ℕ × VersionedNode M) → Type 0
+  TakesOut s call (Some (node slot)) None gone =
+      (held : HeldNode s call) × (held.slot ≡ slot) × (gone ≡ Some (slot, held.node))
+  TakesOut s call was child gone = gone ≡ None
+
+  abbrev pub emptied : Option (ℕ × VersionedNode M) → List (ℕ × VersionedNode M) → List (ℕ × VersionedNode M)
+  emptied None nodes = nodes
+  emptied (Some (slot, leaf)) nodes = put nodes slot (with_children leaf [])
+
+  -- THE WRITE: the held node has its new entry, what was made is published, what is taken out empty
+  abbrev pub written : (s : State M) (call : CallState M) → HeldNode s call → Option (Child M)
+      → Option (ℕ × VersionedNode M) → State M
+  written s call held child gone = record s {
+    nodes = emptied gone (linked call.made (put s.nodes held.slot (changed call held.node child)));
+  }

@@ -1,0 +1,10 @@
+pub mod Answer
+pub mod Bytes
+pub mod Command
+pub mod Entry
+pub mod Events
+pub mod Grammar
+pub mod Lines
+pub mod Number
+pub mod Texts
+pub mod Value

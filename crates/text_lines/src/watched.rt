@@ -1,0 +1,168 @@
+//! Readers and writers that note a failure.
+
+ghost use Rattle.std.specs.Prelude.{◌≡◌, ℕ, List, ◌-◌, ◌^◌, ◌<◌, ◌≤◌, [], false, length, IsTrue, ◌↔◌, IfOk, OnOk, OnErr};
+ghost use Rattle.std.specs.Io.{ReadsAtMost, WritesAtMost};
+ghost use Rattle.std.specs.Io.KnownBytes.{Appends, Keeps, ReadConsumes, WriteAppends};
+
+use crate::streams::{Reader, Writer};
+use std::marker::Model;
+
+/// A call of a reader or a writer failed.
+#[derive(Clone, Copy, Debug, PartialEq, Eq)]
+pub struct Failed;
+
+/// A reader or a writer, and whether a call of it has failed. It makes at most `u64::MAX` calls;
+/// the next counts as failed.
+#[derive(Drop)]
+pub struct Watched<T> {
+    inner: T,
+    failed: bool,
+    calls: u64,
+}
+
+impl<T> Model for Watched<T> {
+    ghost use Rattle.std.specs.Prelude.{◌-◌, ◌^◌};
+    ghost use Rattle.text_lines.specs.Watched.{Stream};
+
+    ghost Value = { Stream T };
+
+    ghost view = { λ w. record {
+      inner = w.inner;
+      failed = w.failed;
+      left = 2 ^ 64 - 1 - w.calls;
+    } };
+}
+
+impl<T> Watched<T> {
+    ghost use Rattle.text_lines.specs.Watched.{HasFailed, inner_of, calls_left};
+
+    /// No call has failed yet.
+    pub fn new(inner: T) -> Self
+        ensures inner { inner_of result ≡ inner }
+        ensures failed { HasFailed result → ⊥ }
+        ensures calls { calls_left result ≡ 2 ^ 64 - 1 }
+    {
+        Watched {
+            inner,
+            failed: false,
+            calls: 0,
+        }
+    }
+
+    /// Whether a call has failed.
+    pub fn failed(&self) -> bool
+        ensures { IsTrue result ↔ HasFailed self.now }
+    {
+        self.failed
+    }
+
+    /// What was watched.
+    pub fn into_inner(self) -> T
+        ensures { result ≡ inner_of self }
+    {
+        let Watched {
+            inner,
+            failed: _,
+            calls: _,
+        } = self;
+        inner
+    }
+
+    // Counts a call that is about to be made.
+    fn count(&mut self) -> Result<(), Failed>
+        ensures inner { inner_of self.new ≡ inner_of self.old }
+        ensures kept { OnOk result (self.new.failed ≡ self.old.failed) }
+        ensures failed { OnErr result (HasFailed self.new) }
+        ensures fewer { OnOk result (calls_left self.new < calls_left self.old) }
+        ensures last { OnErr result ((calls_left self.old ≡ 0) × (calls_left self.new ≡ 0)) }
+    {
+        if self.calls == u64::MAX {
+            self.failed = true;
+            return Err(Failed);
+        }
+        self.calls += 1;
+        Ok(())
+    }
+}
+
+impl<R: Reader> Watched<R> {
+    ghost use Rattle.text_lines.specs.Watched.{HasFailed, inner_of, calls_left, IsFailure};
+
+    /// Reads some bytes into the buffer, and returns how many: none only at the end.
+    pub fn read(&mut self, buf: &mut [u8]) -> Result<usize, Failed>
+        ensures bound { ReadsAtMost result buf.new }
+        ensures bytes { ReadConsumes
+            (R.remaining (inner_of self.old)) (R.remaining (inner_of self.new))
+            result buf.new }
+        ensures kept { OnOk result (self.new.failed ≡ self.old.failed) }
+        ensures failed { OnErr result (HasFailed self.new) }
+        ensures real { OnErr result (IsFailure R.may_fail self.old self.new) }
+        ensures fewer { OnOk result (calls_left self.new < calls_left self.old) }
+    {
+        self.count()?;
+        match self.inner.read_some(buf) {
+            Ok(n) => Ok(n),
+            Err(_) => {
+                self.failed = true;
+                Err(Failed)
+            }
+        }
+    }
+}
+
+impl<W: Writer> Watched<W> {
+    ghost use Rattle.text_lines.specs.Watched.{HasFailed, inner_of, IsFailure, HasFailure, SendsTo, SendsPart};
+
+    /// Writes some of the bytes, and returns how many. To take none of some bytes is a failure.
+    pub fn write(&mut self, buf: &[u8]) -> Result<usize, Failed>
+        ensures bound { WritesAtMost result buf.now }
+        ensures bytes { WriteAppends
+            (W.contents (inner_of self.old)) (W.contents (inner_of self.new))
+            result buf.now }
+        ensures some { IfOk result (λ n. 0 < length buf.now → 0 < n) }
+        ensures kept { OnOk result (self.new.failed ≡ self.old.failed) }
+        ensures failed { OnErr result (HasFailed self.new) }
+        ensures real { OnErr result (IsFailure W.may_fail self.old self.new) }
+    {
+        self.count()?;
+        match self.inner.write_some(buf) {
+            Ok(n) if n > 0 || buf.is_empty() => Ok(n),
+            _ => {
+                self.failed = true;
+                Err(Failed)
+            }
+        }
+    }
+
+    /// Hands on what the writer itself may still hold.
+    pub fn flush(&mut self) -> Result<(), Failed>
+        ensures bytes { Keeps (W.contents (inner_of self.old)) (W.contents (inner_of self.new)) }
+        ensures kept { OnOk result (self.new.failed ≡ self.old.failed) }
+        ensures failed { OnErr result (HasFailed self.new) }
+        ensures real { OnErr result (IsFailure W.may_fail self.old self.new) }
+    {
+        self.count()?;
+        match self.inner.flush_all() {
+            Ok(()) => Ok(()),
+            Err(_) => {
+                self.failed = true;
+                Err(Failed)
+            }
+        }
+    }
+
+    /// Writes all of the bytes. At an `Err` a first part of them was written.
+    pub fn send(&mut self, bytes: &[u8]) -> Result<(), Failed>
+        ensures ok { OnOk result (SendsTo W.contents self.old self.new bytes.now []) }
+        ensures err { OnErr result (SendsPart W.contents self.old self.new bytes.now) }
+        ensures kept { OnOk result (self.new.failed ≡ self.old.failed) }
+        ensures failed { OnErr result (HasFailed self.new) }
+        ensures real { OnErr result (HasFailure W.may_fail self.new) }
+    {
+        let mut at = 0;
+        while at < bytes.len() {
+            at += self.write(&bytes[at..])?;
+        }
+        Ok(())
+    }
+}

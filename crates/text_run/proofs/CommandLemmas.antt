@@ -1,0 +1,130 @@
+-- The grammar of commands.
+use Rattle.std.proofs.Common.{◌≡◌, ℕ, ◌<◌, ◌≤◌, ◌^◌, List, [], ◌∷◌, length, get_or, codes, decimal, Option, Some, None, if◌then◌else◌, bytes_eq, refl, ap, rules, arith}
+use Rattle.std.specs.List.{AllByRecursion}
+use Rattle.spec_text.specs.declared.command.Command.{Command}
+use Rattle.spec_text.specs.declared.command.Command.TheVariants.{Get, Insert, Remove, Exchange, Add, Put, Range, Keys, Empty}
+use Rattle.spec_text.specs.Command.{words_of_command, CommandFits}
+use Rattle.text_lines.proofs.GrammarLemmas.{IsGrammar}
+use Rattle.text_lines.proofs.ValueLemmas.{number_from, number_read, value_from, value_read, value_word}
+use Rattle.text_lines.proofs.WordLemmas.{IsWord, number_word}
+
+abbrev get_from : List (List ℕ) → Option Command
+get_from (key ∷ []) = Some (Get (number_from key))
+get_from words = None
+
+abbrev insert_from : List (List ℕ) → Option Command
+insert_from (key ∷ value ∷ []) = Some (Insert (number_from key) (number_from value))
+insert_from words = None
+
+abbrev remove_from : List (List ℕ) → Option Command
+remove_from (key ∷ []) = Some (Remove (number_from key))
+remove_from words = None
+
+abbrev exchange_from : List (List ℕ) → Option Command
+exchange_from (key ∷ old ∷ new ∷ []) = Some (Exchange (number_from key) (number_from old) (value_from new))
+exchange_from words = None
+
+abbrev add_from : List (List ℕ) → Option Command
+add_from (key ∷ more ∷ []) = Some (Add (number_from key) (number_from more))
+add_from words = None
+
+abbrev put_from : List (List ℕ) → Option Command
+put_from (key ∷ more ∷ []) = Some (Put (number_from key) (number_from more))
+put_from words = None
+
+abbrev range_from : List (List ℕ) → Option Command
+range_from (start ∷ end ∷ limit ∷ []) = Some (Range (number_from start) (number_from end) (number_from limit))
+range_from words = None
+
+abbrev keys_from : List (List ℕ) → Option Command
+keys_from [] = Some Keys
+keys_from words = None
+
+abbrev empty_from : List (List ℕ) → Option Command
+empty_from [] = Some Empty
+empty_from words = None
+
+abbrev command_from : List (List ℕ) → Option Command
+command_from [] = None
+command_from (name ∷ words) =
+    if bytes_eq name (codes "get") then get_from words else
+    (if bytes_eq name (codes "insert") then insert_from words else
+    (if bytes_eq name (codes "remove") then remove_from words else
+    (if bytes_eq name (codes "cas") then exchange_from words else
+    (if bytes_eq name (codes "add") then add_from words else
+    (if bytes_eq name (codes "put") then put_from words else
+    (if bytes_eq name (codes "range") then range_from words else
+    (if bytes_eq name (codes "keys") then keys_from words else
+    (if bytes_eq name (codes "empty") then empty_from words else None))))))))
+
+-- what is at most 4096 has 64 bits
+limit_wide : (limit : ℕ) → limit ≤ 4096 → limit < 2 ^ 64
+limit_wide limit h = omega arith
+
+command_read : (command : Command) → CommandFits command → command_from (words_of_command command) ≡ Some command
+command_read (Get key) fits = ap (λ k. Some (Get k)) (number_read key fits)
+command_read (Insert key value) fits = rw (number_read key fits.0, number_read value fits.1) refl
+command_read (Remove key) fits = ap (λ k. Some (Remove k)) (number_read key fits)
+command_read (Exchange key old new) fits =
+    rw (number_read key fits.0, number_read old fits.1, value_read new fits.2) refl
+command_read (Add key more) fits = rw (number_read key fits.0, number_read more fits.1) refl
+command_read (Put key more) fits = rw (number_read key fits.0, number_read more fits.1) refl
+command_read (Range start end limit) fits =
+    rw (number_read start fits.0, number_read end fits.1, number_read limit (limit_wide limit fits.2)) refl
+command_read Keys fits = refl
+command_read Empty fits = refl
+
+are_words : (command : Command) → CommandFits command → AllByRecursion IsWord (words_of_command command)
+are_words (Get key) fits = (record { lacks = search rules; short = omega arith }, (number_word key fits, tt))
+are_words (Insert key value) fits =
+    (record { lacks = search rules; short = omega arith }, (number_word key fits.0, (number_word value fits.1, tt)))
+are_words (Remove key) fits = (record { lacks = search rules; short = omega arith }, (number_word key fits, tt))
+are_words (Exchange key old new) fits =
+    (record { lacks = search rules; short = omega arith }, (number_word key fits.0, (number_word old fits.1, (value_word new fits.2, tt))))
+are_words (Add key more) fits =
+    (record { lacks = search rules; short = omega arith }, (number_word key fits.0, (number_word more fits.1, tt)))
+are_words (Put key more) fits =
+    (record { lacks = search rules; short = omega arith }, (number_word key fits.0, (number_word more fits.1, tt)))
+are_words (Range start end limit) fits =
+    (record { lacks = search rules; short = omega arith }, (number_word start fits.0, (number_word end fits.1, (number_word limit (limit_wide limit fits.2), tt))))
+are_words Keys fits = (record { lacks = search rules; short = omega arith }, tt)
+are_words Empty fits = (record { lacks = search rules; short = omega arith }, tt)
+
+few_words : (command : Command) → CommandFits command → length (words_of_command command) ≤ 12
+few_words (Get key) fits = omega arith
+few_words (Insert key value) fits = omega arith
+few_words (Remove key) fits = omega arith
+few_words (Exchange key old new) fits = omega arith
+few_words (Add key more) fits = omega arith
+few_words (Put key more) fits = omega arith
+few_words (Range start end limit) fits = omega arith
+few_words Keys fits = omega arith
+few_words Empty fits = omega arith
+
+pub commands : IsGrammar words_of_command CommandFits
+commands = record {
+  some = λ command fits. omega arith;
+  few = few_words;
+  each = are_words;
+  read = command_from;
+  reads = command_read;
+}
+
+-- the third byte of the first word, by which `range` differs from all other names
+abbrev third_byte : List (List ℕ) → ℕ
+third_byte [] = 0
+third_byte (word ∷ words) = get_or word 2 0
+
+-- words behind `range` are none where they aren't two numbers and a third that may be asked for
+pub no_range : (left : List (List ℕ)) → ((start end limit : ℕ) → start < 2 ^ 64 → end < 2 ^ 64 → limit ≤ 4096 → left ≡ decimal start ∷ decimal end ∷ decimal limit ∷ [] → ⊥)
+    → (command : Command) → CommandFits command → words_of_command command ≡ codes "range" ∷ left → ⊥
+no_range left none (Get key) fits words = omega (arith, ap third_byte words)
+no_range left none (Insert key value) fits words = omega (arith, ap third_byte words)
+no_range left none (Remove key) fits words = omega (arith, ap third_byte words)
+no_range left none (Exchange key old new) fits words = omega (arith, ap third_byte words)
+no_range left none (Add key more) fits words = omega (arith, ap third_byte words)
+no_range left none (Put key more) fits words = omega (arith, ap third_byte words)
+no_range left none (Range start end limit) fits words =
+    let same : left ≡ decimal start ∷ decimal end ∷ decimal limit ∷ [] = cc in none start end limit fits.0 fits.1 fits.2 same
+no_range left none Keys fits words = omega (arith, ap third_byte words)
+no_range left none Empty fits words = omega (arith, ap third_byte words)

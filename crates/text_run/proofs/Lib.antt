@@ -1,0 +1,4 @@
+pub mod CommandLemmas
+pub mod Ending
+pub mod Replies
+pub mod Running

@@ -1,0 +1,4 @@
+pub mod CommandReading
+pub mod Parts
+pub mod Replied
+pub mod Session

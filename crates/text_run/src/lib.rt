@@ -1,0 +1,8 @@
+//! `congee run`: what a line parses as, its reply's text, and the run over any reader and writer, line by line.
+#![tactic(auto)]
+
+pub mod command;
+pub mod laws;
+pub mod reply;
+pub mod run;
+pub mod session;

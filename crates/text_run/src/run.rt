@@ -1,0 +1,106 @@
+//! The engine of `congee run`: command lines in, answer lines out.
+
+ghost use Rattle.std.specs.Prelude.{◌≡◌, ℕ, ◌<◌, List, Option, Err, OnOk};
+ghost use Rattle.text_lines.specs.Watched.{HasFailed, calls_left};
+ghost use Rattle.text_run.specs.Run.{EndsRun};
+ghost use Rattle.text_run.specs.inner.Session.{HasServedInput, TurnsTo};
+ghost use Rattle.text_run.specs.declared.run.RunError.TheVariants.{Read as ReadFailed, Write as WriteFailed};
+
+use crate::session::Session;
+use node_table::allocator::{Allocator, Budget, DefaultAllocator};
+use std::alloc::Global;
+use std::io::{Read, Write};
+use text_lines::watched::Watched;
+
+/// Why a run broke off.
+#[derive(Clone, Copy, Debug, PartialEq, Eq)]
+pub enum RunError {
+    /// A read failed.
+    Read,
+    /// A write failed.
+    Write,
+    /// There was no memory for the map.
+    Oom,
+}
+
+/// How many bytes are read at once.
+const CHUNK: usize = 8192;
+
+/// Serves the command lines of the input, from the empty map on. All answers so far are written
+/// before each read. A line of more than 256 bytes is read to its end without being held, and is
+/// answered `bad line`.
+///
+/// `limit` is a budget for the map's nodes, in bytes.
+///
+/// Memory is taken once before the first read; a refusal there returns `RunError::Oom`. From then
+/// on a line that the map, or its budget, has no memory for is answered `oom`, and the run goes on.
+pub fn run<R: Read, W: Write>(
+    alloc: Global,
+    input: &mut Watched<R>,
+    output: &mut Watched<W>,
+    limit: Option<u64>,
+) -> Result<(), RunError>
+    requires input { HasFailed input.old → ⊥ }
+    requires output { HasFailed output.old → ⊥ }
+    ensures { EndsRun R.remaining W.contents input.old input.new output.old output.new result }
+{
+    match limit {
+        None => run_within(alloc, DefaultAllocator {}, input, output),
+        Some(limit) => run_within(alloc, Budget::new(limit), input, output),
+    }
+}
+
+// The run, with this budget for the map's nodes.
+fn run_within<R: Read, W: Write, A: Allocator>(
+    alloc: Global,
+    allocator: A,
+    input: &mut Watched<R>,
+    output: &mut Watched<W>,
+) -> Result<(), RunError>
+    requires input { HasFailed input.old → ⊥ }
+    requires output { HasFailed output.old → ⊥ }
+    ensures { EndsRun R.remaining W.contents input.old input.new output.old output.new result }
+{
+    let Ok(mut session) = Session::new(alloc, allocator) else {
+        return Err(RunError::Oom);
+    };
+    loop {
+        match turn(&mut session, input, output) {
+            Ok(true) => {}
+            Ok(false) => break,
+            Err(error) => return Err(error),
+        }
+    }
+    let Ok(()) = session.finish(output) else {
+        return Err(RunError::Write);
+    };
+    Ok(())
+}
+
+// Writes the answers so far, reads once, and serves what was read. Returns whether the input goes on.
+fn turn<R: Read, W: Write, A: Allocator>(
+    session: &mut Session<A>,
+    input: &mut Watched<R>,
+    output: &mut Watched<W>,
+) -> Result<bool, RunError>
+    ensures turns { (old_in old_out : Option (List ℕ))
+        → HasServedInput R.remaining W.contents session.old input.old output.old old_in old_out
+        → TurnsTo R.remaining W.contents session.new input.new output.new old_in old_out result }
+    ensures fewer { OnOk result (calls_left input.new < calls_left input.old) }
+    ensures input { OnOk result (input.new.failed ≡ input.old.failed) }
+    ensures output { OnOk result (output.new.failed ≡ output.old.failed) }
+    ensures read_failed { result ≡ Err ReadFailed → HasFailed input.new }
+    ensures write_failed { result ≡ Err WriteFailed → HasFailed output.new }
+{
+    let Ok(()) = session.send_to(output) else {
+        return Err(RunError::Write);
+    };
+    let mut chunk = [0; CHUNK];
+    let Ok(count) = input.read(&mut chunk) else {
+        return Err(RunError::Read);
+    };
+    let Ok(()) = session.take_all(&chunk[..count], output) else {
+        return Err(RunError::Write);
+    };
+    Ok(count > 0)
+}

@@ -1,0 +1,5 @@
+pub mod Decided
+pub mod Ending
+pub mod EntryLemmas
+pub mod Saying
+pub mod Texts

@@ -1,0 +1,51 @@
+//! The engine of `congee schedule`: the lines of a schedule in, the text of its replay out.
+
+ghost use Rattle.std.specs.Prelude.{◌≡◌};
+ghost use Rattle.text_lines.specs.Watched.{HasFailed};
+ghost use Rattle.text_schedule.specs.Schedule.{EndsSchedule};
+
+use crate::printing::write_trace;
+use crate::reading::read_schedule;
+use olc_replay::replay::replay;
+use std::alloc::Global;
+use std::io::{Read, Write};
+use text_lines::watched::Watched;
+
+/// Why a schedule wasn't replayed, or its text not written.
+#[derive(Clone, Copy, Debug, PartialEq, Eq)]
+pub enum ScheduleError {
+    /// A read failed.
+    Read,
+    /// A write failed. A beginning of the text may have gone out.
+    Write,
+    /// There was no memory for the events, for the machine's root, for a call that starts, or for the trace.
+    Oom,
+    /// The line with this number, from 1 on, is no entry.
+    Line(u64),
+    /// The lines have more than 100000 events.
+    Events,
+}
+
+/// Reads the lines of a schedule, replays their events, and writes the text of the replay.
+///
+/// All lines are read and parsed before anything happens; the first one with a fault decides the error. Nothing is
+/// written before the replay has ended.
+pub fn schedule<R: Read, W: Write>(
+    alloc: Global,
+    input: &mut Watched<R>,
+    output: &mut Watched<W>,
+) -> Result<(), ScheduleError>
+    requires input { HasFailed input.old → ⊥ }
+    requires output { HasFailed output.old → ⊥ }
+    ensures { EndsSchedule R.remaining W.contents
+        input.old input.new output.old output.new result }
+{
+    let events = read_schedule(alloc, input)?;
+    let Ok(trace) = replay(alloc, &events) else {
+        return Err(ScheduleError::Oom);
+    };
+    let Ok(()) = write_trace(output, &events, &trace) else {
+        return Err(ScheduleError::Write);
+    };
+    Ok(())
+}

@@ -1,0 +1,28 @@
+use Rattle.std.proofs.Common.{ap, sym, length, inl, refl}
+use Rattle.tree_edit.proofs.NewLaws.{root_stands, root_tree, root_pairs, root_nodes}
+use Rattle.tree_edit.proofs.NewLaws.{root_counted, root_charge}
+use Rattle.tree_edit.proofs.tree.Tree.new.Goals as goal
+
+pub invariant_of-result : goal.invariant_of-result
+invariant_of-result g c =
+    let there = c.insert_reserved-root.ensures.updates.changed in
+    let is = c.in_ok-root.ensures.node in
+    record {
+      tree = root_tree _ _ _ there is;
+      rooted = root_stands _ _ _ there is;
+      filled = rw (root_nodes _ _ _ there is) (inl refl, tt);
+      by_form = root_counted _ _ _ there is _ (rw c.new-supply.ensures at c.in_ok-root.ensures.ok.forms);
+      counted = ap length (sym (root_pairs _ _ _ there is));
+    }
+
+pub returns-clause-pairs : goal.returns-clause-pairs
+returns-clause-pairs g c = root_pairs _ _ _ c.insert_reserved-root.ensures.updates.changed c.in_ok-root.ensures.node
+
+pub returns-clause-nodes : goal.returns-clause-nodes
+returns-clause-nodes g c = root_nodes _ _ _ c.insert_reserved-root.ensures.updates.changed c.in_ok-root.ensures.node
+
+pub returns-clause-charge : goal.returns-clause-charge
+returns-clause-charge g c =
+    let there = c.insert_reserved-root.ensures.updates.changed in
+    let e = c.in_ok-root.ensures in
+    root_charge _ _ _ there e.node g.A.Allocator.charge c.args.budget _ _ c.new-supply.ensures e.ok.forms e.ok.alike

@@ -1,0 +1,71 @@
+//! A computation at a key that is present: what a closure returns replaces the payload, or the payload is removed.
+//!
+//! Never fails: where the payload is removed, this is a removal.
+
+ghost use Rattle.std.specs.Prelude.{◌≡◌, ◌+◌, ◌≤◌, Option, None};
+ghost use Rattle.std.specs.Fn.{TakesAt, CalledAt};
+ghost use Rattle.std.specs.Int.{from_be_bytes, w64};
+ghost use Rattle.std.specs.Option.{ForSome};
+ghost use Rattle.tree_edit.specs.Reduce.{Recomputes};
+ghost use Rattle.tree_edit.specs.Tree.{payload_at, ChargesForNodes};
+ghost use Rattle.spec_map.specs.Map.{with_answer, IsMap};
+ghost use Rattle.tree_path.specs.Path.{on_path};
+
+use crate::insertion::{change_payload, current};
+use crate::removal::take_out;
+use crate::tree::Tree;
+use node_table::allocator::Allocator;
+use std::sync::ledger::Ledger;
+use tree_path::descent::seek_along;
+use tree_path::reads::ReadCount;
+
+impl<P: Drop, A: Allocator> Tree<P, A> {
+    /// Calls the closure on the key's payload, where the key is present: the payload that it returns replaces that one,
+    /// and `None` removes the pair. Returns the previous payload. `reads` goes up by one for each node on the key's
+    /// path.
+    pub fn compute_if_present<F: FnMut(&P) -> Option<P>, L: Ledger>(
+        &mut self,
+        key: &[u8; 8],
+        f: &mut F,
+        reads: &mut ReadCount<L>,
+    ) -> Option<P>
+        requires { ForSome (payload_at self.old key.now) (TakesAt F.FnMut f.old) }
+        ensures ordered { IsMap self.old.pairs }
+        ensures before { result ≡ payload_at self.old key.now }
+        ensures absent { payload_at self.old key.now ≡ None
+            → (self.new ≡ self.old) × (f.new ≡ f.old) }
+        ensures present { ForSome (payload_at self.old key.now) (λ current. (answer : Option P)
+            × CalledAt F.FnMut f.old current answer f.new
+            × (self.new.pairs ≡ with_answer self.old.pairs (from_be_bytes w64 key.now) answer)
+            × Recomputes answer self.old.nodes key.now self.new.nodes) }
+        ensures charge { ChargesForNodes A.charge self.old self.new }
+        ensures reads { reads.new ≡ reads.old + on_path self.old.nodes key.now }
+        ensures few { on_path self.old.nodes key.now ≤ 8 }
+    {
+        let mut trail = [self.root; 8];
+        let spot = seek_along(&self.nodes, self.root, key, reads, &mut trail);
+        let Some(payload) = current(&self.nodes, spot.slot, &spot.stop) else {
+            return None;
+        };
+        match f(payload) {
+            Some(answer) => {
+                let before = change_payload(&mut self.nodes, spot.slot, &spot.stop, answer);
+                Some(before)
+            }
+            None => {
+                let Some(before) = take_out(
+                    &mut self.nodes,
+                    &mut self.supply,
+                    &spot,
+                    &trail,
+                    key,
+                    true,
+                ) else {
+                    unreachable!()
+                };
+                self.count -= 1;
+                Some(before)
+            }
+        }
+    }
+}

@@ -1,0 +1,120 @@
+//! The adaptive radix tree as one value (*The Adaptive Radix Tree*, Leis et al.): its nodes in one table, the supply
+//! that they are taken from, and how many pairs there are.
+//!
+//! The nodes refer to each other by slot numbers that no user sees. Each node's prefix has all bytes from the root down
+//! to it. Nodes with a prefix of seven bytes have payloads as children, those with a shorter one have nodes. The root
+//! has no prefix, and the form that never grows.
+//!
+//! The modules beside this one change it. They work on its parts, which needn't agree with one another between two
+//! steps; a `Tree` is parts that agree.
+
+ghost use Rattle.std.specs.Prelude.{◌≡◌, ◌+◌, ◌≤◌, [], length, IfOk, option_copied};
+ghost use Rattle.node_table.specs.Charge.{add_charge};
+ghost use Rattle.tree_path.specs.Charge.{charge_of};
+ghost use Rattle.tree_path.specs.Path.{on_path};
+ghost use Rattle.tree_path.specs.inner.Root.{HasTree, tree_pairs, tree_nodes};
+ghost use Rattle.tree_edit.specs.Reduce.{AreFilled};
+ghost use Rattle.tree_edit.specs.Tree.{payload_at, root_alone};
+
+use node_table::allocator::Allocator;
+use node_table::tree_node::TreeNode;
+use slab::Slab;
+use spec_map::error::OOMError;
+use std::alloc::Global;
+use std::marker::Model;
+use std::sync::ledger::Ledger;
+use tree_path::descent::find;
+use tree_path::reads::ReadCount;
+use tree_path::supply::Supply;
+
+/// An ordered map from keys of eight bytes, most significant first, to payloads.
+///
+/// Contracts see the list of its pairs by the keys' numbers (byte order is numeric order), the list of its nodes, and
+/// the budget, which is charged for each node from before it is made until it is freed.
+#[derive(Drop)]
+pub struct Tree<P: Drop, A: Allocator> {
+    pub(crate) nodes: Slab<TreeNode<P>>,
+    pub(crate) supply: Supply<A>,
+    pub(crate) root: usize,
+    /// How many pairs there are: 2 to the 64 at most.
+    pub(crate) count: u128,
+}
+
+impl<P: Drop, A: Allocator> Model for Tree<P, A> {
+    ghost use Rattle.tree_path.specs.inner.Root.{tree_pairs, tree_nodes};
+    ghost use Rattle.tree_edit.specs.Tree.{TreeView, tree_code};
+    ghost use Rattle.tree_edit.specs.inner.Whole.{IsWhole};
+
+    ghost Value = { TreeView P A };
+
+    ghost coded = { tree_code P.code A.code };
+
+    ghost view = { λ t. record {
+      pairs = tree_pairs t.nodes.slots t.root;
+      nodes = tree_nodes t.nodes.slots t.root;
+      budget = t.supply.budget;
+    } };
+
+    ghost invariant = { λ t. IsWhole t.nodes.slots t.root t.supply.forms t.count };
+}
+
+impl<P: Drop, A: Allocator> Tree<P, A> {
+    /// An empty tree, or `OOMError` where the budget or the machine has no memory for its root.
+    pub fn new(alloc: Global, budget: A) -> Result<Self, OOMError>
+        ensures pairs { IfOk result (λ tree. tree.pairs ≡ []) }
+        ensures nodes { IfOk result (λ tree. tree.nodes ≡ root_alone) }
+        ensures charge { IfOk result (λ tree.
+            A.charge tree.budget ≡ add_charge (A.charge budget) (charge_of tree.nodes)) }
+    {
+        let mut nodes = Slab::new(alloc);
+        nodes.reserve(1)?;
+        let mut supply = Supply::new(alloc, budget);
+        let root = nodes.insert_reserved(supply.root()?);
+        Ok(Tree {
+            nodes,
+            supply,
+            root,
+            count: 0,
+        })
+    }
+
+    /// The payload at the key. `reads` goes up by one for each node on the key's path.
+    pub fn get<L: Ledger>(&self, key: &[u8; 8], reads: &mut ReadCount<L>) -> Option<&P>
+        ensures value { option_copied result ≡ payload_at self.now key.now }
+        ensures reads { reads.new ≡ reads.old + on_path self.now.nodes key.now }
+        ensures few { on_path self.now.nodes key.now ≤ 8 }
+    {
+        find(&self.nodes, self.root, key, reads)
+    }
+
+    /// How many pairs there are.
+    pub fn value_count(&self) -> u128
+        ensures { result ≡ length self.now.pairs }
+    {
+        self.count
+    }
+
+    /// The sum of the stated sizes of the nodes, which the budget is charged for. No node but the root is empty, and in
+    /// an empty tree there is no other.
+    pub fn charged(&self) -> u128
+        ensures sizes { result ≡ charge_of self.now.nodes }
+        ensures filled { AreFilled self.now.nodes }
+        ensures bare { self.now.pairs ≡ [] → result ≡ 2104 }
+    {
+        self.supply.bytes()
+    }
+
+    /// The machine's memory, from which the nodes are taken.
+    pub fn memory(&self) -> Global {
+        self.supply.memory()
+    }
+
+    /// The table of the nodes and the slot of the root in it, for walks.
+    pub fn table(&self) -> (&Slab<TreeNode<P>>, usize)
+        ensures tree { HasTree result.0.now.slots result.1 }
+        ensures pairs { tree_pairs result.0.now.slots result.1 ≡ self.now.pairs }
+        ensures nodes { tree_nodes result.0.now.slots result.1 ≡ self.now.nodes }
+    {
+        (&self.nodes, self.root)
+    }
+}

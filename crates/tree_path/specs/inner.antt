@@ -1,0 +1,3 @@
+pub mod Descent
+pub mod Root
+pub mod Supply

@@ -1,0 +1,56 @@
+//! Walks over all pairs of a subtree, keys ascending.
+
+ghost use Rattle.std.specs.Prelude.{◌≡◌, ◌++◌, map, vec_len, vec_capacity};
+ghost use Rattle.tree_walk.specs.Scan.{first_number, from_key};
+ghost use Rattle.tree_walk.specs.inner.Scan.{HasSubtree, EachSubtree, KeysFit};
+
+use crate::range_scan::window_of;
+use node_table::child::ChildRef;
+use node_table::tree_node::TreeNode;
+use slab::Slab;
+use spec_map::traits::Word;
+
+/// Adds the keys of the subtree, read back from their numbers, to the end of a vector that has room for them.
+pub fn push_keys<P: Drop, K: Word>(nodes: &Slab<TreeNode<P>>, slot: usize, keys: &mut Vec<K>)
+    requires { KeysFit nodes.now.slots slot (vec_len keys.old) (vec_capacity keys.old) }
+    ensures keys { EachSubtree nodes.now.slots slot (λ pairs.
+        keys.new.items ≡ keys.old.items ++ map (λ pair. K.of_number pair.0) pairs) }
+    ensures capacity { vec_capacity keys.new ≡ vec_capacity keys.old }
+{
+    let Some(node) = nodes.get(slot) else {
+        unreachable!()
+    };
+    let first = node.base().first_key();
+    let mut from = 0;
+    'children: while let Some((byte, child)) = node.first_from(from) {
+        match child {
+            ChildRef::Payload(_) => keys.push_reserved(K::from_u64(first + byte as u64)),
+            ChildRef::Node(below) => push_keys(nodes, below, keys),
+        }
+        from = byte as usize + 1;
+    }
+}
+
+/// The least key of the subtree that isn't below `start`.
+pub fn key_from<P: Drop>(nodes: &Slab<TreeNode<P>>, slot: usize, start: u64) -> Option<u64>
+    requires { HasSubtree nodes.now.slots slot }
+    ensures { EachSubtree nodes.now.slots slot (λ pairs.
+        result ≡ first_number (from_key start pairs)) }
+{
+    let Some(node) = nodes.get(slot) else {
+        unreachable!()
+    };
+    let window = window_of(node.base(), start, u64::MAX);
+    let mut from = window.from;
+    'children: while let Some((byte, child)) = node.first_from(from) {
+        let found = match child {
+            ChildRef::Payload(_) => Some(window.first + byte as u64),
+            ChildRef::Node(below) => key_from(nodes, below, start),
+        };
+        if found.is_some() {
+            return found;
+        }
+        from = byte as usize + 1;
+    }
+    None
+}
