@@ -6,31 +6,19 @@ use Rattle.spec_text.specs.Value.{value_text, FitsU64}
 use Rattle.spec_text.specs.declared.command.Command.{Command}
 use Rattle.spec_text.specs.declared.command.Command.TheVariants.{Get, Insert, Remove, Exchange, Add, Put, Range, Keys, Empty}
 
--- the first word of a command, and the words behind it. A number is written in decimal, without a leading zero
-abbrev pub name_of : Command → List ℕ
-name_of (Get key) = codes "get"
-name_of (Insert key value) = codes "insert"
-name_of (Remove key) = codes "remove"
-name_of (Exchange key old new) = codes "cas"
-name_of (Add key more) = codes "add"
-name_of (Put key more) = codes "put"
-name_of (Range start end limit) = codes "range"
-name_of Keys = codes "keys"
-name_of Empty = codes "empty"
-
-abbrev pub arguments_of : Command → List (List ℕ)
-arguments_of (Get key) = decimal key ∷ []
-arguments_of (Insert key value) = decimal key ∷ decimal value ∷ []
-arguments_of (Remove key) = decimal key ∷ []
-arguments_of (Exchange key old new) = decimal key ∷ decimal old ∷ value_text new ∷ []
-arguments_of (Add key more) = decimal key ∷ decimal more ∷ []
-arguments_of (Put key more) = decimal key ∷ decimal more ∷ []
-arguments_of (Range start end limit) = decimal start ∷ decimal end ∷ decimal limit ∷ []
-arguments_of Keys = []
-arguments_of Empty = []
-
+-- the words of a command. A number is written in decimal, without a leading zero
 abbrev pub words_of_command : Command → List (List ℕ)
-words_of_command command = name_of command ∷ arguments_of command
+words_of_command (Get key) = codes "get" ∷ decimal key ∷ []
+words_of_command (Insert key value) = codes "insert" ∷ decimal key ∷ decimal value ∷ []
+words_of_command (Remove key) = codes "remove" ∷ decimal key ∷ []
+words_of_command (Exchange key old new) =
+    codes "cas" ∷ decimal key ∷ decimal old ∷ value_text new ∷ []
+words_of_command (Add key more) = codes "add" ∷ decimal key ∷ decimal more ∷ []
+words_of_command (Put key more) = codes "put" ∷ decimal key ∷ decimal more ∷ []
+words_of_command (Range start end limit) =
+    codes "range" ∷ decimal start ∷ decimal end ∷ decimal limit ∷ []
+words_of_command Keys = codes "keys" ∷ []
+words_of_command Empty = codes "empty" ∷ []
 
 -- its numbers have 64 bits, and at most 4096 pairs are asked for
 abbrev pub CommandFits : Command → Type 0

@@ -101,9 +101,20 @@ few_words (Range start end limit) fits = omega arith
 few_words Keys fits = omega arith
 few_words Empty fits = omega arith
 
+some_words : (command : Command) → CommandFits command → 0 < length (words_of_command command)
+some_words (Get key) fits = omega arith
+some_words (Insert key value) fits = omega arith
+some_words (Remove key) fits = omega arith
+some_words (Exchange key old new) fits = omega arith
+some_words (Add key more) fits = omega arith
+some_words (Put key more) fits = omega arith
+some_words (Range start end limit) fits = omega arith
+some_words Keys fits = omega arith
+some_words Empty fits = omega arith
+
 pub commands : IsGrammar words_of_command CommandFits
 commands = record {
-  some = λ command fits. omega arith;
+  some = some_words;
   few = few_words;
   each = are_words;
   read = command_from;
