@@ -12,53 +12,53 @@ module _ {input input' output output' : Option (List ℕ)} where
   serves_all f = record {
     taken = f.taken;
     reads = f.reads;
-    whole = f.told.whole;
-    rest = f.told.rest;
-    cut = f.told.cut;
+    whole = f.written.whole;
+    rest = f.written.rest;
+    cut = f.written.cut;
     lines = _;
     served = refl;
-    texts = f.told.shows.texts;
-    dones = f.told.shows.dones;
-    answers = f.told.shows.answers;
-    map = f.told.map;
-    legal = f.told.shows.legal;
-    sends = f.told.shows.sends;
+    texts = f.written.shows.texts;
+    dones = f.written.shows.dones;
+    answers = f.written.shows.answers;
+    map = f.written.map;
+    legal = f.written.shows.legal;
+    sends = f.written.shows.sends;
   }
 
   pub serves_whole : StopsReading input input' output output' → ServesLines AreWhole input input' output output' []
   serves_whole f = record {
     taken = f.taken;
     reads = f.reads;
-    whole = f.told.whole;
-    rest = f.told.rest;
-    cut = f.told.cut;
+    whole = f.written.whole;
+    rest = f.written.rest;
+    cut = f.written.cut;
     lines = _;
     served = refl;
-    texts = f.told.shows.texts;
-    dones = f.told.shows.dones;
-    answers = f.told.shows.answers;
-    map = f.told.map;
-    legal = f.told.shows.legal;
-    sends = f.told.shows.sends;
+    texts = f.written.shows.texts;
+    dones = f.written.shows.dones;
+    answers = f.written.shows.answers;
+    map = f.written.map;
+    legal = f.written.shows.legal;
+    sends = f.written.shows.sends;
   }
 
   pub serves_first : StopsWriting input input' output output' → (left : List ℕ) × ServesLines AreFirst input input' output output' left
   serves_first f = (
-    f.told.left,
+    f.written.left,
     record {
       taken = f.taken;
       reads = f.reads;
-      whole = f.told.whole;
-      rest = f.told.rest;
-      cut = f.told.cut;
-      lines = f.told.lines;
-      served = (f.told.later, f.told.first);
-      texts = f.told.shows.texts;
-      dones = f.told.shows.dones;
-      answers = f.told.shows.answers;
-      map = f.told.map;
-      legal = f.told.shows.legal;
-      sends = f.told.shows.sends;
+      whole = f.written.whole;
+      rest = f.written.rest;
+      cut = f.written.cut;
+      lines = f.written.lines;
+      served = (f.written.later, f.written.first);
+      texts = f.written.shows.texts;
+      dones = f.written.shows.dones;
+      answers = f.written.shows.answers;
+      map = f.written.map;
+      legal = f.written.shows.legal;
+      sends = f.written.shows.sends;
     },
   )
 
@@ -73,7 +73,7 @@ module _ {input input' output output' : Option (List ℕ)} where
   stopped_reading s = record {
     taken = s.taken;
     reads = s.reads;
-    told = record {
+    written = record {
       whole = s.whole;
       rest = s.rest;
       cut = s.cut;
@@ -86,7 +86,7 @@ module _ {input input' output output' : Option (List ℕ)} where
   stopped_writing {left} s = record {
     taken = s.taken;
     reads = s.reads;
-    told = record {
+    written = record {
       whole = s.whole;
       rest = s.rest;
       cut = s.cut;
@@ -107,7 +107,7 @@ module _ {R W : Type 0} (remaining : R → Option (List ℕ)) (contents : W → 
       taken = e.0.taken;
       reads = e.0.reads;
       ends = e.1;
-      told = record { whole = e.0.whole; rest = e.0.rest; cut = e.0.cut; map = e.0.map; shows = finished e.0 };
+      written = record { whole = e.0.whole; rest = e.0.rest; cut = e.0.cut; map = e.0.map; shows = finished e.0 };
     },
     e.2,
     e.3,

@@ -14,7 +14,7 @@ ghost use Rattle.spec_text.specs.Command.{SpellsCommand, IsNoCommand};
 
 /// The command that a line parses as. The line feed behind it is no part of a line.
 pub fn command_of(line: &[u8]) -> Option<Command>
-    ensures said { IfSome result (SpellsCommand line.now) }
+    ensures parsed { IfSome result (SpellsCommand line.now) }
     ensures bad { IfNone result (IsNoCommand line.now) }
 {
     let mut words = Words::new(line);

@@ -22,7 +22,7 @@ turns_err r input input' Events other found = found
 -- a fault among lines that were read
 stops_for_memory : {input input' : Option (List ℕ)} {all : List (List ℕ)} (error : ScheduleError)
     → HasRead input input' all → FaultAmong all error → StopsForMemory input input'
-stops_for_memory error read f = record { lines = f.lines; later = f.line ∷ f.later; read = rw f.parts at read; events = f.events; say = f.say }
+stops_for_memory error read f = record { lines = f.lines; later = f.line ∷ f.later; read = rw f.parts at read; events = f.events; parsed = f.parsed }
 
 stops_at : {input input' : Option (List ℕ)} {all : List (List ℕ)} (error : ScheduleError)
     → HasRead input input' all → FaultAmong all error → StopsAt (Fault error) input input'
@@ -32,7 +32,7 @@ stops_at error read f = record {
   later = f.later;
   read = rw f.parts at read;
   events = f.events;
-  say = f.say;
+  parsed = f.parsed;
   fault = f.fault;
 }
 
@@ -75,11 +75,11 @@ module _ {R V : Type 0} (remaining : R → Option (List ℕ)) (items : V → Lis
       → Consumes (remaining (inner_of input)) (remaining (inner_of input')) taken → IsAtEnd (remaining (inner_of input'))
       → IfOk result (λ events. ParseAll taken (items events)) → IfErr result (FaultAtEnd taken) → (result ≡ Err Read → ⊥)
       → input'.failed ≡ input.failed → EndsReading remaining items input input' result
-  ends_all taken (Ok events) reads ends say fault other kept = (
-    (_, record { taken = taken; reads = reads; ends = ends; whole = say.whole; rest = say.rest; cut = say.cut; lines_are = refl }, say.say),
+  ends_all taken (Ok events) reads ends parsed fault other kept = (
+    (_, record { taken = taken; reads = reads; ends = ends; whole = parsed.whole; rest = parsed.rest; cut = parsed.cut; lines_are = refl }, parsed.parsed),
     kept,
   )
-  ends_all taken (Err error) reads ends say fault other kept =
+  ends_all taken (Err error) reads ends parsed fault other kept =
       ends_among error (λ e. other (ap Err e)) (record {
         taken = taken;
         reads = reads;
@@ -92,7 +92,7 @@ module _ {R V : Type 0} (remaining : R → Option (List ℕ)) (items : V → Lis
 -- all lines were read, and then there was no memory
 pub no_memory : {input input' : Option (List ℕ)} (lines : List (List ℕ)) (events : List (Event ℕ))
     → HasReadAll input input' lines → ParseAsEvents lines events → StopsForMemory input input'
-no_memory lines events read say = record {
+no_memory lines events read parsed = record {
   lines = lines;
   later = [];
   read = record {
@@ -104,5 +104,5 @@ no_memory lines events read say = record {
     lines_are = inr (read.ends, append-nil lines ∙ read.lines_are);
   };
   events = events;
-  say = say;
+  parsed = parsed;
 }

@@ -27,17 +27,17 @@ say_push (l ∷ lines) [] line entry all here = absurd all
 pub say_more : {lines : List (List ℕ)} {events : List (Event ℕ)} (line : List ℕ) (entry : Entry)
     → ParseAsEvents lines events → SpellsEntry line entry → length (events ++ events_of entry) ≤ 100000
     → ParseAsEvents (lines ++ line ∷ []) (events ++ events_of entry)
-say_more {lines} {events} line entry say spells few = record {
-  entries = say.entries ++ entry ∷ [];
-  said = say_push lines say.entries line entry say.said spells;
-  events_are = ap (λ es. es ++ events_of entry) say.events_are
-      ∙ ap (λ es. flat_map events_of say.entries ++ es) (sym (append-nil (events_of entry)))
-      ∙ sym (flat_map-append events_of say.entries (entry ∷ []));
+say_more {lines} {events} line entry parsed spells few = record {
+  entries = parsed.entries ++ entry ∷ [];
+  parsed_lines = say_push lines parsed.entries line entry parsed.parsed_lines spells;
+  events_are = ap (λ es. es ++ events_of entry) parsed.events_are
+      ∙ ap (λ es. flat_map events_of parsed.entries ++ es) (sym (append-nil (events_of entry)))
+      ∙ sym (flat_map-append events_of parsed.entries (entry ∷ []));
   few = few;
 }
 
 pub say_none : ParseAsEvents [] []
-say_none = record { entries = []; said = tt; events_are = refl; few = omega arith }
+say_none = record { entries = []; parsed_lines = tt; events_are = refl; few = omega arith }
 
 -- there are no more lines than events
 some_events : (entry : Entry) → EntryFits entry → 0 < length (events_of entry)
@@ -57,7 +57,7 @@ lines_below [] (e ∷ entries) all = absurd all
 lines_below (l ∷ lines) [] all = absurd all
 
 pub few_lines : {lines : List (List ℕ)} {events : List (Event ℕ)} → ParseAsEvents lines events → length lines ≤ 100000
-few_lines {lines} {events} say = omega (arith, lines_below lines say.entries say.said, ap length say.events_are, say.few)
+few_lines {lines} {events} parsed = omega (arith, lines_below lines parsed.entries parsed.parsed_lines, ap length parsed.events_are, parsed.few)
 
 -- a line has at most 10000 events
 pub few_events : (line : List ℕ) (entry : Entry) → SpellsEntry line entry → length (events_of entry) ≤ 10000
@@ -76,7 +76,7 @@ reads_none r line lines events = record {
   rest = [];
   cut = cut_none;
   held = rw line refl;
-  said = record { say = rw events say_none; count = lines };
+  parsed_lines = record { parsed = rw events say_none; count = lines };
 }
 
 pub reads_byte : {bytes : List ℕ} {r next : Reading} (byte : ℕ) → byte ≢ 10 → HasReadBytes bytes r
@@ -86,23 +86,23 @@ reads_byte {bytes} {r} byte other read is = rw is (record {
   rest = read.rest ++ byte ∷ [];
   cut = cut_byte byte other read.cut;
   held = holds_byte r.line read.rest byte read.held;
-  said = record { say = read.said.say; count = read.said.count };
+  parsed_lines = record { parsed = read.parsed_lines.parsed; count = read.parsed_lines.count };
 })
 
 pub reads_line : {bytes : List ℕ} {r next : Reading} (byte : ℕ) → byte ≡ 10 → (read : HasReadBytes bytes r)
     → next.line ≡ Some [] → HasParsed (read.whole ++ read.rest ∷ []) next → HasReadBytes (bytes ++ byte ∷ []) next
-reads_line byte ten read line said = record {
+reads_line byte ten read line parsed_lines = record {
   whole = read.whole ++ read.rest ∷ [];
   rest = [];
   cut = rw ten (cut_line read.cut);
   held = rw line refl;
-  said = said;
+  parsed_lines = parsed_lines;
 }
 
 -- the fault of the next line is the first one
 fault_after : {lines : List (List ℕ)} {events : List (Event ℕ)} (line : List ℕ) (error : ScheduleError)
     → ParseAsEvents lines events → Fault error (length lines + 1) line events → FaultAmong (lines ++ line ∷ []) error
-fault_after {lines} {events} line error say fault = record { lines = lines; line = line; later = []; parts = refl; events = events; say = say; fault = fault }
+fault_after {lines} {events} line error parsed fault = record { lines = lines; line = line; later = []; parts = refl; events = events; parsed = parsed; fault = fault }
 
 pub fault_line : {bytes : List ℕ} {r : Reading} (error : ScheduleError) (byte : ℕ) → byte ≡ 10 → (read : HasReadBytes bytes r)
     → Fault error (length read.whole + 1) read.rest r.events.items → FaultIn (bytes ++ byte ∷ []) error
@@ -110,7 +110,7 @@ fault_line error byte ten read fault = record {
   whole = read.whole ++ read.rest ∷ [];
   rest = [];
   cut = rw ten (cut_line read.cut);
-  among = fault_after read.rest error read.said.say fault;
+  among = fault_after read.rest error read.parsed_lines.parsed fault;
 }
 
 -- whatever else was read
@@ -121,7 +121,7 @@ among_on others f = record {
   later = f.later ++ others;
   parts = ap (λ ls. ls ++ others) f.parts ∙ append_assoc f.lines (f.line ∷ f.later) others;
   events = f.events;
-  say = f.say;
+  parsed = f.parsed;
   fault = f.fault;
 }
 
@@ -145,15 +145,15 @@ fault_within before bytes error i lt f =
 pub say_all_none : {bytes : List ℕ} {r : Reading} → r.line ≡ Some [] → HasReadBytes bytes r → ParseAll bytes r.events.items
 say_all_none {bytes} {r} none read =
     let empty : read.rest ≡ [] = rw none at read.held in
-    record { whole = read.whole; rest = []; cut = rw empty at read.cut; say = read.said.say }
+    record { whole = read.whole; rest = []; cut = rw empty at read.cut; parsed = read.parsed_lines.parsed }
 
 pub say_all_line : {bytes : List ℕ} {r next : Reading} → (r.line ≡ Some [] → ⊥) → (read : HasReadBytes bytes r)
     → HasParsed (read.whole ++ read.rest ∷ []) next → ParseAll bytes next.events.items
-say_all_line {bytes} {r} {next} some read said = record {
+say_all_line {bytes} {r} {next} some read parsed_lines = record {
   whole = read.whole;
   rest = read.rest;
   cut = read.cut;
-  say = rw (last_line read.whole read.rest r.line some read.held) said.say;
+  parsed = rw (last_line read.whole read.rest r.line some read.held) parsed_lines.parsed;
 }
 
 pub fault_at_end : {bytes : List ℕ} {r : Reading} (error : ScheduleError) → (r.line ≡ Some [] → ⊥) → (read : HasReadBytes bytes r)
@@ -162,7 +162,7 @@ fault_at_end {bytes} {r} error some read fault = record {
   whole = read.whole;
   rest = read.rest;
   cut = read.cut;
-  among = rw (last_line read.whole read.rest r.line some read.held) (fault_after read.rest error read.said.say fault);
+  among = rw (last_line read.whole read.rest r.line some read.held) (fault_after read.rest error read.parsed_lines.parsed fault);
 }
 
 pub if_err_weaker : {T E : Type 0} {P Q : E → Type 0} (r : Result T E) → ((e : E) → P e → Q e) → IfErr r P → IfErr r Q

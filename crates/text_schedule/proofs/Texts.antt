@@ -33,7 +33,7 @@ module _ (events : List (Event ℕ)) (lines : List Line) (i : ℕ) (some : i < l
       → later' ≡ decided_after (slice_index_or lines i l) later
       → Sends o q all (new ++ told_from (i + 1) events lines later')
   tells_event {o} {p} {q} {all} {left} {left'} {new} {later'} later e l sent made added after =
-      let said = flat_map ended (event_texts (slice_index_or events i e) (slice_index_or lines i l) later) in
+      let parsed_lines = flat_map ended (event_texts (slice_index_or events i e) (slice_index_or lines i l) later) in
       let rest = told_from (i + 1) events lines (decided_after (slice_index_or lines i l) later) in
-      rw (added, after) (subst (λ (ws : List ℕ). Sends o q all ws) (ap (λ ws. left' ++ ws) (told_next later e l) ∙ sym (append_assoc left' said rest))
+      rw (added, after) (subst (λ (ws : List ℕ). Sends o q all ws) (ap (λ ws. left' ++ ws) (told_next later e l) ∙ sym (append_assoc left' parsed_lines rest))
       (sends_on sent (sends_with (told_from i events lines later) made)))

@@ -27,7 +27,7 @@ ParseAsEntries _ _ = ⊥
 -- the lines parse as entries with these events, which are at most 100000
 pub record ParseAsEvents (lines : List (List ℕ)) (events : List (Event ℕ)) : Type 0 where
   pub entries : List Entry
-  pub said : ParseAsEntries lines entries
+  pub parsed_lines : ParseAsEntries lines entries
   pub events_are : events ≡ flat_map events_of entries
   pub few : length events ≤ 100000
 
@@ -57,7 +57,7 @@ pub record WritesReplay (input input' output output' : Option (List ℕ)) (left 
   pub lines : List (List ℕ)
   pub read : HasReadAll input input' lines
   pub events : List (Event ℕ)
-  pub say : ParseAsEvents lines events
+  pub parsed : ParseAsEvents lines events
   pub happened : List Line
   pub decided : List Decision
   pub content : Pairs ℕ
@@ -72,7 +72,7 @@ pub record StopsReadingSchedule (input input' : Option (List ℕ)) : Type 0 wher
   pub rest : List ℕ
   pub cut : Cuts taken whole rest
   pub events : List (Event ℕ)
-  pub say : ParseAsEvents whole events
+  pub parsed : ParseAsEvents whole events
 
 -- Some first lines of the input parse as events.
 pub record StopsForMemory (input input' : Option (List ℕ)) : Type 0 where
@@ -80,7 +80,7 @@ pub record StopsForMemory (input input' : Option (List ℕ)) : Type 0 where
   pub later : List (List ℕ)
   pub read : HasRead input input' (lines ++ later)
   pub events : List (Event ℕ)
-  pub say : ParseAsEvents lines events
+  pub parsed : ParseAsEvents lines events
 
 -- THE FIRST FAULT: a line with this fault. The fault takes the line's number, from 1 on, the line, and the events of
 -- the lines before it.
@@ -91,7 +91,7 @@ pub record StopsAt (Fault : ℕ → List ℕ → List (Event ℕ) → Type 0) (i
   pub later : List (List ℕ)
   pub read : HasRead input input' (lines ++ line ∷ later)
   pub events : List (Event ℕ)
-  pub say : ParseAsEvents lines events
+  pub parsed : ParseAsEvents lines events
   pub fault : Fault (length lines + 1) line events
 
 -- with the events of this line there are more than 100000

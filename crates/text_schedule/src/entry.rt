@@ -16,7 +16,7 @@ ghost use Rattle.text_schedule.specs.inner.EntryReading.{ReadsEntry, ReadsOp, Re
 
 /// The entry that a line parses as. The line feed at its end is no part of a line.
 pub fn entry_of(line: &[u8]) -> Option<Entry>
-    ensures said { IfSome result (SpellsEntry line.now) }
+    ensures parsed { IfSome result (SpellsEntry line.now) }
     ensures bad { IfNone result (IsNoEntry line.now) }
 {
     let mut words = Words::new(line);

@@ -141,7 +141,7 @@ impl Reading {
 
     // The entry of the current line, if the line ends here.
     fn entry(&self) -> Option<Entry>
-        ensures said { (line : List ℕ) → IsKeptOf self.now.line line
+        ensures parsed { (line : List ℕ) → IsKeptOf self.now.line line
             → IfSome result (SpellsEntry line) }
         ensures bad { (line : List ℕ) → IsKeptOf self.now.line line → IfNone result (IsNoEntry line) }
     {

@@ -57,19 +57,19 @@ pub record Finished (input input' output output' : Option (List ℕ)) : Type 0 w
   pub taken : List ℕ
   pub reads : Consumes input input' taken
   pub ends : IsAtEnd input'
-  pub told : AnswersAll taken output output'
+  pub written : AnswersAll taken output output'
 
 -- a part of the input was read, and the texts of its whole lines were written, and nothing else
 pub record StopsReading (input input' output output' : Option (List ℕ)) : Type 0 where
   pub taken : List ℕ
   pub reads : Consumes input input' taken
-  pub told : AnswersWhole taken output output'
+  pub written : AnswersWhole taken output output'
 
 -- a part of the input was read, and a beginning of the texts of its first lines was written
 pub record StopsWriting (input input' output output' : Option (List ℕ)) : Type 0 where
   pub taken : List ℕ
   pub reads : Consumes input input' taken
-  pub told : AnswersPart taken output output'
+  pub written : AnswersPart taken output output'
 
 module _ {R W : Type 0} (remaining : R → Option (List ℕ)) (contents : W → Option (List ℕ)) where
   -- how a run ends, by these

@@ -14,7 +14,7 @@ use Rattle.text_schedule.specs.declared.schedule.ScheduleError.TheVariants.{Read
 
 -- these are the lines before the current one, and they parse as the events
 pub record HasParsed (lines : List (List ℕ)) (r : Reading) : Type 0 where
-  pub say : ParseAsEvents lines r.events.items
+  pub parsed : ParseAsEvents lines r.events.items
   pub count : r.lines ≡ length lines
 
 -- these bytes were read, and their whole lines parse as the events
@@ -23,7 +23,7 @@ pub record HasReadBytes (bytes : List ℕ) (r : Reading) : Type 0 where
   pub rest : List ℕ
   pub cut : Cuts bytes whole rest
   pub held : IsKeptOf r.line rest
-  pub said : HasParsed whole r
+  pub parsed_lines : HasParsed whole r
 
 -- the same of what was read of the input
 pub record ReadsInput (input input' : Option (List ℕ)) (r : Reading) : Type 0 where
@@ -36,7 +36,7 @@ pub record ParseAll (bytes : List ℕ) (events : List (Event ℕ)) : Type 0 wher
   pub whole : List (List ℕ)
   pub rest : List ℕ
   pub cut : Cuts bytes whole rest
-  pub say : ParseAsEvents (lines_of whole rest) events
+  pub parsed : ParseAsEvents (lines_of whole rest) events
 
 -- the fault of a line, with its number and the events before it
 abbrev pub Fault : ScheduleError → ℕ → List ℕ → List (Event ℕ) → Type 0
@@ -53,7 +53,7 @@ pub record FaultAmong (all : List (List ℕ)) (error : ScheduleError) : Type 0 w
   pub later : List (List ℕ)
   pub parts : all ≡ lines ++ line ∷ later
   pub events : List (Event ℕ)
-  pub say : ParseAsEvents lines events
+  pub parsed : ParseAsEvents lines events
   pub fault : Fault error (length lines + 1) line events
 
 -- it is in a whole line of the bytes, or in any

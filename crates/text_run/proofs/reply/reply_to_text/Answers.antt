@@ -7,5 +7,5 @@ returns-in-None g c = record { done = None; answered = (c.in-None.ensures.bad, r
 
 pub returns-in-Some : goal.returns-in-Some
 returns-in-Some g c =
-    answers_line c.args.map.now.pairs c.execute.new.map.pairs c.args.text.now c.in-Some.command c.in-Some.ensures.said c.execute.result
+    answers_line c.args.map.now.pairs c.execute.new.map.pairs c.args.text.now c.in-Some.command c.in-Some.ensures.parsed c.execute.result
     c.execute.ensures.text c.execute.ensures.closure c.execute.ensures.legal

@@ -38,14 +38,14 @@ returns-in-Err g c =
 pub returns-in_default-finish : goal.returns-in_default-finish
 returns-in_default-finish g c =
     let r = (c.in-Ok-false.ensures.turns _ _ c.loop-error.invariant.runs).0 in (
-      serves_first (record { taken = r.taken; reads = r.reads; told = c.in_default-finish.ensures.err _ r.taken r.serves }),
+      serves_first (record { taken = r.taken; reads = r.reads; written = c.in_default-finish.ensures.err _ r.taken r.serves }),
       c.in_default-finish.ensures.failed,
     )
 
 pub returns : goal.returns
 returns g c =
     let t = c.in-Ok-false.ensures.turns _ _ c.loop-error.invariant.runs in (
-      serves_all (record { taken = t.0.taken; reads = t.0.reads; ends = t.1 c.in-Ok-false.field-0-test; told = c.in-Ok-finish.ensures.ok _ t.0.taken t.0.serves }),
+      serves_all (record { taken = t.0.taken; reads = t.0.reads; ends = t.1 c.in-Ok-false.field-0-test; written = c.in-Ok-finish.ensures.ok _ t.0.taken t.0.serves }),
       t.1 c.in-Ok-false.field-0-test,
       λ failed. c.requires.input (sym c.loop-error.invariant.input ∙ sym c.in-Ok-false.ensures.input ∙ failed),
       λ failed. c.requires.output (sym c.loop-error.invariant.output ∙ sym c.in-Ok-false.ensures.output ∙ sym c.in-Ok-finish.ensures.kept ∙ failed),

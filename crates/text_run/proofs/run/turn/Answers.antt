@@ -8,7 +8,7 @@ pub returns-in_default-clause-turns : goal.returns-in_default-clause-turns
 returns-in_default-clause-turns g c old_in old_out r = record {
   taken = r.taken;
   reads = r.reads;
-  told = tells_broken r.taken _ _ (c.in_default.ensures.err old_out r.taken r.serves);
+  written = tells_broken r.taken _ _ (c.in_default.ensures.err old_out r.taken r.serves);
 }
 
 pub returns-in_default-read-clause-turns : goal.returns-in_default-read-clause-turns
@@ -17,7 +17,7 @@ returns-in_default-read-clause-turns g c old_in old_out r =
     record {
       taken = r.taken;
       reads = rw append-nil at reads;
-      told = tells_whole (c.in-Ok.ensures.ok old_out r.taken r.serves).0;
+      written = tells_whole (c.in-Ok.ensures.ok old_out r.taken r.serves).0;
     }
 
 pub returns-in_default-take_all-clause-turns : goal.returns-in_default-take_all-clause-turns
@@ -27,7 +27,7 @@ returns-in_default-take_all-clause-turns g c old_in old_out r =
     record {
       taken = r.taken ++ bytes;
       reads = consumes_more _ _ _ r.taken bytes r.reads c.in-Ok-read.ensures.bytes.0;
-      told = tells_within r.taken bytes _ _ (c.in_default-take_all.ensures.err old_out r.taken (rw sent.1 sent.0));
+      written = tells_within r.taken bytes _ _ (c.in_default-take_all.ensures.err old_out r.taken (rw sent.1 sent.0));
     }
 
 pub returns-clause-turns : goal.returns-clause-turns

@@ -10,9 +10,9 @@ use Rattle.text_schedule.proofs.entry.entry_of.Goals.{In_ok-name}
 cut : (c : In_ok-name) → words_of c.args.line.now ≡ c.in_ok-name.name.now ∷ words_left c.next_word.new.self
 cut c = sym c.new-words.ensures ∙ c.in_ok-name.ensures
 
-pub returns-clause-said : goal.returns-clause-said
-returns-clause-said c =
-    spelled_from_reads words_of_entry EntryFits entries _ _ (cut (goal.at.returns-clause-said c).In_ok-name) _ c.named.ensures
+pub returns-clause-parsed : goal.returns-clause-parsed
+returns-clause-parsed c =
+    spelled_from_reads words_of_entry EntryFits entries _ _ (cut (goal.at.returns-clause-parsed c).In_ok-name) _ c.named.ensures
 
 pub returns-clause-bad : goal.returns-clause-bad
 returns-clause-bad c =

@@ -17,29 +17,29 @@ pub returns-in_err-put_content-clause-err : goal.returns-in_err-put_content-clau
 returns-in_err-put_content-clause-err g c =
     let p = err_from_is_err_and c.from_residual-in_err-put_content.result c.from_residual-in_err-put_content.ensures.1 in
     let content = ended (content_text c.args.trace.now.content.items) in
-    let told = rw (c.new-pending.ensures, c.deref.ensures.value, c.deref-2.ensures.value) at c.in_ok-put_events.ensures.ok in
+    let traced = rw (c.new-pending.ensures, c.deref.ensures.value, c.deref-2.ensures.value) at c.in_ok-put_events.ensures.ok in
     let b = rw c.deref-3.ensures.value at c.in_err-put_content.ensures.err in
-    rw p.1 (b.0, sends_more content told b.1)
+    rw p.1 (b.0, sends_more content traced b.1)
 
 pub returns-in_err-send_to-clause-err : goal.returns-in_err-send_to-clause-err
 returns-in_err-send_to-clause-err g c =
     let p = err_from_is_err_and c.from_residual-in_err-send_to.result c.from_residual-in_err-send_to.ensures.1 in
     let content = ended (content_text c.args.trace.now.content.items) in
-    let told = rw (c.new-pending.ensures, c.deref.ensures.value, c.deref-2.ensures.value) at c.in_ok-put_events.ensures.ok in
-    let all = sends_more content told (rw c.deref-3.ensures.value at c.in_ok-put_content.ensures.ok) in
+    let traced = rw (c.new-pending.ensures, c.deref.ensures.value, c.deref-2.ensures.value) at c.in_ok-put_events.ensures.ok in
+    let all = sends_more content traced (rw c.deref-3.ensures.value at c.in_ok-put_content.ensures.ok) in
     let b = c.in_err-send_to.ensures.broken in
     rw p.1 (b.0, sends_on all b.1)
 
 pub returns-clause-ok : goal.returns-clause-ok
 returns-clause-ok g c =
     let content = ended (content_text c.args.trace.now.content.items) in
-    let told = rw (c.new-pending.ensures, c.deref.ensures.value, c.deref-2.ensures.value) at c.in_ok-put_events.ensures.ok in
-    let all = sends_more content told (rw c.deref-3.ensures.value at c.in_ok-put_content.ensures.ok) in
+    let traced = rw (c.new-pending.ensures, c.deref.ensures.value, c.deref-2.ensures.value) at c.in_ok-put_events.ensures.ok in
+    let all = sends_more content traced (rw c.deref-3.ensures.value at c.in_ok-put_content.ensures.ok) in
     on_ok_from c.flush.result (sends_kept (sends_on all c.in_ok-send_to.ensures.sent) c.flush.ensures.bytes)
 
 pub returns-clause-err : goal.returns-clause-err
 returns-clause-err g c =
     let content = ended (content_text c.args.trace.now.content.items) in
-    let told = rw (c.new-pending.ensures, c.deref.ensures.value, c.deref-2.ensures.value) at c.in_ok-put_events.ensures.ok in
-    let all = sends_more content told (rw c.deref-3.ensures.value at c.in_ok-put_content.ensures.ok) in
+    let traced = rw (c.new-pending.ensures, c.deref.ensures.value, c.deref-2.ensures.value) at c.in_ok-put_events.ensures.ok in
+    let all = sends_more content traced (rw c.deref-3.ensures.value at c.in_ok-put_content.ensures.ok) in
     on_err_from c.flush.result ([], sends_kept (sends_on all c.in_ok-send_to.ensures.sent) c.flush.ensures.bytes)
