@@ -95,14 +95,19 @@ fn rounds<R: Threads + Wait + Clock + Sync, W: Write>(
 fn main(rt: HostRuntime) -> Result<(), Fail> {
     let mut words = env::args(&rt)?;
     let _ = words.next();
-    if words.next().is_none() {
+    let Some(form) = words.next() else {
         return Ok(());
-    }
+    };
+    let is_all = form.as_str() == "all";
     let alloc = rt.alloc();
     let mut out = rt.stdout();
-    rounds(&rt, alloc, &mut out, false, 5, false)?;
-    rounds(&rt, alloc, &mut out, true, 5, false)?;
-    rounds(&rt, alloc, &mut out, false, 5, true)?;
-    rounds(&rt, alloc, &mut out, true, 5, true)?;
+    if is_all || form.as_str() == "locked" {
+        rounds(&rt, alloc, &mut out, false, 5, false)?;
+        rounds(&rt, alloc, &mut out, true, 5, false)?;
+    }
+    if is_all || form.as_str() == "shared" {
+        rounds(&rt, alloc, &mut out, false, 5, true)?;
+        rounds(&rt, alloc, &mut out, true, 5, true)?;
+    }
     Ok(())
 }

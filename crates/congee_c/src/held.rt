@@ -1,8 +1,8 @@
 //! The map that a handle holds.
 
-ghost use Rattle.std.specs.Prelude.{◌≡◌, [], IfOk};
+ghost use Rattle.std.specs.Prelude.{IfOk};
 ghost use Rattle.congee_c.specs.Limit.{limit_of, limit_charge};
-ghost use Rattle.face_maps.specs.Face.{ChargedFor};
+ghost use Rattle.tree_edit.specs.TreeCalls.{IsNew};
 
 use face_maps::typed_congee::Congee;
 use node_table::allocator::Budget;
@@ -19,9 +19,7 @@ impl Held {
     /// An empty map, or `OOMError` where the limit or the machine has no memory for it. The limit is in bytes, over the
     /// stated sizes of nodes.
     pub fn new(alloc: Global, limit: u64) -> Result<Held, OOMError>
-        ensures pairs { IfOk result (λ held. held.map.pairs ≡ []) }
-        ensures charge { IfOk result (λ held.
-            ChargedFor limit_charge (limit_of limit) held.map) }
+        ensures { IfOk result (λ held. IsNew limit_charge (limit_of limit) held.map) }
     {
         Ok(Held {
             map: Congee::new(alloc, Budget::new(limit))?,

@@ -11,7 +11,8 @@ ghost use Rattle.spec_map.specs.Map.{lookup, put, without, between};
 ghost use Rattle.spec_map.specs.Refusal.{NeedsNode};
 ghost use Rattle.node_stats.specs.LevelCounts.{capped};
 ghost use Rattle.tree_path.specs.Charge.{charge_of};
-ghost use Rattle.face_maps.specs.Face.{ChargedAlike, ChargedFor, FaceUnchanged};
+ghost use Rattle.tree_edit.specs.TreeCalls.{IsNew};
+ghost use Rattle.tree_edit.specs.Tree.{ChargesForNodes, StoresSame};
 ghost use Rattle.congee_c.specs.Answer.{is_there, put_if_there, oom};
 ghost use Rattle.congee_c.specs.Limit.{limit_of, limit_charge};
 
@@ -51,9 +52,8 @@ pub extern "C" fn congee_c_new(alloc: Global, limit: u64, out: &mut Room) -> i32
     requires { out.old.held ≡ None }
     ensures code { (result ≡ pos 0) ⊎ (result ≡ oom) }
     ensures made { result ≡ pos 0 → IsSome out.new.held }
-    ensures empty { result ≡ pos 0 → IfSome out.new.held (λ held. held.map.pairs ≡ []) }
-    ensures charge { result ≡ pos 0 → IfSome out.new.held (λ held.
-        ChargedFor limit_charge (limit_of limit) held.map) }
+    ensures empty { result ≡ pos 0 → IfSome out.new.held (λ held.
+        IsNew limit_charge (limit_of limit) held.map) }
     ensures refused { result ≡ oom → out.new ≡ out.old }
 {
     let Ok(held) = Held::new(alloc, limit) else {
@@ -100,9 +100,9 @@ pub extern "C" fn congee_c_insert(
     ensures before { result ≢ oom
         → before.new ≡ put_if_there (lookup handle.old.held.map.pairs key) before.old }
     ensures refused { result ≡ oom
-        → FaceUnchanged handle.old.held.map handle.new.held.map × (before.new ≡ before.old) }
+        → StoresSame handle.old.held.map handle.new.held.map × (before.new ≡ before.old) }
     ensures rare { result ≡ oom → NeedsNode handle.old.held.map.pairs key }
-    ensures charge { ChargedAlike limit_charge handle.old.held.map handle.new.held.map }
+    ensures charge { ChargesForNodes limit_charge handle.old.held.map handle.new.held.map }
     ensures place { handle.new.ptr ≡ handle.old.ptr }
 {
     match handle.as_mut().map.insert(key, value) {
@@ -118,7 +118,7 @@ pub extern "C" fn congee_c_remove(handle: &mut Handle, key: u64, before: &mut u6
     ensures before { before.new
         ≡ put_if_there (lookup handle.old.held.map.pairs key) before.old }
     ensures pairs { handle.new.held.map.pairs ≡ without handle.old.held.map.pairs key }
-    ensures charge { ChargedAlike limit_charge handle.old.held.map handle.new.held.map }
+    ensures charge { ChargesForNodes limit_charge handle.old.held.map handle.new.held.map }
     ensures place { handle.new.ptr ≡ handle.old.ptr }
 {
     answer(handle.as_mut().map.remove(&key), before)
@@ -147,7 +147,7 @@ pub extern "C" fn congee_c_compare_exchange(
         → (result ≡ pos 2)
         × (handle.new.held.map.pairs ≡ handle.old.held.map.pairs)
         × (found.new ≡ current) }
-    ensures charge { ChargedAlike limit_charge handle.old.held.map handle.new.held.map }
+    ensures charge { ChargesForNodes limit_charge handle.old.held.map handle.new.held.map }
     ensures place { handle.new.ptr ≡ handle.old.ptr }
 {
     let held = handle.as_mut();

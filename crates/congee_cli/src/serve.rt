@@ -1,7 +1,6 @@
 //! The program, but for its streams.
 
-ghost use Rattle.std.specs.Prelude.{◌≡◌, ℕ, ◌↔◌, Option, Result, IfSome, IfNone, map, string_bytes};
-ghost use Rattle.text_lines.specs.Watched.{HasFailed};
+ghost use Rattle.std.specs.Prelude.{◌≡◌, ◌≢◌, ℕ, ◌↔◌, Option, Result, IfSome, IfNone, map, string_bytes, true};
 ghost use Rattle.text_schedule.specs.Schedule.{EndsSchedule};
 ghost use Rattle.text_schedule.specs.declared.schedule.ScheduleError.{ScheduleError as HowScheduled};
 ghost use Rattle.text_run.specs.Run.{EndsRun};
@@ -35,8 +34,8 @@ pub fn serve<R: Read, W: Write, E: Write>(
     output: &mut Watched<W>,
     errors: &mut E,
 ) -> u8
-    requires input { HasFailed input.old → ⊥ }
-    requires output { HasFailed output.old → ⊥ }
+    requires input { input.old.failed ≢ true }
+    requires output { output.old.failed ≢ true }
 
     // The words ask for a run, which ended in one of the ways that a run has.
     ensures run { (limit : Option ℕ) → AsksRun (map string_bytes words.now) limit

@@ -62,7 +62,7 @@ pub struct Table<A: Allocator> {
 }
 
 impl<A: Allocator> Model for Table<A> {
-    ghost use Rattle.face_maps.specs.Face.{stated_charge};
+    ghost use Rattle.tree_path.specs.Charge.{charge_of};
     ghost use Rattle.congee_table.specs.Rows.{RowsView};
     ghost use Rattle.congee_table.specs.Index.{rows_of, AreIndexes};
 
@@ -70,7 +70,7 @@ impl<A: Allocator> Model for Table<A> {
 
     ghost view = { λ t. record {
       rows = rows_of t.first.pairs;
-      charged = (stated_charge t.first, stated_charge t.second);
+      charged = (charge_of t.first.nodes, charge_of t.second.nodes);
     } };
 
     ghost invariant = { λ t. AreIndexes t.first.pairs t.second.pairs };

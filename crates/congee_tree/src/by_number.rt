@@ -1,14 +1,13 @@
 //! The point calls by a `u64`; the count of reads is dropped.
 
-ghost use Rattle.std.specs.Prelude.{◌≡◌, ◌<◌, Option, None, IfOk, OnOk, OnErr, option_copied};
-ghost use Rattle.std.specs.Fn.{TakesAt, CalledAt};
+ghost use Rattle.std.specs.Prelude.{◌≡◌, ◌<◌, option_copied};
+ghost use Rattle.std.specs.Fn.{TakesAt};
 ghost use Rattle.std.specs.Int.{to_be_bytes, w64};
 ghost use Rattle.std.specs.Option.{ForSome};
-ghost use Rattle.tree_edit.specs.Closure.{TakesOption, CalledAtOption};
-ghost use Rattle.spec_map.specs.Map.{lookup, put, without, with_answer, IsMap};
-ghost use Rattle.spec_map.specs.Refusal.{NeedsNode};
+ghost use Rattle.tree_edit.specs.TreeCalls.{Removes, Inserts, ComputesOrInserts, ComputesIfPresent};
+ghost use Rattle.tree_edit.specs.Closure.{TakesOption};
+ghost use Rattle.spec_map.specs.Map.{lookup, IsMap};
 ghost use Rattle.tree_edit.specs.Reduce.{ReducesInPlace};
-ghost use Rattle.tree_edit.specs.Tree.{ChargesForNodes, StoresSame};
 
 use crate::tree::RawCongee;
 use node_table::allocator::Allocator;
@@ -42,11 +41,7 @@ pub fn insert<L: Ledger, P: Payload, A: Allocator>(
     requires name { blank.name ≡ L.name }
     requires parts { blank.parts ≡ L.parts }
     requires some { 0 < blank.parts }
-    ensures before { IfOk result (λ before. before ≡ lookup tree.old.pairs key) }
-    ensures ok { OnOk result (tree.new.pairs ≡ put tree.old.pairs key payload) }
-    ensures err { OnErr result (StoresSame tree.old tree.new) }
-    ensures charge { ChargesForNodes A.charge tree.old tree.new }
-    ensures refused { OnErr result (NeedsNode tree.old.pairs key) }
+    ensures { Inserts A.charge tree.old key payload result tree.new }
 {
     let mut reads = ReadCount::<L>::new(blank);
     tree.insert(&key.to_be_bytes(), payload, &mut reads)
@@ -61,9 +56,7 @@ pub fn remove<L: Ledger, P: Payload, A: Allocator>(
     requires name { blank.name ≡ L.name }
     requires parts { blank.parts ≡ L.parts }
     requires some { 0 < blank.parts }
-    ensures before { result ≡ lookup tree.old.pairs key }
-    ensures pairs { tree.new.pairs ≡ without tree.old.pairs key }
-    ensures charge { ChargesForNodes A.charge tree.old tree.new }
+    ensures { Removes A.charge tree.old key result tree.new }
 {
     let mut reads = ReadCount::<L>::new(blank);
     tree.remove(&key.to_be_bytes(), &mut reads)
@@ -78,10 +71,8 @@ pub fn remove_in_place<L: Ledger, P: Payload, A: Allocator>(
     requires name { blank.name ≡ L.name }
     requires parts { blank.parts ≡ L.parts }
     requires some { 0 < blank.parts }
-    ensures before { result ≡ lookup tree.old.pairs key }
-    ensures pairs { tree.new.pairs ≡ without tree.old.pairs key }
-    ensures shape { ReducesInPlace result tree.old.nodes (to_be_bytes w64 key) tree.new.nodes }
-    ensures charge { ChargesForNodes A.charge tree.old tree.new }
+    ensures removes { Removes A.charge tree.old key result tree.new }
+    ensures in_place { ReducesInPlace result tree.old.nodes (to_be_bytes w64 key) tree.new.nodes }
 {
     let mut reads = ReadCount::<L>::new(blank);
     tree.remove_in_place(&key.to_be_bytes(), &mut reads)
@@ -100,12 +91,7 @@ pub fn compute_if_present<L: Ledger, P: Payload, A: Allocator, F: FnMut(&P) -> O
     requires some { 0 < blank.parts }
     requires call { ForSome (lookup tree.old.pairs key) (TakesAt F.FnMut f.old) }
     ensures ordered { IsMap tree.old.pairs }
-    ensures before { result ≡ lookup tree.old.pairs key }
-    ensures absent { lookup tree.old.pairs key ≡ None → (tree.new ≡ tree.old) × (f.new ≡ f.old) }
-    ensures present { ForSome (lookup tree.old.pairs key) (λ current. (answer : Option P)
-        × CalledAt F.FnMut f.old current answer f.new
-        × (tree.new.pairs ≡ with_answer tree.old.pairs key answer)) }
-    ensures charge { ChargesForNodes A.charge tree.old tree.new }
+    ensures computes { ComputesIfPresent A.charge tree.old key F.FnMut f.old result f.new tree.new }
 {
     let mut reads = ReadCount::<L>::new(blank);
     tree.compute_if_present(&key.to_be_bytes(), f, &mut reads)
@@ -123,14 +109,7 @@ pub fn compute_or_insert<L: Ledger, P: Payload, A: Allocator, F: FnMut(Option<&P
     requires parts { blank.parts ≡ L.parts }
     requires some { 0 < blank.parts }
     requires call { TakesOption F.FnMut f.old (lookup tree.old.pairs key) }
-    ensures before { IfOk result (λ before. before ≡ lookup tree.old.pairs key) }
-    ensures ok { OnOk result ((answer : P)
-        × CalledAtOption F.FnMut f.old (lookup tree.old.pairs key) answer f.new
-        × (tree.new.pairs ≡ put tree.old.pairs key answer)) }
-    ensures err { OnErr result (StoresSame tree.old tree.new) }
-    ensures charge { ChargesForNodes A.charge tree.old tree.new }
-    ensures not_called { OnErr result (f.new ≡ f.old) }
-    ensures refused { OnErr result (NeedsNode tree.old.pairs key) }
+    ensures { ComputesOrInserts A.charge tree.old key F.FnMut f.old result f.new tree.new }
 {
     let mut reads = ReadCount::<L>::new(blank);
     tree.compute_or_insert(&key.to_be_bytes(), f, &mut reads)

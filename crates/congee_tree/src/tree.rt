@@ -1,24 +1,16 @@
 //! `RawCongee`, the adaptive radix tree under the typed faces (*The Adaptive Radix Tree*, Leis et al.): the tree of
 //! `tree_edit`, and the walks over it.
 
-ghost use Rattle.std.specs.Prelude.{◌≡◌, ◌+◌, ◌≤◌, ◌<◌, ◌^◌, ◌↔◌, [], length, Option, Some, None, IfOk, OnOk, OnErr, IsTrue, option_copied};
-ghost use Rattle.std.specs.Fn.{TakesAt, CalledAt};
+ghost use Rattle.std.specs.Prelude.{◌≡◌, ◌+◌, ◌<◌, ◌^◌, ◌↔◌, [], length, IfOk, IsTrue, option_copied};
+ghost use Rattle.std.specs.Fn.{TakesAt};
 ghost use Rattle.std.specs.Option.{ForSome};
 ghost use Rattle.std.specs.Int.{from_be_bytes, w64};
-ghost use Rattle.tree_edit.specs.Closure.{TakesOption, CalledAtOption};
-ghost use Rattle.spec_map.specs.Map.{put, without, with_answer, IsMap};
-ghost use Rattle.spec_map.specs.Refusal.{NeedsNode};
-ghost use Rattle.node_table.specs.Shape.{Reshapes};
-ghost use Rattle.tree_edit.specs.Reduce.{AreFilled, Reduces, ReducesInPlace, Recomputes};
-ghost use Rattle.node_stats.specs.LevelCounts.{capped};
-ghost use Rattle.node_stats.specs.Stats.{IsTally};
-ghost use Rattle.node_stats.specs.StatsText.{all_nodes, all_entries};
-ghost use Rattle.node_stats.specs.Stays.{NoCountSaturates};
-ghost use Rattle.node_stats.specs.Visits.{visits_below};
-ghost use Rattle.node_table.specs.Charge.{add_charge};
-ghost use Rattle.tree_path.specs.Charge.{charge_of};
-ghost use Rattle.tree_path.specs.Path.{on_path};
-ghost use Rattle.tree_edit.specs.Tree.{payload_at, root_alone, ChargesForNodes, StoresSame};
+ghost use Rattle.tree_edit.specs.TreeCalls.{IsNew, IsChargeOf, Removes, Inserts, ComputesOrInserts, ComputesIfPresent, ReadsPath};
+ghost use Rattle.tree_edit.specs.Closure.{TakesOption};
+ghost use Rattle.spec_map.specs.Map.{IsMap};
+ghost use Rattle.tree_edit.specs.Reduce.{ReducesInPlace};
+ghost use Rattle.congee_tree.specs.Stats.{AreStatsOf};
+ghost use Rattle.tree_edit.specs.Tree.{payload_at};
 
 use crate::into_pairs::IntoPairs;
 use node_stats::NodeStats;
@@ -58,10 +50,7 @@ impl<P: Payload, A: Allocator> Model for RawCongee<P, A> {
 impl<P: Payload, A: Allocator> RawCongee<P, A> {
     /// An empty tree, or `OOMError` where the budget or the machine has no memory for its root.
     pub fn new(alloc: Global, budget: A) -> Result<Self, OOMError>
-        ensures pairs { IfOk result (λ tree. tree.pairs ≡ []) }
-        ensures nodes { IfOk result (λ tree. tree.nodes ≡ root_alone) }
-        ensures charge { IfOk result (λ tree.
-            A.charge tree.budget ≡ add_charge (A.charge budget) (charge_of tree.nodes)) }
+        ensures { IfOk result (λ tree. IsNew A.charge budget tree) }
     {
         Ok(RawCongee {
             tree: Tree::new(alloc, budget)?,
@@ -71,8 +60,7 @@ impl<P: Payload, A: Allocator> RawCongee<P, A> {
     /// The payload at the key. Takes no memory. `reads` goes up by one for each node on the key's path.
     pub fn get<L: Ledger>(&self, key: &[u8; 8], reads: &mut ReadCount<L>) -> Option<&P>
         ensures value { option_copied result ≡ payload_at self.now key.now }
-        ensures reads { reads.new ≡ reads.old + on_path self.now.nodes key.now }
-        ensures few { on_path self.now.nodes key.now ≤ 8 }
+        ensures reads { ReadsPath self.now.nodes key.now reads.old reads.new }
     {
         self.tree.get(key, reads)
     }
@@ -86,16 +74,9 @@ impl<P: Payload, A: Allocator> RawCongee<P, A> {
         payload: P,
         reads: &mut ReadCount<L>,
     ) -> Result<Option<P>, OOMError>
-        ensures before { IfOk result (λ before. before ≡ payload_at self.old key.now) }
-        ensures ok { OnOk result
-            (self.new.pairs ≡ put self.old.pairs (from_be_bytes w64 key.now) payload) }
-        ensures shape { IfOk result (λ before.
-            Reshapes before self.old.nodes key.now self.new.nodes) }
-        ensures err { OnErr result (StoresSame self.old self.new) }
-        ensures charge { ChargesForNodes A.charge self.old self.new }
-        ensures reads { reads.new ≡ reads.old + on_path self.old.nodes key.now }
-        ensures few { on_path self.old.nodes key.now ≤ 8 }
-        ensures refused { OnErr result (NeedsNode self.old.pairs (from_be_bytes w64 key.now)) }
+        ensures inserts { let number = from_be_bytes w64 key.now in
+            Inserts A.charge self.old number payload result self.new }
+        ensures reads { ReadsPath self.old.nodes key.now reads.old reads.new }
     {
         self.tree.insert(key, payload, reads)
     }
@@ -111,18 +92,9 @@ impl<P: Payload, A: Allocator> RawCongee<P, A> {
         reads: &mut ReadCount<L>,
     ) -> Result<Option<P>, OOMError>
         requires { TakesOption F.FnMut f.old (payload_at self.old key.now) }
-        ensures before { IfOk result (λ before. before ≡ payload_at self.old key.now) }
-        ensures ok { OnOk result ((answer : P)
-            × CalledAtOption F.FnMut f.old (payload_at self.old key.now) answer f.new
-            × (self.new.pairs ≡ put self.old.pairs (from_be_bytes w64 key.now) answer)) }
-        ensures shape { IfOk result (λ before.
-            Reshapes before self.old.nodes key.now self.new.nodes) }
-        ensures err { OnErr result (StoresSame self.old self.new) }
-        ensures charge { ChargesForNodes A.charge self.old self.new }
-        ensures not_called { OnErr result (f.new ≡ f.old) }
-        ensures refused { OnErr result (NeedsNode self.old.pairs (from_be_bytes w64 key.now)) }
-        ensures reads { reads.new ≡ reads.old + on_path self.old.nodes key.now }
-        ensures few { on_path self.old.nodes key.now ≤ 8 }
+        ensures computes { let number = from_be_bytes w64 key.now in
+            ComputesOrInserts A.charge self.old number F.FnMut f.old result f.new self.new }
+        ensures reads { ReadsPath self.old.nodes key.now reads.old reads.new }
     {
         self.tree.compute_or_insert(key, f, reads)
     }
@@ -131,12 +103,8 @@ impl<P: Payload, A: Allocator> RawCongee<P, A> {
     /// freed, and the last one left on the path, unless it is the root, shrinks if it has few children and there is
     /// memory for that. `reads` goes up by one for each node on the key's path.
     pub fn remove<L: Ledger>(&mut self, key: &[u8; 8], reads: &mut ReadCount<L>) -> Option<P>
-        ensures before { result ≡ payload_at self.old key.now }
-        ensures pairs { self.new.pairs ≡ without self.old.pairs (from_be_bytes w64 key.now) }
-        ensures shape { Reduces result self.old.nodes key.now self.new.nodes }
-        ensures charge { ChargesForNodes A.charge self.old self.new }
-        ensures reads { reads.new ≡ reads.old + on_path self.old.nodes key.now }
-        ensures few { on_path self.old.nodes key.now ≤ 8 }
+        ensures removes { Removes A.charge self.old (from_be_bytes w64 key.now) result self.new }
+        ensures reads { ReadsPath self.old.nodes key.now reads.old reads.new }
     {
         self.tree.remove(key, reads)
     }
@@ -147,12 +115,9 @@ impl<P: Payload, A: Allocator> RawCongee<P, A> {
         key: &[u8; 8],
         reads: &mut ReadCount<L>,
     ) -> Option<P>
-        ensures before { result ≡ payload_at self.old key.now }
-        ensures pairs { self.new.pairs ≡ without self.old.pairs (from_be_bytes w64 key.now) }
-        ensures shape { ReducesInPlace result self.old.nodes key.now self.new.nodes }
-        ensures charge { ChargesForNodes A.charge self.old self.new }
-        ensures reads { reads.new ≡ reads.old + on_path self.old.nodes key.now }
-        ensures few { on_path self.old.nodes key.now ≤ 8 }
+        ensures removes { Removes A.charge self.old (from_be_bytes w64 key.now) result self.new }
+        ensures in_place { ReducesInPlace result self.old.nodes key.now self.new.nodes }
+        ensures reads { ReadsPath self.old.nodes key.now reads.old reads.new }
     {
         self.tree.remove_in_place(key, reads)
     }
@@ -168,16 +133,9 @@ impl<P: Payload, A: Allocator> RawCongee<P, A> {
     ) -> Option<P>
         requires { ForSome (payload_at self.old key.now) (TakesAt F.FnMut f.old) }
         ensures ordered { IsMap self.old.pairs }
-        ensures before { result ≡ payload_at self.old key.now }
-        ensures absent { payload_at self.old key.now ≡ None
-            → (self.new ≡ self.old) × (f.new ≡ f.old) }
-        ensures present { ForSome (payload_at self.old key.now) (λ current. (answer : Option P)
-            × CalledAt F.FnMut f.old current answer f.new
-            × (self.new.pairs ≡ with_answer self.old.pairs (from_be_bytes w64 key.now) answer)
-            × Recomputes answer self.old.nodes key.now self.new.nodes) }
-        ensures charge { ChargesForNodes A.charge self.old self.new }
-        ensures reads { reads.new ≡ reads.old + on_path self.old.nodes key.now }
-        ensures few { on_path self.old.nodes key.now ≤ 8 }
+        ensures computes { let number = from_be_bytes w64 key.now in
+            ComputesIfPresent A.charge self.old number F.FnMut f.old result f.new self.new }
+        ensures reads { ReadsPath self.old.nodes key.now reads.old reads.new }
     {
         self.tree.compute_if_present(key, f, reads)
     }
@@ -206,9 +164,7 @@ impl<P: Payload, A: Allocator> RawCongee<P, A> {
     /// The sum of the stated sizes of the tree's nodes, which its budget is charged for. No node but the root is empty,
     /// and in an empty tree there is no other.
     pub fn charged(&self) -> u128
-        ensures sizes { result ≡ charge_of self.now.nodes }
-        ensures filled { AreFilled self.now.nodes }
-        ensures bare { self.now.pairs ≡ [] → result ≡ 2104 }
+        ensures { IsChargeOf self.now result }
     {
         self.tree.charged()
     }
@@ -219,12 +175,7 @@ impl<P: Payload, A: Allocator> RawCongee<P, A> {
     /// Each entry of a node is a pair or leads to a node, and none leads to the root: where no count saturates at
     /// `u64::MAX`, the entries are the pairs plus the nodes minus 1.
     pub fn stats(&self) -> Result<NodeStats, OOMError>
-        ensures levels { IfOk result (λ stats.
-            IsTally (visits_below 0 self.now.nodes) stats.levels) }
-        ensures pairs { IfOk result (λ stats. stats.kv_pairs ≡ capped (length self.now.pairs)) }
-        ensures entries { IfOk result (λ stats.
-            NoCountSaturates stats.levels → stats.kv_pairs + 1 < 2 ^ 64
-            → all_entries stats.levels + 1 ≡ stats.kv_pairs + all_nodes stats.levels) }
+        ensures { IfOk result (λ stats. AreStatsOf self.now stats) }
     {
         let mut stats = NodeStats::empty(self.tree.memory());
         let (nodes, root) = self.tree.table();

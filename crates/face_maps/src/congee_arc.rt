@@ -1,12 +1,10 @@
 //! `CongeeArc`, the map from keys to shared values.
 
-ghost use Rattle.std.specs.Prelude.{◌≡◌, [], Option, Some, None, IfOk, OnOk, OnErr, IsTrue, ◌↔◌, map as each, option_copied};
-ghost use Rattle.std.specs.Fn.{TakesAt, CalledAt};
-ghost use Rattle.face_maps.specs.Face.{ChargedAlike, ChargedFor, FaceUnchanged};
-ghost use Rattle.spec_map.specs.Map.{lookup, put, without, with_answer, IsMap};
-ghost use Rattle.spec_map.specs.Refusal.{NeedsNode};
-ghost use Rattle.tree_path.specs.Charge.{charge_of};
-ghost use Rattle.tree_edit.specs.Reduce.{AreFilled};
+ghost use Rattle.std.specs.Prelude.{◌≡◌, [], IfOk, IsTrue, ◌↔◌, map as each, option_copied};
+ghost use Rattle.std.specs.Fn.{TakesAt};
+ghost use Rattle.std.specs.Option.{ForSome};
+ghost use Rattle.spec_map.specs.Map.{lookup, IsMap};
+ghost use Rattle.tree_edit.specs.TreeCalls.{IsNew, IsChargeOf, Removes, Inserts, ComputesIfPresent};
 ghost use Rattle.tree_edit.specs.Tree.{root_alone};
 
 use congee_tree::by_number;
@@ -38,14 +36,13 @@ pub struct PayloadCongee<K: Word, P: Payload, A: Allocator = DefaultAllocator> {
 }
 
 impl<K: Word, P: Payload, A: Allocator> Model for PayloadCongee<K, P, A> {
-    ghost use Rattle.face_maps.specs.Face.{Face, face_code};
+    ghost use Rattle.tree_edit.specs.Tree.{TreeView, tree_code};
 
-    ghost Value = { Face P A };
+    ghost Value = { TreeView P A };
 
-    ghost coded = { face_code P.code A.code };
+    ghost coded = { tree_code P.code A.code };
 
-    ghost view = { λ m.
-        record { pairs = m.tree.pairs; nodes = m.tree.nodes; budget = m.tree.budget } };
+    ghost view = { λ m. m.tree };
 }
 
 impl<K: Word, P: Payload> PayloadCongee<K, P> {
@@ -61,9 +58,7 @@ impl<K: Word, P: Payload> PayloadCongee<K, P> {
 impl<K: Word, P: Payload, A: Allocator> PayloadCongee<K, P, A> {
     /// An empty map, or `OOMError` where the allocator or the machine has no memory for it.
     pub fn new_in(alloc: Global, allocator: A) -> Result<Self, OOMError>
-        ensures pairs { IfOk result (λ map. map.pairs ≡ []) }
-        ensures nodes { IfOk result (λ map. map.nodes ≡ root_alone) }
-        ensures charge { IfOk result (λ map. ChargedFor A.charge allocator map) }
+        ensures { IfOk result (λ map. IsNew A.charge allocator map) }
     {
         Ok(PayloadCongee {
             tree: RawCongee::new(alloc, allocator)?,
@@ -88,9 +83,7 @@ impl<K: Word, P: Payload, A: Allocator> PayloadCongee<K, P, A> {
     /// The sum of the stated sizes of the nodes of the map's tree, which its allocator is charged for. No node but the
     /// root is empty, and an empty map has no other. Takes no memory.
     pub fn charged(&self) -> u128
-        ensures sizes { result ≡ charge_of self.now.nodes }
-        ensures filled { AreFilled self.now.nodes }
-        ensures bare { self.now.pairs ≡ [] → result ≡ 2104 }
+        ensures { IsChargeOf self.now result }
     {
         self.tree.charged()
     }
@@ -114,11 +107,7 @@ impl<K: Word, P: Payload, A: Allocator> PayloadCongee<K, P, A> {
     /// of its own or a larger one, where memory is missing for that. It leaves the map unchanged, and the given payload
     /// is dropped.
     pub fn insert(&mut self, key: K, payload: P) -> Result<Option<P>, OOMError>
-        ensures before { IfOk result (λ before. before ≡ lookup self.old.pairs (K.number key)) }
-        ensures ok { OnOk result (self.new.pairs ≡ put self.old.pairs (K.number key) payload) }
-        ensures err { OnErr result (FaceUnchanged self.old self.new) }
-        ensures charge { ChargedAlike A.charge self.old self.new }
-        ensures refused { OnErr result (NeedsNode self.old.pairs (K.number key)) }
+        ensures { Inserts A.charge self.old (K.number key) payload result self.new }
     {
         let blank = Blank::new(1);
         by_number::insert::<Brand, P, A>(&mut self.tree, key.into_u64(), payload, blank)
@@ -127,9 +116,7 @@ impl<K: Word, P: Payload, A: Allocator> PayloadCongee<K, P, A> {
     /// Removes the key, and returns its payload. Never fails: the nodes that are empty then are freed, and one that has
     /// few entries left shrinks where there is memory for that.
     pub fn remove(&mut self, key: K) -> Option<P>
-        ensures before { result ≡ lookup self.old.pairs (K.number key) }
-        ensures pairs { self.new.pairs ≡ without self.old.pairs (K.number key) }
-        ensures charge { ChargedAlike A.charge self.old self.new }
+        ensures { Removes A.charge self.old (K.number key) result self.new }
     {
         let blank = Blank::new(1);
         by_number::remove::<Brand, P, A>(&mut self.tree, key.into_u64(), blank)
@@ -138,15 +125,9 @@ impl<K: Word, P: Payload, A: Allocator> PayloadCongee<K, P, A> {
     /// Where the key is present, calls the closure with its payload, once, and stores what it returns; `None` removes
     /// the key. Returns the previous payload. Never fails.
     pub fn compute_if_present<F: FnMut(&P) -> Option<P>>(&mut self, key: K, f: &mut F) -> Option<P>
-        requires { (current : P) → lookup self.old.pairs (K.number key) ≡ Some current
-            → TakesAt F.FnMut f.old current }
-        ensures before { result ≡ lookup self.old.pairs (K.number key) }
-        ensures absent { lookup self.old.pairs (K.number key) ≡ None
-            → (self.new ≡ self.old) × (f.new ≡ f.old) }
-        ensures present { (current : P) → lookup self.old.pairs (K.number key) ≡ Some current
-            → (answer : Option P) × CalledAt F.FnMut f.old current answer f.new
-            × (self.new.pairs ≡ with_answer self.old.pairs (K.number key) answer) }
-        ensures charge { ChargedAlike A.charge self.old self.new }
+        requires { ForSome (lookup self.old.pairs (K.number key)) (TakesAt F.FnMut f.old) }
+        ensures { let number = K.number key in
+            ComputesIfPresent A.charge self.old number F.FnMut f.old result f.new self.new }
     {
         let number = key.into_u64();
         let blank = Blank::new(1);

@@ -4,16 +4,10 @@ ghost use Rattle.std.specs.Prelude.{◌≡◌, ◌≢◌, ℕ, [], Option, Some,
 ghost use Rattle.std.specs.List.{FoldsTo};
 ghost use Rattle.std.specs.Option.{option_map};
 ghost use Rattle.spec_map.specs.Map.{lookup, put, without, with_answer, between, IsMap};
-ghost use Rattle.face_maps.specs.Face.{ChargedAlike, ChargedFor, FaceUnchanged};
-ghost use Rattle.node_stats.specs.LevelCounts.{capped};
+ghost use Rattle.congee_tree.specs.Stats.{AreStatsOf};
 ghost use Rattle.spec_map.specs.Refusal.{NeedsNode};
-ghost use Rattle.node_stats.specs.Stats.{IsTally};
-ghost use Rattle.node_stats.specs.StatsText.{all_nodes, all_entries};
-ghost use Rattle.node_stats.specs.Stays.{NoCountSaturates};
-ghost use Rattle.node_stats.specs.Visits.{visits_below};
-ghost use Rattle.tree_path.specs.Charge.{charge_of};
-ghost use Rattle.tree_edit.specs.Reduce.{AreFilled};
-ghost use Rattle.tree_edit.specs.Tree.{root_alone};
+ghost use Rattle.tree_edit.specs.TreeCalls.{IsNew, IsChargeOf};
+ghost use Rattle.tree_edit.specs.Tree.{ChargesForNodes, StoresSame};
 
 use congee_tree::by_number;
 use congee_tree::tree::RawCongee;
@@ -43,14 +37,13 @@ pub struct Congee<K: Word, V: Word, A: Allocator = DefaultAllocator, D: Drainer<
 impl<K: Word, V: Word, A: Allocator, D: Drainer<K, V>> Model for Congee<K, V, A, D> {
     ghost use Rattle.std.specs.Prelude.{ℕ};
     ghost use Rattle.std.specs.Coded.{coded_ℕ};
-    ghost use Rattle.face_maps.specs.Face.{Face, face_code};
+    ghost use Rattle.tree_edit.specs.Tree.{TreeView, tree_code};
 
-    ghost Value = { Face ℕ A };
+    ghost Value = { TreeView ℕ A };
 
-    ghost coded = { face_code coded_ℕ A.code };
+    ghost coded = { tree_code coded_ℕ A.code };
 
-    ghost view = { λ m.
-        record { pairs = m.tree.pairs; nodes = m.tree.nodes; budget = m.tree.budget } };
+    ghost view = { λ m. m.tree };
 
     ghost invariant = { λ m. D.can_drain m.drainer };
 }
@@ -59,9 +52,7 @@ impl<K: Word, V: Word, A: Allocator> Congee<K, V, A> {
     /// An empty map, or `OOMError` where the allocator or the machine has no memory for it. It has no drainer: a drop
     /// reports its pairs to nobody.
     pub fn new(alloc: Global, allocator: A) -> Result<Self, OOMError>
-        ensures pairs { IfOk result (λ map. map.pairs ≡ []) }
-        ensures nodes { IfOk result (λ map. map.nodes ≡ root_alone) }
-        ensures charge { IfOk result (λ map. ChargedFor A.charge allocator map) }
+        ensures { IfOk result (λ map. IsNew A.charge allocator map) }
     {
         Congee::new_with_drainer(alloc, allocator, NoDrain {})
     }
@@ -72,9 +63,7 @@ impl<K: Word, V: Word, A: Allocator, D: Drainer<K, V>> Congee<K, V, A, D> {
     /// the drainer is called with each pair that is left, keys ascending, each key and value read back from its number.
     pub fn new_with_drainer(alloc: Global, allocator: A, drainer: D) -> Result<Self, OOMError>
         requires { D.can_drain drainer }
-        ensures pairs { IfOk result (λ map. map.pairs ≡ []) }
-        ensures nodes { IfOk result (λ map. map.nodes ≡ root_alone) }
-        ensures charge { IfOk result (λ map. ChargedFor A.charge allocator map) }
+        ensures { IfOk result (λ map. IsNew A.charge allocator map) }
     {
         Ok(Congee {
             tree: RawCongee::new(alloc, allocator)?,
@@ -99,8 +88,8 @@ impl<K: Word, V: Word, A: Allocator, D: Drainer<K, V>> Congee<K, V, A, D> {
             (λ before. before ≡ option_map V.of_number (lookup self.old.pairs (K.number key))) }
         ensures ok { OnOk result
             (self.new.pairs ≡ put self.old.pairs (K.number key) (V.number value)) }
-        ensures err { OnErr result (FaceUnchanged self.old self.new) }
-        ensures charge { ChargedAlike A.charge self.old self.new }
+        ensures err { OnErr result (StoresSame self.old self.new) }
+        ensures charge { ChargesForNodes A.charge self.old self.new }
         ensures refused { OnErr result (NeedsNode self.old.pairs (K.number key)) }
     {
         let before = by_number::insert::<Brand, u64, A>(
@@ -118,7 +107,7 @@ impl<K: Word, V: Word, A: Allocator, D: Drainer<K, V>> Congee<K, V, A, D> {
         ensures before { result
             ≡ option_map V.of_number (lookup self.old.pairs (K.number key.now)) }
         ensures pairs { self.new.pairs ≡ without self.old.pairs (K.number key.now) }
-        ensures charge { ChargedAlike A.charge self.old self.new }
+        ensures charge { ChargesForNodes A.charge self.old self.new }
     {
         let blank = Blank::new(1);
         read_back(by_number::remove::<Brand, u64, A>(&mut self.tree, key.into_u64(), blank))
@@ -130,12 +119,7 @@ impl<K: Word, V: Word, A: Allocator, D: Drainer<K, V>> Congee<K, V, A, D> {
     /// Each entry of a node is a pair or leads to a node, and none leads to the root: where no count saturates at
     /// `u64::MAX`, the entries are the pairs plus the nodes minus 1.
     pub fn stats(&self) -> Result<NodeStats, OOMError>
-        ensures levels { IfOk result
-            (λ stats. IsTally (visits_below 0 self.now.nodes) stats.levels) }
-        ensures pairs { IfOk result (λ stats. stats.kv_pairs ≡ capped (length self.now.pairs)) }
-        ensures entries { IfOk result (λ stats.
-            NoCountSaturates stats.levels → stats.kv_pairs + 1 < 2 ^ 64
-            → all_entries stats.levels + 1 ≡ stats.kv_pairs + all_nodes stats.levels) }
+        ensures { IfOk result (λ stats. AreStatsOf self.now stats) }
     {
         self.tree.stats()
     }
@@ -150,9 +134,7 @@ impl<K: Word, V: Word, A: Allocator, D: Drainer<K, V>> Congee<K, V, A, D> {
     /// The sum of the stated sizes of the nodes of the map's tree, which its allocator is charged for. No node but the
     /// root is empty, and an empty map has no other. Takes no memory.
     pub fn charged(&self) -> u128
-        ensures sizes { result ≡ charge_of self.now.nodes }
-        ensures filled { AreFilled self.now.nodes }
-        ensures bare { self.now.pairs ≡ [] → result ≡ 2104 }
+        ensures { IsChargeOf self.now result }
     {
         self.tree.charged()
     }
@@ -238,7 +220,7 @@ impl<K: Word, V: Word, A: Allocator, D: Drainer<K, V>> Congee<K, V, A, D> {
             → (answer : Option ℕ) × F.step f.old current answer f.new
             × (result ≡ Some (current, answer))
             × (self.new.pairs ≡ with_answer self.old.pairs (K.number key.now) answer) }
-        ensures charge { ChargedAlike A.charge self.old self.new }
+        ensures charge { ChargesForNodes A.charge self.old self.new }
     {
         let mut answered = None;
         let mut keep = |current: &u64| -> Option<u64>
@@ -273,8 +255,8 @@ impl<K: Word, V: Word, A: Allocator, D: Drainer<K, V>> Congee<K, V, A, D> {
         ensures ok { OnOk result ((answer : ℕ)
             × F.step f.old (lookup self.old.pairs (K.number key)) answer f.new
             × (self.new.pairs ≡ put self.old.pairs (K.number key) answer)) }
-        ensures err { OnErr result (FaceUnchanged self.old self.new) }
-        ensures charge { ChargedAlike A.charge self.old self.new }
+        ensures err { OnErr result (StoresSame self.old self.new) }
+        ensures charge { ChargesForNodes A.charge self.old self.new }
         ensures not_called { OnErr result (f.new ≡ f.old) }
         ensures refused { OnErr result (NeedsNode self.old.pairs (K.number key)) }
     {
@@ -308,7 +290,7 @@ impl<K: Word, V: Word, A: Allocator, D: Drainer<K, V>> Congee<K, V, A, D> {
         ensures other { (current : ℕ) → lookup self.old.pairs (K.number key.now) ≡ Some current
             → current ≢ V.number old.now
             → (result ≡ Err (Some (V.of_number current))) × (self.new.pairs ≡ self.old.pairs) }
-        ensures charge { ChargedAlike A.charge self.old self.new }
+        ensures charge { ChargesForNodes A.charge self.old self.new }
     {
         let expected = old.into_u64();
         let wanted = numbered(&new);
@@ -330,7 +312,7 @@ impl<K: Word, V: Word, A: Allocator, D: Drainer<K, V>> Congee<K, V, A, D> {
             → self.new.pairs ≡ with_answer self.old.pairs key wanted }
         ensures other { (current : ℕ) → lookup self.old.pairs key ≡ Some current
             → current ≢ expected → self.new.pairs ≡ put self.old.pairs key current }
-        ensures charge { ChargedAlike A.charge self.old self.new }
+        ensures charge { ChargesForNodes A.charge self.old self.new }
     {
         let mut choose = |current: &u64| -> Option<u64> {
             if *current == expected {

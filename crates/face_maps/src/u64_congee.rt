@@ -4,11 +4,9 @@ ghost use Rattle.std.specs.Prelude.{◌≡◌, ℕ, [], ◌++◌, length, min, m
 ghost use Rattle.std.specs.Int.{to_be_bytes, w64};
 ghost use Rattle.std.specs.Option.{option_map};
 ghost use Rattle.spec_map.specs.Map.{lookup, put, without, between, IsMap};
-ghost use Rattle.face_maps.specs.Face.{ChargedAlike, ChargedFor, FaceUnchanged};
 ghost use Rattle.spec_map.specs.Refusal.{NeedsNode};
-ghost use Rattle.tree_path.specs.Charge.{charge_of};
-ghost use Rattle.tree_edit.specs.Reduce.{AreFilled};
-ghost use Rattle.tree_edit.specs.Tree.{root_alone};
+ghost use Rattle.tree_edit.specs.TreeCalls.{IsNew, IsChargeOf};
+ghost use Rattle.tree_edit.specs.Tree.{root_alone, ChargesForNodes, StoresSame};
 
 use crate::typed_congee::Congee;
 use node_table::allocator::{Allocator, DefaultAllocator};
@@ -29,11 +27,11 @@ pub struct U64Congee<V: Word, A: Allocator = DefaultAllocator> {
 impl<V: Word, A: Allocator> Model for U64Congee<V, A> {
     ghost use Rattle.std.specs.Prelude.{ℕ};
     ghost use Rattle.std.specs.Coded.{coded_ℕ};
-    ghost use Rattle.face_maps.specs.Face.{Face, face_code};
+    ghost use Rattle.tree_edit.specs.Tree.{TreeView, tree_code};
 
-    ghost Value = { Face ℕ A };
+    ghost Value = { TreeView ℕ A };
 
-    ghost coded = { face_code coded_ℕ A.code };
+    ghost coded = { tree_code coded_ℕ A.code };
 
     ghost view = { λ m. m.map };
 }
@@ -51,9 +49,7 @@ impl<V: Word> U64Congee<V> {
 impl<V: Word, A: Allocator> U64Congee<V, A> {
     /// An empty map, or `OOMError` where the allocator or the machine has no memory for it.
     pub fn new_in(alloc: Global, allocator: A) -> Result<Self, OOMError>
-        ensures pairs { IfOk result (λ map. map.pairs ≡ []) }
-        ensures nodes { IfOk result (λ map. map.nodes ≡ root_alone) }
-        ensures charge { IfOk result (λ map. ChargedFor A.charge allocator map) }
+        ensures { IfOk result (λ map. IsNew A.charge allocator map) }
     {
         Ok(U64Congee {
             map: Congee::new(alloc, allocator)?,
@@ -81,8 +77,8 @@ impl<V: Word, A: Allocator> U64Congee<V, A> {
         ensures before { IfOk result
             (λ before. before ≡ option_map V.of_number (lookup self.old.pairs key)) }
         ensures ok { OnOk result (self.new.pairs ≡ put self.old.pairs key (V.number val)) }
-        ensures err { OnErr result (FaceUnchanged self.old self.new) }
-        ensures charge { ChargedAlike A.charge self.old self.new }
+        ensures err { OnErr result (StoresSame self.old self.new) }
+        ensures charge { ChargesForNodes A.charge self.old self.new }
         ensures refused { OnErr result (NeedsNode self.old.pairs key) }
     {
         self.map.insert(key, val)
@@ -93,7 +89,7 @@ impl<V: Word, A: Allocator> U64Congee<V, A> {
     pub fn remove(&mut self, key: u64) -> Option<V>
         ensures before { result ≡ option_map V.of_number (lookup self.old.pairs key) }
         ensures pairs { self.new.pairs ≡ without self.old.pairs key }
-        ensures charge { ChargedAlike A.charge self.old self.new }
+        ensures charge { ChargesForNodes A.charge self.old self.new }
     {
         self.map.remove(&key)
     }
@@ -101,9 +97,7 @@ impl<V: Word, A: Allocator> U64Congee<V, A> {
     /// The sum of the stated sizes of the nodes of the map's tree, which its allocator is charged for. No node but the
     /// root is empty, and an empty map has no other. Takes no memory.
     pub fn charged(&self) -> u128
-        ensures sizes { result ≡ charge_of self.now.nodes }
-        ensures filled { AreFilled self.now.nodes }
-        ensures bare { self.now.pairs ≡ [] → result ≡ 2104 }
+        ensures { IsChargeOf self.now result }
     {
         self.map.charged()
     }

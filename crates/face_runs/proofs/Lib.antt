@@ -1,3 +1,4 @@
 pub mod PayloadSteps
 pub mod ReadRuns
+pub mod RefusedRanges
 pub mod Steps

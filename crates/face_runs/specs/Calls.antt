@@ -2,7 +2,7 @@
 use Rattle.std.specs.Prelude.{◌≡◌, ℕ, List, [], ◌∷◌, Option, Some, None, map, nat_eq}
 use Rattle.spec_map.specs.Map.{Pairs}
 use Rattle.spec_map.specs.Call.{Call, get, insert, remove, compare_exchange, compute_if_present, compute_or_insert, is_empty, keys, range}
-use Rattle.spec_map.specs.Call.{ClosureCall, Answer, old_value, exchanged, computed, tested, listed, ranged, replied, refused, Operation}
+use Rattle.spec_map.specs.Call.{Answer, old_value, exchanged, computed, tested, listed, ranged, replied, refused, Operation}
 use Rattle.spec_map.specs.Legal.{AnswersBy}
 use Rattle.spec_map.specs.Refusal.{MayRunOut}
 use Rattle.face_runs.specs.Conversion.{Conversion, IsLegalRead}

@@ -3,8 +3,8 @@ use Rattle.std.specs.Prelude.{◌≡◌, ℕ, Bool, List, Option, Result, Ok, Er
 use Rattle.std.specs.Option.{option_map}
 use Rattle.std.specs.List.{AllZip}
 use Rattle.spec_map.specs.Map.{Pairs}
-use Rattle.spec_map.specs.Call.{Call, get, insert, remove, compare_exchange, compute_if_present, compute_or_insert, is_empty, value_count, keys, range, drain}
-use Rattle.spec_map.specs.Call.{Reply, old_value, exchanged, computed, tested, counted, listed, ranged, drained}
+use Rattle.spec_map.specs.Call.{Call, get, insert, remove, compare_exchange, compute_if_present, compute_or_insert, is_empty, keys, range}
+use Rattle.spec_map.specs.Call.{Reply, old_value, exchanged, computed, tested, listed, ranged}
 use Rattle.spec_map.specs.Call.{Answer, replied, refused, Operation}
 use Rattle.spec_map.specs.Refusal.{MayRunOut}
 use Rattle.spec_map.specs.Legal.{IsLegal}
@@ -28,10 +28,8 @@ module _ {K V P : Type 0} (c : Conversion K V P) where
   converted (compute_if_present k) = compute_if_present (c.key_number k)
   converted (compute_or_insert k) = compute_or_insert (c.key_number k)
   converted is_empty = is_empty
-  converted value_count = value_count
   converted keys = keys
   converted (range a b n) = range (c.key_number a) (c.key_number b) n
-  converted drain = drain
 
   -- A stored value in an answer is read back. But an exchange returns the value that it was given.
   abbrev pub exchange_read : Call K V → Result (Option P) (Option P) → Result (Option V) (Option V)
@@ -44,10 +42,8 @@ module _ {K V P : Type 0} (c : Conversion K V P) where
   reply_read call (exchanged r) = exchanged (exchange_read call r)
   reply_read call (computed r) = computed r
   reply_read call (tested b) = tested b
-  reply_read call (counted n) = counted n
   reply_read call (listed ks) = listed (map c.key_read ks)
   reply_read call (ranged es) = ranged es
-  reply_read call (drained es) = drained (map (λ e. (c.key_read e.0, c.read e.1)) es)
 
   abbrev pub answer_read : Call K V → Answer ℕ P P → Answer K V P
   answer_read call (replied r) = replied (reply_read call r)

@@ -2,5 +2,6 @@
 #![tactic(auto)]
 
 pub mod calls;
+pub mod laws;
 pub mod payload_calls;
 pub mod u64_calls;

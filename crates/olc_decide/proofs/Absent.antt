@@ -2,10 +2,12 @@
 use Rattle.std.proofs.Common.{◌≡◌, ℕ, ◌+◌, ◌-◌, ◌*◌, ◌<◌, ◌≤◌, Bool, true, false, List, length, Option, Some, None, inl, inr, refl, sym, subst, ap, ◌∙◌, arith}
 use Rattle.node_table.specs.Key.{Begins}
 use Rattle.node_table.specs.declared.child.Child.{Child}
-use Rattle.spec_olc.specs.Calls.{Outline, IsPoint, outline_of, stored}
+use Rattle.spec_olc.specs.Calls.{Outline, IsPoint, key_of, outline_of, stored}
+use Rattle.spec_olc.specs.Content.{IsCurrent}
 use Rattle.spec_olc.specs.Kinds.{report_of}
 use Rattle.spec_olc.specs.Local.{payload_in, seen_payload}
 use Rattle.spec_olc.specs.Meaning.{meant_reply}
+use Rattle.spec_olc.specs.State.{State}
 use Rattle.spec_olc.specs.declared.types.Asking.{Asking}
 use Rattle.spec_olc.specs.declared.types.Asking.TheVariants.{Fresh}
 use Rattle.spec_olc.specs.declared.types.Env.{Env}
@@ -32,12 +34,12 @@ use Rattle.olc_state.specs.inner.Tables.{OnPath, IsPlaced}
 use Rattle.olc_state.specs.inner.TailFacts.{IsLarge, IsSmall, LargeCase, LargeWork, SmallCase, SmallWork, WritesAtKey, found, path_to, stands_at, stores}
 use Rattle.olc_state.specs.inner.Tails.{large_work, small_work}
 use Rattle.olc_state.specs.inner.Tasks.{IsFreshly, IsOpen, MaySee, closed, key_bytes}
-use Rattle.olc_state.specs.inner.Turns.{IsRead}
+use Rattle.olc_state.specs.inner.Turns.{IsRead, ShowsNodes}
 use Rattle.olc_state.specs.inner.World.{PlacedNode, NodeMap}
 use Rattle.olc_state.proofs.Options.{none_some, some_same}
 use Rattle.olc_state.proofs.Records.{at}
 use Rattle.olc_state.proofs.Replies.{change_stored}
-use Rattle.olc_descend.proofs.Checks.{above_absent, above_none, absent_there, asking, asking_waits_for, asks_at, asks_inserts, ends_left, goes, inserts_asks, keeps_old, keeps_question, sees_none}
+use Rattle.olc_descend.proofs.Checks.{above_absent, above_none, above_now, absent_now, absent_there, asking, asking_waits_for, asks_at, asks_inserts, ends_left, goes, inserts_asks, keeps_old, keeps_question, sees_none}
 use Rattle.olc_descend.proofs.Courses.{descends}
 use Rattle.olc_descend.proofs.Events.{test_false}
 use Rattle.olc_descend.proofs.Spots.{above_known, here_known, step_down}
@@ -176,6 +178,9 @@ module _ {M : Type 0} (Granted : Type 0) (same : M → M → Bool) (t : NodeMap 
     seen_none : seen_payload task.last ≡ None
     seen_none = sees_none Granted same t root pin task env placed path a here word facts point none
 
+    none_current : (old : Option M) → old ≡ None → (s : State M) → ShowsNodes t root s → IsCurrent s (key_of task.outline) old
+    none_current old is s shows = subst (λ (v : Option M). IsCurrent s (key_of task.outline) v) (sym is) (absent_now Granted same t root pin task env placed path a here word facts point none s shows)
+
     pub leaves_here : IsAbsence task.outline Leaves
         → IsRead Granted same t root pin (at (Check path) task) env (at Finish (closed progress.Decided task)) (report_of kind.Check (Some path.here.slot) 0 true) (Decided (reply_absent task.outline))
     leaves_here leaves =
@@ -207,7 +212,7 @@ module _ {M : Type 0} (Granted : Type 0) (same : M → M → Bool) (t : NodeMap 
             all_here t path.here a here (SmallCase Granted same small (asking task old)) (none, is),
           );
         })
-        (λ z h. inr (inl h)) (λ served. omega (arith, small_short small))
+        (λ z h. inr (inl h)) (λ served. omega (arith, small_short small)) (none_current old (old_is ∙ seen_none))
 
   module _ (pair : NodePair) (a : PlacedNode M) (here : t pair.here.slot ≡ Some a) (word : a.word ≡ pair.here.word) (facts : Facts Granted same t root pin (at (Check (path_to pair)) task))
       (none : found a (key_bytes task) ≡ None) where
@@ -237,7 +242,7 @@ module _ {M : Type 0} (Granted : Type 0) (same : M → M → Bool) (t : NodeMap 
             on.above.2,
           );
         })
-        (λ z h. inr (inl h)) (λ served. rw here (large_falls large a (key_bytes task) (on.way a here) is))
+        (λ z h. inr (inl h)) (λ served. rw here (large_falls large a (key_bytes task) (on.way a here) is)) (none_current (path_to pair) a here word facts none old (old_is ∙ seen_none (path_to pair) a here word facts none))
 
   -- what an entry needs there
   module _ (a : PlacedNode M) (none : found a (key_bytes task) ≡ None) where
@@ -335,4 +340,4 @@ module _ {M : Type 0} (Granted : Type 0) (same : M → M → Bool) (t : NodeMap 
           );
         })
         (λ z h. elim h [ inl e ↦ inr (inl (inl e)) | inr more ↦ elim more [ inl e ↦ inr (inl (inr (inl e))) | inr never ↦ absurd never ] ])
-        (λ served. omega (arith, descends t root placed pin (key_bytes task) path on below.slot facts.at.2 a here word))
+        (λ served. omega (arith, descends t root placed pin (key_bytes task) path on below.slot facts.at.2 a here word)) (above_now Granted same t root pin task env placed path a here word below facts)

@@ -2,7 +2,8 @@
 use Rattle.std.proofs.Common.{◌≡◌, ℕ, Bool, true, false, IsTrue, length, Option, Some, None, Err, inl, inr, refl, sym, subst, ap, ◌∙◌, arith}
 use Rattle.node_table.specs.declared.child.Child.{Child}
 use Rattle.node_table.specs.declared.child.Child.TheVariants.{Payload}
-use Rattle.spec_olc.specs.Calls.{Outline, IsPoint, outline_of}
+use Rattle.spec_olc.specs.Calls.{Outline, IsPoint, key_of, outline_of}
+use Rattle.spec_olc.specs.Content.{IsCurrent}
 use Rattle.spec_olc.specs.Kinds.{report_of}
 use Rattle.spec_olc.specs.Local.{SharesNone, payload_in, seen_payload}
 use Rattle.spec_olc.specs.Meaning.{in_some, op_of}
@@ -32,7 +33,7 @@ use Rattle.olc_state.specs.inner.Turns.{IsRead}
 use Rattle.olc_state.specs.inner.World.{PlacedNode, NodeMap}
 use Rattle.olc_state.proofs.Options.{none_some}
 use Rattle.olc_state.proofs.Records.{at}
-use Rattle.olc_descend.proofs.Checks.{asking, asking_waits, asks_at, asks_present, closure_shares, ends_changed, ends_left, keeps_old, keeps_question, keeps_spare, present_there, sees_found}
+use Rattle.olc_descend.proofs.Checks.{asking, asking_waits, asks_at, asks_present, closure_shares, ends_changed, ends_left, keeps_old, keeps_question, keeps_spare, present_now, present_there, sees_found}
 use Rattle.olc_descend.proofs.Spots.{here_known}
 use Rattle.olc_decide.specs.declared.presence.Judged.{Judged}
 use Rattle.olc_decide.specs.declared.presence.Judged.TheVariants.{Other, Same, Stores, Removes}
@@ -199,7 +200,8 @@ module _ {M : Type 0} (Granted : Type 0) (same : M → M → Bool) (t : NodeMap 
           all_here t pair.here a here (IsPresent Granted same only (asking task task.spare)) (record { full = present.1; value = current; at_key = there_here; seen = seen; alone = present.2.0 }),
         );
       })
-      (λ z h. inr (inl h)) (λ served. omega arith))
+      (λ z h. inr (inl h)) (λ served. omega arith)
+      (λ s shows. subst (λ (v : Option M). IsCurrent s (key_of task.outline) v) (sym (spare ∙ seen)) (present_now Granted same t root pin task env placed (path_to pair) a here word facts point current there_here s shows)))
 
   -- an Insert
   module _ (insert : IsInsert task.outline) where

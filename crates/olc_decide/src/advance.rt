@@ -6,7 +6,7 @@ ghost use Rattle.spec_olc.specs.Meaning.{env_of, in_some, outcome_of};
 ghost use Rattle.olc_state.specs.inner.Tables.{IsPlaced};
 ghost use Rattle.olc_state.specs.inner.Meant.{meant_record, meant_table};
 ghost use Rattle.olc_state.specs.inner.Turns.{IsAdvance};
-ghost use Rattle.olc_descend.specs.inner.Reads.{KnowsMeant};
+ghost use Rattle.olc_descend.specs.inner.Reads.{KnowsMeant, with_task};
 
 use crate::answering::{answer, confirm};
 use crate::checking::{check, check_above};
@@ -14,17 +14,17 @@ use olc_descend::looking::read;
 use olc_descend::taking::{take_below, take_root};
 use olc_scan::stepping::step;
 use olc_state::scan::Scan;
-use olc_state::stage::{Record, Stage};
+use olc_state::stage::{Stage, Task};
 use olc_state::stepped::Stepped;
 use olc_state::store::Store;
 use olc_state::tail::Tail;
 use spec_olc::payload::HasMeaning;
 use spec_olc::types::{Env, Kind, Outcome, Report};
 
-/// A call after an event (`None` if it has ended), and the event's report and outcome.
+/// An event of a call: the stage at which the call goes on (`None` if it has ended), and what the event reports.
 #[derive(Drop)]
 pub struct Advanced<P> {
-    pub call: Option<Record<P>>,
+    pub stage: Option<Stage>,
     pub report: Report,
     pub outcome: Outcome<P>,
 }
@@ -32,18 +32,18 @@ pub struct Advanced<P> {
 // A call that goes on.
 fn on<P>(stepped: Stepped<P>) -> Advanced<P>
     ensures { result ≡ record {
-      call = Some stepped.call;
+      stage = Some stepped.stage;
       report = stepped.report;
       outcome = stepped.outcome;
     } }
 {
     let Stepped {
-        call,
+        stage,
         report,
         outcome,
     } = stepped;
     Advanced {
-        call: Some(call),
+        stage: Some(stage),
         report,
         outcome,
     }
@@ -52,13 +52,13 @@ fn on<P>(stepped: Stepped<P>) -> Advanced<P>
 // A call that ends.
 fn finished<P>() -> Advanced<P>
     ensures { result ≡ record {
-      call = None;
+      stage = None;
       report = report_of Kind.Finish None 0 true;
       outcome = Outcome.Done;
     } }
 {
     Advanced {
-        call: None,
+        stage: None,
         report: Report {
             kind: Kind::Finish,
             slot: None,
@@ -74,18 +74,20 @@ fn finished<P>() -> Advanced<P>
 pub fn advance<P: HasMeaning>(
     store: &Store<P>,
     pin: u64,
-    call: Record<P>,
+    task: &mut Task<P>,
+    stage: Stage,
     env: Env<P>,
 ) -> Advanced<P>
     requires placed { IsPlaced (meant_table P.meaning store.now) store.now.root }
-    requires facts { KnowsMeant P.always_shared P.same_meaning P.meaning store.now pin call }
-    requires reads { (tail : Tail) → call.stage ≢ Stage.Tail tail }
+    requires facts { KnowsMeant P.always_shared P.same_meaning P.meaning store.now pin
+        (record { stage = stage; task = task.old }) }
+    requires reads { (tail : Tail) → stage ≢ Stage.Tail tail }
     ensures { IsAdvance P.always_shared P.same_meaning (meant_table P.meaning store.now)
-        store.now.root pin (meant_record P.meaning call) (env_of P.meaning env)
-        (in_some (meant_record P.meaning) result.call) result.report
+        store.now.root pin (meant_record P.meaning (record { stage = stage; task = task.old }))
+        (env_of P.meaning env)
+        (in_some (meant_record P.meaning) (with_task task.new result.stage)) result.report
         (outcome_of P.meaning result.outcome) }
 {
-    let Record { stage, task } = call;
     match stage {
         Stage::TakeRoot => on(take_root(store, pin, task)),
         Stage::Read(path) => on(read(store, pin, task, path, env.torn)),

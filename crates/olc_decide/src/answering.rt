@@ -25,22 +25,22 @@ use std::mem;
 pub(crate) fn answer<P: HasMeaning>(
     store: &Store<P>,
     pin: u64,
-    task: Task<P>,
+    task: &mut Task<P>,
     case: Case,
     answer: Option<P>,
 ) -> Stepped<P>
     requires placed { IsPlaced (meant_table P.meaning store.now) store.now.root }
     requires facts { KnowsMeant P.always_shared P.same_meaning P.meaning store.now pin
-        (record { stage = Stage.Answer case; task = task }) }
+        (record { stage = Stage.Answer case; task = task.old }) }
     ensures reads { (env : Env P) → env.answer ≡ answer
         → ReadsOnly P.always_shared P.same_meaning P.meaning store.now pin
-        (record { stage = Stage.Answer case; task = task }) env
-        result.call result.report result.outcome }
+        (record { stage = Stage.Answer case; task = task.old }) env
+        (record { stage = result.stage; task = task.new }) result.report result.outcome }
 {
-    let Ok(returns) = returned(&task, &answer) else {
-        return refused(task, answered());
+    let Ok(returns) = returned(task, &answer) else {
+        return refused(task, Stage::Finish, answered());
     };
-    let stage = after_answer(&task, case, &answer);
+    let stage = after_answer(task, case, &answer);
     given(task, stage, answer, returns)
 }
 
@@ -71,41 +71,27 @@ fn returned<P: HasMeaning>(task: &Task<P>, answer: &Option<P>) -> Result<Option<
 }
 
 // The call with its closure's answer.
-fn given<P: Drop>(task: Task<P>, stage: Stage, answer: Option<P>, returns: Option<P>) -> Stepped<P>
-    requires { (old : Option P) × (task.asking ≡ Asking.Wants old) }
-    ensures { (old : Option P) → task.asking ≡ Asking.Wants old → result ≡ record {
-      call = record {
-        stage = stage;
-        task = record task { returns = returns; asking = Asking.Given old answer };
-      };
+fn given<P: Drop>(
+    task: &mut Task<P>,
+    stage: Stage,
+    answer: Option<P>,
+    returns: Option<P>,
+) -> Stepped<P>
+    requires { (old : Option P) × (task.old.asking ≡ Asking.Wants old) }
+    ensures task { (old : Option P) → task.old.asking ≡ Asking.Wants old
+        → task.new ≡ record task.old { returns = returns; asking = Asking.Given old answer } }
+    ensures event { result ≡ record {
+      stage = stage;
       report = report_of Kind.Answer None 0 true;
       outcome = Outcome.Going;
     } }
 {
-    let Task {
-        outline,
-        op,
-        last,
-        spare,
-        question,
-        returns: _,
-        asking,
-        progress,
-    } = task;
-    let Asking::Wants(old) = asking else {
+    let Asking::Wants(old) = mem::replace(&mut task.asking, Asking::Fresh) else {
         unreachable!()
     };
-    let task = Task {
-        outline,
-        op,
-        last,
-        spare,
-        question,
-        returns,
-        asking: Asking::Given(old, answer),
-        progress,
-    };
-    going(task, stage, answered())
+    task.returns = returns;
+    task.asking = Asking::Given(old, answer);
+    going(stage, answered())
 }
 
 // What comes after an answer.
@@ -167,15 +153,15 @@ fn against<P: HasMeaning>(asking: &Asking<P>, value: &P) -> Judged
 pub(crate) fn confirm<P: HasMeaning>(
     store: &Store<P>,
     pin: u64,
-    task: Task<P>,
+    task: &mut Task<P>,
     spot: Spot,
 ) -> Stepped<P>
     requires placed { IsPlaced (meant_table P.meaning store.now) store.now.root }
     requires facts { KnowsMeant P.always_shared P.same_meaning P.meaning store.now pin
-        (record { stage = Stage.Confirm spot; task = task }) }
+        (record { stage = Stage.Confirm spot; task = task.old }) }
     ensures reads { (env : Env P) → ReadsOnly P.always_shared P.same_meaning P.meaning store.now pin
-        (record { stage = Stage.Confirm spot; task = task }) env
-        result.call result.report result.outcome }
+        (record { stage = Stage.Confirm spot; task = task.old }) env
+        (record { stage = result.stage; task = task.new }) result.report result.outcome }
 {
     let slot = spot.slot;
     if !has_word(node_at(store, slot), spot) {
@@ -183,8 +169,7 @@ pub(crate) fn confirm<P: HasMeaning>(
         return back(task, report);
     }
     let report = report(Kind::Check, slot, 0, true);
-    let mut task = task;
-    let before = asked(&mut task);
+    let before = asked(task);
     changed(task, Stage::Finish, report, before)
 }
 

@@ -20,15 +20,15 @@ use spec_olc::types::Kind;
 pub(crate) fn check<P: HasMeaning>(
     store: &Store<P>,
     pin: u64,
-    task: Task<P>,
+    task: &mut Task<P>,
     path: Path,
 ) -> Stepped<P>
     requires placed { IsPlaced (meant_table P.meaning store.now) store.now.root }
     requires facts { KnowsMeant P.always_shared P.same_meaning P.meaning store.now pin
-        (record { stage = Stage.Check path; task = task }) }
+        (record { stage = Stage.Check path; task = task.old }) }
     ensures reads { (env : Env P) → ReadsOnly P.always_shared P.same_meaning P.meaning store.now pin
-        (record { stage = Stage.Check path; task = task }) env
-        result.call result.report result.outcome }
+        (record { stage = Stage.Check path; task = task.old }) env
+        (record { stage = result.stage; task = task.new }) result.report result.outcome }
 {
     let slot = path.here.slot;
     if !has_word(node_at(store, slot), path.here) {
@@ -39,21 +39,21 @@ pub(crate) fn check<P: HasMeaning>(
 }
 
 // A Check that passes: the call goes down, or finds that its key is present or absent.
-fn checked<P: HasMeaning>(store: &Store<P>, pin: u64, task: Task<P>, path: Path) -> Stepped<P>
+fn checked<P: HasMeaning>(store: &Store<P>, pin: u64, task: &mut Task<P>, path: Path) -> Stepped<P>
     requires placed { IsPlaced (meant_table P.meaning store.now) store.now.root }
     requires facts { KnowsMeant P.always_shared P.same_meaning P.meaning store.now pin
-        (record { stage = Stage.Check path; task = task }) }
+        (record { stage = Stage.Check path; task = task.old }) }
     requires at_key { (a : PlacedNode P.Meaning) → meant_table P.meaning store.now path.here.slot ≡ Some a
         → a.word ≡ path.here.word }
-    requires point { IsPoint task.outline }
+    requires point { IsPoint task.old.outline }
     ensures reads { (env : Env P) → ReadsOnly P.always_shared P.same_meaning P.meaning store.now pin
-        (record { stage = Stage.Check path; task = task }) env
-        result.call result.report result.outcome }
+        (record { stage = Stage.Check path; task = task.old }) env
+        (record { stage = result.stage; task = task.new }) result.report result.outcome }
 {
-    match meet(store, pin, &task, path) {
+    match meet(store, pin, task, path) {
         Met::Below(slot) => {
             let report = report(Kind::Check, path.here.slot, 0, true);
-            going(task, Stage::TakeBelow(path, slot), report)
+            going(Stage::TakeBelow(path, slot), report)
         }
         Met::Absent(case) => absent_here(store, pin, task, path, case),
         Met::Present(pair, only) => present(store, pin, task, pair, only),
@@ -64,17 +64,17 @@ fn checked<P: HasMeaning>(store: &Store<P>, pin: u64, task: Task<P>, path: Path)
 pub(crate) fn check_above<P: HasMeaning>(
     store: &Store<P>,
     pin: u64,
-    task: Task<P>,
+    task: &mut Task<P>,
     path: Path,
     below: Spot,
     fits: bool,
 ) -> Stepped<P>
     requires placed { IsPlaced (meant_table P.meaning store.now) store.now.root }
     requires facts { KnowsMeant P.always_shared P.same_meaning P.meaning store.now pin
-        (record { stage = Stage.CheckAbove path below fits; task = task }) }
+        (record { stage = Stage.CheckAbove path below fits; task = task.old }) }
     ensures reads { (env : Env P) → ReadsOnly P.always_shared P.same_meaning P.meaning store.now pin
-        (record { stage = Stage.CheckAbove path below fits; task = task }) env
-        result.call result.report result.outcome }
+        (record { stage = Stage.CheckAbove path below fits; task = task.old }) env
+        (record { stage = result.stage; task = task.new }) result.report result.outcome }
 {
     let slot = path.here.slot;
     if !has_word(node_at(store, slot), path.here) {
@@ -84,7 +84,7 @@ pub(crate) fn check_above<P: HasMeaning>(
     if fits {
         let report = report(Kind::Check, slot, 0, true);
         let above = Some(path.here);
-        return going(task, Stage::Read(Path { above, here: below }), report);
+        return going(Stage::Read(Path { above, here: below }), report);
     }
     absent_above(store, pin, task, path, below)
 }

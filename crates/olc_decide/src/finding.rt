@@ -135,17 +135,18 @@ pub(crate) fn tail_for(case: Case) -> Tail
 }
 
 // A call that asks its closure, with the shares that its last Read has kept.
-pub(crate) fn asking<P: Drop>(task: Task<P>, case: Case, report: Report) -> Stepped<P>
-    ensures { result ≡ record {
-      call = record {
-        stage = Stage.Answer case;
-        task = record task { spare = None; question = None; asking = Asking.Wants task.spare };
-      };
+pub(crate) fn asking<P: Drop>(task: &mut Task<P>, case: Case, report: Report) -> Stepped<P>
+    ensures task { task.new ≡ record task.old {
+      spare = None;
+      question = None;
+      asking = Asking.Wants task.old.spare;
+    } }
+    ensures event { result ≡ record {
+      stage = Stage.Answer case;
       report = report;
-      outcome = Outcome.Ask task.question;
+      outcome = Outcome.Ask task.old.question;
     } }
 {
-    let mut task = task;
     let question = task.question.take();
     let old = task.spare.take();
     asks(task, case, report, question, old)
@@ -155,21 +156,21 @@ pub(crate) fn asking<P: Drop>(task: Task<P>, case: Case, report: Report) -> Step
 pub(crate) fn absent_here<P: HasMeaning>(
     store: &Store<P>,
     pin: u64,
-    task: Task<P>,
+    task: &mut Task<P>,
     path: Path,
     case: Case,
 ) -> Stepped<P>
     requires placed { IsPlaced (meant_table P.meaning store.now) store.now.root }
     requires facts { KnowsMeant P.always_shared P.same_meaning P.meaning store.now pin
-        (record { stage = Stage.Check path; task = task }) }
+        (record { stage = Stage.Check path; task = task.old }) }
     requires at_key { (a : PlacedNode P.Meaning) → meant_table P.meaning store.now path.here.slot ≡ Some a
         → a.word ≡ path.here.word }
     requires absent { (a : PlacedNode P.Meaning) → meant_table P.meaning store.now path.here.slot ≡ Some a
-        → (found a (key_bytes task) ≡ None) × IsAbsent path a (key_bytes task) case }
-    requires point { IsPoint task.outline }
+        → (found a (key_bytes task.old) ≡ None) × IsAbsent path a (key_bytes task.old) case }
+    requires point { IsPoint task.old.outline }
     ensures reads { (env : Env P) → ReadsOnly P.always_shared P.same_meaning P.meaning store.now pin
-        (record { stage = Stage.Check path; task = task }) env
-        result.call result.report result.outcome }
+        (record { stage = Stage.Check path; task = task.old }) env
+        (record { stage = result.stage; task = task.new }) result.report result.outcome }
 {
     let report = report(Kind::Check, path.here.slot, 0, true);
     match when_absent(&task.outline) {
@@ -177,7 +178,7 @@ pub(crate) fn absent_here<P: HasMeaning>(
             let reply = reply_absent(&task.outline);
             decided(task, Stage::Finish, report, reply)
         }
-        Absence::Stores => going(task, Stage::Tail(tail_for(case)), report),
+        Absence::Stores => going(Stage::Tail(tail_for(case)), report),
         Absence::Asks => asking(task, case, report),
     }
 }
@@ -186,19 +187,19 @@ pub(crate) fn absent_here<P: HasMeaning>(
 pub(crate) fn absent_above<P: HasMeaning>(
     store: &Store<P>,
     pin: u64,
-    task: Task<P>,
+    task: &mut Task<P>,
     path: Path,
     below: Spot,
 ) -> Stepped<P>
     requires placed { IsPlaced (meant_table P.meaning store.now) store.now.root }
     requires facts { KnowsMeant P.always_shared P.same_meaning P.meaning store.now pin
-        (record { stage = Stage.CheckAbove path below false; task = task }) }
+        (record { stage = Stage.CheckAbove path below false; task = task.old }) }
     requires at_key { (a : PlacedNode P.Meaning) → meant_table P.meaning store.now path.here.slot ≡ Some a
         → a.word ≡ path.here.word }
-    requires point { IsPoint task.outline }
+    requires point { IsPoint task.old.outline }
     ensures reads { (env : Env P) → ReadsOnly P.always_shared P.same_meaning P.meaning store.now pin
-        (record { stage = Stage.CheckAbove path below false; task = task }) env
-        result.call result.report result.outcome }
+        (record { stage = Stage.CheckAbove path below false; task = task.old }) env
+        (record { stage = result.stage; task = task.new }) result.report result.outcome }
 {
     let report = report(Kind::Check, path.here.slot, 0, true);
     let pair = NodePair {
@@ -212,7 +213,7 @@ pub(crate) fn absent_above<P: HasMeaning>(
         }
         Absence::Stores => {
             let tail = Tail::UpgradeAbove(pair, Large::Split);
-            going(task, Stage::Tail(tail), report)
+            going(Stage::Tail(tail), report)
         }
         Absence::Asks => asks(task, Case::Large(pair, Large::Split), report, None, None),
     }

@@ -44,20 +44,21 @@ pub(crate) fn removing(pair: NodePair, only: bool) -> Tail
 pub(crate) fn present<P: HasMeaning>(
     store: &Store<P>,
     pin: u64,
-    task: Task<P>,
+    task: &mut Task<P>,
     pair: NodePair,
     only: bool,
 ) -> Stepped<P>
-    requires at { IsAtPayload P.always_shared P.same_meaning P.meaning store.now pin task pair only }
-    requires point { IsPoint task.outline }
-    ensures reads { ChecksLeaf P.always_shared P.same_meaning P.meaning store.now pin task pair result }
+    requires at { IsAtPayload P.always_shared P.same_meaning P.meaning store.now pin task.old pair only }
+    requires point { IsPoint task.old.outline }
+    ensures reads { ChecksLeaf P.always_shared P.same_meaning P.meaning store.now pin task.old pair task.new result }
 {
     match &task.outline {
         Op::Get(_) => get(store, pin, task, pair, only),
         Op::Insert(..) => insert(store, pin, task, pair, only),
         Op::Remove(_) => remove(store, pin, task, pair, only),
         Op::CompareExchange(..) => exchange(store, pin, task, pair, only),
-        Op::ComputeIfPresent(_) | Op::ComputeOrInsert(..) => ask(store, pin, task, pair, only),
+        Op::ComputeIfPresent(_) => ask(store, pin, task, pair, only),
+        Op::ComputeOrInsert(..) => ask(store, pin, task, pair, only),
         Op::Range(..) => unreachable!(),
     }
 }
@@ -66,16 +67,15 @@ pub(crate) fn present<P: HasMeaning>(
 fn get<P: HasMeaning>(
     store: &Store<P>,
     pin: u64,
-    task: Task<P>,
+    task: &mut Task<P>,
     pair: NodePair,
     only: bool,
 ) -> Stepped<P>
-    requires at { IsAtPayload P.always_shared P.same_meaning P.meaning store.now pin task pair only }
-    requires get { IsGet task.outline }
-    ensures reads { ChecksLeaf P.always_shared P.same_meaning P.meaning store.now pin task pair result }
+    requires at { IsAtPayload P.always_shared P.same_meaning P.meaning store.now pin task.old pair only }
+    requires get { IsGet task.old.outline }
+    ensures reads { ChecksLeaf P.always_shared P.same_meaning P.meaning store.now pin task.old pair task.new result }
 {
     let report = report(Kind::Check, pair.here.slot, 0, true);
-    let mut task = task;
     let reply = Reply::Old(task.spare.take());
     decided(task, Stage::Finish, report, reply)
 }
@@ -84,29 +84,29 @@ fn get<P: HasMeaning>(
 fn remove<P: HasMeaning>(
     store: &Store<P>,
     pin: u64,
-    task: Task<P>,
+    task: &mut Task<P>,
     pair: NodePair,
     only: bool,
 ) -> Stepped<P>
-    requires at { IsAtPayload P.always_shared P.same_meaning P.meaning store.now pin task pair only }
-    requires remove { IsRemove task.outline }
-    ensures reads { ChecksLeaf P.always_shared P.same_meaning P.meaning store.now pin task pair result }
+    requires at { IsAtPayload P.always_shared P.same_meaning P.meaning store.now pin task.old pair only }
+    requires remove { IsRemove task.old.outline }
+    ensures reads { ChecksLeaf P.always_shared P.same_meaning P.meaning store.now pin task.old pair task.new result }
 {
     let report = report(Kind::Check, pair.here.slot, 0, true);
-    going(task, Stage::Tail(removing(pair, only)), report)
+    going(Stage::Tail(removing(pair, only)), report)
 }
 
 // A call with a closure asks it.
 fn ask<P: HasMeaning>(
     store: &Store<P>,
     pin: u64,
-    task: Task<P>,
+    task: &mut Task<P>,
     pair: NodePair,
     only: bool,
 ) -> Stepped<P>
-    requires at { IsAtPayload P.always_shared P.same_meaning P.meaning store.now pin task pair only }
-    requires asks { HasClosure task.outline }
-    ensures reads { ChecksLeaf P.always_shared P.same_meaning P.meaning store.now pin task pair result }
+    requires at { IsAtPayload P.always_shared P.same_meaning P.meaning store.now pin task.old pair only }
+    requires asks { HasClosure task.old.outline }
+    ensures reads { ChecksLeaf P.always_shared P.same_meaning P.meaning store.now pin task.old pair task.new result }
 {
     let report = report(Kind::Check, pair.here.slot, 0, true);
     asking(task, Case::Present(pair, only), report)
@@ -116,24 +116,22 @@ fn ask<P: HasMeaning>(
 fn insert<P: HasMeaning>(
     store: &Store<P>,
     pin: u64,
-    task: Task<P>,
+    task: &mut Task<P>,
     pair: NodePair,
     only: bool,
 ) -> Stepped<P>
-    requires at { IsAtPayload P.always_shared P.same_meaning P.meaning store.now pin task pair only }
-    requires insert { IsInsert task.outline }
-    ensures reads { ChecksLeaf P.always_shared P.same_meaning P.meaning store.now pin task pair result }
+    requires at { IsAtPayload P.always_shared P.same_meaning P.meaning store.now pin task.old pair only }
+    requires insert { IsInsert task.old.outline }
+    ensures reads { ChecksLeaf P.always_shared P.same_meaning P.meaning store.now pin task.old pair task.new result }
 {
-    let mut task = task;
     let report = report(Kind::Check, pair.here.slot, 0, true);
     let node = &node_at(store, pair.here.slot).node;
-    match judge(&task, child_at(node, task.outline.key())) {
+    match judge(task, child_at(node, task.outline.key())) {
         Judged::Same => {
-            let before = handed(&mut task);
+            let before = handed(task);
             changed(task, Stage::Finish, report, before)
         }
         _ => going(
-            task,
             Stage::Tail(Tail::Upgrade(path_to(pair), Small::Entry)),
             report,
         ),
@@ -144,29 +142,27 @@ fn insert<P: HasMeaning>(
 fn exchange<P: HasMeaning>(
     store: &Store<P>,
     pin: u64,
-    task: Task<P>,
+    task: &mut Task<P>,
     pair: NodePair,
     only: bool,
 ) -> Stepped<P>
-    requires at { IsAtPayload P.always_shared P.same_meaning P.meaning store.now pin task pair only }
-    requires exchange { IsExchange task.outline }
-    ensures reads { ChecksLeaf P.always_shared P.same_meaning P.meaning store.now pin task pair result }
+    requires at { IsAtPayload P.always_shared P.same_meaning P.meaning store.now pin task.old pair only }
+    requires exchange { IsExchange task.old.outline }
+    ensures reads { ChecksLeaf P.always_shared P.same_meaning P.meaning store.now pin task.old pair task.new result }
 {
     let report = report(Kind::Check, pair.here.slot, 0, true);
     let node = &node_at(store, pair.here.slot).node;
-    let mut task = task;
-    match judge(&task, child_at(node, task.outline.key())) {
+    match judge(task, child_at(node, task.outline.key())) {
         Judged::Other => {
             let reply = Reply::Exchanged(Err(task.spare.take()));
             decided(task, Stage::Finish, report, reply)
         }
         Judged::Same => changed(task, Stage::Finish, report, None),
         Judged::Stores => going(
-            task,
             Stage::Tail(Tail::Upgrade(path_to(pair), Small::Entry)),
             report,
         ),
-        Judged::Removes => going(task, Stage::Tail(removing(pair, only)), report),
+        Judged::Removes => going(Stage::Tail(removing(pair, only)), report),
     }
 }
 

@@ -6,7 +6,7 @@ use Rattle.node_table.specs.TableNode.{TableNode}
 use Rattle.node_table.specs.declared.child.Child.{Child}
 use Rattle.node_table.specs.declared.child.Child.TheVariants.{Payload, Node as below_at}
 use Rattle.spec_olc.specs.Calls.{Outline, IsPoint, bytes_of, key_of}
-use Rattle.spec_olc.specs.Content.{IsContent}
+use Rattle.spec_olc.specs.Content.{IsContent, IsCurrent}
 use Rattle.spec_olc.specs.Deciding.{AppliesCall}
 use Rattle.spec_olc.specs.Kinds.{DoesAs, report_of}
 use Rattle.spec_olc.specs.Local.{AsksWith, SharesNone, payload_in, seen_payload}
@@ -35,7 +35,7 @@ use Rattle.olc_state.specs.inner.Facts.{Facts, named_at}
 use Rattle.olc_state.specs.inner.Shown.{cursor_at, flight, given_at, held_at, made_at, reach_at, spots_of}
 use Rattle.olc_state.specs.inner.Turns.{IsRead, MayFollow, ShowsNodes, work_of}
 use Rattle.olc_state.specs.inner.World.{PlacedNode, NodeMap}
-use Rattle.olc_state.proofs.Contents.{kept_there, none_there}
+use Rattle.olc_state.proofs.Contents.{current_there, kept_now, none_now}
 use Rattle.olc_state.proofs.Options.{none_some, some_same}
 use Rattle.olc_state.proofs.Reaching.{one, seen_at}
 use Rattle.olc_state.proofs.Ways.{check_absent, check_present, check_below, check_mismatch}
@@ -179,13 +179,13 @@ module _ {M : Type 0} (Granted : Type 0) (same : M → M → Bool) (t : NodeMap 
         (λ z h. elim h [ inl e ↦ inr (inl (inl e)) | inr more ↦ elim more [ inl e ↦ inr (inl (inr (inl e))) | inr never ↦ absurd never ] ])
         (λ z h. h) (λ served. descends t root placed pin (key_bytes task) path on below.slot f.2 a here word)
 
-    -- THE CALL ASKS its closure with what the last Read reported
+    -- THE CALL ASKS its closure with what the last Read reported, which is the current value of its key
     pub asks_at : (stage : Stage) (case : Case) (old : Option M) → held_at stage ≡ [] → made_at stage ≡ [] → IsPlain stage → IsFreshly task → lookup (spots_of stage) path.here.slot ≡ Some path.here.word → IsIn path.here.slot (named_at stage)
         → Within (case_spots case) (spots_of stage) → AsksWith task.outline (seen_payload task.last) old → Facts Granted same t root pin (at (Answer case) (asking task old))
         → ((slot : ℕ) → IsIn slot (case_slots case) → (slot ≡ root) ⊎ (IsIn slot (named_at stage) ⊎ MayFollow t stage task.last slot))
-        → (IsPoint task.outline → case_work case < work_of t (at stage task))
+        → (IsPoint task.outline → case_work case < work_of t (at stage task)) → ((s : State M) → ShowsNodes t root s → IsCurrent s (key_of task.outline) old)
         → IsRead Granted same t root pin (at stage task) env (at (Answer case) (asking task old)) (report_of kind.Check (Some path.here.slot) 0 true) (Ask old)
-    asks_at stage case old held made plain fresh known named within asks facts names falls = record {
+    asks_at stage case old held made plain fresh known named within asks facts names falls current = record {
       facts = facts;
       held = refl;
       made = refl;
@@ -202,7 +202,7 @@ module _ {M : Type 0} (Granted : Type 0) (same : M → M → Bool) (t : NodeMap 
           (plain_as stage (key_of task.outline) (record (flight pin (at stage task)) { remembered = case_spots case; asking = Wants old }) [] [] plain refl (inr refl) refl held made)
           (check_ok Granted same s id (flight pin (at stage task)) env (inl fresh.opened.undecided) path.here.slot path.here.word (one a) (seen_at t root s shows path.here.slot a here) known
           (record (flight pin (at stage task)) { asking = Wants old }) (case_spots case) (Ask old) word
-          (record { undecided = fresh.opened.undecided; fresh = fresh.fresh; is = asks }, refl) within);
+          (record { undecided = fresh.opened.undecided; fresh = fresh.fresh; is = asks }, current s shows, refl) within);
       carries = λ s shows m content. refl;
     }
 
@@ -283,23 +283,33 @@ module _ {M : Type 0} (Granted : Type 0) (same : M → M → Bool) (t : NodeMap 
       pub keeps_question : HasClosure task.outline → task.question ≡ seen_payload task.last
       keeps_question asks = agrees_here.question asks ∙ sym (ap seen_payload saw_here.is)
 
+      -- what is stored at the key
+      pub absent_now : found a (key_bytes task) ≡ None → (s : State M) → ShowsNodes t root s → IsCurrent s (key_of task.outline) None
+      absent_now empty s shows = none_now t root s placed shows (key_of task.outline) (check_absent t root (key_bytes task) placed pin path a facts.at.1 here word empty)
+
+      pub present_now : (v : M) → found a (key_bytes task) ≡ Some (Payload v) → (s : State M) → ShowsNodes t root s → IsCurrent s (key_of task.outline) (Some v)
+      present_now v payload s shows =
+          kept_now t root s placed shows (key_of task.outline) v facts.small (check_present t root (key_bytes task) placed pin path a facts.at.1 here word v payload)
+
       -- what follows for the content
       pub absent_there : found a (key_bytes task) ≡ None → (s : State M) → ShowsNodes t root s → (m : Pairs M) → IsContent s m → lookup m (key_of task.outline) ≡ None
-      absent_there empty s shows m content = none_there t root s placed shows m content (key_of task.outline) (check_absent t root (key_bytes task) placed pin path a facts.at.1 here word empty)
+      absent_there empty s shows m content = current_there s m content (key_of task.outline) None (absent_now empty s shows)
 
       pub present_there : (v : M) → found a (key_bytes task) ≡ Some (Payload v) → (s : State M) → ShowsNodes t root s → (m : Pairs M) → IsContent s m → lookup m (key_of task.outline) ≡ Some v
-      present_there v payload s shows m content =
-          kept_there t root s placed shows m content (key_of task.outline) v facts.small (check_present t root (key_bytes task) placed pin path a facts.at.1 here word v payload)
+      present_there v payload s shows m content = current_there s m content (key_of task.outline) (Some v) (present_now v payload s shows)
 
     -- THE KEY IS ABSENT if the call was led to a node off the key's path
     module _ (below : Spot) (facts : Facts Granted same t root pin (at (CheckAbove path below false) task)) where
       pub above_none : seen_payload task.last ≡ None
       above_none = let saw_node : SawNode task.last below.slot = facts.at.3 in ap seen_payload saw_node.is ∙ ap payload_in saw_node.child
 
-      pub above_absent : (s : State M) → ShowsNodes t root s → (m : Pairs M) → IsContent s m → lookup m (key_of task.outline) ≡ None
-      above_absent s shows m content =
+      pub above_now : (s : State M) → ShowsNodes t root s → IsCurrent s (key_of task.outline) None
+      above_now s shows =
           let f = facts.at in
-          none_there t root s placed shows m content (key_of task.outline) (check_mismatch t root (key_bytes task) placed pin path a f.1 here word below false f.2 f.4 f.5 refl)
+          none_now t root s placed shows (key_of task.outline) (check_mismatch t root (key_bytes task) placed pin path a f.1 here word below false f.2 f.4 f.5 refl)
+
+      pub above_absent : (s : State M) → ShowsNodes t root s → (m : Pairs M) → IsContent s m → lookup m (key_of task.outline) ≡ None
+      above_absent s shows m content = current_there s m content (key_of task.outline) None (above_now s shows)
 
 -- WHAT A CALL KNOWS that asks its closure
 module _ {M : Type 0} (Granted : Type 0) (same : M → M → Bool) (task : Task M) (old : Option M) (fresh : IsFreshly task) where

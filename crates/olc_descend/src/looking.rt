@@ -27,18 +27,18 @@ use spec_olc::types::{Kind, Op, Report, Seen};
 pub fn read<P: HasMeaning>(
     store: &Store<P>,
     pin: u64,
-    task: Task<P>,
+    task: &mut Task<P>,
     path: Path,
     torn: Seen<P>,
 ) -> Stepped<P>
     requires placed { IsPlaced (meant_table P.meaning store.now) store.now.root }
     requires facts { KnowsMeant P.always_shared P.same_meaning P.meaning store.now pin
-        (record { stage = Stage.Read path; task = task }) }
-    requires point { IsPoint task.outline }
+        (record { stage = Stage.Read path; task = task.old }) }
+    requires point { IsPoint task.old.outline }
     ensures reads { (env : Env P) → env.torn ≡ torn
         → ReadsOnly P.always_shared P.same_meaning P.meaning store.now pin
-        (record { stage = Stage.Read path; task = task }) env
-        result.call result.report result.outcome }
+        (record { stage = Stage.Read path; task = task.old }) env
+        (record { stage = result.stage; task = task.new }) result.report result.outcome }
 {
     let slot = path.here.slot;
     let node = node_at(store, slot);
@@ -53,20 +53,20 @@ pub fn read<P: HasMeaning>(
 // A Read of a node whose word is the remembered one; what a torn Read would have reported is dropped.
 fn read_whole<P: HasMeaning>(
     node: &TreeNode<P>,
-    task: Task<P>,
+    task: &mut Task<P>,
     path: Path,
     _torn: Seen<P>,
     report: Report,
 ) -> Stepped<P>
-    requires { IsPoint task.outline }
+    requires { IsPoint task.old.outline }
     ensures report { result.report ≡ report }
     ensures reports { IsWholeRead P.always_shared P.same_meaning (meant_node P.meaning node.now) path
-        (meant_task P.meaning task) (meant_record P.meaning result.call)
+        (meant_task P.meaning task.old) (meant_record P.meaning (record { stage = result.stage; task = task.new }))
         (outcome_of P.meaning result.outcome) }
 {
     match look(node, &task.outline) {
         Some(found) => saw(task, path, found.seen, found.spare, found.question, report),
-        None => refused(task, report),
+        None => refused(task, Stage::Finish, report),
     }
 }
 

@@ -16,13 +16,13 @@ use spec_olc::payload::HasMeaning;
 use spec_olc::types::Kind;
 
 /// Take of the root.
-pub fn take_root<P: HasMeaning>(store: &Store<P>, pin: u64, task: Task<P>) -> Stepped<P>
+pub fn take_root<P: HasMeaning>(store: &Store<P>, pin: u64, task: &mut Task<P>) -> Stepped<P>
     requires placed { IsPlaced (meant_table P.meaning store.now) store.now.root }
     requires facts { KnowsMeant P.always_shared P.same_meaning P.meaning store.now pin
-        (record { stage = Stage.TakeRoot; task = task }) }
+        (record { stage = Stage.TakeRoot; task = task.old }) }
     ensures reads { (env : Env P) → ReadsOnly P.always_shared P.same_meaning P.meaning store.now pin
-        (record { stage = Stage.TakeRoot; task = task }) env
-        result.call result.report result.outcome }
+        (record { stage = Stage.TakeRoot; task = task.old }) env
+        (record { stage = result.stage; task = task.new }) result.report result.outcome }
 {
     let slot = store.root;
     let word = node_at(store, slot).word;
@@ -32,7 +32,7 @@ pub fn take_root<P: HasMeaning>(store: &Store<P>, pin: u64, task: Task<P>) -> St
             word: word.number(),
         };
         let report = report(Kind::Take, slot, word.number(), true);
-        going(task, Stage::Read(Path { above: None, here }), report)
+        going(Stage::Read(Path { above: None, here }), report)
     } else {
         let report = report(Kind::Take, slot, word.number(), false);
         back(task, report)
@@ -43,16 +43,16 @@ pub fn take_root<P: HasMeaning>(store: &Store<P>, pin: u64, task: Task<P>) -> St
 pub fn take_below<P: HasMeaning>(
     store: &Store<P>,
     pin: u64,
-    task: Task<P>,
+    task: &mut Task<P>,
     path: Path,
     slot: usize,
 ) -> Stepped<P>
     requires placed { IsPlaced (meant_table P.meaning store.now) store.now.root }
     requires facts { KnowsMeant P.always_shared P.same_meaning P.meaning store.now pin
-        (record { stage = Stage.TakeBelow path slot; task = task }) }
+        (record { stage = Stage.TakeBelow path slot; task = task.old }) }
     ensures reads { (env : Env P) → ReadsOnly P.always_shared P.same_meaning P.meaning store.now pin
-        (record { stage = Stage.TakeBelow path slot; task = task }) env
-        result.call result.report result.outcome }
+        (record { stage = Stage.TakeBelow path slot; task = task.old }) env
+        (record { stage = result.stage; task = task.new }) result.report result.outcome }
 {
     let node = node_at(store, slot);
     let word = node.word;
@@ -63,7 +63,7 @@ pub fn take_below<P: HasMeaning>(
             word: word.number(),
         };
         let report = report(Kind::Take, slot, word.number(), true);
-        going(task, Stage::CheckAbove(path, below, fits), report)
+        going(Stage::CheckAbove(path, below, fits), report)
     } else {
         let report = report(Kind::Take, slot, word.number(), false);
         back(task, report)

@@ -1,6 +1,8 @@
 -- The laws of changed insides, with payloads replaced by their meanings.
-use Rattle.std.proofs.Common.{◌≡◌, ℕ, ◌<◌, ◌^◌, Bool, true, false, List, [], Option, Some, None, IsSome, inl, inr, refl, sym, subst, ap, ◌∙◌}
-use Rattle.std.proofs.lemmas.Bool.{false≢true}
+use Rattle.std.proofs.Common.{◌≡◌, ◌≢◌, ℕ, ◌<◌, ◌^◌, Bool, true, false, List, [], Option, Some, None, IsSome, inl, inr, refl, sym, subst, ap, ◌∙◌}
+use Rattle.std.proofs.lemmas.Bool.{cases_lt, false≢true, le-ltb, lt-ltb, ne_eqb}
+use Rattle.std.specs.BTreeMap.{BTreeMap, WritesThrough, is_at}
+use Rattle.std.specs.Ordering.{nat_cmp}
 use Rattle.spec_map.specs.Map.{lookup}
 use Rattle.spec_olc.specs.Calls.{key_of}
 use Rattle.spec_olc.specs.Kinds.{report_of}
@@ -45,6 +47,19 @@ never_seated told now before is kept off on = false≢true (sym off ∙ (is ∙ 
 pub then_changes : {P : Type 0} (old mid new : List (ℕ × Option (Record P))) (id : ℕ) (x y : Option (Option (Record P)))
     → ChangesPlace old mid id x → ChangesPlace mid new id y → ChangesPlace old new id y
 then_changes old mid new id x y a b = record { here = b.here; others = λ o ne. b.others o ne ∙ a.others o ne }
+
+-- a number at which another one's search doesn't end
+apart : (id o : ℕ) → o ≢ id → is_at (nat_cmp id) o ≡ false
+apart id o ne =
+    elim (cases_lt id o) [
+      | inl less ↦ rw (lt-ltb id o less) refl
+      | inr more ↦ rw (le-ltb id o more, ne_eqb id o (λ e. ne (sym e))) refl
+    ]
+
+-- a place that is written where it is
+pub written_through : {P : Type 0} (m n : BTreeMap ℕ (Option (Record P))) (id : ℕ) (place : Option (Record P)) → IsSome (entry_at m.entries id) → WritesThrough nat_cmp (nat_cmp id) m place n
+    → ChangesPlace m.entries n.entries id (Some place)
+written_through m n id place there h = let u = h.3 there in record { here = u.1; others = λ o ne. u.2 o (apart id o ne) }
 
 module _ {P M : Type 0} (meaning : P → M) where
   pub meant_changes : (old new : List (ℕ × Option (Record P))) (id : ℕ) (place : Option (Option (Record P)))
@@ -173,15 +188,14 @@ module _ {P M : Type 0} (meaning : P → M) where
 
       -- AN EVENT of a call in flight, after which it goes on, and its last
       module _ (r : Record P) (pin : ℕ) (env : Env M) (report : Report) (out : Outcome M)
-          (found : record_of w id ≡ Some r) (pinned : pin_of w.pins id ≡ Some pin) (mid : List (ℕ × Option (Record P)))
-          (takes : ChangesPlace w.calls mid id (Some None)) where
+          (found : record_of w id ≡ Some r) (pinned : pin_of w.pins id ≡ Some pin) where
         meant_found : record_of (meant_world meaning w) id ≡ Some (meant_record meaning r)
         meant_found = meant_call meaning w id ∙ ap (in_some (meant_record meaning)) found
 
-        pub goes_on : (next : Record P) → held_at r.stage ≡ [] → pins ≡ w.pins → ChangesPlace mid calls id (Some (Some next))
+        pub goes_on : (next : Record P) → held_at r.stage ≡ [] → pins ≡ w.pins → ChangesPlace w.calls calls id (Some (Some next))
             → IsAdvance Granted same (table_of (meant_world meaning w)) w.root pin (meant_record meaning r) env (Some (meant_record meaning next)) report out
             → IsTurn Granted same (meant_world meaning w) (meant_world meaning (record w { pins = pins; calls = calls })) id env report out
-        goes_on next held same_pins puts advance =
+        goes_on next held same_pins places advance =
             on_turn Granted same (meant_world meaning w) pins (meant_calls meaning calls) id sound small (meant_record meaning r) pin env report out meant_found pinned
             (meant_record meaning next) held
             (record {
@@ -192,7 +206,7 @@ module _ {P M : Type 0} (meaning : P → M) where
               slots = ap (λ (p : PinsView). p.slots) same_pins;
               count = ap (λ (p : PinsView). p.count) same_pins;
             })
-            (meant_changes w.calls calls id (Some (Some next)) (then_changes w.calls mid calls id (Some None) (Some (Some next)) takes puts))
+            (meant_changes w.calls calls id (Some (Some next)) places)
             advance
 
         pub is_last : (place : Option (Option (Record P))) → ChangesSeat w.pins pins id (is_seated w.pins id) None

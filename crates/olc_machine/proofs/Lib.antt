@@ -1,6 +1,7 @@
 pub mod Changing
 pub mod Counted
 pub mod Handed
+pub mod Happened
 pub mod Inners
 pub mod Moving
 pub mod Reclaiming

@@ -3,6 +3,7 @@
 use Rattle.std.proofs.Common.{◌≡◌, ◌≢◌, ℕ, ◌+◌, ◌<◌, ◌≤◌, ◌^◌, Bool, List, Option, Some, None, IsSome, IfSome, IfNone, true, inl, inr, refl, sym, subst, ap, ◌∙◌, arith, slice_index_or}
 use Rattle.std.proofs.lemmas.Bool.{cases_lt}
 use Rattle.std.proofs.lemmas.Bool.Decides.{eqb_tells}
+use Rattle.std.specs.BTreeMap.{BTreeMap}
 use Rattle.node_base.specs.Form.{stated_size}
 use Rattle.node_base.specs.declared.base_node.NodeType.{NodeType}
 use Rattle.spec_map.specs.Map.{Pairs, without}
@@ -330,7 +331,7 @@ covers_part None all left size c e = tt
 covers_part (Some n) all left size c e = omega (arith, c, e)
 
 -- THE INSIDE after a slot was reclaimed
-module _ {P A M : Type 0} (meaning : P → M) (charge : A → Option ℕ) (Granted : Type 0) (same : M → M → Bool) (stock : Stock P A) (calls : List (ℕ × Option (Record P)))
+module _ {P A M : Type 0} (meaning : P → M) (charge : A → Option ℕ) (Granted : Type 0) (same : M → M → Bool) (stock : Stock P A) (calls : BTreeMap ℕ (Option (Record P)))
     (sound : IsSoundWorld Granted same (meant_world meaning (inside charge (record { stock = stock; calls = calls })))) (slot : ℕ)
     (may : MayReclaim (state_of (meant_world meaning (inside charge (record { stock = stock; calls = calls })))) slot) where
   abbrev before : World M

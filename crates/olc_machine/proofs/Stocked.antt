@@ -1,5 +1,6 @@
 -- What an event that writes may rely on, and that the inside stays sound.
 use Rattle.std.proofs.Common.{◌≡◌, ◌≢◌, ℕ, ◌+◌, ◌<◌, ◌≤◌, ◌^◌, Bool, List, [], ◌∷◌, length, Option, Some, None, refl, sym, subst, ap, ◌∙◌, arith}
+use Rattle.std.specs.BTreeMap.{BTreeMap}
 use Rattle.node_base.specs.Form.{stated_size}
 use Rattle.spec_map.specs.Map.{Pairs, lookup}
 use Rattle.spec_map.proofs.ByteMapLaws.{length-from_Rises}
@@ -28,7 +29,7 @@ use Rattle.olc_state.proofs.Options.{none_some}
 use Rattle.olc_state.proofs.States.{meant_call, shows}
 use Rattle.olc_state.proofs.Walked.{placed_content}
 use Rattle.olc_machine.specs.inner.Inside.{inside}
-use Rattle.olc_machine.proofs.Inners.{meant_changes, then_changes}
+use Rattle.olc_machine.proofs.Inners.{meant_changes}
 use Rattle.olc_machine.proofs.Moving.{moved_turn}
 
 -- a stage that isn't a tail's holds no node
@@ -51,7 +52,7 @@ some_there : {X : Type 0} (x : Option X) → x ≢ None → (a : X) × (x ≡ So
 some_there None h = absurd (h refl)
 some_there (Some a) h = (a, refl)
 
-module _ {P A M : Type 0} (meaning : P → M) (charge : A → Option ℕ) (Granted : Type 0) (same : M → M → Bool) (stock : Stock P A) (calls : List (ℕ × Option (Record P)))
+module _ {P A M : Type 0} (meaning : P → M) (charge : A → Option ℕ) (Granted : Type 0) (same : M → M → Bool) (stock : Stock P A) (calls : BTreeMap ℕ (Option (Record P)))
     (sound : IsSoundWorld Granted same (meant_world meaning (inside charge (record { stock = stock; calls = calls })))) where
   abbrev before : World M
   before = meant_world meaning (inside charge (record { stock = stock; calls = calls }))
@@ -82,15 +83,15 @@ module _ {P A M : Type 0} (meaning : P → M) (charge : A → Option ℕ) (Grant
   -- AN EVENT that writes, after which its call goes on
   module _ (id : ℕ) (small : id < 2 ^ 64) (r next : Record P) (pin : ℕ) (env : Env P) (report : Report) (out : Outcome P)
       (found : record_of (inside charge (record { stock = stock; calls = calls })) id ≡ Some r) (pinned : pin_of stock.store.pins id ≡ Some pin) where
-    pub moves_on : (now : Stock P A) (mid after : List (ℕ × Option (Record P))) → ChangesPlace calls mid id (Some None) → ChangesPlace mid after id (Some (Some next))
+    pub moves_on : (now : Stock P A) (after : BTreeMap ℕ (Option (Record P))) → ChangesPlace calls.entries after.entries id (Some (Some next))
         → StockMoves meaning charge Granted same stock now pin r env next report out
         → IsTurn Granted same before (meant_world meaning (inside charge (record { stock = now; calls = after }))) id (env_of meaning env) report (outcome_of meaning out)
-    moves_on now mid after takes puts moves =
+    moves_on now after changes moves =
         moved_turn Granted same before (meant_world meaning (inside charge (record { stock = now; calls = after }))) id pin small (meant_record meaning r) (meant_record meaning next)
         (env_of meaning env) report (outcome_of meaning out) sound
         (meant_call meaning (inside charge (record { stock = stock; calls = calls })) id ∙ ap (in_some (meant_record meaning)) found) pinned
         (record {
-          places = meant_changes meaning calls after id (Some (Some next)) (then_changes calls mid after id (Some None) (Some (Some next)) takes puts);
+          places = meant_changes meaning calls.entries after.entries id (Some (Some next)) changes;
           seats = moves.seats;
           root = moves.root;
           placed = moves.kept.placed;

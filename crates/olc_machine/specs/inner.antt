@@ -1,2 +1,3 @@
 pub mod FirstByte
+pub mod Happening
 pub mod Inside

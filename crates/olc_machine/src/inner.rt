@@ -14,7 +14,10 @@ ghost use Rattle.olc_state.specs.inner.Facts.{IsSoundWorld};
 ghost use Rattle.olc_state.specs.inner.Effects.{returned_at};
 ghost use Rattle.olc_state.specs.inner.Meant.{meant_record};
 ghost use Rattle.olc_state.specs.inner.Shown.{state_of};
+ghost use Rattle.olc_state.specs.declared.stage.Record.{Record};
+ghost use Rattle.olc_state.specs.inner.Stocks.{CountsEntries, IsStoreSound, StockKnows};
 ghost use Rattle.olc_state.specs.inner.Turns.{IsBegun, IsFreed, IsTurn};
+ghost use Rattle.olc_machine.specs.inner.Happening.{Happens, after_event};
 ghost use Rattle.olc_state.specs.inner.World.{record_of};
 ghost use Rattle.olc_words.specs.Epoch.{is_seated};
 ghost use Rattle.node_stats.specs.LevelCounts.{capped};
@@ -36,7 +39,7 @@ use node_table::allocator::Allocator;
 use node_table::tree_node::TreeNode;
 use olc_decide::advance::{Advanced, advance};
 use olc_scan::course::first_stage;
-use olc_state::calls::Calls;
+use olc_state::calls::{Places, call_at, forget, put, reserve};
 use olc_state::content::content;
 use olc_state::stage::{NodeLife, Record, Stage, Stored, Task};
 use olc_state::stepped::Stepped;
@@ -51,12 +54,13 @@ use spec_map::traits::Word;
 use spec_olc::payload::HasMeaning;
 use spec_olc::types::{Asking, Env, Kind, Op, Outcome, Progress, Report, Seen};
 use std::alloc::Global;
+use std::collections::BTreeMap;
 
 /// What the events of all calls change, and the calls in flight. All of it is private to the machine.
 #[derive(Drop)]
 pub struct Inner<P, A> {
     pub stock: Stock<P, A>,
-    pub calls: Calls<P>,
+    pub calls: Places<P>,
 }
 
 // The report of a start.
@@ -94,6 +98,65 @@ fn begun<P: HasMeaning>(op: Op<P>, returns: Option<P>) -> Record<P>
     }
 }
 
+// The next event of a call, which is changed where it is; `true` if it goes on after that.
+fn go_on<P: HasMeaning, A: Allocator>(
+    stock: &mut Stock<P, A>,
+    pin: u64,
+    call: &mut Record<P>,
+    env: Env<P>,
+) -> (bool, Report, Outcome<P>)
+    requires kept { IsStoreSound P.meaning A.charge stock.old }
+    requires facts { StockKnows P.meaning A.charge P.always_shared P.same_meaning
+        stock.old pin call.old }
+    requires counted { CountsEntries P.meaning A.charge stock.old }
+    ensures { Happens P.meaning A.charge P.always_shared P.same_meaning stock.old stock.new pin
+        call.old env (after_event result.0 call.new) result.1 result.2 }
+{
+    let stage = call.stage;
+    if let Stage::Tail(tail) = stage {
+        let Stepped {
+            stage: next,
+            report,
+            outcome,
+        } = write_on(stock, pin, &mut call.task, tail, env.fail);
+        call.stage = next;
+        return (true, report, outcome);
+    }
+    let Advanced {
+        stage: next,
+        report,
+        outcome,
+    } = advance(&stock.store, pin, &mut call.task, stage, env);
+    let Some(next) = next else {
+        return (false, report, outcome);
+    };
+    call.stage = next;
+    (true, report, outcome)
+}
+
+// The next event of the call in a place, which is empty after the call's last event.
+fn happen<P: HasMeaning, A: Allocator>(
+    stock: &mut Stock<P, A>,
+    pin: u64,
+    place: &mut Option<Record<P>>,
+    env: Env<P>,
+) -> (Report, Outcome<P>)
+    requires kept { IsStoreSound P.meaning A.charge stock.old }
+    requires full { IsSome place.old }
+    requires facts { (call : Record P) → place.old ≡ Some call → StockKnows P.meaning A.charge
+        P.always_shared P.same_meaning stock.old pin call }
+    requires counted { CountsEntries P.meaning A.charge stock.old }
+    ensures { (call : Record P) → place.old ≡ Some call → Happens P.meaning A.charge P.always_shared
+        P.same_meaning stock.old stock.new pin call env place.new result.0 result.1 }
+{
+    let Some(call) = place else { unreachable!() };
+    let (goes_on, report, outcome) = go_on(stock, pin, call, env);
+    if !goes_on {
+        *place = None;
+    }
+    (report, outcome)
+}
+
 impl<P: HasMeaning, A: Allocator> Inner<P, A> {
     /// The root alone, for which the budget is charged. `OOMError` if the budget refuses it or memory is missing.
     pub fn new(alloc: Global, mut budget: A) -> Result<Self, OOMError>
@@ -118,7 +181,7 @@ impl<P: HasMeaning, A: Allocator> Inner<P, A> {
                 alloc,
                 budget,
             },
-            calls: Calls::new(alloc),
+            calls: BTreeMap::new(alloc),
         })
     }
 
@@ -126,14 +189,14 @@ impl<P: HasMeaning, A: Allocator> Inner<P, A> {
     pub fn call(&self, id: u64) -> Option<&Record<P>>
         ensures { option_copied result ≡ record_of (inside A.charge self.now) id }
     {
-        self.calls.get(id)
+        call_at(&self.calls, id)
     }
 
     /// Whether a number has a call in flight.
     pub fn is_in_flight(&self, id: u64) -> bool
         ensures { IsTrue result ↔ IsSome (record_of (inside A.charge self.now) id) }
     {
-        self.calls.get(id).is_some()
+        call_at(&self.calls, id).is_some()
     }
 
     // Whether a number is seated or has a call in flight.
@@ -185,9 +248,9 @@ impl<P: HasMeaning, A: Allocator> Inner<P, A> {
             (IsReseated (state_in A.charge self.old) (state_in A.charge self.new) id true) }
         ensures err { OnErr result (state_in A.charge self.new ≡ state_in A.charge self.old) }
     {
-        self.calls.reserve(id)?;
+        reserve(&mut self.calls, id)?;
         let Ok(()) = self.stock.store.pins.seat(id) else {
-            self.calls.forget(id);
+            forget(&mut self.calls, id);
             return Err(OOMError::new());
         };
         Ok(())
@@ -205,7 +268,7 @@ impl<P: HasMeaning, A: Allocator> Inner<P, A> {
             return;
         }
         self.stock.store.pins.unseat(id);
-        self.calls.forget(id);
+        forget(&mut self.calls, id);
     }
 
     /// Takes a number's pin and makes its record. All memory is taken before anything changes. `returns` is a share of
@@ -223,7 +286,7 @@ impl<P: HasMeaning, A: Allocator> Inner<P, A> {
     {
         self.stock.store.pins.enter(id)?;
         let call = begun(op, returns);
-        let Ok(()) = self.calls.put(id, call) else {
+        let Ok(()) = put(&mut self.calls, id, call) else {
             self.stock.store.pins.leave(id);
             return Err(OOMError::new());
         };
@@ -235,7 +298,7 @@ impl<P: HasMeaning, A: Allocator> Inner<P, A> {
         requires sound { IsSoundWorld P.always_shared P.same_meaning (meant_in P.meaning A.charge self.now) }
         ensures { IsTrue result ↔ IsHanded (state_in A.charge self.now) id op.now }
     {
-        match self.calls.get(id) {
+        match call_at(&self.calls, id) {
             Some(call) => op.has_outline(&call.task.outline),
             None => false,
         }
@@ -246,7 +309,7 @@ impl<P: HasMeaning, A: Allocator> Inner<P, A> {
         requires sound { IsSoundWorld P.always_shared P.same_meaning (meant_in P.meaning A.charge self.now) }
         ensures { option_copied result ≡ seen_in (lookup (state_in A.charge self.now).calls id) }
     {
-        match self.calls.get(id) {
+        match call_at(&self.calls, id) {
             Some(call) => call.task.last.as_ref(),
             None => None,
         }
@@ -310,34 +373,17 @@ impl<P: HasMeaning, A: Allocator> Inner<P, A> {
         let Some(pin) = self.stock.store.pins.pin(id) else {
             unreachable!()
         };
-        let Record { stage, task } = self.calls.take(id);
-        if let Stage::Tail(tail) = stage {
-            let Stepped {
-                call,
-                report,
-                outcome,
-            } = write_on(&mut self.stock, pin, task, tail, env.fail);
-            let Ok(()) = self.calls.put(id, call) else {
-                unreachable!()
-            };
-            return (report, outcome);
-        }
-        let Advanced {
-            call,
-            report,
-            outcome,
-        } = advance(&self.stock.store, pin, Record { stage, task }, env);
-        if let Some(call) = call {
-            let Ok(()) = self.calls.put(id, call) else {
-                unreachable!()
-            };
+        let Some(place) = self.calls.get_mut(&id) else {
+            unreachable!()
+        };
+        let (report, outcome) = happen(&mut self.stock, pin, place, env);
+        if place.is_some() {
             return (report, outcome);
         }
         self.stock.store.pins.leave(id);
-        if self.stock.store.pins.is_seated(id) {
-            return (report, outcome);
+        if !self.stock.store.pins.is_seated(id) {
+            forget(&mut self.calls, id);
         }
-        self.calls.forget(id);
         (report, outcome)
     }
 

@@ -5,12 +5,13 @@ use Rattle.spec_map.proofs.MapLaws.{lookup-put_same, lookup-put_other, lookup-wi
 use Rattle.spec_map.specs.Map.{Pairs, IsMap, lookup, put}
 use Rattle.node_table.specs.TableNode.{TableNode}
 use Rattle.spec_olc.proofs.Steps.{others_stay}
-use Rattle.spec_olc.specs.Calls.{IsPoint, Outline, asked_of, outline_of}
+use Rattle.spec_olc.specs.Calls.{IsPoint, Outline, asked_of, key_of, outline_of}
+use Rattle.spec_olc.specs.Content.{IsContent, IsCurrent, IsStoredAt}
 use Rattle.spec_olc.specs.Kinds.{NextIs, CheckOutcome, ReadOutcome, AnswerOutcome, DoesAs, begun, refusal, refused, not_locked, unlocked}
 use Rattle.spec_olc.specs.Lists.{off}
 use Rattle.spec_olc.specs.Orderly.{Course, TurnsBy}
 use Rattle.spec_olc.specs.Reading.{GoesOn, LooksOn, MayGive}
-use Rattle.spec_olc.specs.Runs.{Transition, Happens, IsMachineRun, fresh, same_number, decided_at, decided_by, decided_in, events_in, lines_in}
+use Rattle.spec_olc.specs.Runs.{Transition, Happens, IsHistory, IsMachineRun, fresh, same_number, decided_at, decided_by, decided_in, events_in, lines_in}
 use Rattle.spec_olc.specs.State.{State, CallState, back}
 use Rattle.spec_olc.specs.declared.trace.Decision.{Decision}
 use Rattle.spec_olc.specs.declared.trace.Line.{Line}
@@ -31,10 +32,13 @@ use Rattle.spec_olc.specs.declared.types.Progress.TheVariants as progress
 use Rattle.spec_olc.specs.declared.types.Reply.{Reply}
 use Rattle.spec_olc.specs.declared.types.Report.{Report}
 use Rattle.spec_olc.specs.declared.types.Seen.{Seen}
-use Rattle.spec_olc.specs.Linearizable.{PendingCall, just_started, none_pending, with_pending, answered, after_step, MayReport, IsLast, Decides, Linearizes}
+use Rattle.spec_olc.specs.Linearizable.{PendingCall, just_started, none_pending, with_pending, answered, after_step, MayReport, IsLast, Decides, Linearizes, IsLinearizable}
 use Rattle.spec_olc.proofs.Ordering.{course_of, decided_open, refused_open}
 use Rattle.olc_replay.proofs.Orders.{IsOf, Matches, step_turns, by_ok}
+use Rattle.olc_state.proofs.Contents.{current_there}
 use Rattle.olc_state.proofs.Options.{some_same}
+use Rattle.olc_state.proofs.Replies.{key_is}
+use Rattle.olc_replay.proofs.Standing.{fresh_content}
 
 -- what a call in flight has of its closure is the last that the trace has, unless it went back to the root
 abbrev Heard : Asking ℕ → Asking ℕ → Type 0
@@ -124,15 +128,19 @@ module _ (old new : State ℕ) (id : ℕ) (call : CallState ℕ) (env : Env ℕ)
   decides reply kind.Finish d = other reply _ refl d.reports.1
   decides reply kind.Reclaim d = absurd d
 
-  read_asks : (asked : Option ℕ) (node : TableNode ℕ) (whole : Bool) → ReadOutcome (Unit {0}) same_number old new id call env report (Ask asked) node whole (Ask asked) → call.progress ≡ progress.Open
+  -- an open call asks with the current value of its key
+  abbrev Asks : Option ℕ → Type 0
+  Asks asked = (call.progress ≡ progress.Open) × IsCurrent old (key_of call.outline) asked
+
+  read_asks : (asked : Option ℕ) (node : TableNode ℕ) (whole : Bool) → ReadOutcome (Unit {0}) same_number old new id call env report (Ask asked) node whole (Ask asked) → Asks asked
   read_asks asked node true d = absurd d
   read_asks asked node false d = absurd d
 
   -- what asks is a Check that passes
-  asks : (asked : Option ℕ) (k : Kind) → DoesAs (Unit {0}) same_number old new id call env report (Ask asked) k → call.progress ≡ progress.Open
+  asks : (asked : Option ℕ) (k : Kind) → DoesAs (Unit {0}) same_number old new id call env report (Ask asked) k → Asks asked
   asks asked kind.Start d = absurd d
   asks asked kind.Take d = silent (Ask asked) _ refl refl d.1.reports.1
-  asks asked kind.Check d = by_ok report.ok (λ good. (d.1.passes good).0.undecided) (λ bad. silent (Ask asked) _ refl refl (d.1.fails bad).0)
+  asks asked kind.Check d = by_ok report.ok (λ good. let found = d.1.passes good in (found.0.undecided, found.1)) (λ bad. silent (Ask asked) _ refl refl (d.1.fails bad).0)
   asks asked kind.Read d = read_asks asked d.1.knows.node.node d.1.whole d.1.sees
   asks asked kind.Upgrade d = silent (Ask asked) _ refl refl d.1.reports.1
   asks asked kind.Make (t, may, inl d) = silent (Ask asked) _ refl refl d.reports.1
@@ -144,15 +152,19 @@ module _ (old new : State ℕ) (id : ℕ) (call : CallState ℕ) (env : Env ℕ)
   asks asked kind.Finish d = silent (Ask asked) _ refl refl d.reports.1
   asks asked kind.Reclaim d = absurd d
 
-  read_pairs : (key value : ℕ) (node : TableNode ℕ) (whole : Bool) → ReadOutcome (Unit {0}) same_number old new id call env report (Pair key value) node whole (Pair key value) → MayGive call.outline call.given key
+  -- a range gives a pair that is stored
+  abbrev Gave : ℕ → ℕ → Type 0
+  Gave key value = MayGive call.outline call.given key × IsStoredAt old key value
+
+  read_pairs : (key value : ℕ) (node : TableNode ℕ) (whole : Bool) → ReadOutcome (Unit {0}) same_number old new id call env report (Pair key value) node whole (Pair key value) → Gave key value
   read_pairs key value node true d = absurd d
   read_pairs key value node false d = absurd d
 
   -- what gives a pair is a Check that passes
-  pairs : (key value : ℕ) (k : Kind) → DoesAs (Unit {0}) same_number old new id call env report (Pair key value) k → MayGive call.outline call.given key
+  pairs : (key value : ℕ) (k : Kind) → DoesAs (Unit {0}) same_number old new id call env report (Pair key value) k → Gave key value
   pairs key value kind.Start d = absurd d
   pairs key value kind.Take d = silent (Pair key value) _ refl refl d.1.reports.1
-  pairs key value kind.Check d = by_ok report.ok (λ good. (d.1.passes good).may) (λ bad. silent (Pair key value) _ refl refl (d.1.fails bad).0)
+  pairs key value kind.Check d = by_ok report.ok (λ good. let found = d.1.passes good in (found.may, found.at_key)) (λ bad. silent (Pair key value) _ refl refl (d.1.fails bad).0)
   pairs key value kind.Read d = read_pairs key value d.1.knows.node.node d.1.whole d.1.sees
   pairs key value kind.Upgrade d = silent (Pair key value) _ refl refl d.1.reports.1
   pairs key value kind.Make (t, may, inl d) = silent (Pair key value) _ refl refl d.reports.1
@@ -216,7 +228,7 @@ module _ (old new : State ℕ) (id : ℕ) (call : CallState ℕ) (env : Env ℕ)
 
   found_heard : (o : Outcome ℕ) (planned : CallState ℕ) → Plans old planned → CheckOutcome (Unit {0}) same_number old call planned o → HeardBy (after_step kind.Check env.answer o p) (lookup new.calls id)
   found_heard Going planned b h = quietly kind.Check refl Going refl old planned b (looks_quiet call.outline old call planned h)
-  found_heard (Ask asked) planned b h = planned_heard (after_step kind.Check env.answer (Ask asked) p) old planned b (inr (ap (λ (f : CallState ℕ). f.asking) h.1))
+  found_heard (Ask asked) planned b h = planned_heard (after_step kind.Check env.answer (Ask asked) p) old planned b (inr (ap (λ (f : CallState ℕ). f.asking) h.2))
   found_heard (Pair key value) planned b h =
       planned_heard (after_step kind.Check env.answer (Pair key value) p) old planned b
       (quiet_heard p.asking call.asking planned.asking was (goes_quiet call (record call { cursor = key + 1; reach = key + 1; given = call.given + 1 }) planned (inl refl) h.next_is))
@@ -275,7 +287,7 @@ module _ (old new : State ℕ) (id : ℕ) (call : CallState ℕ) (env : Env ℕ)
   step_heard map kind.Reclaim d = absurd d
 
 -- what the order of a number allows is what a step of its pending call may report, and the call after it
-module _ (k : Kind) (answer : Option ℕ) (p : PendingCall) (next : Course) where
+module _ (m : Pairs ℕ) (k : Kind) (answer : Option ℕ) (p : PendingCall) (next : Course) where
   turned : (out : Outcome ℕ) (pr : Progress) → p.progress ≡ pr → TurnsBy out (Some (p.op, pr)) next → next ≡ course_of (after_step k answer out p)
   turned Going pr e t = t ∙ ap (λ (x : Progress). Some (p.op, x)) (sym e)
   turned (Ask old) pr e t = t ∙ ap (λ (x : Progress). Some (p.op, x)) (sym e)
@@ -293,11 +305,11 @@ module _ (k : Kind) (answer : Option ℕ) (p : PendingCall) (next : Course) wher
 
   -- what the order of a number doesn't have: questions and pairs
   abbrev Besides : Outcome ℕ → Type 0
-  Besides (Ask old) = p.progress ≡ progress.Open
-  Besides (Pair key value) = IsPoint p.op → ⊥
+  Besides (Ask old) = (p.progress ≡ progress.Open) × (old ≡ lookup m (key_of p.op))
+  Besides (Pair key value) = (IsPoint p.op → ⊥) × (lookup m key ≡ Some value)
   Besides out = Unit {0}
 
-  reports : (out : Outcome ℕ) (pr : Progress) → p.progress ≡ pr → Besides out → TurnsBy out (Some (p.op, pr)) next → MayReport p out
+  reports : (out : Outcome ℕ) (pr : Progress) → p.progress ≡ pr → Besides out → TurnsBy out (Some (p.op, pr)) next → MayReport m p out
   reports Going pr e b t = tt
   reports (Ask old) pr e b t = b
   reports (Pair key value) pr e b t = b
@@ -322,17 +334,20 @@ gives_range (ComputeIfPresent k) given key may point = may
 gives_range (ComputeOrInsert k v) given key may point = may
 gives_range (CompareExchange k a b) given key may point = may
 
--- a question comes from an open call, and a pair from a range
-besides : (old new : State ℕ) (i : ℕ) (env : Env ℕ) (report : Report) (call : CallState ℕ) (p : PendingCall) (next : Course) → IsOf p.op call → p.progress ≡ call.progress
-    → (out : Outcome ℕ) → DoesAs (Unit {0}) same_number old new i call env report out report.kind → Besides report.kind env.answer p next out
-besides old new i env report call p next of same (Ask old') does = same ∙ asks old new i call env report old' report.kind does
-besides old new i env report call p next of same (Pair key value) does =
-    gives_range p.op call.given key (subst (λ (o : Outline). MayGive o call.given key) of.outline (pairs old new i call env report key value report.kind does))
-besides old new i env report call p next of same Going does = tt
-besides old new i env report call p next of same (Decided reply) does = tt
-besides old new i env report call p next of same Refused does = tt
-besides old new i env report call p next of same Done does = tt
-besides old new i env report call p next of same Unknown does = tt
+-- a question comes from an open call and has the current value, and a stored pair comes from a range
+besides : (m : Pairs ℕ) (old new : State ℕ) (i : ℕ) (env : Env ℕ) (report : Report) (call : CallState ℕ) (p : PendingCall) (next : Course) → IsContent old m → IsOf p.op call → p.progress ≡ call.progress
+    → (out : Outcome ℕ) → DoesAs (Unit {0}) same_number old new i call env report out report.kind → Besides m report.kind env.answer p next out
+besides m old new i env report call p next content of same (Ask asked) does =
+    let a = asks old new i call env report asked report.kind does in
+    (same ∙ a.0, sym (current_there old m content (key_of call.outline) asked a.1) ∙ ap (λ (key : ℕ). lookup m key) (sym (key_is p.op call.outline (sym of.outline))))
+besides m old new i env report call p next content of same (Pair key value) does =
+    let g = pairs old new i call env report key value report.kind does in
+    (gives_range p.op call.given key (subst (λ (o : Outline). MayGive o call.given key) of.outline g.0), (content.pairs key value).1 g.1)
+besides m old new i env report call p next content of same Going does = tt
+besides m old new i env report call p next content of same (Decided reply) does = tt
+besides m old new i env report call p next content of same Refused does = tt
+besides m old new i env report call p next content of same Done does = tt
+besides m old new i env report call p next content of same Unknown does = tt
 
 -- what the trace has of the closure last is what a decision has
 last_of : (last asking : Asking ℕ) → Heard last asking → IsLast (asked_of asking) last
@@ -343,42 +358,47 @@ last_of last (Given old answer) (inr e) = sym e
 
 -- a step decides what its outcome is a reply to, and nothing else
 decided_first : (old new : State ℕ) (i : ℕ) (env : Env ℕ) (report : Report) (call : CallState ℕ) (p : PendingCall) → IsOf p.op call → Heard p.asking call.asking
-    → (out : Outcome ℕ) → DoesAs (Unit {0}) same_number old new i call env report out report.kind → (ds : List Decision) → Decides i p out (decided_by i (Some call) out ++ ds) ds
-decided_first old new i env report call p of heard (Decided reply) does ds =
+    → (out : Outcome ℕ) → DoesAs (Unit {0}) same_number old new i call env report out report.kind → (ds : List Decision) (m n : Pairs ℕ) → IsHistory m (decided_by i (Some call) out) n
+    → Decides i p out (decided_by i (Some call) out ++ ds) ds m n
+decided_first old new i env report call p of heard (Decided reply) does ds m n h =
     let has = decides old new i call env report reply report.kind does in
-    rw has.1 (
+    let first : IsHistory m (decided_by i (Some call) (Decided reply)) n → Decides i p (Decided reply) (decided_by i (Some call) (Decided reply) ++ ds) ds m n =
+    rw has.1 (λ k. (
       record { id = i; op = has.0; asked = asked_of call.asking; reply = reply },
       record { number = refl; op = of.payloads has.0 has.1; asked = last_of p.asking call.asking heard; replied = refl },
       refl,
-    )
-decided_first old new i env report call p of heard Going does ds = refl
-decided_first old new i env report call p of heard (Ask asked) does ds = refl
-decided_first old new i env report call p of heard (Pair key value) does ds = refl
-decided_first old new i env report call p of heard Refused does ds = refl
-decided_first old new i env report call p of heard Done does ds = refl
-decided_first old new i env report call p of heard Unknown does ds = refl
+      k,
+    ))
+    in first h
+decided_first old new i env report call p of heard Going does ds m n h = (refl, h)
+decided_first old new i env report call p of heard (Ask asked) does ds m n h = (refl, h)
+decided_first old new i env report call p of heard (Pair key value) does ds m n h = (refl, h)
+decided_first old new i env report call p of heard Refused does ds m n h = (refl, h)
+decided_first old new i env report call p of heard Done does ds m n h = (refl, h)
+decided_first old new i env report call p of heard Unknown does ds m n h = (refl, h)
 
 -- the rest of a run, from any pending calls that fit
-abbrev Rest : State ℕ → List (Event ℕ) → List Line → List Decision → Type 0
-Rest new events lines ds = (calls : ℕ → Option PendingCall) → AllFit calls new → Linearizes calls events lines ds
+abbrev Rest : State ℕ → Pairs ℕ → List (Event ℕ) → List Line → List Decision → Pairs ℕ → Type 0
+Rest new n events lines ds last = (calls : ℕ → Option PendingCall) → AllFit calls new → Linearizes calls n events lines ds last
 
 -- A STEP of a pending call
-stepped : (old new : State ℕ) (i : ℕ) (env : Env ℕ) (report : Report) (out : Outcome ℕ) (seen : Option (Seen ℕ)) (call : CallState ℕ) → IsMap old.calls
-    → DoesAs (Unit {0}) same_number old new i call env report out report.kind → (events : List (Event ℕ)) (lines : List Line) (ds : List Decision) → Rest new events lines ds
+stepped : (old new : State ℕ) (m n last : Pairs ℕ) (i : ℕ) (env : Env ℕ) (report : Report) (out : Outcome ℕ) (seen : Option (Seen ℕ)) (call : CallState ℕ) → IsMap old.calls → IsContent old m → IsHistory m (decided_by i (Some call) out) n
+    → DoesAs (Unit {0}) same_number old new i call env report out report.kind → (events : List (Event ℕ)) (lines : List Line) (ds : List Decision) → Rest new n events lines ds last
     → (calls : ℕ → Option PendingCall) → ((id : ℕ) → id ≢ i → Fits (calls id) (lookup new.calls id)) → (c : Option PendingCall) → calls i ≡ c → Fits c (Some call)
-    → Linearizes calls (Step i env ∷ events) (Made report out seen ∷ lines) (decided_by i (Some call) out ++ ds)
-stepped old new i env report out seen call map does events lines ds go calls away None is fits = absurd fits.0
-stepped old new i env report out seen call map does events lines ds go calls away (Some p) is fits =
+    → Linearizes calls m (Step i env ∷ events) (Made report out seen ∷ lines) (decided_by i (Some call) out ++ ds) last
+stepped old new m n last i env report out seen call map content history does events lines ds go calls away None is fits = absurd fits.0
+stepped old new m n last i env report out seen call map content history does events lines ds go calls away (Some p) is fits =
     let turn = step_turns old new i call env report out p.op fits.0.0 map report.kind does in
     let here : Fits (after_step report.kind env.answer out p) (lookup new.calls i) = (
-      subst (λ (c : Course). Matches c (lookup new.calls i)) (turned report.kind env.answer p turn.0 out call.progress fits.0.1 turn.1) turn.2,
+      subst (λ (c : Course). Matches c (lookup new.calls i)) (turned m report.kind env.answer p turn.0 out call.progress fits.0.1 turn.1) turn.2,
       step_heard old new i call env report out p fits.1 map report.kind does,
     ) in (
       p,
       ds,
+      n,
       is,
-      reports report.kind env.answer p turn.0 out call.progress fits.0.1 (besides old new i env report call p turn.0 fits.0.0 fits.0.1 out does) turn.1,
-      decided_first old new i env report call p fits.0.0 fits.1 out does ds,
+      reports m report.kind env.answer p turn.0 out call.progress fits.0.1 (besides m old new i env report call p turn.0 content fits.0.0 fits.0.1 out does) turn.1,
+      decided_first old new i env report call p fits.0.0 fits.1 out does ds m n history,
       go (with_pending calls i (after_step report.kind env.answer out p)) (set_fits Fits calls i (after_step report.kind env.answer out p) new here away),
     )
 
@@ -393,36 +413,41 @@ not_pending (Some p) fits = absurd fits.0
 start_fits : (op : Op ℕ) (count : ℕ) → Fits (Some (just_started op)) (Some (begun op count))
 start_fits op count = ((record { outline = refl; payloads = λ o e. some_same o op (sym e) }, refl), inl refl)
 
-one : (old new : State ℕ) (event : Event ℕ) (line : Line) (calls : ℕ → Option PendingCall) → IsMap old.calls → Happens old event line new → AllFit calls old
-    → (events : List (Event ℕ)) (lines : List Line) (ds : List Decision) → Rest new events lines ds → Linearizes calls (event ∷ events) (line ∷ lines) (decided_at old event line ++ ds)
-one old new (Start i op) Skipped calls map h fit events lines ds go = go calls (unchanged calls old new (λ id. ap (λ (s : State ℕ). lookup s.calls id) h.1) fit)
-one old new (Step i env) Skipped calls map h fit events lines ds go = go calls (unchanged calls old new (λ id. ap (λ (s : State ℕ). lookup s.calls id) h.1) fit)
-one old new (Reclaim slot) Skipped calls map h fit events lines ds go = go calls (unchanged calls old new (λ id. ap (λ (s : State ℕ). lookup s.calls id) h.1) fit)
-one old new (Reclaim slot) (Made report out seen) calls map h fit events lines ds go =
-    (h.1.1, go calls (unchanged calls old new (λ id. ap (λ (s : State ℕ). lookup s.calls id) h.1.0.after) fit))
-one old new (Start i op) (Made report out seen) calls map h fit events lines ds go =
+-- the rest of a run whose first event leaves the map
+same_map : (calls : ℕ → Option PendingCall) (m n last : Pairs ℕ) (events : List (Event ℕ)) (lines : List Line) (ds : List Decision) → n ≡ m → Linearizes calls n events lines ds last → Linearizes calls m events lines ds last
+same_map calls m n last events lines ds e l = subst (λ (k : Pairs ℕ). Linearizes calls k events lines ds last) e l
+
+one : (old new : State ℕ) (m n last : Pairs ℕ) (event : Event ℕ) (line : Line) (calls : ℕ → Option PendingCall) → IsMap old.calls → IsContent old m → Happens old event line new → IsHistory m (decided_at old event line) n → AllFit calls old
+    → (events : List (Event ℕ)) (lines : List Line) (ds : List Decision) → Rest new n events lines ds last → Linearizes calls m (event ∷ events) (line ∷ lines) (decided_at old event line ++ ds) last
+one old new m n last (Start i op) Skipped calls map content h e fit events lines ds go = same_map calls m n last events lines ds e (go calls (unchanged calls old new (λ id. ap (λ (s : State ℕ). lookup s.calls id) h.1) fit))
+one old new m n last (Step i env) Skipped calls map content h e fit events lines ds go = same_map calls m n last events lines ds e (go calls (unchanged calls old new (λ id. ap (λ (s : State ℕ). lookup s.calls id) h.1) fit))
+one old new m n last (Reclaim slot) Skipped calls map content h e fit events lines ds go = same_map calls m n last events lines ds e (go calls (unchanged calls old new (λ id. ap (λ (s : State ℕ). lookup s.calls id) h.1) fit))
+one old new m n last (Reclaim slot) (Made report out seen) calls map content h e fit events lines ds go =
+    (h.1.1, same_map calls m n last events lines ds e (go calls (unchanged calls old new (λ id. ap (λ (s : State ℕ). lookup s.calls id) h.1.0.after) fit)))
+one old new m n last (Start i op) (Made report out seen) calls map content h e fit events lines ds go =
     let here : Fits (Some (just_started op)) (lookup new.calls i) =
     subst (λ (f : Option (CallState ℕ)). Fits (Some (just_started op)) f) (sym (ap (λ (s : State ℕ). lookup s.calls i) h.1.0.after ∙ lookup-put_same old.calls i (begun op old.count))) (start_fits op old.count) in
     let away : (id : ℕ) → id ≢ i → Fits (calls id) (lookup new.calls id) = λ id ne.
-    subst (λ (f : Option (CallState ℕ)). Fits (calls id) f) (sym (ap (λ (s : State ℕ). lookup s.calls id) h.1.0.after ∙ lookup-put_other old.calls i (begun op old.count) id ne)) (fit id) in (
+    subst (λ (f : Option (CallState ℕ)). Fits (calls id) f) (sym (ap (λ (s : State ℕ). lookup s.calls id) h.1.0.after ∙ lookup-put_other old.calls i (begun op old.count) id ne)) (fit id) in
+    let after : ℕ → Option PendingCall = with_pending calls i (Some (just_started op)) in (
       not_pending (calls i) (subst (λ (f : Option (CallState ℕ)). Fits (calls i) f) h.1.0.free (fit i)),
-      go (with_pending calls i (Some (just_started op))) (set_fits Fits calls i (Some (just_started op)) new here away),
       h.1.1,
+      same_map after m n last events lines ds e (go after (set_fits Fits calls i (Some (just_started op)) new here away)),
     )
-one old new (Step i env) (Made report out seen) calls map h fit events lines ds go =
+one old new m n last (Step i env) (Made report out seen) calls map content h e fit events lines ds go =
     let step = h.1.0 in
     let away : (id : ℕ) → id ≢ i → Fits (calls id) (lookup new.calls id) = λ id ne.
     subst (λ (f : Option (CallState ℕ)). Fits (calls id) f) (sym (others_stay (Unit {0}) same_number old new i step.call step.call env report out id ne report.kind step.event)) (fit id) in
-    rw step.in_flight (stepped old new i env report out seen step.call map step.event events lines ds go calls away (calls i) refl
+    rw step.in_flight (stepped old new m n last i env report out seen step.call map content (subst (λ (f : Option (CallState ℕ)). IsHistory m (decided_by i f out) n) step.in_flight e) step.event events lines ds go calls away (calls i) refl
     (subst (λ (f : Option (CallState ℕ)). Fits (calls i) f) step.in_flight (fit i)))
 
-linear_on : (old : State ℕ) (m : Pairs ℕ) (xs : List Transition) (n : Pairs ℕ) (calls : ℕ → Option PendingCall) → IsMap old.calls → IsMachineRun old m xs n → AllFit calls old
-    → Linearizes calls (events_in xs) (lines_in xs) (decided_in old xs)
-linear_on old m [] n calls map run fit = tt
-linear_on old m (x ∷ xs) n calls map run fit =
-    one old x.after x.event x.line calls map run.0.happens fit (events_in xs) (lines_in xs) (decided_in x.after xs)
-    (λ later fits. linear_on x.after x.content xs n later run.0.well_formed.calls run.1 fits)
+linear_on : (old : State ℕ) (m : Pairs ℕ) (xs : List Transition) (n : Pairs ℕ) (calls : ℕ → Option PendingCall) → IsMap old.calls → IsContent old m → IsMachineRun old m xs n → AllFit calls old
+    → Linearizes calls m (events_in xs) (lines_in xs) (decided_in old xs) n
+linear_on old m [] n calls map content run fit = run
+linear_on old m (x ∷ xs) n calls map content run fit =
+    one old x.after m x.content n x.event x.line calls map content run.0.happens run.0.history fit (events_in xs) (lines_in xs) (decided_in x.after xs)
+    (λ later fits. linear_on x.after x.content xs n later run.0.well_formed.calls run.0.content run.1 fits)
 
 -- In a run from the root alone each decision is made at a linearization point.
-pub linearizes : (root : ℕ) (charge : Option ℕ) (xs : List Transition) (n : Pairs ℕ) → IsMachineRun (fresh root charge) [] xs n → Linearizes none_pending (events_in xs) (lines_in xs) (decided_in (fresh root charge) xs)
-linearizes root charge xs n run = linear_on (fresh root charge) [] xs n none_pending tt run (λ id. (tt, tt))
+pub linearizes : (root : ℕ) (charge : Option ℕ) (xs : List Transition) (n : Pairs ℕ) → IsMachineRun (fresh root charge) [] xs n → IsLinearizable (events_in xs) (lines_in xs) (decided_in (fresh root charge) xs) n
+linearizes root charge xs n run = linear_on (fresh root charge) [] xs n none_pending tt (fresh_content root charge) run (λ id. (tt, tt))

@@ -123,7 +123,7 @@ module _ (old new : State ℕ) (id : ℕ) (call : CallState ℕ) (env : Env ℕ)
   found : (o : Outcome ℕ) (planned : CallState ℕ) → Ends old planned → CheckOutcome (Unit {0}) same_number old call planned o → Result o
   found Going planned b h = going Going refl old planned b (looks_on call.outline old call planned h)
   found (Ask asked) planned b h =
-      let l : Lasts call planned = lasts_by call _ planned h.1 (record { outline = refl; op = refl; progress = refl }) in
+      let l : Lasts call planned = lasts_by call _ planned h.2 (record { outline = refl; op = refl; progress = refl }) in
       (Some (op, call.progress), refl, matched call.progress old planned b (still planned l) (sym l.progress))
   found (Pair key value) planned b h =
       let l : Lasts call planned = goes_on call (record call { cursor = key + 1; reach = key + 1; given = call.given + 1 }) planned (record { outline = refl; op = refl; progress = refl }) h.next_is in

@@ -4,9 +4,9 @@ use Rattle.spec_map.specs.Map.{Pairs, lookup}
 use Rattle.spec_olc.proofs.Scanning.{all_scan}
 use Rattle.spec_olc.specs.Alone.{AllEndAlone}
 use Rattle.spec_olc.specs.Content.{IsContent}
-use Rattle.spec_olc.specs.Linearizable.{Linearizes, none_pending}
+use Rattle.spec_olc.specs.Linearizable.{IsLinearizable}
 use Rattle.spec_olc.specs.Replay.{IsReplayed}
-use Rattle.spec_olc.specs.Runs.{Transition, fresh, IsMachineRun, IsHistory, same_number, events_in, lines_in, decided_in}
+use Rattle.spec_olc.specs.Runs.{Transition, fresh, IsMachineRun, same_number, events_in, lines_in, decided_in}
 use Rattle.spec_olc.specs.State.{State}
 use Rattle.spec_olc.specs.declared.trace.Decision.{Decision}
 use Rattle.spec_olc.specs.declared.trace.Line.{Line}
@@ -17,7 +17,6 @@ use Rattle.olc_state.specs.inner.World.{World, record_of}
 use Rattle.olc_replay.specs.inner.Played.{transitions_of, SoFar}
 use Rattle.olc_replay.proofs.Alone.{all_end}
 use Rattle.olc_replay.proofs.Flying.{no_call}
-use Rattle.olc_replay.proofs.Histories.{decided_history}
 use Rattle.olc_replay.proofs.Linear.{linearizes}
 use Rattle.olc_replay.proofs.Playing.{run_of}
 use Rattle.olc_replay.proofs.Standing.{content_once, fresh_content}
@@ -47,15 +46,12 @@ replayed first last root charge events lines decided content is sound so_far at_
     (subst (λ (n : Pairs ℕ). IsMachineRun (state_of first) [] entries n) same (run_of first [] so_far.moves last so_far.content sound so_far.are_moves)) in
     let decided_is : decided_in (fresh root charge) entries ≡ decided = ap (λ (s : State ℕ). decided_in s entries) (sym is) ∙ so_far.decided_are in
     let none : (id : ℕ) → id < 2 ^ 64 → record_of first id ≡ None = λ id small. no_call first id sound small (ap (λ (s : State ℕ). lookup s.calls id) is) in
-    let points : Linearizes none_pending events lines decided =
-    subst (λ (es : List (Event ℕ)). Linearizes none_pending es lines decided) so_far.events_are
-    (subst (λ (ls : List Line). Linearizes none_pending (events_in entries) ls decided) so_far.lines_are
-    (subst (λ (ds : List Decision). Linearizes none_pending (events_in entries) (lines_in entries) ds) decided_is (linearizes root charge entries content run))) in
+    let linear : IsLinearizable events lines decided content =
+    subst (λ (es : List (Event ℕ)). IsLinearizable es lines decided content) so_far.events_are
+    (subst (λ (ls : List Line). IsLinearizable (events_in entries) ls decided content) so_far.lines_are
+    (subst (λ (ds : List Decision). IsLinearizable (events_in entries) (lines_in entries) ds content) decided_is (linearizes root charge entries content run))) in
     record {
-      linearizable = record {
-        points = points;
-        legal = subst (λ (ds : List Decision). IsHistory [] ds content) decided_is (decided_history (fresh root charge) [] entries content run);
-      };
+      linearizable = linear;
       run = record {
         root = root;
         charge = charge;

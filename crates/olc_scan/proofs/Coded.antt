@@ -27,9 +27,8 @@ use Rattle.olc_descend.proofs.Looks.{count_means, full_means}
 use Rattle.olc_state.specs.declared.scan.RangeProgress.{RangeProgress}
 use Rattle.olc_state.specs.declared.scan.Scan.{Scan}
 use Rattle.olc_state.specs.declared.scan.Scan.TheVariants.{Read, Check, TakeBelow, CheckAbove}
-use Rattle.olc_scan.specs.declared.course.Scanned.{Scanned}
 use Rattle.olc_scan.specs.inner.Passed.{IsFirstChild}
-use Rattle.olc_scan.specs.inner.Ranges.{GoesTo, IsAtNode, IsLooked, IsPaired, IsPast, IsScanned, LeadsFirst, SawFirst, first_in, scan_goes_on, named_on, spots_on}
+use Rattle.olc_scan.specs.inner.Ranges.{AfterScan, GoesTo, IsAtNode, IsLooked, IsPaired, IsPast, IsScanned, LeadsFirst, SawFirst, first_in, scan_goes_on, named_on, spots_on}
 use Rattle.olc_scan.proofs.Bounds.{bound_is, first_none, first_some, high-last}
 use Rattle.olc_scan.proofs.Finding.{goes_down, nothing_here, pair_begins, pair_behind, pair_ends, pair_stays, passed_over, steps_down}
 use Rattle.olc_scan.proofs.Passing.{first_found}
@@ -59,7 +58,7 @@ module _ {P M : Type 0} (Granted : Type 0) (same : M → M → Bool) (meaning : 
   node = record { word = w; node = meant_node meaning n; lifetime = st }
 
   -- the range after an event
-  abbrev Comes : Scan → Scanned P → Type 0
+  abbrev Comes : Scan → AfterScan P → Type 0
   Comes scan next = IsScanned Granted same t root pin (meant_task meaning task) course scan env (meant_task meaning next.task) next.course next.scan next.report (outcome_of meaning next.outcome)
 
   linked : IsLinked t spot.slot node
@@ -82,7 +81,7 @@ module _ {P M : Type 0} (Granted : Type 0) (same : M → M → Bool) (meaning : 
       (children_meant meaning [] n (next_byte n.prefix (bytes_of course.reach)) byte child rest e))
 
   -- all keys up to one are passed
-  past_comes : (scan : Scan) → lookup (spots_on scan) spot.slot ≡ Some spot.word → IsIn spot.slot (named_on scan) → (last : ℕ) (next : Scanned P) → IsPast task course last (report_of kind.Check (Some spot.slot) 0 true) next
+  past_comes : (scan : Scan) → lookup (spots_on scan) spot.slot ≡ Some spot.word → IsIn spot.slot (named_on scan) → (last : ℕ) (next : AfterScan P) → IsPast task course last (report_of kind.Check (Some spot.slot) 0 true) next
       → course.cursor ≤ last + 1 → ((s : State M) → ShowsNodes t root s → NoneIsStored s course.reach (last + 1)) → Comes scan next
   past_comes scan known named last next p onward none =
       let small : course.cursor < 2 ^ 64 = omega (arith, at.ranging.order, at.ranging.small) in
@@ -92,15 +91,15 @@ module _ {P M : Type 0} (Granted : Type 0) (same : M → M → Bool) (meaning : 
       let passed : (s : State M) → ShowsNodes t root s → NoneIsStored s course.reach p.from = λ s shows key v low to at_key. none s shows key v low (omega (arith, top, to)) at_key in
       elim p.is [
         | inl over ↦
-            subst (λ (x : Scanned P). Comes scan x) (sym over.1)
+            subst (λ (x : AfterScan P). Comes scan x) (sym over.1)
             (ends_at Granted same t root pin (meant_task meaning task) course env placed scan spot at node here known named word p.from p.from le (omega arith) passed over.0)
         | inr again ↦
-            subst (λ (x : Scanned P). Comes scan x) (sym again)
+            subst (λ (x : AfterScan P). Comes scan x) (sym again)
             (begins_at Granted same t root pin (meant_task meaning task) course env placed scan spot at node here known named word p.from le fits passed)
       ]
 
   -- A CHECK THAT FINDS NOTHING
-  pub none_comes : between n.children (next_byte n.prefix (bytes_of course.reach)) 256 ≡ [] → (last : ℕ) → last + 1 ≡ high (n.prefix ++ 255 ∷ []) → (next : Scanned P) → IsPast task course last (report_of kind.Check (Some spot.slot) 0 true) next
+  pub none_comes : between n.children (next_byte n.prefix (bytes_of course.reach)) 256 ≡ [] → (last : ℕ) → last + 1 ≡ high (n.prefix ++ 255 ∷ []) → (next : AfterScan P) → IsPast task course last (report_of kind.Check (Some spot.slot) 0 true) next
       → Comes (Check spot) next
   none_comes e last is next p =
       let top : last + 1 ≡ high n.prefix = is ∙ high-last n.prefix (placed.short spot.slot node linked) in
@@ -134,23 +133,23 @@ module _ {P M : Type 0} (Granted : Type 0) (same : M → M → Bool) (meaning : 
     pub has_spare : IsSome task.spare
     has_spare = some_means task.spare spare_is
 
-    pub pair_comes : (key : ℕ) → key ≡ low (n.prefix ++ byte ∷ []) → (next : Scanned P) → IsPaired task course spot key byte (report_of kind.Check (Some spot.slot) 0 true) next → Comes (Check spot) next
+    pub pair_comes : (key : ℕ) → key ≡ low (n.prefix ++ byte ∷ []) → (next : AfterScan P) → IsPaired task course spot key byte (report_of kind.Check (Some spot.slot) 0 true) next → Comes (Check spot) next
     pair_comes key key_is next p =
         elim p [
           | inl behind ↦
-              subst (λ (x : Scanned P). Comes (Check spot) x) (sym behind.2)
+              subst (λ (x : AfterScan P). Comes (Check spot) x) (sym behind.2)
               (pair_behind Granted same t root pin (meant_task meaning task) course env placed spot node here word at byte (meaning u) first key key_is behind.0)
           | inr gave ↦
               let value_is : meaning gave.value ≡ meaning u = some_same (meaning gave.value) (meaning u) (sym (ap (in_some meaning) gave.kept) ∙ spare_is) in
               elim gave.is [
                 | inl over ↦
-                    subst (λ (x : Scanned P). Comes (Check spot) x) (sym over.1)
+                    subst (λ (x : AfterScan P). Comes (Check spot) x) (sym over.1)
                     (pair_ends Granted same t root pin (meant_task meaning task) course env placed spot node here word at byte (meaning u) first key key_is (meaning gave.value) value_is gave.small gave.may over.0)
                 | inr (inl again) ↦
-                    subst (λ (x : Scanned P). Comes (Check spot) x) (sym again)
+                    subst (λ (x : AfterScan P). Comes (Check spot) x) (sym again)
                     (pair_begins Granted same t root pin (meant_task meaning task) course env placed spot node here word at byte (meaning u) first key key_is (meaning gave.value) value_is gave.small gave.may)
                 | inr (inr stays) ↦
-                    subst (λ (x : Scanned P). Comes (Check spot) x) (sym stays.1)
+                    subst (λ (x : AfterScan P). Comes (Check spot) x) (sym stays.1)
                     (pair_stays Granted same t root pin (meant_task meaning task) course env placed spot node here word at byte (meaning u) first key key_is (meaning gave.value) value_is gave.small gave.may stays.0)
               ]
         ]
@@ -166,7 +165,7 @@ module _ {P M : Type 0} (Granted : Type 0) (same : M → M → Bool) (meaning : 
     never_none e = let is : Child M = below_at child.slot in none_some is (sym (found_none e) ∙ led node here word)
 
     pub over_comes : from ≡ None → (byte : ℕ) (c : Child P) (rest : List (ℕ × Child P)) → between n.children (next_byte n.prefix (bytes_of course.reach)) 256 ≡ (byte, c) ∷ rest → (last : ℕ) → last + 1 ≡ high (n.prefix ++ byte ∷ [])
-        → (next : Scanned P) → IsPast task course last (report_of kind.Check (Some spot.slot) 0 true) next → Comes (CheckAbove spot child from) next
+        → (next : AfterScan P) → IsPast task course last (report_of kind.Check (Some spot.slot) 0 true) next → Comes (CheckAbove spot child from) next
     over_comes none byte c rest e last is next p =
         let f = found_some byte c rest e in
         let c_is : child_of meaning c ≡ below_at child.slot = some_same (child_of meaning c) (below_at child.slot) (sym f.0 ∙ led node here word) in
@@ -180,15 +179,15 @@ module _ {P M : Type 0} (Granted : Type 0) (same : M → M → Bool) (meaning : 
   first_means [] e = sym (found_none e)
   first_means (x ∷ rest) e = sym (found_some x.0 x.1 rest e).0
 
-  pub looked_comes : (next : Scanned P) → IsLooked Granted meaning n task course spot (report_of kind.Read (Some spot.slot) 0 true) next → Comes (Read spot) next
+  pub looked_comes : (next : AfterScan P) → IsLooked Granted meaning n task course spot (report_of kind.Read (Some spot.slot) 0 true) next → Comes (Read spot) next
   looked_comes next p =
       let first = first_means (between n.children (next_byte n.prefix (bytes_of course.reach)) 256) refl in
       elim p [
         | inl looks ↦
-            subst (λ (x : Scanned P). Comes (Read spot) x) (sym looks.is)
+            subst (λ (x : AfterScan P). Comes (Read spot) x) (sym looks.is)
             (whole Granted same t root pin (meant_task meaning task) course env placed spot node here at word (seen_of meaning looks.seen) (in_some meaning looks.spare) (looks.child ∙ first) (looks.kept ∙ ap payload_in (sym looks.child))
             (count_means meaning n looks.seen.count looks.count) (full_means meaning n looks.seen.full looks.full))
         | inr denied ↦
-            subst (λ (x : Scanned P). Comes (Read spot) x) (sym denied.2)
+            subst (λ (x : AfterScan P). Comes (Read spot) x) (sym denied.2)
             (unseen Granted same t root pin (meant_task meaning task) course env placed spot node here at word (meaning denied.1.0) (sym first ∙ ap (in_some (child_of meaning)) denied.1.1) denied.0)
       ]

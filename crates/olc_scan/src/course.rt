@@ -7,13 +7,12 @@ ghost use Rattle.spec_olc.specs.Reading.{HasAll, MayGive};
 ghost use Rattle.olc_state.specs.inner.Scans.{BeginsAt};
 
 use olc_state::scan::{RangeProgress, Scan};
-use olc_state::stage::{Stage, Task};
+use olc_state::stage::Stage;
 use spec_olc::types::{Op, Outcome, Report};
 
-/// A range after an event, and the event's report and outcome.
+/// An event of a range: how far the range is then and what it does next, and what the event reports.
 #[derive(Drop)]
 pub struct Scanned<P> {
-    pub task: Task<P>,
     pub course: RangeProgress,
     pub scan: Scan,
     pub report: Report,

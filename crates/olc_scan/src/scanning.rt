@@ -7,7 +7,7 @@ ghost use Rattle.node_table.specs.TableNode.{looked_at, seen};
 ghost use Rattle.node_table.specs.declared.child.Child.{Child};
 ghost use Rattle.spec_olc.specs.Calls.{bytes_of};
 ghost use Rattle.spec_olc.specs.declared.types.Env.{Env};
-ghost use Rattle.olc_scan.specs.inner.Ranges.{IsLooked, IsPaired, IsPast, KnowsScan, ScansOn, first_in, scan_goes_on, looked};
+ghost use Rattle.olc_scan.specs.inner.Ranges.{IsLooked, IsPaired, IsPast, KnowsScan, ScansOn, after_scan, first_in, looked};
 ghost use Rattle.olc_state.specs.inner.Meant.{meant_table};
 ghost use Rattle.olc_state.specs.inner.Tables.{IsPlaced};
 ghost use Rattle.olc_state.specs.inner.Tasks.{closed, restarted};
@@ -17,16 +17,15 @@ use node_table::child::ChildRef;
 use node_table::tree_node::TreeNode;
 use olc_descend::looking::{noted, shared};
 use olc_state::scan::{RangeProgress, Scan};
-use olc_state::stage::{Record, Spot, Task};
+use olc_state::stage::{Spot, Stage, Task};
 use olc_state::stepped::{Stepped, back as restart, has_word, node_at, refused as refuse, report};
 use olc_state::store::Store;
 use spec_olc::payload::HasMeaning;
 use spec_olc::types::{Kind, Outcome, Report, Seen};
 
 // An event after which a range goes on.
-fn on<P>(task: Task<P>, course: RangeProgress, scan: Scan, report: Report) -> Scanned<P>
+fn on<P>(course: RangeProgress, scan: Scan, report: Report) -> Scanned<P>
     ensures { result ≡ record {
-      task = task;
       course = course;
       scan = scan;
       report = report;
@@ -34,7 +33,6 @@ fn on<P>(task: Task<P>, course: RangeProgress, scan: Scan, report: Report) -> Sc
     } }
 {
     Scanned {
-        task,
         course,
         scan,
         report,
@@ -43,9 +41,9 @@ fn on<P>(task: Task<P>, course: RangeProgress, scan: Scan, report: Report) -> Sc
 }
 
 // An event after which a range restarts at the root, and keeps its cursor and its count.
-fn back<P: Drop>(task: Task<P>, course: RangeProgress, report: Report) -> Scanned<P>
-    ensures { result ≡ record {
-      task = restarted task;
+fn back<P: Drop>(task: &mut Task<P>, course: RangeProgress, report: Report) -> Scanned<P>
+    ensures task { task.new ≡ restarted task.old }
+    ensures event { result ≡ record {
       course = record course { reach = course.cursor };
       scan = Scan.TakeRoot;
       report = report;
@@ -58,12 +56,11 @@ fn back<P: Drop>(task: Task<P>, course: RangeProgress, report: Report) -> Scanne
         given: course.given,
     };
     let Stepped {
-        call: Record { stage: _, task },
+        stage: _,
         report,
         outcome,
     } = restart(task, report);
     Scanned {
-        task,
         course,
         scan: Scan::TakeRoot,
         report,
@@ -75,14 +72,14 @@ fn back<P: Drop>(task: Task<P>, course: RangeProgress, report: Report) -> Scanne
 pub fn take_root<P: HasMeaning>(
     store: &Store<P>,
     pin: u64,
-    task: Task<P>,
+    task: &mut Task<P>,
     course: RangeProgress,
 ) -> Scanned<P>
     requires placed { IsPlaced (meant_table P.meaning store.now) store.now.root }
-    requires facts { KnowsScan P.always_shared P.same_meaning P.meaning store.now pin task course
+    requires facts { KnowsScan P.always_shared P.same_meaning P.meaning store.now pin task.old course
         Scan.TakeRoot }
-    ensures { (env : Env P) → ScansOn P.always_shared P.same_meaning P.meaning store.now pin task
-        course Scan.TakeRoot env result }
+    ensures { (env : Env P) → ScansOn P.always_shared P.same_meaning P.meaning store.now pin task.old
+        course Scan.TakeRoot env (after_scan task.new result) }
 {
     let slot = store.root;
     let word = node_at(store, slot).word;
@@ -92,7 +89,7 @@ pub fn take_root<P: HasMeaning>(
             word: word.number(),
         };
         let report = report(Kind::Take, slot, word.number(), true);
-        on(task, course, Scan::Read(here), report)
+        on(course, Scan::Read(here), report)
     } else {
         let report = report(Kind::Take, slot, word.number(), false);
         back(task, course, report)
@@ -119,16 +116,16 @@ fn reach_in<P: Drop>(node: &TreeNode<P>, cursor: u64) -> Option<u64>
 pub fn take_below<P: HasMeaning>(
     store: &Store<P>,
     pin: u64,
-    task: Task<P>,
+    task: &mut Task<P>,
     course: RangeProgress,
     here: Spot,
     slot: usize,
 ) -> Scanned<P>
     requires placed { IsPlaced (meant_table P.meaning store.now) store.now.root }
-    requires facts { KnowsScan P.always_shared P.same_meaning P.meaning store.now pin task course
+    requires facts { KnowsScan P.always_shared P.same_meaning P.meaning store.now pin task.old course
         (Scan.TakeBelow here slot) }
-    ensures { (env : Env P) → ScansOn P.always_shared P.same_meaning P.meaning store.now pin task
-        course (Scan.TakeBelow here slot) env result }
+    ensures { (env : Env P) → ScansOn P.always_shared P.same_meaning P.meaning store.now pin task.old
+        course (Scan.TakeBelow here slot) env (after_scan task.new result) }
 {
     let node = node_at(store, slot);
     let word = node.word;
@@ -139,7 +136,7 @@ pub fn take_below<P: HasMeaning>(
         };
         let from = reach_in(&node.node, course.cursor);
         let report = report(Kind::Take, slot, word.number(), true);
-        on(task, course, Scan::CheckAbove(here, below, from), report)
+        on(course, Scan::CheckAbove(here, below, from), report)
     } else {
         let report = report(Kind::Take, slot, word.number(), false);
         back(task, course, report)
@@ -172,17 +169,17 @@ fn first_child<'a, P: Drop>(node: &'a TreeNode<P>, reach: u64) -> Option<ChildRe
 pub fn read<P: HasMeaning>(
     store: &Store<P>,
     pin: u64,
-    task: Task<P>,
+    task: &mut Task<P>,
     course: RangeProgress,
     here: Spot,
     torn: Seen<P>,
 ) -> Scanned<P>
     requires placed { IsPlaced (meant_table P.meaning store.now) store.now.root }
-    requires facts { KnowsScan P.always_shared P.same_meaning P.meaning store.now pin task course
+    requires facts { KnowsScan P.always_shared P.same_meaning P.meaning store.now pin task.old course
         (Scan.Read here) }
     ensures { (env : Env P) → env.torn ≡ torn
-        → ScansOn P.always_shared P.same_meaning P.meaning store.now pin task course
-        (Scan.Read here) env result }
+        → ScansOn P.always_shared P.same_meaning P.meaning store.now pin task.old course
+        (Scan.Read here) env (after_scan task.new result) }
 {
     let node = node_at(store, here.slot);
     let report = report(Kind::Read, here.slot, 0, true);
@@ -195,33 +192,38 @@ pub fn read<P: HasMeaning>(
 
 // A Read after which the range goes on to its Check.
 fn sees<P: Drop>(
-    task: Task<P>,
+    task: &mut Task<P>,
     course: RangeProgress,
     here: Spot,
     seen: Seen<P>,
     spare: Option<P>,
     report: Report,
 ) -> Scanned<P>
-    ensures { result ≡ scan_goes_on (looked task seen spare) course (Scan.Check here) report
-        Outcome.Going }
+    ensures task { task.new ≡ looked task.old seen spare }
+    ensures event { result ≡ record {
+      course = course;
+      scan = Scan.Check here;
+      report = report;
+      outcome = Outcome.Going;
+    } }
 {
-    let mut task = task;
     task.last = Some(seen);
     task.spare = spare;
     task.question = None;
-    on(task, course, Scan::Check(here), report)
+    on(course, Scan::Check(here), report)
 }
 
 // A Read of a node whose word is the remembered one; what a torn Read would have reported is dropped.
 fn read_whole<P: HasMeaning>(
     node: &TreeNode<P>,
-    task: Task<P>,
+    task: &mut Task<P>,
     course: RangeProgress,
     here: Spot,
     _torn: Seen<P>,
     report: Report,
 ) -> Scanned<P>
-    ensures { IsLooked P.always_shared P.meaning node.now task course here report result }
+    ensures { IsLooked P.always_shared P.meaning node.now task.old course here report
+        (after_scan task.new result) }
 {
     match shared(first_child(node, course.reach), false) {
         Ok(shares) => {
@@ -230,12 +232,11 @@ fn read_whole<P: HasMeaning>(
         }
         Err(_) => {
             let Stepped {
-                call: Record { stage: _, task },
+                stage: _,
                 report,
                 outcome,
-            } = refuse(task, report);
+            } = refuse(task, Stage::Finish, report);
             Scanned {
-                task,
                 course,
                 scan: Scan::Finish,
                 report,
@@ -246,8 +247,8 @@ fn read_whole<P: HasMeaning>(
 }
 
 // A range that has passed all keys up to this one.
-fn past<P: Drop>(task: Task<P>, course: RangeProgress, last: u64, report: Report) -> Scanned<P>
-    ensures { IsPast task course last report result }
+fn past<P: Drop>(task: &mut Task<P>, course: RangeProgress, last: u64, report: Report) -> Scanned<P>
+    ensures { IsPast task.old course last report (after_scan task.new result) }
 {
     let from = last.saturating_add(1);
     let course = RangeProgress {
@@ -256,7 +257,7 @@ fn past<P: Drop>(task: Task<P>, course: RangeProgress, last: u64, report: Report
         given: course.given,
     };
     if is_over(&task.outline, course) {
-        on(task, course, Scan::Finish, report)
+        on(course, Scan::Finish, report)
     } else {
         back(task, course, report)
     }
@@ -264,15 +265,15 @@ fn past<P: Drop>(task: Task<P>, course: RangeProgress, last: u64, report: Report
 
 // A range that has found a payload with this key, whose last byte is `byte`.
 fn paired<P: Drop>(
-    task: Task<P>,
+    task: &mut Task<P>,
     course: RangeProgress,
     here: Spot,
     key: u64,
     byte: u8,
     report: Report,
 ) -> Scanned<P>
-    requires { IsSome task.spare }
-    ensures { IsPaired task course here key byte report result }
+    requires { IsSome task.old.spare }
+    ensures { IsPaired task.old course here key byte report (after_scan task.new result) }
 {
     if !may_give(&task.outline, course.given, key) {
         let course = RangeProgress {
@@ -280,9 +281,8 @@ fn paired<P: Drop>(
             reach: key,
             given: course.given,
         };
-        return on(task, course, Scan::Finish, report);
+        return on(course, Scan::Finish, report);
     }
-    let mut task = task;
     let Some(value) = task.spare.take() else {
         unreachable!()
     };
@@ -292,11 +292,11 @@ fn paired<P: Drop>(
         given: course.given + 1,
     };
     let next = if is_over(&task.outline, course) {
-        on(task, course, Scan::Finish, report)
+        on(course, Scan::Finish, report)
     } else if byte == u8::MAX {
         back(task, course, report)
     } else {
-        on(task, course, Scan::Read(here), report)
+        on(course, Scan::Read(here), report)
     };
     with_pair(next, key, value)
 }
@@ -306,14 +306,12 @@ fn with_pair<P: Drop>(scanned: Scanned<P>, key: u64, value: P) -> Scanned<P>
     ensures { result ≡ record scanned { outcome = Outcome.Pair key value } }
 {
     let Scanned {
-        task,
         course,
         scan,
         report,
         outcome: _,
     } = scanned;
     Scanned {
-        task,
         course,
         scan,
         report,
@@ -325,15 +323,15 @@ fn with_pair<P: Drop>(scanned: Scanned<P>, key: u64, value: P) -> Scanned<P>
 pub fn check<P: HasMeaning>(
     store: &Store<P>,
     pin: u64,
-    task: Task<P>,
+    task: &mut Task<P>,
     course: RangeProgress,
     here: Spot,
 ) -> Scanned<P>
     requires placed { IsPlaced (meant_table P.meaning store.now) store.now.root }
-    requires facts { KnowsScan P.always_shared P.same_meaning P.meaning store.now pin task course
+    requires facts { KnowsScan P.always_shared P.same_meaning P.meaning store.now pin task.old course
         (Scan.Check here) }
-    ensures { (env : Env P) → ScansOn P.always_shared P.same_meaning P.meaning store.now pin task
-        course (Scan.Check here) env result }
+    ensures { (env : Env P) → ScansOn P.always_shared P.same_meaning P.meaning store.now pin task.old
+        course (Scan.Check here) env (after_scan task.new result) }
 {
     let node = node_at(store, here.slot);
     if !has_word(node, here) {
@@ -347,7 +345,7 @@ pub fn check<P: HasMeaning>(
         Some((byte, ChildRef::Payload(_))) => {
             paired(task, course, here, leaf_key(prefix, byte), byte, report)
         }
-        Some((_, ChildRef::Node(slot))) => on(task, course, Scan::TakeBelow(here, slot), report),
+        Some((_, ChildRef::Node(slot))) => on(course, Scan::TakeBelow(here, slot), report),
     }
 }
 
@@ -355,17 +353,17 @@ pub fn check<P: HasMeaning>(
 pub fn check_above<P: HasMeaning>(
     store: &Store<P>,
     pin: u64,
-    task: Task<P>,
+    task: &mut Task<P>,
     course: RangeProgress,
     here: Spot,
     below: Spot,
     from: Option<u64>,
 ) -> Scanned<P>
     requires placed { IsPlaced (meant_table P.meaning store.now) store.now.root }
-    requires facts { KnowsScan P.always_shared P.same_meaning P.meaning store.now pin task course
+    requires facts { KnowsScan P.always_shared P.same_meaning P.meaning store.now pin task.old course
         (Scan.CheckAbove here below from) }
-    ensures { (env : Env P) → ScansOn P.always_shared P.same_meaning P.meaning store.now pin task
-        course (Scan.CheckAbove here below from) env result }
+    ensures { (env : Env P) → ScansOn P.always_shared P.same_meaning P.meaning store.now pin task.old
+        course (Scan.CheckAbove here below from) env (after_scan task.new result) }
 {
     let node = node_at(store, here.slot);
     if !has_word(node, here) {
@@ -379,7 +377,7 @@ pub fn check_above<P: HasMeaning>(
             reach,
             given: course.given,
         };
-        return on(task, course, Scan::Read(below), report);
+        return on(course, Scan::Read(below), report);
     }
     let Some((byte, _)) = first_at(&node.node, course.reach) else {
         unreachable!()

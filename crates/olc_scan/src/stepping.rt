@@ -9,32 +9,28 @@ ghost use Rattle.olc_state.specs.inner.Tables.{IsPlaced};
 use crate::course::Scanned;
 use crate::scanning::{check, check_above, read, take_below, take_root};
 use olc_state::scan::{RangeProgress, Scan};
-use olc_state::stage::{Record, Stage, Task};
+use olc_state::stage::{Stage, Task};
 use olc_state::stepped::Stepped;
 use olc_state::store::Store;
 use spec_olc::payload::HasMeaning;
 use spec_olc::types::Seen;
 
-// A range after an event, as a call.
+// An event of a range, as one of a call.
 fn stepped<P: Drop>(scanned: Scanned<P>) -> Stepped<P>
     ensures { result ≡ record {
-      call = record { stage = Stage.Scan scanned.course scanned.scan; task = scanned.task };
+      stage = Stage.Scan scanned.course scanned.scan;
       report = scanned.report;
       outcome = scanned.outcome;
     } }
 {
     let Scanned {
-        task,
         course,
         scan,
         report,
         outcome,
     } = scanned;
     Stepped {
-        call: Record {
-            stage: Stage::Scan(course, scan),
-            task,
-        },
+        stage: Stage::Scan(course, scan),
         report,
         outcome,
     }
@@ -44,19 +40,19 @@ fn stepped<P: Drop>(scanned: Scanned<P>) -> Stepped<P>
 pub fn step<P: HasMeaning>(
     store: &Store<P>,
     pin: u64,
-    task: Task<P>,
+    task: &mut Task<P>,
     course: RangeProgress,
     scan: Scan,
     torn: Seen<P>,
 ) -> Stepped<P>
     requires placed { IsPlaced (meant_table P.meaning store.now) store.now.root }
     requires facts { KnowsMeant P.always_shared P.same_meaning P.meaning store.now pin
-        (record { stage = Stage.Scan course scan; task = task }) }
+        (record { stage = Stage.Scan course scan; task = task.old }) }
     requires goes { scan ≢ Scan.Finish }
     ensures { (env : Env P) → env.torn ≡ torn
         → ReadsOnly P.always_shared P.same_meaning P.meaning store.now pin
-        (record { stage = Stage.Scan course scan; task = task }) env
-        result.call result.report result.outcome }
+        (record { stage = Stage.Scan course scan; task = task.old }) env
+        (record { stage = result.stage; task = task.new }) result.report result.outcome }
 {
     match scan {
         Scan::TakeRoot => stepped(take_root(store, pin, task, course)),

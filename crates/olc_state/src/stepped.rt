@@ -1,4 +1,4 @@
-//! A call after an event: it goes on, goes back to the root, or has no work left.
+//! What an event leaves of its call, which is changed in place: it goes on, goes back to the root, or has no work left.
 
 ghost use Rattle.std.specs.Prelude.{◌≡◌, ◌↔◌, IsTrue, Some, None, IsSome};
 ghost use Rattle.spec_olc.specs.Kinds.{report_of};
@@ -6,17 +6,17 @@ ghost use Rattle.olc_state.specs.inner.Effects.{both_in, reply_with};
 ghost use Rattle.olc_state.specs.inner.Meant.{meant_table, stands_as};
 ghost use Rattle.olc_state.specs.inner.Tasks.{closed, restarted};
 
-use crate::stage::{Path, Record, Spot, Stage, Stored, Task};
+use crate::stage::{Path, Spot, Stage, Stored, Task};
 use crate::store::Store;
 use crate::tail::Case;
 use olc_words::lock::Word64;
 use spec_olc::payload::HasMeaning;
 use spec_olc::types::{Asking, Kind, Op, Outcome, Progress, Reply, Report, Seen};
 
-/// A call after an event, with the event's report and outcome.
+/// An event of a call: what the call does next, and what the event reports.
 #[derive(Drop)]
 pub struct Stepped<P> {
-    pub call: Record<P>,
+    pub stage: Stage,
     pub report: Report,
     pub outcome: Outcome<P>,
 }
@@ -52,207 +52,136 @@ pub fn has_word<P>(node: &Stored<P>, spot: Spot) -> bool
 }
 
 /// An event after which the call goes on.
-pub fn going<P>(task: Task<P>, stage: Stage, report: Report) -> Stepped<P>
-    ensures { result ≡ record {
-      call = record { stage = stage; task = task };
-      report = report;
-      outcome = Outcome.Going;
-    } }
+pub fn going<P>(stage: Stage, report: Report) -> Stepped<P>
+    ensures { result ≡ record { stage = stage; report = report; outcome = Outcome.Going } }
 {
     Stepped {
-        call: Record { stage, task },
+        stage,
         report,
         outcome: Outcome::Going,
     }
 }
 
 /// An event after which the call goes back to the root, and forgets what it has seen and asked.
-pub fn back<P: Drop>(task: Task<P>, report: Report) -> Stepped<P>
-    ensures { result ≡ record {
-      call = record { stage = Stage.TakeRoot; task = restarted task };
+pub fn back<P: Drop>(task: &mut Task<P>, report: Report) -> Stepped<P>
+    ensures task { task.new ≡ restarted task.old }
+    ensures event { result ≡ record {
+      stage = Stage.TakeRoot;
       report = report;
       outcome = Outcome.Going;
     } }
 {
-    let Task {
-        outline,
-        op,
-        last: _,
-        spare: _,
-        question: _,
-        returns,
-        asking: _,
-        progress,
-    } = task;
-    let task = Task {
-        outline,
-        op,
-        last: None,
-        spare: None,
-        question: None,
-        returns,
-        asking: Asking::Fresh,
-        progress,
-    };
-    going(task, Stage::TakeRoot, report)
+    task.last = None;
+    task.spare = None;
+    task.question = None;
+    task.asking = Asking::Fresh;
+    going(Stage::TakeRoot, report)
 }
 
 /// A Read after which the call goes on to its Check.
 pub fn saw<P: Drop>(
-    task: Task<P>,
+    task: &mut Task<P>,
     path: Path,
     seen: Seen<P>,
     spare: Option<P>,
     question: Option<P>,
     report: Report,
 ) -> Stepped<P>
-    ensures { result ≡ record {
-      call = record {
-        stage = Stage.Check path;
-        task = record task { last = Some seen; spare = spare; question = question };
-      };
+    ensures task { task.new ≡ record task.old {
+      last = Some seen;
+      spare = spare;
+      question = question;
+    } }
+    ensures event { result ≡ record {
+      stage = Stage.Check path;
       report = report;
       outcome = Outcome.Going;
     } }
 {
-    let Task {
-        outline,
-        op,
-        last: _,
-        spare: _,
-        question: _,
-        returns,
-        asking,
-        progress,
-    } = task;
-    let task = Task {
-        outline,
-        op,
-        last: Some(seen),
-        spare,
-        question,
-        returns,
-        asking,
-        progress,
-    };
-    going(task, Stage::Check(path), report)
+    task.last = Some(seen);
+    task.spare = spare;
+    task.question = question;
+    going(Stage::Check(path), report)
 }
 
 /// A Check at which the call's closure is called with `question`; the call keeps `old`, another share of it.
 pub fn asks<P: Drop>(
-    task: Task<P>,
+    task: &mut Task<P>,
     case: Case,
     report: Report,
     question: Option<P>,
     old: Option<P>,
 ) -> Stepped<P>
-    ensures { result ≡ record {
-      call = record {
-        stage = Stage.Answer case;
-        task = record task { spare = None; question = None; asking = Asking.Wants old };
-      };
+    ensures task { task.new ≡ record task.old {
+      spare = None;
+      question = None;
+      asking = Asking.Wants old;
+    } }
+    ensures event { result ≡ record {
+      stage = Stage.Answer case;
       report = report;
       outcome = Outcome.Ask question;
     } }
 {
-    let Task {
-        outline,
-        op,
-        last,
-        spare: _,
-        question: _,
-        returns,
-        asking: _,
-        progress,
-    } = task;
-    let task = Task {
-        outline,
-        op,
-        last,
-        spare: None,
-        question: None,
-        returns,
-        asking: Asking::Wants(old),
-        progress,
-    };
+    task.spare = None;
+    task.question = None;
+    task.asking = Asking::Wants(old);
     Stepped {
-        call: Record {
-            stage: Stage::Answer(case),
-            task,
-        },
+        stage: Stage::Answer(case),
         report,
         outcome: Outcome::Ask(question),
     }
 }
 
-/// An event after which a call without work only unlocks what it holds, and ends.
-pub fn ended<P: Drop>(
-    task: Task<P>,
-    stage: Stage,
-    progress: Progress,
-    report: Report,
-    outcome: Outcome<P>,
-) -> Stepped<P>
-    ensures { result ≡ record {
-      call = record { stage = stage; task = closed progress task };
-      report = report;
-      outcome = outcome;
-    } }
+/// A call without work only unlocks what it holds, and ends.
+pub fn close<P: Drop>(task: &mut Task<P>, progress: Progress)
+    ensures { task.new ≡ closed progress task.old }
 {
-    let Task {
-        outline,
-        op: _,
-        last,
-        spare: _,
-        question: _,
-        returns: _,
-        asking: _,
-        progress: _,
-    } = task;
-    let task = Task {
-        outline,
-        op: None,
-        last,
-        spare: None,
-        question: None,
-        returns: None,
-        asking: Asking::Fresh,
-        progress,
-    };
-    Stepped {
-        call: Record { stage, task },
-        report,
-        outcome,
-    }
+    task.op = None;
+    task.spare = None;
+    task.question = None;
+    task.returns = None;
+    task.asking = Asking::Fresh;
+    task.progress = progress;
 }
 
 /// An event that decides a call.
-pub fn decided<P: Drop>(task: Task<P>, stage: Stage, report: Report, reply: Reply<P>) -> Stepped<P>
-    ensures { result ≡ record {
-      call = record { stage = stage; task = closed Progress.Decided task };
+pub fn decided<P: Drop>(
+    task: &mut Task<P>,
+    stage: Stage,
+    report: Report,
+    reply: Reply<P>,
+) -> Stepped<P>
+    ensures task { task.new ≡ closed Progress.Decided task.old }
+    ensures event { result ≡ record {
+      stage = stage;
       report = report;
       outcome = Outcome.Decided reply;
     } }
 {
-    ended(
-        task,
+    close(task, Progress::Decided);
+    Stepped {
         stage,
-        Progress::Decided,
         report,
-        Outcome::Decided(reply),
-    )
+        outcome: Outcome::Decided(reply),
+    }
 }
 
-/// An event that is refused: the call only ends.
-pub fn refused<P: Drop>(task: Task<P>, report: Report) -> Stepped<P>
-    ensures { result ≡ record {
-      call = record { stage = Stage.Finish; task = closed Progress.Refused task };
+/// An event that is refused: the call only ends, from this stage.
+pub fn refused<P: Drop>(task: &mut Task<P>, stage: Stage, report: Report) -> Stepped<P>
+    ensures task { task.new ≡ closed Progress.Refused task.old }
+    ensures event { result ≡ record {
+      stage = stage;
       report = report;
       outcome = Outcome.Refused;
     } }
 {
-    let outcome = Outcome::Refused;
-    ended(task, Stage::Finish, Progress::Refused, report, outcome)
+    close(task, Progress::Refused);
+    Stepped {
+        stage,
+        report,
+        outcome: Outcome::Refused,
+    }
 }
 
 // The previous value of the key and the closure's answer.
@@ -279,18 +208,18 @@ pub fn reply_with<P: Drop>(outline: &Op<()>, before: Option<P>, returns: Option<
 
 /// An event that decides a call which has changed the value of its key, or whose new value is already the current one.
 pub fn changed<P: Drop>(
-    task: Task<P>,
+    task: &mut Task<P>,
     stage: Stage,
     report: Report,
     before: Option<P>,
 ) -> Stepped<P>
-    ensures { result ≡ record {
-      call = record { stage = stage; task = closed Progress.Decided task };
+    ensures task { task.new ≡ closed Progress.Decided task.old }
+    ensures event { result ≡ record {
+      stage = stage;
       report = report;
-      outcome = Outcome.Decided (reply_with task.outline before task.returns);
+      outcome = Outcome.Decided (reply_with task.old.outline before task.old.returns);
     } }
 {
-    let mut task = task;
     let returns = task.returns.take();
     let reply = reply_with(&task.outline, before, returns);
     decided(task, stage, report, reply)

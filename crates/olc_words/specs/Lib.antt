@@ -1,2 +1,3 @@
 pub mod Epoch
+pub mod Lives
 pub mod Waiting

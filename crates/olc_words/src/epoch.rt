@@ -4,11 +4,13 @@
 //! once every call in flight has a pin above n. The count saturates at `2^64 - 1`; nodes that are retired from then on
 //! are kept until the tree is dropped.
 
-ghost use Rattle.std.specs.Prelude.{◌≡◌, ℕ, ◌<◌, ◌⊎◌, ◌↔◌, true, false, IsTrue, Some, None, IsSome, IfSome, IfNone, IsOk, OnOk, OnErr, []};
+ghost use Rattle.std.specs.Prelude.{◌≡◌, ℕ, ◌<◌, ◌≤◌, ◌⊎◌, ◌↔◌, true, false, IsTrue, Some, None, IsSome, IfSome, IfNone, IsOk, OnOk, OnErr, []};
 ghost use Rattle.olc_words.specs.Epoch.{is_seated, pin_of, life_of, ChangesSeat, ChangesLife, admitted, StartedAfter, AllStartedAfter, IsReclaimable};
+ghost use Rattle.std.specs.VecDeque.{deque_capacity};
 ghost use Rattle.spec_olc.specs.Retirement.{stamp_at, count_after};
 ghost use Rattle.olc_words.specs.Waiting.{Ascends, Waits, IsFirstWaiting, IsListed, IsWithout};
 
+use crate::lives::Lives;
 use spec_map::error::OOMError;
 use std::alloc::Global;
 use std::collections::{BTreeMap, VecDeque};
@@ -36,7 +38,7 @@ pub enum Life {
 #[derive(Drop)]
 pub struct Pins {
     seats: BTreeMap<u64, Seat>,
-    slots: BTreeMap<usize, Life>,
+    slots: Lives,
     count: u64,
     waiting: VecDeque<(u64, usize)>,
     whole: bool,
@@ -50,11 +52,11 @@ impl Model for Pins {
 
     ghost view = { λ p. record {
       seats = p.seats.entries;
-      slots = p.slots.entries;
+      slots = p.slots;
       count = p.count;
     } };
 
-    ghost invariant = { λ p. IsQueue p.slots.entries p.count p.waiting.items p.whole };
+    ghost invariant = { λ p. IsQueue p.slots p.count p.waiting.items p.whole };
 }
 
 // Whether the call of a seat, if one is in flight, started after the retirement with this stamp.
@@ -103,6 +105,20 @@ fn listed(waiting: &mut VecDeque<(u64, usize)>, whole: bool, stamp: u64, slot: u
     }
 }
 
+// Room for all slots to wait, so that a retirement takes no memory. Doubles it, since `reserve` makes no more than it
+// is asked for once the queue doesn't begin at the start of its block.
+fn make_room(waiting: &mut VecDeque<(u64, usize)>, slots: usize) -> Result<(), OOMError>
+    ensures items { waiting.new.items ≡ waiting.old.items }
+    ensures room { OnOk result (slots ≤ deque_capacity waiting.new) }
+{
+    let room = waiting.capacity();
+    if room < slots {
+        let more = slots.max(room.saturating_mul(2)) - waiting.len();
+        waiting.reserve(more)?;
+    }
+    Ok(())
+}
+
 // Takes a slot out of those that wait.
 fn take_out(waiting: &mut VecDeque<(u64, usize)>, slot: usize)
     requires ordered { (high : ℕ) × Ascends 0 waiting.old.items high }
@@ -127,7 +143,7 @@ impl Pins {
     {
         Pins {
             seats: BTreeMap::new(alloc),
-            slots: BTreeMap::new(alloc),
+            slots: Lives::new(alloc),
             count: 0,
             waiting: VecDeque::new(alloc),
             whole: true,
@@ -146,21 +162,6 @@ impl Pins {
                 pin: None,
             },
         }
-    }
-
-    // Keeps a seat, or drops one that is empty.
-    fn put_seat(&mut self, id: u64, seat: Seat) -> Result<(), OOMError>
-        ensures ok { OnOk result (ChangesSeat self.old self.new id seat.seated seat.pin) }
-        ensures err { OnErr result (self.new ≡ self.old) }
-        ensures granted { (is_seated self.old id ≡ true) ⊎ IsSome (pin_of self.old id)
-            → IsOk result }
-    {
-        if seat.seated || seat.pin.is_some() {
-            self.seats.insert(id, seat)?;
-        } else {
-            self.seats.remove(&id);
-        }
-        Ok(())
     }
 
     /// Whether room is kept for a number.
@@ -189,28 +190,28 @@ impl Pins {
         ensures ok { OnOk result (ChangesSeat self.old self.new id true (pin_of self.old id)) }
         ensures err { OnErr result (self.new ≡ self.old) }
     {
-        let pin = self.seat_at(id).pin;
-        self.put_seat(id, Seat { seated: true, pin })
+        match self.seats.get_mut(&id) {
+            Some(seat) => seat.seated = true,
+            None => {
+                self.seats.insert(
+                    id,
+                    Seat {
+                        seated: true,
+                        pin: None,
+                    },
+                )?;
+            }
+        }
+        Ok(())
     }
 
     /// Frees a number's room. A call in flight keeps its pin, and for a number that isn't seated nothing changes.
     pub fn unseat(&mut self, id: u64)
         ensures { ChangesSeat self.old self.new id false (pin_of self.old id) }
     {
-        match self.seat_at(id).pin {
-            Some(pin) => {
-                let Ok(_) = self.seats.insert(
-                    id,
-                    Seat {
-                        seated: false,
-                        pin: Some(pin),
-                    },
-                )
-                else {
-                    unreachable!()
-                };
-            }
-            None => {
+        match self.seats.get_mut(&id) {
+            Some(seat) if seat.pin.is_some() => seat.seated = false,
+            _ => {
                 self.seats.remove(&id);
             }
         }
@@ -225,14 +226,14 @@ impl Pins {
         ensures err { OnErr result (self.new ≡ self.old) }
         ensures granted { is_seated self.old id ≡ true → IsOk result }
     {
-        let seated = self.seat_at(id).seated;
-        self.put_seat(
-            id,
-            Seat {
-                seated,
-                pin: Some(self.count),
-            },
-        )
+        let pin = Some(self.count);
+        match self.seats.get_mut(&id) {
+            Some(seat) => seat.pin = pin,
+            None => {
+                self.seats.insert(id, Seat { seated: false, pin })?;
+            }
+        }
+        Ok(())
     }
 
     /// Ends the call of this number.
@@ -240,23 +241,11 @@ impl Pins {
         requires { IsSome (pin_of self.old id) }
         ensures { ChangesSeat self.old self.new id (is_seated self.old id) None }
     {
-        let seated = self.seat_at(id).seated;
-        if seated {
-            let Ok(_) = self.seats.insert(id, Seat { seated, pin: None }) else {
-                unreachable!()
-            };
-        } else {
-            self.seats.remove(&id);
-        }
-    }
-
-    // What a slot is once it was admitted.
-    fn admitted_at(&self, slot: usize) -> Life
-        ensures { result ≡ admitted (life_of self.now slot) }
-    {
-        match self.slots.get(&slot) {
-            Some(life) => *life,
-            None => Life::InUse,
+        match self.seats.get_mut(&id) {
+            Some(seat) if seat.seated => seat.pin = None,
+            _ => {
+                self.seats.remove(&id);
+            }
         }
     }
 
@@ -267,10 +256,9 @@ impl Pins {
         ensures count { self.new.count ≡ self.old.count }
         ensures err { OnErr result (self.new ≡ self.old) }
     {
-        let life = self.admitted_at(slot);
-        // as much room as there are slots, so that a retirement takes no memory
-        self.waiting.reserve(self.slots.len() + 1)?;
-        self.slots.insert(slot, life)?;
+        let slots = self.slots.end().max(slot.saturating_add(1));
+        make_room(&mut self.waiting, slots)?;
+        self.slots.admit(slot)?;
         Ok(())
     }
 
@@ -284,9 +272,7 @@ impl Pins {
         let count = self.count;
         let whole = self.whole;
         let stamp = stamp_of(count);
-        let Ok(_) = self.slots.insert(slot, Life::Retired(stamp)) else {
-            unreachable!()
-        };
+        self.slots.put(slot, Life::Retired(stamp));
         if count < u64::MAX {
             let whole = listed(&mut self.waiting, whole, count, slot);
             self.whole = whole;
@@ -298,8 +284,8 @@ impl Pins {
     pub fn may_reclaim(&self, slot: usize) -> bool
         ensures { IsTrue result ↔ IsReclaimable self.now slot }
     {
-        match self.slots.get(&slot) {
-            Some(Life::Retired(Some(stamp))) => self.all_started_after(*stamp),
+        match self.slots.at(slot) {
+            Some(Life::Retired(Some(stamp))) => self.all_started_after(stamp),
             _ => false,
         }
     }
@@ -326,10 +312,7 @@ impl Pins {
         ensures some { IfSome result (λ slot. IsReclaimable self.now slot) }
         ensures none { IfNone result ((slot : ℕ) → IsReclaimable self.now slot → ⊥) }
     {
-        self.slots
-            .keys()
-            .copied()
-            .find(|slot| self.may_reclaim(*slot))
+        (0..self.slots.end()).find(|slot| self.may_reclaim(*slot))
     }
 
     // Whether every call in flight started after the retirement with this stamp.
@@ -345,7 +328,7 @@ impl Pins {
         ensures life { ChangesLife self.old self.new slot None }
         ensures count { self.new.count ≡ self.old.count }
     {
-        let life = self.slots.remove(&slot);
+        let life = self.slots.remove(slot);
         if is_counted(&life) {
             take_out(&mut self.waiting, slot);
         }

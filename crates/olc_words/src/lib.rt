@@ -2,4 +2,5 @@
 #![tactic(auto)]
 
 pub mod epoch;
+mod lives;
 pub mod lock;

@@ -17,16 +17,16 @@ use spec_olc::types::Kind;
 pub(crate) fn detach<P: HasMeaning, A: Allocator>(
     stock: &mut Stock<P, A>,
     pin: u64,
-    task: Task<P>,
+    task: &mut Task<P>,
     pair: NodePair,
 ) -> Stepped<P>
     requires kept { IsStoreSound P.meaning A.charge stock.old }
     requires facts { KnowsAt P.meaning A.charge P.always_shared P.same_meaning
-        stock.old pin task (Tail.Detach pair) }
+        stock.old pin task.old (Tail.Detach pair) }
     requires counted { CountsEntries P.meaning A.charge stock.old }
     ensures moves { (env : Env P) → MovesBy P.meaning A.charge P.always_shared
-        P.same_meaning stock.old stock.new pin task (Tail.Detach pair) env
-        result.call result.report result.outcome }
+        P.same_meaning stock.old stock.new pin task.old (Tail.Detach pair) env
+        (record { stage = result.stage; task = task.new }) result.report result.outcome }
 {
     let (slot, leaf) = (pair.above.slot, pair.here.slot);
     let key = task.outline.key();

@@ -45,22 +45,22 @@ fn is_open(progress: Progress) -> bool
 pub(crate) fn unlock<P: HasMeaning, A: Allocator>(
     stock: &mut Stock<P, A>,
     pin: u64,
-    task: Task<P>,
+    task: &mut Task<P>,
     spot: Spot,
 ) -> Stepped<P>
     requires kept { IsStoreSound P.meaning A.charge stock.old }
     requires facts { KnowsAt P.meaning A.charge P.always_shared P.same_meaning
-        stock.old pin task (Tail.Unlock spot) }
+        stock.old pin task.old (Tail.Unlock spot) }
     ensures moves { (env : Env P) → MovesBy P.meaning A.charge P.always_shared
-        P.same_meaning stock.old stock.new pin task (Tail.Unlock spot) env
-        result.call result.report result.outcome }
+        P.same_meaning stock.old stock.new pin task.old (Tail.Unlock spot) env
+        (record { stage = result.stage; task = task.new }) result.report result.outcome }
 {
     unlock_node(&mut stock.store, spot);
     let report = report(Kind::Unlock, spot.slot, 0, true);
     if is_open(task.progress) {
         back(task, report)
     } else {
-        going(task, Stage::Finish, report)
+        going(Stage::Finish, report)
     }
 }
 
@@ -68,36 +68,36 @@ pub(crate) fn unlock<P: HasMeaning, A: Allocator>(
 pub(crate) fn unlock_below<P: HasMeaning, A: Allocator>(
     stock: &mut Stock<P, A>,
     pin: u64,
-    task: Task<P>,
+    task: &mut Task<P>,
     pair: NodePair,
 ) -> Stepped<P>
     requires kept { IsStoreSound P.meaning A.charge stock.old }
     requires facts { KnowsAt P.meaning A.charge P.always_shared P.same_meaning
-        stock.old pin task (Tail.UnlockBelow pair) }
+        stock.old pin task.old (Tail.UnlockBelow pair) }
     ensures moves { (env : Env P) → MovesBy P.meaning A.charge P.always_shared
-        P.same_meaning stock.old stock.new pin task (Tail.UnlockBelow pair) env
-        result.call result.report result.outcome }
+        P.same_meaning stock.old stock.new pin task.old (Tail.UnlockBelow pair) env
+        (record { stage = result.stage; task = task.new }) result.report result.outcome }
 {
     unlock_node(&mut stock.store, pair.here);
     let report = report(Kind::Unlock, pair.here.slot, 0, true);
-    going(task, Stage::Tail(Tail::Unlock(pair.above)), report)
+    going(Stage::Tail(Tail::Unlock(pair.above)), report)
 }
 
 /// Marks the node obsolete that is no longer in the tree.
 pub(crate) fn obsolete<P: HasMeaning, A: Allocator>(
     stock: &mut Stock<P, A>,
     pin: u64,
-    task: Task<P>,
+    task: &mut Task<P>,
     pair: NodePair,
 ) -> Stepped<P>
     requires kept { IsStoreSound P.meaning A.charge stock.old }
     requires facts { KnowsAt P.meaning A.charge P.always_shared P.same_meaning
-        stock.old pin task (Tail.Obsolete pair) }
+        stock.old pin task.old (Tail.Obsolete pair) }
     ensures moves { (env : Env P) → MovesBy P.meaning A.charge P.always_shared
-        P.same_meaning stock.old stock.new pin task (Tail.Obsolete pair) env
-        result.call result.report result.outcome }
+        P.same_meaning stock.old stock.new pin task.old (Tail.Obsolete pair) env
+        (record { stage = result.stage; task = task.new }) result.report result.outcome }
 {
     stock.store.retire(pair.here.slot);
     let report = report(Kind::Obsolete, pair.here.slot, 0, true);
-    going(task, Stage::Tail(Tail::Unlock(pair.above)), report)
+    going(Stage::Tail(Tail::Unlock(pair.above)), report)
 }

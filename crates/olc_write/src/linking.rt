@@ -29,21 +29,20 @@ use spec_olc::types::Kind;
 pub(crate) fn write<P: HasMeaning, A: Allocator>(
     stock: &mut Stock<P, A>,
     pin: u64,
-    task: Task<P>,
+    task: &mut Task<P>,
     spot: Spot,
 ) -> Stepped<P>
     requires kept { IsStoreSound P.meaning A.charge stock.old }
     requires facts { KnowsAt P.meaning A.charge P.always_shared P.same_meaning
-        stock.old pin task (Tail.Write spot) }
+        stock.old pin task.old (Tail.Write spot) }
     requires counted { CountsEntries P.meaning A.charge stock.old }
     ensures moves { (env : Env P) → MovesBy P.meaning A.charge P.always_shared
-        P.same_meaning stock.old stock.new pin task (Tail.Write spot) env
-        result.call result.report result.outcome }
+        P.same_meaning stock.old stock.new pin task.old (Tail.Write spot) env
+        (record { stage = result.stage; task = task.new }) result.report result.outcome }
 {
     let slot = spot.slot;
     let byte = byte_below(&stock.store, slot, task.outline.key());
-    let mut task = task;
-    let value = take_stored(&mut task);
+    let value = take_stored(task);
     let stores = value.is_some();
     let before = set_payload(&mut stock.store, slot, byte, value);
     stock.entries = counted(stock.entries, before.is_some(), stores);
@@ -94,17 +93,17 @@ fn counted(entries: u128, had: bool, has: bool) -> u128
 pub(crate) fn link<P: HasMeaning, A: Allocator>(
     stock: &mut Stock<P, A>,
     pin: u64,
-    task: Task<P>,
+    task: &mut Task<P>,
     spot: Spot,
     leaf: usize,
 ) -> Stepped<P>
     requires kept { IsStoreSound P.meaning A.charge stock.old }
     requires facts { KnowsAt P.meaning A.charge P.always_shared P.same_meaning
-        stock.old pin task (Tail.Link spot leaf) }
+        stock.old pin task.old (Tail.Link spot leaf) }
     requires counted { CountsEntries P.meaning A.charge stock.old }
     ensures moves { (env : Env P) → MovesBy P.meaning A.charge P.always_shared
-        P.same_meaning stock.old stock.new pin task (Tail.Link spot leaf) env
-        result.call result.report result.outcome }
+        P.same_meaning stock.old stock.new pin task.old (Tail.Link spot leaf) env
+        (record { stage = result.stage; task = task.new }) result.report result.outcome }
 {
     let slot = spot.slot;
     let byte = byte_below(&stock.store, slot, task.outline.key());

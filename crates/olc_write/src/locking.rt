@@ -56,17 +56,17 @@ fn lock<P: HasMeaning>(store: &mut Store<P>, spot: Spot, fail: bool) -> bool
 pub(crate) fn upgrade<P: HasMeaning, A: Allocator>(
     stock: &mut Stock<P, A>,
     pin: u64,
-    task: Task<P>,
+    task: &mut Task<P>,
     path: Path,
     small: Small,
     fail: bool,
 ) -> Stepped<P>
     requires kept { IsStoreSound P.meaning A.charge stock.old }
     requires facts { KnowsAt P.meaning A.charge P.always_shared P.same_meaning
-        stock.old pin task (Tail.Upgrade path small) }
+        stock.old pin task.old (Tail.Upgrade path small) }
     ensures moves { (env : Env P) → env.fail ≡ fail → MovesBy P.meaning A.charge P.always_shared
-        P.same_meaning stock.old stock.new pin task (Tail.Upgrade path small) env
-        result.call result.report result.outcome }
+        P.same_meaning stock.old stock.new pin task.old (Tail.Upgrade path small) env
+        (record { stage = result.stage; task = task.new }) result.report result.outcome }
 {
     let spot = path.here;
     if lock(&mut stock.store, spot, fail) {
@@ -74,11 +74,7 @@ pub(crate) fn upgrade<P: HasMeaning, A: Allocator>(
             Small::Entry => Tail::Write(spot),
             Small::Leaf => Tail::MakeLeaf(spot),
         };
-        going(
-            task,
-            Stage::Tail(next),
-            report(Kind::Upgrade, spot.slot, 0, true),
-        )
+        going(Stage::Tail(next), report(Kind::Upgrade, spot.slot, 0, true))
     } else {
         back(task, report(Kind::Upgrade, spot.slot, 0, false))
     }
@@ -88,22 +84,22 @@ pub(crate) fn upgrade<P: HasMeaning, A: Allocator>(
 pub(crate) fn upgrade_above<P: HasMeaning, A: Allocator>(
     stock: &mut Stock<P, A>,
     pin: u64,
-    task: Task<P>,
+    task: &mut Task<P>,
     pair: NodePair,
     large: Large,
     fail: bool,
 ) -> Stepped<P>
     requires kept { IsStoreSound P.meaning A.charge stock.old }
     requires facts { KnowsAt P.meaning A.charge P.always_shared P.same_meaning
-        stock.old pin task (Tail.UpgradeAbove pair large) }
+        stock.old pin task.old (Tail.UpgradeAbove pair large) }
     ensures moves { (env : Env P) → env.fail ≡ fail → MovesBy P.meaning A.charge P.always_shared
-        P.same_meaning stock.old stock.new pin task (Tail.UpgradeAbove pair large) env
-        result.call result.report result.outcome }
+        P.same_meaning stock.old stock.new pin task.old (Tail.UpgradeAbove pair large) env
+        (record { stage = result.stage; task = task.new }) result.report result.outcome }
 {
     let spot = pair.above;
     if lock(&mut stock.store, spot, fail) {
         let report = report(Kind::Upgrade, spot.slot, 0, true);
-        going(task, Stage::Tail(Tail::UpgradeBelow(pair, large)), report)
+        going(Stage::Tail(Tail::UpgradeBelow(pair, large)), report)
     } else {
         back(task, report(Kind::Upgrade, spot.slot, 0, false))
     }
@@ -113,17 +109,17 @@ pub(crate) fn upgrade_above<P: HasMeaning, A: Allocator>(
 pub(crate) fn upgrade_below<P: HasMeaning, A: Allocator>(
     stock: &mut Stock<P, A>,
     pin: u64,
-    task: Task<P>,
+    task: &mut Task<P>,
     pair: NodePair,
     large: Large,
     fail: bool,
 ) -> Stepped<P>
     requires kept { IsStoreSound P.meaning A.charge stock.old }
     requires facts { KnowsAt P.meaning A.charge P.always_shared P.same_meaning
-        stock.old pin task (Tail.UpgradeBelow pair large) }
+        stock.old pin task.old (Tail.UpgradeBelow pair large) }
     ensures moves { (env : Env P) → env.fail ≡ fail → MovesBy P.meaning A.charge P.always_shared
-        P.same_meaning stock.old stock.new pin task (Tail.UpgradeBelow pair large) env
-        result.call result.report result.outcome }
+        P.same_meaning stock.old stock.new pin task.old (Tail.UpgradeBelow pair large) env
+        (record { stage = result.stage; task = task.new }) result.report result.outcome }
 {
     let spot = pair.here;
     if lock(&mut stock.store, spot, fail) {
@@ -132,13 +128,9 @@ pub(crate) fn upgrade_below<P: HasMeaning, A: Allocator>(
             Large::GrowInner | Large::Split => Tail::MakeLeafBelow(pair, large),
             Large::Detach => Tail::Detach(pair),
         };
-        going(
-            task,
-            Stage::Tail(next),
-            report(Kind::Upgrade, spot.slot, 0, true),
-        )
+        going(Stage::Tail(next), report(Kind::Upgrade, spot.slot, 0, true))
     } else {
         let report = report(Kind::Upgrade, spot.slot, 0, false);
-        going(task, Stage::Tail(Tail::Unlock(pair.above)), report)
+        going(Stage::Tail(Tail::Unlock(pair.above)), report)
     }
 }

@@ -26,7 +26,7 @@ use node_table::allocator::Allocator;
 use node_table::child::{Child, ChildRef};
 use node_table::tree_node::TreeNode;
 use olc_state::stage::{Spot, Stage, Task};
-use olc_state::stepped::{Stepped, ended, going, node_at};
+use olc_state::stepped::{Stepped, going, node_at, refused};
 use olc_state::stock::Stock;
 use olc_state::tail::{Large, NodePair, Tail};
 use spec_map::error::OOMError;
@@ -35,9 +35,9 @@ use spec_olc::types::{Kind, Outcome, Progress, Report};
 use std::alloc::Global;
 
 // A call that has made a node.
-fn makes<P>(task: Task<P>, tail: Tail, slot: usize) -> Stepped<P>
+fn makes<P>(tail: Tail, slot: usize) -> Stepped<P>
     ensures { result ≡ record {
-      call = record { stage = Stage.Tail tail; task = task };
+      stage = Stage.Tail tail;
       report = report_of Kind.Make (Some slot) 0 true;
       outcome = Outcome.Going;
     } }
@@ -48,16 +48,14 @@ fn makes<P>(task: Task<P>, tail: Tail, slot: usize) -> Stepped<P>
         word: 0,
         ok: true,
     };
-    going(task, Stage::Tail(tail), report)
+    going(Stage::Tail(tail), report)
 }
 
 // A call whose Make is refused: it only unlocks, and ends.
-fn gives_up<P: Drop>(task: Task<P>, tail: Tail) -> Stepped<P>
-    ensures { result ≡ record {
-      call = record {
-        stage = Stage.Tail tail;
-        task = closed Progress.Refused task;
-      };
+fn gives_up<P: Drop>(task: &mut Task<P>, tail: Tail) -> Stepped<P>
+    ensures task { task.new ≡ closed Progress.Refused task.old }
+    ensures event { result ≡ record {
+      stage = Stage.Tail tail;
       report = report_of Kind.Make None 0 true;
       outcome = Outcome.Refused;
     } }
@@ -68,8 +66,7 @@ fn gives_up<P: Drop>(task: Task<P>, tail: Tail) -> Stepped<P>
         word: 0,
         ok: true,
     };
-    let stage = Stage::Tail(tail);
-    ended(task, stage, Progress::Refused, report, Outcome::Refused)
+    refused(task, Stage::Tail(tail), report)
 }
 
 // Charges a node and puts it into a free slot. A refusal changes no node and no charge.
@@ -311,19 +308,19 @@ fn copy_for<P: HasMeaning>(
 pub(crate) fn make_leaf<P: HasMeaning, A: Allocator>(
     stock: &mut Stock<P, A>,
     pin: u64,
-    task: Task<P>,
+    task: &mut Task<P>,
     spot: Spot,
 ) -> Stepped<P>
     requires kept { IsStoreSound P.meaning A.charge stock.old }
     requires facts { KnowsAt P.meaning A.charge P.always_shared P.same_meaning
-        stock.old pin task (Tail.MakeLeaf spot) }
+        stock.old pin task.old (Tail.MakeLeaf spot) }
     ensures moves { (env : Env P) → MovesBy P.meaning A.charge P.always_shared
-        P.same_meaning stock.old stock.new pin task (Tail.MakeLeaf spot) env
-        result.call result.report result.outcome }
+        P.same_meaning stock.old stock.new pin task.old (Tail.MakeLeaf spot) env
+        (record { stage = result.stage; task = task.new }) result.report result.outcome }
 {
-    let built = leaf_for(&task, stock.alloc);
+    let built = leaf_for(task, stock.alloc);
     match make_node(stock, built, None) {
-        Some(leaf) => makes(task, Tail::Link(spot, leaf), leaf),
+        Some(leaf) => makes(Tail::Link(spot, leaf), leaf),
         None => gives_up(task, Tail::Unlock(spot)),
     }
 }
@@ -332,20 +329,20 @@ pub(crate) fn make_leaf<P: HasMeaning, A: Allocator>(
 pub(crate) fn make_leaf_below<P: HasMeaning, A: Allocator>(
     stock: &mut Stock<P, A>,
     pin: u64,
-    task: Task<P>,
+    task: &mut Task<P>,
     pair: NodePair,
     large: Large,
 ) -> Stepped<P>
     requires kept { IsStoreSound P.meaning A.charge stock.old }
     requires facts { KnowsAt P.meaning A.charge P.always_shared P.same_meaning
-        stock.old pin task (Tail.MakeLeafBelow pair large) }
+        stock.old pin task.old (Tail.MakeLeafBelow pair large) }
     ensures moves { (env : Env P) → MovesBy P.meaning A.charge P.always_shared
-        P.same_meaning stock.old stock.new pin task (Tail.MakeLeafBelow pair large) env
-        result.call result.report result.outcome }
+        P.same_meaning stock.old stock.new pin task.old (Tail.MakeLeafBelow pair large) env
+        (record { stage = result.stage; task = task.new }) result.report result.outcome }
 {
-    let built = leaf_for(&task, stock.alloc);
+    let built = leaf_for(task, stock.alloc);
     match make_node(stock, built, None) {
-        Some(leaf) => makes(task, after_leaf(pair, large, leaf), leaf),
+        Some(leaf) => makes(after_leaf(pair, large, leaf), leaf),
         None => gives_up(task, Tail::UnlockBelow(pair)),
     }
 }
@@ -354,21 +351,21 @@ pub(crate) fn make_leaf_below<P: HasMeaning, A: Allocator>(
 pub(crate) fn grow<P: HasMeaning, A: Allocator>(
     stock: &mut Stock<P, A>,
     pin: u64,
-    task: Task<P>,
+    task: &mut Task<P>,
     pair: NodePair,
     leaf: Option<usize>,
 ) -> Stepped<P>
     requires kept { IsStoreSound P.meaning A.charge stock.old }
     requires facts { KnowsAt P.meaning A.charge P.always_shared P.same_meaning
-        stock.old pin task (Tail.Grow pair leaf) }
+        stock.old pin task.old (Tail.Grow pair leaf) }
     ensures moves { (env : Env P) → MovesBy P.meaning A.charge P.always_shared
-        P.same_meaning stock.old stock.new pin task (Tail.Grow pair leaf) env
-        result.call result.report result.outcome }
+        P.same_meaning stock.old stock.new pin task.old (Tail.Grow pair leaf) env
+        (record { stage = result.stage; task = task.new }) result.report result.outcome }
 {
     let node = &node_at(&stock.store, pair.here.slot).node;
-    let built = copy_for(node, &task, leaf, stock.alloc);
+    let built = copy_for(node, task, leaf, stock.alloc);
     match make_node(stock, built, leaf) {
-        Some(copy) => makes(task, Tail::Replace(pair, copy, leaf), copy),
+        Some(copy) => makes(Tail::Replace(pair, copy, leaf), copy),
         None => gives_up(task, Tail::UnlockBelow(pair)),
     }
 }
@@ -377,21 +374,21 @@ pub(crate) fn grow<P: HasMeaning, A: Allocator>(
 pub(crate) fn make_middle<P: HasMeaning, A: Allocator>(
     stock: &mut Stock<P, A>,
     pin: u64,
-    task: Task<P>,
+    task: &mut Task<P>,
     pair: NodePair,
     leaf: usize,
 ) -> Stepped<P>
     requires kept { IsStoreSound P.meaning A.charge stock.old }
     requires facts { KnowsAt P.meaning A.charge P.always_shared P.same_meaning
-        stock.old pin task (Tail.MakeMiddle pair leaf) }
+        stock.old pin task.old (Tail.MakeMiddle pair leaf) }
     ensures moves { (env : Env P) → MovesBy P.meaning A.charge P.always_shared
-        P.same_meaning stock.old stock.new pin task (Tail.MakeMiddle pair leaf) env
-        result.call result.report result.outcome }
+        P.same_meaning stock.old stock.new pin task.old (Tail.MakeMiddle pair leaf) env
+        (record { stage = result.stage; task = task.new }) result.report result.outcome }
 {
     let node = &node_at(&stock.store, pair.here.slot).node;
     let built = middle_for(node, task.outline.key(), pair.here.slot, leaf, stock.alloc);
     match make_node(stock, built, Some(leaf)) {
-        Some(middle) => makes(task, Tail::Insert(pair, middle, leaf), middle),
+        Some(middle) => makes(Tail::Insert(pair, middle, leaf), middle),
         None => gives_up(task, Tail::UnlockBelow(pair)),
     }
 }

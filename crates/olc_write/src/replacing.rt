@@ -24,18 +24,18 @@ use spec_olc::types::Kind;
 pub(crate) fn replace<P: HasMeaning, A: Allocator>(
     stock: &mut Stock<P, A>,
     pin: u64,
-    task: Task<P>,
+    task: &mut Task<P>,
     pair: NodePair,
     copy: usize,
     leaf: Option<usize>,
 ) -> Stepped<P>
     requires kept { IsStoreSound P.meaning A.charge stock.old }
     requires facts { KnowsAt P.meaning A.charge P.always_shared P.same_meaning
-        stock.old pin task (Tail.Replace pair copy leaf) }
+        stock.old pin task.old (Tail.Replace pair copy leaf) }
     requires counted { CountsEntries P.meaning A.charge stock.old }
     ensures moves { (env : Env P) → MovesBy P.meaning A.charge P.always_shared
-        P.same_meaning stock.old stock.new pin task (Tail.Replace pair copy leaf) env
-        result.call result.report result.outcome }
+        P.same_meaning stock.old stock.new pin task.old (Tail.Replace pair copy leaf) env
+        (record { stage = result.stage; task = task.new }) result.report result.outcome }
 {
     let slot = pair.above.slot;
     let byte = byte_below(&stock.store, slot, task.outline.key());
@@ -51,18 +51,18 @@ pub(crate) fn replace<P: HasMeaning, A: Allocator>(
 pub(crate) fn insert<P: HasMeaning, A: Allocator>(
     stock: &mut Stock<P, A>,
     pin: u64,
-    task: Task<P>,
+    task: &mut Task<P>,
     pair: NodePair,
     middle: usize,
     leaf: usize,
 ) -> Stepped<P>
     requires kept { IsStoreSound P.meaning A.charge stock.old }
     requires facts { KnowsAt P.meaning A.charge P.always_shared P.same_meaning
-        stock.old pin task (Tail.Insert pair middle leaf) }
+        stock.old pin task.old (Tail.Insert pair middle leaf) }
     requires counted { CountsEntries P.meaning A.charge stock.old }
     ensures moves { (env : Env P) → MovesBy P.meaning A.charge P.always_shared
-        P.same_meaning stock.old stock.new pin task (Tail.Insert pair middle leaf) env
-        result.call result.report result.outcome }
+        P.same_meaning stock.old stock.new pin task.old (Tail.Insert pair middle leaf) env
+        (record { stage = result.stage; task = task.new }) result.report result.outcome }
 {
     let slot = pair.above.slot;
     let byte = byte_below(&stock.store, slot, task.outline.key());

@@ -11,7 +11,7 @@ use crate::locking::{upgrade, upgrade_above, upgrade_below};
 use crate::making::{grow, make_leaf, make_leaf_below, make_middle};
 use crate::replacing::{insert, replace};
 use node_table::allocator::Allocator;
-use olc_state::stage::{Stage, Task};
+use olc_state::stage::Task;
 use olc_state::stepped::Stepped;
 use olc_state::stock::Stock;
 use olc_state::tail::Tail;
@@ -21,17 +21,17 @@ use spec_olc::payload::HasMeaning;
 pub fn write_on<P: HasMeaning, A: Allocator>(
     stock: &mut Stock<P, A>,
     pin: u64,
-    task: Task<P>,
+    task: &mut Task<P>,
     tail: Tail,
     fail: bool,
 ) -> Stepped<P>
     requires kept { IsStoreSound P.meaning A.charge stock.old }
     requires facts { KnowsAt P.meaning A.charge P.always_shared P.same_meaning
-        stock.old pin task tail }
+        stock.old pin task.old tail }
     requires counted { CountsEntries P.meaning A.charge stock.old }
     ensures moves { (env : Env P) → env.fail ≡ fail → MovesBy P.meaning A.charge P.always_shared
-        P.same_meaning stock.old stock.new pin task tail env
-        result.call result.report result.outcome }
+        P.same_meaning stock.old stock.new pin task.old tail env
+        (record { stage = result.stage; task = task.new }) result.report result.outcome }
 {
     match tail {
         Tail::Upgrade(path, small) => upgrade(stock, pin, task, path, small, fail),

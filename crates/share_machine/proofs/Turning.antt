@@ -192,7 +192,7 @@ module _ {M : Type 0} where
     found calm Going planned b h = let l = looked_on call.outline old call planned h in going Going refl calm old planned b l.0 l.1
     found calm (Ask asked) planned b h =
         by_plan (Ask asked) old planned b
-        (subst (λ (f : CallState M). Turns (stage_of call) env.answer report.kind (Some (stage_of f)) (Ask asked)) (sym h.1)
+        (subst (λ (f : CallState M). Turns (stage_of call) env.answer report.kind (Some (stage_of f)) (Ask asked)) (sym h.2)
         (asks call.outline call.op call.progress call.asking asked env.answer report.kind h.0.undecided))
     found calm (Pair key value) planned b h =
         let l = went_on call (record call { cursor = key + 1; reach = key + 1; given = call.given + 1 }) planned (record { outline = refl; op = refl; progress = refl }) refl h.next_is in

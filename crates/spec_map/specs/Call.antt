@@ -11,11 +11,9 @@ pub data Call (K V : Type 0) : Type 0 where
   compute_if_present : K → Call K V
   compute_or_insert : K → Call K V
   is_empty : Call K V
-  value_count : Call K V
   keys : Call K V
   -- from a key on, below a key, at most so many pairs
   range : K → K → ℕ → Call K V
-  drain : Call K V
 
 -- What the closure of a call was called with and what it returned, if it was called. It is passed what is stored, of
 -- type P, and returns such a value, or nothing.
@@ -31,10 +29,8 @@ pub data Reply (K V P : Type 0) : Type 0 where
   -- the previous value and what the closure returned; none if it wasn't called
   computed : Option (P × Option P) → Reply K V P
   tested : Bool → Reply K V P
-  counted : ℕ → Reply K V P
   listed : List K → Reply K V P
   ranged : List (ℕ × P) → Reply K V P
-  drained : List (K × V) → Reply K V P
 
 -- the outcome: a reply, or a refusal for lack of memory
 pub data Answer (K V P : Type 0) : Type 0 where

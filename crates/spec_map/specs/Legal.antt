@@ -2,8 +2,8 @@
 use Rattle.std.specs.Prelude.{◌≡◌, ℕ, ◌<◌, ◌^◌, Bool, List, [], ◌∷◌, Option, Some, None, Result, Ok, Err, if◌then◌else◌, ◌==◌, length, map, take}
 use Rattle.std.specs.List.{AllByRecursion}
 use Rattle.spec_map.specs.Map.{Pairs, lookup, put, without, with_answer, between}
-use Rattle.spec_map.specs.Call.{Call, get, insert, remove, compare_exchange, compute_if_present, compute_or_insert, is_empty, value_count, keys, range, drain}
-use Rattle.spec_map.specs.Call.{Reply, old_value, exchanged, computed, tested, counted, listed, ranged, drained}
+use Rattle.spec_map.specs.Call.{Call, get, insert, remove, compare_exchange, compute_if_present, compute_or_insert, is_empty, keys, range}
+use Rattle.spec_map.specs.Call.{Reply, old_value, exchanged, computed, tested, listed, ranged}
 use Rattle.spec_map.specs.Call.{ClosureCall, Answer, replied, refused, Operation}
 use Rattle.spec_map.specs.Refusal.{MayRunOut, MayRefuse}
 
@@ -56,10 +56,8 @@ module _ {P : Type 0} (same : P → P → Bool) where
   apply m (compute_if_present k) asked = (computed (computed_by asked), after_asking m k asked)
   apply m (compute_or_insert k) asked = (old_value (lookup m k), after_asking m k asked)
   apply m is_empty asked = (tested (length m == 0), m)
-  apply m value_count asked = (counted (length m), m)
   apply m keys asked = (listed (map (λ e. e.0) m), m)
   apply m (range a b n) asked = (ranged (take n (between m a b)), m)
-  apply m drain asked = (drained m, [])
 
   abbrev pub reply_of : Pairs P → Call ℕ P → ClosureCall P → Reply ℕ P P
   reply_of m call asked = (apply m call asked).0
@@ -91,17 +89,11 @@ module _ {P : Type 0} (same : P → P → Bool) where
 
 -- the keys that a call may enter have 64 bits
 abbrev pub KeyFitsU64 : {P : Type 0} → Call ℕ P → Type 0
-KeyFitsU64 (get k) = Unit {0}
 KeyFitsU64 (insert k v) = k < 2 ^ 64
-KeyFitsU64 (remove k) = Unit {0}
 KeyFitsU64 (compare_exchange k old new) = k < 2 ^ 64
 KeyFitsU64 (compute_if_present k) = k < 2 ^ 64
 KeyFitsU64 (compute_or_insert k) = k < 2 ^ 64
-KeyFitsU64 is_empty = Unit {0}
-KeyFitsU64 value_count = Unit {0}
-KeyFitsU64 keys = Unit {0}
-KeyFitsU64 (range a b n) = Unit {0}
-KeyFitsU64 drain = Unit {0}
+KeyFitsU64 call = Unit {0}
 
 abbrev pub KeysFitU64 : {P : Type 0} → List (Operation ℕ P P) → Type 0
 KeysFitU64 operations = AllByRecursion (λ operation. KeyFitsU64 operation.call) operations

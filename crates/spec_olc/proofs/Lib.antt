@@ -6,6 +6,7 @@ pub mod Same
 pub mod Lines
 pub mod Ordering
 pub mod LinearBreaks
+pub mod LinearHistory
 pub mod Obsolete
 pub mod Leaves
 pub mod Seated

@@ -17,7 +17,7 @@ module _ (start end limit : ℕ) where
   -- a pair that isn't stored
   pub breaks_absent : (x : Reported) (key value : ℕ) → x.out ≡ Pair key value → lookup x.content key ≡ None → IsScan start end limit (x ∷ []) → ⊥
   breaks_absent x key value e none scan =
-      let stood : lookup x.content key ≡ Some value = subst (λ (o : Outcome ℕ). WasStored o x.content) e scan.stood.0 in
+      let stood : lookup x.content key ≡ Some value = subst (λ (o : Outcome ℕ). WasStored o x.content) e scan.was_stored.0 in
       none_some value (sym none ∙ stood)
 
   given_one : (x : Reported) (key value : ℕ) → x.out ≡ Pair key value → given (x ∷ []) ≡ (key, value) ∷ []

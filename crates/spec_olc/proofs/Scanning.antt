@@ -39,7 +39,7 @@ some_at (Some v) h = (v, refl)
 
 -- what the rest of a range gives, from this call on
 record Kept (b n : ℕ) (call : CallState ℕ) (told : List Reported) : Type 0 where
-  pub stood : AllWereStored told
+  pub was_stored : AllWereStored told
   pub ascend : Rises call.cursor b (given told)
   pub at_most : call.given + length (given told) ≤ n
   pub complete : Ends told → (key : ℕ) → call.reach ≤ key → key < b → IsStoredThroughout key told
@@ -47,7 +47,7 @@ record Kept (b n : ℕ) (call : CallState ℕ) (told : List Reported) : Type 0 w
 
 -- a refused one gives no more
 record Silent (told : List Reported) : Type 0 where
-  pub stood : AllWereStored told
+  pub was_stored : AllWereStored told
   pub none : given told ≡ []
 
 -- the first pair given, and those after it
@@ -115,12 +115,12 @@ module _ (id : ℕ) where
   silent_step : (new : State ℕ) (out : Outcome ℕ) (m : Pairs ℕ) (later : List Reported) → Drops id new out
       → ((next : CallState ℕ) → lookup new.calls id ≡ Some next → next.progress ≡ progress.Refused → Silent later)
       → Silent (record { out = out; content = m } ∷ unless_done out later)
-  silent_step new Going m later d rest = let s = rest d.0 d.1 d.2 in record { stood = (tt, s.stood); none = s.none }
-  silent_step new Done m later d rest = record { stood = (tt, tt); none = refl }
+  silent_step new Going m later d rest = let s = rest d.0 d.1 d.2 in record { was_stored = (tt, s.was_stored); none = s.none }
+  silent_step new Done m later d rest = record { was_stored = (tt, tt); none = refl }
   silent_step new _ m later d rest = absurd d
 
   silent : (now : State ℕ) (m : Pairs ℕ) (xs : List Transition) (n : Pairs ℕ) → IsMachineRun now m xs n → (call : CallState ℕ) → lookup now.calls id ≡ Some call → call.progress ≡ progress.Refused → Silent (reports_to id xs)
-  silent now m [] n run call at dropped = record { stood = tt; none = refl }
+  silent now m [] n run call at dropped = record { was_stored = tt; none = refl }
   silent now m (x ∷ xs) n run call at dropped =
       elim (turn now x.after call x.event x.line run.0.happens at) [
         | inl quiet ↦
@@ -147,7 +147,7 @@ module _ (id : ℕ) where
         let kept = rest next h.1 h.2 in
         let on = h.3 in
         record {
-          stood = (tt, kept.stood);
+          was_stored = (tt, kept.was_stored);
           ascend = Rises-wider next.cursor b call.cursor b (given later) on.onward (omega arith) kept.ascend;
           at_most = omega (arith, kept.at_most, on.as_many);
           complete = λ ends key from to at_key.
@@ -165,7 +165,7 @@ module _ (id : ℕ) where
         let kept = rest next h.1 h.2 in
         let now = h.3 in
         record {
-          stood = ((content.pairs k v).1 now.at_key, kept.stood);
+          was_stored = ((content.pairs k v).1 now.at_key, kept.was_stored);
           ascend = (
             omega (arith, now.from, w.order),
             now.below,
@@ -186,14 +186,14 @@ module _ (id : ℕ) where
     walk_step new call Refused m later content w h rest over =
         let s = over h.0 h.1 h.2 in
         record {
-          stood = (tt, s.stood);
+          was_stored = (tt, s.was_stored);
           ascend = subst (λ (g : Pairs ℕ). Rises call.cursor b g) (sym s.none) tt;
           at_most = omega (arith, ap length s.none, w.most);
           complete = λ ends. absurd ends;
         }
     walk_step new call Done m later content w h rest over =
         record {
-          stood = (tt, tt);
+          was_stored = (tt, tt);
           ascend = tt;
           at_most = omega (arith, w.most);
           complete = λ ends key from to at_key.
@@ -207,7 +207,7 @@ module _ (id : ℕ) where
     walk_step new call Unknown m later content w h rest over = absurd h
 
     walk : (now : State ℕ) (m : Pairs ℕ) (xs : List Transition) (last : Pairs ℕ) → IsMachineRun now m xs last → (call : CallState ℕ) → lookup now.calls id ≡ Some call → IsWalking a b n call → Kept b n call (reports_to id xs)
-    walk now m [] last run call at w = record { stood = tt; ascend = tt; at_most = omega (arith, w.most); complete = λ ends. absurd ends }
+    walk now m [] last run call at w = record { was_stored = tt; ascend = tt; at_most = omega (arith, w.most); complete = λ ends. absurd ends }
     walk now m (x ∷ xs) last run call at w =
         elim (turn now x.after call x.event x.line run.0.happens at) [
           | inl quiet ↦
@@ -229,7 +229,7 @@ module _ (id : ℕ) where
         let w : IsWalking a b n (begun (Range a b n) count) = record { outline = refl; op = op_is; undecided = refl; order = omega arith; most = omega arith } in
         let kept = walk now m xs last run (begun (Range a b n) count) at w in
         record {
-          stood = (tt, kept.stood);
+          was_stored = (tt, kept.was_stored);
           ascend = kept.ascend;
           at_most = omega (arith, kept.at_most);
           complete = λ ends key from to at_key.

@@ -37,7 +37,7 @@ module _ {M : Type 0} where
       (range : IsPoint call.outline → ⊥) (none : call.held ≡ []) where
     finds_held : (next : CallState M) (o : Outcome M) → CheckOutcome Granted same old call next o → next.held ≡ call.held
     finds_held next outcome.Going h = looks_held call.outline old call next h
-    finds_held next (outcome.Ask asked) h = ap (λ (f : CallState M). f.held) h.1
+    finds_held next (outcome.Ask asked) h = ap (λ (f : CallState M). f.held) h.2
     finds_held next (outcome.Pair key value) h = goes_held (record call { cursor = key + 1; reach = key + 1; given = call.given + 1 }) next h.next_is
     finds_held next (outcome.Decided reply) h = ap (λ (f : CallState M). f.held) h.2
     finds_held next _ h = absurd h

@@ -1,5 +1,5 @@
 -- The reachable nodes, and the map that they store.
-use Rattle.std.specs.Prelude.{◌≡◌, ℕ, [], ◌∷◌, ◌++◌, Some, ◌↔◌}
+use Rattle.std.specs.Prelude.{◌≡◌, ℕ, [], ◌∷◌, ◌++◌, Option, Some, None, ◌↔◌}
 use Rattle.node_table.specs.Key.{low}
 use Rattle.spec_map.specs.Map.{Pairs, lookup, IsMap}
 use Rattle.node_table.specs.declared.child.Child.{Child}
@@ -28,6 +28,11 @@ module _ {M : Type 0} where
     pub byte : ℕ
     pub payload : HasEntry s slot byte (Payload value)
     pub key_is : key ≡ low (payload.above.node.prefix ++ byte ∷ [])
+
+  -- what is stored at the key now: this value, or nothing
+  abbrev pub IsCurrent : State M → ℕ → Option M → Type 0
+  IsCurrent s key (Some value) = IsStoredAt s key value
+  IsCurrent s key None = (value : M) → IsStoredAt s key value → ⊥
 
   -- THE CONTENT: the map of all payloads of reachable nodes, each at its key
   pub record IsContent (s : State M) (m : Pairs M) : Type 0 where

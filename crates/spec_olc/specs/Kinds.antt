@@ -7,6 +7,7 @@ use Rattle.node_table.specs.TableNode.{TableNode, MayHave}
 use Rattle.node_table.specs.declared.child.Child.{Child}
 use Rattle.node_table.specs.declared.child.Child.TheVariants.{Payload}
 use Rattle.spec_olc.specs.Calls.{IsPoint, Outline, key_of, outline_of, stored}
+use Rattle.spec_olc.specs.Content.{IsCurrent}
 use Rattle.spec_olc.specs.Lists.{off, without_all}
 use Rattle.spec_olc.specs.Local.{SharesNone, SeesPayloads, IsLocal, LeavesAll, IsQuestion}
 use Rattle.spec_olc.specs.Retirement.{stamp_at, count_after}
@@ -94,7 +95,8 @@ module _ {M : Type 0} (Granted : Type 0) (same : M → M → Bool) where
   -- the outcome of a Check that passes, and the call after it
   abbrev pub CheckOutcome : State M → CallState M → CallState M → Outcome M → Type 0
   CheckOutcome s call next Going = LooksOn call.outline s call next
-  CheckOutcome s call next (Ask old) = IsQuestion call old × (next ≡ record call { asking = Wants old })
+  CheckOutcome s call next (Ask old) = IsQuestion call old × IsCurrent s (key_of call.outline) old
+      × (next ≡ record call { asking = Wants old })
   CheckOutcome s call next (Pair key value) = Gives s call next key value
   CheckOutcome s call next (Decided reply) = (local : IsLocal Granted same call reply)
       × LeavesAll Granted same call local.op

@@ -4,8 +4,8 @@
 -- schedule and its trace alone: the events, the line of each, the decided calls and the content at
 -- the end. No node, lock or slot is mentioned. `Made` is `Line::Done`: the event was done.
 use Rattle.std.specs.Prelude.{◌≡◌, ◌≢◌, ℕ, ◌==◌, List, [], ◌∷◌, Option, Some, None, if◌then◌else◌}
-use Rattle.spec_map.specs.Map.{Pairs}
-use Rattle.spec_olc.specs.Calls.{IsPoint}
+use Rattle.spec_map.specs.Map.{Pairs, lookup}
+use Rattle.spec_olc.specs.Calls.{IsPoint, key_of}
 use Rattle.spec_olc.specs.Runs.{IsHistory}
 use Rattle.spec_olc.specs.declared.trace.Decision.{Decision}
 use Rattle.spec_olc.specs.declared.trace.Line.{Line}
@@ -58,18 +58,18 @@ after_step kind answer Refused call = Some (record call { progress = progress.Re
 after_step kind answer Done call = None
 after_step kind answer out call = Some (record call { asking = answered kind answer call.asking })
 
--- WHAT A STEP MAY REPORT: that its call is decided or refused, only while it is open, so once at
--- most; that it asks its closure, only while it is open; that it is done, if it is a point call,
--- only after that. A range is never decided, and only a range gives pairs. With what a closure is
--- asked, and which pairs are given, isn't said here.
-abbrev pub MayReport : PendingCall → Outcome ℕ → Type 0
-MayReport call (Ask old) = call.progress ≡ progress.Open
-MayReport call (Pair key value) = IsPoint call.op → ⊥
-MayReport call (Decided reply) = IsPoint call.op × (call.progress ≡ progress.Open)
-MayReport call Refused = call.progress ≡ progress.Open
-MayReport call Done = IsPoint call.op → call.progress ≢ progress.Open
-MayReport call Unknown = ⊥
-MayReport call out = Unit {0}
+-- WHAT A STEP MAY REPORT where the map is m: that its call is decided or refused, only while it is
+-- open, so once at most; that it asks its closure, only while it is open, and with the key's current
+-- value; that it is done, if it is a point call, only after that. A range is never decided, and only
+-- a range gives pairs, which are the map's.
+abbrev pub MayReport : Pairs ℕ → PendingCall → Outcome ℕ → Type 0
+MayReport m call (Ask old) = (call.progress ≡ progress.Open) × (old ≡ lookup m (key_of call.op))
+MayReport m call (Pair key value) = (IsPoint call.op → ⊥) × (lookup m key ≡ Some value)
+MayReport m call (Decided reply) = IsPoint call.op × (call.progress ≡ progress.Open)
+MayReport m call Refused = call.progress ≡ progress.Open
+MayReport m call Done = IsPoint call.op → call.progress ≢ progress.Open
+MayReport m call Unknown = ⊥
+MayReport m call out = Unit {0}
 
 -- what a decision has of the closure, if anything, is the last question to it and the answer
 abbrev pub IsLast : Option (Option ℕ × Option ℕ) → Asking ℕ → Type 0
@@ -85,35 +85,36 @@ pub record IsDecisionOf (id : ℕ) (call : PendingCall) (reply : Reply ℕ) (d :
   pub replied : d.reply ≡ reply
 
 -- A step that reports a reply is a linearization point: its decision is the first of those that
--- remain, and then there are the later ones. Any other step decides nothing.
-abbrev pub Decides : ℕ → PendingCall → Outcome ℕ → List Decision → List Decision → Type 0
-Decides id call (Decided reply) decided later =
-    (d : Decision) × IsDecisionOf id call reply d × (decided ≡ d ∷ later)
-Decides id call out decided later = decided ≡ later
+-- remain, and then there are the later ones; the map m allows it, and becomes n by it. Any other step
+-- decides nothing and leaves the map.
+abbrev pub Decides : ℕ → PendingCall → Outcome ℕ → List Decision → List Decision
+    → Pairs ℕ → Pairs ℕ → Type 0
+Decides id call (Decided reply) decided later m n =
+    (d : Decision) × IsDecisionOf id call reply d × (decided ≡ d ∷ later) × IsHistory m (d ∷ []) n
+Decides id call out decided later m n = (decided ≡ later) × (n ≡ m)
 
--- THE LINEARIZATION POINTS of a trace, from where these calls are pending to its end: a call starts
--- where none is pending under its number, only a pending call has steps, and the decisions are
--- those of the linearization points, in their order. Any event may be skipped; which are is in
--- `Runs`.
-abbrev pub Linearizes
-    : (ℕ → Option PendingCall) → List (Event ℕ) → List Line → List Decision → Type 0
-Linearizes calls [] [] [] = Unit {0}
-Linearizes calls (Start id op ∷ events) (Made report out seen ∷ lines) decided =
-    (calls id ≡ None)
-    × Linearizes (with_pending calls id (Some (just_started op))) events lines decided × (out ≡ Going)
-Linearizes calls (Step id env ∷ events) (Made report out seen ∷ lines) decided =
-    (call : PendingCall) × (later : List Decision) × (calls id ≡ Some call)
-    × MayReport call out × Decides id call out decided later
-    × Linearizes (with_pending calls id (after_step report.kind env.answer out call))
-    events lines later
-Linearizes calls (Reclaim slot ∷ events) (Made report out seen ∷ lines) decided =
-    (out ≡ Going) × Linearizes calls events lines decided
-Linearizes calls (event ∷ events) (Skipped ∷ lines) decided = Linearizes calls events lines decided
-Linearizes calls _ _ _ = ⊥
+-- THE LINEARIZATION POINTS of a trace, from where these calls are pending and the map is m to its
+-- end, where the map is `last`: a call starts where none is pending under its number, only a pending
+-- call has steps, and the decisions are those of the linearization points, in their order. Any event
+-- may be skipped; which are is in `Runs`.
+abbrev pub Linearizes : (ℕ → Option PendingCall) → Pairs ℕ
+    → List (Event ℕ) → List Line → List Decision → Pairs ℕ → Type 0
+Linearizes calls m [] [] [] last = last ≡ m
+Linearizes calls m (Start id op ∷ events) (Made report out seen ∷ lines) decided last =
+    (calls id ≡ None) × (out ≡ Going)
+    × Linearizes (with_pending calls id (Some (just_started op))) m events lines decided last
+Linearizes calls m (Step id env ∷ events) (Made report out seen ∷ lines) decided last =
+    (call : PendingCall) × (later : List Decision) × (n : Pairs ℕ) × (calls id ≡ Some call)
+    × MayReport m call out × Decides id call out decided later m n
+    × Linearizes (with_pending calls id (after_step report.kind env.answer out call)) n
+    events lines later last
+Linearizes calls m (Reclaim slot ∷ events) (Made report out seen ∷ lines) decided last =
+    (out ≡ Going) × Linearizes calls m events lines decided last
+Linearizes calls m (event ∷ events) (Skipped ∷ lines) decided last =
+    Linearizes calls m events lines decided last
+Linearizes calls m _ _ _ last = ⊥
 
--- A LINEARIZABLE TRACE: its decisions are those of its linearization points, and they are a legal
--- run from the empty map to the content.
-pub record IsLinearizable (events : List (Event ℕ)) (lines : List Line) (decided : List Decision)
-    (content : Pairs ℕ) : Type 0 where
-  pub points : Linearizes none_pending events lines decided
-  pub legal : IsHistory [] decided content
+-- A LINEARIZABLE TRACE: its decisions are those of its linearization points, and lead from the empty
+-- map to the content.
+abbrev pub IsLinearizable : List (Event ℕ) → List Line → List Decision → Pairs ℕ → Type 0
+IsLinearizable events lines decided content = Linearizes none_pending [] events lines decided content

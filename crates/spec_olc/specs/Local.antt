@@ -49,8 +49,7 @@ module _ {M : Type 0} where
   AsksWith _ seen old = ⊥
 
   -- THE QUESTION: an open call calls its closure with what the last Read reported, if it hasn't
-  -- called it since it last went back to the root. That may be torn: which node the Check is of isn't
-  -- said here.
+  -- called it since it last went back to the root.
   pub record IsQuestion (call : CallState M) (old : Option M) : Type 0 where
     pub undecided : call.progress ≡ Open
     pub fresh : call.asking ≡ Fresh

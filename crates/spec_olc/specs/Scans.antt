@@ -73,7 +73,7 @@ IsStoredThroughout key (x ∷ xs) = IsSome (lookup x.content key) × IsStoredThr
 -- that is refused, and of one that is still in flight.
 pub record IsScan (start end limit : ℕ) (events : List Reported) : Type 0 where
   -- each pair given was stored after the event that gave it
-  pub stood : AllWereStored events
+  pub was_stored : AllWereStored events
   -- the keys given ascend strictly, from the range's start on and below its end
   pub ascend : Rises start end (given events)
   -- at most `limit` pairs are given

@@ -248,19 +248,20 @@ pub fn a_start_knows_nothing()
         → id ≢ id }
 {}
 
-/// A replay's decided calls are one legal history; each call is decided or refused once at most, and a point call ends
-/// only after that.
-pub fn a_replay_is_orderly()
+/// The decided calls of a linearizable trace are one legal history; each call is decided or refused once at most, and a
+/// point call ends only after that.
+pub fn a_linearizable_trace_is_orderly()
     ensures history { (events : List (Event ℕ)) (lines : List Line) (decided : List Decision)
         (content : Pairs ℕ)
-        → IsReplayed events lines decided content → IsHistory [] decided content }
+        → IsLinearizable events lines decided content → IsHistory [] decided content }
     ensures order { (events : List (Event ℕ)) (lines : List Line) (decided : List Decision)
-        (content : Pairs ℕ) → IsReplayed events lines decided content
+        (content : Pairs ℕ) → IsLinearizable events lines decided content
         → (id : ℕ) → IsOrderly id None events lines }
 {}
 
 /// In no linearizable trace does a call have a step before its Start or after its Finish, is it decided twice, or does
-/// a point call end that wasn't decided or refused; and a decision has the number, the call and the reply of its lines.
+/// a point call end that wasn't decided or refused; a decision has the number, the call and the reply of its lines; and
+/// in an empty map no closure is asked with a value, and no range gives a pair.
 pub fn what_breaks_linearizability()
     ensures early { (events : List (Event ℕ)) (lines : List Line) (decided : List Decision)
         (content : Pairs ℕ) (id : ℕ) (env : Env ℕ) (report : Report) (out : Outcome ℕ)
@@ -293,6 +294,18 @@ pub fn what_breaks_linearizability()
         (Line.Done a begins x ∷ Line.Done b (Outcome.Decided reply) y ∷ lines)
         (d ∷ decided) content
         → (d.id ≡ id) × (d.op ≡ op) × (d.reply ≡ reply) }
+    ensures question { (events : List (Event ℕ)) (lines : List Line) (decided : List Decision)
+        (content : Pairs ℕ) (id : ℕ) (op : Op ℕ) (env : Env ℕ) (a b : Report)
+        (begins : Outcome ℕ) (old : Option ℕ) (x y : Option (Seen ℕ))
+        → IsLinearizable (Event.Start id op ∷ Event.Step id env ∷ events)
+        (Line.Done a begins x ∷ Line.Done b (Outcome.Ask old) y ∷ lines) decided content
+        → old ≡ None }
+    ensures pair { (events : List (Event ℕ)) (lines : List Line) (decided : List Decision)
+        (content : Pairs ℕ) (id : ℕ) (op : Op ℕ) (env : Env ℕ) (a b : Report)
+        (begins : Outcome ℕ) (key value : ℕ) (x y : Option (Seen ℕ))
+        → IsLinearizable (Event.Start id op ∷ Event.Step id env ∷ events)
+        (Line.Done a begins x ∷ Line.Done b (Outcome.Pair key value) y ∷ lines) decided content
+        → ⊥ }
 {}
 
 /// Throughout a replay no node is held by two calls.

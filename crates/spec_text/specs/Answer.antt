@@ -1,10 +1,10 @@
 -- What a line is answered.
-use Rattle.std.specs.Prelude.{◌≡◌, ℕ, List, [], ◌∷◌, ◌++◌, length, codes, decimal, Bool, true, false, Option, Some, None}
+use Rattle.std.specs.Prelude.{◌≡◌, ℕ, List, ◌++◌, length, codes, decimal, Bool, true, false, Option, Some, None}
 use Rattle.std.specs.List.{flat_map}
 use Rattle.spec_map.specs.Call.{old_value, exchanged, computed, tested, listed, ranged, Answer, replied, refused, Operation}
 use Rattle.spec_map.specs.Legal.{AnswersBy}
 use Rattle.spec_text.specs.declared.command.Command.{Command}
-use Rattle.spec_text.specs.declared.command.Command.TheVariants.{Get, Insert, Remove, Exchange, Add, Put, Range, Keys, Empty}
+use Rattle.spec_text.specs.declared.command.Command.TheVariants.{Insert, Put}
 use Rattle.spec_text.specs.Command.{SpellsCommand, IsNoCommand, command_call, command_closure}
 use Rattle.spec_text.specs.Value.{value_text, exchanged_text, computed_text, key_text, pair_text}
 
@@ -12,54 +12,27 @@ abbrev pub test_text : Bool → List ℕ
 test_text true = codes "true"
 test_text false = codes "false"
 
--- how many there are, and all of them in order
-abbrev pub keys_text : List ℕ → List ℕ
-keys_text keys = decimal (length keys) ++ flat_map key_text keys
+-- the text of an outcome: of a list, how many it has and all of them in order
+abbrev pub answer_text : Command → Answer ℕ ℕ ℕ → List ℕ
+answer_text (Insert key value) (replied (old_value before)) = codes "ok " ++ value_text before
+answer_text (Put key more) (replied (old_value before)) = codes "ok " ++ value_text before
+answer_text command (replied (old_value value)) = value_text value
+answer_text command (replied (exchanged result)) = exchanged_text result
+answer_text command (replied (computed result)) = computed_text result
+answer_text command (replied (ranged pairs)) = decimal (length pairs) ++ flat_map pair_text pairs
+answer_text command (replied (listed keys)) = decimal (length keys) ++ flat_map key_text keys
+answer_text command (replied (tested b)) = test_text b
+answer_text command refused = codes "oom"
 
-abbrev pub pairs_text : List (ℕ × ℕ) → List ℕ
-pairs_text pairs = decimal (length pairs) ++ flat_map pair_text pairs
-
--- the text of what a command is answered, if it can be answered so
-abbrev pub IsText : Command → Answer ℕ ℕ ℕ → List ℕ → Type 0
-IsText (Get key) (replied (old_value value)) text = text ≡ value_text value
-IsText (Insert key value) (replied (old_value before)) text =
-    text ≡ codes "ok " ++ value_text before
-IsText (Insert key value) refused text = text ≡ codes "oom"
-IsText (Remove key) (replied (old_value before)) text = text ≡ value_text before
-IsText (Exchange key old new) (replied (exchanged result)) text = text ≡ exchanged_text result
-IsText (Add key more) (replied (computed result)) text = text ≡ computed_text result
-IsText (Put key more) (replied (old_value before)) text = text ≡ codes "ok " ++ value_text before
-IsText (Put key more) refused text = text ≡ codes "oom"
-IsText (Range start end limit) (replied (ranged pairs)) text = text ≡ pairs_text pairs
-IsText (Range start end limit) refused text = text ≡ codes "oom"
-IsText Keys (replied (listed keys)) text = text ≡ keys_text keys
-IsText Keys refused text = text ≡ codes "oom"
-IsText Empty (replied (tested b)) text = text ≡ test_text b
-IsText command answer text = ⊥
-
--- the line is a command that asks for the call, the closure answered as that command's, and the text is that of the
--- answer
+-- the line is a command that asks for the call, its closure answered it, and the text is that of the outcome
 pub record Obeys (line text : List ℕ) (operation : Operation ℕ ℕ ℕ) : Type 0 where
   pub command : Command
   pub parses : SpellsCommand line command
   pub asks : operation.call ≡ command_call command
   pub closure : AnswersBy (command_closure command) operation.asked
-  pub answers : IsText command operation.answer text
+  pub answers : text ≡ answer_text command operation.answer
 
 -- The line is answered by the text: for an operation if it is a command, and for none otherwise.
-abbrev pub IsAnswered : List ℕ → List ℕ → Option (Operation ℕ ℕ ℕ) → Type 0
-IsAnswered line text (Some operation) = Obeys line text operation
-IsAnswered line text None = IsNoCommand line × (text ≡ codes "bad line")
-
--- the lines are answered by the texts, one after another
-abbrev pub AreAnswered : List (List ℕ) → List (List ℕ) → List (Option (Operation ℕ ℕ ℕ)) → Type 0
-AreAnswered [] [] [] = Unit {0}
-AreAnswered (line ∷ lines) (text ∷ texts) (done ∷ dones) =
-    IsAnswered line text done × AreAnswered lines texts dones
-AreAnswered lines texts dones = ⊥
-
--- the operations of the lines that are commands, in order
-abbrev pub operations_of : List (Option (Operation ℕ ℕ ℕ)) → List (Operation ℕ ℕ ℕ)
-operations_of [] = []
-operations_of (None ∷ dones) = operations_of dones
-operations_of (Some operation ∷ dones) = operation ∷ operations_of dones
+abbrev pub IsAnswered : List ℕ → List ℕ × Option (Operation ℕ ℕ ℕ) → Type 0
+IsAnswered line (text, Some operation) = Obeys line text operation
+IsAnswered line (text, None) = IsNoCommand line × (text ≡ codes "bad line")

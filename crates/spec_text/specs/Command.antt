@@ -1,8 +1,8 @@
 -- The lines that are commands.
-use Rattle.std.specs.Prelude.{ℕ, ◌+◌, ◌-◌, ◌<◌, ◌≤◌, ◌^◌, List, [], ◌∷◌, codes, decimal, Option, Some, None, if◌then◌else◌, min, nat_lt}
+use Rattle.std.specs.Prelude.{ℕ, ◌+◌, ◌-◌, ◌≤◌, ◌^◌, List, [], ◌∷◌, codes, decimal, Option, Some, None, if◌then◌else◌, min, nat_lt}
 use Rattle.spec_map.specs.Call.{Call, get, insert, remove, compare_exchange, compute_if_present, compute_or_insert, is_empty, range, keys}
-use Rattle.spec_text.specs.Grammar.{Spells, SpellsNone}
-use Rattle.spec_text.specs.Value.{value_text, FitsU64}
+use Rattle.spec_text.specs.Grammar.{Spells}
+use Rattle.spec_text.specs.Value.{value_text}
 use Rattle.spec_text.specs.declared.command.Command.{Command}
 use Rattle.spec_text.specs.declared.command.Command.TheVariants.{Get, Insert, Remove, Exchange, Add, Put, Range, Keys, Empty}
 
@@ -20,25 +20,18 @@ words_of_command (Range start end limit) =
 words_of_command Keys = codes "keys" ∷ []
 words_of_command Empty = codes "empty" ∷ []
 
--- its numbers have 64 bits, and at most 4096 pairs are asked for
+-- at most 4096 pairs are asked for
 abbrev pub CommandFits : Command → Type 0
-CommandFits (Get key) = key < 2 ^ 64
-CommandFits (Insert key value) = (key < 2 ^ 64) × (value < 2 ^ 64)
-CommandFits (Remove key) = key < 2 ^ 64
-CommandFits (Exchange key old new) = (key < 2 ^ 64) × (old < 2 ^ 64) × FitsU64 new
-CommandFits (Add key more) = (key < 2 ^ 64) × (more < 2 ^ 64)
-CommandFits (Put key more) = (key < 2 ^ 64) × (more < 2 ^ 64)
-CommandFits (Range start end limit) = (start < 2 ^ 64) × (end < 2 ^ 64) × (limit ≤ 4096)
-CommandFits Keys = Unit {0}
-CommandFits Empty = Unit {0}
+CommandFits (Range start end limit) = limit ≤ 4096
+CommandFits command = Unit {0}
 
--- the line is the command's words, with one space between each two
+-- the line is this command
 abbrev pub SpellsCommand : List ℕ → Command → Type 0
 SpellsCommand line command = Spells words_of_command CommandFits line command
 
 -- the line is no command
 abbrev pub IsNoCommand : List ℕ → Type 0
-IsNoCommand line = SpellsNone words_of_command CommandFits line
+IsNoCommand line = (command : Command) → SpellsCommand line command → ⊥
 
 -- the call that a command asks for
 abbrev pub command_call : Command → Call ℕ ℕ

@@ -1,7 +1,7 @@
 -- The lines of a schedule.
-use Rattle.std.specs.Prelude.{ℕ, ◌<◌, ◌≤◌, ◌^◌, List, [], ◌∷◌, codes, decimal, Option, Some, None}
-use Rattle.spec_text.specs.Grammar.{Spells, SpellsNone}
-use Rattle.spec_text.specs.Value.{value_text, FitsU64}
+use Rattle.std.specs.Prelude.{ℕ, ◌<◌, ◌≤◌, List, [], ◌∷◌, codes, decimal, Option, Some, None}
+use Rattle.spec_text.specs.Grammar.{Spells}
+use Rattle.spec_text.specs.Value.{value_text}
 use Rattle.node_table.specs.declared.child.Child.{Child}
 use Rattle.node_table.specs.declared.child.Child.TheVariants.{Payload, Node}
 use Rattle.spec_olc.specs.declared.types.Op.{Op}
@@ -22,26 +22,11 @@ words_of_op (CompareExchange key old new) =
 words_of_op (Range start end limit) =
     codes "range" ∷ decimal start ∷ decimal end ∷ decimal limit ∷ []
 
--- its numbers have 64 bits
-abbrev pub OpFits : Op ℕ → Type 0
-OpFits (Get key) = key < 2 ^ 64
-OpFits (Insert key value) = (key < 2 ^ 64) × (value < 2 ^ 64)
-OpFits (Remove key) = key < 2 ^ 64
-OpFits (ComputeIfPresent key) = key < 2 ^ 64
-OpFits (ComputeOrInsert key otherwise) = (key < 2 ^ 64) × (otherwise < 2 ^ 64)
-OpFits (CompareExchange key old new) = (key < 2 ^ 64) × (old < 2 ^ 64) × FitsU64 new
-OpFits (Range start end limit) = (start < 2 ^ 64) × (end < 2 ^ 64) × (limit < 2 ^ 64)
-
 -- the words of what a torn read reports
 abbrev pub words_of_child : Option (Child ℕ) → List (List ℕ)
 words_of_child None = codes "none" ∷ []
 words_of_child (Some (Payload value)) = codes "value" ∷ decimal value ∷ []
 words_of_child (Some (Node slot)) = codes "node" ∷ decimal slot ∷ []
-
-abbrev pub ChildFits : Option (Child ℕ) → Type 0
-ChildFits None = Unit {0}
-ChildFits (Some (Payload value)) = value < 2 ^ 64
-ChildFits (Some (Node slot)) = slot < 2 ^ 64
 
 -- the words of an entry; `step` without a second number is one step
 abbrev pub words_of_entry : Entry → List (List ℕ)
@@ -53,20 +38,15 @@ words_of_entry (Fail id) = codes "fail" ∷ decimal id ∷ []
 words_of_entry (Answer id answer) = codes "answer" ∷ decimal id ∷ value_text answer ∷ []
 words_of_entry (Reclaim slot) = codes "reclaim" ∷ decimal slot ∷ []
 
--- its numbers have 64 bits, and from 1 to 10000 steps are asked for
+-- from 1 to 10000 steps are asked for
 abbrev pub EntryFits : Entry → Type 0
-EntryFits (Start id op) = (id < 2 ^ 64) × OpFits op
-EntryFits (Step id) = id < 2 ^ 64
-EntryFits (Steps id count) = (id < 2 ^ 64) × (0 < count) × (count ≤ 10000)
-EntryFits (Torn id child) = (id < 2 ^ 64) × ChildFits child
-EntryFits (Fail id) = id < 2 ^ 64
-EntryFits (Answer id answer) = (id < 2 ^ 64) × FitsU64 answer
-EntryFits (Reclaim slot) = slot < 2 ^ 64
+EntryFits (Steps id count) = (0 < count) × (count ≤ 10000)
+EntryFits entry = Unit {0}
 
--- the line is the entry's words, with one space between each two
+-- the line is this entry
 abbrev pub SpellsEntry : List ℕ → Entry → Type 0
 SpellsEntry line entry = Spells words_of_entry EntryFits line entry
 
 -- the line is no entry
 abbrev pub IsNoEntry : List ℕ → Type 0
-IsNoEntry line = SpellsNone words_of_entry EntryFits line
+IsNoEntry line = (entry : Entry) → SpellsEntry line entry → ⊥

@@ -10,21 +10,17 @@ use Rattle.spec_olc.specs.declared.trace.Line.TheVariants.{Done as Made, Skipped
 use Rattle.spec_olc.specs.declared.types.Event.{Event}
 use Rattle.spec_olc.specs.declared.types.Event.TheVariants.{Start, Step, Reclaim}
 use Rattle.spec_olc.specs.declared.types.Op.{Op}
-use Rattle.spec_olc.specs.declared.types.Op.TheVariants.{Get, Insert, Remove, ComputeIfPresent, ComputeOrInsert, CompareExchange, Range}
+use Rattle.spec_olc.specs.declared.types.Op.TheVariants.{Insert, ComputeOrInsert}
 use Rattle.spec_olc.specs.declared.types.Outcome.{Outcome}
-use Rattle.spec_olc.specs.declared.types.Outcome.TheVariants.{Going, Ask, Pair, Decided, Refused, Done, Unknown}
+use Rattle.spec_olc.specs.declared.types.Outcome.TheVariants.{Pair, Decided, Refused}
 use Rattle.spec_olc.specs.declared.types.Reply.{Reply}
 use Rattle.spec_olc.specs.declared.types.Reply.TheVariants.{Old, Computed, Exchanged}
 
 -- `ok` before the old value, for a call that may insert a key, and so may be refused
 abbrev pub ok_text : Op ℕ → List ℕ
-ok_text (Get key) = []
 ok_text (Insert key value) = codes "ok "
-ok_text (Remove key) = []
-ok_text (ComputeIfPresent key) = []
 ok_text (ComputeOrInsert key otherwise) = codes "ok "
-ok_text (CompareExchange key old new) = []
-ok_text (Range start end limit) = []
+ok_text op = []
 
 -- a reply, as `congee run` answers the same call
 abbrev pub reply_text : Op ℕ → Reply ℕ → List ℕ
@@ -36,14 +32,10 @@ reply_text op (Exchanged result) = exchanged_text result
 abbrev pub outcome_texts : ℕ → Outcome ℕ → List Decision → List (List ℕ)
 outcome_texts id (Decided reply) (d ∷ ds) =
     (decimal id ++ codes " " ++ reply_text d.op reply) ∷ []
-outcome_texts id (Decided reply) [] = []
 outcome_texts id (Pair key value) ds =
     (decimal id ++ codes " pair " ++ decimal key ++ codes " " ++ decimal value) ∷ []
 outcome_texts id Refused ds = (decimal id ++ codes " refused") ∷ []
-outcome_texts id Going ds = []
-outcome_texts id (Ask old) ds = []
-outcome_texts id Done ds = []
-outcome_texts id Unknown ds = []
+outcome_texts id outcome ds = []
 
 -- the text of an event
 abbrev pub event_texts : Event ℕ → Line → List Decision → List (List ℕ)

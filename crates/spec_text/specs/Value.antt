@@ -1,5 +1,5 @@
 -- Values, keys, pairs and replies as text.
-use Rattle.std.specs.Prelude.{ℕ, ◌<◌, ◌^◌, List, ◌++◌, codes, decimal, Option, Some, None, Result, Ok, Err}
+use Rattle.std.specs.Prelude.{ℕ, List, ◌++◌, codes, decimal, Option, Some, None, Result, Ok, Err}
 
 -- a value, or `none`
 abbrev pub value_text : Option ℕ → List ℕ
@@ -15,11 +15,6 @@ exchanged_text (Err current) = codes "err " ++ value_text current
 abbrev pub computed_text : Option (ℕ × Option ℕ) → List ℕ
 computed_text None = codes "none"
 computed_text (Some (old, new)) = decimal old ++ codes " " ++ value_text new
-
--- a value, if there is one, has 64 bits
-abbrev pub FitsU64 : Option ℕ → Type 0
-FitsU64 None = Unit {0}
-FitsU64 (Some value) = value < 2 ^ 64
 
 -- a key behind a space, and a pair with its value
 abbrev pub key_text : ℕ → List ℕ

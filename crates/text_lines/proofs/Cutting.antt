@@ -4,7 +4,9 @@ use Rattle.std.specs.List.{flat_map, AllByRecursion}
 use Rattle.std.specs.Result.{OnOk, OnErr}
 use Rattle.std.proofs.lemmas.Bool.{cases_lt, cases_eq, lt-ltb, le-ltb}
 use Rattle.std.proofs.lemmas.List.Concat.{flat_map-append}
-use Rattle.spec_text.specs.Lines.{Lacks, Cuts, lines_of, ended}
+use Rattle.std.specs.Io.KnownBytes.{Consumes}
+use Rattle.spec_text.specs.Lines.{Lacks, Reads, lines_of, ended}
+use Rattle.text_lines.specs.inner.Cut.{Cuts}
 use Rattle.text_lines.specs.inner.Kept.{IsKeptOf, kept_with}
 
 -- one more at the end of a list with a property
@@ -33,6 +35,19 @@ cut_line {bytes} {rest} {whole} cut = record {
   each = all_push (Lacks 10) whole rest cut.each cut.last;
   last = tt;
 }
+
+-- what was read, from its bytes and their cut, and back
+abbrev pub reads_cut : {input input' : Option (List ℕ)} {bytes rest : List ℕ} {whole : List (List ℕ)} → Consumes input input' bytes → Cuts bytes whole rest → Reads input input'
+reads_cut {input} {input'} {bytes} {rest} {whole} consumes cut = record {
+  whole = whole;
+  rest = rest;
+  consumes = subst (Consumes input input') cut.spelled consumes;
+  each = cut.each;
+  last = cut.last;
+}
+
+pub cut_read : {input input' : Option (List ℕ)} → (read : Reads input input') → Cuts (flat_map ended read.whole ++ read.rest) read.whole read.rest
+cut_read read = record { spelled = refl; each = read.each; last = read.last }
 
 -- more bytes keep the whole lines, and may end others
 pub record CutsOn (bytes more : List ℕ) (whole : List (List ℕ)) : Type 0 where

@@ -1,12 +1,15 @@
 -- Laws of the definitions.
-use Rattle.std.proofs.Common.{◌≡◌, ℕ, ◌<◌, ◌≤◌, ◌^◌, List, [], ◌∷◌, ◌++◌, length, decimal, eqb, refl, sym, ap, ◌∙◌, inl, inr, arith, append_assoc}
+use Rattle.std.proofs.Common.{◌≡◌, ℕ, ◌<◌, ◌≤◌, ◌^◌, List, [], ◌∷◌, ◌++◌, length, Some, decimal, eqb, refl, sym, ap, ◌∙◌, inl, inr, arith, append_assoc}
+use Rattle.std.proofs.lemmas.List.{append_cancel_right}
 use Rattle.std.specs.List.{slice_split, flat_map, AllByRecursion}
 use Rattle.std.specs.Str.Parse.{digits_value, AllDigits}
 use Rattle.std.proofs.lemmas.Bool.{ne_eqb, cases_order}
 use Rattle.std.proofs.lemmas.Fmt.{digits_decimal, digits_value-decimal, decimal_nonempty, decimal-digits_value}
 use Rattle.std.proofs.lemmas.Str.Parse.{tells_digits}
-use Rattle.spec_text.specs.Lines.{Lacks, Cuts, ended}
+use Rattle.spec_text.specs.Lines.{Lacks, Reads, ended}
+use Rattle.text_lines.specs.inner.Cut.{Cuts}
 use Rattle.spec_text.specs.Number.{IsNumber}
+use Rattle.text_lines.proofs.Cutting.{cut_read}
 use Rattle.text_lines.proofs.Numbers.{own, no_leading_zero}
 
 -- the parts between line feeds
@@ -40,6 +43,12 @@ same_push (a ∷ xs) (b ∷ ys) x y e =
 pub cut_once : (bytes rest rest' : List ℕ) (whole whole' : List (List ℕ)) → Cuts bytes whole rest → Cuts bytes whole' rest' → (whole ≡ whole') × (rest ≡ rest')
 cut_once bytes rest rest' whole whole' one other =
     same_push whole whole' rest rest' (sym (split_cut whole rest one.each one.last) ∙ ap (slice_split (λ b. eqb b 10)) (sym one.spelled ∙ other.spelled) ∙ split_cut whole' rest' other.each other.last)
+
+pub read_once : (before after : List ℕ) (one other : Reads (Some before) (Some after)) → (one.whole ≡ other.whole) × (one.rest ≡ other.rest)
+read_once before after one other =
+    let same = append_cancel_right _ _ after (sym one.consumes ∙ other.consumes) in
+    cut_once _ one.rest other.rest one.whole other.whole (cut_read one)
+    (record { spelled = same; each = other.each; last = other.last })
 
 -- digits one by one
 digits_each : (word : List ℕ) → AllDigits 10 word → AllByRecursion (λ byte. (48 ≤ byte) × (byte ≤ 57)) word

@@ -1,4 +1,5 @@
 pub mod Cutting
+pub mod Decimals
 pub mod GrammarLemmas
 pub mod LawLemmas
 pub mod Numbers

@@ -3,7 +3,9 @@ use Rattle.std.proofs.Common.{◌≡◌, ℕ, ◌<◌, ◌^◌, Bool, true, fals
 use Rattle.std.specs.Str.Parse.{digits_value}
 use Rattle.std.proofs.lemmas.Fmt.{digits_value-decimal}
 use Rattle.std.proofs.lemmas.Slice.Eq.{bytes_eq-Decides}
-use Rattle.spec_text.specs.Value.{value_text, FitsU64}
+use Rattle.spec_text.specs.Value.{value_text}
+use Rattle.text_lines.specs.inner.Reading.{FitsU64}
+use Rattle.text_lines.proofs.Decimals.{no_number, one_decimal}
 use Rattle.text_lines.proofs.Numbers.{own, number_digit}
 use Rattle.text_lines.proofs.WordLemmas.{IsWord, number_word}
 
@@ -43,3 +45,12 @@ value_read (Some value) fits =
 pub value_word : (value : Option ℕ) → FitsU64 value → IsWord (value_text value)
 value_word None fits = record { lacks = search rules; short = omega arith }
 value_word (Some value) fits = number_word value fits
+
+-- a value fits where its word, as a number, has 64 bits
+pub value_fits : (value : Option ℕ) → ((n : ℕ) → value_text value ≡ decimal n → n < 2 ^ 64) → FitsU64 value
+value_fits None number = tt
+value_fits (Some value) number = number value refl
+
+pub value_number : (value : Option ℕ) → FitsU64 value → (n : ℕ) → value_text value ≡ decimal n → n < 2 ^ 64
+value_number None fits = no_number (codes "none") (omega arith)
+value_number (Some value) fits = one_decimal value fits

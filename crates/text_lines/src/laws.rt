@@ -1,14 +1,13 @@
 //! What follows from the definitions alone: laws by which a reader can check the definitions.
 
-ghost use Rattle.std.specs.Prelude.{◌≡◌, ◌↔◌, ℕ, ◌<◌, ◌^◌, List, decimal};
-ghost use Rattle.spec_text.specs.Lines.{Cuts};
+ghost use Rattle.std.specs.Prelude.{◌≡◌, ◌↔◌, ℕ, ◌<◌, ◌^◌, List, Some, decimal};
+ghost use Rattle.spec_text.specs.Lines.{Reads};
 ghost use Rattle.spec_text.specs.Number.{IsNumber};
 
-/// An input is cut into lines in one way.
+/// What was read is cut into lines in one way.
 pub fn one_cut()
-    ensures { (bytes rest rest' : List ℕ) (whole whole' : List (List ℕ))
-        → Cuts bytes whole rest → Cuts bytes whole' rest'
-        → (whole ≡ whole') × (rest ≡ rest') }
+    ensures { (before after : List ℕ) (one other : Reads (Some before) (Some after))
+        → (one.whole ≡ other.whole) × (one.rest ≡ other.rest) }
 {}
 
 /// A number is written in digits, without a sign, and begins with 0 only if it is that alone.

@@ -1,9 +1,9 @@
 //! Lists of keys and of pairs as text, each behind a space.
 
-ghost use Rattle.std.specs.Prelude.{◌≡◌, ℕ, ◌+◌, ◌≤◌, ◌++◌, length, OnOk, OnErr};
+ghost use Rattle.std.specs.Prelude.{◌≡◌, ℕ, ◌+◌, ◌≤◌, ◌++◌, length, OnOk, OnErr, true};
 ghost use Rattle.std.specs.List.{flat_map};
 ghost use Rattle.spec_text.specs.Value.{key_text, pair_text};
-ghost use Rattle.text_lines.specs.Watched.{HasFailed, SendsTo, SendsPart};
+ghost use Rattle.text_lines.specs.Watched.{SendsTo, SendsPart};
 
 use crate::pending::Pending;
 use crate::watched::{Failed, Watched};
@@ -22,7 +22,7 @@ pub fn put_pairs<W: Write>(
     ensures err { OnErr result (SendsPart W.contents output.old output.new
         (pending.old ++ flat_map pair_text pairs.now)) }
     ensures kept { OnOk result (output.new.failed ≡ output.old.failed) }
-    ensures failed { OnErr result (HasFailed output.new) }
+    ensures failed { OnErr result (output.new.failed ≡ true) }
 {
     for pair in pairs {
         pending.make_room(output)?;
@@ -44,7 +44,7 @@ pub fn put_keys<W: Write>(
     ensures err { OnErr result (SendsPart W.contents output.old output.new
         (pending.old ++ flat_map key_text keys.now)) }
     ensures kept { OnOk result (output.new.failed ≡ output.old.failed) }
-    ensures failed { OnErr result (HasFailed output.new) }
+    ensures failed { OnErr result (output.new.failed ≡ true) }
 {
     for key in keys {
         pending.make_room(output)?;

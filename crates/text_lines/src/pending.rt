@@ -1,8 +1,8 @@
 //! Bytes that have still to be written.
 
-ghost use Rattle.std.specs.Prelude.{◌≡◌, ℕ, ◌+◌, ◌-◌, ◌≤◌, List, [], ◌++◌, length, take, decimal, OnOk, OnErr};
+ghost use Rattle.std.specs.Prelude.{◌≡◌, ℕ, ◌+◌, ◌-◌, ◌≤◌, List, [], ◌++◌, length, take, decimal, OnOk, OnErr, true};
 ghost use Rattle.spec_text.specs.Value.{value_text, exchanged_text, computed_text};
-ghost use Rattle.text_lines.specs.Watched.{HasFailed, SendsTo, SendsPart};
+ghost use Rattle.text_lines.specs.Watched.{SendsTo, SendsPart};
 
 use crate::watched::{Failed, Watched};
 use std::io::Write;
@@ -130,7 +130,7 @@ impl Pending {
         ensures empty { OnOk result (self.new ≡ []) }
         ensures broken { OnErr result (SendsPart W.contents output.old output.new self.old) }
         ensures kept { OnOk result (output.new.failed ≡ output.old.failed) }
-        ensures failed { OnErr result (HasFailed output.new) }
+        ensures failed { OnErr result (output.new.failed ≡ true) }
     {
         output.send(self.as_slice())?;
         self.clear();
@@ -144,7 +144,7 @@ impl Pending {
         ensures room { OnOk result (length self.new + 96 ≤ 8192) }
         ensures broken { OnErr result (SendsPart W.contents output.old output.new self.old) }
         ensures kept { OnOk result (output.new.failed ≡ output.old.failed) }
-        ensures failed { OnErr result (HasFailed output.new) }
+        ensures failed { OnErr result (output.new.failed ≡ true) }
     {
         if self.room() < 96 {
             return self.send_to(output);

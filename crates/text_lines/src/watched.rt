@@ -1,6 +1,6 @@
 //! Readers and writers that note a failure.
 
-ghost use Rattle.std.specs.Prelude.{◌≡◌, ℕ, List, ◌-◌, ◌^◌, ◌<◌, ◌≤◌, [], false, length, IsTrue, ◌↔◌, IfOk, OnOk, OnErr};
+ghost use Rattle.std.specs.Prelude.{◌≡◌, ◌≢◌, ℕ, List, ◌-◌, ◌^◌, ◌<◌, ◌≤◌, [], false, true, length, IsTrue, ◌↔◌, IfOk, OnOk, OnErr};
 ghost use Rattle.std.specs.Io.{ReadsAtMost, WritesAtMost};
 ghost use Rattle.std.specs.Io.KnownBytes.{Appends, Keeps, ReadConsumes, WriteAppends};
 
@@ -29,18 +29,16 @@ impl<T> Model for Watched<T> {
     ghost view = { λ w. record {
       inner = w.inner;
       failed = w.failed;
-      left = 2 ^ 64 - 1 - w.calls;
+      calls_left = 2 ^ 64 - 1 - w.calls;
     } };
 }
 
 impl<T> Watched<T> {
-    ghost use Rattle.text_lines.specs.Watched.{HasFailed, inner_of, calls_left};
-
     /// No call has failed yet.
     pub fn new(inner: T) -> Self
-        ensures inner { inner_of result ≡ inner }
-        ensures failed { HasFailed result → ⊥ }
-        ensures calls { calls_left result ≡ 2 ^ 64 - 1 }
+        ensures inner { result.inner ≡ inner }
+        ensures failed { result.failed ≢ true }
+        ensures calls { result.calls_left ≡ 2 ^ 64 - 1 }
     {
         Watched {
             inner,
@@ -51,14 +49,14 @@ impl<T> Watched<T> {
 
     /// Whether a call has failed.
     pub fn failed(&self) -> bool
-        ensures { IsTrue result ↔ HasFailed self.now }
+        ensures { IsTrue result ↔ (self.now.failed ≡ true) }
     {
         self.failed
     }
 
     /// What was watched.
     pub fn into_inner(self) -> T
-        ensures { result ≡ inner_of self }
+        ensures { result ≡ self.inner }
     {
         let Watched {
             inner,
@@ -70,11 +68,11 @@ impl<T> Watched<T> {
 
     // Counts a call that is about to be made.
     fn count(&mut self) -> Result<(), Failed>
-        ensures inner { inner_of self.new ≡ inner_of self.old }
+        ensures inner { self.new.inner ≡ self.old.inner }
         ensures kept { OnOk result (self.new.failed ≡ self.old.failed) }
-        ensures failed { OnErr result (HasFailed self.new) }
-        ensures fewer { OnOk result (calls_left self.new < calls_left self.old) }
-        ensures last { OnErr result ((calls_left self.old ≡ 0) × (calls_left self.new ≡ 0)) }
+        ensures failed { OnErr result (self.new.failed ≡ true) }
+        ensures fewer { OnOk result (self.new.calls_left < self.old.calls_left) }
+        ensures last { OnErr result ((self.old.calls_left ≡ 0) × (self.new.calls_left ≡ 0)) }
     {
         if self.calls == u64::MAX {
             self.failed = true;
@@ -86,18 +84,18 @@ impl<T> Watched<T> {
 }
 
 impl<R: Reader> Watched<R> {
-    ghost use Rattle.text_lines.specs.Watched.{HasFailed, inner_of, calls_left, IsFailure};
+    ghost use Rattle.text_lines.specs.Watched.{IsFailure};
 
     /// Reads some bytes into the buffer, and returns how many: none only at the end.
     pub fn read(&mut self, buf: &mut [u8]) -> Result<usize, Failed>
         ensures bound { ReadsAtMost result buf.new }
         ensures bytes { ReadConsumes
-            (R.remaining (inner_of self.old)) (R.remaining (inner_of self.new))
+            (R.remaining self.old.inner) (R.remaining self.new.inner)
             result buf.new }
         ensures kept { OnOk result (self.new.failed ≡ self.old.failed) }
-        ensures failed { OnErr result (HasFailed self.new) }
+        ensures failed { OnErr result (self.new.failed ≡ true) }
         ensures real { OnErr result (IsFailure R.may_fail self.old self.new) }
-        ensures fewer { OnOk result (calls_left self.new < calls_left self.old) }
+        ensures fewer { OnOk result (self.new.calls_left < self.old.calls_left) }
     {
         self.count()?;
         match self.inner.read_some(buf) {
@@ -111,17 +109,17 @@ impl<R: Reader> Watched<R> {
 }
 
 impl<W: Writer> Watched<W> {
-    ghost use Rattle.text_lines.specs.Watched.{HasFailed, inner_of, IsFailure, HasFailure, SendsTo, SendsPart};
+    ghost use Rattle.text_lines.specs.Watched.{IsFailure, HasFailure, SendsTo, SendsPart};
 
     /// Writes some of the bytes, and returns how many. To take none of some bytes is a failure.
     pub fn write(&mut self, buf: &[u8]) -> Result<usize, Failed>
         ensures bound { WritesAtMost result buf.now }
         ensures bytes { WriteAppends
-            (W.contents (inner_of self.old)) (W.contents (inner_of self.new))
+            (W.contents self.old.inner) (W.contents self.new.inner)
             result buf.now }
         ensures some { IfOk result (λ n. 0 < length buf.now → 0 < n) }
         ensures kept { OnOk result (self.new.failed ≡ self.old.failed) }
-        ensures failed { OnErr result (HasFailed self.new) }
+        ensures failed { OnErr result (self.new.failed ≡ true) }
         ensures real { OnErr result (IsFailure W.may_fail self.old self.new) }
     {
         self.count()?;
@@ -136,9 +134,9 @@ impl<W: Writer> Watched<W> {
 
     /// Hands on what the writer itself may still hold.
     pub fn flush(&mut self) -> Result<(), Failed>
-        ensures bytes { Keeps (W.contents (inner_of self.old)) (W.contents (inner_of self.new)) }
+        ensures bytes { Keeps (W.contents self.old.inner) (W.contents self.new.inner) }
         ensures kept { OnOk result (self.new.failed ≡ self.old.failed) }
-        ensures failed { OnErr result (HasFailed self.new) }
+        ensures failed { OnErr result (self.new.failed ≡ true) }
         ensures real { OnErr result (IsFailure W.may_fail self.old self.new) }
     {
         self.count()?;
@@ -156,7 +154,7 @@ impl<W: Writer> Watched<W> {
         ensures ok { OnOk result (SendsTo W.contents self.old self.new bytes.now []) }
         ensures err { OnErr result (SendsPart W.contents self.old self.new bytes.now) }
         ensures kept { OnOk result (self.new.failed ≡ self.old.failed) }
-        ensures failed { OnErr result (HasFailed self.new) }
+        ensures failed { OnErr result (self.new.failed ≡ true) }
         ensures real { OnErr result (HasFailure W.may_fail self.new) }
     {
         let mut at = 0;

@@ -1,7 +1,8 @@
 //! The words of a line.
 
 ghost use Rattle.std.specs.Prelude.{◌≡◌, ◌≢◌, ℕ, ◌∷◌, [], List, ◌<◌, ◌≤◌, ◌^◌, length, slice_index, Option, MatchOption, IfSome, IfNone, decimal};
-ghost use Rattle.spec_text.specs.Value.{value_text, FitsU64};
+ghost use Rattle.spec_text.specs.Value.{value_text};
+ghost use Rattle.text_lines.specs.inner.Reading.{FitsU64};
 ghost use Rattle.text_lines.specs.inner.Words.{words_of, words_left};
 
 use crate::number::number;

@@ -4,8 +4,10 @@ use Rattle.std.specs.List.{AllByRecursion}
 use Rattle.spec_text.specs.declared.command.Command.{Command}
 use Rattle.spec_text.specs.declared.command.Command.TheVariants.{Get, Insert, Remove, Exchange, Add, Put, Range, Keys, Empty}
 use Rattle.spec_text.specs.Command.{words_of_command, CommandFits}
-use Rattle.text_lines.proofs.GrammarLemmas.{IsGrammar}
-use Rattle.text_lines.proofs.ValueLemmas.{number_from, number_read, value_from, value_read, value_word}
+use Rattle.text_run.specs.inner.CommandReading.{CommandIsWithin}
+use Rattle.text_lines.proofs.GrammarLemmas.{NumbersFit, IsGrammar}
+use Rattle.text_lines.proofs.Decimals.{no_number, one_decimal}
+use Rattle.text_lines.proofs.ValueLemmas.{number_from, number_read, value_from, value_read, value_word, value_fits, value_number}
 use Rattle.text_lines.proofs.WordLemmas.{IsWord, number_word}
 
 abbrev get_from : List (List ℕ) → Option Command
@@ -61,7 +63,7 @@ command_from (name ∷ words) =
 limit_wide : (limit : ℕ) → limit ≤ 4096 → limit < 2 ^ 64
 limit_wide limit h = omega arith
 
-command_read : (command : Command) → CommandFits command → command_from (words_of_command command) ≡ Some command
+command_read : (command : Command) → CommandIsWithin command → command_from (words_of_command command) ≡ Some command
 command_read (Get key) fits = ap (λ k. Some (Get k)) (number_read key fits)
 command_read (Insert key value) fits = rw (number_read key fits.0, number_read value fits.1) refl
 command_read (Remove key) fits = ap (λ k. Some (Remove k)) (number_read key fits)
@@ -74,7 +76,7 @@ command_read (Range start end limit) fits =
 command_read Keys fits = refl
 command_read Empty fits = refl
 
-are_words : (command : Command) → CommandFits command → AllByRecursion IsWord (words_of_command command)
+are_words : (command : Command) → CommandIsWithin command → AllByRecursion IsWord (words_of_command command)
 are_words (Get key) fits = (record { lacks = search rules; short = omega arith }, (number_word key fits, tt))
 are_words (Insert key value) fits =
     (record { lacks = search rules; short = omega arith }, (number_word key fits.0, (number_word value fits.1, tt)))
@@ -90,7 +92,7 @@ are_words (Range start end limit) fits =
 are_words Keys fits = (record { lacks = search rules; short = omega arith }, tt)
 are_words Empty fits = (record { lacks = search rules; short = omega arith }, tt)
 
-few_words : (command : Command) → CommandFits command → length (words_of_command command) ≤ 12
+few_words : (command : Command) → CommandIsWithin command → length (words_of_command command) ≤ 12
 few_words (Get key) fits = omega arith
 few_words (Insert key value) fits = omega arith
 few_words (Remove key) fits = omega arith
@@ -101,7 +103,7 @@ few_words (Range start end limit) fits = omega arith
 few_words Keys fits = omega arith
 few_words Empty fits = omega arith
 
-some_words : (command : Command) → CommandFits command → 0 < length (words_of_command command)
+some_words : (command : Command) → CommandIsWithin command → 0 < length (words_of_command command)
 some_words (Get key) fits = omega arith
 some_words (Insert key value) fits = omega arith
 some_words (Remove key) fits = omega arith
@@ -112,8 +114,47 @@ some_words (Range start end limit) fits = omega arith
 some_words Keys fits = omega arith
 some_words Empty fits = omega arith
 
-pub commands : IsGrammar words_of_command CommandFits
+-- a command is within its bounds where its numbers have 64 bits and its limit is kept
+within : (command : Command) → NumbersFit (words_of_command command) → CommandFits command → CommandIsWithin command
+within (Get key) n limit = n.1.0 key refl
+within (Insert key value) n limit = (n.1.0 key refl, n.1.1.0 value refl)
+within (Remove key) n limit = n.1.0 key refl
+within (Exchange key old new) n limit = (n.1.0 key refl, n.1.1.0 old refl, value_fits new n.1.1.1.0)
+within (Add key more) n limit = (n.1.0 key refl, n.1.1.0 more refl)
+within (Put key more) n limit = (n.1.0 key refl, n.1.1.0 more refl)
+within (Range start end count) n limit = (n.1.0 start refl, n.1.1.0 end refl, limit)
+within Keys n limit = tt
+within Empty n limit = tt
+
+numbers_fit : (command : Command) → CommandIsWithin command → NumbersFit (words_of_command command)
+numbers_fit (Get key) fits = (no_number _ (omega arith), (one_decimal key fits, tt))
+numbers_fit (Insert key value) fits = (no_number _ (omega arith), (one_decimal key fits.0, (one_decimal value fits.1, tt)))
+numbers_fit (Remove key) fits = (no_number _ (omega arith), (one_decimal key fits, tt))
+numbers_fit (Exchange key old new) fits =
+    (no_number _ (omega arith), (one_decimal key fits.0, (one_decimal old fits.1, (value_number new fits.2, tt))))
+numbers_fit (Add key more) fits = (no_number _ (omega arith), (one_decimal key fits.0, (one_decimal more fits.1, tt)))
+numbers_fit (Put key more) fits = (no_number _ (omega arith), (one_decimal key fits.0, (one_decimal more fits.1, tt)))
+numbers_fit (Range start end limit) fits =
+    (no_number _ (omega arith), (one_decimal start fits.0, (one_decimal end fits.1, (one_decimal limit (limit_wide limit fits.2), tt))))
+numbers_fit Keys fits = (no_number _ (omega arith), tt)
+numbers_fit Empty fits = (no_number _ (omega arith), tt)
+
+limits_kept : (command : Command) → CommandIsWithin command → CommandFits command
+limits_kept (Get key) fits = tt
+limits_kept (Insert key value) fits = tt
+limits_kept (Remove key) fits = tt
+limits_kept (Exchange key old new) fits = tt
+limits_kept (Add key more) fits = tt
+limits_kept (Put key more) fits = tt
+limits_kept (Range start end limit) fits = fits.2
+limits_kept Keys fits = tt
+limits_kept Empty fits = tt
+
+pub commands : IsGrammar words_of_command CommandIsWithin CommandFits
 commands = record {
+  fits = within;
+  numbers = numbers_fit;
+  limits = limits_kept;
   some = some_words;
   few = few_words;
   each = are_words;
@@ -128,7 +169,7 @@ third_byte (word ∷ words) = get_or word 2 0
 
 -- words behind `range` are none where they aren't two numbers and a third that may be asked for
 pub no_range : (left : List (List ℕ)) → ((start end limit : ℕ) → start < 2 ^ 64 → end < 2 ^ 64 → limit ≤ 4096 → left ≡ decimal start ∷ decimal end ∷ decimal limit ∷ [] → ⊥)
-    → (command : Command) → CommandFits command → words_of_command command ≡ codes "range" ∷ left → ⊥
+    → (command : Command) → CommandIsWithin command → words_of_command command ≡ codes "range" ∷ left → ⊥
 no_range left none (Get key) fits words = omega (arith, ap third_byte words)
 no_range left none (Insert key value) fits words = omega (arith, ap third_byte words)
 no_range left none (Remove key) fits words = omega (arith, ap third_byte words)

@@ -1,4 +1,6 @@
+pub mod ByRow
 pub mod CommandLemmas
 pub mod Ending
+pub mod RefusedRanges
 pub mod Replies
 pub mod Running

@@ -1,54 +1,50 @@
 -- Steps of a run.
 use Rattle.std.proofs.Common.{◌≡◌, ◌≢◌, ℕ, List, [], ◌∷◌, ◌++◌, nat_eq, Option, Some, None, refl, sym, ap, subst, ◌∙◌, append_assoc, append-nil}
+use Rattle.std.specs.List.{AllZip}
 use Rattle.std.specs.Io.KnownBytes.{Keeps}
+use Rattle.std.proofs.lemmas.List.Concat.{flat_map-append}
 use Rattle.spec_map.specs.Map.{Pairs}
-use Rattle.spec_map.specs.Call.{Operation}
 use Rattle.spec_map.specs.Refusal.{at_new_node}
 use Rattle.spec_map.proofs.Runs.{IsLegal-append}
 use Rattle.spec_text.specs.Bytes.{Sends}
 use Rattle.spec_text.specs.Lines.{ended}
 use Rattle.text_lines.specs.inner.Kept.{kept_with}
-use Rattle.spec_text.specs.Answer.{IsAnswered, AreAnswered, operations_of}
-use Rattle.text_run.specs.inner.Parts.{AnswersLines, AnswersAll, AnswersWhole, AnswersPart}
-use Rattle.text_run.specs.inner.Replied.{AnswersLine}
+use Rattle.spec_text.specs.Answer.{IsAnswered}
+use Rattle.text_run.specs.inner.Answers.{Answer, operations_in, texts_in, AnswersLines, AnswersLine, AnswersAll, AnswersWhole, AnswersPart}
 use Rattle.text_run.specs.inner.Session.{HasAnswered, ServesAll, TakesLine, StopsAnswer, Breaks, BreaksWithin}
-use Rattle.text_lines.proofs.Cutting.{ended_push, cut_none, cut_byte, cut_line, cut_on, lines_go_on, holds_byte, last_line}
+use Rattle.text_lines.proofs.Cutting.{cut_none, cut_byte, cut_line, cut_on, lines_go_on, holds_byte, last_line}
 use Rattle.text_lines.proofs.Sending.{sends_more, sends_on, sends_kept, sends_nothing}
 
 -- one line more is answered
-answered_more : (lines texts : List (List ℕ)) (dones : List (Option (Operation ℕ ℕ ℕ))) (line text : List ℕ) (last : Option (Operation ℕ ℕ ℕ)) → AreAnswered lines texts dones → IsAnswered line text last → AreAnswered (lines ++ line ∷ []) (texts ++ text ∷ []) (dones ++ last ∷ [])
-answered_more [] [] [] line text last all more = (more, tt)
-answered_more (l ∷ lines) (t ∷ texts) (d ∷ dones) line text last all more = (all.0, answered_more lines texts dones line text last all.1 more)
-answered_more [] [] (d ∷ dones) line text last all more = absurd all
-answered_more [] (t ∷ texts) dones line text last all more = absurd all
-answered_more (l ∷ lines) [] dones line text last all more = absurd all
-answered_more (l ∷ lines) (t ∷ texts) [] line text last all more = absurd all
+answered_more : (lines : List (List ℕ)) (answers : List Answer) (line : List ℕ) (last : Answer) → AllZip IsAnswered lines answers → IsAnswered line last → AllZip IsAnswered (lines ++ line ∷ []) (answers ++ last ∷ [])
+answered_more [] [] line last all more = (more, tt)
+answered_more (l ∷ lines) (a ∷ answers) line last all more = (all.0, answered_more lines answers line last all.1 more)
+answered_more [] (a ∷ answers) line last all more = absurd all
+answered_more (l ∷ lines) [] line last all more = absurd all
 
-operations_of_more : (dones more : List (Option (Operation ℕ ℕ ℕ))) → operations_of (dones ++ more) ≡ operations_of dones ++ operations_of more
-operations_of_more [] more = refl
-operations_of_more (None ∷ dones) more = operations_of_more dones more
-operations_of_more (Some d ∷ dones) more = ap (λ ds. d ∷ ds) (operations_of_more dones more)
+operations_more : (answers more : List Answer) → operations_in (answers ++ more) ≡ operations_in answers ++ operations_in more
+operations_more [] more = refl
+operations_more ((text, None) ∷ answers) more = operations_more answers more
+operations_more ((text, Some d) ∷ answers) more = ap (λ ds. d ∷ ds) (operations_more answers more)
+
+texts_more : (answers : List Answer) (last : Answer) → texts_in (answers ++ last ∷ []) ≡ texts_in answers ++ ended last.0
+texts_more answers last = flat_map-append (λ a. ended a.0) answers (last ∷ []) ∙ ap (λ ws. texts_in answers ++ ws) (append-nil (ended last.0))
 
 pub tells_none : (o : Option (List ℕ)) → AnswersLines [] [] o o []
-tells_none o = record { texts = []; dones = []; answers = tt; legal = refl; sends = sends_nothing o [] }
+tells_none o = record { answers = []; each = tt; legal = refl; sends = sends_nothing o [] }
 
 pub tells_line : {lines : List (List ℕ)} {m n : Pairs ℕ} {old mid new : Option (List ℕ)} {left left' : List ℕ} (line text : List ℕ) → AnswersLines lines m old mid left → AnswersLine m line text n → Sends mid new (left ++ ended text) left' → AnswersLines (lines ++ line ∷ []) n old new left'
-tells_line {lines} {m} {n} line text shows a sends = record {
-  texts = shows.texts ++ text ∷ [];
-  dones = shows.dones ++ a.done ∷ [];
-  answers = answered_more lines shows.texts shows.dones line text a.done shows.answers a.answered;
-  legal = rw (operations_of_more shows.dones (a.done ∷ [])) (IsLegal-append nat_eq at_new_node [] m n (operations_of shows.dones) (operations_of (a.done ∷ [])) shows.legal a.legal);
-  sends = rw (ended_push shows.texts text) (sends_more (ended text) shows.sends sends);
-}
+tells_line {lines} {m} {n} line text shows a sends =
+    let last : Answer = (text, a.done) in
+    record {
+      answers = shows.answers ++ last ∷ [];
+      each = answered_more lines shows.answers line last shows.each a.answered;
+      legal = rw (operations_more shows.answers (last ∷ [])) (IsLegal-append nat_eq at_new_node [] m n (operations_in shows.answers) (operations_in (last ∷ [])) shows.legal a.legal);
+      sends = rw (texts_more shows.answers last) (sends_more (ended text) shows.sends sends);
+    }
 
 pub tells_sent : {lines : List (List ℕ)} {m : Pairs ℕ} {old mid new : Option (List ℕ)} {left left' : List ℕ} → AnswersLines lines m old mid left → Sends mid new left left' → AnswersLines lines m old new left'
-tells_sent shows sends = record {
-  texts = shows.texts;
-  dones = shows.dones;
-  answers = shows.answers;
-  legal = shows.legal;
-  sends = sends_on shows.sends sends;
-}
+tells_sent shows sends = record { answers = shows.answers; each = shows.each; legal = shows.legal; sends = sends_on shows.sends sends }
 
 -- in the middle of a run
 pub serves_none : (o : Option (List ℕ)) → HasAnswered [] (Some []) [] o o []
@@ -164,13 +160,7 @@ serves_all_kept s k = record {
   rest = s.rest;
   cut = s.cut;
   map = s.map;
-  shows = record {
-    texts = s.shows.texts;
-    dones = s.shows.dones;
-    answers = s.shows.answers;
-    legal = s.shows.legal;
-    sends = sends_kept s.shows.sends k;
-  };
+  shows = record { answers = s.shows.answers; each = s.shows.each; legal = s.shows.legal; sends = sends_kept s.shows.sends k };
 }
 
 pub serves_line_to : {m n : Pairs ℕ} {kept kept' : Option (List ℕ)} {left left' bytes : List ℕ} {old mid new : Option (List ℕ)} (byte : ℕ) → byte ≡ 10 → kept' ≡ Some [] → HasAnswered m kept left old mid bytes → TakesLine m n kept left left' mid new → HasAnswered n kept' left' old new (bytes ++ byte ∷ [])

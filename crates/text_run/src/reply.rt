@@ -1,6 +1,6 @@
 //! Replies to lines, and the texts of the replies.
 
-ghost use Rattle.std.specs.Prelude.{◌≡◌, ℕ, ◌+◌, ◌≤◌, ◌++◌, ◌∷◌, List, [], length, Some, None, IfOk, OnOk, OnErr, nat_eq};
+ghost use Rattle.std.specs.Prelude.{◌≡◌, ℕ, ◌+◌, ◌≤◌, ◌++◌, ◌∷◌, List, [], length, Some, None, IfOk, OnOk, OnErr, nat_eq, true};
 ghost use Rattle.spec_map.specs.Map.{lookup, put as put_pair, with_answer};
 
 use crate::command::command_of;
@@ -41,12 +41,13 @@ pub enum LineReply {
 
 ghost use Rattle.spec_map.specs.Legal.{IsLegal, AnswersBy};
 ghost use Rattle.spec_map.specs.Refusal.{NeedsNode, at_new_node};
-ghost use Rattle.spec_text.specs.Answer.{IsText};
+ghost use Rattle.spec_text.specs.Answer.{answer_text};
 ghost use Rattle.spec_text.specs.Command.{checked_sum, put_sum, command_closure};
 ghost use Rattle.spec_text.specs.Lines.{ended};
 ghost use Rattle.text_lines.specs.inner.Kept.{IsKeptOf};
-ghost use Rattle.text_lines.specs.Watched.{HasFailed, SendsTo, SendsPart};
-ghost use Rattle.text_run.specs.inner.Replied.{line_reply_text, head_text, items_text, reply_answer, reply_asked, reply_operation, AnswersLine};
+ghost use Rattle.text_lines.specs.Watched.{SendsTo, SendsPart};
+ghost use Rattle.text_run.specs.inner.Replied.{line_reply_text, head_text, items_text, reply_answer, reply_asked, reply_operation};
+ghost use Rattle.text_run.specs.inner.Answers.{AnswersLine};
 
 /// Executes the line's command. The map takes memory for a new key, and a reply for what it lists.
 /// If there is none, the reply is `Refused` and the map is unchanged.
@@ -82,7 +83,7 @@ fn execute<A: Allocator>(
     map: &mut Congee<u64, u64, A>,
     command: Command,
 ) -> LineReply
-    ensures text { IsText command (reply_answer result) (line_reply_text result) }
+    ensures text { line_reply_text result ≡ answer_text command (reply_answer result) }
     ensures closure { AnswersBy (command_closure command) (reply_asked command result) }
     ensures legal { IsLegal nat_eq at_new_node map.old.pairs
         (reply_operation command result ∷ []) map.new.pairs }
@@ -177,7 +178,7 @@ pub fn put_reply<W: Write>(
     ensures err { OnErr result (SendsPart W.contents output.old output.new
         (pending.old ++ ended (line_reply_text reply.now))) }
     ensures kept { OnOk result (output.new.failed ≡ output.old.failed) }
-    ensures failed { OnErr result (HasFailed output.new) }
+    ensures failed { OnErr result (output.new.failed ≡ true) }
 {
     pending.make_room(output)?;
     add_head(pending, reply);
@@ -222,7 +223,7 @@ fn put_items<W: Write>(
     ensures err { OnErr result (SendsPart W.contents output.old output.new
         (pending.old ++ items_text reply.now)) }
     ensures kept { OnOk result (output.new.failed ≡ output.old.failed) }
-    ensures failed { OnErr result (HasFailed output.new) }
+    ensures failed { OnErr result (output.new.failed ≡ true) }
 {
     match reply {
         LineReply::Ranged(pairs) => put_pairs(pending, output, pairs),

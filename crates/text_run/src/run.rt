@@ -1,7 +1,6 @@
 //! The engine of `congee run`: command lines in, answer lines out.
 
-ghost use Rattle.std.specs.Prelude.{◌≡◌, ℕ, ◌<◌, List, Option, Err, OnOk};
-ghost use Rattle.text_lines.specs.Watched.{HasFailed, calls_left};
+ghost use Rattle.std.specs.Prelude.{◌≡◌, ◌≢◌, ℕ, ◌<◌, List, Option, Err, OnOk, true};
 ghost use Rattle.text_run.specs.Run.{EndsRun};
 ghost use Rattle.text_run.specs.inner.Session.{HasServedInput, TurnsTo};
 ghost use Rattle.text_run.specs.declared.run.RunError.TheVariants.{Read as ReadFailed, Write as WriteFailed};
@@ -40,8 +39,8 @@ pub fn run<R: Read, W: Write>(
     output: &mut Watched<W>,
     limit: Option<u64>,
 ) -> Result<(), RunError>
-    requires input { HasFailed input.old → ⊥ }
-    requires output { HasFailed output.old → ⊥ }
+    requires input { input.old.failed ≢ true }
+    requires output { output.old.failed ≢ true }
     ensures { EndsRun R.remaining W.contents input.old input.new output.old output.new result }
 {
     match limit {
@@ -57,8 +56,8 @@ fn run_within<R: Read, W: Write, A: Allocator>(
     input: &mut Watched<R>,
     output: &mut Watched<W>,
 ) -> Result<(), RunError>
-    requires input { HasFailed input.old → ⊥ }
-    requires output { HasFailed output.old → ⊥ }
+    requires input { input.old.failed ≢ true }
+    requires output { output.old.failed ≢ true }
     ensures { EndsRun R.remaining W.contents input.old input.new output.old output.new result }
 {
     let Ok(mut session) = Session::new(alloc, allocator) else {
@@ -86,11 +85,11 @@ fn turn<R: Read, W: Write, A: Allocator>(
     ensures turns { (old_in old_out : Option (List ℕ))
         → HasServedInput R.remaining W.contents session.old input.old output.old old_in old_out
         → TurnsTo R.remaining W.contents session.new input.new output.new old_in old_out result }
-    ensures fewer { OnOk result (calls_left input.new < calls_left input.old) }
+    ensures fewer { OnOk result (input.new.calls_left < input.old.calls_left) }
     ensures input { OnOk result (input.new.failed ≡ input.old.failed) }
     ensures output { OnOk result (output.new.failed ≡ output.old.failed) }
-    ensures read_failed { result ≡ Err ReadFailed → HasFailed input.new }
-    ensures write_failed { result ≡ Err WriteFailed → HasFailed output.new }
+    ensures read_failed { result ≡ Err ReadFailed → (input.new.failed ≡ true) }
+    ensures write_failed { result ≡ Err WriteFailed → (output.new.failed ≡ true) }
 {
     let Ok(()) = session.send_to(output) else {
         return Err(RunError::Write);

@@ -1,8 +1,7 @@
 //! A map, and the lines that are served on it.
 
-ghost use Rattle.std.specs.Prelude.{◌≡◌, ℕ, ◌++◌, ◌∷◌, List, [], Option, Some, IfOk, OnOk, OnErr};
-ghost use Rattle.text_lines.specs.Watched.{HasFailed, inner_of};
-ghost use Rattle.text_run.specs.inner.Parts.{AnswersAll, AnswersPart};
+ghost use Rattle.std.specs.Prelude.{◌≡◌, ℕ, ◌++◌, ◌∷◌, List, [], Option, Some, IfOk, OnOk, OnErr, true};
+ghost use Rattle.text_run.specs.inner.Answers.{AnswersAll, AnswersPart};
 ghost use Rattle.text_run.specs.inner.Session.{HasAnswered, HasServed, ServesAll, TakesLine, StopsAnswer, BreaksWithin, Breaks};
 
 use crate::reply::{put_reply, reply_to};
@@ -44,12 +43,12 @@ impl<A: Allocator> Session<A> {
         ensures ok { (old : Option (List ℕ)) (bytes : List ℕ)
             → HasServed W.contents self.old output.old old bytes
             → OnOk result (HasAnswered self.new.map.pairs self.new.line []
-            old (W.contents (inner_of output.new)) bytes × (self.new.pending ≡ [])) }
+            old (W.contents output.new.inner) bytes × (self.new.pending ≡ [])) }
         ensures err { (old : Option (List ℕ)) (bytes : List ℕ)
             → HasServed W.contents self.old output.old old bytes
-            → OnErr result (Breaks bytes old (W.contents (inner_of output.new))) }
+            → OnErr result (Breaks bytes old (W.contents output.new.inner)) }
         ensures kept { OnOk result (output.new.failed ≡ output.old.failed) }
-        ensures failed { OnErr result (HasFailed output.new) }
+        ensures failed { OnErr result (output.new.failed ≡ true) }
     {
         self.pending.send_to(output)
     }
@@ -65,9 +64,9 @@ impl<A: Allocator> Session<A> {
             → OnOk result (HasServed W.contents self.new output.new old (before ++ bytes.now)) }
         ensures err { (old : Option (List ℕ)) (before : List ℕ)
             → HasServed W.contents self.old output.old old before
-            → OnErr result (BreaksWithin before bytes.now old (W.contents (inner_of output.new))) }
+            → OnErr result (BreaksWithin before bytes.now old (W.contents output.new.inner)) }
         ensures kept { OnOk result (output.new.failed ≡ output.old.failed) }
-        ensures failed { OnErr result (HasFailed output.new) }
+        ensures failed { OnErr result (output.new.failed ≡ true) }
     {
         for byte in bytes {
             self.take(*byte, output)?;
@@ -81,9 +80,9 @@ impl<A: Allocator> Session<A> {
             → OnOk result (HasServed W.contents self.new output.new old (before ++ byte ∷ [])) }
         ensures err { (old : Option (List ℕ)) (before : List ℕ)
             → HasServed W.contents self.old output.old old before
-            → OnErr result (Breaks (before ++ byte ∷ []) old (W.contents (inner_of output.new))) }
+            → OnErr result (Breaks (before ++ byte ∷ []) old (W.contents output.new.inner)) }
         ensures kept { OnOk result (output.new.failed ≡ output.old.failed) }
-        ensures failed { OnErr result (HasFailed output.new) }
+        ensures failed { OnErr result (output.new.failed ≡ true) }
     {
         if byte == b'\n' {
             return self.answer(output);
@@ -96,12 +95,12 @@ impl<A: Allocator> Session<A> {
     fn answer<W: Write>(&mut self, output: &mut Watched<W>) -> Result<(), Failed>
         ensures ok { OnOk result (TakesLine self.old.map.pairs self.new.map.pairs
             self.old.line self.old.pending self.new.pending
-            (W.contents (inner_of output.old)) (W.contents (inner_of output.new))) }
+            (W.contents output.old.inner) (W.contents output.new.inner)) }
         ensures line { OnOk result (self.new.line ≡ Some []) }
         ensures err { OnErr result (StopsAnswer self.old.map.pairs self.old.line self.old.pending
-            (W.contents (inner_of output.old)) (W.contents (inner_of output.new))) }
+            (W.contents output.old.inner) (W.contents output.new.inner)) }
         ensures kept { OnOk result (output.new.failed ≡ output.old.failed) }
-        ensures failed { OnErr result (HasFailed output.new) }
+        ensures failed { OnErr result (output.new.failed ≡ true) }
     {
         let reply = reply_to(self.alloc, &mut self.map, &self.line);
         put_reply(&mut self.pending, output, &reply)?;
@@ -114,12 +113,12 @@ impl<A: Allocator> Session<A> {
         ensures ok { (old : Option (List ℕ)) (bytes : List ℕ)
             → HasServed W.contents self.old output.old old bytes
             → OnOk result
-            (ServesAll self.new.pending old (W.contents (inner_of output.new)) bytes) }
+            (ServesAll self.new.pending old (W.contents output.new.inner) bytes) }
         ensures err { (old : Option (List ℕ)) (bytes : List ℕ)
             → HasServed W.contents self.old output.old old bytes
-            → OnErr result (AnswersPart bytes old (W.contents (inner_of output.new))) }
+            → OnErr result (AnswersPart bytes old (W.contents output.new.inner)) }
         ensures kept { OnOk result (output.new.failed ≡ output.old.failed) }
-        ensures failed { OnErr result (HasFailed output.new) }
+        ensures failed { OnErr result (output.new.failed ≡ true) }
     {
         if self.line.is_empty() {
             return Ok(());
@@ -131,12 +130,12 @@ impl<A: Allocator> Session<A> {
     pub fn finish<W: Write>(&mut self, output: &mut Watched<W>) -> Result<(), Failed>
         ensures ok { (old : Option (List ℕ)) (bytes : List ℕ)
             → HasServed W.contents self.old output.old old bytes
-            → OnOk result (AnswersAll bytes old (W.contents (inner_of output.new))) }
+            → OnOk result (AnswersAll bytes old (W.contents output.new.inner)) }
         ensures err { (old : Option (List ℕ)) (bytes : List ℕ)
             → HasServed W.contents self.old output.old old bytes
-            → OnErr result (AnswersPart bytes old (W.contents (inner_of output.new))) }
+            → OnErr result (AnswersPart bytes old (W.contents output.new.inner)) }
         ensures kept { OnOk result (output.new.failed ≡ output.old.failed) }
-        ensures failed { OnErr result (HasFailed output.new) }
+        ensures failed { OnErr result (output.new.failed ≡ true) }
     {
         self.answer_last(output)?;
         self.pending.send_to(output)?;

@@ -1,15 +1,21 @@
 -- How the reading of a schedule ends.
-use Rattle.std.proofs.Common.{◌≡◌, ℕ, List, [], ◌∷◌, Option, Result, Ok, Err, IfOk, IfErr, refl, ap, ◌∙◌, inl, inr, append-nil}
+use Rattle.std.proofs.Common.{◌≡◌, ◌≢◌, ◌⊎◌, ℕ, ◌<◌, ◌≤◌, Bool, true, false, List, [], ◌∷◌, ◌++◌, length, Option, Result, Ok, Err, IfOk, IfErr, refl, sym, ap, subst, inl, inr, append-nil}
+use Rattle.std.specs.List.{AllZip}
 use Rattle.std.specs.Io.KnownBytes.{Consumes, IsAtEnd}
-use Rattle.text_lines.specs.Watched.{HasFailed, inner_of}
+use Rattle.spec_text.specs.Entry.{SpellsEntry}
+use Rattle.spec_text.specs.Lines.{lines_of}
+use Rattle.spec_text.specs.declared.entry.Entry.{Entry}
+use Rattle.text_lines.proofs.Cutting.{reads_cut}
+use Rattle.text_lines.specs.inner.Cut.{Cuts}
 use Rattle.text_lines.specs.declared.watched.Watched.{Watched}
 use Rattle.spec_olc.specs.declared.types.Event.{Event}
-use Rattle.text_schedule.specs.Schedule.{StopsForMemory, StopsAt}
-use Rattle.text_schedule.specs.inner.Reading.{ParseAll, Fault, FaultAmong, FaultAtEnd, FindsFault, ReadTurnsTo, EndsReading}
+use Rattle.text_schedule.proofs.Saying.{events_push}
+use Rattle.text_schedule.specs.Schedule.{Parses, HasTooMany}
+use Rattle.text_schedule.specs.inner.Parts.{ParseAsEntries, ParseAsEvents, HasTooManyAfter}
+use Rattle.text_schedule.specs.inner.Reading.{ParseAll, FaultAmong, FaultAtEnd, FindsFault, ReadTurnsTo, EndsReading}
 use Rattle.text_schedule.specs.declared.reading.Reading.{Reading}
 use Rattle.text_schedule.specs.declared.schedule.ScheduleError.{ScheduleError}
 use Rattle.text_schedule.specs.declared.schedule.ScheduleError.TheVariants.{Read, Write, Oom, Line as BadLine, Events}
-use Rattle.text_schedule.specs.Schedule.{HasRead, HasReadAll, ParseAsEvents}
 
 pub turns_err : (r : Reading) (input input' : Option (List ℕ)) (error : ScheduleError) → (error ≡ Read → ⊥)
     → FindsFault input input' error → ReadTurnsTo r input input' (Err error)
@@ -19,52 +25,66 @@ turns_err r input input' Oom other found = found
 turns_err r input input' (BadLine n) other found = found
 turns_err r input input' Events other found = found
 
--- a fault among lines that were read
-stops_for_memory : {input input' : Option (List ℕ)} {all : List (List ℕ)} (error : ScheduleError)
-    → HasRead input input' all → FaultAmong all error → StopsForMemory input input'
-stops_for_memory error read f = record { lines = f.lines; later = f.line ∷ f.later; read = rw f.parts at read; events = f.events; parsed = f.parsed }
+-- lines that parse, each as one entry
+each_parses : (lines : List (List ℕ)) (entries : List Entry) → ParseAsEntries lines entries → AllZip SpellsEntry lines entries
+each_parses [] [] all = tt
+each_parses (line ∷ lines) (entry ∷ entries) all = (all.0, each_parses lines entries all.1)
+each_parses [] (entry ∷ entries) all = absurd all
+each_parses (line ∷ lines) [] all = absurd all
 
-stops_at : {input input' : Option (List ℕ)} {all : List (List ℕ)} (error : ScheduleError)
-    → HasRead input input' all → FaultAmong all error → StopsAt (Fault error) input input'
-stops_at error read f = record {
-  lines = f.lines;
-  line = f.line;
-  later = f.later;
-  read = rw f.parts at read;
-  events = f.events;
-  parsed = f.parsed;
-  fault = f.fault;
+-- the first lines of what was read, by its bytes
+abbrev AreFirst : Option (List ℕ) → List (List ℕ) → List ℕ → List (List ℕ) → List (List ℕ) → Type 0
+AreFirst input' whole rest lines later = (whole ≡ lines ++ later) ⊎ (IsAtEnd input' × (lines_of whole rest ≡ lines ++ later))
+
+abbrev parses : {input input' : Option (List ℕ)} {taken rest : List ℕ} {whole : List (List ℕ)} {events : List (Event ℕ)} (lines later : List (List ℕ))
+    → Consumes input input' taken → Cuts taken whole rest → AreFirst input' whole rest lines later → ParseAsEvents lines events → Parses input input'
+parses lines later consumes cut are parsed = record {
+  read = reads_cut consumes cut;
+  lines = lines;
+  later = later;
+  are = are;
+  entries = parsed.entries;
+  each = each_parses lines parsed.entries parsed.parsed_lines;
+  few = subst (λ (es : List (Event ℕ)). length es ≤ 100000) parsed.events_are parsed.few;
 }
 
+too_many : {lines : List (List ℕ)} {events : List (Event ℕ)} (line : List ℕ) → (parsed : ParseAsEvents lines events) → HasTooManyAfter line events → HasTooMany parsed.entries line
+too_many line parsed fault = (
+  fault.entry,
+  fault.parses,
+  subst (λ (es : List (Event ℕ)). 100000 < length es) (events_push parsed.entries fault.entry parsed.events_are) fault.many,
+)
+
 module _ {R V : Type 0} (remaining : R → Option (List ℕ)) (items : V → List (Event ℕ)) (input input' : Watched R) where
-  pub ends_among : {all : List (List ℕ)} (error : ScheduleError) → (error ≡ Read → ⊥)
-      → HasRead (remaining (inner_of input)) (remaining (inner_of input')) all → FaultAmong all error
-      → input'.failed ≡ input.failed → EndsReading remaining items input input' (Err error)
-  ends_among Read other read f kept = absurd (other refl)
-  ends_among Write other read f kept = absurd f.fault
-  ends_among Oom other read f kept = (stops_for_memory Oom read f, kept)
-  ends_among (BadLine n) other read f kept = (stops_at (BadLine n) read f, kept)
-  ends_among Events other read f kept = (stops_at Events read f, kept)
+  -- a fault among lines that were read
+  ends_among : {taken rest : List ℕ} {whole all : List (List ℕ)} (error : ScheduleError) → (error ≡ Read → ⊥)
+      → Consumes (remaining input.inner) (remaining input'.inner) taken → Cuts taken whole rest
+      → ((lines later : List (List ℕ)) → all ≡ lines ++ later → AreFirst (remaining input'.inner) whole rest lines later)
+      → FaultAmong all error → input'.failed ≡ input.failed → EndsReading remaining items input input' (Err error)
+  ends_among Read other consumes cut are f kept = absurd (other refl)
+  ends_among Write other consumes cut are f kept = absurd f.fault
+  ends_among Oom other consumes cut are f kept =
+      (parses f.lines (f.line ∷ f.later) consumes cut (are f.lines (f.line ∷ f.later) f.parts) f.parsed, kept)
+  ends_among (BadLine n) other consumes cut are f kept = (
+    (parses f.lines (f.line ∷ f.later) consumes cut (are f.lines (f.line ∷ f.later) f.parts) f.parsed, f.fault.0, f.fault.1),
+    kept,
+  )
+  ends_among Events other consumes cut are f kept = (
+    (parses f.lines (f.line ∷ f.later) consumes cut (are f.lines (f.line ∷ f.later) f.parts) f.parsed, too_many f.line f.parsed f.fault),
+    kept,
+  )
 
   -- a read that finds a fault, or fails
-  finds : (error : ScheduleError) → (error ≡ Read → ⊥)
-      → FindsFault (remaining (inner_of input)) (remaining (inner_of input')) error
+  finds : (error : ScheduleError) → (error ≡ Read → ⊥) → FindsFault (remaining input.inner) (remaining input'.inner) error
       → input'.failed ≡ input.failed → EndsReading remaining items input input' (Err error)
-  finds error other f kept =
-      ends_among error other (record {
-        taken = f.taken;
-        reads = f.reads;
-        whole = f.found.whole;
-        rest = f.found.rest;
-        cut = f.found.cut;
-        lines_are = inl refl;
-      }) f.found.among kept
+  finds error other f kept = ends_among error other f.reads f.found.cut (λ lines later parts. inl parts) f.found.among kept
 
   pub breaks_off : (r : Reading) (error : ScheduleError)
-      → ReadTurnsTo r (remaining (inner_of input)) (remaining (inner_of input')) (Err error)
-      → ((error ≡ Read → ⊥) → input'.failed ≡ input.failed) → (error ≡ Read → HasFailed input')
+      → ReadTurnsTo r (remaining input.inner) (remaining input'.inner) (Err error)
+      → ((error ≡ Read → ⊥) → input'.failed ≡ input.failed) → (error ≡ Read → input'.failed ≡ true)
       → EndsReading remaining items input input' (Err error)
-  breaks_off r Read turned kept failed = (turned, failed refl)
+  breaks_off r Read turned kept failed =
+      ((parses turned.whole [] turned.reads turned.cut (inl (sym (append-nil turned.whole))) turned.parsed, refl), failed refl)
   breaks_off r Write turned kept failed = finds Write (λ e. cc) turned (kept (λ e. cc))
   breaks_off r Oom turned kept failed = finds Oom (λ e. cc) turned (kept (λ e. cc))
   breaks_off r (BadLine n) turned kept failed = finds (BadLine n) (λ e. cc) turned (kept (λ e. cc))
@@ -72,37 +92,18 @@ module _ {R V : Type 0} (remaining : R → Option (List ℕ)) (items : V → Lis
 
   -- the end of the input
   pub ends_all : (taken : List ℕ) (result : Result V ScheduleError)
-      → Consumes (remaining (inner_of input)) (remaining (inner_of input')) taken → IsAtEnd (remaining (inner_of input'))
+      → Consumes (remaining input.inner) (remaining input'.inner) taken → IsAtEnd (remaining input'.inner)
       → IfOk result (λ events. ParseAll taken (items events)) → IfErr result (FaultAtEnd taken) → (result ≡ Err Read → ⊥)
       → input'.failed ≡ input.failed → EndsReading remaining items input input' result
-  ends_all taken (Ok events) reads ends parsed fault other kept = (
-    (_, record { taken = taken; reads = reads; ends = ends; whole = parsed.whole; rest = parsed.rest; cut = parsed.cut; lines_are = refl }, parsed.parsed),
-    kept,
-  )
+  ends_all taken (Ok events) reads ends parsed fault other kept =
+      let all = lines_of parsed.whole parsed.rest in (
+        (parses all [] reads parsed.cut (inr (ends, sym (append-nil all))) parsed.parsed, refl, ends, parsed.parsed.events_are),
+        kept,
+      )
   ends_all taken (Err error) reads ends parsed fault other kept =
-      ends_among error (λ e. other (ap Err e)) (record {
-        taken = taken;
-        reads = reads;
-        whole = fault.whole;
-        rest = fault.rest;
-        cut = fault.cut;
-        lines_are = inr (ends, refl);
-      }) fault.among kept
+      ends_among error (λ e. other (ap Err e)) reads fault.cut (λ lines later parts. inr (ends, parts)) fault.among kept
 
--- all lines were read, and then there was no memory
-pub no_memory : {input input' : Option (List ℕ)} (lines : List (List ℕ)) (events : List (Event ℕ))
-    → HasReadAll input input' lines → ParseAsEvents lines events → StopsForMemory input input'
-no_memory lines events read parsed = record {
-  lines = lines;
-  later = [];
-  read = record {
-    taken = read.taken;
-    reads = read.reads;
-    whole = read.whole;
-    rest = read.rest;
-    cut = read.cut;
-    lines_are = inr (read.ends, append-nil lines ∙ read.lines_are);
-  };
-  events = events;
-  parsed = parsed;
-}
+-- no call failed
+pub never_failed : (failed : Bool) → failed ≢ true → failed ≡ false
+never_failed true never = absurd (never refl)
+never_failed false never = refl

@@ -1,14 +1,16 @@
 -- The grammar of entries.
 use Rattle.std.proofs.Common.{◌≡◌, ℕ, ◌<◌, ◌≤◌, ◌^◌, List, [], ◌∷◌, length, get_or, codes, decimal, Option, Some, None, option_map, if◌then◌else◌, bytes_eq, refl, ap, rules, arith}
 use Rattle.std.specs.List.{AllByRecursion}
-use Rattle.text_lines.proofs.GrammarLemmas.{IsGrammar}
-use Rattle.text_lines.proofs.ValueLemmas.{number_from, number_read, value_from, value_read, value_word}
+use Rattle.text_lines.proofs.GrammarLemmas.{NumbersFit, IsGrammar}
+use Rattle.text_lines.proofs.Decimals.{no_number, one_decimal}
+use Rattle.text_lines.proofs.ValueLemmas.{number_from, number_read, value_from, value_read, value_word, value_fits, value_number}
 use Rattle.text_lines.proofs.WordLemmas.{IsWord, number_word}
 use Rattle.node_table.specs.declared.child.Child.{Child}
 use Rattle.node_table.specs.declared.child.Child.TheVariants.{Payload, Node}
 use Rattle.spec_olc.specs.declared.types.Op.{Op}
 use Rattle.spec_olc.specs.declared.types.Op.TheVariants.{Get, Insert, Remove, ComputeIfPresent, ComputeOrInsert, CompareExchange, Range}
-use Rattle.spec_text.specs.Entry.{words_of_op, OpFits, words_of_child, ChildFits, words_of_entry, EntryFits}
+use Rattle.spec_text.specs.Entry.{words_of_op, words_of_child, words_of_entry, EntryFits}
+use Rattle.text_schedule.specs.inner.EntryReading.{OpFits, ChildFits, EntryIsWithin}
 use Rattle.spec_text.specs.declared.entry.Entry.{Entry}
 use Rattle.spec_text.specs.declared.entry.Entry.TheVariants.{Start, Step, Steps, Torn, Fail, Answer, Reclaim}
 
@@ -89,7 +91,7 @@ entry_from words = None
 count_wide : (count : ℕ) → count ≤ 10000 → count < 2 ^ 64
 count_wide count h = omega arith
 
-entry_read : (entry : Entry) → EntryFits entry → entry_from (words_of_entry entry) ≡ Some entry
+entry_read : (entry : Entry) → EntryIsWithin entry → entry_from (words_of_entry entry) ≡ Some entry
 entry_read (Start id op) fits = rw (number_read id fits.0, op_read op fits.1) refl
 entry_read (Step id) fits = rw (number_read id fits) refl
 entry_read (Steps id count) fits = rw (number_read id fits.0, number_read count (count_wide count fits.2)) refl
@@ -117,7 +119,7 @@ child_words None fits = (record { lacks = search rules; short = omega arith }, t
 child_words (Some (Payload value)) fits = (record { lacks = search rules; short = omega arith }, (number_word value fits, tt))
 child_words (Some (Node slot)) fits = (record { lacks = search rules; short = omega arith }, (number_word slot fits, tt))
 
-entry_words : (entry : Entry) → EntryFits entry → AllByRecursion IsWord (words_of_entry entry)
+entry_words : (entry : Entry) → EntryIsWithin entry → AllByRecursion IsWord (words_of_entry entry)
 entry_words (Start id op) fits =
     (record { lacks = search rules; short = omega arith }, (number_word id fits.0, op_words op fits.1))
 entry_words (Step id) fits = (record { lacks = search rules; short = omega arith }, (number_word id fits, tt))
@@ -144,7 +146,7 @@ child_few None = omega arith
 child_few (Some (Payload value)) = omega arith
 child_few (Some (Node slot)) = omega arith
 
-entry_few : (entry : Entry) → EntryFits entry → length (words_of_entry entry) ≤ 12
+entry_few : (entry : Entry) → EntryIsWithin entry → length (words_of_entry entry) ≤ 12
 entry_few (Start id op) fits = omega (arith, op_few op)
 entry_few (Step id) fits = omega arith
 entry_few (Steps id count) fits = omega arith
@@ -153,7 +155,7 @@ entry_few (Fail id) fits = omega arith
 entry_few (Answer id answer) fits = omega arith
 entry_few (Reclaim slot) fits = omega arith
 
-entry_some : (entry : Entry) → EntryFits entry → 0 < length (words_of_entry entry)
+entry_some : (entry : Entry) → EntryIsWithin entry → 0 < length (words_of_entry entry)
 entry_some (Start id op) fits = omega arith
 entry_some (Step id) fits = omega arith
 entry_some (Steps id count) fits = omega arith
@@ -162,8 +164,71 @@ entry_some (Fail id) fits = omega arith
 entry_some (Answer id answer) fits = omega arith
 entry_some (Reclaim slot) fits = omega arith
 
-pub entries : IsGrammar words_of_entry EntryFits
+-- an entry is within its bounds where its numbers have 64 bits and its count is kept
+op_within : (op : Op ℕ) → NumbersFit (words_of_op op) → OpFits op
+op_within (Get key) n = n.1.0 key refl
+op_within (Insert key value) n = (n.1.0 key refl, n.1.1.0 value refl)
+op_within (Remove key) n = n.1.0 key refl
+op_within (ComputeIfPresent key) n = n.1.0 key refl
+op_within (ComputeOrInsert key otherwise) n = (n.1.0 key refl, n.1.1.0 otherwise refl)
+op_within (CompareExchange key old new) n = (n.1.0 key refl, n.1.1.0 old refl, value_fits new n.1.1.1.0)
+op_within (Range start end limit) n = (n.1.0 start refl, n.1.1.0 end refl, n.1.1.1.0 limit refl)
+
+child_within : (child : Option (Child ℕ)) → NumbersFit (words_of_child child) → ChildFits child
+child_within None n = tt
+child_within (Some (Payload value)) n = n.1.0 value refl
+child_within (Some (Node slot)) n = n.1.0 slot refl
+
+within : (entry : Entry) → NumbersFit (words_of_entry entry) → EntryFits entry → EntryIsWithin entry
+within (Start id op) n limit = (n.1.0 id refl, op_within op n.1.1)
+within (Step id) n limit = n.1.0 id refl
+within (Steps id count) n limit = (n.1.0 id refl, limit.0, limit.1)
+within (Torn id child) n limit = (n.1.0 id refl, child_within child n.1.1)
+within (Fail id) n limit = n.1.0 id refl
+within (Answer id answer) n limit = (n.1.0 id refl, value_fits answer n.1.1.0)
+within (Reclaim slot) n limit = n.1.0 slot refl
+
+op_numbers : (op : Op ℕ) → OpFits op → NumbersFit (words_of_op op)
+op_numbers (Get key) fits = (no_number _ (omega arith), (one_decimal key fits, tt))
+op_numbers (Insert key value) fits = (no_number _ (omega arith), (one_decimal key fits.0, (one_decimal value fits.1, tt)))
+op_numbers (Remove key) fits = (no_number _ (omega arith), (one_decimal key fits, tt))
+op_numbers (ComputeIfPresent key) fits = (no_number _ (omega arith), (one_decimal key fits, tt))
+op_numbers (ComputeOrInsert key otherwise) fits =
+    (no_number _ (omega arith), (one_decimal key fits.0, (one_decimal otherwise fits.1, tt)))
+op_numbers (CompareExchange key old new) fits =
+    (no_number _ (omega arith), (one_decimal key fits.0, (one_decimal old fits.1, (value_number new fits.2, tt))))
+op_numbers (Range start end limit) fits =
+    (no_number _ (omega arith), (one_decimal start fits.0, (one_decimal end fits.1, (one_decimal limit fits.2, tt))))
+
+child_numbers : (child : Option (Child ℕ)) → ChildFits child → NumbersFit (words_of_child child)
+child_numbers None fits = (no_number _ (omega arith), tt)
+child_numbers (Some (Payload value)) fits = (no_number _ (omega arith), (one_decimal value fits, tt))
+child_numbers (Some (Node slot)) fits = (no_number _ (omega arith), (one_decimal slot fits, tt))
+
+numbers_fit : (entry : Entry) → EntryIsWithin entry → NumbersFit (words_of_entry entry)
+numbers_fit (Start id op) fits = (no_number _ (omega arith), (one_decimal id fits.0, op_numbers op fits.1))
+numbers_fit (Step id) fits = (no_number _ (omega arith), (one_decimal id fits, tt))
+numbers_fit (Steps id count) fits =
+    (no_number _ (omega arith), (one_decimal id fits.0, (one_decimal count (count_wide count fits.2), tt)))
+numbers_fit (Torn id child) fits = (no_number _ (omega arith), (one_decimal id fits.0, child_numbers child fits.1))
+numbers_fit (Fail id) fits = (no_number _ (omega arith), (one_decimal id fits, tt))
+numbers_fit (Answer id answer) fits = (no_number _ (omega arith), (one_decimal id fits.0, (value_number answer fits.1, tt)))
+numbers_fit (Reclaim slot) fits = (no_number _ (omega arith), (one_decimal slot fits, tt))
+
+limits_kept : (entry : Entry) → EntryIsWithin entry → EntryFits entry
+limits_kept (Start id op) fits = tt
+limits_kept (Step id) fits = tt
+limits_kept (Steps id count) fits = (fits.1, fits.2)
+limits_kept (Torn id child) fits = tt
+limits_kept (Fail id) fits = tt
+limits_kept (Answer id answer) fits = tt
+limits_kept (Reclaim slot) fits = tt
+
+pub entries : IsGrammar words_of_entry EntryIsWithin EntryFits
 entries = record {
+  fits = within;
+  numbers = numbers_fit;
+  limits = limits_kept;
   some = entry_some;
   few = entry_few;
   each = entry_words;

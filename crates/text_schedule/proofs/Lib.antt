@@ -1,3 +1,4 @@
+pub mod ByParts
 pub mod Decided
 pub mod Ending
 pub mod EntryLemmas

@@ -11,7 +11,7 @@ use Rattle.text_lines.specs.inner.Kept.{kept_with}
 use Rattle.text_lines.proofs.Cutting.{cut_none, cut_byte, cut_line, cut_on, holds_byte, last_line}
 use Rattle.spec_olc.specs.declared.types.Event.{Event}
 use Rattle.spec_olc.specs.declared.types.Event.TheVariants as event
-use Rattle.text_schedule.specs.Schedule.{ParseAsEntries, ParseAsEvents}
+use Rattle.text_schedule.specs.inner.Parts.{ParseAsEntries, ParseAsEvents}
 use Rattle.text_schedule.specs.inner.Reading.{HasParsed, HasReadBytes, ParseAll, Fault, FaultAmong, FaultIn, FaultAtEnd}
 use Rattle.text_schedule.specs.declared.reading.Reading.{Reading}
 use Rattle.text_schedule.specs.declared.schedule.ScheduleError.{ScheduleError}
@@ -24,15 +24,21 @@ say_push (l ∷ lines) (e ∷ entries) line entry all here = (all.0, say_push li
 say_push [] (e ∷ entries) line entry all here = absurd all
 say_push (l ∷ lines) [] line entry all here = absurd all
 
+-- the events of one entry more
+pub events_push : {events : List (Event ℕ)} (entries : List Entry) (entry : Entry) → events ≡ flat_map events_of entries
+    → events ++ events_of entry ≡ flat_map events_of (entries ++ entry ∷ [])
+events_push entries entry are =
+    ap (λ es. es ++ events_of entry) are
+    ∙ ap (λ es. flat_map events_of entries ++ es) (sym (append-nil (events_of entry)))
+    ∙ sym (flat_map-append events_of entries (entry ∷ []))
+
 pub say_more : {lines : List (List ℕ)} {events : List (Event ℕ)} (line : List ℕ) (entry : Entry)
     → ParseAsEvents lines events → SpellsEntry line entry → length (events ++ events_of entry) ≤ 100000
     → ParseAsEvents (lines ++ line ∷ []) (events ++ events_of entry)
 say_more {lines} {events} line entry parsed spells few = record {
   entries = parsed.entries ++ entry ∷ [];
   parsed_lines = say_push lines parsed.entries line entry parsed.parsed_lines spells;
-  events_are = ap (λ es. es ++ events_of entry) parsed.events_are
-      ∙ ap (λ es. flat_map events_of parsed.entries ++ es) (sym (append-nil (events_of entry)))
-      ∙ sym (flat_map-append events_of parsed.entries (entry ∷ []));
+  events_are = events_push parsed.entries entry parsed.events_are;
   few = few;
 }
 
@@ -43,7 +49,7 @@ say_none = record { entries = []; parsed_lines = tt; events_are = refl; few = om
 some_events : (entry : Entry) → EntryFits entry → 0 < length (events_of entry)
 some_events (Start id op) fits = omega arith
 some_events (Step id) fits = omega arith
-some_events (Steps id count) fits = omega (arith, fits.1, length-replicate count (event.Step id plain))
+some_events (Steps id count) fits = omega (arith, fits.0, length-replicate count (event.Step id plain))
 some_events (Torn id child) fits = omega arith
 some_events (Fail id) fits = omega arith
 some_events (Answer id answer) fits = omega arith
@@ -63,7 +69,7 @@ few_lines {lines} {events} parsed = omega (arith, lines_below lines parsed.entri
 pub few_events : (line : List ℕ) (entry : Entry) → SpellsEntry line entry → length (events_of entry) ≤ 10000
 few_events line (Start id op) parses = omega arith
 few_events line (Step id) parses = omega arith
-few_events line (Steps id count) parses = omega (arith, parses.fits.2, length-replicate count (event.Step id plain))
+few_events line (Steps id count) parses = omega (arith, parses.fits.1, length-replicate count (event.Step id plain))
 few_events line (Torn id child) parses = omega arith
 few_events line (Fail id) parses = omega arith
 few_events line (Answer id answer) parses = omega arith

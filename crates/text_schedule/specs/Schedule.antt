@@ -1,132 +1,76 @@
--- What `congee schedule` reads and writes.
-use Rattle.std.specs.Prelude.{◌≡◌, ◌⊎◌, ℕ, ◌+◌, ◌<◌, ◌≤◌, List, [], ◌∷◌, ◌++◌, length, Option, Result, Ok, Err}
-use Rattle.std.specs.List.{flat_map}
-use Rattle.std.specs.Io.KnownBytes.{Consumes, IsAtEnd}
-use Rattle.spec_text.specs.Entry.{SpellsEntry, IsNoEntry}
-use Rattle.spec_text.specs.Events.{events_of}
-use Rattle.spec_text.specs.declared.entry.Entry.{Entry}
-use Rattle.spec_text.specs.Bytes.{Sends}
-use Rattle.spec_text.specs.Lines.{Cuts, lines_of}
-use Rattle.text_lines.specs.Watched.{HasFailed, inner_of}
-use Rattle.text_lines.specs.declared.watched.Watched.{Watched}
+-- HOW A SCHEDULE ENDS: what was read, and what was written of its replay.
+use Rattle.std.specs.Prelude.{◌≡◌, ◌⊎◌, ℕ, ◌+◌, ◌<◌, ◌≤◌, true, false, List, [], ◌∷◌, ◌++◌, length, slice_get, Option, IsSomeAnd, Result, Ok, Err}
+use Rattle.std.specs.List.{flat_map, AllZip}
+use Rattle.std.specs.Io.KnownBytes.{IsAtEnd}
 use Rattle.spec_map.specs.Map.{Pairs}
 use Rattle.spec_olc.specs.Replay.{IsReplayed}
 use Rattle.spec_olc.specs.declared.trace.Decision.{Decision}
 use Rattle.spec_olc.specs.declared.trace.Line.{Line}
 use Rattle.spec_olc.specs.declared.types.Event.{Event}
+use Rattle.spec_text.specs.Bytes.{Sends}
+use Rattle.spec_text.specs.Entry.{SpellsEntry, IsNoEntry}
+use Rattle.spec_text.specs.Events.{events_of}
+use Rattle.spec_text.specs.Lines.{Reads, lines_of}
 use Rattle.spec_text.specs.Texts.{trace_text}
+use Rattle.spec_text.specs.declared.entry.Entry.{Entry}
+use Rattle.text_lines.specs.Watched.{Stream}
 use Rattle.text_schedule.specs.declared.schedule.ScheduleError.{ScheduleError}
 use Rattle.text_schedule.specs.declared.schedule.ScheduleError.TheVariants.{Read, Write, Oom, Line as BadLine, Events}
 
--- the lines parse as these entries, one each
-abbrev pub ParseAsEntries : List (List ℕ) → List Entry → Type 0
-ParseAsEntries [] [] = Unit {0}
-ParseAsEntries (line ∷ lines) (entry ∷ entries) = SpellsEntry line entry × ParseAsEntries lines entries
-ParseAsEntries _ _ = ⊥
-
--- the lines parse as entries with these events, which are at most 100000
-pub record ParseAsEvents (lines : List (List ℕ)) (events : List (Event ℕ)) : Type 0 where
-  pub entries : List Entry
-  pub parsed_lines : ParseAsEntries lines entries
-  pub events_are : events ≡ flat_map events_of entries
-  pub few : length events ≤ 100000
-
--- Bytes were read that consist of these lines: the whole ones, and at the input's end also a last one without a line
--- feed.
-pub record HasRead (input input' : Option (List ℕ)) (lines : List (List ℕ)) : Type 0 where
-  pub taken : List ℕ
-  pub reads : Consumes input input' taken
-  pub whole : List (List ℕ)
-  pub rest : List ℕ
-  pub cut : Cuts taken whole rest
-  pub lines_are : (lines ≡ whole) ⊎ (IsAtEnd input' × (lines ≡ lines_of whole rest))
-
--- the same of all lines of the input
-pub record HasReadAll (input input' : Option (List ℕ)) (lines : List (List ℕ)) : Type 0 where
-  pub taken : List ℕ
-  pub reads : Consumes input input' taken
-  pub ends : IsAtEnd input'
-  pub whole : List (List ℕ)
-  pub rest : List ℕ
-  pub cut : Cuts taken whole rest
-  pub lines_are : lines ≡ lines_of whole rest
-
--- THE THEOREM ON SCHEDULES: the input's lines parse as events, and what was written is the text of a replay of these,
--- but for the rest `left`.
-pub record WritesReplay (input input' output output' : Option (List ℕ)) (left : List ℕ) : Type 0 where
+-- Lines were read: the whole ones, or at the input's end all. The first of them parse as entries, one each, which have
+-- at most 100000 events.
+pub record Parses (input input' : Option (List ℕ)) : Type 0 where
+  pub read : Reads input input'
   pub lines : List (List ℕ)
-  pub read : HasReadAll input input' lines
-  pub events : List (Event ℕ)
-  pub parsed : ParseAsEvents lines events
+  pub later : List (List ℕ)
+  pub are : (read.whole ≡ lines ++ later)
+      ⊎ (IsAtEnd input' × (lines_of read.whole read.rest ≡ lines ++ later))
+  pub entries : List Entry
+  pub each : AllZip SpellsEntry lines entries
+  pub few : length (flat_map events_of entries) ≤ 100000
+
+-- with the events of this line there are more
+abbrev pub HasTooMany : List Entry → List ℕ → Type 0
+HasTooMany entries line =
+    (entry : Entry) × SpellsEntry line entry
+    × (100000 < length (flat_map events_of (entries ++ entry ∷ [])))
+
+-- the text of a replay of the events was written, but for the bytes `left` at its end, and nothing else
+pub record WritesReplay (events : List (Event ℕ)) (output output' : Option (List ℕ)) (left : List ℕ)
+    : Type 0 where
   pub happened : List Line
   pub decided : List Decision
   pub content : Pairs ℕ
   pub replayed : IsReplayed events happened decided content
   pub sends : Sends output output' (trace_text events happened decided content) left
 
--- The whole lines of what was read parse as events.
-pub record StopsReadingSchedule (input input' : Option (List ℕ)) : Type 0 where
-  pub taken : List ℕ
-  pub reads : Consumes input input' taken
-  pub whole : List (List ℕ)
-  pub rest : List ℕ
-  pub cut : Cuts taken whole rest
-  pub events : List (Event ℕ)
-  pub parsed : ParseAsEvents whole events
+-- by what is left to be read and what was written, of the streams before and after
+module _ {R W : Type 0} (remaining : R → Option (List ℕ)) (contents : W → Option (List ℕ))
+    (input input' : Stream R) (output output' : Stream W) where
+  abbrev pub IsParsed : Type 0
+  IsParsed = Parses (remaining input.inner) (remaining input'.inner)
 
--- Some first lines of the input parse as events.
-pub record StopsForMemory (input input' : Option (List ℕ)) : Type 0 where
-  pub lines : List (List ℕ)
-  pub later : List (List ℕ)
-  pub read : HasRead input input' (lines ++ later)
-  pub events : List (Event ℕ)
-  pub parsed : ParseAsEvents lines events
+  -- THE THEOREM ON SCHEDULES: all lines of the input parse, and what was written is the text of a replay of them, but
+  -- for the rest `left`.
+  abbrev pub IsReplayWritten : List ℕ → Type 0
+  IsReplayWritten left =
+      (p : IsParsed) × (p.lines ≡ lines_of p.read.whole p.read.rest)
+      × IsAtEnd (remaining input'.inner) × WritesReplay (flat_map events_of p.entries)
+      (contents output.inner) (contents output'.inner) left
 
--- THE FIRST FAULT: a line with this fault. The fault takes the line's number, from 1 on, the line, and the events of
--- the lines before it.
-pub record StopsAt (Fault : ℕ → List ℕ → List (Event ℕ) → Type 0) (input input' : Option (List ℕ))
-    : Type 0 where
-  pub lines : List (List ℕ)
-  pub line : List ℕ
-  pub later : List (List ℕ)
-  pub read : HasRead input input' (lines ++ line ∷ later)
-  pub events : List (Event ℕ)
-  pub parsed : ParseAsEvents lines events
-  pub fault : Fault (length lines + 1) line events
-
--- with the events of this line there are more than 100000
-pub record HasTooMany (line : List ℕ) (events : List (Event ℕ)) : Type 0 where
-  pub entry : Entry
-  pub parses : SpellsEntry line entry
-  pub many : 100000 < length (events ++ events_of entry)
-
-module _ {R W : Type 0} (remaining : R → Option (List ℕ)) (contents : W → Option (List ℕ)) where
-  -- what is left to be read of the input, and what was written to the output
-  abbrev pub unread : Watched R → Option (List ℕ)
-  unread input = remaining (inner_of input)
-
-  abbrev pub written : Watched W → Option (List ℕ)
-  written output = contents (inner_of output)
-
-  -- HOW A SCHEDULE ENDS, by the streams before it and after it. Something is written only if it ends well or a write
-  -- fails.
-  abbrev pub EndsSchedule
-      : Watched R → Watched R → Watched W → Watched W → Result (Unit {0}) ScheduleError → Type 0
-  EndsSchedule input input' output output' (Ok done) =
-      WritesReplay (unread input) (unread input') (written output) (written output') []
-      × (HasFailed input' → ⊥) × (HasFailed output' → ⊥)
-  EndsSchedule input input' output output' (Err Read) =
-      StopsReadingSchedule (unread input) (unread input')
-      × HasFailed input' × (output' ≡ output)
-  EndsSchedule input input' output output' (Err Write) =
-      ((left : List ℕ) × WritesReplay (unread input) (unread input') (written output) (written output') left)
-      × (HasFailed input' → ⊥) × HasFailed output'
-  EndsSchedule input input' output output' (Err Oom) =
-      StopsForMemory (unread input) (unread input')
-      × (HasFailed input' → ⊥) × (output' ≡ output)
-  EndsSchedule input input' output output' (Err (BadLine n)) =
-      StopsAt (λ number line events. (n ≡ number) × IsNoEntry line) (unread input) (unread input')
-      × (HasFailed input' → ⊥) × (output' ≡ output)
-  EndsSchedule input input' output output' (Err Events) =
-      StopsAt (λ number line events. HasTooMany line events) (unread input) (unread input')
-      × (HasFailed input' → ⊥) × (output' ≡ output)
+  -- It ends well; or a read fails, and the whole lines before it parse; or a write fails; or memory is missing; or the
+  -- first line with a fault is no entry, or one with too many events. Nothing is written but in the first and the third
+  -- case.
+  abbrev pub EndsSchedule : Result (Unit {0}) ScheduleError → Type 0
+  EndsSchedule (Ok done) = IsReplayWritten [] × (input'.failed ≡ false) × (output'.failed ≡ false)
+  EndsSchedule (Err Read) =
+      ((p : IsParsed) × (p.lines ≡ p.read.whole)) × (input'.failed ≡ true) × (output' ≡ output)
+  EndsSchedule (Err Write) =
+      ((left : List ℕ) × IsReplayWritten left) × (input'.failed ≡ false) × (output'.failed ≡ true)
+  EndsSchedule (Err Oom) = IsParsed × (input'.failed ≡ false) × (output' ≡ output)
+  EndsSchedule (Err (BadLine n)) =
+      ((p : IsParsed) × (n ≡ length p.lines + 1) × IsSomeAnd (slice_get p.later 0) IsNoEntry)
+      × (input'.failed ≡ false) × (output' ≡ output)
+  EndsSchedule (Err Events) =
+      ((p : IsParsed) × IsSomeAnd (slice_get p.later 0) (HasTooMany p.entries))
+      × (input'.failed ≡ false) × (output' ≡ output)

@@ -1,2 +1,3 @@
 pub mod EntryReading
+pub mod Parts
 pub mod Reading

@@ -1,9 +1,9 @@
 //! The text of a replayed schedule.
 
-ghost use Rattle.std.specs.Prelude.{◌≡◌, ◌++◌, ◌+◌, ◌≤◌, [], length, OnOk, OnErr};
+ghost use Rattle.std.specs.Prelude.{◌≡◌, ◌++◌, ◌+◌, ◌≤◌, [], length, OnOk, OnErr, true};
 ghost use Rattle.std.specs.List.{flat_map};
 ghost use Rattle.spec_text.specs.Lines.{ended};
-ghost use Rattle.text_lines.specs.Watched.{HasFailed, SendsTo, SendsPart};
+ghost use Rattle.text_lines.specs.Watched.{SendsTo, SendsPart};
 ghost use Rattle.spec_text.specs.Texts.{ok_text, reply_text, outcome_texts, event_texts, decided_after, texts_of, content_text, trace_text};
 
 use spec_olc::trace::{Decision, Line, Trace};
@@ -27,7 +27,7 @@ pub(crate) fn write_trace<W: Write>(
         (trace_text events.now trace.now.lines.items trace.now.decided.items
         trace.now.content.items)) }
     ensures kept { OnOk result (output.new.failed ≡ output.old.failed) }
-    ensures failed { OnErr result (HasFailed output.new) }
+    ensures failed { OnErr result (output.new.failed ≡ true) }
 {
     let mut pending = Pending::new();
     put_events(&mut pending, output, events, &trace.lines, &trace.decided)?;
@@ -50,7 +50,7 @@ fn put_events<W: Write>(
     ensures err { OnErr result (SendsPart W.contents output.old output.new
         (pending.old ++ flat_map ended (texts_of events.now lines.now decided.now))) }
     ensures kept { OnOk result (output.new.failed ≡ output.old.failed) }
-    ensures failed { OnErr result (HasFailed output.new) }
+    ensures failed { OnErr result (output.new.failed ≡ true) }
 {
     let mut later = decided;
     for (i, line) in lines.iter().enumerate() {
@@ -82,7 +82,7 @@ fn put_content<W: Write>(
     ensures err { OnErr result (SendsPart W.contents output.old output.new
         (pending.old ++ ended (content_text content.now))) }
     ensures kept { OnOk result (output.new.failed ≡ output.old.failed) }
-    ensures failed { OnErr result (HasFailed output.new) }
+    ensures failed { OnErr result (output.new.failed ≡ true) }
 {
     pending.make_room(output)?;
     pending.add(b"content");

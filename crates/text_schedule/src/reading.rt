@@ -1,8 +1,7 @@
 //! Parses lines as the events of a schedule.
 
-ghost use Rattle.std.specs.Prelude.{◌≡◌, ℕ, ◌+◌, ◌<◌, ◌++◌, ◌∷◌, List, [], length, Option, Some, Err, IfOk, IfErr, OnOk, IfSome, IfNone};
+ghost use Rattle.std.specs.Prelude.{◌≡◌, ℕ, ◌+◌, ◌<◌, ◌++◌, ◌∷◌, List, [], length, Option, Some, Err, IfOk, IfErr, OnOk, IfSome, IfNone, true};
 ghost use Rattle.spec_text.specs.Entry.{SpellsEntry, IsNoEntry};
-ghost use Rattle.text_lines.specs.Watched.{HasFailed, inner_of, calls_left};
 ghost use Rattle.text_lines.specs.inner.Kept.{IsKeptOf};
 ghost use Rattle.text_schedule.specs.declared.schedule.ScheduleError.TheVariants.{Read as ReadFailed};
 ghost use Rattle.text_schedule.specs.inner.Reading.{HasParsed, HasReadBytes, ReadsInput, ParseAll, Fault, FaultIn, FaultAtEnd, ReadTurnsTo, EndsReading};
@@ -66,11 +65,11 @@ impl Reading {
     // Reads once, and takes what was read. Returns false at the end of the input.
     fn turn<R: Read>(&mut self, input: &mut Watched<R>) -> Result<bool, ScheduleError>
         ensures turns { (first : Option (List ℕ))
-            → ReadsInput first (R.remaining (inner_of input.old)) self.old
-            → ReadTurnsTo self.new first (R.remaining (inner_of input.new)) result }
-        ensures fewer { OnOk result (calls_left input.new < calls_left input.old) }
+            → ReadsInput first (R.remaining input.old.inner) self.old
+            → ReadTurnsTo self.new first (R.remaining input.new.inner) result }
+        ensures fewer { OnOk result (input.new.calls_left < input.old.calls_left) }
         ensures kept { (result ≡ Err ReadFailed → ⊥) → input.new.failed ≡ input.old.failed }
-        ensures read_failed { result ≡ Err ReadFailed → HasFailed input.new }
+        ensures read_failed { result ≡ Err ReadFailed → (input.new.failed ≡ true) }
     {
         let mut chunk = [0; CHUNK];
         let Ok(count) = input.read(&mut chunk) else {

@@ -1,7 +1,6 @@
 //! The engine of `congee schedule`: the lines of a schedule in, the text of its replay out.
 
-ghost use Rattle.std.specs.Prelude.{◌≡◌};
-ghost use Rattle.text_lines.specs.Watched.{HasFailed};
+ghost use Rattle.std.specs.Prelude.{◌≡◌, ◌≢◌, true};
 ghost use Rattle.text_schedule.specs.Schedule.{EndsSchedule};
 
 use crate::printing::write_trace;
@@ -35,8 +34,8 @@ pub fn schedule<R: Read, W: Write>(
     input: &mut Watched<R>,
     output: &mut Watched<W>,
 ) -> Result<(), ScheduleError>
-    requires input { HasFailed input.old → ⊥ }
-    requires output { HasFailed output.old → ⊥ }
+    requires input { input.old.failed ≢ true }
+    requires output { output.old.failed ≢ true }
     ensures { EndsSchedule R.remaining W.contents
         input.old input.new output.old output.new result }
 {

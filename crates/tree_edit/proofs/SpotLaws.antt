@@ -20,7 +20,7 @@ use Rattle.tree_edit.proofs.ChargeLaws.{end_counted, fill_counted, add_counted, 
 use Rattle.tree_edit.proofs.FormLaws.{grown_fits}
 use Rattle.tree_edit.proofs.RefusalLaws.{needs_node-absent, needs_node-differs}
 use Rattle.tree_edit.proofs.SlotLaws.{adds_here, adds_below, splits_then}
-use Rattle.tree_edit.proofs.WholeLaws.{Inserts, change_inserts, add_inserts, split_inserts, parts_high}
+use Rattle.tree_edit.proofs.WholeLaws.{IsInsertion, change_inserts, add_inserts, split_inserts, parts_high}
 
 module _ {P : Type 0} (s : NodeTable P) (root : ℕ) (key : List ℕ) (spot : PathEnd) (w : SeeksTo s root key spot) where
   abbrev ends_with : (end : End P) → FindsEnd key w.node end → EndsAt s root key (place_of s root key spot end)
@@ -96,10 +96,10 @@ module _ {P : Type 0} (s : NodeTable P) (root : ℕ) (key : List ℕ) (spot : Pa
     stands_alone v at_key nothing = let clash = sym (stands_there v at_key) ∙ nothing_there nothing in cc
 
     module _ (rooted : HasRoot s root) where
-      pub exchange_inserts : (t : NodeTable P) (v before : P) → IsStoredWhere s spot.slot spot.stop before → Exchanges s t spot.slot spot.stop v → Inserts s root key bytes full t v (Some before)
+      pub exchange_inserts : (t : NodeTable P) (v before : P) → IsStoredWhere s spot.slot spot.stop before → Exchanges s t spot.slot spot.stop v → IsInsertion s root key bytes full t v (Some before)
       exchange_inserts t v before at_key exchanges = at spot.stop refl at_key exchanges
         where
-          at : (stop : Stop) → spot.stop ≡ stop → IsStoredWhere s spot.slot stop before → Exchanges s t spot.slot stop v → Inserts s root key bytes full t v (Some before)
+          at : (stop : Stop) → spot.stop ≡ stop → IsStoredWhere s spot.slot stop before → Exchanges s t spot.slot stop v → IsInsertion s root key bytes full t v (Some before)
           at (stops.Differs i) is was now = absurd was
           at (stops.Absent b) is was now = absurd was
           at (stops.Leaf b) is was now = change_inserts s root key bytes full rooted _ (ends_holding b is before was) t v b _ refl now.0 now.1 before was
@@ -133,10 +133,10 @@ module _ {P : Type 0} (s : NodeTable P) (root : ℕ) (key : List ℕ) (spot : Pa
 
       -- and contains the pair then
       pub put_inserts : HasRoot s root → NothingIsStored s spot.slot spot.stop → (g t : NodeTable P) (v : P) (forms' : FormCounts) (leaf : ℕ) → IsReady s g spot.slot spot.stop key forms forms' leaf
-          → SameElsewhere leaf g t → WritesChild g t leaf (get_or key 7 0) (Payload v) → Inserts s root key bytes full t v None × IsCounted forms' (nodes_at t depth [] root)
+          → SameElsewhere leaf g t → WritesChild g t leaf (get_or key 7 0) (Payload v) → IsInsertion s root key bytes full t v None × IsCounted forms' (nodes_at t depth [] root)
       put_inserts rooted nothing g t v forms' leaf x keeps writes = at spot.stop refl nothing x
         where
-          at : (stop : Stop) → spot.stop ≡ stop → NothingIsStored s spot.slot stop → IsReady s g spot.slot stop key forms forms' leaf → Inserts s root key bytes full t v None × IsCounted forms' (nodes_at t depth [] root)
+          at : (stop : Stop) → spot.stop ≡ stop → NothingIsStored s spot.slot stop → IsReady s g spot.slot stop key forms forms' leaf → IsInsertion s root key bytes full t v None × IsCounted forms' (nodes_at t depth [] root)
           at (stops.Differs i) is none x =
               let a = ends_differs i is in
               let splits = splits_then s g t spot.slot key v i leaf x.0 keeps writes in
@@ -155,10 +155,10 @@ module _ {P : Type 0} (s : NodeTable P) (root : ℕ) (key : List ℕ) (spot : Pa
               (add_inserts s root key bytes full rooted _ a t v b refl adds, fill_counted s root key _ a forms h bytes full t v b forms' refl adds l.2 x.3)
 
       -- the same without new nodes, where the leaf had room
-      pub fill_inserts : HasRoot s root → (t : NodeTable P) (v : P) → Fills s t spot.slot spot.stop v → Inserts s root key bytes full t v None × IsCounted forms (nodes_at t depth [] root)
+      pub fill_inserts : HasRoot s root → (t : NodeTable P) (v : P) → Fills s t spot.slot spot.stop v → IsInsertion s root key bytes full t v None × IsCounted forms (nodes_at t depth [] root)
       fill_inserts rooted t v fills = at spot.stop refl fills
         where
-          at : (stop : Stop) → spot.stop ≡ stop → Fills s t spot.slot stop v → Inserts s root key bytes full t v None × IsCounted forms (nodes_at t depth [] root)
+          at : (stop : Stop) → spot.stop ≡ stop → Fills s t spot.slot stop v → IsInsertion s root key bytes full t v None × IsCounted forms (nodes_at t depth [] root)
           at (stops.Differs i) is x = absurd x
           at (stops.Absent b) is x = absurd x
           at (stops.Leaf b) is x =

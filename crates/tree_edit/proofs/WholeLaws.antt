@@ -16,7 +16,7 @@ use Rattle.tree_edit.proofs.ShapeLaws.{change_shape, add_shape, split_shape}
 
 module _ {P : Type 0} (s : NodeTable P) (root : ℕ) (key : List ℕ) (bytes : AreBytes key) (full : length key ≡ 8) where
   -- the payload is stored at the key, where `before` was
-  pub record Inserts (t : NodeTable P) (v : P) (before : Option P) : Type 0 where
+  pub record IsInsertion (t : NodeTable P) (v : P) (before : Option P) : Type 0 where
     pub tree : IsTree t depth [] root
     pub root_stays : HasRoot t root
     pub was : before ≡ lookup (pairs_at s depth root) (key_number key)
@@ -32,7 +32,7 @@ module _ {P : Type 0} (s : NodeTable P) (root : ℕ) (key : List ℕ) (bytes : A
     none_differs at is = lookup_end s root key bytes full place a (Differs at) (sym is) (λ c v e. absurd (cc))
 
     pub change_inserts : (t : NodeTable P) (v : P) (b : ℕ) (w : Bor P) → place.end ≡ Present b w → SameElsewhere place.slot s t → WritesChild s t place.slot b (Payload v)
-        → (u : P) → WasChild s place.slot b (Payload u) → Inserts t v (Some u)
+        → (u : P) → WasChild s place.slot b (Payload u) → IsInsertion t v (Some u)
     change_inserts t v b w is keeps written u was =
         let x = change_whole s t root key bytes full v place a b w is keeps written in
         record {
@@ -43,7 +43,7 @@ module _ {P : Type 0} (s : NodeTable P) (root : ℕ) (key : List ℕ) (bytes : A
           shape = change_shape s t root key bytes full v place a b w is keeps written;
         }
 
-    pub add_inserts : (t : NodeTable P) (v : P) (b : ℕ) → place.end ≡ Absent b → Adds s t place.slot key b v → Inserts t v None
+    pub add_inserts : (t : NodeTable P) (v : P) (b : ℕ) → place.end ≡ Absent b → Adds s t place.slot key b v → IsInsertion t v None
     add_inserts t v b is adds =
         let x = add_whole s t root key bytes full v place a b is adds in
         record {
@@ -54,7 +54,7 @@ module _ {P : Type 0} (s : NodeTable P) (root : ℕ) (key : List ℕ) (bytes : A
           shape = add_shape s t root key bytes full v place a b is adds;
         }
 
-    pub split_inserts : (t : NodeTable P) (v : P) (at : ℕ) → place.end ≡ Differs at → Splits s t place.slot key at v → Inserts t v None
+    pub split_inserts : (t : NodeTable P) (v : P) (at : ℕ) → place.end ≡ Differs at → Splits s t place.slot key at v → IsInsertion t v None
     split_inserts t v at is splits =
         let x = split_whole s t root key bytes full v place a at is splits in
         record {

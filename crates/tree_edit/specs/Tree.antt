@@ -1,4 +1,4 @@
--- What a contract sees of a tree.
+-- What a contract sees of a tree, and of a map over it.
 use Rattle.std.specs.Prelude.{◌≡◌, ℕ, List, [], ◌∷◌, Option, refl}
 use Rattle.std.specs.Int.{from_be_bytes, w64}
 use Rattle.std.specs.Coded.{Coded, code_by, coded×, coded_list, coded_ℕ}

@@ -2,14 +2,12 @@
 //!
 //! Never fails: where the payload is removed, this is a removal.
 
-ghost use Rattle.std.specs.Prelude.{◌≡◌, ◌+◌, ◌≤◌, Option, None};
-ghost use Rattle.std.specs.Fn.{TakesAt, CalledAt};
+ghost use Rattle.std.specs.Fn.{TakesAt};
 ghost use Rattle.std.specs.Int.{from_be_bytes, w64};
 ghost use Rattle.std.specs.Option.{ForSome};
-ghost use Rattle.tree_edit.specs.Reduce.{Recomputes};
-ghost use Rattle.tree_edit.specs.Tree.{payload_at, ChargesForNodes};
-ghost use Rattle.spec_map.specs.Map.{with_answer, IsMap};
-ghost use Rattle.tree_path.specs.Path.{on_path};
+ghost use Rattle.tree_edit.specs.TreeCalls.{ComputesIfPresent, ReadsPath};
+ghost use Rattle.tree_edit.specs.Tree.{payload_at};
+ghost use Rattle.spec_map.specs.Map.{IsMap};
 
 use crate::insertion::{change_payload, current};
 use crate::removal::take_out;
@@ -31,16 +29,9 @@ impl<P: Drop, A: Allocator> Tree<P, A> {
     ) -> Option<P>
         requires { ForSome (payload_at self.old key.now) (TakesAt F.FnMut f.old) }
         ensures ordered { IsMap self.old.pairs }
-        ensures before { result ≡ payload_at self.old key.now }
-        ensures absent { payload_at self.old key.now ≡ None
-            → (self.new ≡ self.old) × (f.new ≡ f.old) }
-        ensures present { ForSome (payload_at self.old key.now) (λ current. (answer : Option P)
-            × CalledAt F.FnMut f.old current answer f.new
-            × (self.new.pairs ≡ with_answer self.old.pairs (from_be_bytes w64 key.now) answer)
-            × Recomputes answer self.old.nodes key.now self.new.nodes) }
-        ensures charge { ChargesForNodes A.charge self.old self.new }
-        ensures reads { reads.new ≡ reads.old + on_path self.old.nodes key.now }
-        ensures few { on_path self.old.nodes key.now ≤ 8 }
+        ensures computes { let number = from_be_bytes w64 key.now in
+            ComputesIfPresent A.charge self.old number F.FnMut f.old result f.new self.new }
+        ensures reads { ReadsPath self.old.nodes key.now reads.old reads.new }
     {
         let mut trail = [self.root; 8];
         let spot = seek_along(&self.nodes, self.root, key, reads, &mut trail);

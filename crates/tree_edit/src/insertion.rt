@@ -5,16 +5,13 @@
 //! What a call does at a leaf is inline (`#[inline(always)]`), as its result has several words, which a call returns
 //! through memory.
 
-ghost use Rattle.std.specs.Prelude.{◌≡◌, ℕ, ◌+◌, ◌≤◌, ◌<◌, ◌^◌, [], take, IfOk, IfErr, IfSome, IfNone, OnOk, OnErr, IsSome, Some, None, option_copied};
+ghost use Rattle.std.specs.Prelude.{◌≡◌, ℕ, ◌<◌, ◌^◌, [], take, IfOk, IfErr, IfSome, IfNone, OnOk, OnErr, IsSome, Some, None, option_copied};
 ghost use Rattle.std.specs.Int.{from_be_bytes, w64};
 ghost use Rattle.slab.specs.Slab.{slab_len, HasRoomFor};
-ghost use Rattle.tree_edit.specs.Closure.{TakesOption, CalledAtOption};
-ghost use Rattle.tree_edit.specs.Tree.{payload_at, ChargesForNodes, StoresSame};
-ghost use Rattle.spec_map.specs.Map.{put};
-ghost use Rattle.spec_map.specs.Refusal.{NeedsNode};
-ghost use Rattle.node_table.specs.Shape.{Reshapes};
+ghost use Rattle.tree_edit.specs.TreeCalls.{Inserts, ComputesOrInserts, ReadsPath};
+ghost use Rattle.tree_edit.specs.Closure.{TakesOption};
+ghost use Rattle.tree_edit.specs.Tree.{payload_at};
 ghost use Rattle.node_table.specs.Table.{node_at};
-ghost use Rattle.tree_path.specs.Path.{on_path};
 ghost use Rattle.tree_path.specs.declared.descent.Stop.TheVariants.{Differs};
 ghost use Rattle.node_base.specs.declared.base_node.NodeType.{NodeType};
 ghost use Rattle.node_base.specs.declared.base_node.NodeType.TheVariants.{N4};
@@ -316,16 +313,9 @@ impl<P: Drop, A: Allocator> Tree<P, A> {
         payload: P,
         reads: &mut ReadCount<L>,
     ) -> Result<Option<P>, OOMError>
-        ensures before { IfOk result (λ before. before ≡ payload_at self.old key.now) }
-        ensures ok { OnOk result
-            (self.new.pairs ≡ put self.old.pairs (from_be_bytes w64 key.now) payload) }
-        ensures shape { IfOk result (λ before.
-            Reshapes before self.old.nodes key.now self.new.nodes) }
-        ensures err { OnErr result (StoresSame self.old self.new) }
-        ensures charge { ChargesForNodes A.charge self.old self.new }
-        ensures reads { reads.new ≡ reads.old + on_path self.old.nodes key.now }
-        ensures few { on_path self.old.nodes key.now ≤ 8 }
-        ensures refused { OnErr result (NeedsNode self.old.pairs (from_be_bytes w64 key.now)) }
+        ensures inserts { let number = from_be_bytes w64 key.now in
+            Inserts A.charge self.old number payload result self.new }
+        ensures reads { ReadsPath self.old.nodes key.now reads.old reads.new }
     {
         let PathEnd { slot, stop, .. } = seek(&self.nodes, self.root, key, reads);
         match set_payload(&mut self.nodes, slot, &stop, payload) {
@@ -354,18 +344,9 @@ impl<P: Drop, A: Allocator> Tree<P, A> {
         reads: &mut ReadCount<L>,
     ) -> Result<Option<P>, OOMError>
         requires { TakesOption F.FnMut f.old (payload_at self.old key.now) }
-        ensures before { IfOk result (λ before. before ≡ payload_at self.old key.now) }
-        ensures ok { OnOk result ((answer : P)
-            × CalledAtOption F.FnMut f.old (payload_at self.old key.now) answer f.new
-            × (self.new.pairs ≡ put self.old.pairs (from_be_bytes w64 key.now) answer)) }
-        ensures shape { IfOk result (λ before.
-            Reshapes before self.old.nodes key.now self.new.nodes) }
-        ensures err { OnErr result (StoresSame self.old self.new) }
-        ensures charge { ChargesForNodes A.charge self.old self.new }
-        ensures not_called { OnErr result (f.new ≡ f.old) }
-        ensures refused { OnErr result (NeedsNode self.old.pairs (from_be_bytes w64 key.now)) }
-        ensures reads { reads.new ≡ reads.old + on_path self.old.nodes key.now }
-        ensures few { on_path self.old.nodes key.now ≤ 8 }
+        ensures computes { let number = from_be_bytes w64 key.now in
+            ComputesOrInserts A.charge self.old number F.FnMut f.old result f.new self.new }
+        ensures reads { ReadsPath self.old.nodes key.now reads.old reads.new }
     {
         let PathEnd { slot, stop, .. } = seek(&self.nodes, self.root, key, reads);
         let shown = current(&self.nodes, slot, &stop);

@@ -3,15 +3,13 @@
 //!
 //! Never fails: without memory for the smaller form the node keeps its own.
 
-ghost use Rattle.std.specs.Prelude.{◌≡◌, ◌↔◌, ℕ, ◌+◌, ◌<◌, ◌≤◌, length, slice_index, true, false, IfSome, IfNone, IsTrue, IsSome, Some, None};
+ghost use Rattle.std.specs.Prelude.{◌≡◌, ◌↔◌, ◌<◌, ◌≤◌, length, slice_index, true, false, IfSome, IfNone, IsTrue, IsSome, Some, None};
 ghost use Rattle.std.specs.Int.{from_be_bytes, w64};
 ghost use Rattle.node_base.specs.Form.{few_in};
-ghost use Rattle.tree_edit.specs.Reduce.{Reduces, ReducesInPlace};
-ghost use Rattle.tree_edit.specs.Tree.{payload_at, ChargesForNodes};
-ghost use Rattle.spec_map.specs.Map.{without};
+ghost use Rattle.tree_edit.specs.TreeCalls.{Removes, ReadsPath};
+ghost use Rattle.tree_edit.specs.Reduce.{ReducesInPlace};
 ghost use Rattle.node_table.specs.Table.{NodeTable, node_at};
 ghost use Rattle.node_table.specs.TableNode.{TableNode};
-ghost use Rattle.tree_path.specs.Path.{on_path};
 ghost use Rattle.tree_path.specs.inner.Descent.{SeeksTo};
 ghost use Rattle.tree_path.specs.inner.Supply.{IsCountedAt, AreFew, Alike};
 ghost use Rattle.tree_edit.specs.inner.Writes.{SameElsewhere, HasLeafFor, NothingIsStored, WasChild, IsStoredWhere};
@@ -212,12 +210,8 @@ impl<P: Drop, A: Allocator> Tree<P, A> {
     /// the payload out. Only a node that is empty then costs one search more, of its parent. One that has few children
     /// then shrinks, where budget and machine have the memory for that.
     pub fn remove<L: Ledger>(&mut self, key: &[u8; 8], reads: &mut ReadCount<L>) -> Option<P>
-        ensures before { result ≡ payload_at self.old key.now }
-        ensures pairs { self.new.pairs ≡ without self.old.pairs (from_be_bytes w64 key.now) }
-        ensures shape { Reduces result self.old.nodes key.now self.new.nodes }
-        ensures charge { ChargesForNodes A.charge self.old self.new }
-        ensures reads { reads.new ≡ reads.old + on_path self.old.nodes key.now }
-        ensures few { on_path self.old.nodes key.now ≤ 8 }
+        ensures removes { Removes A.charge self.old (from_be_bytes w64 key.now) result self.new }
+        ensures reads { ReadsPath self.old.nodes key.now reads.old reads.new }
     {
         self.take::<L>(key, reads, true)
     }
@@ -228,12 +222,9 @@ impl<P: Drop, A: Allocator> Tree<P, A> {
         key: &[u8; 8],
         reads: &mut ReadCount<L>,
     ) -> Option<P>
-        ensures before { result ≡ payload_at self.old key.now }
-        ensures pairs { self.new.pairs ≡ without self.old.pairs (from_be_bytes w64 key.now) }
-        ensures shape { ReducesInPlace result self.old.nodes key.now self.new.nodes }
-        ensures charge { ChargesForNodes A.charge self.old self.new }
-        ensures reads { reads.new ≡ reads.old + on_path self.old.nodes key.now }
-        ensures few { on_path self.old.nodes key.now ≤ 8 }
+        ensures removes { Removes A.charge self.old (from_be_bytes w64 key.now) result self.new }
+        ensures in_place { ReducesInPlace result self.old.nodes key.now self.new.nodes }
+        ensures reads { ReadsPath self.old.nodes key.now reads.old reads.new }
     {
         self.take::<L>(key, reads, false)
     }
@@ -245,14 +236,10 @@ impl<P: Drop, A: Allocator> Tree<P, A> {
         reads: &mut ReadCount<L>,
         shrinks: bool,
     ) -> Option<P>
-        ensures before { result ≡ payload_at self.old key.now }
-        ensures pairs { self.new.pairs ≡ without self.old.pairs (from_be_bytes w64 key.now) }
-        ensures shape { Reduces result self.old.nodes key.now self.new.nodes }
+        ensures removes { Removes A.charge self.old (from_be_bytes w64 key.now) result self.new }
         ensures in_place { shrinks ≡ false
             → ReducesInPlace result self.old.nodes key.now self.new.nodes }
-        ensures charge { ChargesForNodes A.charge self.old self.new }
-        ensures reads { reads.new ≡ reads.old + on_path self.old.nodes key.now }
-        ensures few { on_path self.old.nodes key.now ≤ 8 }
+        ensures reads { ReadsPath self.old.nodes key.now reads.old reads.new }
     {
         let mut trail = [self.root; 8];
         let spot = seek_along(&self.nodes, self.root, key, reads, &mut trail);

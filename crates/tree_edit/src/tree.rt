@@ -8,13 +8,10 @@
 //! The modules beside this one change it. They work on its parts, which needn't agree with one another between two
 //! steps; a `Tree` is parts that agree.
 
-ghost use Rattle.std.specs.Prelude.{◌≡◌, ◌+◌, ◌≤◌, [], length, IfOk, option_copied};
-ghost use Rattle.node_table.specs.Charge.{add_charge};
-ghost use Rattle.tree_path.specs.Charge.{charge_of};
-ghost use Rattle.tree_path.specs.Path.{on_path};
+ghost use Rattle.std.specs.Prelude.{◌≡◌, length, IfOk, option_copied};
 ghost use Rattle.tree_path.specs.inner.Root.{HasTree, tree_pairs, tree_nodes};
-ghost use Rattle.tree_edit.specs.Reduce.{AreFilled};
-ghost use Rattle.tree_edit.specs.Tree.{payload_at, root_alone};
+ghost use Rattle.tree_edit.specs.TreeCalls.{IsNew, IsChargeOf, ReadsPath};
+ghost use Rattle.tree_edit.specs.Tree.{payload_at};
 
 use node_table::allocator::Allocator;
 use node_table::tree_node::TreeNode;
@@ -61,10 +58,7 @@ impl<P: Drop, A: Allocator> Model for Tree<P, A> {
 impl<P: Drop, A: Allocator> Tree<P, A> {
     /// An empty tree, or `OOMError` where the budget or the machine has no memory for its root.
     pub fn new(alloc: Global, budget: A) -> Result<Self, OOMError>
-        ensures pairs { IfOk result (λ tree. tree.pairs ≡ []) }
-        ensures nodes { IfOk result (λ tree. tree.nodes ≡ root_alone) }
-        ensures charge { IfOk result (λ tree.
-            A.charge tree.budget ≡ add_charge (A.charge budget) (charge_of tree.nodes)) }
+        ensures { IfOk result (λ tree. IsNew A.charge budget tree) }
     {
         let mut nodes = Slab::new(alloc);
         nodes.reserve(1)?;
@@ -81,8 +75,7 @@ impl<P: Drop, A: Allocator> Tree<P, A> {
     /// The payload at the key. `reads` goes up by one for each node on the key's path.
     pub fn get<L: Ledger>(&self, key: &[u8; 8], reads: &mut ReadCount<L>) -> Option<&P>
         ensures value { option_copied result ≡ payload_at self.now key.now }
-        ensures reads { reads.new ≡ reads.old + on_path self.now.nodes key.now }
-        ensures few { on_path self.now.nodes key.now ≤ 8 }
+        ensures reads { ReadsPath self.now.nodes key.now reads.old reads.new }
     {
         find(&self.nodes, self.root, key, reads)
     }
@@ -97,9 +90,7 @@ impl<P: Drop, A: Allocator> Tree<P, A> {
     /// The sum of the stated sizes of the nodes, which the budget is charged for. No node but the root is empty, and in
     /// an empty tree there is no other.
     pub fn charged(&self) -> u128
-        ensures sizes { result ≡ charge_of self.now.nodes }
-        ensures filled { AreFilled self.now.nodes }
-        ensures bare { self.now.pairs ≡ [] → result ≡ 2104 }
+        ensures { IsChargeOf self.now result }
     {
         self.supply.bytes()
     }

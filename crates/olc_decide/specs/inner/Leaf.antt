@@ -28,7 +28,7 @@ module _ {P M : Type 0} (Granted : Type 0) (same : M → M → Bool) (meaning : 
         → IsPresentAt a (key_bytes task) only
 
   -- the call after this Check
-  abbrev pub ChecksLeaf : Stepped P → Type 0
-  ChecksLeaf stepped = (env : Env P) → ReadsOnly Granted same meaning store pin
+  abbrev pub ChecksLeaf : Task P → Stepped P → Type 0
+  ChecksLeaf task' stepped = (env : Env P) → ReadsOnly Granted same meaning store pin
       (record { stage = Check (path_to pair); task = task }) env
-      stepped.call stepped.report stepped.outcome
+      (record { stage = stepped.stage; task = task' }) stepped.report stepped.outcome

@@ -21,7 +21,7 @@ module _ {P A : Type 0} where
     slots = m.stock.store.nodes.slots;
     root = m.stock.store.root;
     pins = m.stock.store.pins;
-    calls = m.calls;
+    calls = m.calls.entries;
     entries = m.stock.entries;
     charge = charge m.stock.budget;
   }

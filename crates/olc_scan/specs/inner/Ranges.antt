@@ -90,12 +90,29 @@ abbrev pub first_in : {C : Type 0} → List (ℕ × C) → Option C
 first_in [] = None
 first_in (e ∷ es) = Some e.1
 
+-- a range after an event, and what the event reports
+pub record AfterScan (P : Type 0) : Type 0 where
+  pub task : Task P
+  pub course : RangeProgress
+  pub scan : Scan
+  pub report : Report
+  pub outcome : Outcome P
+
 module _ {P : Type 0} where
+  abbrev pub after_scan : Task P → Scanned P → AfterScan P
+  after_scan task scanned = record {
+    task = task;
+    course = scanned.course;
+    scan = scanned.scan;
+    report = scanned.report;
+    outcome = scanned.outcome;
+  }
+
   -- the range after a Read that saw `seen` and keeps `spare`
   abbrev pub looked : Task P → Seen P → Option P → Task P
   looked task seen spare = record task { last = Some seen; spare = spare; question = None }
 
-  abbrev pub scan_goes_on : Task P → RangeProgress → Scan → Report → Outcome P → Scanned P
+  abbrev pub scan_goes_on : Task P → RangeProgress → Scan → Report → Outcome P → AfterScan P
   scan_goes_on task course scan report out =
       record { task = task; course = course; scan = scan; report = report; outcome = out }
 
@@ -106,7 +123,7 @@ module _ {P : Type 0} where
 
   -- the range after it has passed all keys up to this one
   pub record IsPast (task : Task P) (course : RangeProgress) (last : ℕ) (report : Report)
-      (next : Scanned P) : Type 0 where
+      (next : AfterScan P) : Type 0 where
     pub from : ℕ
     pub from_is : from ≡ min (last + 1) (2 ^ 64 - 1)
     pub is : (HasAll task.outline from course.given
@@ -118,7 +135,7 @@ module _ {P : Type 0} where
   unreported task = record task { spare = None }
 
   pub record Gave (task : Task P) (course : RangeProgress) (here : Spot) (key byte : ℕ) (report : Report)
-      (next : Scanned P) : Type 0 where
+      (next : AfterScan P) : Type 0 where
     pub may : MayGive task.outline course.given key
     pub value : P
     pub kept : task.spare ≡ Some value
@@ -129,7 +146,7 @@ module _ {P : Type 0} where
         ⊎ ((byte < 255)
         × (next ≡ scan_goes_on (unreported task) (past_pair course key) (Read here) report (Pair key value))))
 
-  abbrev pub IsPaired : Task P → RangeProgress → Spot → ℕ → ℕ → Report → Scanned P → Type 0
+  abbrev pub IsPaired : Task P → RangeProgress → Spot → ℕ → ℕ → Report → AfterScan P → Type 0
   IsPaired task course here key byte report next =
       ((MayGive task.outline course.given key → ⊥) × (key < 2 ^ 64)
       × (next ≡ scan_goes_on task (record course { reach = key }) Finish report Going))
@@ -139,7 +156,7 @@ module _ {P M : Type 0} (Granted : Type 0) (meaning : P → M) where
   -- the range after a whole Read of a node: it saw the first child from its reach on, and keeps
   -- one more share of a payload
   pub record LooksAtFirst (node : TableNode P) (task : Task P) (course : RangeProgress) (here : Spot)
-      (report : Report) (next : Scanned P) : Type 0 where
+      (report : Report) (next : AfterScan P) : Type 0 where
     pub seen : Seen P
     pub spare : Option P
     pub child : in_some (child_of meaning) seen.child
@@ -151,7 +168,7 @@ module _ {P M : Type 0} (Granted : Type 0) (meaning : P → M) where
     pub is : next ≡ scan_goes_on (looked task seen spare) course (Check here) report Going
 
   -- the same, or a share was refused
-  abbrev pub IsLooked : TableNode P → Task P → RangeProgress → Spot → Report → Scanned P → Type 0
+  abbrev pub IsLooked : TableNode P → Task P → RangeProgress → Spot → Report → AfterScan P → Type 0
   IsLooked node task course here report next = LooksAtFirst node task course here report next
       ⊎ ((Granted → ⊥) × ((v : P) × (first_of node course.reach ≡ Some (Payload v)))
       × (next ≡ scan_goes_on (closed progress.Refused task) course Finish report Refused))
@@ -162,7 +179,7 @@ module _ {P M : Type 0} (Granted : Type 0) (same : M → M → Bool) (meaning : 
   KnowsScan store pin task course scan =
       ScanFacts (meant_table meaning store) store.root pin (meant_task meaning task) course scan
 
-  abbrev pub ScansOn : Store P → ℕ → Task P → RangeProgress → Scan → Env P → Scanned P → Type 0
+  abbrev pub ScansOn : Store P → ℕ → Task P → RangeProgress → Scan → Env P → AfterScan P → Type 0
   ScansOn store pin task course scan env next = IsScanned Granted same (meant_table meaning store)
       store.root pin (meant_task meaning task) course scan (env_of meaning env)
       (meant_task meaning next.task) next.course next.scan next.report

@@ -1,13 +1,10 @@
 -- What a command is replied, in text and as a call.
-use Rattle.std.specs.Prelude.{ℕ, List, [], ◌∷◌, ◌++◌, length, codes, decimal, Option, Some, None, nat_eq}
+use Rattle.std.specs.Prelude.{ℕ, List, [], ◌++◌, length, codes, decimal, Some, None}
 use Rattle.std.specs.List.{flat_map}
-use Rattle.spec_map.specs.Map.{Pairs}
 use Rattle.spec_map.specs.Call.{ClosureCall, Answer, old_value, exchanged, computed, tested, listed, ranged, replied, refused, Operation}
-use Rattle.spec_map.specs.Legal.{IsLegal}
-use Rattle.spec_map.specs.Refusal.{at_new_node}
 use Rattle.spec_text.specs.Command.{command_call, put_sum}
 use Rattle.spec_text.specs.Value.{value_text, exchanged_text, computed_text, key_text, pair_text}
-use Rattle.spec_text.specs.Answer.{test_text, keys_text, pairs_text, IsAnswered, operations_of}
+use Rattle.spec_text.specs.Answer.{test_text}
 use Rattle.spec_text.specs.declared.command.Command.{Command}
 use Rattle.spec_text.specs.declared.command.Command.TheVariants.{Add, Put}
 use Rattle.text_run.specs.declared.reply.LineReply.{LineReply}
@@ -20,8 +17,8 @@ line_reply_text (Before before) = codes "ok " ++ value_text before
 line_reply_text (Exchanged result) = exchanged_text result
 line_reply_text (Computed result) = computed_text result
 line_reply_text (Tested b) = test_text b
-line_reply_text (Ranged pairs) = pairs_text pairs.items
-line_reply_text (Listed keys) = keys_text keys.items
+line_reply_text (Ranged pairs) = decimal (length pairs.items) ++ flat_map pair_text pairs.items
+line_reply_text (Listed keys) = decimal (length keys.items) ++ flat_map key_text keys.items
 line_reply_text Refused = codes "oom"
 line_reply_text BadLine = codes "bad line"
 
@@ -68,9 +65,3 @@ reply_operation command reply = record {
   asked = reply_asked command reply;
   answer = reply_answer reply;
 }
-
--- the line is answered by the text on the map m, which leaves the map n
-pub record AnswersLine (m : Pairs ℕ) (line text : List ℕ) (n : Pairs ℕ) : Type 0 where
-  pub done : Option (Operation ℕ ℕ ℕ)
-  pub answered : IsAnswered line text done
-  pub legal : IsLegal nat_eq at_new_node m (operations_of (done ∷ [])) n

@@ -3,15 +3,14 @@ use Rattle.std.specs.Prelude.{◌≡◌, ℕ, List, ◌++◌, Option, Result, Ok
 use Rattle.std.specs.Io.KnownBytes.{Consumes, IsAtEnd}
 use Rattle.spec_map.specs.Map.{Pairs}
 use Rattle.spec_text.specs.Bytes.{Sends}
-use Rattle.spec_text.specs.Lines.{Cuts, lines_of, ended}
+use Rattle.spec_text.specs.Lines.{lines_of, ended}
+use Rattle.text_lines.specs.inner.Cut.{Cuts}
 use Rattle.text_lines.specs.inner.Kept.{IsKeptOf}
-use Rattle.text_lines.specs.Watched.{inner_of}
 use Rattle.text_lines.specs.declared.watched.Watched.{Watched}
-use Rattle.text_run.specs.inner.Parts.{AnswersLines, StopsReading, StopsWriting}
+use Rattle.text_run.specs.inner.Answers.{AnswersLines, AnswersLine, StopsReading, StopsWriting}
 use Rattle.text_run.specs.declared.run.RunError.{RunError}
 use Rattle.text_run.specs.declared.run.RunError.TheVariants.{Read, Write, Oom}
 use Rattle.text_run.specs.declared.session.Session.{Session}
-use Rattle.text_run.specs.inner.Replied.{AnswersLine}
 
 -- The bytes were read. Their whole lines have been answered, kept is held of the line that has begun, and
 -- left has still to be written.
@@ -72,7 +71,7 @@ pub record BreaksWithin (bytes more : List ℕ) (old new : Option (List ℕ)) : 
 abbrev pub HasServed : {A W : Type 0} → (W → Option (List ℕ)) → Session A → Watched W
     → Option (List ℕ) → List ℕ → Type 0
 HasServed contents s output old_out bytes =
-    HasAnswered s.map.pairs s.line s.pending old_out (contents (inner_of output)) bytes
+    HasAnswered s.map.pairs s.line s.pending old_out (contents output.inner) bytes
 
 module _ {A R W : Type 0} (remaining : R → Option (List ℕ)) (contents : W → Option (List ℕ)) where
   -- it has served what was read since old_in
@@ -80,16 +79,16 @@ module _ {A R W : Type 0} (remaining : R → Option (List ℕ)) (contents : W �
       → Option (List ℕ) → Option (List ℕ) → Type 0
   HasServedInput s input output old_in old_out =
       ServesInput s.map.pairs s.line s.pending
-      old_in (remaining (inner_of input)) old_out (contents (inner_of output))
+      old_in (remaining input.inner) old_out (contents output.inner)
 
   -- One turn of a run goes on, ends the input, or breaks off.
   abbrev pub TurnsTo : Session A → Watched R → Watched W
       → Option (List ℕ) → Option (List ℕ) → Result Bool RunError → Type 0
   TurnsTo s input output old_in old_out (Ok goes_on) =
       HasServedInput s input output old_in old_out
-      × (goes_on ≡ false → IsAtEnd (remaining (inner_of input)))
+      × (goes_on ≡ false → IsAtEnd (remaining input.inner))
   TurnsTo s input output old_in old_out (Err Read) =
-      StopsReading old_in (remaining (inner_of input)) old_out (contents (inner_of output))
+      StopsReading old_in (remaining input.inner) old_out (contents output.inner)
   TurnsTo s input output old_in old_out (Err Write) =
-      StopsWriting old_in (remaining (inner_of input)) old_out (contents (inner_of output))
+      StopsWriting old_in (remaining input.inner) old_out (contents output.inner)
   TurnsTo s input output old_in old_out (Err Oom) = ⊥

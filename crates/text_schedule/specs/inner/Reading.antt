@@ -1,13 +1,16 @@
 -- What is read of a schedule.
-use Rattle.std.specs.Prelude.{◌≡◌, ℕ, ◌+◌, List, ◌∷◌, ◌++◌, length, Option, Result, Ok, Err, Bool, false}
+use Rattle.std.specs.Prelude.{◌≡◌, ℕ, ◌+◌, List, ◌∷◌, ◌++◌, length, slice_get, Option, IsSomeAnd, Result, Ok, Err, Bool, true, false}
+use Rattle.std.specs.List.{flat_map}
 use Rattle.std.specs.Io.KnownBytes.{Consumes, IsAtEnd}
 use Rattle.spec_text.specs.Entry.{IsNoEntry}
-use Rattle.spec_text.specs.Lines.{Cuts, lines_of}
-use Rattle.text_lines.specs.Watched.{HasFailed, inner_of}
+use Rattle.spec_text.specs.Events.{events_of}
+use Rattle.spec_text.specs.Lines.{lines_of}
+use Rattle.text_lines.specs.inner.Cut.{Cuts}
 use Rattle.text_lines.specs.declared.watched.Watched.{Watched}
 use Rattle.text_lines.specs.inner.Kept.{IsKeptOf}
 use Rattle.spec_olc.specs.declared.types.Event.{Event}
-use Rattle.text_schedule.specs.Schedule.{ParseAsEvents, HasReadAll, StopsReadingSchedule, StopsForMemory, StopsAt, HasTooMany}
+use Rattle.text_schedule.specs.Schedule.{Parses, HasTooMany}
+use Rattle.text_schedule.specs.inner.Parts.{ParseAsEvents, StopsReadingSchedule, HasTooManyAfter}
 use Rattle.text_schedule.specs.declared.reading.Reading.{Reading}
 use Rattle.text_schedule.specs.declared.schedule.ScheduleError.{ScheduleError}
 use Rattle.text_schedule.specs.declared.schedule.ScheduleError.TheVariants.{Read, Write, Oom, Line as BadLine, Events}
@@ -41,7 +44,7 @@ pub record ParseAll (bytes : List ℕ) (events : List (Event ℕ)) : Type 0 wher
 -- the fault of a line, with its number and the events before it
 abbrev pub Fault : ScheduleError → ℕ → List ℕ → List (Event ℕ) → Type 0
 Fault (BadLine n) number line events = (n ≡ number) × IsNoEntry line
-Fault Events number line events = HasTooMany line events
+Fault Events number line events = HasTooManyAfter line events
 Fault Oom number line events = Unit {0}
 Fault Read number line events = ⊥
 Fault Write number line events = ⊥
@@ -86,21 +89,21 @@ ReadTurnsTo r input input' (Err error) = FindsFault input input' error
 abbrev pub EndsReading : {R V : Type 0} → (R → Option (List ℕ)) → (V → List (Event ℕ))
     → Watched R → Watched R → Result V ScheduleError → Type 0
 EndsReading remaining items input input' (Ok events) =
-    ((lines : List (List ℕ))
-    × HasReadAll (remaining (inner_of input)) (remaining (inner_of input')) lines
-    × ParseAsEvents lines (items events))
+    ((p : Parses (remaining input.inner) (remaining input'.inner))
+    × (p.lines ≡ lines_of p.read.whole p.read.rest) × IsAtEnd (remaining input'.inner)
+    × (items events ≡ flat_map events_of p.entries))
     × (input'.failed ≡ input.failed)
 EndsReading remaining items input input' (Err Read) =
-    StopsReadingSchedule (remaining (inner_of input)) (remaining (inner_of input')) × HasFailed input'
+    ((p : Parses (remaining input.inner) (remaining input'.inner)) × (p.lines ≡ p.read.whole))
+    × (input'.failed ≡ true)
 EndsReading remaining items input input' (Err Write) = ⊥
 EndsReading remaining items input input' (Err Oom) =
-    StopsForMemory (remaining (inner_of input)) (remaining (inner_of input'))
-    × (input'.failed ≡ input.failed)
+    Parses (remaining input.inner) (remaining input'.inner) × (input'.failed ≡ input.failed)
 EndsReading remaining items input input' (Err (BadLine n)) =
-    StopsAt (λ number line events. (n ≡ number) × IsNoEntry line)
-    (remaining (inner_of input)) (remaining (inner_of input'))
+    ((p : Parses (remaining input.inner) (remaining input'.inner))
+    × (n ≡ length p.lines + 1) × IsSomeAnd (slice_get p.later 0) IsNoEntry)
     × (input'.failed ≡ input.failed)
 EndsReading remaining items input input' (Err Events) =
-    StopsAt (λ number line events. HasTooMany line events)
-    (remaining (inner_of input)) (remaining (inner_of input'))
+    ((p : Parses (remaining input.inner) (remaining input'.inner))
+    × IsSomeAnd (slice_get p.later 0) (HasTooMany p.entries))
     × (input'.failed ≡ input.failed)

@@ -7,8 +7,8 @@ pub returns-in-Leaves : goal.returns-in-Leaves
 returns-in-Leaves g c = record {
   reads = λ env.
       let known = c.requires.facts.at.1.here in
-      rw (c.decided.ensures, c.report-report.ensures, c.reply_absent-reply.ensures, absent_meant g.P.HasMeaning.meaning c.args.task.outline)
-      (leaves_above g.P.Payload.always_shared g.P.HasMeaning.same_meaning (meant_table g.P.HasMeaning.meaning c.args.store.now) c.args.store.now.root c.args.pin (meant_task g.P.HasMeaning.meaning c.args.task) (env_of g.P.HasMeaning.meaning env) c.requires.placed c.requires.point c.args.path known.node known.here (c.requires.at_key known.node known.here) c.args.below c.requires.facts c.in-Leaves.ensures);
+      rw (c.decided.ensures.task, c.decided.ensures.event, c.report-report.ensures, c.reply_absent-reply.ensures, absent_meant g.P.HasMeaning.meaning c.args.task.now.outline)
+      (leaves_above g.P.Payload.always_shared g.P.HasMeaning.same_meaning (meant_table g.P.HasMeaning.meaning c.args.store.now) c.args.store.now.root c.args.pin (meant_task g.P.HasMeaning.meaning c.args.task.now) (env_of g.P.HasMeaning.meaning env) c.requires.placed c.requires.point c.args.path known.node known.here (c.requires.at_key known.node known.here) c.args.below c.requires.facts c.in-Leaves.ensures);
 }
 
 pub returns-in-Stores : goal.returns-in-Stores
@@ -16,13 +16,13 @@ returns-in-Stores g c = record {
   reads = λ env.
       let known = c.requires.facts.at.1.here in
       rw (c.going.ensures, c.report-report.ensures)
-      (stores_above g.P.Payload.always_shared g.P.HasMeaning.same_meaning (meant_table g.P.HasMeaning.meaning c.args.store.now) c.args.store.now.root c.args.pin (meant_task g.P.HasMeaning.meaning c.args.task) (env_of g.P.HasMeaning.meaning env) c.requires.placed c.requires.point c.args.path known.node known.here (c.requires.at_key known.node known.here) c.args.below c.requires.facts c.in-Stores.ensures);
+      (stores_above g.P.Payload.always_shared g.P.HasMeaning.same_meaning (meant_table g.P.HasMeaning.meaning c.args.store.now) c.args.store.now.root c.args.pin (meant_task g.P.HasMeaning.meaning c.args.task.now) (env_of g.P.HasMeaning.meaning env) c.requires.placed c.requires.point c.args.path known.node known.here (c.requires.at_key known.node known.here) c.args.below c.requires.facts c.in-Stores.ensures);
 }
 
 pub returns-in-Asks : goal.returns-in-Asks
 returns-in-Asks g c = record {
   reads = λ env.
       let known = c.requires.facts.at.1.here in
-      rw (c.asks.ensures, c.report-report.ensures)
-      (asks_above g.P.Payload.always_shared g.P.HasMeaning.same_meaning (meant_table g.P.HasMeaning.meaning c.args.store.now) c.args.store.now.root c.args.pin (meant_task g.P.HasMeaning.meaning c.args.task) (env_of g.P.HasMeaning.meaning env) c.requires.placed c.requires.point c.args.path known.node known.here (c.requires.at_key known.node known.here) c.args.below c.requires.facts c.in-Asks.ensures);
+      rw (c.asks.ensures.task, c.asks.ensures.event, c.report-report.ensures)
+      (asks_above g.P.Payload.always_shared g.P.HasMeaning.same_meaning (meant_table g.P.HasMeaning.meaning c.args.store.now) c.args.store.now.root c.args.pin (meant_task g.P.HasMeaning.meaning c.args.task.now) (env_of g.P.HasMeaning.meaning env) c.requires.placed c.requires.point c.args.path known.node known.here (c.requires.at_key known.node known.here) c.args.below c.requires.facts c.in-Asks.ensures);
 }

@@ -10,10 +10,10 @@ pub returns-in-Other : goal.returns-in-Other
 returns-in-Other g c =
     let at = c.requires.at in
     let child = in_some (child_of g.P.HasMeaning.meaning) (seen c.child_at.result) in
-    let there = found_means g.P.HasMeaning.meaning c.node_at.result.now.node c.args.task.outline c.key.result (seen c.child_at.result) c.child_at.ensures c.key.ensures in
+    let there = found_means g.P.HasMeaning.meaning c.node_at.result.now.node c.args.task.now.outline c.key.result (seen c.child_at.result) c.child_at.ensures c.key.ensures in
     record {
       reads = λ env.
-          rw (c.decided.ensures, c.report-report.ensures, c.take.ensures.value)
+          rw (c.decided.ensures.task, c.decided.ensures.event, c.report-report.ensures, c.take.ensures.value)
           (exchange_other g.P.Payload.always_shared g.P.HasMeaning.same_meaning _ c.args.store.now.root c.args.pin _ (env_of g.P.HasMeaning.meaning env) at.placed c.args.pair _ c.node_at.ensures (at.word _ c.node_at.ensures) at.facts c.args.only (at.present _ c.node_at.ensures) c.requires.exchange child there c.in-Other.ensures);
     }
 
@@ -21,10 +21,10 @@ pub returns-in-Same : goal.returns-in-Same
 returns-in-Same g c =
     let at = c.requires.at in
     let child = in_some (child_of g.P.HasMeaning.meaning) (seen c.child_at.result) in
-    let there = found_means g.P.HasMeaning.meaning c.node_at.result.now.node c.args.task.outline c.key.result (seen c.child_at.result) c.child_at.ensures c.key.ensures in
+    let there = found_means g.P.HasMeaning.meaning c.node_at.result.now.node c.args.task.now.outline c.key.result (seen c.child_at.result) c.child_at.ensures c.key.ensures in
     record {
       reads = λ env.
-          rw (c.changed.ensures, c.report-report.ensures, reply_meant g.P.HasMeaning.meaning c.args.task.outline None c.args.task.returns)
+          rw (c.changed.ensures.task, c.changed.ensures.event, c.report-report.ensures, reply_meant g.P.HasMeaning.meaning c.args.task.now.outline None c.args.task.now.returns)
           (exchange_same g.P.Payload.always_shared g.P.HasMeaning.same_meaning _ c.args.store.now.root c.args.pin _ (env_of g.P.HasMeaning.meaning env) at.placed c.args.pair _ c.node_at.ensures (at.word _ c.node_at.ensures) at.facts c.args.only (at.present _ c.node_at.ensures) c.requires.exchange child there c.in-Same.ensures);
     }
 
@@ -32,7 +32,7 @@ pub returns-in-Stores : goal.returns-in-Stores
 returns-in-Stores g c =
     let at = c.requires.at in
     let child = in_some (child_of g.P.HasMeaning.meaning) (seen c.child_at.result) in
-    let there = found_means g.P.HasMeaning.meaning c.node_at.result.now.node c.args.task.outline c.key.result (seen c.child_at.result) c.child_at.ensures c.key.ensures in
+    let there = found_means g.P.HasMeaning.meaning c.node_at.result.now.node c.args.task.now.outline c.key.result (seen c.child_at.result) c.child_at.ensures c.key.ensures in
     record {
       reads = λ env.
           rw (c.going.ensures, c.report-report.ensures, c.path_to.ensures)
@@ -43,7 +43,7 @@ pub returns-in-Removes : goal.returns-in-Removes
 returns-in-Removes g c =
     let at = c.requires.at in
     let child = in_some (child_of g.P.HasMeaning.meaning) (seen c.child_at.result) in
-    let there = found_means g.P.HasMeaning.meaning c.node_at.result.now.node c.args.task.outline c.key.result (seen c.child_at.result) c.child_at.ensures c.key.ensures in
+    let there = found_means g.P.HasMeaning.meaning c.node_at.result.now.node c.args.task.now.outline c.key.result (seen c.child_at.result) c.child_at.ensures c.key.ensures in
     record {
       reads = λ env.
           rw (c.going-in-Removes.ensures, c.report-report.ensures, c.removing.ensures)

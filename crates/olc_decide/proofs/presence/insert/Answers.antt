@@ -10,10 +10,10 @@ pub returns-in-Same : goal.returns-in-Same
 returns-in-Same g c =
     let at = c.requires.at in
     let child = in_some (child_of g.P.HasMeaning.meaning) (seen c.child_at.result) in
-    let there = found_means g.P.HasMeaning.meaning c.node_at.result.now.node c.args.task.outline c.key.result (seen c.child_at.result) c.child_at.ensures c.key.ensures in
+    let there = found_means g.P.HasMeaning.meaning c.node_at.result.now.node c.args.task.now.outline c.key.result (seen c.child_at.result) c.child_at.ensures c.key.ensures in
     record {
       reads = λ env.
-          rw (c.changed.ensures, c.report-report.ensures, c.handed-before.ensures.value, c.handed-before.ensures.rest, reply_meant g.P.HasMeaning.meaning c.args.task.outline (handed c.args.task.op) c.args.task.returns, handed_meant g.P.HasMeaning.meaning c.args.task.op)
+          rw (c.changed.ensures.task, c.changed.ensures.event, c.report-report.ensures, c.handed-before.ensures.value, c.handed-before.ensures.rest, reply_meant g.P.HasMeaning.meaning c.args.task.now.outline (handed c.args.task.now.op) c.args.task.now.returns, handed_meant g.P.HasMeaning.meaning c.args.task.now.op)
           (insert_same g.P.Payload.always_shared g.P.HasMeaning.same_meaning _ c.args.store.now.root c.args.pin _ (env_of g.P.HasMeaning.meaning env) at.placed c.args.pair _ c.node_at.ensures (at.word _ c.node_at.ensures) at.facts c.args.only (at.present _ c.node_at.ensures) c.requires.insert child there c.in-Same.ensures);
     }
 

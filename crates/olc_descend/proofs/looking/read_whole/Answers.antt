@@ -4,7 +4,7 @@ use Rattle.olc_descend.proofs.looking.read_whole.Goals as goal
 
 pub returns-in-Some-clause-reports : goal.returns-in-Some-clause-reports
 returns-in-Some-clause-reports g c =
-    rw c.saw.ensures
+    rw (c.saw.ensures.task, c.saw.ensures.event)
     (record {
       seen = seen_of g.P.HasMeaning.meaning c.in-Some.found.seen;
       spare = in_some g.P.HasMeaning.meaning c.in-Some.found.spare;
@@ -14,4 +14,4 @@ returns-in-Some-clause-reports g c =
     })
 
 pub returns-clause-reports : goal.returns-clause-reports
-returns-clause-reports g c = rw c.refused.ensures (c.in-None.ensures.none, refl)
+returns-clause-reports g c = rw (c.refused.ensures.task, c.refused.ensures.event) (c.in-None.ensures.none, refl)

@@ -10,6 +10,6 @@ returns-then-is_free g c = λ env.
 
 pub returns-else-is_free : goal.returns-else-is_free
 returns-else-is_free g c = λ env.
-    rw (c.back.ensures, c.report-report-else-is_free.ensures, c.number-else-is_free.ensures)
+    rw (c.back.ensures.task, c.back.ensures.event, c.report-report-else-is_free.ensures, c.number-else-is_free.ensures)
     (root_restarts g.P.Payload.always_shared g.P.HasMeaning.same_meaning _ c.args.store.now.root c.args.pin _ c.args.course _ c.requires.placed _ c.requires.facts c.node_at.ensures
     (λ (f : IsFree c.node_at.result.now.word). test_false _ c.if-is_free.false (c.is_free.ensures.1 f)))

@@ -10,7 +10,7 @@ returns-then-is_open g c =
     let sets = c.unlock_node.ensures.sets held.node held.linked.here in
     record {
       moves = λ env.
-          rw (c.back.ensures, c.report-report.ensures)
+          rw (c.back.ensures.task, c.back.ensures.event, c.report-report.ensures)
           (frees_moves g.P.HasMeaning.meaning g.A.Allocator.charge g.P.Payload.always_shared g.P.HasMeaning.same_meaning c.args.stock.now _ c.args.pin _ env _ _ _ c.requires.kept
           c.args.spot held sets c.unlock_node.ensures.sizes c.unlock_node.ensures.lives
           (unlock_restarts g.P.Payload.always_shared g.P.HasMeaning.same_meaning _ c.args.stock.now.store.root c.args.pin _ _ _ c.requires.kept.placed _ c.args.spot c.requires.facts sets.here sets.others

@@ -19,7 +19,7 @@ set_payload-before-requires g c =
         facts.at.work.is.0,
         (λ absent. facts.at.work.is.1 (ap (λ x. entry a x) (sym byte_is) ∙ absent)),
         (λ none. subst (λ x. IsSome (entry a x)) (sym byte_is)
-            (leaf_has g.P.HasMeaning.meaning g.A.Allocator.charge g.P.Payload.always_shared g.P.HasMeaning.same_meaning c.args.stock.now c.args.pin c.args.task c.args.spot c.requires.kept facts
+            (leaf_has g.P.HasMeaning.meaning g.A.Allocator.charge g.P.Payload.always_shared g.P.HasMeaning.same_meaning c.args.stock.now c.args.pin c.args.task.now c.args.spot c.requires.kept facts
             c.take_stored-value.result c.take_stored-value.ensures.value none)),
       );
     }
@@ -29,7 +29,7 @@ counted-stock-requires-clause-some g c = λ had.
     let facts = c.requires.facts in
     let a = facts.at.held.node in
     let here = facts.at.held.linked.here in
-    leaf_counts g.P.HasMeaning.meaning g.A.Allocator.charge g.P.Payload.always_shared g.P.HasMeaning.same_meaning c.args.stock.now c.args.pin c.args.task c.args.spot c.requires.kept facts c.requires.counted
+    leaf_counts g.P.HasMeaning.meaning g.A.Allocator.charge g.P.Payload.always_shared g.P.HasMeaning.same_meaning c.args.stock.now c.args.pin c.args.task.now c.args.spot c.requires.kept facts c.requires.counted
     c.set_payload-before.result (c.set_payload-before.ensures.before a here ∙ ap (λ x. payload_in (entry a x)) (c.byte_below-byte.ensures.byte a here ∙ ap (λ k. byte_at a (bytes_of k)) c.key.ensures))
     (subst (λ b. IsTrue b) c.is_some.ensures had)
 
@@ -42,8 +42,8 @@ returns g c = record {
       let here = facts.at.held.linked.here in
       let set = c.set_payload-before in
       let value = c.take_stored-value in
-      rw (c.changed.ensures, value.ensures.rest, c.report-report.ensures)
-      (wrote_moves g.P.HasMeaning.meaning g.A.Allocator.charge g.P.Payload.always_shared g.P.HasMeaning.same_meaning old c.args.pin c.args.task c.args.spot c.requires.kept facts
+      rw (c.changed.ensures.task, c.changed.ensures.event, value.ensures.rest, c.report-report.ensures)
+      (wrote_moves g.P.HasMeaning.meaning g.A.Allocator.charge g.P.Payload.always_shared g.P.HasMeaning.same_meaning old c.args.pin c.args.task.now c.args.spot c.requires.kept facts
       set.new.store c.byte_below-byte.result value.result set.result c.is_some.result c.is_some-stores.result c.counted-stock.result env value.ensures.value
       (c.byte_below-byte.ensures.byte a here ∙ ap (λ k. byte_at a (bytes_of k)) c.key.ensures) (c.byte_below-byte.ensures.within a here)
       (set.ensures.sets a here) (set.ensures.before a here) set.ensures.sizes set.ensures.lives

@@ -24,7 +24,7 @@ returns-else-lock g c =
     let known = c.requires.facts.at.1.here in
     record {
       moves = λ env e.
-          rw (c.back.ensures, c.report-else-lock.ensures)
+          rw (c.back.ensures.task, c.back.ensures.event, c.report-else-lock.ensures)
           (same_moves g.P.HasMeaning.meaning g.A.Allocator.charge g.P.Payload.always_shared g.P.HasMeaning.same_meaning c.args.stock.now _ c.args.pin _ env _ _ _ c.requires.kept (c.lock.ensures.rest c.if-lock.false)
           (upgrade_fails g.P.Payload.always_shared g.P.HasMeaning.same_meaning _ c.args.stock.now.store.root c.args.pin _ _ _ c.requires.kept.placed c.args.path c.args.small c.requires.facts known.node known.here
           (λ may whole. false_true (sym c.if-lock.false ∙ (c.lock.ensures.exactly known.node known.here).1 (may, sym e ∙ whole)))));

@@ -7,11 +7,11 @@ after_leaf-requires g c = c.requires.facts.at.1
 pub returns-in-Some : goal.returns-in-Some
 returns-in-Some g c = record {
   moves = λ env. rw (c.makes.ensures, c.after_leaf.ensures)
-      (leaf_moves_below g.P.HasMeaning.meaning g.A.Allocator.charge g.P.Payload.always_shared g.P.HasMeaning.same_meaning c.args.stock.now c.make_node.new.stock c.args.pin c.args.task env c.requires.kept c.args.pair c.args.large c.in-Some.leaf c.leaf_for-built.result c.requires.facts c.leaf_for-built.ensures c.in-Some.ensures.some);
+      (leaf_moves_below g.P.HasMeaning.meaning g.A.Allocator.charge g.P.Payload.always_shared g.P.HasMeaning.same_meaning c.args.stock.now c.make_node.new.stock c.args.pin c.args.task.now env c.requires.kept c.args.pair c.args.large c.in-Some.leaf c.leaf_for-built.result c.requires.facts c.leaf_for-built.ensures c.in-Some.ensures.some);
 }
 
 pub returns-in-None : goal.returns-in-None
 returns-in-None g c = record {
-  moves = λ env. rw c.gives_up.ensures
-      (leaf_refused_below g.P.HasMeaning.meaning g.A.Allocator.charge g.P.Payload.always_shared g.P.HasMeaning.same_meaning c.args.stock.now c.make_node.new.stock c.args.pin c.args.task env c.requires.kept c.args.pair c.args.large c.requires.facts c.in-None.ensures.none);
+  moves = λ env. rw (c.gives_up.ensures.task, c.gives_up.ensures.event)
+      (leaf_refused_below g.P.HasMeaning.meaning g.A.Allocator.charge g.P.Payload.always_shared g.P.HasMeaning.same_meaning c.args.stock.now c.make_node.new.stock c.args.pin c.args.task.now env c.requires.kept c.args.pair c.args.large c.requires.facts c.in-None.ensures.none);
 }

@@ -4,14 +4,14 @@ use Rattle.olc_write.proofs.Steps.{ByteIn, middles_there, over_there, middle_may
 use Rattle.olc_write.proofs.replacing.insert.Goals as goal
 
 pub byte_below-byte-requires : goal.byte_below-byte-requires
-byte_below-byte-requires g c = over_there g.P.HasMeaning.meaning g.A.Allocator.charge g.P.Payload.always_shared g.P.HasMeaning.same_meaning c.args.stock.now c.args.pin c.args.task c.args.pair c.requires.kept c.args.middle c.args.leaf c.requires.facts
+byte_below-byte-requires g c = over_there g.P.HasMeaning.meaning g.A.Allocator.charge g.P.Payload.always_shared g.P.HasMeaning.same_meaning c.args.stock.now c.args.pin c.args.task.now c.args.pair c.requires.kept c.args.middle c.args.leaf c.requires.facts
 
 pub link_new-requires : goal.link_new-requires
-link_new-requires g c = middles_there g.P.HasMeaning.meaning g.A.Allocator.charge g.P.Payload.always_shared g.P.HasMeaning.same_meaning c.args.stock.now c.args.pin c.args.task c.args.pair c.requires.kept c.args.middle c.args.leaf c.requires.facts
+link_new-requires g c = middles_there g.P.HasMeaning.meaning g.A.Allocator.charge g.P.Payload.always_shared g.P.HasMeaning.same_meaning c.args.stock.now c.args.pin c.args.task.now c.args.pair c.requires.kept c.args.middle c.args.leaf c.requires.facts
 
 pub put_child-requires : goal.put_child-requires
 put_child-requires g c = record {
-  at = middle_may g.P.HasMeaning.meaning g.A.Allocator.charge g.P.Payload.always_shared g.P.HasMeaning.same_meaning c.args.stock.now c.args.pin c.args.task c.args.pair c.requires.kept c.args.middle c.args.leaf c.requires.facts
+  at = middle_may g.P.HasMeaning.meaning g.A.Allocator.charge g.P.Payload.always_shared g.P.HasMeaning.same_meaning c.args.stock.now c.args.pin c.args.task.now c.args.pair c.requires.kept c.args.middle c.args.leaf c.requires.facts
       c.link_new.new.store c.byte_below-byte.result c.link_new.ensures.others
       (subst (λ (k : ℕ). ByteIn g.P.HasMeaning.meaning c.args.stock.now.store c.args.pair.above.slot (bytes_of k) c.byte_below-byte.result) c.key.ensures c.byte_below-byte.ensures.byte);
 }
@@ -19,8 +19,8 @@ put_child-requires g c = record {
 pub returns : goal.returns
 returns g c = record {
   moves = λ env.
-      rw (c.changed.ensures, c.report-report.ensures)
-      (inserts g.P.HasMeaning.meaning g.A.Allocator.charge g.P.Payload.always_shared g.P.HasMeaning.same_meaning c.args.stock.now _ c.args.pin c.args.task c.args.pair env c.requires.kept
+      rw (c.changed.ensures.task, c.changed.ensures.event, c.report-report.ensures)
+      (inserts g.P.HasMeaning.meaning g.A.Allocator.charge g.P.Payload.always_shared g.P.HasMeaning.same_meaning c.args.stock.now _ c.args.pin c.args.task.now c.args.pair env c.requires.kept
       refl (c.put_child.ensures.lives ∙ c.link_new.ensures.lives) (c.put_child.ensures.sizes ∙ c.link_new.ensures.sizes) refl c.byte_below-byte.ensures.within
       c.link_new.new.store c.args.middle c.args.leaf c.requires.facts (record {
         byte = c.byte_below-byte.result;

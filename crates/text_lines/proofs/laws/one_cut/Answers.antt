@@ -1,5 +1,5 @@
-use Rattle.text_lines.proofs.LawLemmas.{cut_once}
+use Rattle.text_lines.proofs.LawLemmas.{read_once}
 use Rattle.text_lines.proofs.laws.one_cut.Goals as goal
 
 pub returns : goal.returns
-returns c = cut_once
+returns c = read_once

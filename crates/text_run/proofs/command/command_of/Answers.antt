@@ -1,6 +1,7 @@
 use Rattle.std.proofs.Common.{◌≡◌, ◌∷◌, sym, ◌∙◌}
 use Rattle.text_lines.specs.inner.Words.{words_of, words_left}
 use Rattle.spec_text.specs.Command.{words_of_command, CommandFits}
+use Rattle.text_run.specs.inner.CommandReading.{CommandIsWithin}
 use Rattle.text_lines.proofs.GrammarLemmas.{spelled_from_reads, none_from_reads}
 use Rattle.text_run.proofs.CommandLemmas.{commands}
 use Rattle.text_run.proofs.command.command_of.Goals as goal
@@ -12,8 +13,8 @@ cut c = sym c.new-words.ensures ∙ c.in_ok-name.ensures
 
 pub returns-clause-parsed : goal.returns-clause-parsed
 returns-clause-parsed c =
-    spelled_from_reads words_of_command CommandFits commands _ _ (cut (goal.at.returns-clause-parsed c).In_ok-name) _ c.named.ensures
+    spelled_from_reads words_of_command CommandIsWithin CommandFits commands _ _ (cut (goal.at.returns-clause-parsed c).In_ok-name) _ c.named.ensures
 
 pub returns-clause-bad : goal.returns-clause-bad
 returns-clause-bad c =
-    none_from_reads words_of_command CommandFits commands _ _ (cut (goal.at.returns-clause-bad c).In_ok-name) _ c.named.ensures
+    none_from_reads words_of_command CommandIsWithin CommandFits commands _ _ (cut (goal.at.returns-clause-bad c).In_ok-name) _ c.named.ensures

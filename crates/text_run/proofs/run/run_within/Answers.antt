@@ -1,13 +1,12 @@
-use Rattle.std.proofs.Common.{◌≡◌, ℕ, List, [], Option, Some, None, Err, refl, sym, ap, ◌∙◌}
+use Rattle.std.proofs.Common.{◌≡◌, ℕ, List, [], Option, Some, None, Err, true, refl, ap, ◌∙◌}
 use Rattle.std.specs.Io.KnownBytes.{Consumes}
-use Rattle.text_lines.specs.Watched.{HasFailed, inner_of}
 use Rattle.text_lines.specs.declared.watched.Watched.{Watched}
 use Rattle.text_run.specs.Run.{EndsRun}
 use Rattle.text_run.specs.declared.run.RunError.{RunError}
 use Rattle.text_run.specs.declared.run.RunError.TheVariants.{Read as ReadFailed, Write as WriteFailed, Oom}
 use Rattle.text_run.specs.declared.session.Session.{Session}
 use Rattle.text_run.specs.inner.Session.{TurnsTo}
-use Rattle.text_run.proofs.Ending.{serves_all, serves_whole, serves_first}
+use Rattle.text_run.proofs.Ending.{never_failed, serves_all, serves_whole, serves_first}
 use Rattle.text_run.proofs.run.run_within.Goals as goal
 
 -- no byte was read yet
@@ -18,8 +17,8 @@ consumes_none (Some xs) = refl
 -- a turn that breaks off ends the run
 breaks_off : {A R W : Type 0} (remaining : R → Option (List ℕ)) (contents : W → Option (List ℕ)) (s : Session A)
     (input input' : Watched R) (output output' : Watched W) (error : RunError)
-    → TurnsTo remaining contents s input' output' (remaining (inner_of input)) (contents (inner_of output)) (Err error)
-    → (error ≡ ReadFailed → HasFailed input') → (error ≡ WriteFailed → HasFailed output')
+    → TurnsTo remaining contents s input' output' (remaining input.inner) (contents output.inner) (Err error)
+    → (error ≡ ReadFailed → (input'.failed ≡ true)) → (error ≡ WriteFailed → (output'.failed ≡ true))
     → EndsRun remaining contents input input' output output' (Err error)
 breaks_off remaining contents s input input' output output' ReadFailed turned read written = (serves_whole turned, read refl)
 breaks_off remaining contents s input input' output output' WriteFailed turned read written = (serves_first turned, written refl)
@@ -45,8 +44,8 @@ returns-in_default-finish g c =
 pub returns : goal.returns
 returns g c =
     let t = c.in-Ok-false.ensures.turns _ _ c.loop-error.invariant.runs in (
-      serves_all (record { taken = t.0.taken; reads = t.0.reads; ends = t.1 c.in-Ok-false.field-0-test; written = c.in-Ok-finish.ensures.ok _ t.0.taken t.0.serves }),
+      serves_all t.0.taken t.0.reads (c.in-Ok-finish.ensures.ok _ t.0.taken t.0.serves),
       t.1 c.in-Ok-false.field-0-test,
-      λ failed. c.requires.input (sym c.loop-error.invariant.input ∙ sym c.in-Ok-false.ensures.input ∙ failed),
-      λ failed. c.requires.output (sym c.loop-error.invariant.output ∙ sym c.in-Ok-false.ensures.output ∙ sym c.in-Ok-finish.ensures.kept ∙ failed),
+      c.in-Ok-false.ensures.input ∙ c.loop-error.invariant.input ∙ never_failed _ c.requires.input,
+      c.in-Ok-finish.ensures.kept ∙ c.in-Ok-false.ensures.output ∙ c.loop-error.invariant.output ∙ never_failed _ c.requires.output,
     )

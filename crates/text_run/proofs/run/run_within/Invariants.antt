@@ -1,6 +1,5 @@
 use Rattle.std.proofs.Common.{◌≡◌}
 use Rattle.text_run.specs.inner.Session.{ServesInput}
-use Rattle.text_lines.specs.Watched.{calls_left}
 use Rattle.text_run.proofs.run.run_within.Given as goal
 
 abbrev pub invariant-loop-error : goal.invariant-loop-error
@@ -12,4 +11,4 @@ invariant-loop-error g l = record {
 }
 
 abbrev pub decreases-loop-error : goal.decreases-loop-error
-decreases-loop-error g l = calls_left l.input
+decreases-loop-error g l = l.input.calls_left

@@ -2,6 +2,7 @@ use Rattle.std.proofs.Common.{◌≡◌, ◌∷◌, sym, ◌∙◌}
 use Rattle.text_lines.specs.inner.Words.{words_of, words_left}
 use Rattle.text_lines.proofs.GrammarLemmas.{spelled_from_reads, none_from_reads}
 use Rattle.spec_text.specs.Entry.{words_of_entry, EntryFits}
+use Rattle.text_schedule.specs.inner.EntryReading.{EntryIsWithin}
 use Rattle.text_schedule.proofs.EntryLemmas.{entries}
 use Rattle.text_schedule.proofs.entry.entry_of.Goals as goal
 use Rattle.text_schedule.proofs.entry.entry_of.Goals.{In_ok-name}
@@ -12,8 +13,8 @@ cut c = sym c.new-words.ensures ∙ c.in_ok-name.ensures
 
 pub returns-clause-parsed : goal.returns-clause-parsed
 returns-clause-parsed c =
-    spelled_from_reads words_of_entry EntryFits entries _ _ (cut (goal.at.returns-clause-parsed c).In_ok-name) _ c.named.ensures
+    spelled_from_reads words_of_entry EntryIsWithin EntryFits entries _ _ (cut (goal.at.returns-clause-parsed c).In_ok-name) _ c.named.ensures
 
 pub returns-clause-bad : goal.returns-clause-bad
 returns-clause-bad c =
-    none_from_reads words_of_entry EntryFits entries _ _ (cut (goal.at.returns-clause-bad c).In_ok-name) _ c.named.ensures
+    none_from_reads words_of_entry EntryIsWithin EntryFits entries _ _ (cut (goal.at.returns-clause-bad c).In_ok-name) _ c.named.ensures

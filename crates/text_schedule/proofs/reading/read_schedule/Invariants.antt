@@ -1,5 +1,4 @@
 use Rattle.std.proofs.Common.{◌≡◌}
-use Rattle.text_lines.specs.Watched.{calls_left}
 use Rattle.text_schedule.specs.inner.Reading.{ReadsInput}
 use Rattle.text_schedule.proofs.reading.read_schedule.Given as goal
 
@@ -10,4 +9,4 @@ invariant-loop-error g l = record {
 }
 
 abbrev pub decreases-loop-error : goal.decreases-loop-error
-decreases-loop-error g l = calls_left l.input
+decreases-loop-error g l = l.input.calls_left

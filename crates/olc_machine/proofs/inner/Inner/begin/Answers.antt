@@ -15,14 +15,14 @@ enter-requires g c =
 pub returns-in_default-clause-stays : goal.returns-in_default-clause-stays
 returns-in_default-clause-stays g c =
     let w = inside g.A.Allocator.charge c.args.self.now in
-    (begins_none g.P.HasMeaning.meaning g.P.Payload.always_shared g.P.HasMeaning.same_meaning w c.args.id c.ranges.id.fits c.requires.sound c.leave.new.self c.put.new.self c.enter.new.self c.requires.free
+    (begins_none g.P.HasMeaning.meaning g.P.Payload.always_shared g.P.HasMeaning.same_meaning w c.args.id c.ranges.id.fits c.requires.sound c.leave.new.self c.put.new.places.entries c.enter.new.self c.requires.free
     (free_pin g.P.HasMeaning.meaning g.P.Payload.always_shared g.P.HasMeaning.same_meaning w c.args.id c.ranges.id.fits c.requires.sound c.requires.free)
     c.in_ok-enter.ensures.ok c.leave.ensures c.in_default.ensures.err).0
 
 pub returns-in_default-clause-err : goal.returns-in_default-clause-err
 returns-in_default-clause-err g c =
     let w = inside g.A.Allocator.charge c.args.self.now in
-    (begins_none g.P.HasMeaning.meaning g.P.Payload.always_shared g.P.HasMeaning.same_meaning w c.args.id c.ranges.id.fits c.requires.sound c.leave.new.self c.put.new.self c.enter.new.self c.requires.free
+    (begins_none g.P.HasMeaning.meaning g.P.Payload.always_shared g.P.HasMeaning.same_meaning w c.args.id c.ranges.id.fits c.requires.sound c.leave.new.self c.put.new.places.entries c.enter.new.self c.requires.free
     (free_pin g.P.HasMeaning.meaning g.P.Payload.always_shared g.P.HasMeaning.same_meaning w c.args.id c.ranges.id.fits c.requires.sound c.requires.free)
     c.in_ok-enter.ensures.ok c.leave.ensures c.in_default.ensures.err).1
 
@@ -33,14 +33,14 @@ returns-in_default-clause-granted g c seated =
 pub returns-clause-stays : goal.returns-clause-stays
 returns-clause-stays g c =
     let w = inside g.A.Allocator.charge c.args.self.now in
-    (begins g.P.HasMeaning.meaning g.P.Payload.always_shared g.P.HasMeaning.same_meaning w c.args.id c.ranges.id.fits c.requires.sound c.enter.new.self c.put.new.self
+    (begins g.P.HasMeaning.meaning g.P.Payload.always_shared g.P.HasMeaning.same_meaning w c.args.id c.ranges.id.fits c.requires.sound c.enter.new.self c.put.new.places.entries
     (op_of g.P.HasMeaning.meaning c.args.op) c.begun-call.result c.begun-call.ensures.small c.begun-call.ensures.begins c.requires.free
     c.in_ok-enter.ensures.ok c.in-Ok.ensures.ok).0
 
 pub returns-clause-ok : goal.returns-clause-ok
 returns-clause-ok g c =
     let w = inside g.A.Allocator.charge c.args.self.now in
-    subst (λ (report : Report). IsBegun g.P.Payload.always_shared g.P.HasMeaning.same_meaning (meant_world g.P.HasMeaning.meaning w) (meant_world g.P.HasMeaning.meaning (record w { pins = c.enter.new.self; calls = c.put.new.self })) c.args.id (op_of g.P.HasMeaning.meaning c.args.op) report) (sym c.started.ensures)
-    (begins g.P.HasMeaning.meaning g.P.Payload.always_shared g.P.HasMeaning.same_meaning w c.args.id c.ranges.id.fits c.requires.sound c.enter.new.self c.put.new.self
+    subst (λ (report : Report). IsBegun g.P.Payload.always_shared g.P.HasMeaning.same_meaning (meant_world g.P.HasMeaning.meaning w) (meant_world g.P.HasMeaning.meaning (record w { pins = c.enter.new.self; calls = c.put.new.places.entries })) c.args.id (op_of g.P.HasMeaning.meaning c.args.op) report) (sym c.started.ensures)
+    (begins g.P.HasMeaning.meaning g.P.Payload.always_shared g.P.HasMeaning.same_meaning w c.args.id c.ranges.id.fits c.requires.sound c.enter.new.self c.put.new.places.entries
     (op_of g.P.HasMeaning.meaning c.args.op) c.begun-call.result c.begun-call.ensures.small c.begun-call.ensures.begins c.requires.free
     c.in_ok-enter.ensures.ok c.in-Ok.ensures.ok).1

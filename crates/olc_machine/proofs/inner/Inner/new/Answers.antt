@@ -19,7 +19,7 @@ returns-clause-sound g c =
     let charge = add_charge (g.A.Allocator.charge c.args.budget) 2104 in
     let life = c.in_ok-admit.ensures.ok in
     let count = c.admit.ensures.count ∙ ap (λ (p : PinsView). p.count) c.new-pins.ensures in
-    let is = alone_is slots root pins c.new.result (g.A.Allocator.charge c.allocate.new.self) charge (none_seated c.new-pins.result pins root c.new-pins.ensures life) count c.new.ensures (search rules) in
+    let is = alone_is slots root pins c.new.result.entries (g.A.Allocator.charge c.allocate.new.self) charge (none_seated c.new-pins.result pins root c.new-pins.ensures life) count c.new.ensures.empty (search rules) in
     subst (λ (w : World g.row.P.Denot). IsSoundWorld g.P.Payload.always_shared g.P.HasMeaning.same_meaning (meant_world g.P.HasMeaning.meaning w)) (sym is)
     (meant_sound g.P.HasMeaning.meaning slots pins.slots root _ c.insert_reserved-root.ensures.updates.changed off c.from_number.ensures (search rules) c.in_ok-root.ensures g.P.Payload.always_shared g.P.HasMeaning.same_meaning
     (g.A.Allocator.charge c.args.budget) c.insert_reserved-root.type_inv (root_admitted c.new-pins.result pins root c.new-pins.ensures life) (none_admitted c.new-pins.result pins root c.new-pins.ensures life))
@@ -33,7 +33,7 @@ returns-clause-fresh g c =
     let charge = add_charge (g.A.Allocator.charge c.args.budget) 2104 in
     let life = c.in_ok-admit.ensures.ok in
     let count = c.admit.ensures.count ∙ ap (λ (p : PinsView). p.count) c.new-pins.ensures in
-    let is = alone_is slots root pins c.new.result (g.A.Allocator.charge c.allocate.new.self) charge (none_seated c.new-pins.result pins root c.new-pins.ensures life) count c.new.ensures (search rules) in (
+    let is = alone_is slots root pins c.new.result.entries (g.A.Allocator.charge c.allocate.new.self) charge (none_seated c.new-pins.result pins root c.new-pins.ensures life) count c.new.ensures.empty (search rules) in (
       root,
       subst (λ (w : World g.row.P.Denot). state_of w ≡ fresh root charge) (sym is)
           (root_fresh slots pins.slots root _ c.insert_reserved-root.ensures.updates.changed off c.from_number.ensures (search rules) c.in_ok-root.ensures charge),

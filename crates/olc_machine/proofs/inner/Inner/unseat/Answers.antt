@@ -20,10 +20,10 @@ pub returns-clause-stays : goal.returns-clause-stays
 returns-clause-stays g c =
     let w = inside g.A.Allocator.charge c.args.self.now in
     let none : record_of w c.args.id ≡ None = none_there (record_of w c.args.id) (λ h. false≢true (sym c.if-is_in_flight.false ∙ c.is_in_flight.ensures.1 h)) in
-    (unseats g.P.HasMeaning.meaning g.P.Payload.always_shared g.P.HasMeaning.same_meaning w c.args.id c.ranges.id.fits c.requires.sound c.unseat-2.new.self c.forget.new.self none c.unseat-2.ensures c.forget.ensures).0
+    (unseats g.P.HasMeaning.meaning g.P.Payload.always_shared g.P.HasMeaning.same_meaning w c.args.id c.ranges.id.fits c.requires.sound c.unseat-2.new.self c.forget.new.places.entries none c.unseat-2.ensures c.forget.ensures).0
 
 pub returns-clause-seats : goal.returns-clause-seats
 returns-clause-seats g c =
     let w = inside g.A.Allocator.charge c.args.self.now in
     let none : record_of w c.args.id ≡ None = none_there (record_of w c.args.id) (λ h. false≢true (sym c.if-is_in_flight.false ∙ c.is_in_flight.ensures.1 h)) in
-    (unseats g.P.HasMeaning.meaning g.P.Payload.always_shared g.P.HasMeaning.same_meaning w c.args.id c.ranges.id.fits c.requires.sound c.unseat-2.new.self c.forget.new.self none c.unseat-2.ensures c.forget.ensures).1
+    (unseats g.P.HasMeaning.meaning g.P.Payload.always_shared g.P.HasMeaning.same_meaning w c.args.id c.ranges.id.fits c.requires.sound c.unseat-2.new.self c.forget.new.places.entries none c.unseat-2.ensures c.forget.ensures).1

@@ -7,11 +7,11 @@ use Rattle.olc_words.proofs.epoch.Pins.admit.Goals as goal
 pub invariant_of-self-2 : goal.invariant_of-self-2
 invariant_of-self-2 c =
     let old = c.self.inside in
-    let new = c.insert.new.self.entries in
-    let others : (other : ℕ) → other ≢ c.args.slot → entry_at new other ≡ entry_at old.slots.entries other = search rules in
-    let here : entry_at new c.args.slot ≡ Some (admitted (entry_at old.slots.entries c.args.slot)) = search rules in
-    subst (λ (w : List (ℕ × ℕ)). IsQueue new old.count w old.whole) (sym c.reserve.ensures.items)
-    (admits old.slots.entries new old.count c.args.slot old.waiting.items old.whole c.self.invariant others here)
+    let new = c.admit.new.self in
+    let others : (other : ℕ) → other ≢ c.args.slot → entry_at new other ≡ entry_at old.slots other = search rules in
+    let here : entry_at new c.args.slot ≡ Some (admitted (entry_at old.slots c.args.slot)) = search rules in
+    subst (λ (w : List (ℕ × ℕ)). IsQueue new old.count w old.whole) (sym c.make_room.ensures.items)
+    (admits old.slots new old.count c.args.slot old.waiting.items old.whole c.self.invariant others here)
 
 pub returns-clause-ok : goal.returns-clause-ok
 returns-clause-ok c = search rules

@@ -7,17 +7,17 @@ use Rattle.olc_words.proofs.epoch.Pins.retire.Goals as goal
 pub invariant_of-self : goal.invariant_of-self
 invariant_of-self c =
     let old = c.self.inside in
-    let new = c.insert.new.self.entries in
-    let others : (other : ℕ) → other ≢ c.args.slot → entry_at new other ≡ entry_at old.slots.entries other = search rules in
-    let used : entry_at old.slots.entries c.args.slot ≡ Some InUse = search rules in
+    let new = c.put.new.self in
+    let others : (other : ℕ) → other ≢ c.args.slot → entry_at new other ≡ entry_at old.slots other = search rules in
+    let used : entry_at old.slots c.args.slot ≡ Some InUse = search rules in
     let here : entry_at new c.args.slot ≡ Some (Retired (Some old.count)) = search rules in
-    retires_listed old.slots.entries new old.count c.args.slot old.waiting.items old.whole c.self.invariant others used here _ _ c.listed-whole.ensures
+    retires_listed old.slots new old.count c.args.slot old.waiting.items old.whole c.self.invariant others used here _ _ c.listed-whole.ensures
 
 pub invariant_of-self-else-count-lt18446744073709551615 : goal.invariant_of-self-else-count-lt18446744073709551615
 invariant_of-self-else-count-lt18446744073709551615 c =
     let old = c.self.inside in
-    let new = c.insert.new.self.entries in
-    let others : (other : ℕ) → other ≢ c.args.slot → entry_at new other ≡ entry_at old.slots.entries other = search rules in
-    let used : entry_at old.slots.entries c.args.slot ≡ Some InUse = search rules in
+    let new = c.put.new.self in
+    let others : (other : ℕ) → other ≢ c.args.slot → entry_at new other ≡ entry_at old.slots other = search rules in
+    let used : entry_at old.slots c.args.slot ≡ Some InUse = search rules in
     let here : entry_at new c.args.slot ≡ Some (Retired None) = search rules in
-    retires_uncounted old.slots.entries new old.count c.args.slot old.waiting.items old.whole c.self.invariant others used here
+    retires_uncounted old.slots new old.count c.args.slot old.waiting.items old.whole c.self.invariant others used here

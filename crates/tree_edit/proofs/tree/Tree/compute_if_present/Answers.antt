@@ -35,26 +35,16 @@ unreachable-requires g c = stands_alone _ _ _ _ c.seek_along-spot.ensures.ends (
 pub returns-in_default-clause-ordered : goal.returns-in_default-clause-ordered
 returns-in_default-clause-ordered g c = ordered g.A.Allocator.charge _ _ _ _ c.self.invariant _ c.self.view_is
 
-pub returns-in_default-clause-before : goal.returns-in_default-clause-before
-returns-in_default-clause-before g c = sym (nothing_seen g.A.Allocator.charge _ _ _ _ c.self.invariant _ c.self.view_is _ (AreBytes-from_items _ (λ k l. c.fits-key k)) c.told-key _ c.seek_along-spot.ensures.ends c.in_default.ensures.none)
-
-pub returns-in_default-clause-present : goal.returns-in_default-clause-present
-returns-in_default-clause-present g c = λ current is.
-    absurd (let clash = sym (nothing_seen g.A.Allocator.charge _ _ _ _ c.self.invariant _ c.self.view_is _ (AreBytes-from_items _ (λ k l. c.fits-key k)) c.told-key _ c.seek_along-spot.ensures.ends c.in_default.ensures.none) ∙ is in cc)
+pub returns-in_default-clause-computes : goal.returns-in_default-clause-computes
+returns-in_default-clause-computes g c =
+    let none = nothing_seen g.A.Allocator.charge _ _ _ _ c.self.invariant _ c.self.view_is _ (AreBytes-from_items _ (λ k l. c.fits-key k)) c.told-key _ c.seek_along-spot.ensures.ends c.in_default.ensures.none in
+    record { before = sym none; absent = λ _. (refl, refl); present = λ current is. absurd (let clash = sym none ∙ is in cc); charged = refl }
 
 pub returns-in-Some-f-clause-ordered : goal.returns-in-Some-f-clause-ordered
 returns-in-Some-f-clause-ordered g c = ordered g.A.Allocator.charge _ _ _ _ c.self.invariant _ c.self.view_is
 
-pub returns-in-Some-f-clause-absent : goal.returns-in-Some-f-clause-absent
-returns-in-Some-f-clause-absent g c = λ none.
-    absurd (let clash = sym (payload_seen g.A.Allocator.charge _ _ _ _ c.self.invariant _ c.self.view_is _ (AreBytes-from_items _ (λ k l. c.fits-key k)) c.told-key _ c.seek_along-spot.ensures.ends _ c.in-Some.ensures.some) ∙ none in cc)
-
 pub returns-in-Some-take_out-clause-ordered : goal.returns-in-Some-take_out-clause-ordered
 returns-in-Some-take_out-clause-ordered g c = ordered g.A.Allocator.charge _ _ _ _ c.self.invariant _ c.self.view_is
-
-pub returns-in-Some-take_out-clause-absent : goal.returns-in-Some-take_out-clause-absent
-returns-in-Some-take_out-clause-absent g c = λ none.
-    absurd (let clash = sym (payload_seen g.A.Allocator.charge _ _ _ _ c.self.invariant _ c.self.view_is _ (AreBytes-from_items _ (λ k l. c.fits-key k)) c.told-key _ c.seek_along-spot.ensures.ends _ c.in-Some.ensures.some) ∙ none in cc)
 
 pub invariant_of-self : goal.invariant_of-self
 invariant_of-self g c =
@@ -62,26 +52,19 @@ invariant_of-self g c =
     let x = exchanged g.A.Allocator.charge _ _ _ _ c.self.invariant _ c.self.view_is _ (AreBytes-from_items _ (λ k l. c.fits-key k)) c.told-key _ c.seek_along-spot.ensures.ends _ _ _ e.before e.after in
     x.whole
 
-pub returns-in-Some-f-clause-before : goal.returns-in-Some-f-clause-before
-returns-in-Some-f-clause-before g c =
+pub returns-in-Some-f-clause-computes : goal.returns-in-Some-f-clause-computes
+returns-in-Some-f-clause-computes g c =
     let e = c.change_payload-before.ensures in
     let x = exchanged g.A.Allocator.charge _ _ _ _ c.self.invariant _ c.self.view_is _ (AreBytes-from_items _ (λ k l. c.fits-key k)) c.told-key _ c.seek_along-spot.ensures.ends _ _ _ e.before e.after in
-    x.was
-
-pub returns-in-Some-f-clause-present : goal.returns-in-Some-f-clause-present
-returns-in-Some-f-clause-present g c =
-    let e = c.change_payload-before.ensures in
-    let x = exchanged g.A.Allocator.charge _ _ _ _ c.self.invariant _ c.self.view_is _ (AreBytes-from_items _ (λ k l. c.fits-key k)) c.told-key _ c.seek_along-spot.ensures.ends _ _ _ e.before e.after in
-    λ current is.
     let found = payload_seen g.A.Allocator.charge _ _ _ _ c.self.invariant _ c.self.view_is _ (AreBytes-from_items _ (λ k l. c.fits-key k)) c.told-key _ c.seek_along-spot.ensures.ends _ c.in-Some.ensures.some in
-    let both : Some c.in-Some.payload.now ≡ Some current = sym found ∙ is in
-    (Some c.in-Some-f.answer, record { shown = c.in-Some.payload; shows = (cc); called = c.in-Some-f.ensures }, x.pairs, x.shape)
-
-pub returns-in-Some-f-clause-charge : goal.returns-in-Some-f-clause-charge
-returns-in-Some-f-clause-charge g c =
-    let e = c.change_payload-before.ensures in
-    let x = exchanged g.A.Allocator.charge _ _ _ _ c.self.invariant _ c.self.view_is _ (AreBytes-from_items _ (λ k l. c.fits-key k)) c.told-key _ c.seek_along-spot.ensures.ends _ _ _ e.before e.after in
-    x.charges
+    record {
+      before = x.was;
+      absent = λ none. absurd (let clash = sym found ∙ none in cc);
+      present = λ current is.
+          let both : Some c.in-Some.payload.now ≡ Some current = sym found ∙ is in
+          (Some c.in-Some-f.answer, record { shown = c.in-Some.payload; shows = (cc); called = c.in-Some-f.ensures }, x.pairs, x.shape);
+      charged = x.charges;
+    }
 
 pub overflow_sub-self : goal.overflow_sub-self
 overflow_sub-self g c =
@@ -95,23 +78,16 @@ invariant_of-self-in-None g c =
     let x = taken_out g.A.Allocator.charge _ _ _ _ c.self.invariant _ c.self.view_is _ (AreBytes-from_items _ (λ k l. c.fits-key k)) c.told-key _ c.seek_along-spot.ensures.ends _ c.seek_along-spot.ensures.trail _ _ _ _ e.before (e.taken refl) c.take_out.ensures.alike in
     x.whole
 
-pub returns-in-Some-take_out-clause-before : goal.returns-in-Some-take_out-clause-before
-returns-in-Some-take_out-clause-before g c =
+pub returns-in-Some-take_out-clause-computes : goal.returns-in-Some-take_out-clause-computes
+returns-in-Some-take_out-clause-computes g c =
     let e = c.in-Some-take_out.ensures in
     let x = taken_out g.A.Allocator.charge _ _ _ _ c.self.invariant _ c.self.view_is _ (AreBytes-from_items _ (λ k l. c.fits-key k)) c.told-key _ c.seek_along-spot.ensures.ends _ c.seek_along-spot.ensures.trail _ _ _ _ e.before (e.taken refl) c.take_out.ensures.alike in
-    sym x.was
-
-pub returns-in-Some-take_out-clause-present : goal.returns-in-Some-take_out-clause-present
-returns-in-Some-take_out-clause-present g c =
-    let e = c.in-Some-take_out.ensures in
-    let x = taken_out g.A.Allocator.charge _ _ _ _ c.self.invariant _ c.self.view_is _ (AreBytes-from_items _ (λ k l. c.fits-key k)) c.told-key _ c.seek_along-spot.ensures.ends _ c.seek_along-spot.ensures.trail _ _ _ _ e.before (e.taken refl) c.take_out.ensures.alike in
-    λ current is.
     let found = payload_seen g.A.Allocator.charge _ _ _ _ c.self.invariant _ c.self.view_is _ (AreBytes-from_items _ (λ k l. c.fits-key k)) c.told-key _ c.seek_along-spot.ensures.ends _ c.in-Some.ensures.some in
-    let both : Some c.in-Some.payload.now ≡ Some current = sym found ∙ is in
-    (None, record { shown = c.in-Some.payload; shows = (cc); called = c.in-None.ensures }, x.pairs, x.shape)
-
-pub returns-in-Some-take_out-clause-charge : goal.returns-in-Some-take_out-clause-charge
-returns-in-Some-take_out-clause-charge g c =
-    let e = c.in-Some-take_out.ensures in
-    let x = taken_out g.A.Allocator.charge _ _ _ _ c.self.invariant _ c.self.view_is _ (AreBytes-from_items _ (λ k l. c.fits-key k)) c.told-key _ c.seek_along-spot.ensures.ends _ c.seek_along-spot.ensures.trail _ _ _ _ e.before (e.taken refl) c.take_out.ensures.alike in
-    x.charges
+    record {
+      before = x.removes.before;
+      absent = λ none. absurd (let clash = sym found ∙ none in cc);
+      present = λ current is.
+          let both : Some c.in-Some.payload.now ≡ Some current = sym found ∙ is in
+          (None, record { shown = c.in-Some.payload; shows = (cc); called = c.in-None.ensures }, x.removes.pairs, x.removes.shape);
+      charged = x.removes.charged;
+    }

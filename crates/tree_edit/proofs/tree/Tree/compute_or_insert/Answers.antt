@@ -1,9 +1,9 @@
 use Rattle.std.proofs.Common.{◌∙◌, sym, arith}
 use Rattle.std.proofs.lemmas.Result.{err_from_is_err_and}
-use Rattle.node_table.proofs.KeyLaws.{AreBytes-from_items, key_number-be_bytes}
-use Rattle.tree_edit.proofs.CallLaws.{nothing_seen, payload_seen, exchanged, added}
+use Rattle.node_table.proofs.KeyLaws.{AreBytes-from_items}
+use Rattle.tree_edit.proofs.CallLaws.{nothing_seen, payload_seen, exchanged, added, computes, compute_refused}
 use Rattle.tree_edit.proofs.CountLaws.{few_pairs}
-use Rattle.tree_edit.proofs.SpotLaws.{leaf_for, differs_early, counted_there, halts_there, refused_there, ready_there, stands_alone}
+use Rattle.tree_edit.proofs.SpotLaws.{leaf_for, differs_early, counted_there, halts_there, ready_there, stands_alone}
 use Rattle.tree_edit.proofs.WeightLaws.{few_counted}
 use Rattle.tree_edit.proofs.tree.Tree.compute_or_insert.Goals as goal
 
@@ -40,11 +40,11 @@ put_child-requires g c = ready_there _ _ _ _ c.seek-slot.ensures.ends (AreBytes-
 pub overflow_add-self : goal.overflow_add-self
 overflow_add-self g c = omega (arith, c.self.invariant.counted, few_pairs _ _ c.self.invariant.tree)
 
-pub returns-in_err-leaf-in-None-clause-refused : goal.returns-in_err-leaf-in-None-clause-refused
-returns-in_err-leaf-in-None-clause-refused g c =
+pub returns-in_err-leaf-in-None-clause-computes : goal.returns-in_err-leaf-in-None-clause-computes
+returns-in_err-leaf-in-None-clause-computes g c =
+    let r = c.in_err-leaf-in-None.ensures in
     let p = err_from_is_err_and c.from_residual.result c.from_residual.ensures.1 in
-    rw (p.1, ← key_number-be_bytes _ c.told-key, ← c.self.view_is)
-    (refused_there _ _ _ _ c.seek-slot.ensures.ends (AreBytes-from_items _ (λ k l. c.fits-key k)) c.told-key _ c.self.invariant.by_form c.in-None.ensures.none c.in_err-leaf-in-None.ensures.refused)
+    rw p.1 (compute_refused g.A.Allocator.charge _ _ _ _ c.self.invariant _ c.self.view_is _ (AreBytes-from_items _ (λ k l. c.fits-key k)) c.told-key _ c.seek-slot.ensures.ends _ _ _ r.err r.same r.alike c.in-None.ensures.none r.refused _ _)
 
 pub invariant_of-self : goal.invariant_of-self
 invariant_of-self g c =
@@ -52,29 +52,11 @@ invariant_of-self g c =
     let x = exchanged g.A.Allocator.charge _ _ _ _ c.self.invariant _ c.self.view_is _ (AreBytes-from_items _ (λ k l. c.fits-key k)) c.told-key _ c.seek-slot.ensures.ends _ _ _ e.before e.after in
     x.whole
 
-pub returns-in-Some-clause-before : goal.returns-in-Some-clause-before
-returns-in-Some-clause-before g c =
+pub returns-in-Some-clause-computes : goal.returns-in-Some-clause-computes
+returns-in-Some-clause-computes g c =
     let e = c.change_payload-before.ensures in
     let x = exchanged g.A.Allocator.charge _ _ _ _ c.self.invariant _ c.self.view_is _ (AreBytes-from_items _ (λ k l. c.fits-key k)) c.told-key _ c.seek-slot.ensures.ends _ _ _ e.before e.after in
-    x.was
-
-pub returns-in-Some-clause-ok : goal.returns-in-Some-clause-ok
-returns-in-Some-clause-ok g c =
-    let e = c.change_payload-before.ensures in
-    let x = exchanged g.A.Allocator.charge _ _ _ _ c.self.invariant _ c.self.view_is _ (AreBytes-from_items _ (λ k l. c.fits-key k)) c.told-key _ c.seek-slot.ensures.ends _ _ _ e.before e.after in
-    (c.f-answer.result, record { shown = _; shows = rw c.in-Some.is (sym (payload_seen g.A.Allocator.charge _ _ _ _ c.self.invariant _ c.self.view_is _ (AreBytes-from_items _ (λ k l. c.fits-key k)) c.told-key _ c.seek-slot.ensures.ends _ c.in-Some.ensures.some)); called = c.f-answer.ensures }, x.pairs)
-
-pub returns-in-Some-clause-shape : goal.returns-in-Some-clause-shape
-returns-in-Some-clause-shape g c =
-    let e = c.change_payload-before.ensures in
-    let x = exchanged g.A.Allocator.charge _ _ _ _ c.self.invariant _ c.self.view_is _ (AreBytes-from_items _ (λ k l. c.fits-key k)) c.told-key _ c.seek-slot.ensures.ends _ _ _ e.before e.after in
-    x.shape
-
-pub returns-in-Some-clause-charge : goal.returns-in-Some-clause-charge
-returns-in-Some-clause-charge g c =
-    let e = c.change_payload-before.ensures in
-    let x = exchanged g.A.Allocator.charge _ _ _ _ c.self.invariant _ c.self.view_is _ (AreBytes-from_items _ (λ k l. c.fits-key k)) c.told-key _ c.seek-slot.ensures.ends _ _ _ e.before e.after in
-    x.charges
+    computes g.A.Allocator.charge _ _ _ _ c.self.invariant _ c.self.view_is _ (AreBytes-from_items _ (λ k l. c.fits-key k)) c.told-key _ c.seek-slot.ensures.ends _ _ _ _ _ _ _ _ x (record { shown = _; shows = rw c.in-Some.is (sym (payload_seen g.A.Allocator.charge _ _ _ _ c.self.invariant _ c.self.view_is _ (AreBytes-from_items _ (λ k l. c.fits-key k)) c.told-key _ c.seek-slot.ensures.ends _ c.in-Some.ensures.some) ∙ sym x.was); called = c.f-answer.ensures })
 
 pub invariant_of-self-in-None : goal.invariant_of-self-in-None
 invariant_of-self-in-None g c =
@@ -82,26 +64,9 @@ invariant_of-self-in-None g c =
     let x = added g.A.Allocator.charge _ _ _ _ c.self.invariant _ c.self.view_is _ (AreBytes-from_items _ (λ k l. c.fits-key k)) c.told-key _ c.seek-slot.ensures.ends c.in-None.ensures.none _ _ _ _ _ r.ready c.put_child.ensures.keeps c.put_child.ensures.written r.alike in
     x.whole
 
-pub returns-in_ok-leaf-in-None-clause-before : goal.returns-in_ok-leaf-in-None-clause-before
-returns-in_ok-leaf-in-None-clause-before g c =
+pub returns-in_ok-leaf-in-None-clause-computes : goal.returns-in_ok-leaf-in-None-clause-computes
+returns-in_ok-leaf-in-None-clause-computes g c =
     let r = c.in_ok-leaf-in-None.ensures in
-    let x = added g.A.Allocator.charge _ _ _ _ c.self.invariant _ c.self.view_is _ (AreBytes-from_items _ (λ k l. c.fits-key k)) c.told-key _ c.seek-slot.ensures.ends c.in-None.ensures.none _ _ _ _ _ r.ready c.put_child.ensures.keeps c.put_child.ensures.written r.alike in
-    x.was
-
-pub returns-in_ok-leaf-in-None-clause-ok : goal.returns-in_ok-leaf-in-None-clause-ok
-returns-in_ok-leaf-in-None-clause-ok g c =
-    let r = c.in_ok-leaf-in-None.ensures in
-    let x = added g.A.Allocator.charge _ _ _ _ c.self.invariant _ c.self.view_is _ (AreBytes-from_items _ (λ k l. c.fits-key k)) c.told-key _ c.seek-slot.ensures.ends c.in-None.ensures.none _ _ _ _ _ r.ready c.put_child.ensures.keeps c.put_child.ensures.written r.alike in
-    (c.f-payload.result, record { shown = _; shows = c.nothing.ensures ∙ sym (nothing_seen g.A.Allocator.charge _ _ _ _ c.self.invariant _ c.self.view_is _ (AreBytes-from_items _ (λ k l. c.fits-key k)) c.told-key _ c.seek-slot.ensures.ends c.in-None.ensures.none); called = c.f-payload.ensures }, x.pairs)
-
-pub returns-in_ok-leaf-in-None-clause-shape : goal.returns-in_ok-leaf-in-None-clause-shape
-returns-in_ok-leaf-in-None-clause-shape g c =
-    let r = c.in_ok-leaf-in-None.ensures in
-    let x = added g.A.Allocator.charge _ _ _ _ c.self.invariant _ c.self.view_is _ (AreBytes-from_items _ (λ k l. c.fits-key k)) c.told-key _ c.seek-slot.ensures.ends c.in-None.ensures.none _ _ _ _ _ r.ready c.put_child.ensures.keeps c.put_child.ensures.written r.alike in
-    x.shape
-
-pub returns-in_ok-leaf-in-None-clause-charge : goal.returns-in_ok-leaf-in-None-clause-charge
-returns-in_ok-leaf-in-None-clause-charge g c =
-    let r = c.in_ok-leaf-in-None.ensures in
-    let x = added g.A.Allocator.charge _ _ _ _ c.self.invariant _ c.self.view_is _ (AreBytes-from_items _ (λ k l. c.fits-key k)) c.told-key _ c.seek-slot.ensures.ends c.in-None.ensures.none _ _ _ _ _ r.ready c.put_child.ensures.keeps c.put_child.ensures.written r.alike in
-    x.charges
+    computes g.A.Allocator.charge _ _ _ _ c.self.invariant _ c.self.view_is _ (AreBytes-from_items _ (λ k l. c.fits-key k)) c.told-key _ c.seek-slot.ensures.ends _ _ _ _ _ _ _ _
+    (added g.A.Allocator.charge _ _ _ _ c.self.invariant _ c.self.view_is _ (AreBytes-from_items _ (λ k l. c.fits-key k)) c.told-key _ c.seek-slot.ensures.ends c.in-None.ensures.none _ _ _ _ _ r.ready c.put_child.ensures.keeps c.put_child.ensures.written r.alike)
+    (record { shown = _; shows = c.nothing.ensures; called = c.f-payload.ensures })

@@ -1,9 +1,9 @@
-use Rattle.std.proofs.Common.{arith}
+use Rattle.std.proofs.Common.{◌∙◌, arith}
 use Rattle.std.proofs.lemmas.Result.{err_from_is_err_and}
-use Rattle.node_table.proofs.KeyLaws.{AreBytes-from_items, key_number-be_bytes}
-use Rattle.tree_edit.proofs.CallLaws.{exchanged, filled, added}
+use Rattle.node_table.proofs.KeyLaws.{AreBytes-from_items}
+use Rattle.tree_edit.proofs.CallLaws.{exchanged, filled, added, inserts, insert_refused}
 use Rattle.tree_edit.proofs.CountLaws.{few_pairs}
-use Rattle.tree_edit.proofs.SpotLaws.{leaf_for, differs_early, counted_there, halts_there, refused_there, ready_there}
+use Rattle.tree_edit.proofs.SpotLaws.{leaf_for, differs_early, counted_there, halts_there, ready_there}
 use Rattle.tree_edit.proofs.WeightLaws.{few_counted}
 use Rattle.tree_edit.proofs.tree.Tree.insert.Goals as goal
 
@@ -34,12 +34,12 @@ overflow_add-self g c = omega (arith, c.self.invariant.counted, few_pairs _ _ c.
 pub overflow_add-self-in-Err : goal.overflow_add-self-in-Err
 overflow_add-self-in-Err g c = omega (arith, c.self.invariant.counted, few_pairs _ _ c.self.invariant.tree)
 
-pub returns-in_err-leaf-in-Err-clause-refused : goal.returns-in_err-leaf-in-Err-clause-refused
-returns-in_err-leaf-in-Err-clause-refused g c =
+pub returns-in_err-leaf-in-Err-clause-inserts : goal.returns-in_err-leaf-in-Err-clause-inserts
+returns-in_err-leaf-in-Err-clause-inserts g c =
     let e = c.in-Err.ensures in
+    let r = c.in_err-leaf-in-Err.ensures in
     let p = err_from_is_err_and c.from_residual.result c.from_residual.ensures.1 in
-    rw (p.1, ← key_number-be_bytes _ c.told-key, ← c.self.view_is)
-    (refused_there _ _ _ _ c.seek-slot.ensures.ends (AreBytes-from_items _ (λ k l. c.fits-key k)) c.told-key _ c.self.invariant.by_form e.absent (rw e.same at c.in_err-leaf-in-Err.ensures.refused))
+    rw p.1 (insert_refused g.A.Allocator.charge _ _ _ _ c.self.invariant _ c.self.view_is _ (AreBytes-from_items _ (λ k l. c.fits-key k)) c.told-key _ c.seek-slot.ensures.ends _ _ _ (r.err ∙ e.same) r.same r.alike e.absent (rw e.same at r.refused) _)
 
 pub invariant_of-self : goal.invariant_of-self
 invariant_of-self g c =
@@ -47,54 +47,20 @@ invariant_of-self g c =
     let x = exchanged g.A.Allocator.charge _ _ _ _ c.self.invariant _ c.self.view_is _ (AreBytes-from_items _ (λ k l. c.fits-key k)) c.told-key _ c.seek-slot.ensures.ends _ _ _ e.0 e.1 in
     x.whole
 
-pub returns-in-Ok-Some-clause-before : goal.returns-in-Ok-Some-clause-before
-returns-in-Ok-Some-clause-before g c =
+pub returns-in-Ok-Some-clause-inserts : goal.returns-in-Ok-Some-clause-inserts
+returns-in-Ok-Some-clause-inserts g c =
     let e = rw c.in-Ok-Some.field-0-is at c.in-Ok-Some.ensures.set in
-    let x = exchanged g.A.Allocator.charge _ _ _ _ c.self.invariant _ c.self.view_is _ (AreBytes-from_items _ (λ k l. c.fits-key k)) c.told-key _ c.seek-slot.ensures.ends _ _ _ e.0 e.1 in
-    rw c.in-Ok-Some.field-0-is x.was
-
-pub returns-in-Ok-Some-clause-ok : goal.returns-in-Ok-Some-clause-ok
-returns-in-Ok-Some-clause-ok g c =
-    let e = rw c.in-Ok-Some.field-0-is at c.in-Ok-Some.ensures.set in
-    let x = exchanged g.A.Allocator.charge _ _ _ _ c.self.invariant _ c.self.view_is _ (AreBytes-from_items _ (λ k l. c.fits-key k)) c.told-key _ c.seek-slot.ensures.ends _ _ _ e.0 e.1 in
-    x.pairs
-
-pub returns-in-Ok-Some-clause-shape : goal.returns-in-Ok-Some-clause-shape
-returns-in-Ok-Some-clause-shape g c =
-    let e = rw c.in-Ok-Some.field-0-is at c.in-Ok-Some.ensures.set in
-    let x = exchanged g.A.Allocator.charge _ _ _ _ c.self.invariant _ c.self.view_is _ (AreBytes-from_items _ (λ k l. c.fits-key k)) c.told-key _ c.seek-slot.ensures.ends _ _ _ e.0 e.1 in
-    x.shape
-
-pub returns-in-Ok-Some-clause-charge : goal.returns-in-Ok-Some-clause-charge
-returns-in-Ok-Some-clause-charge g c =
-    let e = rw c.in-Ok-Some.field-0-is at c.in-Ok-Some.ensures.set in
-    let x = exchanged g.A.Allocator.charge _ _ _ _ c.self.invariant _ c.self.view_is _ (AreBytes-from_items _ (λ k l. c.fits-key k)) c.told-key _ c.seek-slot.ensures.ends _ _ _ e.0 e.1 in
-    x.charges
+    rw c.in-Ok-Some.field-0-is
+    (inserts g.A.Allocator.charge _ _ _ _ c.self.invariant _ c.self.view_is _ (AreBytes-from_items _ (λ k l. c.fits-key k)) c.told-key _ c.seek-slot.ensures.ends _ _ _ _ _ (exchanged g.A.Allocator.charge _ _ _ _ c.self.invariant _ c.self.view_is _ (AreBytes-from_items _ (λ k l. c.fits-key k)) c.told-key _ c.seek-slot.ensures.ends _ _ _ e.0 e.1))
 
 pub invariant_of-self-in-Ok-None : goal.invariant_of-self-in-Ok-None
 invariant_of-self-in-Ok-None g c =
     let x = filled g.A.Allocator.charge _ _ _ _ c.self.invariant _ c.self.view_is _ (AreBytes-from_items _ (λ k l. c.fits-key k)) c.told-key _ c.seek-slot.ensures.ends _ _ (rw c.in-Ok-None.field-0-is at c.in-Ok-None.ensures.set) in
     x.whole
 
-pub returns-in-Ok-None-clause-before : goal.returns-in-Ok-None-clause-before
-returns-in-Ok-None-clause-before g c =
-    let x = filled g.A.Allocator.charge _ _ _ _ c.self.invariant _ c.self.view_is _ (AreBytes-from_items _ (λ k l. c.fits-key k)) c.told-key _ c.seek-slot.ensures.ends _ _ (rw c.in-Ok-None.field-0-is at c.in-Ok-None.ensures.set) in
-    x.was
-
-pub returns-in-Ok-None-clause-ok : goal.returns-in-Ok-None-clause-ok
-returns-in-Ok-None-clause-ok g c =
-    let x = filled g.A.Allocator.charge _ _ _ _ c.self.invariant _ c.self.view_is _ (AreBytes-from_items _ (λ k l. c.fits-key k)) c.told-key _ c.seek-slot.ensures.ends _ _ (rw c.in-Ok-None.field-0-is at c.in-Ok-None.ensures.set) in
-    x.pairs
-
-pub returns-in-Ok-None-clause-shape : goal.returns-in-Ok-None-clause-shape
-returns-in-Ok-None-clause-shape g c =
-    let x = filled g.A.Allocator.charge _ _ _ _ c.self.invariant _ c.self.view_is _ (AreBytes-from_items _ (λ k l. c.fits-key k)) c.told-key _ c.seek-slot.ensures.ends _ _ (rw c.in-Ok-None.field-0-is at c.in-Ok-None.ensures.set) in
-    x.shape
-
-pub returns-in-Ok-None-clause-charge : goal.returns-in-Ok-None-clause-charge
-returns-in-Ok-None-clause-charge g c =
-    let x = filled g.A.Allocator.charge _ _ _ _ c.self.invariant _ c.self.view_is _ (AreBytes-from_items _ (λ k l. c.fits-key k)) c.told-key _ c.seek-slot.ensures.ends _ _ (rw c.in-Ok-None.field-0-is at c.in-Ok-None.ensures.set) in
-    x.charges
+pub returns-in-Ok-None-clause-inserts : goal.returns-in-Ok-None-clause-inserts
+returns-in-Ok-None-clause-inserts g c =
+    inserts g.A.Allocator.charge _ _ _ _ c.self.invariant _ c.self.view_is _ (AreBytes-from_items _ (λ k l. c.fits-key k)) c.told-key _ c.seek-slot.ensures.ends _ _ _ _ _ (filled g.A.Allocator.charge _ _ _ _ c.self.invariant _ c.self.view_is _ (AreBytes-from_items _ (λ k l. c.fits-key k)) c.told-key _ c.seek-slot.ensures.ends _ _ (rw c.in-Ok-None.field-0-is at c.in-Ok-None.ensures.set))
 
 pub invariant_of-self-in-Err : goal.invariant_of-self-in-Err
 invariant_of-self-in-Err g c =
@@ -103,30 +69,9 @@ invariant_of-self-in-Err g c =
     let x = added g.A.Allocator.charge _ _ _ _ c.self.invariant _ c.self.view_is _ (AreBytes-from_items _ (λ k l. c.fits-key k)) c.told-key _ c.seek-slot.ensures.ends e.absent _ _ _ _ _ (rw e.same at r.ready) c.put_child.ensures.keeps (rw e.back at c.put_child.ensures.written) r.alike in
     x.whole
 
-pub returns-in_ok-leaf-in-Err-clause-before : goal.returns-in_ok-leaf-in-Err-clause-before
-returns-in_ok-leaf-in-Err-clause-before g c =
+pub returns-in_ok-leaf-in-Err-clause-inserts : goal.returns-in_ok-leaf-in-Err-clause-inserts
+returns-in_ok-leaf-in-Err-clause-inserts g c =
     let e = c.in-Err.ensures in
     let r = c.in_ok-leaf-in-Err.ensures in
-    let x = added g.A.Allocator.charge _ _ _ _ c.self.invariant _ c.self.view_is _ (AreBytes-from_items _ (λ k l. c.fits-key k)) c.told-key _ c.seek-slot.ensures.ends e.absent _ _ _ _ _ (rw e.same at r.ready) c.put_child.ensures.keeps (rw e.back at c.put_child.ensures.written) r.alike in
-    x.was
-
-pub returns-in_ok-leaf-in-Err-clause-ok : goal.returns-in_ok-leaf-in-Err-clause-ok
-returns-in_ok-leaf-in-Err-clause-ok g c =
-    let e = c.in-Err.ensures in
-    let r = c.in_ok-leaf-in-Err.ensures in
-    let x = added g.A.Allocator.charge _ _ _ _ c.self.invariant _ c.self.view_is _ (AreBytes-from_items _ (λ k l. c.fits-key k)) c.told-key _ c.seek-slot.ensures.ends e.absent _ _ _ _ _ (rw e.same at r.ready) c.put_child.ensures.keeps (rw e.back at c.put_child.ensures.written) r.alike in
-    x.pairs
-
-pub returns-in_ok-leaf-in-Err-clause-shape : goal.returns-in_ok-leaf-in-Err-clause-shape
-returns-in_ok-leaf-in-Err-clause-shape g c =
-    let e = c.in-Err.ensures in
-    let r = c.in_ok-leaf-in-Err.ensures in
-    let x = added g.A.Allocator.charge _ _ _ _ c.self.invariant _ c.self.view_is _ (AreBytes-from_items _ (λ k l. c.fits-key k)) c.told-key _ c.seek-slot.ensures.ends e.absent _ _ _ _ _ (rw e.same at r.ready) c.put_child.ensures.keeps (rw e.back at c.put_child.ensures.written) r.alike in
-    x.shape
-
-pub returns-in_ok-leaf-in-Err-clause-charge : goal.returns-in_ok-leaf-in-Err-clause-charge
-returns-in_ok-leaf-in-Err-clause-charge g c =
-    let e = c.in-Err.ensures in
-    let r = c.in_ok-leaf-in-Err.ensures in
-    let x = added g.A.Allocator.charge _ _ _ _ c.self.invariant _ c.self.view_is _ (AreBytes-from_items _ (λ k l. c.fits-key k)) c.told-key _ c.seek-slot.ensures.ends e.absent _ _ _ _ _ (rw e.same at r.ready) c.put_child.ensures.keeps (rw e.back at c.put_child.ensures.written) r.alike in
-    x.charges
+    inserts g.A.Allocator.charge _ _ _ _ c.self.invariant _ c.self.view_is _ (AreBytes-from_items _ (λ k l. c.fits-key k)) c.told-key _ c.seek-slot.ensures.ends _ _ _ _ _
+    (added g.A.Allocator.charge _ _ _ _ c.self.invariant _ c.self.view_is _ (AreBytes-from_items _ (λ k l. c.fits-key k)) c.told-key _ c.seek-slot.ensures.ends e.absent _ _ _ _ _ (rw e.same at r.ready) c.put_child.ensures.keeps (rw e.back at c.put_child.ensures.written) r.alike)

@@ -15,14 +15,12 @@ invariant_of-result g c =
       counted = ap length (sym (root_pairs _ _ _ there is));
     }
 
-pub returns-clause-pairs : goal.returns-clause-pairs
-returns-clause-pairs g c = root_pairs _ _ _ c.insert_reserved-root.ensures.updates.changed c.in_ok-root.ensures.node
-
-pub returns-clause-nodes : goal.returns-clause-nodes
-returns-clause-nodes g c = root_nodes _ _ _ c.insert_reserved-root.ensures.updates.changed c.in_ok-root.ensures.node
-
-pub returns-clause-charge : goal.returns-clause-charge
-returns-clause-charge g c =
+pub returns : goal.returns
+returns g c =
     let there = c.insert_reserved-root.ensures.updates.changed in
     let e = c.in_ok-root.ensures in
-    root_charge _ _ _ there e.node g.A.Allocator.charge c.args.budget _ _ c.new-supply.ensures e.ok.forms e.ok.alike
+    record {
+      pairs = root_pairs _ _ _ there e.node;
+      nodes = root_nodes _ _ _ there e.node;
+      charged = root_charge _ _ _ there e.node g.A.Allocator.charge c.args.budget _ _ c.new-supply.ensures e.ok.forms e.ok.alike;
+    }

@@ -1,8 +1,7 @@
-use Rattle.std.proofs.Common.{sym, refl}
-use Rattle.spec_map.proofs.MapLaws.{without-absent}
+use Rattle.std.proofs.Common.{refl}
 use Rattle.node_table.proofs.KeyLaws.{AreBytes-from_items}
 use Rattle.tree_path.proofs.PathEndLaws.{leads_short}
-use Rattle.tree_edit.proofs.CallLaws.{nothing_seen, seeks_along, begins_whole, taken_out}
+use Rattle.tree_edit.proofs.CallLaws.{removes_nothing, seeks_along, begins_whole, taken_out}
 use Rattle.tree_edit.proofs.SpotLaws.{leaf_for}
 use Rattle.tree_edit.proofs.tree.Tree.take.Goals as goal
 
@@ -18,13 +17,10 @@ take_out-requires-clause-short g c = leads_short _ _ _ _ _ _ c.seek_along-spot.e
 pub take_out-requires-clause-whole : goal.take_out-requires-clause-whole
 take_out-requires-clause-whole g c = begins_whole g.A.Allocator.charge _ _ _ _ c.self.invariant _ c.self.view_is _ (AreBytes-from_items _ (λ k l. c.fits-key k)) c.told-key _ c.seek_along-spot.ensures.ends _ c.seek_along-spot.ensures.trail
 
-pub returns-in_default-clause-before : goal.returns-in_default-clause-before
-returns-in_default-clause-before g c = sym (nothing_seen g.A.Allocator.charge _ _ _ _ c.self.invariant _ c.self.view_is _ (AreBytes-from_items _ (λ k l. c.fits-key k)) c.told-key _ c.seek_along-spot.ensures.ends c.in_default.ensures.none)
-
-pub returns-in_default-clause-pairs : goal.returns-in_default-clause-pairs
-returns-in_default-clause-pairs g c =
-    let none = nothing_seen g.A.Allocator.charge _ _ _ _ c.self.invariant _ c.self.view_is _ (AreBytes-from_items _ (λ k l. c.fits-key k)) c.told-key _ c.seek_along-spot.ensures.ends c.in_default.ensures.none in
-    rw (without-absent _ _ none, ← c.self.view_is, c.in_default.ensures.same) refl
+pub returns-in_default-clause-removes : goal.returns-in_default-clause-removes
+returns-in_default-clause-removes g c =
+    let e = c.in_default.ensures in
+    rw (e.same, e.unchanged, c.self.view_is) (removes_nothing g.A.Allocator.charge _ _ _ _ c.self.invariant _ c.self.view_is _ (AreBytes-from_items _ (λ k l. c.fits-key k)) c.told-key _ c.seek_along-spot.ensures.ends e.none)
 
 pub overflow_sub-self : goal.overflow_sub-self
 overflow_sub-self g c =
@@ -38,32 +34,14 @@ invariant_of-self-2 g c =
     let x = taken_out g.A.Allocator.charge _ _ _ _ c.self.invariant _ c.self.view_is _ (AreBytes-from_items _ (λ k l. c.fits-key k)) c.told-key _ c.seek_along-spot.ensures.ends _ c.seek_along-spot.ensures.trail _ _ _ _ e.before (e.taken refl) c.take_out.ensures.alike in
     x.whole
 
-pub returns-clause-before : goal.returns-clause-before
-returns-clause-before g c =
+pub returns-clause-removes : goal.returns-clause-removes
+returns-clause-removes g c =
     let e = c.in-Some.ensures in
     let x = taken_out g.A.Allocator.charge _ _ _ _ c.self.invariant _ c.self.view_is _ (AreBytes-from_items _ (λ k l. c.fits-key k)) c.told-key _ c.seek_along-spot.ensures.ends _ c.seek_along-spot.ensures.trail _ _ _ _ e.before (e.taken refl) c.take_out.ensures.alike in
-    sym x.was
-
-pub returns-clause-pairs : goal.returns-clause-pairs
-returns-clause-pairs g c =
-    let e = c.in-Some.ensures in
-    let x = taken_out g.A.Allocator.charge _ _ _ _ c.self.invariant _ c.self.view_is _ (AreBytes-from_items _ (λ k l. c.fits-key k)) c.told-key _ c.seek_along-spot.ensures.ends _ c.seek_along-spot.ensures.trail _ _ _ _ e.before (e.taken refl) c.take_out.ensures.alike in
-    x.pairs
-
-pub returns-clause-shape : goal.returns-clause-shape
-returns-clause-shape g c =
-    let e = c.in-Some.ensures in
-    let x = taken_out g.A.Allocator.charge _ _ _ _ c.self.invariant _ c.self.view_is _ (AreBytes-from_items _ (λ k l. c.fits-key k)) c.told-key _ c.seek_along-spot.ensures.ends _ c.seek_along-spot.ensures.trail _ _ _ _ e.before (e.taken refl) c.take_out.ensures.alike in
-    x.shape
+    x.removes
 
 pub returns-clause-in_place : goal.returns-clause-in_place
 returns-clause-in_place g c =
     let e = c.in-Some.ensures in
     let x = taken_out g.A.Allocator.charge _ _ _ _ c.self.invariant _ c.self.view_is _ (AreBytes-from_items _ (λ k l. c.fits-key k)) c.told-key _ c.seek_along-spot.ensures.ends _ c.seek_along-spot.ensures.trail _ _ _ _ e.before (e.taken refl) c.take_out.ensures.alike in
     x.in_place
-
-pub returns-clause-charge : goal.returns-clause-charge
-returns-clause-charge g c =
-    let e = c.in-Some.ensures in
-    let x = taken_out g.A.Allocator.charge _ _ _ _ c.self.invariant _ c.self.view_is _ (AreBytes-from_items _ (λ k l. c.fits-key k)) c.told-key _ c.seek_along-spot.ensures.ends _ c.seek_along-spot.ensures.trail _ _ _ _ e.before (e.taken refl) c.take_out.ensures.alike in
-    x.charges
