@@ -108,10 +108,6 @@ module _ {M : Type 0} (Granted : Type 0) (same : M → M → Bool) (t : NodeMap 
       → IsRead Granted same t root pin (at (Check path) task) env (at TakeRoot (restarted task)) (report_of kind.Check (Some path.here.slot) 0 false) Going
   check_restarts facts other = let f = facts.at in restarts (Check path) refl refl tt facts.small f.0.opened (here_known path) (inl refl) other
 
-  pub still_restarts : Facts Granted same t root pin (at (Read path) task) → a.word ≢ path.here.word
-      → IsRead Granted same t root pin (at (Read path) task) env (at TakeRoot (restarted task)) (report_of kind.Check (Some path.here.slot) 0 false) Going
-  still_restarts facts other = let f = facts.at in restarts (Read path) refl refl tt facts.small f.0.opened (here_known path) (inl refl) other
-
   pub above_restarts : (below : Spot) (fits : Bool) → Facts Granted same t root pin (at (CheckAbove path below fits) task) → a.word ≢ path.here.word
       → IsRead Granted same t root pin (at (CheckAbove path below fits) task) env (at TakeRoot (restarted task)) (report_of kind.Check (Some path.here.slot) 0 false) Going
   above_restarts below fits facts other = let f = facts.at in restarts (CheckAbove path below fits) refl refl tt facts.small f.0.opened (above_known path below f.6) (inr (inl refl)) other

@@ -32,11 +32,6 @@ use Rattle.olc_machine.specs.inner.Inside.{inside}
 use Rattle.olc_machine.proofs.Inners.{meant_changes}
 use Rattle.olc_machine.proofs.Moving.{moved_turn}
 
--- a stage that isn't a tail's holds no node
-pub reads_free : (stage : Stage) → ((tail : AnyTail) → stage ≢ Tail tail) → held_at stage ≡ []
-reads_free (Tail tail) reads = absurd (reads tail refl)
-reads_free stage reads = refl
-
 -- the sizes of nodes are those of their meanings
 pub meant_sizes : {P M : Type 0} (meaning : P → M) (slots : List (Option (Stored P))) → stored_sizes (meant_slots meaning slots) ≡ stored_sizes slots
 meant_sizes meaning [] = refl

@@ -13,11 +13,12 @@ ghost use Rattle.spec_olc.specs.Seats.{IsHanded, IsTaken, IsReseated, IsSeating,
 ghost use Rattle.olc_state.specs.inner.Facts.{IsSoundWorld};
 ghost use Rattle.olc_state.specs.inner.Effects.{returned_at};
 ghost use Rattle.olc_state.specs.inner.Meant.{meant_record};
+ghost use Rattle.olc_state.specs.inner.Scans.{IsAtEnd};
 ghost use Rattle.olc_state.specs.inner.Shown.{state_of};
 ghost use Rattle.olc_state.specs.declared.stage.Record.{Record};
 ghost use Rattle.olc_state.specs.inner.Stocks.{CountsEntries, IsStoreSound, StockKnows};
 ghost use Rattle.olc_state.specs.inner.Turns.{IsBegun, IsFreed, IsTurn};
-ghost use Rattle.olc_machine.specs.inner.Happening.{Happens, after_event};
+ghost use Rattle.olc_machine.specs.inner.Happening.{Happens};
 ghost use Rattle.olc_state.specs.inner.World.{record_of};
 ghost use Rattle.olc_words.specs.Epoch.{is_seated};
 ghost use Rattle.node_stats.specs.LevelCounts.{capped};
@@ -37,7 +38,7 @@ use node_base::base_node::{NodeSize, NodeType};
 use node_stats::NodeStats;
 use node_table::allocator::Allocator;
 use node_table::tree_node::TreeNode;
-use olc_decide::advance::{Advanced, advance};
+use olc_decide::advance::{advance, is_at_end};
 use olc_scan::course::first_stage;
 use olc_state::calls::{Places, call_at, forget, put, reserve};
 use olc_state::content::content;
@@ -98,19 +99,32 @@ fn begun<P: HasMeaning>(op: Op<P>, returns: Option<P>) -> Record<P>
     }
 }
 
-// The next event of a call, which is changed where it is; `true` if it goes on after that.
+// The report of a call's last event.
+fn ended() -> Report
+    ensures { result ≡ report_of Kind.Finish None 0 true }
+{
+    Report {
+        kind: Kind::Finish,
+        slot: None,
+        word: 0,
+        ok: true,
+    }
+}
+
+// The next event of a call that goes on after it, and is changed where it is.
 fn go_on<P: HasMeaning, A: Allocator>(
     stock: &mut Stock<P, A>,
     pin: u64,
     call: &mut Record<P>,
     env: Env<P>,
-) -> (bool, Report, Outcome<P>)
+) -> (Report, Outcome<P>)
     requires kept { IsStoreSound P.meaning A.charge stock.old }
     requires facts { StockKnows P.meaning A.charge P.always_shared P.same_meaning
         stock.old pin call.old }
     requires counted { CountsEntries P.meaning A.charge stock.old }
+    requires goes_on { IsAtEnd call.old.stage → ⊥ }
     ensures { Happens P.meaning A.charge P.always_shared P.same_meaning stock.old stock.new pin
-        call.old env (after_event result.0 call.new) result.1 result.2 }
+        call.old env (Some call.new) result.0 result.1 }
 {
     let stage = call.stage;
     if let Stage::Tail(tail) = stage {
@@ -120,18 +134,15 @@ fn go_on<P: HasMeaning, A: Allocator>(
             outcome,
         } = write_on(stock, pin, &mut call.task, tail, env.fail);
         call.stage = next;
-        return (true, report, outcome);
+        return (report, outcome);
     }
-    let Advanced {
+    let Stepped {
         stage: next,
         report,
         outcome,
     } = advance(&stock.store, pin, &mut call.task, stage, env);
-    let Some(next) = next else {
-        return (false, report, outcome);
-    };
     call.stage = next;
-    (true, report, outcome)
+    (report, outcome)
 }
 
 // The next event of the call in a place, which is empty after the call's last event.
@@ -150,11 +161,11 @@ fn happen<P: HasMeaning, A: Allocator>(
         P.same_meaning stock.old stock.new pin call env place.new result.0 result.1 }
 {
     let Some(call) = place else { unreachable!() };
-    let (goes_on, report, outcome) = go_on(stock, pin, call, env);
-    if !goes_on {
+    if is_at_end(&call.stage) {
         *place = None;
+        return (ended(), Outcome::Done);
     }
-    (report, outcome)
+    go_on(stock, pin, call, env)
 }
 
 impl<P: HasMeaning, A: Allocator> Inner<P, A> {
@@ -376,15 +387,15 @@ impl<P: HasMeaning, A: Allocator> Inner<P, A> {
         let Some(place) = self.calls.get_mut(&id) else {
             unreachable!()
         };
-        let (report, outcome) = happen(&mut self.stock, pin, place, env);
+        let event = happen(&mut self.stock, pin, place, env);
         if place.is_some() {
-            return (report, outcome);
+            return event;
         }
         self.stock.store.pins.leave(id);
         if !self.stock.store.pins.is_seated(id) {
             forget(&mut self.calls, id);
         }
-        (report, outcome)
+        event
     }
 
     /// Reclaims the slot of a retired node, if no call in flight may step on it

@@ -52,14 +52,17 @@ pub enum Kind {
     Reclaim,
 }
 
-/// What an event reports: the slot that it touches, if any; the node's word at a Take, else 0; `ok`, which is false
-/// only at a Take of a node that is locked or obsolete, a Check that fails and an Upgrade that fails.
+/// What an event reports: `ok`, which is false only at a Take of a node that is locked or obsolete, a Check that fails
+/// and an Upgrade that fails; the slot that it touches, if any; the node's word at a Take, else 0.
+///
+/// (The two bytes stand side by side: where each had eight bytes to itself, copying the unused ones took a third of an
+/// event's time.)
 #[derive(Clone, Copy, Debug, PartialEq, Eq)]
 pub struct Report {
     pub kind: Kind,
+    pub ok: bool,
     pub slot: Option<usize>,
     pub word: u64,
-    pub ok: bool,
 }
 
 /// A call as it starts, with its payloads. All but `Range` are point calls.

@@ -1,21 +1,14 @@
 -- The call after an event, over the code's own payloads.
-use Rattle.std.specs.Prelude.{ℕ, Bool, Option, Some, None}
+use Rattle.std.specs.Prelude.{ℕ, Bool}
 use Rattle.spec_olc.specs.Meaning.{env_of, outcome_of}
 use Rattle.spec_olc.specs.declared.types.Env.{Env}
 use Rattle.spec_olc.specs.declared.types.Outcome.{Outcome}
 use Rattle.spec_olc.specs.declared.types.Report.{Report}
 use Rattle.olc_state.specs.declared.stage.Record.{Record}
-use Rattle.olc_state.specs.declared.stage.Stage.{Stage}
-use Rattle.olc_state.specs.declared.stage.Task.{Task}
 use Rattle.olc_state.specs.declared.store.Store.{Store}
 use Rattle.olc_state.specs.inner.Facts.{Facts}
 use Rattle.olc_state.specs.inner.Meant.{meant_record, meant_table}
 use Rattle.olc_state.specs.inner.Turns.{IsRead}
-
--- a call at this stage, if it goes on
-abbrev pub with_task : {P : Type 0} → Task P → Option Stage → Option (Record P)
-with_task task None = None
-with_task task (Some stage) = Some (record { stage = stage; task = task })
 
 module _ {P M : Type 0} where
   -- what a call with this pin knows

@@ -1,5 +1,5 @@
 -- One event of a call: it writes, or only reads.
-use Rattle.std.specs.Prelude.{◌≡◌, ℕ, Bool, true, false, [], Option, Some, None, ◌⊎◌}
+use Rattle.std.specs.Prelude.{◌≡◌, ℕ, Bool, [], Option, Some, None, ◌⊎◌}
 use Rattle.spec_olc.specs.Meaning.{env_of, in_some, outcome_of}
 use Rattle.spec_olc.specs.declared.types.Env.{Env}
 use Rattle.spec_olc.specs.declared.types.Outcome.{Outcome}
@@ -10,11 +10,6 @@ use Rattle.olc_state.specs.inner.Meant.{meant_record}
 use Rattle.olc_state.specs.inner.Shown.{held_at}
 use Rattle.olc_state.specs.inner.Stocks.{StockMoves, table_in}
 use Rattle.olc_state.specs.inner.Turns.{IsAdvance}
-
--- a call, if it goes on
-abbrev pub after_event : {P : Type 0} → Bool → Record P → Option (Record P)
-after_event true call = Some call
-after_event false call = None
 
 module _ {P A M : Type 0} (meaning : P → M) (charge : A → Option ℕ) (Granted : Type 0) (same : M → M → Bool) where
   -- an event that writes, after which its call goes on
