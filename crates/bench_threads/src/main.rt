@@ -1,17 +1,20 @@
 //! The maps that threads share, beside the map with one owner in a mutex: one line of times for each form and round.
 //!
 //! A line is: the kind of the keys, the form, and then, in hundredths of a nanosecond a call of one thread: filling the first seven
-//! tenths by one thread; a tenth of new keys each by one, two and four threads; `get` by one, two and four; overwriting by one,
-//! two and four. Without an argument nothing is measured (the gate runs the program so); `tools/bench-threads` makes a table.
+//! tenths by one thread; a tenth of new keys each by one, two and four threads; `get` by one, two and four; overwriting and
+//! removing likewise. The form `alone` is the machine without a lock, by one thread, and `events` an event of its `get` and, as a
+//! removal, a `reclaim_next` that finds nothing. Without an argument nothing is measured (the gate runs the program so); `tools/bench-threads` makes a table.
 #![tactic(auto)]
 
 ghost use Rattle.std.specs.Prelude.{◌≡◌, ◌+◌, ◌^◌};
 
+mod alone;
 mod hand;
 mod keys;
 mod shares;
 mod work;
 
+use crate::alone::alone;
 use crate::hand::{bare_holds, by_hand, owned};
 use crate::keys::{dense, random, shuffled};
 use crate::shares::shared;
@@ -40,8 +43,20 @@ const FEW: usize = 100_000;
 fn print_times<W: Write>(out: &mut W, kind: &str, form: &str, t: Times) -> Result<(), Fail> {
     writeln!(
         out,
-        "{kind} {form} {} {} {} {} {} {} {} {} {} {}",
-        t.fill, t.new.0, t.new.1, t.new.2, t.get.0, t.get.1, t.get.2, t.over.0, t.over.1, t.over.2
+        "{kind} {form} {} {} {} {} {} {} {} {} {} {} {} {} {}",
+        t.fill,
+        t.new.0,
+        t.new.1,
+        t.new.2,
+        t.get.0,
+        t.get.1,
+        t.get.2,
+        t.over.0,
+        t.over.1,
+        t.over.2,
+        t.remove.0,
+        t.remove.1,
+        t.remove.2
     )?;
     Ok(())
 }
@@ -72,6 +87,9 @@ fn rounds<R: Threads + Wait + Clock + Sync, W: Write>(
                 few,
             )?;
             print_times(out, kind, "shared", t)?;
+            let t = alone(rt, alloc, fill.as_slice(), few)?;
+            print_times(out, kind, "alone", t.calls)?;
+            print_times(out, kind, "events", t.event)?;
         } else {
             let t = shared::<Brand, Tree, _>(
                 rt,

@@ -2,7 +2,7 @@
 
 ghost use Rattle.std.specs.Prelude.{◌≡◌, ◌+◌, ◌^◌};
 
-use crate::work::{Times, Work, all_times};
+use crate::work::{Loops, Times, Work, all_times};
 use node_table::allocator::DefaultAllocator;
 use share_backend::snapshots::{Made, Pages};
 use share_faces::typed_congee::Congee;
@@ -61,6 +61,27 @@ impl<'a, L: Ledger, M: Pages> Work for Gets<'a, L, M> {
     }
 }
 
+#[derive(Drop)]
+struct Removes<'a, L: Ledger, M: Pages> {
+    map: &'a Map<L, M>,
+}
+
+impl<'a, L: Ledger, M: Pages> Work for Removes<'a, L, M> {
+    fn part<R: Wait>(&self, rt: &R, keys: &[u64]) -> u64 {
+        let Ok(mut guard) = self.map.pin(rt) else {
+            return 0;
+        };
+        let mut sum = 0u64;
+        for key in keys {
+            if let Some(before) = self.map.remove(rt, &mut guard, key) {
+                sum = sum.wrapping_add(before);
+            }
+        }
+        self.map.unpin(rt, guard);
+        sum
+    }
+}
+
 pub fn shared<
     L: Ledger + Send + Sync,
     M: Pages + Made<u64, u64, DefaultAllocator> + Send,
@@ -74,5 +95,11 @@ pub fn shared<
     let inserts = Inserts { map: &map, mask: 1 };
     let gets = Gets { map: &map };
     let overwrites = Inserts { map: &map, mask: 0 };
-    all_times(rt, &inserts, &gets, &overwrites, fill, order)
+    let loops = Loops {
+        inserts: &inserts,
+        gets: &gets,
+        overwrites: &overwrites,
+        removes: &Removes { map: &map },
+    };
+    all_times(rt, loops, fill, order)
 }

@@ -14,6 +14,7 @@ pub struct Times {
     pub new: (u64, u64, u64),
     pub get: (u64, u64, u64),
     pub over: (u64, u64, u64),
+    pub remove: (u64, u64, u64),
 }
 
 /// What one thread does with its keys.
@@ -104,25 +105,52 @@ pub fn tenths(keys: &[u64], from: usize, to: usize) -> Result<&[u64], Fail> {
     Ok(part)
 }
 
-/// All times of a map.
-pub fn all_times<R: Threads + Wait + Clock + Sync, I: Work + Sync, G: Work + Sync, O: Work + Sync>(
+/// What one thread does with a map: it inserts keys, looks them up, overwrites their values and removes them.
+pub struct Loops<'a, I, G, O, D> {
+    pub inserts: &'a I,
+    pub gets: &'a G,
+    pub overwrites: &'a O,
+    pub removes: &'a D,
+}
+
+// Each key is removed once: four tenths of them by one thread, three by two and three by four.
+fn removals<R: Threads + Wait + Clock + Sync, D: Work + Sync>(
     rt: &R,
-    inserts: &I,
-    gets: &G,
-    overwrites: &O,
-    fill: &[u64],
+    removes: &D,
     order: &[u64],
-) -> Result<Times, Fail> {
+) -> Result<(u64, u64, u64), Fail> {
+    let one = wall(rt, removes, 1, tenths(order, 0, 4)?)?;
+    let two = wall(rt, removes, 2, tenths(order, 4, 7)?)?;
+    let four = wall(rt, removes, 4, tenths(order, 7, 10)?)?;
+    Ok((one, two, four))
+}
+
+/// All times of a map.
+pub fn all_times<
+    R: Threads + Wait + Clock + Sync,
+    I: Work + Sync,
+    G: Work + Sync,
+    O: Work + Sync,
+    D: Work + Sync,
+>(rt: &R, loops: Loops<'_, I, G, O, D>, fill: &[u64], order: &[u64]) -> Result<Times, Fail> {
+    let Loops {
+        inserts,
+        gets,
+        overwrites,
+        removes,
+    } = loops;
     let filling = wall(rt, inserts, 1, tenths(fill, 0, 7)?)?;
     let one = wall(rt, inserts, 1, tenths(fill, 7, 8)?)?;
     let two = wall(rt, inserts, 2, tenths(fill, 8, 9)?)?;
     let four = wall(rt, inserts, 4, tenths(fill, 9, 10)?)?;
     let get = walls(rt, gets, order)?;
     let over = walls(rt, overwrites, order)?;
+    let remove = removals(rt, removes, order)?;
     Ok(Times {
         fill: filling,
         new: (one, two, four),
         get,
         over,
+        remove,
     })
 }

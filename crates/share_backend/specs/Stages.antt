@@ -53,7 +53,7 @@ module _ {M : Type 0} where
   -- a call that has its reply, or was refused, after an event
   abbrev pub TurnsEnded : Outline → CallStage M → Option (CallStage M) → Outcome M → Type 0
   TurnsEnded o p q Going = q ≡ Some p
-  TurnsEnded o p q (Pair key value) = IsPoint o → ⊥
+  TurnsEnded o p q (Pair key value) = (IsPoint o → ⊥) × (q ≡ Some p)
   TurnsEnded o p q Done = q ≡ Some Ready
   TurnsEnded o p q Unknown = q ≡ Some Ready
   TurnsEnded o p q _ = ⊥

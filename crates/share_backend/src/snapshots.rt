@@ -1,17 +1,21 @@
 //! How a map under a lock is made, and what is read of it at one moment.
 
 ghost use Rattle.std.specs.Prelude.{◌≡◌, ◌+◌, ◌++◌, ℕ, [], Some, None, IfOk, IfSome, MatchOption, length, map, min, take, drop};
+ghost use Rattle.std.specs.Arc.{arc_value};
 ghost use Rattle.spec_map.specs.Map.{Pairs, between, IsMap};
 ghost use Rattle.node_stats.specs.LevelCounts.{capped};
 ghost use Rattle.node_stats.specs.Stats.{IsTally};
 ghost use Rattle.node_stats.specs.Visits.{visits_below};
+ghost use Rattle.spec_olc.specs.Runs.{same_number};
 ghost use Rattle.tree_walk.specs.Scan.{from_key, first_pair};
+ghost use Rattle.share_backend.specs.Owners.{never_same};
 
 use crate::lent::Lent;
 use node_stats::NodeStats;
 use spec_map::error::OOMError;
 use spec_map::traits::Word;
 use std::alloc::Global;
+use std::sync::Arc;
 use tree_walk::range_scan::RangeEntry;
 
 /// A map that can be made empty, its nodes charged to a budget.
@@ -54,8 +58,13 @@ pub trait Snapshots<P, T>: Lent<P, T> {
         ensures pairs { IfOk result (λ stats. stats.kv_pairs ≡ capped (Self.entries self.now)) };
 }
 
-/// What is read of a map of numbers at one moment.
+/// A map of numbers, and what is read of it at one moment.
 pub trait Pages: Snapshots<u64, u64> {
+    /// A number represents itself, and is compared as a number.
+    fn numbers_mean_themselves()
+        ensures meaning { Self.meaning ≡ (λ n. n) }
+        ensures same { Self.same ≡ same_number };
+
     /// Writes the first pairs with `start <= key < end`, keys ascending, and returns their number: all of them, or as
     /// many as the buffer has places for. The places after them stay unchanged. `None` if a range is a call of many
     /// events: then nothing is written.
@@ -64,4 +73,12 @@ pub trait Pages: Snapshots<u64, u64> {
             × (count ≡ min (length buffer.old) (length (between m start end)))
             × (buffer.new ≡ take count (map (λ pair. E.entry pair.0 pair.1) (between m start end)) ++ drop count buffer.old)) }
         ensures none { result ≡ None → buffer.new ≡ buffer.old };
+}
+
+/// A map of owners.
+pub trait Owners<V>: Snapshots<Arc<V>, V> {
+    /// An owner represents the value that it owns, and is never found equal to another.
+    fn owners_mean_their_values()
+        ensures meaning { Self.meaning ≡ (λ owner. arc_value owner) }
+        ensures same { Self.same ≡ never_same };
 }

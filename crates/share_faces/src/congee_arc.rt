@@ -1,43 +1,77 @@
 //! `CongeeArc`, the map from keys to owners of shared values, which threads share.
 
-ghost use Rattle.std.specs.Prelude.{◌≡◌, ◌≢◌, ◌+◌, ◌^◌, IfOk, MatchResult, map};
+ghost use Rattle.std.specs.Prelude.{◌≡◌, ◌≢◌, ◌+◌, ◌^◌, [], IfOk, OnErr, MatchResult, map};
+ghost use Rattle.std.specs.Arc.{arc_value};
+ghost use Rattle.spec_map.specs.Call.{get, insert, old_value, remove};
 ghost use Rattle.spec_map.specs.Map.{Pairs, IsMap};
+ghost use Rattle.spec_olc.specs.Meaning.{in_some};
+ghost use Rattle.share_backend.specs.Owners.{never_same};
 ghost use Rattle.share_state.specs.Held.{inserted, removed};
+ghost use Rattle.share_rule.specs.Known.{MadeCall, SeenMore};
+ghost use Rattle.share_guards.specs.Operations.{returned};
+ghost use Rattle.share_faces.specs.Returned.{ReturnsComputed};
 
 use node_stats::NodeStats;
 use node_table::allocator::DefaultAllocator;
-use share_backend::snapshots::{Made, Snapshots};
-use share_raw::gate::{Gate, NoGate};
-use share_raw::raw;
-use share_raw::raw::Raw;
+use share_backend::snapshots::{Made, Owners};
+use share_guards::gate::{Gate, NoGate};
+use share_guards::pin::PinError;
+use share_guards::raw;
+use share_guards::raw::Raw;
 use share_state::purse::OwnPurse;
 use share_state::share::Share;
 use share_state::state::LockedState;
 use spec_map::error::OOMError;
 use spec_map::traits::Word;
 use std::alloc::Global;
-use std::marker::PhantomData;
+use std::marker::{Model, PhantomData};
 use std::sync::ledger::{Blank, Ledger};
 use std::sync::{Arc, Wait};
 
-/// A caller of a shared map of owners. It belongs to one map, and makes one call at a time.
+/// A caller of a shared map of owners. It belongs to one map, and makes one call at a time. Contracts see which map, the
+/// caller's number, and the history that it has seen: of an owner they see the value that it owns.
 pub type OwnerGuard<'a, L, V, M> = raw::Guard<'a, L, Arc<V>, V, M>;
 
 /// An ordered map from keys to owners of shared values, which threads share. Two keys with one number are one key.
 ///
+/// Contracts see which map it is. Each call is made by a guard of the map. What the guard has seen after a call is one
+/// legal history of the map: it begins with what the guard had seen before, and ends with the call and its reply.
+///
 /// A call returns one more owner, which needs room in the count of owners and may be refused.
 #[derive(Drop)]
-pub struct CongeeArc<L: Ledger, K: Word, V: Send + Sync + Drop + 'static, M: Snapshots<Arc<V>, V>> {
+pub struct CongeeArc<L: Ledger, K: Word, V: Send + Sync + Drop + 'static, M: Owners<V>> {
     raw: Raw<L, Arc<V>, V, M>,
     of: PhantomData<K>,
 }
 
-impl<L: Ledger, K: Word, V: Send + Sync + Drop + 'static, M: Snapshots<Arc<V>, V>> CongeeArc<
-    L,
-    K,
-    V,
-    M,
-> {
+// The first of two owners.
+fn previous_of<P: Drop>(both: Option<(P, Option<P>)>) -> Option<P>
+    ensures { result ≡ in_some (λ pair. pair.0) both }
+{
+    match both {
+        Some((previous, _)) => Some(previous),
+        None => None,
+    }
+}
+
+impl<L: Ledger, K: Word, V: Send + Sync + Drop + 'static, M: Owners<V>> Model
+    for CongeeArc<L, K, V, M> {
+    ghost use Rattle.std.specs.Prelude.{◌≡◌};
+    ghost use Rattle.std.specs.Arc.{arc_value};
+    ghost use Rattle.atomic_table.specs.Seated.{TableId, table_id_coded};
+    ghost use Rattle.share_backend.specs.Owners.{never_same};
+
+    ghost Value = { TableId };
+
+    ghost coded = { table_id_coded };
+
+    ghost view = { λ m. m.raw };
+
+    // an owner in the map under the lock represents the value that it owns
+    ghost invariant = { λ m. (M.Lent.meaning ≡ (λ owner. arc_value owner)) × (M.Lent.same ≡ never_same) };
+}
+
+impl<L: Ledger, K: Word, V: Send + Sync + Drop + 'static, M: Owners<V>> CongeeArc<L, K, V, M> {
     /// An empty map, and the share with its whole weight. `OOMError` if there is no memory for the map.
     pub fn new(alloc: Global, blank: Blank) -> Result<(Self, Share<L>), OOMError>
     where
@@ -64,24 +98,28 @@ impl<L: Ledger, K: Word, V: Send + Sync + Drop + 'static, M: Snapshots<Arc<V>, V
         requires whole { L.parts ≡ 2 ^ 63 + 1 }
         ensures share { IfOk result (λ r. r.1 ≡ record { weight = 2 ^ 63; number = 0 }) }
     {
+        // (what the checker needs to know of M)
+        M::owners_mean_their_values();
         let (state, share) = LockedState::new(alloc, allocator, blank)?;
         Ok((
             CongeeArc {
-                raw: Raw::new(state),
+                raw: Raw::new(alloc, state)?,
                 of: PhantomData,
             },
             share,
         ))
     }
 
-    /// Seats a caller. Looks at the seats that are taken, in turn. `OOMError` if there is no memory for its calls.
-    pub fn pin<R: Wait>(&self, rt: &R) -> Result<OwnerGuard<'_, L, V, M>, OOMError> {
+    /// A guard that has seen nothing. Looks at the numbers that are seated, in turn. If there is none, nothing has changed.
+    pub fn pin<R: Wait>(&self, rt: &R) -> Result<OwnerGuard<'_, L, V, M>, PinError>
+        ensures { IfOk result (λ guard. (guard.table ≡ self.now) × (guard.seen ≡ [])) }
+    {
         self.raw.pin(rt)
     }
 
     /// Frees a caller's seat. A guard that is dropped instead keeps its seat until the map ends.
     pub fn unpin<R: Wait>(&self, rt: &R, guard: OwnerGuard<'_, L, V, M>) {
-        self.raw.unpin(rt, guard);
+        guard.unpin(rt);
     }
 
     /// One more owner of the key's current value. `OOMError` if another owner is refused.
@@ -90,7 +128,13 @@ impl<L: Ledger, K: Word, V: Send + Sync + Drop + 'static, M: Snapshots<Arc<V>, V
         rt: &R,
         guard: &mut OwnerGuard<'_, L, V, M>,
         key: K,
-    ) -> Result<Option<Arc<V>>, OOMError> {
+    ) -> Result<Option<Arc<V>>, OOMError>
+        requires map { guard.old.table ≡ self.now }
+        ensures map { guard.new.table ≡ guard.old.table }
+        ensures made { IfOk result (λ owner. MadeCall never_same guard.old
+            (returned (get (K.number key)) (old_value (in_some arc_value owner))) guard.new) }
+        ensures refused { OnErr result (SeenMore never_same guard.old guard.new) }
+    {
         self.get_gated(rt, guard, key, &mut NoGate)
     }
 
@@ -101,7 +145,13 @@ impl<L: Ledger, K: Word, V: Send + Sync + Drop + 'static, M: Snapshots<Arc<V>, V
         guard: &mut OwnerGuard<'_, L, V, M>,
         key: K,
         gate: &mut G,
-    ) -> Result<Option<Arc<V>>, OOMError> {
+    ) -> Result<Option<Arc<V>>, OOMError>
+        requires map { guard.old.table ≡ self.now }
+        ensures map { guard.new.table ≡ guard.old.table }
+        ensures made { IfOk result (λ owner. MadeCall never_same guard.old
+            (returned (get (K.number key)) (old_value (in_some arc_value owner))) guard.new) }
+        ensures refused { OnErr result (SeenMore never_same guard.old guard.new) }
+    {
         self.raw.get(rt, guard, key.into_u64(), gate)
     }
 
@@ -113,7 +163,13 @@ impl<L: Ledger, K: Word, V: Send + Sync + Drop + 'static, M: Snapshots<Arc<V>, V
         guard: &mut OwnerGuard<'_, L, V, M>,
         key: K,
         owner: Arc<V>,
-    ) -> Result<Option<Arc<V>>, OOMError> {
+    ) -> Result<Option<Arc<V>>, OOMError>
+        requires map { guard.old.table ≡ self.now }
+        ensures map { guard.new.table ≡ guard.old.table }
+        ensures made { IfOk result (λ before. MadeCall never_same guard.old
+            (returned (insert (K.number key) (arc_value owner)) (old_value (in_some arc_value before))) guard.new) }
+        ensures refused { OnErr result (SeenMore never_same guard.old guard.new) }
+    {
         self.insert_gated(rt, guard, key, owner, &mut NoGate)
     }
 
@@ -125,7 +181,13 @@ impl<L: Ledger, K: Word, V: Send + Sync + Drop + 'static, M: Snapshots<Arc<V>, V
         key: K,
         owner: Arc<V>,
         gate: &mut G,
-    ) -> Result<Option<Arc<V>>, OOMError> {
+    ) -> Result<Option<Arc<V>>, OOMError>
+        requires map { guard.old.table ≡ self.now }
+        ensures map { guard.new.table ≡ guard.old.table }
+        ensures made { IfOk result (λ before. MadeCall never_same guard.old
+            (returned (insert (K.number key) (arc_value owner)) (old_value (in_some arc_value before))) guard.new) }
+        ensures refused { OnErr result (SeenMore never_same guard.old guard.new) }
+    {
         self.raw
             .insert(rt, guard, key.into_u64(), owner, &mut OwnPurse, gate)
     }
@@ -139,7 +201,12 @@ impl<L: Ledger, K: Word, V: Send + Sync + Drop + 'static, M: Snapshots<Arc<V>, V
         key: K,
         owner: Arc<V>,
     ) -> Result<Option<Arc<V>>, OOMError>
-        ensures { share.new ≡ inserted result share.old }
+        requires map { guard.old.table ≡ self.now }
+        ensures map { guard.new.table ≡ guard.old.table }
+        ensures counted { share.new ≡ inserted result share.old }
+        ensures made { IfOk result (λ before. MadeCall never_same guard.old
+            (returned (insert (K.number key) (arc_value owner)) (old_value (in_some arc_value before))) guard.new) }
+        ensures refused { OnErr result (SeenMore never_same guard.old guard.new) }
     {
         self.raw
             .insert(rt, guard, key.into_u64(), owner, share, &mut NoGate)
@@ -151,7 +218,12 @@ impl<L: Ledger, K: Word, V: Send + Sync + Drop + 'static, M: Snapshots<Arc<V>, V
         rt: &R,
         guard: &mut OwnerGuard<'_, L, V, M>,
         key: K,
-    ) -> Option<Arc<V>> {
+    ) -> Option<Arc<V>>
+        requires map { guard.old.table ≡ self.now }
+        ensures map { guard.new.table ≡ guard.old.table }
+        ensures made { MadeCall never_same guard.old
+            (returned (remove (K.number key)) (old_value (in_some arc_value result))) guard.new }
+    {
         self.remove_gated(rt, guard, key, &mut NoGate)
     }
 
@@ -162,7 +234,12 @@ impl<L: Ledger, K: Word, V: Send + Sync + Drop + 'static, M: Snapshots<Arc<V>, V
         guard: &mut OwnerGuard<'_, L, V, M>,
         key: K,
         gate: &mut G,
-    ) -> Option<Arc<V>> {
+    ) -> Option<Arc<V>>
+        requires map { guard.old.table ≡ self.now }
+        ensures map { guard.new.table ≡ guard.old.table }
+        ensures made { MadeCall never_same guard.old
+            (returned (remove (K.number key)) (old_value (in_some arc_value result))) guard.new }
+    {
         self.raw
             .remove_always(rt, guard, key.into_u64(), &mut OwnPurse, gate)
     }
@@ -175,7 +252,11 @@ impl<L: Ledger, K: Word, V: Send + Sync + Drop + 'static, M: Snapshots<Arc<V>, V
         share: &mut Share<L>,
         key: K,
     ) -> Option<Arc<V>>
-        ensures { share.new ≡ removed result share.old }
+        requires map { guard.old.table ≡ self.now }
+        ensures map { guard.new.table ≡ guard.old.table }
+        ensures counted { share.new ≡ removed result share.old }
+        ensures made { MadeCall never_same guard.old
+            (returned (remove (K.number key)) (old_value (in_some arc_value result))) guard.new }
     {
         self.raw
             .remove_always(rt, guard, key.into_u64(), share, &mut NoGate)
@@ -191,12 +272,15 @@ impl<L: Ledger, K: Word, V: Send + Sync + Drop + 'static, M: Snapshots<Arc<V>, V
         key: K,
         f: &mut F,
     ) -> Result<Option<Arc<V>>, OOMError>
-        requires { F.IsAlwaysCallable f.old }
+        requires map { guard.old.table ≡ self.now }
+        requires callable { F.IsAlwaysCallable f.old }
+        ensures map { guard.new.table ≡ guard.old.table }
+        ensures made { IfOk result (λ before.
+            ReturnsComputed arc_value F.step f.new guard.old (K.number key) before guard.new) }
+        ensures refused { OnErr result (SeenMore never_same guard.old guard.new) }
     {
-        match self.raw.compute_if_present(rt, guard, key.into_u64(), f)? {
-            Some((old, _)) => Ok(Some(old)),
-            None => Ok(None),
-        }
+        let both = self.raw.compute_if_present(rt, guard, key.into_u64(), f)?;
+        Ok(previous_of(both))
     }
 
     /// The number of pairs at one moment, exactly if the share has the whole weight: then the share is used up.
@@ -232,4 +316,19 @@ impl<L: Ledger, K: Word, V: Send + Sync + Drop + 'static, M: Snapshots<Arc<V>, V
     pub fn is_empty<R: Wait>(&self, rt: &R) -> bool {
         self.raw.pair_count(rt) == 0
     }
+}
+
+/// Both guards, of one map, have then seen one legal history, which begins with what each had seen.
+pub fn meet<L: Ledger, V: Send + Sync + Drop + 'static, M: Owners<V>>(
+    a: &mut OwnerGuard<'_, L, V, M>,
+    b: &mut OwnerGuard<'_, L, V, M>,
+)
+    requires map { b.old.table ≡ a.old.table }
+    ensures first { SeenMore never_same a.old a.new }
+    ensures second { SeenMore never_same b.old b.new }
+    ensures one { a.new.seen ≡ b.new.seen }
+{
+    // (what the checker needs to know of M)
+    M::owners_mean_their_values();
+    a.meet(b);
 }

@@ -1,14 +1,21 @@
 //! `Congee`, the map from keys to values that numbers represent, which threads share.
 
-ghost use Rattle.std.specs.Prelude.{◌≡◌, ◌≢◌, ℕ, ◌≤◌, ◌+◌, ◌^◌, length, IfOk, MatchResult, map};
+ghost use Rattle.std.specs.Prelude.{◌≡◌, ◌≢◌, ℕ, ◌≤◌, ◌+◌, ◌^◌, [], length, IfOk, IfSome, OnErr, MatchResult, map};
+ghost use Rattle.spec_map.specs.Call.{get, insert, remove};
 ghost use Rattle.spec_map.specs.Map.{Pairs, IsMap};
+ghost use Rattle.spec_olc.specs.Meaning.{in_some};
+ghost use Rattle.spec_olc.specs.Runs.{same_number};
 ghost use Rattle.share_state.specs.Held.{inserted, removed};
+ghost use Rattle.share_rule.specs.Known.{MadeCall, SeenMore};
+ghost use Rattle.share_guards.specs.Operations.{computed_with};
+ghost use Rattle.share_faces.specs.Returned.{ReturnsExchanged, ReturnsInserted, ReturnsOld};
 
 use node_stats::NodeStats;
 use share_backend::snapshots::{Made, Pages};
-use share_raw::gate::{Gate, NoGate};
-use share_raw::raw;
-use share_raw::raw::Raw;
+use share_guards::gate::{Gate, NoGate};
+use share_guards::pin::PinError;
+use share_guards::raw;
+use share_guards::raw::Raw;
 use share_state::purse::OwnPurse;
 use share_state::share::Share;
 use share_state::state::LockedState;
@@ -20,7 +27,8 @@ use std::sync::Wait;
 use std::sync::ledger::{Blank, Ledger};
 use tree_walk::range_scan::RangeEntry;
 
-/// A caller of a shared map of numbers. It belongs to one map, and makes one call at a time.
+/// A caller of a shared map of numbers. It belongs to one map, and makes one call at a time. Contracts see which map, the
+/// caller's number, and the history that it has seen.
 pub type Guard<'a, L, M> = raw::Guard<'a, L, u64, u64, M>;
 
 /// An ordered map from keys to values, both of types that are written as 64-bit numbers, which threads share. Two keys
@@ -30,6 +38,9 @@ pub type Guard<'a, L, M> = raw::Guard<'a, L, u64, u64, M>;
 /// `M`, decides how many events a call takes. Closures and gates are called while the
 /// lock is free, and closures may be called again. That a call returns isn't claimed.
 ///
+/// Contracts see which map it is. Each call is made by a guard of the map. What the guard has seen after a call is one
+/// legal history of the map: it begins with what the guard had seen before, and ends with the call and its reply.
+///
 /// When the map is dropped, its drainer is called with each pair, keys ascending.
 pub struct Congee<L: Ledger, K: Word, V: Word, M: Pages, D: Drainer<K, V> = NoDrain> {
     raw: Raw<L, u64, u64, M>,
@@ -38,21 +49,32 @@ pub struct Congee<L: Ledger, K: Word, V: Word, M: Pages, D: Drainer<K, V> = NoDr
 }
 
 impl<L: Ledger, K: Word, V: Word, M: Pages, D: Drainer<K, V>> Model for Congee<L, K, V, M, D> {
-    ghost Value = { Unit {0} };
+    ghost use Rattle.std.specs.Prelude.{◌≡◌};
+    ghost use Rattle.atomic_table.specs.Seated.{TableId, table_id_coded};
+    ghost use Rattle.spec_olc.specs.Runs.{same_number};
 
-    ghost view = { λ _. tt };
+    ghost Value = { TableId };
 
-    ghost invariant = { λ m. D.can_drain m.drainer };
+    ghost coded = { table_id_coded };
+
+    ghost view = { λ m. m.raw };
+
+    // a number in the map under the lock represents itself
+    ghost invariant = { λ m. D.can_drain m.drainer × (M.Lent.meaning ≡ (λ n. n)) × (M.Lent.same ≡ same_number) };
 }
 
-fn read_back<V: Word>(number: Option<u64>) -> Option<V> {
+fn read_back<V: Word>(number: Option<u64>) -> Option<V>
+    ensures { result ≡ in_some V.of_number number }
+{
     match number {
         Some(number) => Some(V::from_u64(number)),
         None => None,
     }
 }
 
-fn numbered<V: Word>(value: &Option<V>) -> Option<u64> {
+fn numbered<V: Word>(value: &Option<V>) -> Option<u64>
+    ensures { result ≡ in_some V.number value.now }
+{
     match value {
         Some(value) => Some(value.into_u64()),
         None => None,
@@ -91,10 +113,12 @@ impl<L: Ledger, K: Word, V: Word, M: Pages, D: Drainer<K, V>> Congee<L, K, V, M,
         requires drains { D.can_drain drainer }
         ensures share { IfOk result (λ r. r.1 ≡ record { weight = 2 ^ 63; number = 0 }) }
     {
+        // (what the checker needs to know of M)
+        M::numbers_mean_themselves();
         let (state, share) = LockedState::new(alloc, allocator, blank)?;
         Ok((
             Congee {
-                raw: Raw::new(state),
+                raw: Raw::new(alloc, state)?,
                 drainer,
                 of: PhantomData,
             },
@@ -102,18 +126,24 @@ impl<L: Ledger, K: Word, V: Word, M: Pages, D: Drainer<K, V>> Congee<L, K, V, M,
         ))
     }
 
-    /// Seats a caller. Looks at the seats that are taken, in turn. `OOMError` if there is no memory for its calls.
-    pub fn pin<R: Wait>(&self, rt: &R) -> Result<Guard<'_, L, M>, OOMError> {
+    /// A guard that has seen nothing. Looks at the numbers that are seated, in turn. If there is none, nothing has changed.
+    pub fn pin<R: Wait>(&self, rt: &R) -> Result<Guard<'_, L, M>, PinError>
+        ensures { IfOk result (λ guard. (guard.table ≡ self.now) × (guard.seen ≡ [])) }
+    {
         self.raw.pin(rt)
     }
 
     /// Frees a caller's seat. A guard that is dropped instead keeps its seat until the map ends.
     pub fn unpin<R: Wait>(&self, rt: &R, guard: Guard<'_, L, M>) {
-        self.raw.unpin(rt, guard);
+        guard.unpin(rt);
     }
 
     /// The current value of the key, read back from its number.
-    pub fn get<R: Wait>(&self, rt: &R, guard: &mut Guard<'_, L, M>, key: &K) -> Option<V> {
+    pub fn get<R: Wait>(&self, rt: &R, guard: &mut Guard<'_, L, M>, key: &K) -> Option<V>
+        requires map { guard.old.table ≡ self.now }
+        ensures map { guard.new.table ≡ guard.old.table }
+        ensures made { ReturnsOld V.of_number guard.old (get (K.number key.now)) result guard.new }
+    {
         self.get_gated(rt, guard, key, &mut NoGate)
     }
 
@@ -124,7 +154,11 @@ impl<L: Ledger, K: Word, V: Word, M: Pages, D: Drainer<K, V>> Congee<L, K, V, M,
         guard: &mut Guard<'_, L, M>,
         key: &K,
         gate: &mut G,
-    ) -> Option<V> {
+    ) -> Option<V>
+        requires map { guard.old.table ≡ self.now }
+        ensures map { guard.new.table ≡ guard.old.table }
+        ensures made { ReturnsOld V.of_number guard.old (get (K.number key.now)) result guard.new }
+    {
         read_back(self.raw.get_always(rt, guard, key.into_u64(), gate))
     }
 
@@ -136,7 +170,13 @@ impl<L: Ledger, K: Word, V: Word, M: Pages, D: Drainer<K, V>> Congee<L, K, V, M,
         guard: &mut Guard<'_, L, M>,
         key: K,
         value: V,
-    ) -> Result<Option<V>, OOMError> {
+    ) -> Result<Option<V>, OOMError>
+        requires map { guard.old.table ≡ self.now }
+        ensures map { guard.new.table ≡ guard.old.table }
+        ensures made { IfOk result (λ before. ReturnsOld V.of_number guard.old
+            (insert (K.number key) (V.number value)) before guard.new) }
+        ensures refused { OnErr result (SeenMore same_number guard.old guard.new) }
+    {
         self.insert_gated(rt, guard, key, value, &mut NoGate)
     }
 
@@ -148,7 +188,13 @@ impl<L: Ledger, K: Word, V: Word, M: Pages, D: Drainer<K, V>> Congee<L, K, V, M,
         key: K,
         value: V,
         gate: &mut G,
-    ) -> Result<Option<V>, OOMError> {
+    ) -> Result<Option<V>, OOMError>
+        requires map { guard.old.table ≡ self.now }
+        ensures map { guard.new.table ≡ guard.old.table }
+        ensures made { IfOk result (λ before. ReturnsOld V.of_number guard.old
+            (insert (K.number key) (V.number value)) before guard.new) }
+        ensures refused { OnErr result (SeenMore same_number guard.old guard.new) }
+    {
         let before = self.raw.insert(
             rt,
             guard,
@@ -169,7 +215,12 @@ impl<L: Ledger, K: Word, V: Word, M: Pages, D: Drainer<K, V>> Congee<L, K, V, M,
         key: K,
         value: V,
     ) -> Result<Option<V>, OOMError>
-        ensures { share.new ≡ inserted result share.old }
+        requires map { guard.old.table ≡ self.now }
+        ensures map { guard.new.table ≡ guard.old.table }
+        ensures counted { share.new ≡ inserted result share.old }
+        ensures made { IfOk result (λ before. ReturnsOld V.of_number guard.old
+            (insert (K.number key) (V.number value)) before guard.new) }
+        ensures refused { OnErr result (SeenMore same_number guard.old guard.new) }
     {
         let before = self.raw.insert(
             rt,
@@ -179,14 +230,15 @@ impl<L: Ledger, K: Word, V: Word, M: Pages, D: Drainer<K, V>> Congee<L, K, V, M,
             share,
             &mut NoGate,
         )?;
-        match before {
-            None => Ok(None),
-            Some(number) => Ok(Some(V::from_u64(number))),
-        }
+        Ok(read_back(before))
     }
 
     /// Removes the key, and returns the previous value, read back from its number. Tries again while memory is missing.
-    pub fn remove<R: Wait>(&self, rt: &R, guard: &mut Guard<'_, L, M>, key: &K) -> Option<V> {
+    pub fn remove<R: Wait>(&self, rt: &R, guard: &mut Guard<'_, L, M>, key: &K) -> Option<V>
+        requires map { guard.old.table ≡ self.now }
+        ensures map { guard.new.table ≡ guard.old.table }
+        ensures made { ReturnsOld V.of_number guard.old (remove (K.number key.now)) result guard.new }
+    {
         self.remove_gated(rt, guard, key, &mut NoGate)
     }
 
@@ -197,7 +249,11 @@ impl<L: Ledger, K: Word, V: Word, M: Pages, D: Drainer<K, V>> Congee<L, K, V, M,
         guard: &mut Guard<'_, L, M>,
         key: &K,
         gate: &mut G,
-    ) -> Option<V> {
+    ) -> Option<V>
+        requires map { guard.old.table ≡ self.now }
+        ensures map { guard.new.table ≡ guard.old.table }
+        ensures made { ReturnsOld V.of_number guard.old (remove (K.number key.now)) result guard.new }
+    {
         let before = self
             .raw
             .remove_always(rt, guard, key.into_u64(), &mut OwnPurse, gate);
@@ -212,19 +268,20 @@ impl<L: Ledger, K: Word, V: Word, M: Pages, D: Drainer<K, V>> Congee<L, K, V, M,
         share: &mut Share<L>,
         key: &K,
     ) -> Option<V>
-        ensures { share.new ≡ removed result share.old }
+        requires map { guard.old.table ≡ self.now }
+        ensures map { guard.new.table ≡ guard.old.table }
+        ensures counted { share.new ≡ removed result share.old }
+        ensures made { ReturnsOld V.of_number guard.old (remove (K.number key.now)) result guard.new }
     {
-        match self
+        let before = self
             .raw
-            .remove_always(rt, guard, key.into_u64(), share, &mut NoGate)
-        {
-            None => None,
-            Some(number) => Some(V::from_u64(number)),
-        }
+            .remove_always(rt, guard, key.into_u64(), share, &mut NoGate);
+        read_back(before)
     }
 
     /// Writes pairs, by their numbers, with keys from `start` on and below `end` to the buffer, ascending, as many as
-    /// there are or as fit, and returns how many. The buffer's entries after them are unspecified.
+    /// there are or as fit, and returns how many. The buffer's entries after them are unspecified. A range enters nothing in
+    /// the history.
     pub fn range<R: Wait>(
         &self,
         rt: &R,
@@ -233,6 +290,8 @@ impl<L: Ledger, K: Word, V: Word, M: Pages, D: Drainer<K, V>> Congee<L, K, V, M,
         end: &K,
         buffer: &mut [(u64, u64)],
     ) -> usize
+        requires map { guard.old.table ≡ self.now }
+        ensures same { guard.new ≡ guard.old }
         ensures count { result ≤ length buffer.old }
         ensures room { length buffer.new ≡ length buffer.old }
     {
@@ -248,6 +307,8 @@ impl<L: Ledger, K: Word, V: Word, M: Pages, D: Drainer<K, V>> Congee<L, K, V, M,
         end: u64,
         buffer: &mut [E],
     ) -> usize
+        requires map { guard.old.table ≡ self.now }
+        ensures same { guard.new ≡ guard.old }
         ensures count { result ≤ length buffer.old }
         ensures room { length buffer.new ≡ length buffer.old }
     {
@@ -264,7 +325,11 @@ impl<L: Ledger, K: Word, V: Word, M: Pages, D: Drainer<K, V>> Congee<L, K, V, M,
         key: &K,
         f: &mut F,
     ) -> Option<(u64, Option<u64>)>
-        requires { F.IsAlwaysCallable f.old }
+        requires map { guard.old.table ≡ self.now }
+        requires callable { F.IsAlwaysCallable f.old }
+        ensures map { guard.new.table ≡ guard.old.table }
+        ensures made { MadeCall same_number guard.old (computed_with (K.number key.now) result) guard.new }
+        ensures asked { IfSome result (λ pair. (state : F) × F.step state pair.0 pair.1 f.new) }
     {
         self.raw
             .compute_if_present_always(rt, guard, key.into_u64(), f)
@@ -280,7 +345,12 @@ impl<L: Ledger, K: Word, V: Word, M: Pages, D: Drainer<K, V>> Congee<L, K, V, M,
         key: K,
         f: &mut F,
     ) -> Result<Option<V>, OOMError>
-        requires { F.IsAlwaysCallable f.old }
+        requires map { guard.old.table ≡ self.now }
+        requires callable { F.IsAlwaysCallable f.old }
+        ensures map { guard.new.table ≡ guard.old.table }
+        ensures made { IfOk result (λ before.
+            ReturnsInserted V.of_number guard.old F.step f.new (K.number key) before guard.new) }
+        ensures refused { OnErr result (SeenMore same_number guard.old guard.new) }
     {
         // (the 0 would be stored if the closure returned no value, which it can't)
         let before = self.raw.compute_or_insert(rt, guard, key.into_u64(), 0, f)?;
@@ -297,7 +367,12 @@ impl<L: Ledger, K: Word, V: Word, M: Pages, D: Drainer<K, V>> Congee<L, K, V, M,
         key: &K,
         old: &V,
         new: Option<V>,
-    ) -> Result<Option<V>, Option<V>> {
+    ) -> Result<Option<V>, Option<V>>
+        requires map { guard.old.table ≡ self.now }
+        ensures map { guard.new.table ≡ guard.old.table }
+        ensures made { ReturnsExchanged V.of_number guard.old V.number (K.number key.now) (V.number old.now) new
+            result guard.new }
+    {
         let wanted = numbered(&new);
         match self
             .raw
@@ -353,8 +428,22 @@ impl<L: Ledger, K: Word, V: Word, M: Pages, D: Drainer<K, V>> Drop for Congee<L,
         if !drainer.wants_pairs() {
             return;
         }
-        drained(&raw.into_state(), &drainer);
+        if let Some(state) = raw.into_state() {
+            drained(&state, &drainer);
+        }
     }
+}
+
+/// Both guards, of one map, have then seen one legal history, which begins with what each had seen.
+pub fn meet<L: Ledger, M: Pages>(a: &mut Guard<'_, L, M>, b: &mut Guard<'_, L, M>)
+    requires map { b.old.table ≡ a.old.table }
+    ensures first { SeenMore same_number a.old a.new }
+    ensures second { SeenMore same_number b.old b.new }
+    ensures one { a.new.seen ≡ b.new.seen }
+{
+    // (what the checker needs to know of M)
+    M::numbers_mean_themselves();
+    a.meet(b);
 }
 
 // Calls a drainer with each pair, keys ascending. Takes no memory.

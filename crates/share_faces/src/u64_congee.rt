@@ -1,27 +1,43 @@
 //! `U64Congee`, the map from numbers to values that numbers represent, which threads share.
 
-ghost use Rattle.std.specs.Prelude.{◌≡◌, ◌≢◌, ℕ, ◌≤◌, ◌+◌, ◌^◌, length, IfOk, MatchResult, map};
+ghost use Rattle.std.specs.Prelude.{◌≡◌, ◌≢◌, ℕ, ◌≤◌, ◌+◌, ◌^◌, [], length, IfOk, OnErr, MatchResult, map};
+ghost use Rattle.spec_map.specs.Call.{get, insert, remove};
 ghost use Rattle.spec_map.specs.Map.{Pairs, IsMap};
+ghost use Rattle.spec_olc.specs.Runs.{same_number};
 ghost use Rattle.share_state.specs.Held.{inserted, removed};
+ghost use Rattle.share_rule.specs.Known.{SeenMore};
+ghost use Rattle.share_faces.specs.Returned.{ReturnsOld};
 
 use crate::typed_congee::{Congee, Guard};
 use node_stats::NodeStats;
 use node_table::allocator::DefaultAllocator;
 use share_backend::snapshots::{Made, Pages};
-use share_raw::gate::Gate;
+use share_guards::gate::Gate;
+use share_guards::pin::PinError;
 use share_state::share::Share;
 use spec_map::error::OOMError;
 use spec_map::traits::Word;
 use std::alloc::Global;
+use std::marker::Model;
 use std::sync::Wait;
 use std::sync::ledger::{Blank, Ledger};
 
 /// An ordered map from 64-bit numbers to values of a type that is written as a number, which threads share.
 ///
-/// The map under its lock, `M`, decides how many events a call takes.
+/// The map under its lock, `M`, decides how many events a call takes. Contracts see which map it is.
 #[derive(Drop)]
 pub struct U64Congee<L: Ledger, V: Word, M: Pages> {
     map: Congee<L, u64, V, M>,
+}
+
+impl<L: Ledger, V: Word, M: Pages> Model for U64Congee<L, V, M> {
+    ghost use Rattle.atomic_table.specs.Seated.{TableId, table_id_coded};
+
+    ghost Value = { TableId };
+
+    ghost coded = { table_id_coded };
+
+    ghost view = { λ m. m.map };
 }
 
 impl<L: Ledger, V: Word, M: Pages> U64Congee<L, V, M> {
@@ -55,8 +71,10 @@ impl<L: Ledger, V: Word, M: Pages> U64Congee<L, V, M> {
         Ok((U64Congee { map }, share))
     }
 
-    /// Seats a caller. Looks at the seats that are taken, in turn. `OOMError` if there is no memory for its calls.
-    pub fn pin<R: Wait>(&self, rt: &R) -> Result<Guard<'_, L, M>, OOMError> {
+    /// A guard that has seen nothing. Looks at the numbers that are seated, in turn. If there is none, nothing has changed.
+    pub fn pin<R: Wait>(&self, rt: &R) -> Result<Guard<'_, L, M>, PinError>
+        ensures { IfOk result (λ guard. (guard.table ≡ self.now) × (guard.seen ≡ [])) }
+    {
         self.map.pin(rt)
     }
 
@@ -66,7 +84,11 @@ impl<L: Ledger, V: Word, M: Pages> U64Congee<L, V, M> {
     }
 
     /// The current value of the key, read back from its number.
-    pub fn get<R: Wait>(&self, rt: &R, guard: &mut Guard<'_, L, M>, key: u64) -> Option<V> {
+    pub fn get<R: Wait>(&self, rt: &R, guard: &mut Guard<'_, L, M>, key: u64) -> Option<V>
+        requires map { guard.old.table ≡ self.now }
+        ensures map { guard.new.table ≡ guard.old.table }
+        ensures made { ReturnsOld V.of_number guard.old (get key) result guard.new }
+    {
         self.map.get(rt, guard, &key)
     }
 
@@ -77,7 +99,11 @@ impl<L: Ledger, V: Word, M: Pages> U64Congee<L, V, M> {
         guard: &mut Guard<'_, L, M>,
         key: u64,
         gate: &mut G,
-    ) -> Option<V> {
+    ) -> Option<V>
+        requires map { guard.old.table ≡ self.now }
+        ensures map { guard.new.table ≡ guard.old.table }
+        ensures made { ReturnsOld V.of_number guard.old (get key) result guard.new }
+    {
         self.map.get_gated(rt, guard, &key, gate)
     }
 
@@ -89,7 +115,13 @@ impl<L: Ledger, V: Word, M: Pages> U64Congee<L, V, M> {
         guard: &mut Guard<'_, L, M>,
         key: u64,
         val: V,
-    ) -> Result<Option<V>, OOMError> {
+    ) -> Result<Option<V>, OOMError>
+        requires map { guard.old.table ≡ self.now }
+        ensures map { guard.new.table ≡ guard.old.table }
+        ensures made { IfOk result (λ before. ReturnsOld V.of_number guard.old
+            (insert key (V.number val)) before guard.new) }
+        ensures refused { OnErr result (SeenMore same_number guard.old guard.new) }
+    {
         self.map.insert(rt, guard, key, val)
     }
 
@@ -101,7 +133,13 @@ impl<L: Ledger, V: Word, M: Pages> U64Congee<L, V, M> {
         key: u64,
         val: V,
         gate: &mut G,
-    ) -> Result<Option<V>, OOMError> {
+    ) -> Result<Option<V>, OOMError>
+        requires map { guard.old.table ≡ self.now }
+        ensures map { guard.new.table ≡ guard.old.table }
+        ensures made { IfOk result (λ before. ReturnsOld V.of_number guard.old
+            (insert key (V.number val)) before guard.new) }
+        ensures refused { OnErr result (SeenMore same_number guard.old guard.new) }
+    {
         self.map.insert_gated(rt, guard, key, val, gate)
     }
 
@@ -114,13 +152,22 @@ impl<L: Ledger, V: Word, M: Pages> U64Congee<L, V, M> {
         key: u64,
         val: V,
     ) -> Result<Option<V>, OOMError>
-        ensures { share.new ≡ inserted result share.old }
+        requires map { guard.old.table ≡ self.now }
+        ensures map { guard.new.table ≡ guard.old.table }
+        ensures counted { share.new ≡ inserted result share.old }
+        ensures made { IfOk result (λ before. ReturnsOld V.of_number guard.old
+            (insert key (V.number val)) before guard.new) }
+        ensures refused { OnErr result (SeenMore same_number guard.old guard.new) }
     {
         self.map.insert_counted(rt, guard, share, key, val)
     }
 
     /// Removes the key, and returns the previous value, read back from its number. Tries again while memory is missing.
-    pub fn remove<R: Wait>(&self, rt: &R, guard: &mut Guard<'_, L, M>, key: u64) -> Option<V> {
+    pub fn remove<R: Wait>(&self, rt: &R, guard: &mut Guard<'_, L, M>, key: u64) -> Option<V>
+        requires map { guard.old.table ≡ self.now }
+        ensures map { guard.new.table ≡ guard.old.table }
+        ensures made { ReturnsOld V.of_number guard.old (remove key) result guard.new }
+    {
         self.map.remove(rt, guard, &key)
     }
 
@@ -131,7 +178,11 @@ impl<L: Ledger, V: Word, M: Pages> U64Congee<L, V, M> {
         guard: &mut Guard<'_, L, M>,
         key: u64,
         gate: &mut G,
-    ) -> Option<V> {
+    ) -> Option<V>
+        requires map { guard.old.table ≡ self.now }
+        ensures map { guard.new.table ≡ guard.old.table }
+        ensures made { ReturnsOld V.of_number guard.old (remove key) result guard.new }
+    {
         self.map.remove_gated(rt, guard, &key, gate)
     }
 
@@ -143,7 +194,10 @@ impl<L: Ledger, V: Word, M: Pages> U64Congee<L, V, M> {
         share: &mut Share<L>,
         key: u64,
     ) -> Option<V>
-        ensures { share.new ≡ removed result share.old }
+        requires map { guard.old.table ≡ self.now }
+        ensures map { guard.new.table ≡ guard.old.table }
+        ensures counted { share.new ≡ removed result share.old }
+        ensures made { ReturnsOld V.of_number guard.old (remove key) result guard.new }
     {
         self.map.remove_counted(rt, guard, share, &key)
     }
@@ -159,6 +213,8 @@ impl<L: Ledger, V: Word, M: Pages> U64Congee<L, V, M> {
         end: u64,
         buffer: &mut [([u8; 8], u64)],
     ) -> usize
+        requires map { guard.old.table ≡ self.now }
+        ensures same { guard.new ≡ guard.old }
         ensures count { result ≤ length buffer.old }
         ensures room { length buffer.new ≡ length buffer.old }
     {

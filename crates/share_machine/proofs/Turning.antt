@@ -80,8 +80,8 @@ module _ {M : Type 0} where
   pairs o (Some op) progress.Decided s t key value a k f = tt
   pairs o (Some op) progress.Refused s t key value a k f = tt
   pairs o None progress.Open s t key value a k f = tt
-  pairs o None progress.Decided s t key value a k f = f
-  pairs o None progress.Refused s t key value a k f = f
+  pairs o None progress.Decided s t key value a k f = (f, refl)
+  pairs o None progress.Refused s t key value a k f = (f, refl)
 
   denies : (o : Outline) (op : Option (Op M)) (p : Progress) (s : Asking M) (a : Option M) (k : Kind) → p ≡ progress.Open
       → Turns (staged o op p s) a k (Some (Denied o)) Refused

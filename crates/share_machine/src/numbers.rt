@@ -110,6 +110,8 @@ impl<A: Allocator> Snapshots<u64, u64> for Events<u64, A> {
 }
 
 impl<A: Allocator> Pages for Events<u64, A> {
+    fn numbers_mean_themselves() {}
+
     // A range is a call of many events.
     fn page<E: RangeEntry>(&self, _start: u64, _end: u64, _buffer: &mut [E]) -> Option<usize> {
         None

@@ -17,7 +17,7 @@ use node_stats::NodeStats;
 use node_table::allocator::Allocator;
 use share_backend::event::EventResult;
 use share_backend::lent::Lent;
-use share_backend::snapshots::{Made, Snapshots};
+use share_backend::snapshots::{Made, Owners, Snapshots};
 use spec_map::error::OOMError;
 use spec_map::traits::Word;
 use spec_olc::types::{Env, Op, StartError};
@@ -109,4 +109,8 @@ impl<V: Drop, A: Allocator> Snapshots<Arc<V>, V> for Events<Arc<V>, A> {
     fn stats(&self) -> Result<NodeStats, OOMError> {
         self.machine.stats()
     }
+}
+
+impl<V: Drop, A: Allocator> Owners<V> for Events<Arc<V>, A> {
+    fn owners_mean_their_values() {}
 }

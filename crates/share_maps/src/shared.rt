@@ -4,13 +4,20 @@
 //! A map and its shares belong to one ledger `L`, so code that uses them is in functions over `L: Ledger`.
 
 use node_table::allocator::DefaultAllocator;
+pub use share_faces::PinError;
 use share_faces::{congee_arc, typed_congee, u64_congee};
+pub use share_guards::gate::{Gate, NoGate};
 use share_machine::events::Events;
-pub use share_raw::gate::{Gate, NoGate};
 pub use share_state::share::Share;
 use spec_map::traits::NoDrain;
 pub use spec_olc::types::{Kind, Report};
 use std::sync::Arc;
+
+/// Two callers of one map of numbers meet.
+pub use share_faces::typed_congee::meet;
+
+/// Two callers of one map of owners meet.
+pub use share_faces::congee_arc::meet as meet_owners;
 
 /// An ordered map from numbers to values that numbers represent, which threads share.
 pub type U64Congee<L, V, A = DefaultAllocator> = u64_congee::U64Congee<L, V, Events<u64, A>>;

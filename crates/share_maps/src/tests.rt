@@ -3,5 +3,6 @@ mod drained;
 mod guards;
 mod mixed;
 mod owners;
+mod pinned;
 mod refusals;
 mod rows;

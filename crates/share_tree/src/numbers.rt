@@ -105,6 +105,8 @@ impl<A: Allocator> Snapshots<u64, u64> for Direct<u64, A> {
 }
 
 impl<A: Allocator> Pages for Direct<u64, A> {
+    fn numbers_mean_themselves() {}
+
     fn page<E: RangeEntry>(&self, start: u64, end: u64, buffer: &mut [E]) -> Option<usize> {
         Some(self.page_of(start, end, buffer))
     }

@@ -1,10 +1,10 @@
 //! At the end of a map its drainer is called with each pair, keys ascending.
 
-ghost use Rattle.std.specs.Prelude.{◌≡◌, ◌+◌, ◌^◌};
+ghost use Rattle.std.specs.Prelude.{◌≡◌, ◌+◌, ◌^◌, IfSome};
 
 use node_table::allocator::DefaultAllocator;
 use share_backend::snapshots::{Made, Pages};
-use share_faces::typed_congee::Congee;
+use share_faces::typed_congee::{Congee, Guard};
 use share_machine::events::Events;
 use share_tree::direct::Direct;
 use spec_map::traits::Drainer;
@@ -63,6 +63,23 @@ fn two_pairs<L: Ledger, M: Pages + Made<u64, u64, DefaultAllocator>, R: Wait>(
     Ok(())
 }
 
+// Stores a thousand keys, and returns its guard.
+fn store_many<'a, L: Ledger, M: Pages, R: Wait>(
+    rt: &R,
+    map: &Congee<L, u64, u64, M, Notes<'_>>,
+    mut guard: Guard<'a, L, M>,
+) -> Option<Guard<'a, L, M>>
+    requires { guard.table ≡ map.now }
+    ensures { IfSome result (λ kept. kept.table ≡ map.now) }
+{
+    let mut key = 1u64;
+    for _ in 0..1000u32 {
+        key = key.wrapping_mul(0x9e37_79b9_7f4a_7c15).wrapping_add(12345);
+        map.insert(rt, &mut guard, key, key).ok()?;
+    }
+    Some(guard)
+}
+
 fn many_pairs<L: Ledger, M: Pages + Made<u64, u64, DefaultAllocator>, R: Wait>(
     rt: &R,
     alloc: Global,
@@ -79,12 +96,8 @@ fn many_pairs<L: Ledger, M: Pages + Made<u64, u64, DefaultAllocator>, R: Wait>(
         DefaultAllocator {},
         notes,
     )?;
-    let mut guard = map.pin(rt)?;
-    let mut key = 1u64;
-    for _ in 0..1000u32 {
-        key = key.wrapping_mul(0x9e37_79b9_7f4a_7c15).wrapping_add(12345);
-        map.insert(rt, &mut guard, key, key)?;
-    }
+    let guard = map.pin(rt)?;
+    let mut guard = store_many(rt, &map, guard).ok_or("a key was refused")?;
     map.insert(rt, &mut guard, u64::MAX, 1)?;
     map.insert(rt, &mut guard, 0, 1)?;
     map.unpin(rt, guard);

@@ -1,6 +1,6 @@
 //! Guards: more of them than threads, one that another thread goes on with, and one that is dropped with its seat.
 
-ghost use Rattle.std.specs.Prelude.{◌≡◌, ◌+◌, ◌^◌};
+ghost use Rattle.std.specs.Prelude.{◌≡◌, ◌+◌, ◌^◌, IfSome};
 
 use node_table::allocator::DefaultAllocator;
 use share_backend::snapshots::{Made, Pages};
@@ -33,17 +33,14 @@ fn nine_callers<L: Ledger, M: Pages + Made<u64, u64, DefaultAllocator>, R: Wait>
 {
     let (map, _) = Map::<L, M>::new(alloc, blank, DefaultAllocator {})?;
     let mut guards = Vec::new(alloc);
-    for _ in 0..9u32 {
-        guards.push(map.pin(rt)?)?;
-    }
     let mut before = None;
-    let mut turn = 0u64;
-    for guard in guards.iter_mut() {
-        if map.insert(rt, guard, 5, turn)? != before {
+    for turn in 0..9u64 {
+        let mut guard = map.pin(rt)?;
+        if map.insert(rt, &mut guard, 5, turn)? != before {
             return Err("a caller saw another value than the last one".into());
         }
         before = Some(turn);
-        turn = turn.wrapping_add(1);
+        guards.push(guard)?;
     }
     for guard in guards {
         map.unpin(rt, guard);
@@ -67,7 +64,10 @@ fn store_ten<'a, L: Ledger, M: Pages, R: Wait>(
     map: &Map<L, M>,
     mut guard: Guard<'a, L, M>,
     first: u64,
-) -> Option<Guard<'a, L, M>> {
+) -> Option<Guard<'a, L, M>>
+    requires { guard.table ≡ map.now }
+    ensures { IfSome result (λ kept. kept.table ≡ map.now) }
+{
     let mut key = first;
     for _ in 0..10u32 {
         map.insert(rt, &mut guard, key, key).ok()?;
@@ -127,6 +127,22 @@ fn store_and_drop<L: Ledger, M: Pages, R: Wait>(
     Ok(())
 }
 
+// Whether each of a hundred keys has its own number, which is removed.
+fn takes_hundred<L: Ledger, M: Pages, R: Wait>(
+    rt: &R,
+    map: &Map<L, M>,
+    mut guard: Guard<'_, L, M>,
+) -> bool
+    requires { guard.table ≡ map.now }
+{
+    for key in 0..100u64 {
+        if map.remove(rt, &mut guard, &key) != Some(key) {
+            return false;
+        }
+    }
+    true
+}
+
 // A hundred guards are dropped. Nodes that calls replace meanwhile are reclaimed all the same.
 fn dropped<L: Ledger, M: Pages + Made<u64, u64, DefaultAllocator>, R: Wait>(
     rt: &R,
@@ -141,11 +157,9 @@ fn dropped<L: Ledger, M: Pages + Made<u64, u64, DefaultAllocator>, R: Wait>(
     for key in 0..100u64 {
         store_and_drop(rt, &map, key)?;
     }
-    let mut guard = map.pin(rt)?;
-    for key in 0..100u64 {
-        if map.remove(rt, &mut guard, &key) != Some(key) {
-            return Err("a key is gone".into());
-        }
+    let guard = map.pin(rt)?;
+    if !takes_hundred(rt, &map, guard) {
+        return Err("a key is gone".into());
     }
     Ok(map.value_count(rt))
 }

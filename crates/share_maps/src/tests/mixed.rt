@@ -3,6 +3,7 @@
 ghost use Rattle.std.specs.Prelude.{◌≡◌, ◌+◌, ◌^◌, ◌<◌, ◌≤◌, length};
 ghost use Rattle.std.specs.Thread.{IsSend, IsSync};
 
+use super::pinned::pinned;
 use node_table::allocator::DefaultAllocator;
 use share_backend::snapshots::{Made, Pages};
 use share_faces::typed_congee::{Congee, Guard};
@@ -79,7 +80,10 @@ fn scans_well<L: Ledger, M: Pages, R: Wait>(
     map: &Map<L, M>,
     guard: &mut Guard<'_, L, M>,
     buffer: &mut [(u64, u64)],
-) -> bool {
+) -> bool
+    requires { guard.old.table ≡ map.now }
+    ensures { guard.new ≡ guard.old }
+{
     let found = map.range(rt, guard, &0, &u64::MAX, buffer);
     let mut last = None;
     let mut steady = 0u64;
@@ -110,7 +114,7 @@ fn work_on<L: Ledger, M: Pages, R: Wait>(
 ) -> Option<Seen<L>>
     requires { work.keys < 2 ^ 20 }
 {
-    let mut guard = map.pin(rt).ok()?;
+    let mut guard = pinned(rt, map)?;
     let mut tally = Vec::new(alloc);
     let mut buffer = Vec::new(alloc);
     for _ in 0..work.keys {

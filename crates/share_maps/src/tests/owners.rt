@@ -2,8 +2,9 @@
 
 ghost use Rattle.std.specs.Prelude.{◌≡◌, ◌+◌, ◌^◌, ◌<◌};
 
+use super::pinned::pinned_owner;
 use node_table::allocator::DefaultAllocator;
-use share_backend::snapshots::{Made, Snapshots};
+use share_backend::snapshots::{Made, Owners};
 use share_faces::congee_arc::CongeeArc;
 use share_machine::events::Events;
 use share_state::share::Share;
@@ -22,7 +23,7 @@ type Tree = Direct<Arc<u64>, DefaultAllocator>;
 type Map<L, M> = CongeeArc<L, u64, u64, M>;
 
 // Stores an owner under a few keys in turn, removes it, computes over it and reads it.
-fn pass_on<L: Ledger, M: Snapshots<Arc<u64>, u64>, R: Wait>(
+fn pass_on<L: Ledger, M: Owners<u64>, R: Wait>(
     rt: &R,
     map: &Map<L, M>,
     alloc: Global,
@@ -30,7 +31,7 @@ fn pass_on<L: Ledger, M: Snapshots<Arc<u64>, u64>, R: Wait>(
     mut share: Share<L>,
     times: u64,
 ) -> Option<Share<L>> {
-    let mut guard = map.pin(rt).ok()?;
+    let mut guard = pinned_owner(rt, map)?;
     for time in 0..times {
         let key = time % 7;
         map.insert_counted(rt, &mut guard, &mut share, key, owner.clone().ok()?)
@@ -51,7 +52,7 @@ fn pass_on<L: Ledger, M: Snapshots<Arc<u64>, u64>, R: Wait>(
 
 fn owned_by_two<
     L: Ledger + Send + Sync,
-    M: Snapshots<Arc<u64>, u64> + Made<Arc<u64>, u64, DefaultAllocator> + Send,
+    M: Owners<u64> + Made<Arc<u64>, u64, DefaultAllocator> + Send,
     R: Threads + Wait + Sync,
 >(rt: &R, alloc: Global, blank: Blank, owner: &Arc<u64>) -> Result<bool, Fail>
     requires name { blank.name ≡ L.name }

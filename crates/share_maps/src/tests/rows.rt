@@ -2,11 +2,12 @@
 
 ghost use Rattle.std.specs.Prelude.{◌≡◌, ◌+◌, ◌^◌, ◌<◌};
 
+use super::pinned::pinned;
 use node_table::allocator::DefaultAllocator;
 use share_backend::snapshots::{Made, Pages};
 use share_faces::typed_congee::{Congee, Guard};
+use share_guards::gate::Gate;
 use share_machine::events::Events;
-use share_raw::gate::Gate;
 use share_state::share::Share;
 use share_tree::direct::Direct;
 use spec_olc::types::Report;
@@ -119,7 +120,7 @@ fn get_in_the_middle<L: Ledger, M: Pages, R: Wait + Clock>(
     map: &Map<L, M>,
     answered: &AtomicBool,
 ) -> Option<(bool, Option<u64>)> {
-    let Ok(mut guard) = map.pin(rt) else {
+    let Some(mut guard) = pinned(rt, map) else {
         return None;
     };
     let mut gate = Awaits {
@@ -139,7 +140,7 @@ fn insert_and_report<L: Ledger, M: Pages, R: Wait>(
     key: u64,
     answered: &AtomicBool,
 ) -> bool {
-    let Ok(mut guard) = map.pin(rt) else {
+    let Some(mut guard) = pinned(rt, map) else {
         return false;
     };
     let done = map.insert(rt, &mut guard, key, key).is_ok();
@@ -218,7 +219,7 @@ fn fill<L: Ledger, M: Pages, R: Wait>(
 ) -> (Share<L>, bool)
     requires { first < 1000 }
 {
-    let Ok(mut guard) = map.pin(rt) else {
+    let Some(mut guard) = pinned(rt, map) else {
         return (share, false);
     };
     for key in first..first + 10 {
@@ -272,7 +273,7 @@ fn count_up<L: Ledger, M: Pages, R: Wait>(
     alloc: Global,
     times: u32,
 ) -> Option<Vec<u64>> {
-    let Ok(mut guard) = map.pin(rt) else {
+    let Some(mut guard) = pinned(rt, map) else {
         return None;
     };
     let mut before = Vec::new(alloc);
@@ -292,7 +293,7 @@ fn compute_in_the_middle<L: Ledger, M: Pages, R: Wait + Clock>(
     map: &Map<L, M>,
     answered: &AtomicBool,
 ) -> bool {
-    let Ok(mut guard) = map.pin(rt) else {
+    let Some(mut guard) = pinned(rt, map) else {
         return false;
     };
     let mut in_time = false;
@@ -364,15 +365,20 @@ fn two_threads_count_up_by_closures(rt: HostRuntime) -> Result<(), Fail> {
 }
 
 // A computation by one caller whose closure reads another key by a second caller. Returns what it found there.
-fn look_at_events<'a, L: Ledger, R: Wait>(
+fn look_at_events<L: Ledger, R: Wait>(
     rt: &R,
-    map: &'a Map<L, Machine>,
-    guard: &mut Guard<'a, L, Machine>,
-    other: &mut Guard<'a, L, Machine>,
-) -> Result<Option<u64>, Fail> {
+    map: &Map<L, Machine>,
+    guard: &mut Guard<'_, L, Machine>,
+) -> Result<Option<u64>, Fail>
+    requires { guard.old.table ≡ map.now }
+    ensures { guard.new.table ≡ map.now }
+{
     let mut found = None;
     let mut looks = |_old: Option<u64>| -> u64 {
-        found = map.get(rt, other, &3);
+        if let Ok(guard) = map.pin(rt) {
+            let mut other = guard;
+            found = map.get(rt, &mut other, &3);
+        }
         7
     };
     let stored = map.compute_or_insert(rt, guard, 4, &mut looks);
@@ -392,23 +398,27 @@ fn calls_at_events<L: Ledger, R: Wait>(
 {
     let (map, _) = made::<L, Machine>(alloc, blank)?;
     let mut guard = map.pin(rt)?;
-    let mut other = map.pin(rt)?;
     map.insert(rt, &mut guard, 3, 30)?;
-    let found = look_at_events(rt, &map, &mut guard, &mut other)?;
+    let found = look_at_events(rt, &map, &mut guard)?;
     let stored = map.get(rt, &mut guard, &4);
     Ok((found, stored))
 }
 
 // A computation by one caller whose closure reads another key by a second caller. Returns what it found there.
-fn look_at_the_tree<'a, L: Ledger, R: Wait>(
+fn look_at_the_tree<L: Ledger, R: Wait>(
     rt: &R,
-    map: &'a Map<L, Tree>,
-    guard: &mut Guard<'a, L, Tree>,
-    other: &mut Guard<'a, L, Tree>,
-) -> Result<Option<u64>, Fail> {
+    map: &Map<L, Tree>,
+    guard: &mut Guard<'_, L, Tree>,
+) -> Result<Option<u64>, Fail>
+    requires { guard.old.table ≡ map.now }
+    ensures { guard.new.table ≡ map.now }
+{
     let mut found = None;
     let mut looks = |_old: Option<u64>| -> u64 {
-        found = map.get(rt, other, &3);
+        if let Ok(guard) = map.pin(rt) {
+            let mut other = guard;
+            found = map.get(rt, &mut other, &3);
+        }
         7
     };
     let stored = map.compute_or_insert(rt, guard, 4, &mut looks);
@@ -428,9 +438,8 @@ fn calls_at_the_tree<L: Ledger, R: Wait>(
 {
     let (map, _) = made::<L, Tree>(alloc, blank)?;
     let mut guard = map.pin(rt)?;
-    let mut other = map.pin(rt)?;
     map.insert(rt, &mut guard, 3, 30)?;
-    let found = look_at_the_tree(rt, &map, &mut guard, &mut other)?;
+    let found = look_at_the_tree(rt, &map, &mut guard)?;
     let stored = map.get(rt, &mut guard, &4);
     Ok((found, stored))
 }

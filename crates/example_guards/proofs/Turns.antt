@@ -1,0 +1,69 @@
+-- What the callers' histories are.
+use Rattle.std.proofs.Common.{◌≡◌, ℕ, List, [], ◌∷◌, ◌++◌, Option, Some, None, refl, sym, ap, subst, ◌∙◌}
+use Rattle.spec_map.specs.Call.{get, insert, old_value}
+use Rattle.spec_map.specs.Map.{Pairs, between}
+use Rattle.spec_olc.specs.Meaning.{in_some}
+use Rattle.spec_olc.specs.Runs.{same_number}
+use Rattle.share_guards.specs.Operations.{returned}
+use Rattle.share_laws.specs.Keys.{AllLeave, OwnsKeys, finds, inserts}
+use Rattle.share_rule.specs.History.{Entry, entry, entries_of, IsHistory}
+use Rattle.share_rule.specs.Known.{Known, MadeCall, SeenMore, own_entries}
+use Rattle.example_guards.specs.Callers.{HandedOver, KeepsOwn}
+
+-- a number is read back as itself
+pub in_some_same : (x : Option ℕ) → in_some (λ n. n) x ≡ x
+in_some_same None = refl
+in_some_same (Some n) = refl
+
+joined : {X : Type 0} (a rest more : List X) (e g : X) → (((a ++ e ∷ []) ++ rest) ++ more) ++ g ∷ [] ≡ a ++ (e ∷ ((rest ++ more) ++ g ∷ []))
+joined [] rest more e g = refl
+joined (x ∷ a) rest more e g = ap (λ l. x ∷ l) (joined a rest more e g)
+
+appended : {X : Type 0} (a : List X) (e g : X) → (a ++ e ∷ []) ++ g ∷ [] ≡ a ++ (e ∷ (g ∷ []))
+appended [] e g = refl
+appended (x ∷ a) e g = ap (λ l. x ∷ l) (appended a e g)
+
+-- the law of a `get` that finds what was inserted
+abbrev pub FindsIt : Type 0
+FindsIt = (first middle : List (Entry ℕ)) (a b key : ℕ) (value : ℕ) (before found : Option ℕ) (m : Pairs ℕ)
+    → IsHistory same_number (first ++ (inserts a key value before ∷ (middle ++ finds b key found ∷ []))) m → AllLeave key middle → found ≡ Some value
+
+module _ (key value : ℕ) (law : FindsIt) where
+  -- an insertion, a meeting, and the other's look-up
+  pub handed : (k0 k1 k2 t0 t1 t2 : Known ℕ) (before found : Option ℕ) → MadeCall same_number k0 (returned (insert key value) (old_value before)) k1 → SeenMore same_number k1 k2 → SeenMore same_number t0 t1
+      → k2.seen ≡ t1.seen → MadeCall same_number t1 (returned (get key) (old_value found)) t2 → HandedOver k0.caller t0.caller key value found t2.seen
+  handed k0 k1 k2 t0 t1 t2 before found put more other one got =
+      let first = k0.seen ++ put.between in
+      let rest = more.seen.0 in
+      let seen : t1.seen ≡ (first ++ inserts k0.caller key value before ∷ []) ++ rest = sym one ∙ (more.seen.1 ∙ ap (λ (l : List (Entry ℕ)). l ++ rest) put.seen) in
+      let is : t2.seen ≡ first ++ (inserts k0.caller key value before ∷ ((rest ++ got.between) ++ finds t0.caller key found ∷ [])) =
+      got.seen
+      ∙ (ap (λ (l : List (Entry ℕ)). (l ++ got.between) ++ finds t1.caller key found ∷ []) seen
+      ∙ (ap (λ c. (((first ++ inserts k0.caller key value before ∷ []) ++ rest) ++ got.between) ++ finds c key found ∷ []) other.caller
+      ∙ joined first rest got.between (inserts k0.caller key value before) (finds t0.caller key found)))
+      in record {
+        first = first;
+        between = rest ++ got.between;
+        before = before;
+        is = is;
+        finds_it = λ leave. law first (rest ++ got.between) k0.caller t0.caller key value before found got.legal.0 (subst (λ (l : List (Entry ℕ)). IsHistory same_number l got.legal.0) is got.legal.1) leave;
+      }
+
+  -- an owner's insertion and look-up
+  pub kept : ((owner low high : ℕ) (entries : List (Entry ℕ)) (m : Pairs ℕ) → IsHistory same_number entries m → OwnsKeys owner low high entries → IsHistory same_number (entries_of owner entries) (between m low high))
+      → (k0 k1 k2 : Known ℕ) (before found : Option ℕ) → MadeCall same_number k0 (returned (insert key value) (old_value before)) k1 → MadeCall same_number k1 (returned (get key) (old_value found)) k2 → KeepsOwn k0 key value found k2
+  kept owner_law k0 k1 k2 before found put got =
+      let caller : k2.caller ≡ k0.caller = got.caller ∙ put.caller in
+      let last : own_entries k2 ≡ (own_entries k0 ++ inserts k0.caller key value before ∷ []) ++ finds k0.caller key found ∷ [] =
+      got.own ∙ (ap (λ c. own_entries k1 ++ finds c key found ∷ []) put.caller ∙ ap (λ (l : List (Entry ℕ)). l ++ finds k0.caller key found ∷ []) put.own)
+      in
+      let own : (low high : ℕ) → OwnsKeys k0.caller low high k2.seen → IsHistory same_number (own_entries k2) (between got.legal.0 low high) =
+      λ low high owns. subst (λ c. IsHistory same_number (entries_of c k2.seen) (between got.legal.0 low high)) (sym caller) (owner_law k0.caller low high k2.seen got.legal.0 got.legal.1 owns)
+      in record {
+        own = λ low high owns. (got.legal.0, own low high owns);
+        before = before;
+        last = last;
+        finds_it = λ low high owns.
+            law (own_entries k0) [] k0.caller k0.caller key value before found (between got.legal.0 low high)
+            (subst (λ (l : List (Entry ℕ)). IsHistory same_number l (between got.legal.0 low high)) (last ∙ appended (own_entries k0) (inserts k0.caller key value before) (finds k0.caller key found)) (own low high owns)) tt;
+      }

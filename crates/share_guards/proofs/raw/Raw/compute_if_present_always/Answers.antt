@@ -1,0 +1,11 @@
+use Rattle.std.proofs.Common.{refl}
+use Rattle.share_guards.proofs.Replies.{asked_present, computed_last, computed_made}
+use Rattle.share_guards.proofs.raw.Raw.compute_if_present_always.Goals as goal
+
+pub returns-clause-made : goal.returns-clause-made
+returns-clause-made g c = computed_made _ _ _ _ c.args.guard.now c.call_always-reply.new.guard c.args.key c.computed_in.result c.call_always-reply.result c.computed_in.ensures c.call_always-reply.ensures.made
+
+pub returns-clause-asked : goal.returns-clause-asked
+returns-clause-asked g c =
+    asked_present g.M.Lent.meaning _ c.call_always-reply.new.f (λ s. s) c.call_always-reply.new.f refl c.computed_in.result
+    (computed_last _ _ _ _ c.args.guard.now c.call_always-reply.new.guard c.args.key c.computed_in.result c.call_always-reply.result c.computed_in.ensures c.call_always-reply.ensures.made)

@@ -1,0 +1,15 @@
+//! The calls of a map that threads share, by guards that know what they have seen: each reply is the map's at the end
+//! of one legal history that begins with what its guard had seen.
+#![tactic(auto)]
+
+pub mod asks;
+pub mod calls;
+pub mod gate;
+mod holds;
+mod loops;
+pub mod pin;
+pub mod range;
+pub mod raw;
+pub mod reads;
+mod snapshots;
+pub mod tried;

@@ -1,0 +1,5 @@
+//! Guards over the tree with one owner.
+
+mod callers;
+mod meetings;
+mod threads;

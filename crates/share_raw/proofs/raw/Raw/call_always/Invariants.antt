@@ -1,9 +1,0 @@
-use Rattle.std.proofs.Common.{◌≡◌}
-use Rattle.share_raw.proofs.raw.Raw.call_always.Given as goal
-
-abbrev pub invariant-loop : goal.invariant-loop
-invariant-loop g l =
-    (goal.iterator-loop g).can_next l.iterator' ×
-    (goal.iterator-loop g).is_finite l.iterator' ×
-    g.Q.Asks.can_ask l.asks ×
-    (l.purse ≡ l.initial.purse)

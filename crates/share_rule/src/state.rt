@@ -1,0 +1,14 @@
+//! The state of a shared map lies under a lock of this rule.
+
+use crate::rule::Protected;
+use share_backend::lent::{CallStage, Lent};
+use share_state::state::LockedState;
+use std::sync::ledger::Ledger;
+
+impl<L: Ledger, P, T, M: Lent<P, T>> Protected<T, CallStage<T>> for LockedState<L, P, T, M> {
+    ghost same = { M.same };
+
+    ghost content = { λ s. M.content s.under };
+
+    ghost place = { λ s. M.place s.under };
+}
