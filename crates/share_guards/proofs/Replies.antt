@@ -1,4 +1,4 @@
--- What a made call says of its own kind: the last operation of a legal history is one that the map allows then.
+-- The kind of a made call: the last operation of a legal history is one that the map allows then.
 use Rattle.std.proofs.Common.{◌≡◌, ℕ, Bool, List, [], ◌∷◌, ◌++◌, sym, ap, ◌∙◌, subst}
 use Rattle.std.specs.Prelude.{Option, Some, None, Result, IfSome}
 use Rattle.share_backend.specs.Stages.{operation_by}
@@ -123,7 +123,7 @@ module _ {P T F Q : Type 0} (meaning : P → T) (step : F → Option P → P →
   pair_is : (a b : Option T) (x y : Option T) → Some (both a x) ≡ Some (both b y) → both a x ≡ both b y
   pair_is a b x y e = cc
 
-  -- the closure of compute_or_insert, which always returns a value, was called as the operation says
+  -- the closure of compute_or_insert, which always returns a value, was called as the operation has it
   pub asked_always : (key : ℕ) (otherwise : P) (old : Option T) (new : T) (asked : Option (Option T × Option T)) → IsLastCall meaning (λ s o answer t. StepsAlways step (closure s) o answer (closure t)) left asked
       → map_asked (ComputeOrInsert key (meaning otherwise)) asked ≡ Some (old, Some new) → WasLastCalled step (closure left) (in_some meaning) meaning old new
   asked_always key otherwise old new None h is = absurd (let clash = is in cc)

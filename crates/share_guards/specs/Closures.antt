@@ -28,7 +28,7 @@ module _ {P T F : Type 0} (meaning : P → T)
     pub called : step before argument answer last
     pub old_is : in_some meaning argument ≡ old
 
-  -- what an operation says of its closure, if it was called, is its last call
+  -- what an operation has of its closure, if it was called, is its last call
   abbrev pub IsLastCall : Option (Option T × Option T) → Type 0
   IsLastCall None = Unit {0}
   IsLastCall (Some asked) = (answer : Option P) × LastCall asked.0 answer × (in_some meaning answer ≡ asked.1)

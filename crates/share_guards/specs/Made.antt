@@ -1,4 +1,4 @@
--- A CALL WAS MADE with this reply, and its closure was last called as its operation says.
+-- A CALL WAS MADE with this reply, and its closure was last called as its operation has it.
 use Rattle.std.specs.Prelude.{Bool, Option}
 use Rattle.share_backend.specs.Stages.{operation_by}
 use Rattle.share_guards.specs.Closures.{IsLastCall}

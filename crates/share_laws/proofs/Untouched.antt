@@ -1,6 +1,7 @@
 -- Keys that operations leave alone, and numbers that they only raise.
 use Rattle.std.proofs.Common.{◌≡◌, ◌≢◌, ℕ, ◌≤◌, Bool, List, [], ◌∷◌, ◌++◌, Option, Some, None, Result, Ok, Err, map, refl, sym, ap, subst, ◌∙◌, inl, inr, arith}
 use Rattle.std.proofs.lemmas.Bool.{cases_eq}
+use Rattle.std.proofs.lemmas.List.{map-append}
 use Rattle.spec_map.specs.Map.{Pairs, lookup, put, without, with_answer}
 use Rattle.spec_map.specs.Call.{Call, get, insert, remove, compare_exchange, compute_if_present, compute_or_insert, is_empty, keys, range, ClosureCall, Answer, replied, refused, Operation, Reply, old_value}
 use Rattle.spec_map.specs.Legal.{Allows, IsLegal, CallsAlways, MayAnswer, after_operation, after_answer, after, after_asking, after_exchange, exchange}
@@ -21,12 +22,8 @@ module _ {P : Type 0} (same : P → P → Bool) where
   split m n [] es h = record { mid = m; first = refl; then = h }
   split m n (d ∷ ds) es h = let r = split (after_operation same m d) n ds es h.1 in record { mid = r.mid; first = (h.0, r.first); then = r.then }
 
-  operations-append : (xs ys : List (Entry P)) → operations_of (xs ++ ys) ≡ operations_of xs ++ operations_of ys
-  operations-append [] ys = refl
-  operations-append (x ∷ xs) ys = ap (λ l. x.operation ∷ l) (operations-append xs ys)
-
   pub split_history : (m n : Pairs P) (xs ys : List (Entry P)) → IsLegal same never m (operations_of (xs ++ ys)) n → SplitRun same m (operations_of xs) (operations_of ys) n
-  split_history m n xs ys h = split m n (operations_of xs) (operations_of ys) (subst (λ (l : List (Operation ℕ P P)). IsLegal same never m l n) (operations-append xs ys) h)
+  split_history m n xs ys h = split m n (operations_of xs) (operations_of ys) (subst (λ (l : List (Operation ℕ P P)). IsLegal same never m l n) (map-append (λ (e : Entry P). e.operation) xs ys) h)
 
 other : (key k : ℕ) → (let at : Option ℕ = Some k in at ≢ Some key) → key ≢ k
 other key k ne e = ne (ap Some (sym e))

@@ -108,10 +108,10 @@ module _ {P T F : Type 0} (meaning : P → T)
   WasCalled Fresh answer = Unit {0}
   WasCalled (Wants old) answer = LastCall meaning step last old answer
   WasCalled (Given old given) answer =
-      (said : Option P) × LastCall meaning step last old said × (in_some meaning said ≡ given)
+      (returned : Option P) × LastCall meaning step last old returned × (in_some meaning returned ≡ given)
 
   module _ {S : Type 0} (same : T → T → Bool) where
-    -- a call was made, and its closure was last called as its operation says
+    -- a call was made, and its closure was last called as its operation has it
     pub record Answered (op : Op P) (reply : Reply P) (m n : Seat T (CallStage T) S) : Type 0 where
       pub asked : Option (Option T × Option T)
       pub made : Made same m (operation_by (op_of meaning op) asked (meant_reply meaning reply)) n

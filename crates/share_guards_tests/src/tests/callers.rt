@@ -12,7 +12,7 @@ use std::sync::Wait;
 use std::sync::ledger::{Blank, Ledger};
 use std::test::Fail;
 
-// A guard that has stored the number at 5, and what stood there before.
+// A guard that has stored the number at 5, and what was stored there before.
 fn stored<'a, L: Ledger, R: Wait>(
     rt: &R,
     map: &'a Map<L>,
