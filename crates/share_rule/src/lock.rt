@@ -15,6 +15,9 @@ use std::marker::Model;
 use std::mem;
 use std::sync::Wait;
 
+#[cfg(test)]
+mod tests;
+
 /// How often the lock is tried before a thread sleeps. Its holder makes one event, in some hundred nanoseconds.
 const TRIES: u32 = 64;
 
