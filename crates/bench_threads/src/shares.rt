@@ -23,7 +23,7 @@ struct Inserts<'a, L: Ledger, M: Pages> {
 
 impl<'a, L: Ledger, M: Pages> Work for Inserts<'a, L, M> {
     fn part<R: Wait>(&self, rt: &R, keys: &[u64]) -> u64 {
-        let Ok(mut guard) = self.map.pin(rt) else {
+        let Ok(mut guard) = self.map.pin_waiting(rt) else {
             return 0;
         };
         let mut sum = 0u64;
@@ -46,7 +46,7 @@ struct Gets<'a, L: Ledger, M: Pages> {
 
 impl<'a, L: Ledger, M: Pages> Work for Gets<'a, L, M> {
     fn part<R: Wait>(&self, rt: &R, keys: &[u64]) -> u64 {
-        let Ok(mut guard) = self.map.pin(rt) else {
+        let Ok(mut guard) = self.map.pin_waiting(rt) else {
             return 0;
         };
         let mut sum = 0u64;
@@ -68,7 +68,7 @@ struct Removes<'a, L: Ledger, M: Pages> {
 
 impl<'a, L: Ledger, M: Pages> Work for Removes<'a, L, M> {
     fn part<R: Wait>(&self, rt: &R, keys: &[u64]) -> u64 {
-        let Ok(mut guard) = self.map.pin(rt) else {
+        let Ok(mut guard) = self.map.pin_waiting(rt) else {
             return 0;
         };
         let mut sum = 0u64;

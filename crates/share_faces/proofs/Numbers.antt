@@ -1,7 +1,7 @@
 -- A map under which a number represents itself, and two are compared as numbers.
 use Rattle.std.proofs.Common.{◌≡◌, ℕ, Bool, true, false, List, [], ◌++◌, sym, refl, ◌∙◌, subst}
 use Rattle.std.specs.Prelude.{Option, Some, None, Result, Ok, Err, IfSome, if◌then◌else◌}
-use Rattle.share_guards.proofs.Replies.{last_allowed}
+use Rattle.share_holds.proofs.Last.{last_allowed}
 use Rattle.share_guards.specs.Operations.{WasLastCalled, computed_with, inserted_with, returned}
 use Rattle.share_rule.specs.History.{Entry, entry, operations_of}
 use Rattle.share_rule.specs.Known.{Known, MadeCall, SeenMore}

@@ -6,6 +6,6 @@ pub mod congee_arc;
 pub mod typed_congee;
 pub mod u64_congee;
 
-pub use share_guards::gate::{Gate, NoGate};
 pub use share_guards::pin::PinError;
+pub use share_holds::gate::{Gate, NoGate};
 pub use share_state::share::Share;

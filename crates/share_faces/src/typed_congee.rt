@@ -12,10 +12,10 @@ ghost use Rattle.share_faces.specs.Returned.{ReturnsExchanged, ReturnsInserted, 
 
 use node_stats::NodeStats;
 use share_backend::snapshots::{Made, Pages};
-use share_guards::gate::{Gate, NoGate};
 use share_guards::pin::PinError;
 use share_guards::raw;
 use share_guards::raw::Raw;
+use share_holds::gate::{Gate, NoGate};
 use share_state::purse::OwnPurse;
 use share_state::share::Share;
 use share_state::state::LockedState;
@@ -131,6 +131,14 @@ impl<L: Ledger, K: Word, V: Word, M: Pages, D: Drainer<K, V>> Congee<L, K, V, M,
         ensures { IfOk result (λ guard. (guard.table ≡ self.now) × (guard.seen ≡ [])) }
     {
         self.raw.pin(rt)
+    }
+
+    /// `pin` that waits while another thread is just being given a guard. `OOMError` if memory for its calls was missing:
+    /// then nothing has changed.
+    pub fn pin_waiting<R: Wait>(&self, rt: &R) -> Result<Guard<'_, L, M>, OOMError>
+        ensures { IfOk result (λ guard. (guard.table ≡ self.now) × (guard.seen ≡ [])) }
+    {
+        self.raw.pin_waiting(rt)
     }
 
     /// Frees a caller's seat. A guard that is dropped instead keeps its seat until the map ends.

@@ -12,8 +12,8 @@ use crate::typed_congee::{Congee, Guard};
 use node_stats::NodeStats;
 use node_table::allocator::DefaultAllocator;
 use share_backend::snapshots::{Made, Pages};
-use share_guards::gate::Gate;
 use share_guards::pin::PinError;
+use share_holds::gate::Gate;
 use share_state::share::Share;
 use spec_map::error::OOMError;
 use spec_map::traits::Word;
@@ -76,6 +76,14 @@ impl<L: Ledger, V: Word, M: Pages> U64Congee<L, V, M> {
         ensures { IfOk result (λ guard. (guard.table ≡ self.now) × (guard.seen ≡ [])) }
     {
         self.map.pin(rt)
+    }
+
+    /// `pin` that waits while another thread is just being given a guard. `OOMError` if memory for its calls was missing:
+    /// then nothing has changed.
+    pub fn pin_waiting<R: Wait>(&self, rt: &R) -> Result<Guard<'_, L, M>, OOMError>
+        ensures { IfOk result (λ guard. (guard.table ≡ self.now) × (guard.seen ≡ [])) }
+    {
+        self.map.pin_waiting(rt)
     }
 
     /// Frees a caller's seat. A guard that is dropped instead keeps its seat until the map ends.

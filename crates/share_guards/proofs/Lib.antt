@@ -1,4 +1,1 @@
-pub mod Attempts
-pub mod Events
 pub mod Replies
-pub mod Ranges

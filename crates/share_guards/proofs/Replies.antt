@@ -2,9 +2,10 @@
 use Rattle.std.proofs.Common.{◌≡◌, ℕ, Bool, List, [], ◌∷◌, ◌++◌, sym, ap, ◌∙◌, subst}
 use Rattle.std.specs.Prelude.{Option, Some, None, Result, IfSome}
 use Rattle.share_backend.specs.Stages.{operation_by}
-use Rattle.share_guards.specs.Closures.{IsLastCall, StepsAlways, StepsIfPresent}
+use Rattle.share_holds.specs.Closures.{IsLastCall, StepsAlways, StepsIfPresent}
 use Rattle.share_guards.specs.Made.{MadeWith}
 use Rattle.share_guards.specs.Operations.{returned, asked_by, computed_with, inserted_with, WasLastCalled}
+use Rattle.share_holds.proofs.Last.{last_allowed}
 use Rattle.share_rule.specs.History.{Entry, entry, operations_of}
 use Rattle.share_rule.specs.Known.{Known, MadeCall}
 use Rattle.spec_map.specs.Call.{ClosureCall, Operation, replied, computed, exchanged, old_value, compute_if_present, compute_or_insert}
@@ -18,11 +19,6 @@ use Rattle.spec_olc.specs.declared.types.Op.{Op}
 use Rattle.spec_olc.specs.declared.types.Op.TheVariants.{ComputeIfPresent, ComputeOrInsert}
 use Rattle.spec_olc.specs.declared.types.Reply.{Reply}
 use Rattle.spec_olc.specs.declared.types.Reply.TheVariants.{Old, Computed, Exchanged}
-
--- the last operation of a legal history is one that the map allows then
-pub last_allowed : {T : Type 0} (same : T → T → Bool) (m : Pairs T) (es : List (Entry T)) (e : Entry T) (n : Pairs T) → IsLegal same never m (operations_of (es ++ e ∷ [])) n → (a : Pairs T) × Allows same never a e.operation
-last_allowed same m [] e n h = (m, h.0)
-last_allowed same m (x ∷ xs) e n h = last_allowed same (after_operation same m x.operation) xs e n h.1
 
 allowed : {T : Type 0} (same : T → T → Bool) (k n : Known T) (operation : Operation ℕ T T) → MadeCall same k operation n → (a : Pairs T) × Allows same never a operation
 allowed same k n operation m =

@@ -1,5 +1,2 @@
-pub mod Closures
 pub mod Made
 pub mod Operations
-pub mod Replies
-pub mod inner

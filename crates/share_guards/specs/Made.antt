@@ -1,7 +1,7 @@
 -- A CALL WAS MADE with this reply, and its closure was last called as its operation has it.
 use Rattle.std.specs.Prelude.{Bool, Option}
 use Rattle.share_backend.specs.Stages.{operation_by}
-use Rattle.share_guards.specs.Closures.{IsLastCall}
+use Rattle.share_holds.specs.Closures.{IsLastCall}
 use Rattle.share_rule.specs.Known.{Known, MadeCall}
 use Rattle.spec_olc.specs.Meaning.{op_of, meant_reply}
 use Rattle.spec_olc.specs.declared.types.Op.{Op}

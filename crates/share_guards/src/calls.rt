@@ -9,10 +9,10 @@ ghost use Rattle.share_state.specs.Booking.{BooksInsert};
 ghost use Rattle.share_rule.specs.Known.{MadeCall, SeenMore};
 ghost use Rattle.share_guards.specs.Operations.{WasLastCalled, computed_with, inserted_with, returned};
 
-use crate::asks::{Always, IfPresent, Nobody};
-use crate::gate::{Gate, NoGate};
 use crate::raw::{Guard, Raw};
 use share_backend::lent::Lent;
+use share_holds::asks::{Always, IfPresent, Nobody};
+use share_holds::gate::{Gate, NoGate};
 use share_state::purse::{OwnPurse, Purse};
 use spec_map::error::OOMError;
 use spec_olc::types::{Op, Reply};

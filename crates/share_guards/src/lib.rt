@@ -2,14 +2,8 @@
 //! of one legal history that begins with what its guard had seen.
 #![tactic(auto)]
 
-pub mod asks;
 pub mod calls;
-pub mod gate;
-mod holds;
-mod loops;
 pub mod pin;
 pub mod range;
 pub mod raw;
 pub mod reads;
-mod snapshots;
-pub mod tried;

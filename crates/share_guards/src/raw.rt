@@ -1,19 +1,21 @@
 //! A map that threads share, and its guards.
 
-ghost use Rattle.std.specs.Prelude.{◌≡◌, [], IfOk, OnErr};
+ghost use Rattle.std.specs.Prelude.{◌≡◌, [], None, IfOk, OnErr};
 ghost use Rattle.spec_olc.specs.Calls.{IsPoint, outline_of};
 ghost use Rattle.share_backend.specs.Changing.{IsReply, IsReplyTo, change_of};
 ghost use Rattle.share_state.specs.Booking.{Books};
 ghost use Rattle.share_rule.specs.Known.{SeenMore};
+ghost use Rattle.share_rule.specs.inner.Steps.{IsIdle, at_of, seen_of};
 ghost use Rattle.share_guards.specs.Made.{MadeWith};
-ghost use Rattle.share_guards.specs.Replies.{reply_got};
+ghost use Rattle.share_holds.specs.Replies.{reply_got};
 
-use crate::asks::Asks;
-use crate::gate::Gate;
-use crate::holds::{MapLock, MapSeat, number, unseat};
-use crate::loops;
 use crate::pin::PinError;
+use crate::reads::borrowed;
 use share_backend::lent::Lent;
+use share_holds::asks::Asks;
+use share_holds::gate::Gate;
+use share_holds::holds::{MapLock, MapSeat, number, unseat};
+use share_holds::loops;
 use share_rule::lock::Lock;
 use share_state::purse::Purse;
 use share_state::state::LockedState;
@@ -85,9 +87,37 @@ impl<L: Ledger, P: Drop, T, M: Lent<P, T>> Raw<L, P, T, M> {
     pub fn pin<R: Wait>(&self, rt: &R) -> Result<Guard<'_, L, P, T, M>, PinError>
         ensures { IfOk result (λ guard. (guard.table ≡ self.now) × (guard.seen ≡ [])) }
     {
-        let Some(mut seat) = self.lock.seat() else {
+        let Some(seat) = self.lock.seat() else {
             return Err(PinError::NoSeat);
         };
+        match self.guard_by(rt, seat) {
+            Ok(guard) => Ok(guard),
+            Err(error) => Err(PinError::Oom(error)),
+        }
+    }
+
+    /// The same, which waits while another thread is just being given a guard. `OOMError` if memory for its calls was
+    /// missing.
+    pub fn pin_waiting<R: Wait>(&self, rt: &R) -> Result<Guard<'_, L, P, T, M>, OOMError>
+        ensures { IfOk result (λ guard. (guard.table ≡ self.now) × (guard.seen ≡ [])) }
+    {
+        let seat = borrowed(self, rt);
+        self.guard_by(rt, seat)
+    }
+
+    // A guard with this seat, for which a number is seated.
+    fn guard_by<R: Wait>(
+        &self,
+        rt: &R,
+        seat: MapSeat<L, P, T, M>,
+    ) -> Result<Guard<'_, L, P, T, M>, OOMError>
+        requires table { seat.table_id ≡ self.now }
+        requires idle { IsIdle seat.me }
+        requires unseen { seen_of seat.me.0 ≡ [] }
+        requires numberless { at_of seat.me.0 ≡ None }
+        ensures { IfOk result (λ guard. (guard.table ≡ self.now) × (guard.seen ≡ [])) }
+    {
+        let mut seat = seat;
         match number(&self.lock, rt, &mut seat) {
             Ok(id) => Ok(Guard {
                 raw: self,
@@ -96,7 +126,7 @@ impl<L: Ledger, P: Drop, T, M: Lent<P, T>> Raw<L, P, T, M> {
             }),
             Err(error) => {
                 self.lock.leave(seat);
-                Err(PinError::Oom(error))
+                Err(error)
             }
         }
     }

@@ -1,17 +1,17 @@
 //! What is read of a shared map at one moment, each in one hold of the lock, by a seat that is borrowed for it. The
 //! contract of the same call of `LockedState` states what a hold returns, for the state under the lock.
 
-ghost use Rattle.std.specs.Prelude.{◌≡◌, ◌≢◌, ◌++◌, ◌^◌, ℕ, None, IfOk, IfSome, MatchResult, length, map, min, take, drop};
+ghost use Rattle.std.specs.Prelude.{◌≡◌, ◌≢◌, ◌++◌, ◌^◌, ℕ, [], None, IfOk, IfSome, MatchResult, length, map, min, take, drop};
 ghost use Rattle.spec_map.specs.Map.{Pairs, IsMap, between};
-ghost use Rattle.share_rule.specs.inner.Steps.{IsIdle, at_of};
+ghost use Rattle.share_rule.specs.inner.Steps.{IsIdle, at_of, seen_of};
 
-use crate::holds::MapSeat;
 use crate::raw::{Guard, Raw};
-use crate::snapshots;
 use crossbeam_utils::Backoff;
 use node_stats::NodeStats;
 use share_backend::lent::Lent;
 use share_backend::snapshots::{Pages, Snapshots};
+use share_holds::holds::MapSeat;
+use share_holds::snapshots;
 use share_state::share::Share;
 use spec_map::error::OOMError;
 use spec_map::traits::Word;
@@ -20,13 +20,15 @@ use std::sync::Wait;
 use std::sync::ledger::Ledger;
 use tree_walk::range_scan::RangeEntry;
 
-// A seat with a caller of its own and no number. Waits while another thread is just being given one.
-fn borrowed<L: Ledger, P: Drop, T, M: Lent<P, T>, R: Wait>(
+/// A seat with a caller of its own, which has seen nothing and has no number. Waits while another thread is just being
+/// given one.
+pub(crate) fn borrowed<L: Ledger, P: Drop, T, M: Lent<P, T>, R: Wait>(
     raw: &Raw<L, P, T, M>,
     rt: &R,
 ) -> MapSeat<L, P, T, M>
     ensures table { result.table_id ≡ raw.now }
     ensures idle { IsIdle result.me }
+    ensures unseen { seen_of result.me.0 ≡ [] }
     ensures numberless { at_of result.me.0 ≡ None }
 {
     let pause = Backoff::new();

@@ -2,4 +2,6 @@
 
 mod callers;
 mod meetings;
+mod refusals;
+mod refusing;
 mod threads;

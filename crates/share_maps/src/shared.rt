@@ -6,7 +6,7 @@
 use node_table::allocator::DefaultAllocator;
 pub use share_faces::PinError;
 use share_faces::{congee_arc, typed_congee, u64_congee};
-pub use share_guards::gate::{Gate, NoGate};
+pub use share_holds::gate::{Gate, NoGate};
 use share_machine::events::Events;
 pub use share_state::share::Share;
 use spec_map::traits::NoDrain;

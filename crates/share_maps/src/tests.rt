@@ -3,6 +3,5 @@ mod drained;
 mod guards;
 mod mixed;
 mod owners;
-mod pinned;
 mod refusals;
 mod rows;

@@ -1,10 +1,10 @@
-//! Many guards in one thread: some are unpinned, and some are dropped with their numbers.
+//! Many guards in one thread: some are unpinned, in no order, and some are dropped with their numbers.
 
 ghost use Rattle.std.specs.Prelude.{◌≡◌, ◌+◌, ◌^◌};
 
 use super::meetings::{Map, Tree, made};
-use share_guards::gate::NoGate;
 use share_guards::raw::Guard;
+use share_holds::gate::NoGate;
 use share_state::purse::OwnPurse;
 use std::alloc::Global;
 use std::marker::Brand;
@@ -23,8 +23,21 @@ fn stored<'a, L: Ledger, R: Wait>(
     Ok((guard, before))
 }
 
-// A thousand callers, each of which overwrites what the one before it stored. Every second one is dropped, and the
-// others are unpinned at the end. Returns the number of pairs, and the last value.
+// Unpins one of the guards, if there is one, at a place that goes by the number.
+fn unpin_one<L: Ledger, R: Wait>(
+    rt: &R,
+    kept: &mut Vec<Guard<'_, L, u64, u64, Tree>>,
+    number: u64,
+) {
+    if kept.is_empty() {
+        return;
+    }
+    let place = (number.wrapping_mul(7919) as usize) % kept.len();
+    kept.swap_remove(place).unpin(rt);
+}
+
+// A thousand callers, each of which overwrites what the one before it stored. Every fifth one is dropped. Beside every
+// third one another is unpinned, in no order, and the others at the end. Returns the number of pairs, and the last value.
 fn a_thousand<L: Ledger, R: Wait>(
     rt: &R,
     alloc: Global,
@@ -43,8 +56,11 @@ fn a_thousand<L: Ledger, R: Wait>(
             return Err("a caller saw another value than the last one".into());
         }
         expected = Some(number);
-        if number % 2 == 0 {
+        if number % 5 != 0 {
             kept.push(guard)?;
+        }
+        if number % 3 == 0 {
+            unpin_one(rt, &mut kept, number);
         }
     }
     for guard in kept {

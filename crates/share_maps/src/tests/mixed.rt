@@ -3,7 +3,6 @@
 ghost use Rattle.std.specs.Prelude.{◌≡◌, ◌+◌, ◌^◌, ◌<◌, ◌≤◌, length};
 ghost use Rattle.std.specs.Thread.{IsSend, IsSync};
 
-use super::pinned::pinned;
 use node_table::allocator::DefaultAllocator;
 use share_backend::snapshots::{Made, Pages};
 use share_faces::typed_congee::{Congee, Guard};
@@ -114,7 +113,7 @@ fn work_on<L: Ledger, M: Pages, R: Wait>(
 ) -> Option<Seen<L>>
     requires { work.keys < 2 ^ 20 }
 {
-    let mut guard = pinned(rt, map)?;
+    let mut guard = map.pin_waiting(rt).ok()?;
     let mut tally = Vec::new(alloc);
     let mut buffer = Vec::new(alloc);
     for _ in 0..work.keys {

@@ -2,7 +2,6 @@
 
 ghost use Rattle.std.specs.Prelude.{◌≡◌, ◌+◌, ◌^◌, ◌<◌};
 
-use super::pinned::pinned_owner;
 use node_table::allocator::DefaultAllocator;
 use share_backend::snapshots::{Made, Owners};
 use share_faces::congee_arc::CongeeArc;
@@ -31,7 +30,7 @@ fn pass_on<L: Ledger, M: Owners<u64>, R: Wait>(
     mut share: Share<L>,
     times: u64,
 ) -> Option<Share<L>> {
-    let mut guard = pinned_owner(rt, map)?;
+    let mut guard = map.pin_waiting(rt).ok()?;
     for time in 0..times {
         let key = time % 7;
         map.insert_counted(rt, &mut guard, &mut share, key, owner.clone().ok()?)

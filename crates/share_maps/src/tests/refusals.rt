@@ -2,7 +2,6 @@
 
 ghost use Rattle.std.specs.Prelude.{◌≡◌, ◌+◌, ◌^◌, None};
 
-use super::pinned::pinned;
 use node_base::base_node::NodeSize;
 use node_table::allocator::{Allocator, Budget};
 use share_backend::snapshots::{Made, Pages};
@@ -178,7 +177,7 @@ fn store_some<L: Ledger, M: Pages, R: Wait>(
     mut share: Share<L>,
     first: u64,
 ) -> Option<(Share<L>, u128, bool)> {
-    let mut guard = pinned(rt, map)?;
+    let mut guard = map.pin_waiting(rt).ok()?;
     let mut left = 0u128;
     let mut refused = false;
     for step in 0..400u64 {

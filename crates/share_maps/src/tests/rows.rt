@@ -2,11 +2,10 @@
 
 ghost use Rattle.std.specs.Prelude.{◌≡◌, ◌+◌, ◌^◌, ◌<◌};
 
-use super::pinned::pinned;
 use node_table::allocator::DefaultAllocator;
 use share_backend::snapshots::{Made, Pages};
 use share_faces::typed_congee::{Congee, Guard};
-use share_guards::gate::Gate;
+use share_holds::gate::Gate;
 use share_machine::events::Events;
 use share_state::share::Share;
 use share_tree::direct::Direct;
@@ -120,7 +119,7 @@ fn get_in_the_middle<L: Ledger, M: Pages, R: Wait + Clock>(
     map: &Map<L, M>,
     answered: &AtomicBool,
 ) -> Option<(bool, Option<u64>)> {
-    let Some(mut guard) = pinned(rt, map) else {
+    let Ok(mut guard) = map.pin_waiting(rt) else {
         return None;
     };
     let mut gate = Awaits {
@@ -140,7 +139,7 @@ fn insert_and_report<L: Ledger, M: Pages, R: Wait>(
     key: u64,
     answered: &AtomicBool,
 ) -> bool {
-    let Some(mut guard) = pinned(rt, map) else {
+    let Ok(mut guard) = map.pin_waiting(rt) else {
         return false;
     };
     let done = map.insert(rt, &mut guard, key, key).is_ok();
@@ -219,7 +218,7 @@ fn fill<L: Ledger, M: Pages, R: Wait>(
 ) -> (Share<L>, bool)
     requires { first < 1000 }
 {
-    let Some(mut guard) = pinned(rt, map) else {
+    let Ok(mut guard) = map.pin_waiting(rt) else {
         return (share, false);
     };
     for key in first..first + 10 {
@@ -273,7 +272,7 @@ fn count_up<L: Ledger, M: Pages, R: Wait>(
     alloc: Global,
     times: u32,
 ) -> Option<Vec<u64>> {
-    let Some(mut guard) = pinned(rt, map) else {
+    let Ok(mut guard) = map.pin_waiting(rt) else {
         return None;
     };
     let mut before = Vec::new(alloc);
@@ -293,7 +292,7 @@ fn compute_in_the_middle<L: Ledger, M: Pages, R: Wait + Clock>(
     map: &Map<L, M>,
     answered: &AtomicBool,
 ) -> bool {
-    let Some(mut guard) = pinned(rt, map) else {
+    let Ok(mut guard) = map.pin_waiting(rt) else {
         return false;
     };
     let mut in_time = false;
