@@ -9,7 +9,7 @@ use Rattle.share_holds.proofs.Last.{last_allowed}
 use Rattle.share_rule.specs.History.{Entry, entry, operations_of}
 use Rattle.share_rule.specs.Known.{Known, MadeCall}
 use Rattle.spec_map.specs.Call.{ClosureCall, Operation, replied, computed, exchanged, old_value, compute_if_present, compute_or_insert}
-use Rattle.spec_map.specs.Legal.{Allows, CallsIfPresent, IsClosureCalled, IsLegal, after_operation, computed_by}
+use Rattle.spec_map.specs.Legal.{Allows, CallsIfPresent, IsClosureCalled, IsLegal, computed_by}
 use Rattle.spec_map.specs.Legal as legal
 use Rattle.spec_map.specs.Map.{Pairs, lookup}
 use Rattle.spec_map.specs.Refusal.{never}

@@ -1,8 +1,8 @@
 -- Keys that operations leave alone, and numbers that they only raise.
-use Rattle.std.proofs.Common.{◌≡◌, ◌≢◌, ℕ, ◌≤◌, Bool, List, [], ◌∷◌, ◌++◌, Option, Some, None, Result, Ok, Err, map, refl, sym, ap, subst, ◌∙◌, inl, inr, arith}
+use Rattle.std.proofs.Common.{◌≡◌, ◌≢◌, ℕ, ◌≤◌, Bool, List, [], ◌∷◌, ◌++◌, Option, Some, None, Result, Ok, Err, refl, sym, ap, subst, ◌∙◌, inl, inr, arith}
 use Rattle.std.proofs.lemmas.Bool.{cases_eq}
 use Rattle.std.proofs.lemmas.List.{map-append}
-use Rattle.spec_map.specs.Map.{Pairs, lookup, put, without, with_answer}
+use Rattle.spec_map.specs.Map.{Pairs, lookup, put, with_answer}
 use Rattle.spec_map.specs.Call.{Call, get, insert, remove, compare_exchange, compute_if_present, compute_or_insert, is_empty, keys, range, ClosureCall, Answer, replied, refused, Operation, Reply, old_value}
 use Rattle.spec_map.specs.Legal.{Allows, IsLegal, CallsAlways, MayAnswer, after_operation, after_answer, after, after_asking, after_exchange, exchange}
 use Rattle.spec_map.specs.Refusal.{never}
