@@ -60,12 +60,21 @@ fn get_all(machine: &mut Events, id: u64, keys: &[u64]) -> u64 {
     events
 }
 
+// Reclaims what a removal may have retired.
+fn reclaim_after(machine: &mut Events) {
+    for _ in 0..4u32 {
+        if !machine.reclaim_next() {
+            return;
+        }
+    }
+}
+
 #[inline(never)]
 fn remove_all(machine: &mut Events, id: u64, keys: &[u64]) -> u64 {
     let mut events = 0u64;
     for key in keys {
         events = events.wrapping_add(run(machine, id, &Op::Remove(*key)));
-        machine.reclaim_next();
+        reclaim_after(machine);
     }
     events
 }

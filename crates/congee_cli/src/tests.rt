@@ -1,5 +1,6 @@
 //! Whole runs over streams in memory.
 
+mod cleanups;
 mod schedules;
 
 use crate::serve::serve;

@@ -1,5 +1,8 @@
 //! Lock words and pins, call by call.
 
+mod cleanup_owners;
+mod cleanups;
+mod cleanups_beside;
 mod closures;
 mod courses;
 mod epoch;
@@ -18,3 +21,4 @@ mod reclaiming;
 mod refusals;
 mod removals;
 mod schedules;
+mod worked;

@@ -147,7 +147,7 @@ module _ {M : Type 0} (Granted : Type 0) (same : M → M → Bool) (t : NodeMap 
       → IsRead Granted same t root pin (at (Check path) task) env (at (Tail (Upgrade path small)) task) (report_of kind.Check (Some path.here.slot) 0 true) Going
   goes_small path a here word facts small work =
       let fresh : IsFreshly task = facts.at.0 in
-      goes Granted same t root pin task env placed path a here word (Check path) (Tail (Upgrade path small)) refl refl refl refl tt tt fresh (here_known path) (inl refl) (λ z w h. h)
+      goes Granted same t root pin task env placed path a here word (Check path) (Tail (Upgrade path small)) refl refl refl refl tt refl fresh (here_known path) (inl refl) (λ z w h. h)
       (record { small = facts.small; at = (fresh.opened, facts.at.1, all_here t path.here a here (SmallWork Granted same small task) work) }) (λ z h. inr (inl h)) (λ z h. h) (λ served. omega (arith, small_short small))
 
   pub goes_large : (pair : NodePair) (a : PlacedNode M) → t pair.here.slot ≡ Some a → a.word ≡ pair.here.word → Facts Granted same t root pin (at (Check (path_to pair)) task) → (large : Large) → LargeWork Granted same large task a
@@ -155,7 +155,7 @@ module _ {M : Type 0} (Granted : Type 0) (same : M → M → Bool) (t : NodeMap 
   goes_large pair a here word facts large work =
       let fresh : IsFreshly task = facts.at.0 in
       let on : OnPath t root pin (key_bytes task) (path_to pair) = facts.at.1 in
-      goes Granted same t root pin task env placed (path_to pair) a here word (Check (path_to pair)) (Tail (UpgradeAbove pair large)) refl refl refl refl tt tt fresh (here_known (path_to pair)) (inl refl) (λ z w h. h)
+      goes Granted same t root pin task env placed (path_to pair) a here word (Check (path_to pair)) (Tail (UpgradeAbove pair large)) refl refl refl refl tt refl fresh (here_known (path_to pair)) (inl refl) (λ z w h. h)
       (record {
         small = facts.small;
         at = (
@@ -303,7 +303,7 @@ module _ {M : Type 0} (Granted : Type 0) (same : M → M → Bool) (t : NodeMap 
         let fresh : IsFreshly task = facts.at.0 in
         let on : OnPath t root pin (key_bytes task) path = facts.at.1 in
         let w : WritesAtKey Granted same task None = writes_new same Granted task fresh stores none_above in
-        goes Granted same t root pin task env placed path a here word (CheckAbove path below false) (Tail (UpgradeAbove (record { above = path.here; here = below }) Split)) refl refl refl refl tt tt fresh (above_known path below facts.at.6) (inr (inl refl)) (step_down path below)
+        goes Granted same t root pin task env placed path a here word (CheckAbove path below false) (Tail (UpgradeAbove (record { above = path.here; here = below }) Split)) refl refl refl refl tt refl fresh (above_known path below facts.at.6) (inr (inl refl)) (step_down path below)
         (record {
           small = facts.small;
           at = (

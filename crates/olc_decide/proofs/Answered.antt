@@ -1,5 +1,5 @@
 -- WHAT A CALL DOES once its closure has answered: it has to write, or the answer is the current value already.
-use Rattle.std.proofs.Common.{◌≡◌, ◌≢◌, ℕ, ◌<◌, Bool, true, false, [], ◌∷◌, Option, Some, None, inl, inr, refl, sym, subst, ap, ◌∙◌, arith}
+use Rattle.std.proofs.Common.{◌≡◌, ◌≢◌, ℕ, ◌+◌, ◌<◌, Bool, true, false, [], ◌∷◌, Option, Some, None, inl, inr, refl, sym, subst, ap, ◌∙◌, arith}
 use Rattle.std.proofs.lemmas.Bool.{eq-eqb}
 use Rattle.spec_map.specs.Map.{Pairs, lookup}
 use Rattle.node_table.specs.declared.child.Child.{Child}
@@ -33,16 +33,16 @@ use Rattle.olc_state.specs.declared.tail.Small.TheVariants.{Entry}
 use Rattle.olc_state.specs.declared.tail.Tail.TheVariants.{Upgrade, UpgradeAbove}
 use Rattle.olc_state.specs.inner.Effects.{HasClosure, IsChange, IsOrInsert, IsReturned, reply_with}
 use Rattle.olc_state.specs.inner.Facts.{Facts, named_at}
-use Rattle.olc_state.specs.inner.Shown.{cursor_at, flight, given_at, held_at, made_at, reach_at, spots_of}
+use Rattle.olc_state.specs.inner.Shown.{cleaning_at, cursor_at, flight, given_at, held_at, made_at, reach_at, spots_of}
 use Rattle.olc_state.specs.inner.Tables.{IsIn, IsPlaced, OnPath, While}
 use Rattle.olc_state.specs.inner.TailFacts.{CaseFacts, IsConfirmed, IsPresent, LargeCase, SmallCase, WaitsForAnswer, WaitsFor, WritesAtKey, found, path_to}
 use Rattle.olc_state.specs.inner.Tails.{case_slots, case_spots, case_work, pair_spots}
 use Rattle.olc_state.specs.inner.Tasks.{IsOpen, closed, key_bytes, restarted}
-use Rattle.olc_state.specs.inner.Turns.{IsRead, MayFollow, ShowsNodes, work_of}
+use Rattle.olc_state.specs.inner.Turns.{IsRead, MayFollow, ShowsNodes, cleanup_work, work_of}
 use Rattle.olc_state.specs.inner.World.{PlacedNode, NodeMap}
 use Rattle.olc_state.proofs.Contents.{kept_there}
 use Rattle.olc_state.proofs.Options.{none_some}
-use Rattle.olc_state.proofs.Records.{IsPlain, at, plain_cursor, plain_given, plain_reach}
+use Rattle.olc_state.proofs.Records.{IsPlain, at, plain_cleaning, plain_cursor, plain_given, plain_reach}
 use Rattle.olc_state.proofs.Ways.{known_linked, present_here}
 use Rattle.olc_descend.proofs.Checks.{ends_changed, restarts}
 use Rattle.olc_descend.proofs.Courses.{holding_as, still_current}
@@ -147,7 +147,7 @@ module _ {M : Type 0} (Granted : Type 0) (same : M → M → Bool) (t : NodeMap 
 
     -- the call goes on
     hears : (c : Case) (next : Stage) → held_at next ≡ [] → made_at next ≡ [] → IsPlain next → WaitsForAnswer Granted same task → Within (spots_of next) (case_spots c) → Facts Granted same t root pin (at next (answered task old answer returns))
-        → ((slot : ℕ) → IsIn slot (named_at next) → IsIn slot (case_slots c)) → ((slot : ℕ) → MayFollow t next task.last slot → ⊥) → work_of t (at next (answered task old answer returns)) < case_work c
+        → ((slot : ℕ) → IsIn slot (named_at next) → IsIn slot (case_slots c)) → ((slot : ℕ) → MayFollow t next task.last slot → ⊥) → work_of t (at next (answered task old answer returns)) < case_work c + cleanup_work task.progress task.outline
         → IsRead Granted same t root pin (at (Answer c) task) env (at next (answered task old answer returns)) (report_of kind.Answer None 0 true) Going
     hears c next held made plain waits within facts names reads falls = record {
       facts = facts;
@@ -163,7 +163,7 @@ module _ {M : Type 0} (Granted : Type 0) (same : M → M → Bool) (t : NodeMap 
       };
       does = λ s id shows.
           subst (λ (z : CallState M). DoesAs Granted same s (with_call s id z) id (flight pin (at (Answer c) task)) env (report_of kind.Answer None 0 true) Going kind.Answer)
-          (holding_as (record (flight pin (at (Answer c) task)) { remembered = spots_of next; asking = Given old answer }) (cursor_at next (key_of task.outline)) (reach_at next (key_of task.outline)) (given_at next) (held_at next) (made_at next) (sym (plain_cursor next plain (key_of task.outline))) (sym (plain_reach next plain (key_of task.outline))) (sym (plain_given next plain)) (sym held) (sym made)) (
+          (holding_as (record (flight pin (at (Answer c) task)) { remembered = spots_of next; asking = Given old answer }) (cursor_at next (key_of task.outline)) (reach_at next (key_of task.outline)) (given_at next) (cleaning_at next) (held_at next) (made_at next) (sym (plain_cursor next plain (key_of task.outline))) (sym (plain_reach next plain (key_of task.outline))) (sym (plain_given next plain)) (sym (plain_cleaning next plain)) (sym held) (sym made)) (
             inl waits.opened.undecided,
             record {
               asked = old;
@@ -228,7 +228,7 @@ module _ {M : Type 0} (Granted : Type 0) (same : M → M → Bool) (t : NodeMap 
 
       puts : IsRead Granted same t root pin (at (Answer (case.Present pair only)) task) env (at (Tail (Upgrade (path_to pair) Entry)) (answered task old answer returns)) (report_of kind.Answer None 0 true) Going
       puts =
-          hears (case.Present pair only) (Tail (Upgrade (path_to pair) Entry)) refl refl tt waits_here (λ z w h. h)
+          hears (case.Present pair only) (Tail (Upgrade (path_to pair) Entry)) refl refl refl waits_here (λ z w h. h)
           (record {
             small = facts.small;
             at = (
@@ -245,7 +245,7 @@ module _ {M : Type 0} (Granted : Type 0) (same : M → M → Bool) (t : NodeMap 
       takes_out : only ≡ true → value_of task.op answer ≡ None
           → IsRead Granted same t root pin (at (Answer (case.Present pair only)) task) env (at (Tail (UpgradeAbove pair Detach)) (answered task old answer returns)) (report_of kind.Answer None 0 true) Going
       takes_out alone none =
-          hears (case.Present pair only) (Tail (UpgradeAbove pair Detach)) refl refl tt waits_here (λ z w h. h)
+          hears (case.Present pair only) (Tail (UpgradeAbove pair Detach)) refl refl refl waits_here (λ z w h. h)
           (record {
             small = facts.small;
             at = (
@@ -282,7 +282,7 @@ module _ {M : Type 0} (Granted : Type 0) (same : M → M → Bool) (t : NodeMap 
     says_small path small facts =
         let waits : WaitsFor Granted same task = facts.at.0 in
         let while : While t path.here (SmallCase Granted same small task) = facts.at.2 in
-        hears (case.Small path small) (Tail (Upgrade path small)) refl refl tt waits.waits (λ z w h. h)
+        hears (case.Small path small) (Tail (Upgrade path small)) refl refl refl waits.waits (λ z w h. h)
         (record {
           small = facts.small;
           at = (
@@ -300,7 +300,7 @@ module _ {M : Type 0} (Granted : Type 0) (same : M → M → Bool) (t : NodeMap 
     says_large pair large facts =
         let waits : WaitsFor Granted same task = facts.at.0 in
         let while : While t pair.here (LargeCase Granted same large task) = facts.at.3 in
-        hears (case.Large pair large) (Tail (UpgradeAbove pair large)) refl refl tt waits.waits (λ z w h. h)
+        hears (case.Large pair large) (Tail (UpgradeAbove pair large)) refl refl refl waits.waits (λ z w h. h)
         (record {
           small = facts.small;
           at = (

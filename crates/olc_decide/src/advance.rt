@@ -11,6 +11,8 @@ use crate::checking::{check, check_above};
 use olc_descend::looking::read;
 use olc_descend::taking::{take_below, take_root};
 use olc_scan::stepping::step;
+use olc_seek::seeking::seek;
+use olc_state::cleanup::{Cleanup, Seek, Tidy};
 use olc_state::scan::Scan;
 use olc_state::stage::{Stage, Task};
 use olc_state::stepped::Stepped;
@@ -29,6 +31,10 @@ pub fn is_at_end(stage: &Stage) -> bool
             Scan::Finish => true,
             _ => false,
         },
+        Stage::Seek(_, seek) => match seek {
+            Seek::Finish => true,
+            _ => false,
+        },
         _ => false,
     }
 }
@@ -45,6 +51,7 @@ pub fn advance<P: HasMeaning>(
     requires facts { KnowsMeant P.always_shared P.same_meaning P.meaning store.now pin
         (record { stage = stage; task = task.old }) }
     requires reads { (tail : Tail) → stage ≢ Stage.Tail tail }
+    requires tidies { (c : Cleanup) (x : Tidy) → stage ≢ Stage.Tidy c x }
     requires goes_on { IsAtEnd stage → ⊥ }
     ensures { ReadsOnly P.always_shared P.same_meaning P.meaning store.now pin
         (record { stage = stage; task = task.old }) env
@@ -59,7 +66,9 @@ pub fn advance<P: HasMeaning>(
         Stage::Answer(case) => answer(store, pin, task, case, env.answer),
         Stage::Confirm(spot) => confirm(store, pin, task, spot),
         Stage::Scan(course, scan) => step(store, pin, task, course, scan, env.torn),
+        Stage::Seek(cleanup, next) => seek(store, pin, task, cleanup, next, env.torn),
         Stage::Tail(_) => unreachable!(),
+        Stage::Tidy(..) => unreachable!(),
         Stage::Finish => unreachable!(),
     }
 }

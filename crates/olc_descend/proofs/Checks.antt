@@ -32,18 +32,18 @@ use Rattle.olc_state.specs.inner.TailFacts.{WaitsForAnswer, WaitsFor, found}
 use Rattle.olc_state.specs.inner.Tails.{case_slots, case_spots, case_work}
 use Rattle.olc_state.specs.inner.Tasks.{IsFreshly, IsOpen, Agrees, Saw, SawNode, MaySee, closed, key_bytes, restarted}
 use Rattle.olc_state.specs.inner.Facts.{Facts, named_at}
-use Rattle.olc_state.specs.inner.Shown.{cursor_at, flight, given_at, held_at, made_at, reach_at, spots_of}
-use Rattle.olc_state.specs.inner.Turns.{IsRead, MayFollow, ShowsNodes, work_of}
+use Rattle.olc_state.specs.inner.Shown.{cleaning_at, cursor_at, flight, given_at, held_at, made_at, reach_at, spots_of}
+use Rattle.olc_state.specs.inner.Turns.{IsRead, MayFollow, ShowsNodes, work, work_of}
 use Rattle.olc_state.specs.inner.World.{PlacedNode, NodeMap}
 use Rattle.olc_state.proofs.Contents.{current_there, kept_now, none_now}
 use Rattle.olc_state.proofs.Options.{none_some, some_same}
 use Rattle.olc_state.proofs.Reaching.{one, seen_at}
 use Rattle.olc_state.proofs.Ways.{check_absent, check_present, check_below, check_mismatch}
 use Rattle.olc_state.proofs.Unlike.{decided_open}
-use Rattle.olc_state.proofs.Records.{IsPlain, at, plain_cursor, plain_given, plain_reach}
+use Rattle.olc_state.proofs.Records.{IsPlain, at, plain_cleaning, plain_cursor, plain_given, plain_reach}
 use Rattle.olc_state.proofs.Replies.{returned_wants}
 use Rattle.olc_descend.proofs.Courses.{forgets, holding_as, plain_as, still_current, below_other, below_not_root, descends}
-use Rattle.olc_descend.proofs.Events.{Within, check_ok, check_fails, looks_on}
+use Rattle.olc_descend.proofs.Events.{Within, check_ok, check_fails, failed_open, looks_on}
 use Rattle.olc_descend.proofs.Spots.{here_known, above_known, step_down}
 use Rattle.olc_descend.proofs.Takes.{restarted_fresh}
 use Rattle.olc_descend.proofs.Unchanged.{Tells, left_tells, left_leads, same_tells, same_leads}
@@ -99,8 +99,8 @@ module _ {M : Type 0} (Granted : Type 0) (same : M → M → Bool) (t : NodeMap 
         (λ served. inl (record { forgotten = refl; work = omega arith }, (λ current calm. other (current path.here.slot path.here.word known a here))));
     does = λ s id shows.
         subst (λ (z : CallState M). DoesAs Granted same s (with_call s id z) id (flight pin (at stage task)) env (report_of kind.Check (Some path.here.slot) 0 false) Going kind.Check)
-        (plain_as stage (key_of task.outline) (back (flight pin (at stage task))) [] [] plain refl (inl refl) refl held made)
-        (check_fails Granted same s id (flight pin (at stage task)) env (inl opened.undecided) path.here.slot path.here.word (one a) (seen_at t root s shows path.here.slot a here) known other);
+        (plain_as stage (key_of task.outline) (back (flight pin (at stage task))) [] [] plain refl (inl refl) refl refl held made)
+        (check_fails Granted same s id (flight pin (at stage task)) env (inl opened.undecided) path.here.slot path.here.word (one a) (seen_at t root s shows path.here.slot a here) known (back (flight pin (at stage task))) (failed_open (flight pin (at stage task)) opened.undecided) other);
     carries = λ s shows m content. refl;
   }
 
@@ -132,9 +132,9 @@ module _ {M : Type 0} (Granted : Type 0) (same : M → M → Bool) (t : NodeMap 
       };
       does = λ s id shows.
           subst (λ (z : CallState M). DoesAs Granted same s (with_call s id z) id (flight pin (at stage task)) env (report_of kind.Check (Some path.here.slot) 0 true) Going kind.Check)
-          (holding_as (record (flight pin (at stage task)) { remembered = spots_of next }) (cursor_at next (key_of task.outline)) (reach_at next (key_of task.outline)) (given_at next) (held_at next) (made_at next)
+          (holding_as (record (flight pin (at stage task)) { remembered = spots_of next }) (cursor_at next (key_of task.outline)) (reach_at next (key_of task.outline)) (given_at next) (cleaning_at next) (held_at next) (made_at next)
           (plain_cursor stage plain (key_of task.outline) ∙ sym (plain_cursor next plain_next (key_of task.outline))) (plain_reach stage plain (key_of task.outline) ∙ sym (plain_reach next plain_next (key_of task.outline)))
-          (plain_given stage plain ∙ sym (plain_given next plain_next)) (held ∙ sym held_next) (made ∙ sym made_next))
+          (plain_given stage plain ∙ sym (plain_given next plain_next)) (plain_cleaning stage plain ∙ sym (plain_cleaning next plain_next)) (held ∙ sym held_next) (made ∙ sym made_next))
           (check_ok Granted same s id (flight pin (at stage task)) env (inl fresh.opened.undecided) path.here.slot path.here.word (one a) (seen_at t root s shows path.here.slot a here) known
           (flight pin (at stage task)) (spots_of next) Going word (looks_on s task.outline (flight pin (at stage task)) (plain_cursor stage plain (key_of task.outline) ∙ sym (plain_reach stage plain (key_of task.outline)))) within);
       carries = λ s shows m content. refl;
@@ -173,13 +173,13 @@ module _ {M : Type 0} (Granted : Type 0) (same : M → M → Bool) (t : NodeMap 
         goes (CheckAbove path below true) (Read (record { above = Some path.here; here = below })) refl refl refl refl tt tt f.0 (above_known path below f.6) (inr (inl refl)) (step_down path below)
         (record { small = facts.small; at = (f.0, record { above = (on.here, on.way, f.2); here = f.4; way = λ (b : PlacedNode M) (h : t below.slot ≡ Some b). (f.5 b h).0 refl; apart = λ (p : Spot) (e : Some path.here ≡ Some p). subst (λ (z : Spot). z.slot ≢ below.slot) (some_same path.here p e) (λ q. f.6 (sym q)) }) })
         (λ z h. elim h [ inl e ↦ inr (inl (inl e)) | inr more ↦ elim more [ inl e ↦ inr (inl (inr (inl e))) | inr never ↦ absurd never ] ])
-        (λ z h. h) (λ served. descends t root placed pin (key_bytes task) path on below.slot f.2 a here word)
+        (λ z h. h) (λ served. let less = descends t root placed pin (key_bytes task) path on below.slot f.2 a here word in omega (arith, less))
 
     -- THE CALL ASKS its closure with what the last Read reported, which is the current value of its key
     pub asks_at : (stage : Stage) (case : Case) (old : Option M) → held_at stage ≡ [] → made_at stage ≡ [] → IsPlain stage → IsFreshly task → lookup (spots_of stage) path.here.slot ≡ Some path.here.word → IsIn path.here.slot (named_at stage)
         → Within (case_spots case) (spots_of stage) → AsksWith task.outline (seen_payload task.last) old → Facts Granted same t root pin (at (Answer case) (asking task old))
         → ((slot : ℕ) → IsIn slot (case_slots case) → (slot ≡ root) ⊎ (IsIn slot (named_at stage) ⊎ MayFollow t stage task.last slot))
-        → (IsPoint task.outline → case_work case < work_of t (at stage task)) → ((s : State M) → ShowsNodes t root s → IsCurrent s (key_of task.outline) old)
+        → (IsPoint task.outline → case_work case < work t task.progress stage) → ((s : State M) → ShowsNodes t root s → IsCurrent s (key_of task.outline) old)
         → IsRead Granted same t root pin (at stage task) env (at (Answer case) (asking task old)) (report_of kind.Check (Some path.here.slot) 0 true) (Ask old)
     asks_at stage case old held made plain fresh known named within asks facts names falls current = record {
       facts = facts;
@@ -191,11 +191,11 @@ module _ {M : Type 0} (Granted : Type 0) (same : M → M → Bool) (t : NodeMap 
         reads = λ z h. absurd h;
         outline = refl;
         keeps = still_current t stage (Answer case) within;
-        falls = λ point. inr (falls point);
+        falls = λ point. inr (let less = falls point in omega (arith, less));
       };
       does = λ s id shows.
           subst (λ (z : CallState M). DoesAs Granted same s (with_call s id z) id (flight pin (at stage task)) env (report_of kind.Check (Some path.here.slot) 0 true) (Ask old) kind.Check)
-          (plain_as stage (key_of task.outline) (record (flight pin (at stage task)) { remembered = case_spots case; asking = Wants old }) [] [] plain refl (inr refl) refl held made)
+          (plain_as stage (key_of task.outline) (record (flight pin (at stage task)) { remembered = case_spots case; asking = Wants old }) [] [] plain refl (inr refl) refl refl held made)
           (check_ok Granted same s id (flight pin (at stage task)) env (inl fresh.opened.undecided) path.here.slot path.here.word (one a) (seen_at t root s shows path.here.slot a here) known
           (record (flight pin (at stage task)) { asking = Wants old }) (case_spots case) (Ask old) word
           (record { undecided = fresh.opened.undecided; fresh = fresh.fresh; is = asks }, current s shows, refl) within);
@@ -215,7 +215,7 @@ module _ {M : Type 0} (Granted : Type 0) (same : M → M → Bool) (t : NodeMap 
         course = forgets t (inr named) (λ z h. h) (λ z h. h) refl refl (λ point. inr (more point));
         does = λ s id shows.
             subst (λ (z : CallState M). DoesAs Granted same s (with_call s id z) id (flight pin (at stage task)) env (report_of kind.Check (Some path.here.slot) 0 true) (Decided reply) kind.Check)
-            (plain_as stage (key_of task.outline) (record (settled progress.Decided (flight pin (at stage task))) { remembered = [] }) [] [] plain refl (inr refl) refl held made)
+            (plain_as stage (key_of task.outline) (record (settled progress.Decided (flight pin (at stage task))) { remembered = [] }) [] [] plain refl (inr refl) refl refl held made)
             (check_ok Granted same s id (flight pin (at stage task)) env (inl settled_so.0.undecided) path.here.slot path.here.word (one a) (seen_at t root s shows path.here.slot a here) known
             (settled progress.Decided (flight pin (at stage task))) [] (Decided reply) word (settled_so.0, settled_so.1, refl) (λ z w h. absurd (none_some w h)));
         carries = λ s shows m content. leads s shows m content;

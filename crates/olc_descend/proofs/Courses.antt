@@ -1,5 +1,5 @@
 -- The stage of a call after an event that writes no node.
-use Rattle.std.proofs.Common.{◌≡◌, ◌≢◌, ◌⊎◌, ℕ, ◌+◌, ◌-◌, ◌*◌, ◌/◌, ◌%◌, ◌<◌, ◌≤◌, Bool, IsTrue, List, [], length, Some, inl, inr, sym, subst, ap, ◌∙◌, arith}
+use Rattle.std.proofs.Common.{◌≡◌, ◌≢◌, ◌⊎◌, ℕ, ◌+◌, ◌-◌, ◌*◌, ◌/◌, ◌%◌, ◌<◌, ◌≤◌, Bool, IsTrue, List, [], length, Option, Some, None, inl, inr, sym, subst, ap, ◌∙◌, arith}
 use Rattle.spec_olc.specs.Lock.{IsFree, IsLocked, IsObsolete}
 use Rattle.spec_map.specs.Map.{lookup, put}
 use Rattle.olc_state.specs.declared.stage.Path.{Path}
@@ -15,8 +15,8 @@ use Rattle.spec_olc.specs.declared.types.Kind.{Kind}
 use Rattle.spec_olc.specs.declared.types.Outcome.{Outcome}
 use Rattle.olc_state.specs.inner.Facts.{named_at}
 use Rattle.olc_state.specs.inner.Tables.{byte_at, IsLinked, IsBelow, IsIn, IsPlaced, LedTo, NeedsHolder, OnPath}
-use Rattle.olc_state.specs.inner.Shown.{cursor_at, given_at, held_at, made_at, reach_at, spots_of}
-use Rattle.olc_state.proofs.Records.{IsPlain, plain_cursor, plain_given, plain_reach}
+use Rattle.olc_state.specs.inner.Shown.{cleaning_at, cursor_at, given_at, held_at, made_at, reach_at, spots_of}
+use Rattle.olc_state.proofs.Records.{IsPlain, plain_cleaning, plain_cursor, plain_given, plain_reach}
 use Rattle.olc_state.specs.inner.Turns.{depth_in, work_of, IsCourse, AllCurrent, IsUndisturbed, MayFollow, StartsOver}
 use Rattle.olc_state.specs.inner.World.{PlacedNode, NodeMap, is_linked}
 use Rattle.olc_state.proofs.Options.{none_some, some_same}
@@ -30,22 +30,23 @@ neither word locked obsolete =
     let l : word / 2 % 2 ≢ 1 = locked in
     let o : word % 2 ≢ 1 = obsolete in omega arith
 
--- a call with this cursor, reach and count, these locked nodes and these private nodes
-pub holding_as : {M : Type 0} (call : CallState M) (cursor reach given : ℕ) (held made : List ℕ) → call.cursor ≡ cursor → call.reach ≡ reach → call.given ≡ given → call.held ≡ held → call.made ≡ made
-    → call ≡ record call { cursor = cursor; reach = reach; given = given; held = held; made = made }
-holding_as call cursor reach given held made c r g h m =
+-- a call with this cursor, reach and count, this cleanup, these locked nodes and these private nodes
+pub holding_as : {M : Type 0} (call : CallState M) (cursor reach given : ℕ) (cleaning : Option ℕ) (held made : List ℕ) → call.cursor ≡ cursor → call.reach ≡ reach → call.given ≡ given → call.cleaning ≡ cleaning → call.held ≡ held → call.made ≡ made
+    → call ≡ record call { cursor = cursor; reach = reach; given = given; cleaning = cleaning; held = held; made = made }
+holding_as call cursor reach given cleaning held made c r g l h m =
     ap (λ (x : ℕ). record call { cursor = x }) c
     ∙ (ap (λ (x : ℕ). record call { cursor = cursor; reach = x }) r
     ∙ (ap (λ (x : ℕ). record call { cursor = cursor; reach = reach; given = x }) g
-    ∙ (ap (λ (x : List ℕ). record call { cursor = cursor; reach = reach; given = given; held = x }) h
-    ∙ ap (λ (x : List ℕ). record call { cursor = cursor; reach = reach; given = given; held = held; made = x }) m)))
+    ∙ (ap (λ (x : Option ℕ). record call { cursor = cursor; reach = reach; given = given; cleaning = x }) l
+    ∙ (ap (λ (x : List ℕ). record call { cursor = cursor; reach = reach; given = given; cleaning = cleaning; held = x }) h
+    ∙ ap (λ (x : List ℕ). record call { cursor = cursor; reach = reach; given = given; cleaning = cleaning; held = held; made = x }) m))))
 
--- the same of one at a stage of a point call
-pub plain_as : {M : Type 0} (stage : Stage) (key : ℕ) (call : CallState M) (held made : List ℕ) → IsPlain stage → call.cursor ≡ cursor_at stage key → (call.reach ≡ cursor_at stage key) ⊎ (call.reach ≡ reach_at stage key) → call.given ≡ given_at stage → call.held ≡ held → call.made ≡ made
-    → call ≡ record call { cursor = key; reach = key; given = 0; held = held; made = made }
-plain_as stage key call held made plain c r g h m =
-    holding_as call key key 0 held made (c ∙ plain_cursor stage plain key)
-    (elim r [ inl e ↦ e ∙ plain_cursor stage plain key | inr e ↦ e ∙ plain_reach stage plain key ]) (g ∙ plain_given stage plain) h m
+-- the same of one at a stage of a point call that doesn't clean up
+pub plain_as : {M : Type 0} (stage : Stage) (key : ℕ) (call : CallState M) (held made : List ℕ) → IsPlain stage → call.cursor ≡ cursor_at stage key → (call.reach ≡ cursor_at stage key) ⊎ (call.reach ≡ reach_at stage key) → call.given ≡ given_at stage → call.cleaning ≡ cleaning_at stage → call.held ≡ held → call.made ≡ made
+    → call ≡ record call { cursor = key; reach = key; given = 0; cleaning = None; held = held; made = made }
+plain_as stage key call held made plain c r g l h m =
+    holding_as call key key 0 None held made (c ∙ plain_cursor stage plain key)
+    (elim r [ inl e ↦ e ∙ plain_cursor stage plain key | inr e ↦ e ∙ plain_reach stage plain key ]) (g ∙ plain_given stage plain) (l ∙ plain_cleaning stage plain) h m
 
 -- no node is locked or private
 abbrev pub NoneHeld : {M : Type 0} → NodeMap M → Type 0
@@ -77,7 +78,7 @@ module _ {M : Type 0} (t : NodeMap M) where
   -- the course of an event at a slot, after which the call names no slot and remembers no word
   pub forgets : {root : ℕ} {call next : Record M} {env : Env M} {k : Kind} {slot word : ℕ} {ok : Bool} {out : Outcome M} → (slot ≡ root) ⊎ IsIn slot (named_at call.stage)
       → ((z : ℕ) → IsIn z (named_at next.stage) → ⊥) → ((z : ℕ) → MayFollow t next.stage next.task.last z → ⊥) → spots_of next.stage ≡ [] → next.task.outline ≡ call.task.outline
-      → (IsPoint call.task.outline → (StartsOver t next × (AllCurrent t call.stage → IsUndisturbed t call.stage env k → ⊥)) ⊎ (work_of t next < work_of t call))
+      → (IsPoint call.task.outline → (StartsOver t t call next × (AllCurrent t call.stage → IsUndisturbed t call.stage env k → ⊥)) ⊎ (work_of t next < work_of t call))
       → IsCourse t t root call env next (report_of k (Some slot) word ok) out
   forgets {root = root} {call = call} {slot = slot} known names reads remembered outline falls = record {
     touches = λ z e make. subst (λ (x : ℕ). (x ≡ root) ⊎ IsIn x (named_at call.stage)) (some_same slot z e) known;

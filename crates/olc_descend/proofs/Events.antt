@@ -1,10 +1,10 @@
 -- That the events that write no node are events of their kinds.
-use Rattle.std.proofs.Common.{◌≡◌, ◌≢◌, ℕ, Bool, true, false, IsTrue, if◌then◌else◌, ◌↔◌, List, [], Some, inl, refl, arith}
+use Rattle.std.proofs.Common.{◌≡◌, ◌≢◌, ℕ, Bool, true, false, IsTrue, if◌then◌else◌, ◌↔◌, List, [], Some, inl, refl, subst, ap, arith}
 use Rattle.spec_map.proofs.MapLaws.{lookup-put_same}
 use Rattle.spec_map.specs.Map.{lookup, put}
 use Rattle.node_table.specs.declared.child.Child.TheVariants.{Payload}
 use Rattle.spec_olc.specs.Calls.{Outline}
-use Rattle.spec_olc.specs.Kinds.{NextIs, DoesAs, CheckOutcome, IsAtWork, Remembered, report_of}
+use Rattle.spec_olc.specs.Kinds.{NextIs, DoesAs, CheckOutcome, IsAtWork, Remembered, failed, report_of, stopped}
 use Rattle.spec_olc.specs.Local.{SharesNone, SeesPayloads}
 use Rattle.spec_olc.specs.Reading.{IsReading, LooksOn, child_for}
 use Rattle.spec_olc.specs.State.{State, VersionedNode, CallState, with_call, back, settled}
@@ -13,6 +13,7 @@ use Rattle.spec_olc.specs.declared.types.Kind.TheVariants as kind
 use Rattle.spec_olc.specs.declared.types.Op.TheVariants.{Range}
 use Rattle.spec_olc.specs.declared.types.Outcome.{Outcome}
 use Rattle.spec_olc.specs.declared.types.Outcome.TheVariants.{Going, Refused}
+use Rattle.spec_olc.specs.declared.types.Progress.{Progress}
 use Rattle.spec_olc.specs.declared.types.Progress.TheVariants as progress
 use Rattle.spec_olc.specs.declared.types.Report.{Report}
 use Rattle.spec_olc.specs.declared.types.Seen.{Seen}
@@ -29,6 +30,13 @@ not_by f = ((λ e. absurd (false_true e)), (λ q. absurd (f q)))
 
 pub is_by : {Q : Type 0} → Q → (IsTrue true ↔ Q)
 is_by q = ((λ e. q), (λ x. refl))
+
+-- a call that has failed goes back to the root if it has no reply; else it cleans up no more
+pub failed_open : {M : Type 0} (call : CallState M) → call.progress ≡ progress.Open → failed call.progress call ≡ back call
+failed_open call undecided = ap (λ (p : Progress). failed p call) undecided
+
+pub failed_decided : {M : Type 0} (call : CallState M) → call.progress ≡ progress.Decided → failed call.progress call ≡ stopped (back call)
+failed_decided call decided = ap (λ (p : Progress). failed p call) decided
 
 -- the words of the first are among those of the second
 abbrev pub Within : List (ℕ × ℕ) → List (ℕ × ℕ) → Type 0
@@ -49,18 +57,28 @@ module _ {M : Type 0} (Granted : Type 0) (same : M → M → Bool) (s : State M)
 
   -- after a Take
   abbrev taken : ℕ → VersionedNode M → Bool → CallState M
-  taken slot a ok = if ok then (record call { remembered = put call.remembered slot a.word }) else back call
+  taken slot a ok = if ok then (record call { remembered = put call.remembered slot a.word }) else failed call.progress call
 
   remembers : (slot : ℕ) (a : VersionedNode M) (ok : Bool) → IsTrue ok → lookup (taken slot a ok).remembered slot ≡ Some a.word
   remembers slot a true e = lookup-put_same call.remembered slot a.word
   remembers slot a false e = absurd (false_true e)
 
-  pub take : (slot : ℕ) (a : VersionedNode M) (ok : Bool) → lookup s.nodes slot ≡ Some a → (slot ≡ s.root → call ≡ back call) → (call.remembered ≡ [] → slot ≡ s.root) → (IsTrue ok ↔ IsFree a.word)
+  taken_so : (slot : ℕ) (a : VersionedNode M) (ok : Bool) → lookup s.nodes slot ≡ Some a → (slot ≡ s.root → call ≡ back call) → (call.remembered ≡ [] → slot ≡ s.root) → (IsTrue ok ↔ IsFree a.word)
       → Does (taken slot a ok) (report_of kind.Take (Some slot) a.word ok) Going
-  take slot a ok here anew first free = (
+  taken_so slot a ok here anew first free = (
     work,
     record { slot = slot; node = a; here = here; anew = anew; first = first; reports = (refl, refl); ok = free; becomes = becomes_all (taken slot a ok); remembers = remembers slot a ok },
   )
+
+  pub take : (slot : ℕ) (a : VersionedNode M) → lookup s.nodes slot ≡ Some a → (slot ≡ s.root → call ≡ back call) → (call.remembered ≡ [] → slot ≡ s.root) → IsFree a.word
+      → Does (record call { remembered = put call.remembered slot a.word }) (report_of kind.Take (Some slot) a.word true) Going
+  take slot a here anew first free = taken_so slot a true here anew first (is_by free)
+
+  -- a Take that fails
+  pub take_fails : (next : CallState M) → failed call.progress call ≡ next → (slot : ℕ) (a : VersionedNode M) → lookup s.nodes slot ≡ Some a → (slot ≡ s.root → call ≡ back call) → (call.remembered ≡ [] → slot ≡ s.root) → (IsFree a.word → ⊥)
+      → Does next (report_of kind.Take (Some slot) a.word false) Going
+  take_fails next is slot a here anew first locked =
+      subst (λ (n : CallState M). Does n (report_of kind.Take (Some slot) a.word false) Going) is (taken_so slot a false here anew first (not_by locked))
 
   module _ (slot word : ℕ) (a : VersionedNode M) (here : lookup s.nodes slot ≡ Some a) (known : lookup call.remembered slot ≡ Some word) where
     abbrev knows : {new : State M} {report : Report} {out : Outcome M} → Remembered Granted same s new id call env report out
@@ -74,10 +92,10 @@ module _ {M : Type 0} (Granted : Type 0) (same : M → M → Bool) (s : State M)
       record { knows = knows; planned = planned; is = refl; ok = is_by at_key; passes = λ e. finds; fails = λ e. absurd (true_false e); becomes = becomes planned remembered within },
     )
 
-    pub check_fails : a.word ≢ word → Does (back call) (report_of kind.Check (Some slot) 0 false) Going
-    check_fails other = (
+    pub check_fails : (next : CallState M) → failed call.progress call ≡ next → a.word ≢ word → Does next (report_of kind.Check (Some slot) 0 false) Going
+    check_fails next is other = subst (λ (n : CallState M). Does n (report_of kind.Check (Some slot) 0 false) Going) is (
       work,
-      record { knows = knows; planned = back call; is = refl; ok = not_by other; passes = λ e. absurd (false_true e); fails = λ e. (refl, refl); becomes = becomes_all (back call) },
+      record { knows = knows; planned = failed call.progress call; is = refl; ok = not_by other; passes = λ e. absurd (false_true e); fails = λ e. (refl, refl); becomes = becomes_all (failed call.progress call) },
     )
 
     pub read_whole : (seen : Seen M) → a.word ≡ word → IsReading (SeesPayloads Granted same call) call a.node seen

@@ -16,6 +16,7 @@ use Rattle.spec_olc.specs.declared.types.Env.{Env}
 use Rattle.spec_olc.specs.declared.types.Kind.TheVariants as kind
 use Rattle.spec_olc.specs.declared.types.Outcome.{Outcome}
 use Rattle.spec_olc.specs.declared.types.Outcome.TheVariants.{Going, Refused}
+use Rattle.spec_olc.specs.declared.types.Progress.{Progress}
 use Rattle.spec_olc.specs.declared.types.Seen.{Seen}
 use Rattle.olc_state.specs.declared.stage.Path.{Path}
 use Rattle.olc_state.specs.declared.stage.Record.{Record}
@@ -27,7 +28,7 @@ use Rattle.olc_state.specs.inner.Tasks.{Agrees}
 use Rattle.olc_state.specs.inner.Facts.{Facts}
 use Rattle.olc_state.specs.inner.Meant.{meant_node}
 use Rattle.olc_state.specs.inner.Shown.{flight}
-use Rattle.olc_state.specs.inner.Turns.{IsCourse, IsRead}
+use Rattle.olc_state.specs.inner.Turns.{IsCourse, IsRead, cleanup_work}
 use Rattle.olc_state.specs.inner.World.{PlacedNode, NodeMap}
 use Rattle.olc_state.proofs.Options.{none_some, some_same}
 use Rattle.olc_state.proofs.Reaching.{one, seen_at}
@@ -123,14 +124,16 @@ module _ {M : Type 0} (Granted : Type 0) (same : M → M → Bool) (a : TableNod
 module _ {M : Type 0} (Granted : Type 0) (same : M → M → Bool) (t : NodeMap M) (root pin : ℕ) (task : Task M) (env : Env M) (placed : IsPlaced t root) (path : Path) (a : PlacedNode M)
     (here : t path.here.slot ≡ Some a) (facts : Facts Granted same t root pin (at (Read path) task)) where
   -- the call knows the slots and words that it knew before
-  read_course : (next : Task M) (out : Outcome M) → next.outline ≡ task.outline → IsCourse t t root (at (Read path) task) env (at (Check path) next) (report_of kind.Read (Some path.here.slot) 0 true) out
-  read_course next out same = record {
+  read_course : (next : Task M) (out : Outcome M) → next.outline ≡ task.outline → next.progress ≡ task.progress → IsCourse t t root (at (Read path) task) env (at (Check path) next) (report_of kind.Read (Some path.here.slot) 0 true) out
+  read_course next out same progressed = record {
     touches = λ z e make. inr (inl (some_same path.here.slot z e));
     names = λ z h. inr (inl h);
     reads = λ z h. refl;
     outline = same;
     keeps = still_current t (Read path) (Check path) (λ z w h. h);
-    falls = λ served. inr (omega arith);
+    falls = λ served. inr (
+        let alike : cleanup_work next.progress next.outline ≡ cleanup_work task.progress task.outline = ap (λ (o : Outline). cleanup_work next.progress o) same ∙ ap (λ (p : Progress). cleanup_work p task.outline) progressed in
+        omega (arith, alike));
   }
 
   pub torn_read : (torn : Seen M) → env.torn ≡ torn → a.word ≢ path.here.word
@@ -150,7 +153,7 @@ module _ {M : Type 0} (Granted : Type 0) (same : M → M → Bool) (t : NodeMap 
         };
         held = refl;
         made = refl;
-        course = read_course _ _ refl;
+        course = read_course _ _ refl refl;
         does = λ s id shows. read_torn Granted same s id (flight pin (at (Read path) task)) env (inl f.0.opened.undecided) path.here.slot path.here.word (one a) (seen_at t root s shows path.here.slot a here) (here_known path) other;
         carries = λ s shows m content. refl;
       })
@@ -183,7 +186,7 @@ module _ {M : Type 0} (Granted : Type 0) (same : M → M → Bool) (t : NodeMap 
           };
           held = refl;
           made = refl;
-          course = read_course _ _ refl;
+          course = read_course _ _ refl refl;
           does = λ s id shows. read_whole Granted same s id (flight pin (at (Read path) task)) env (inl f.0.opened.undecided) path.here.slot path.here.word (one a) (seen_at t root s shows path.here.slot a here) (here_known path)
               seen word (record { child = looks.child; count = looks.count; full = looks.full });
           carries = λ s shows m content. refl;

@@ -30,7 +30,7 @@ use Rattle.olc_state.proofs.Reaching.{one, seen_at}
 use Rattle.olc_state.proofs.Records.{IsPlain, at}
 use Rattle.olc_state.proofs.Replies.{returned_fresh}
 use Rattle.olc_descend.proofs.Courses.{NoneHeld, forgets, none_held, plain_as, taken_current, root_free, below_free}
-use Rattle.olc_descend.proofs.Events.{take, not_by, is_by}
+use Rattle.olc_descend.proofs.Events.{failed_open, take, take_fails}
 
 abbrev pub top_path : ℕ → ℕ → Path
 top_path root word = record { above = None; here = record { slot = root; word = word } }
@@ -91,7 +91,7 @@ module _ {M : Type 0} (Granted : Type 0) (same : M → M → Bool) (t : NodeMap 
           keeps = taken_current t TakeRoot (Read (top_path root a.word)) root a here refl;
           falls = λ served. inr (omega arith);
         };
-        does = λ s id shows. take Granted same s id (flight pin (at TakeRoot task)) env (inl f.0.opened.undecided) root (one a) true (seen_at t root s shows root a here) (λ e. is_new f.0 f.1) (λ e. sym shows.root_is) (is_by free);
+        does = λ s id shows. take Granted same s id (flight pin (at TakeRoot task)) env (inl f.0.opened.undecided) root (one a) (seen_at t root s shows root a here) (λ e. is_new f.0 f.1) (λ e. sym shows.root_is) free;
         carries = λ s shows m content. refl;
       }
 
@@ -111,8 +111,8 @@ module _ {M : Type 0} (Granted : Type 0) (same : M → M → Bool) (t : NodeMap 
             (λ served. inl (record { forgotten = refl; work = omega arith }, (λ current calm. free (frees current (none_held t stage env held made calm)))));
         does = λ s id shows.
             subst (λ (z : CallState M). DoesAs Granted same s (with_call s id z) id (flight pin (at stage task)) env (report_of kind.Take (Some slot) a.word false) Going kind.Take)
-            (plain_as stage (key_of task.outline) (back (flight pin (at stage task))) [] [] plain refl (inl refl) refl held made)
-            (take Granted same s id (flight pin (at stage task)) env (inl fresh.opened.undecided) slot (one a) false (seen_at t root s shows slot a here) (anew s shows) (first s shows) (not_by free));
+            (plain_as stage (key_of task.outline) (back (flight pin (at stage task))) [] [] plain refl (inl refl) refl refl held made)
+            (take_fails Granted same s id (flight pin (at stage task)) env (inl fresh.opened.undecided) (back (flight pin (at stage task))) (failed_open (flight pin (at stage task)) fresh.opened.undecided) slot (one a) (seen_at t root s shows slot a here) (anew s shows) (first s shows) free);
         carries = λ s shows m content. refl;
       }
 
@@ -153,8 +153,8 @@ module _ {M : Type 0} (Granted : Type 0) (same : M → M → Bool) (t : NodeMap 
           keeps = taken_current t (TakeBelow path slot) (CheckAbove path below fits) slot a here refl;
           falls = λ served. inr (omega arith);
         };
-        does = λ s id shows. take Granted same s id (flight pin (at (TakeBelow path slot) task)) env (inl f.0.opened.undecided) slot (one a) true (seen_at t root s shows slot a here)
-            (λ e. absurd (f.5 (e ∙ shows.root_is))) (λ e. absurd (path_known path e)) (is_by free);
+        does = λ s id shows. take Granted same s id (flight pin (at (TakeBelow path slot) task)) env (inl f.0.opened.undecided) slot (one a) (seen_at t root s shows slot a here)
+            (λ e. absurd (f.5 (e ∙ shows.root_is))) (λ e. absurd (path_known path e)) free;
         carries = λ s shows m content. refl;
       }
 

@@ -6,7 +6,7 @@ use Rattle.spec_map.specs.Map.{Pairs, IsMap, Rises, lookup, put, with_answer}
 use Rattle.spec_map.specs.Legal.{reply_of}
 use Rattle.spec_olc.specs.Calls.{Outline, key_of, map_call, map_reply, map_asked, asked_of}
 use Rattle.spec_olc.specs.Deciding.{AppliesCall}
-use Rattle.spec_olc.specs.Local.{IsLocal, LeavesAll, only_at, seen_map, seen_payload}
+use Rattle.spec_olc.specs.Local.{IsLocal, LeavesAll, SeesPayloads, SharesNone, only_at, seen_map, seen_payload}
 use Rattle.spec_olc.specs.State.{CallState}
 use Rattle.spec_olc.specs.declared.types.Asking.TheVariants.{Fresh}
 use Rattle.spec_olc.specs.declared.types.Reply.{Reply}
@@ -16,7 +16,7 @@ use Rattle.olc_state.specs.inner.Effects.{IsChange, IsLeft, reply_with}
 use Rattle.olc_state.specs.inner.Shown.{cursor_at, flight}
 use Rattle.olc_state.specs.inner.Tasks.{IsOpen, MaySee}
 use Rattle.olc_state.proofs.Reaching.{lookup-inside}
-use Rattle.olc_state.proofs.Records.{IsPlain, at, plain_cursor}
+use Rattle.olc_state.proofs.Records.{IsPlain, at, plain_cleaning, plain_cursor}
 use Rattle.olc_state.proofs.Replies.{alone_there, key_is, change_point, change_asked, change_replied, change_after, left_point, left_asked, left_replied, left_after}
 
 -- MAPS: to put the current value of a key again leaves the map unchanged
@@ -57,6 +57,10 @@ module _ {M : Type 0} (Granted : Type 0) (same : M → M → Bool) (pin : ℕ) (
       subst (λ (k : ℕ). lookup (only_at k (seen_payload task.last)) (key_of opened.op) ≡ at_key) (sym (plain_cursor stage plain (key_of task.outline)))
       (there_same (only_at (key_of task.outline) (seen_payload task.last)) (alone_there (key_of task.outline) (seen_payload task.last) ∙ seen))
 
+  -- it sees what its kind sees
+  may_see : SeesPayloads Granted same (flight pin (at stage task)) → MaySee Granted same task
+  may_see sees = subst (λ (c : Option ℕ). SharesNone task.outline c → Granted) (plain_cleaning stage plain) sees
+
   -- IT CHANGES NOTHING
   module _ (reply : Reply M) (fresh : task.asking ≡ Fresh) (left : IsLeft same opened.op at_key reply) where
     pub left_tells : (MaySee Granted same task → seen_payload task.last ≡ at_key) → Tells Granted same (flight pin (at stage task)) reply
@@ -66,10 +70,10 @@ module _ {M : Type 0} (Granted : Type 0) (same : M → M → Bool) (pin : ℕ) (
         op_is = opened.op_is;
         undecided = opened.undecided;
         point = left_point same opened.op at_key reply left;
-        asked = λ sees. left_asked same (seen_map (flight pin (at stage task))) opened.op task.asking at_key reply fresh left (seen_alone (seen sees));
-        reply = λ sees. left_replied same (seen_map (flight pin (at stage task))) opened.op task.asking at_key reply fresh left (seen_alone (seen sees));
+        asked = λ sees. left_asked same (seen_map (flight pin (at stage task))) opened.op task.asking at_key reply fresh left (seen_alone (seen (may_see sees)));
+        reply = λ sees. left_replied same (seen_map (flight pin (at stage task))) opened.op task.asking at_key reply fresh left (seen_alone (seen (may_see sees)));
       },
-      (λ sees. left_after same (seen_map (flight pin (at stage task))) opened.op task.asking at_key reply fresh left (seen_alone (seen sees)) (λ k none. without-absent (seen_map (flight pin (at stage task))) k none)),
+      (λ sees. left_after same (seen_map (flight pin (at stage task))) opened.op task.asking at_key reply fresh left (seen_alone (seen (may_see sees))) (λ k none. without-absent (seen_map (flight pin (at stage task))) k none)),
     )
 
     pub left_leads : (m : Pairs M) → lookup m (key_of task.outline) ≡ at_key → AppliesCall same m m (flight pin (at stage task)) reply
@@ -96,12 +100,12 @@ module _ {M : Type 0} (Granted : Type 0) (same : M → M → Bool) (pin : ℕ) (
         op_is = opened.op_is;
         undecided = opened.undecided;
         point = change_point same opened.op task.asking at_key at_key change;
-        asked = λ sees. change_asked same (seen_map (flight pin (at stage task))) opened.op task.asking at_key at_key change (seen_alone (seen sees));
-        reply = λ sees. same_reply (seen_map (flight pin (at stage task))) (seen_alone (seen sees));
+        asked = λ sees. change_asked same (seen_map (flight pin (at stage task))) opened.op task.asking at_key at_key change (seen_alone (seen (may_see sees)));
+        reply = λ sees. same_reply (seen_map (flight pin (at stage task))) (seen_alone (seen (may_see sees)));
       },
       (λ sees.
-          change_after same (seen_map (flight pin (at stage task))) opened.op task.asking at_key at_key change (seen_alone (seen sees))
-          ∙ answer_again (cursor_at stage (key_of task.outline)) (cursor_at stage (key_of task.outline) + 1) (seen_map (flight pin (at stage task))) (key_of opened.op) at_key (alone_rises (cursor_at stage (key_of task.outline)) (seen_payload task.last)) (seen_alone (seen sees))),
+          change_after same (seen_map (flight pin (at stage task))) opened.op task.asking at_key at_key change (seen_alone (seen (may_see sees)))
+          ∙ answer_again (cursor_at stage (key_of task.outline)) (cursor_at stage (key_of task.outline) + 1) (seen_map (flight pin (at stage task))) (key_of opened.op) at_key (alone_rises (cursor_at stage (key_of task.outline)) (seen_payload task.last)) (seen_alone (seen (may_see sees)))),
     )
 
     pub same_leads : (m : Pairs M) → IsMap m → lookup m (key_of task.outline) ≡ at_key → AppliesCall same m m (flight pin (at stage task)) (reply_with task.outline at_key task.returns)

@@ -70,8 +70,8 @@ pub fn take_below<P: HasMeaning>(
     }
 }
 
-// Whether a node's prefix begins the key.
-fn is_on_path<P: Drop>(node: &TreeNode<P>, key: u64) -> bool
+/// Whether a node's prefix begins the key.
+pub fn is_on_path<P: Drop>(node: &TreeNode<P>, key: u64) -> bool
     ensures { IsTrue result ↔ Begins node.now.prefix (bytes_of key) }
 {
     let bytes = key.to_be_bytes();

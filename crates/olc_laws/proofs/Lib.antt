@@ -9,6 +9,7 @@ pub mod Making
 pub mod Maps
 pub mod Pairs
 pub mod Prefixes
+pub mod Shrinking
 pub mod Slots
 pub mod Splitting
 pub mod TreeCopies

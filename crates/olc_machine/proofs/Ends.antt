@@ -4,17 +4,18 @@ use Rattle.spec_olc.specs.Calls.{key_of, outline_of}
 use Rattle.spec_olc.specs.Kinds.{MayEnd, begun}
 use Rattle.spec_olc.specs.declared.types.Op.{Op}
 use Rattle.spec_olc.specs.declared.types.Op.TheVariants.{Range}
+use Rattle.olc_state.specs.declared.cleanup.Seek.TheVariants as seek
 use Rattle.olc_state.specs.declared.scan.Scan.TheVariants as scan
 use Rattle.olc_state.specs.declared.stage.Record.{Record}
 use Rattle.olc_state.specs.declared.stage.Stage.{Stage}
-use Rattle.olc_state.specs.declared.stage.Stage.TheVariants.{Tail, Scan, Finish}
+use Rattle.olc_state.specs.declared.stage.Stage.TheVariants.{Tail, Scan, Finish, Seek, Tidy}
 use Rattle.olc_state.specs.declared.stage.Task.{Task}
 use Rattle.olc_state.specs.inner.Facts.{FactsAt}
 use Rattle.olc_state.specs.inner.Scans.{BeginsAt, IsAtEnd}
 use Rattle.olc_state.specs.inner.Shown.{flight, held_at, made_at}
 use Rattle.olc_state.specs.inner.World.{NodeMap}
 use Rattle.olc_state.proofs.Replies.{returned_first}
-use Rattle.olc_state.proofs.Unlike.{refused_open}
+use Rattle.olc_state.proofs.Unlike.{refused_open, decided_open}
 use Rattle.olc_machine.specs.inner.Inside.{begun_task}
 
 -- a call that begins holds no node, and neither does one at its end
@@ -27,6 +28,7 @@ begun_holds op at first = subst (λ (s : Stage). held_at s ≡ []) (sym first) r
 
 pub end_holds : (at : Stage) → IsAtEnd at → (held_at at ≡ []) × (made_at at ≡ [])
 end_holds (Tail tail) is = absurd is
+end_holds (Tidy c x) is = absurd is
 end_holds at is = (refl, refl)
 
 module _ {M : Type 0} where
@@ -59,4 +61,5 @@ module _ {M : Type 0} where
       | inl refused ↦ inl (λ e. refused_open (sym refused ∙ e))
       | inr all ↦ inr all.1
     ]
+    end_may task (Seek c seek.Finish) is f = inl (λ e. decided_open (sym f.decided ∙ e))
     end_may task at is f = absurd is

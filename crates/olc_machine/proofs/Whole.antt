@@ -3,7 +3,7 @@ use Rattle.std.proofs.Common.{◌≡◌, ℕ, ◌<◌, ◌≤◌, ◌^◌, Bool,
 use Rattle.std.proofs.lemmas.Bool.{cases_lt}
 use Rattle.spec_map.specs.Map.{lookup}
 use Rattle.spec_map.proofs.JoinLaws.{lookup-above}
-use Rattle.spec_olc.specs.State.{CallState, State}
+use Rattle.spec_olc.specs.State.{CallState}
 use Rattle.spec_olc.specs.declared.types.Op.TheVariants.{Range}
 use Rattle.spec_olc.specs.declared.types.Progress.TheVariants.{Open}
 use Rattle.olc_words.specs.Epoch.{pin_of}
@@ -18,28 +18,36 @@ use Rattle.olc_state.specs.declared.tail.Case.{Case}
 use Rattle.olc_state.specs.declared.tail.Case.TheVariants as case
 use Rattle.olc_state.specs.declared.tail.Tail.{Tail}
 use Rattle.olc_state.specs.declared.tail.Tail.TheVariants as tail
-use Rattle.olc_state.specs.inner.Facts.{Facts, FactsAt, IsSoundWorld}
+use Rattle.olc_state.specs.inner.Facts.{FactsAt, IsSoundWorld}
 use Rattle.olc_state.specs.inner.Scans.{HasOp, IsRanging, ScanFacts}
 use Rattle.olc_state.specs.inner.Shown.{flight, flight_in, state_of}
 use Rattle.olc_state.specs.inner.TailFacts.{CaseFacts, TailFacts}
-use Rattle.olc_state.specs.inner.Tasks.{IsOpen}
+use Rattle.olc_state.specs.declared.cleanup.Seek.TheVariants as seek
+use Rattle.olc_state.specs.declared.cleanup.Tidy.TheVariants as tidy
+use Rattle.olc_state.specs.inner.Tasks.{CleansUp, IsOpen}
 use Rattle.olc_state.specs.inner.World.{World, NodeMap, table_of, record_of}
 use Rattle.olc_state.proofs.Options.{none_some, some_same}
 use Rattle.olc_state.proofs.States.{shown_flight, flights_map}
-use Rattle.olc_state.proofs.Unlike.{refused_open}
+use Rattle.olc_state.proofs.Unlike.{decided_open, refused_open}
 use Rattle.olc_machine.specs.Whole.{HasItsOp, AllHaveTheirOps}
+use Rattle.olc_state.specs.declared.cleanup.Cleanup.{Cleanup}
 
 module _ {M : Type 0} (Granted : Type 0) (same : M → M → Bool) where
   module _ (t : NodeMap M) (root pin : ℕ) (task : Task M) (going : task.progress ≡ Open) where
     has : IsOpen task → HasOp task
     has o = (o.op, o.op_is, o.outline)
 
+    -- a call that cleans up has its reply
+    cleaning : {c : Cleanup} → CleansUp task c → ⊥
+    cleaning up = decided_open (sym up.decided ∙ going)
+
     at_tail : (x : Tail) → TailFacts Granted same t root pin task x → IsOpen task
     at_tail (tail.Upgrade path small) f = f.0
     at_tail (tail.Write spot) f = f.work.writes.opened
     at_tail (tail.MakeLeaf spot) f = f.work.writes.opened
     at_tail (tail.Link spot leaf) f = f.0.work.writes.opened
-    at_tail (tail.Unlock spot) f = elim f.1 [ inl o ↦ o | inr over ↦ absurd (over going) ]
+    at_tail (tail.Unlock spot None) f = elim f.1 [ inl o ↦ o | inr over ↦ absurd (over going) ]
+    at_tail (tail.Unlock spot (Some c)) f = absurd (cleaning f.1)
     at_tail (tail.UpgradeAbove pair large) f = f.0.opened
     at_tail (tail.UpgradeBelow pair large) f = f.0.opened
     at_tail (tail.MakeLeafBelow pair large) f = f.0.work.writes.opened
@@ -48,7 +56,8 @@ module _ {M : Type 0} (Granted : Type 0) (same : M → M → Bool) where
     at_tail (tail.Replace pair copy leaf) f = f.0.work.writes.opened
     at_tail (tail.Insert pair middle leaf) f = f.0.work.writes.opened
     at_tail (tail.Detach pair) f = f.work.writes.opened
-    at_tail (tail.Obsolete pair) f = absurd (f.0 going)
+    at_tail (tail.Obsolete pair None) f = absurd (f.0 going)
+    at_tail (tail.Obsolete pair (Some c)) f = absurd (cleaning f.0)
     at_tail (tail.UnlockBelow pair) f = absurd (f.0 going)
 
     at_case : (x : Case) → CaseFacts Granted same t root pin task x → IsOpen task
@@ -80,6 +89,18 @@ module _ {M : Type 0} (Granted : Type 0) (same : M → M → Bool) where
     opened_at (stage.Confirm spot) f = has f.0
     opened_at (stage.Tail x) f = has (at_tail x f)
     opened_at (stage.Scan course x) f = at_scan course x f
+    opened_at (stage.Seek c seek.TakeRoot) f = absurd (cleaning f.0)
+    opened_at (stage.Seek c (seek.Read path)) f = absurd (cleaning f.cleans)
+    opened_at (stage.Seek c (seek.Check path)) f = absurd (cleaning f.0.cleans)
+    opened_at (stage.Seek c (seek.TakeBelow path slot)) f = absurd (cleaning f.0.cleans)
+    opened_at (stage.Seek c (seek.CheckAbove path spot fits)) f = absurd (cleaning f.0.cleans)
+    opened_at (stage.Seek c seek.Finish) f = absurd (cleaning f)
+    opened_at (stage.Tidy c (tidy.UpgradeAbove pair)) f = absurd (cleaning f.0)
+    opened_at (stage.Tidy c (tidy.UpgradeBelow pair)) f = absurd (cleaning f.0)
+    opened_at (stage.Tidy c (tidy.TakeAway pair)) f = absurd (cleaning f.0.cleans)
+    opened_at (stage.Tidy c (tidy.MakeSmaller pair)) f = absurd (cleaning f.0.cleans)
+    opened_at (stage.Tidy c (tidy.PutSmaller pair copy)) f = absurd (cleaning f.0.cleans)
+    opened_at (stage.Tidy c (tidy.UnlockBelow pair)) f = absurd (cleaning f.0)
     opened_at stage.Finish f = absurd (f going)
 
   module _ (w : World M) (sound : IsSoundWorld Granted same w) (id : ℕ) (call : CallState M) (going : call.progress ≡ Open) where

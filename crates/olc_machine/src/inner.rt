@@ -46,6 +46,7 @@ use olc_state::stage::{NodeLife, Record, Stage, Stored, Task};
 use olc_state::stepped::Stepped;
 use olc_state::stock::Stock;
 use olc_state::store::Store;
+use olc_tidy::tidying::tidy_on;
 use olc_words::epoch::Pins;
 use olc_words::lock::Word64;
 use olc_write::writing::write_on;
@@ -133,6 +134,15 @@ fn go_on<P: HasMeaning, A: Allocator>(
             report,
             outcome,
         } = write_on(stock, pin, &mut call.task, tail, env.fail);
+        call.stage = next;
+        return (report, outcome);
+    }
+    if let Stage::Tidy(cleanup, tidy) = stage {
+        let Stepped {
+            stage: next,
+            report,
+            outcome,
+        } = tidy_on(stock, pin, &mut call.task, cleanup, tidy, env.fail);
         call.stage = next;
         return (report, outcome);
     }

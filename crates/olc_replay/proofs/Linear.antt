@@ -7,7 +7,7 @@ use Rattle.node_table.specs.TableNode.{TableNode}
 use Rattle.spec_olc.proofs.Steps.{others_stay}
 use Rattle.spec_olc.specs.Calls.{IsPoint, Outline, asked_of, key_of, outline_of}
 use Rattle.spec_olc.specs.Content.{IsContent, IsCurrent, IsStoredAt}
-use Rattle.spec_olc.specs.Kinds.{NextIs, CheckOutcome, ReadOutcome, AnswerOutcome, DoesAs, begun, refusal, refused, not_locked, unlocked}
+use Rattle.spec_olc.specs.Kinds.{NextIs, CheckOutcome, ReadOutcome, AnswerOutcome, DoesAs, begun, refusal, refused, failed, not_locked, unlocked}
 use Rattle.spec_olc.specs.Lists.{off}
 use Rattle.spec_olc.specs.Orderly.{Course, TurnsBy}
 use Rattle.spec_olc.specs.Reading.{GoesOn, LooksOn, MayGive}
@@ -197,14 +197,25 @@ looks_quiet : (outline : Outline) (s : State ℕ) (call planned : CallState ℕ)
 looks_quiet (Range a b n) s call planned h = goes_quiet call (record call { cursor = h.cursor; reach = h.reach }) planned (inl refl) h.next_is
 looks_quiet outline s call planned h = inl (ap (λ (f : CallState ℕ). f.asking) h)
 
-not_locked_quiet : (held : List ℕ) (call : CallState ℕ) → Quiet call.asking (not_locked held call).asking
-not_locked_quiet [] call = inr refl
-not_locked_quiet (slot ∷ held) call = inl refl
+failed_fresh : (p : Progress) (call : CallState ℕ) → (failed p call).asking ≡ Fresh
+failed_fresh progress.Open call = refl
+failed_fresh progress.Decided call = refl
+failed_fresh progress.Refused call = refl
 
-unlocked_quiet : (p : Progress) (call : CallState ℕ) → Quiet call.asking (unlocked p call).asking
-unlocked_quiet progress.Open call = inr refl
-unlocked_quiet progress.Decided call = inl refl
-unlocked_quiet progress.Refused call = inl refl
+not_locked_quiet : (p : Progress) (held : List ℕ) (call : CallState ℕ) → Quiet call.asking (not_locked p held call).asking
+not_locked_quiet progress.Open [] call = inr refl
+not_locked_quiet progress.Open (slot ∷ held) call = inl refl
+not_locked_quiet progress.Decided held call = inr refl
+not_locked_quiet progress.Refused held call = inr refl
+
+unlocked_quiet : (p : Progress) (cleaning : Option ℕ) (held : List ℕ) (call : CallState ℕ) → Quiet call.asking (unlocked p cleaning held call).asking
+unlocked_quiet progress.Open cleaning held call = inr refl
+unlocked_quiet progress.Decided None held call = inl refl
+unlocked_quiet progress.Refused None held call = inl refl
+unlocked_quiet progress.Decided (Some c) [] call = inr refl
+unlocked_quiet progress.Refused (Some c) [] call = inr refl
+unlocked_quiet progress.Decided (Some c) (slot ∷ held) call = inl refl
+unlocked_quiet progress.Refused (Some c) (slot ∷ held) call = inl refl
 
 module _ (old new : State ℕ) (id : ℕ) (call : CallState ℕ) (env : Env ℕ) (report : Report) (out : Outcome ℕ) (p : PendingCall) (was : Heard p.asking call.asking) where
   abbrev Plans : State ℕ → CallState ℕ → Type 0
@@ -264,23 +275,23 @@ module _ (old new : State ℕ) (id : ℕ) (call : CallState ℕ) (env : Env ℕ)
   step_heard map kind.Start d = absurd d
   step_heard map kind.Take d = quietly kind.Take refl out d.1.reports.1 old _ d.1.becomes (taken report.ok)
     where
-      taken : (ok : Bool) → Quiet call.asking (if ok then record call { remembered = put call.remembered d.1.slot d.1.node.word } else back call).asking
+      taken : (ok : Bool) → Quiet call.asking (if ok then record call { remembered = put call.remembered d.1.slot d.1.node.word } else failed call.progress call).asking
       taken true = inl refl
-      taken false = inr refl
+      taken false = inr (failed_fresh call.progress call)
   step_heard map kind.Check d =
       by_ok report.ok
       (λ good. found_heard out d.1.planned d.1.becomes (d.1.passes good))
-      (λ bad. freshly kind.Check out old d.1.planned d.1.becomes (ap (λ (f : CallState ℕ). f.asking) (d.1.fails bad).1))
+      (λ bad. freshly kind.Check out old d.1.planned d.1.becomes (ap (λ (f : CallState ℕ). f.asking) (d.1.fails bad).1 ∙ failed_fresh call.progress call))
   step_heard map kind.Read d = saw_heard d.1.knows.node.node d.1.whole out d.1.sees
   step_heard map kind.Upgrade d =
       by_ok report.ok
       (λ good. quietly kind.Upgrade refl out d.1.reports.1 _ _ (d.1.locks good) (inl refl))
-      (λ bad. quietly kind.Upgrade refl out d.1.reports.1 old _ (d.1.fails bad) (not_locked_quiet call.held call))
+      (λ bad. quietly kind.Upgrade refl out d.1.reports.1 old _ (d.1.fails bad) (not_locked_quiet call.progress call.held call))
   step_heard map kind.Make (t, may, inl d) = quietly kind.Make refl out d.reports.1 _ _ d.becomes (inl refl)
   step_heard map kind.Make (t, may, inr d) = made_heard call.progress out d.reports.1 _ d.becomes
   step_heard map kind.Write d = freshly kind.Write out _ _ d.1.becomes refl
   step_heard map kind.Obsolete d = quietly kind.Obsolete refl out d.reports.1 _ _ d.becomes (inl refl)
-  step_heard map kind.Unlock d = quietly kind.Unlock refl out d.reports.1 _ _ d.becomes (unlocked_quiet call.progress (record call { held = off d.held.slot call.held }))
+  step_heard map kind.Unlock d = quietly kind.Unlock refl out d.reports.1 _ _ d.becomes (unlocked_quiet call.progress call.cleaning (off d.held.slot call.held) (record call { held = off d.held.slot call.held }))
   step_heard map kind.Answer d = answer_heard d.1.asked out d.1.wanted d.1.hears
   step_heard map kind.Finish d =
       subst (λ (f : Option (CallState ℕ)). HeardBy (after_step kind.Finish env.answer out p) f) (sym (ap (λ (s : State ℕ). lookup s.calls id) d.after ∙ lookup-without_same 0 (2 ^ 64) old.calls id map)) tt

@@ -4,7 +4,7 @@ use Rattle.spec_map.proofs.MapLaws.{lookup-put_same, lookup-without_same}
 use Rattle.spec_map.specs.Map.{IsMap, lookup, put}
 use Rattle.node_table.specs.TableNode.{TableNode}
 use Rattle.spec_olc.specs.Calls.{Outline, IsPoint, outline_of}
-use Rattle.spec_olc.specs.Kinds.{NextIs, CheckOutcome, ReadOutcome, AnswerOutcome, WriteOutcome, DoesAs, refusal, refused, not_locked, unlocked, MayEnd}
+use Rattle.spec_olc.specs.Kinds.{NextIs, CheckOutcome, ReadOutcome, AnswerOutcome, WriteOutcome, DoesAs, refusal, refused, failed, not_locked, unlocked, MayEnd}
 use Rattle.spec_olc.specs.Lists.{off}
 use Rattle.spec_olc.specs.Local.{IsLocal}
 use Rattle.spec_olc.specs.Orderly.{Course, TurnsBy}
@@ -63,9 +63,25 @@ looks_on : (outline : Outline) (s : State ℕ) (call planned : CallState ℕ) �
 looks_on (Range a b n) s call planned h = goes_on call (record call { cursor = h.cursor; reach = h.reach }) planned (record { outline = refl; op = refl; progress = refl }) h.next_is
 looks_on outline s call planned h = lasts_by call call planned h (lasts call)
 
-not_locked_lasts : (held : List ℕ) (call : CallState ℕ) → Lasts call (not_locked held call)
-not_locked_lasts [] call = record { outline = refl; op = refl; progress = refl }
-not_locked_lasts (slot ∷ held) call = lasts call
+failed_lasts : (p : Progress) (call : CallState ℕ) → Lasts call (failed p call)
+failed_lasts progress.Open call = record { outline = refl; op = refl; progress = refl }
+failed_lasts progress.Decided call = record { outline = refl; op = refl; progress = refl }
+failed_lasts progress.Refused call = record { outline = refl; op = refl; progress = refl }
+
+not_locked_lasts : (p : Progress) (held : List ℕ) (call : CallState ℕ) → Lasts call (not_locked p held call)
+not_locked_lasts progress.Open [] call = record { outline = refl; op = refl; progress = refl }
+not_locked_lasts progress.Open (slot ∷ held) call = lasts call
+not_locked_lasts progress.Decided held call = record { outline = refl; op = refl; progress = refl }
+not_locked_lasts progress.Refused held call = record { outline = refl; op = refl; progress = refl }
+
+unlocked_lasts : (p : Progress) (cleaning : Option ℕ) (held : List ℕ) (call : CallState ℕ) → Lasts call (unlocked p cleaning held call)
+unlocked_lasts progress.Open cleaning held call = record { outline = refl; op = refl; progress = refl }
+unlocked_lasts progress.Decided None held call = lasts call
+unlocked_lasts progress.Refused None held call = lasts call
+unlocked_lasts progress.Decided (Some c) [] call = record { outline = refl; op = refl; progress = refl }
+unlocked_lasts progress.Refused (Some c) [] call = record { outline = refl; op = refl; progress = refl }
+unlocked_lasts progress.Decided (Some c) (slot ∷ held) call = record { outline = refl; op = refl; progress = refl }
+unlocked_lasts progress.Refused (Some c) (slot ∷ held) call = record { outline = refl; op = refl; progress = refl }
 
 -- HasAll holds of no point call
 no_end : (op : Op ℕ) (reach given : ℕ) → HasAll (outline_of op) reach given → IsPoint op → ⊥
@@ -149,10 +165,10 @@ module _ (old new : State ℕ) (id : ℕ) (call : CallState ℕ) (env : Env ℕ)
   made_none progress.Decided is o e base b = going o e base _ b (record { outline = refl; op = refl; progress = refl })
   made_none progress.Refused is o e base b = going o e base _ b (record { outline = refl; op = refl; progress = refl })
 
-  wrote : (o : Outcome ℕ) → WriteOutcome (Unit {0}) same_number call o → (base : State ℕ) → Ends base (settled progress.Decided (record call { made = [] })) → Result o
-  wrote Going h base b = (Some (op, call.progress), refl, matched call.progress base (settled progress.Decided (record call { made = [] })) b (bare _ refl refl) h)
-  wrote (Decided reply) h base b = decides reply h base (record call { made = [] }) b refl
-  wrote o h base b = absurd h
+  wrote : (left : Option ℕ) (o : Outcome ℕ) → WriteOutcome (Unit {0}) same_number call o → (base : State ℕ) → Ends base (settled progress.Decided (record call { made = []; cleaning = left })) → Result o
+  wrote left Going h base b = (Some (op, call.progress), refl, matched call.progress base (settled progress.Decided (record call { made = []; cleaning = left })) b (bare _ refl refl) h)
+  wrote left (Decided reply) h base b = decides reply h base (record call { made = []; cleaning = left }) b refl
+  wrote left o h base b = absurd h
 
   finished : (p : Progress) → p ≡ call.progress → MayEnd call → TurnsBy Done (Some (op, p)) None
   finished progress.Open is may =
@@ -167,28 +183,26 @@ module _ (old new : State ℕ) (id : ℕ) (call : CallState ℕ) (env : Env ℕ)
   step_turns map kind.Start d = absurd d
   step_turns map kind.Take d = going out d.1.reports.1 old _ d.1.becomes (taken report.ok)
     where
-      taken : (ok : Bool) → Lasts call (if ok then record call { remembered = put call.remembered d.1.slot d.1.node.word } else back call)
+      taken : (ok : Bool) → Lasts call (if ok then record call { remembered = put call.remembered d.1.slot d.1.node.word } else failed call.progress call)
       taken true = record { outline = refl; op = refl; progress = refl }
-      taken false = record { outline = refl; op = refl; progress = refl }
+      taken false = failed_lasts call.progress call
   step_turns map kind.Check d =
       by_ok report.ok
       (λ good. found out d.1.planned d.1.becomes (d.1.passes good))
-      (λ bad. going out (d.1.fails bad).0 old d.1.planned d.1.becomes (lasts_by call (back call) d.1.planned (d.1.fails bad).1 (record { outline = refl; op = refl; progress = refl })))
+      (λ bad. going out (d.1.fails bad).0 old d.1.planned d.1.becomes (lasts_by call (failed call.progress call) d.1.planned (d.1.fails bad).1 (failed_lasts call.progress call)))
   step_turns map kind.Read d = saw d.1.knows.node.node d.1.whole out d.1.sees
   step_turns map kind.Upgrade d =
       by_ok report.ok
       (λ good. going out d.1.reports.1 _ _ (d.1.locks good) (record { outline = refl; op = refl; progress = refl }))
-      (λ bad. going out d.1.reports.1 old _ (d.1.fails bad) (not_locked_lasts call.held call))
+      (λ bad. going out d.1.reports.1 old _ (d.1.fails bad) (not_locked_lasts call.progress call.held call))
   step_turns map kind.Make (t, may, inl d) = going out d.reports.1 _ _ d.becomes (record { outline = refl; op = refl; progress = refl })
   step_turns map kind.Make (t, may, inr d) = made_none call.progress refl out d.reports.1 _ d.becomes
-  step_turns map kind.Write d = wrote out d.1.reports _ d.1.becomes
+  step_turns map kind.Write d = wrote d.1.left out d.1.reports _ d.1.becomes
   step_turns map kind.Obsolete d = going out d.reports.1 _ _ d.becomes (record { outline = refl; op = refl; progress = refl })
-  step_turns map kind.Unlock d = going out d.reports.1 _ _ d.becomes (freed call.progress)
+  step_turns map kind.Unlock d = going out d.reports.1 _ _ d.becomes (from_bare (unlocked_lasts call.progress call.cleaning (off d.held.slot call.held) (record call { held = off d.held.slot call.held })))
     where
-      freed : (p : Progress) → Lasts call (unlocked p (record call { held = off d.held.slot call.held }))
-      freed progress.Open = record { outline = refl; op = refl; progress = refl }
-      freed progress.Decided = record { outline = refl; op = refl; progress = refl }
-      freed progress.Refused = record { outline = refl; op = refl; progress = refl }
+      from_bare : {planned : CallState ℕ} → Lasts (record call { held = off d.held.slot call.held }) planned → Lasts call planned
+      from_bare l = record { outline = l.outline; op = l.op; progress = l.progress }
   step_turns map kind.Answer d = heard d.1.asked out d.1.hears
   step_turns map kind.Finish d = (
     None,

@@ -5,9 +5,9 @@ use Rattle.std.proofs.lemmas.Bool.{eq-eqb, ne_eqb, cases_lt, lt-ltb, le-ltb}
 use Rattle.spec_map.specs.Map.{Pairs, lookup, Rises}
 use Rattle.node_table.specs.Key.{next_byte}
 use Rattle.node_table.specs.declared.child.Child.{Child}
-use Rattle.node_table.specs.declared.child.Child.TheVariants.{Node as below_at}
+use Rattle.node_table.specs.declared.child.Child.TheVariants.{Payload, Node as below_at}
 use Rattle.spec_olc.specs.Calls.{Outline, bytes_of, key_of}
-use Rattle.spec_olc.specs.Reading.{child_for, first_from, bound_at}
+use Rattle.spec_olc.specs.Reading.{IsSeenOf, child_for, first_from, bound_at}
 use Rattle.spec_olc.specs.Runs.{Transition, read_by, same_number}
 use Rattle.spec_olc.specs.Touching.{Names, WasNamedBy, IsLive, MayTouch, Touches, NoUseAfterFree}
 use Rattle.spec_olc.specs.declared.trace.Line.{Line}
@@ -22,11 +22,16 @@ use Rattle.spec_olc.specs.declared.types.Outcome.{Outcome}
 use Rattle.spec_olc.specs.declared.types.Report.{Report}
 use Rattle.spec_olc.specs.declared.types.Seen.{Seen}
 use Rattle.olc_words.specs.Epoch.{pin_of}
+use Rattle.olc_state.specs.declared.cleanup.Cleanup.{Cleanup}
+use Rattle.olc_state.specs.declared.cleanup.Seek.{Seek as AnySeek}
+use Rattle.olc_state.specs.declared.cleanup.Seek.TheVariants as seek
+use Rattle.olc_state.specs.declared.cleanup.Tidy.{Tidy as AnyTidy}
+use Rattle.olc_state.specs.declared.cleanup.Tidy.TheVariants as tidy
 use Rattle.olc_state.specs.declared.stage.Path.{Path}
 use Rattle.olc_state.specs.declared.stage.Record.{Record}
 use Rattle.olc_state.specs.declared.stage.Spot.{Spot}
 use Rattle.olc_state.specs.declared.stage.Stage.{Stage}
-use Rattle.olc_state.specs.declared.stage.Stage.TheVariants.{TakeRoot, Read, Check, TakeBelow, CheckAbove, Answer, Confirm, Tail, Scan, Finish}
+use Rattle.olc_state.specs.declared.stage.Stage.TheVariants.{TakeRoot, Read, Check, TakeBelow, CheckAbove, Answer, Confirm, Tail, Scan, Seek, Tidy, Finish}
 use Rattle.olc_state.specs.declared.stage.Task.{Task}
 use Rattle.olc_state.specs.declared.scan.RangeProgress.{RangeProgress}
 use Rattle.olc_state.specs.declared.scan.Scan.{Scan as AnyScan}
@@ -37,6 +42,8 @@ use Rattle.olc_state.specs.declared.tail.NodePair.{NodePair}
 use Rattle.olc_state.specs.declared.tail.Tail.{Tail as AnyTail}
 use Rattle.olc_state.specs.declared.tail.Tail.TheVariants.{Upgrade, Write, MakeLeaf, Link, Unlock, UpgradeAbove, UpgradeBelow, MakeLeafBelow, Grow, MakeMiddle, Replace, Insert as Insertion, Detach, Obsolete, UnlockBelow}
 use Rattle.olc_state.specs.inner.Tables.{IsIn, IsBelow, IsPlaced, IsSafe, Known, IsThere, CameFrom, OnPath, Guarantees}
+use Rattle.olc_state.specs.inner.CleanupFacts.{SawBelow, SeekFacts, TidyFacts}
+use Rattle.olc_state.specs.inner.CleanupStages.{named_seeking, named_tidying}
 use Rattle.olc_state.specs.inner.ScanSpots.{named_on}
 use Rattle.olc_state.specs.inner.Scans.{BeginsAt, ScanFacts, SawFirst}
 use Rattle.olc_state.specs.inner.Tasks.{SawNode, Saw, key_bytes}
@@ -110,7 +117,7 @@ module _ (t : NodeMap ℕ) (pin : ℕ) where
   tail_there root task (Write spot) slot f h = one_there spot.slot slot (held_there spot f.held) h
   tail_there root task (MakeLeaf spot) slot f h = one_there spot.slot slot (held_there spot f.held) h
   tail_there root task (Link spot leaf) slot f h = one_there spot.slot slot (held_there spot f.0.held) h
-  tail_there root task (Unlock spot) slot f h = one_there spot.slot slot (held_there spot f.0) h
+  tail_there root task (Unlock spot left) slot f h = one_there spot.slot slot (held_there spot f.0) h
   tail_there root task (UpgradeAbove pair large) slot f h = two_there pair slot (still_there pair.here f.0.here) (still_there pair.above f.1) h
   tail_there root task (UpgradeBelow pair large) slot f h = two_there pair slot (still_there pair.here f.0.here) (held_there pair.above f.1) h
   tail_there root task (MakeLeafBelow pair large) slot f h = both_there (key_bytes task) pair slot f.0.held h
@@ -119,13 +126,32 @@ module _ (t : NodeMap ℕ) (pin : ℕ) where
   tail_there root task (Replace pair copy leaf) slot f h = both_there (key_bytes task) pair slot f.0.held h
   tail_there root task (Insertion pair middle leaf) slot f h = both_there (key_bytes task) pair slot f.0.held h
   tail_there root task (Detach pair) slot f h = both_there (key_bytes task) pair slot f.held h
-  tail_there root task (Obsolete pair) slot f h = two_there pair slot (out_there pair.here f.2) (held_there pair.above f.1) h
+  tail_there root task (Obsolete pair left) slot f h = two_there pair slot (out_there pair.here f.2) (held_there pair.above f.1) h
   tail_there root task (UnlockBelow pair) slot f h = two_there pair slot (held_there pair.here f.2) (held_there pair.above f.1) h
 
   case_there : (root : ℕ) (task : Task ℕ) (case : Case) (slot : ℕ) → CaseFacts (Unit {0}) same_number t root pin task case → IsIn slot (case_slots case) → IsThere t pin slot
   case_there root task (case.Present pair only) slot f h = path_there t root pin (key_bytes task) (path_to pair) slot f.1 h
   case_there root task (case.Small path small) slot f h = path_there t root pin (key_bytes task) path slot f.1 h
   case_there root task (case.Large pair large) slot f h = two_there pair slot (still_there pair.here f.2) (still_there pair.above f.4) h
+
+  -- a call that cleans up
+  seek_there : (root : ℕ) (task : Task ℕ) (c : Cleanup) (at : AnySeek) (slot : ℕ) → SeekFacts (Unit {0}) t root pin task c at → IsIn slot (named_seeking at) → IsThere t pin slot
+  seek_there root task c seek.TakeRoot slot f h = absurd h
+  seek_there root task c (seek.Read path) slot f h = path_there t root pin (key_bytes task) path slot f.on h
+  seek_there root task c (seek.Check path) slot f h = path_there t root pin (key_bytes task) path slot f.0.on h
+  seek_there root task c (seek.TakeBelow path below) slot f h =
+      elim h [ inl e ↦ subst (λ (z : ℕ). IsThere t pin z) e f.2 | inr more ↦ path_there t root pin (key_bytes task) path slot f.0.on more ]
+  seek_there root task c (seek.CheckAbove path spot fits) slot f h =
+      elim h [ inl e ↦ known_there t root pin (key_bytes task) spot slot f.2 e | inr more ↦ path_there t root pin (key_bytes task) path slot f.0.on more ]
+  seek_there root task c seek.Finish slot f h = absurd h
+
+  tidy_there : (task : Task ℕ) (c : Cleanup) (at : AnyTidy) (slot : ℕ) → TidyFacts t pin task c at → IsIn slot (named_tidying at) → IsThere t pin slot
+  tidy_there task c (tidy.UpgradeAbove pair) slot f h = two_there pair slot (still_there pair.here f.4) (still_there pair.above f.2) h
+  tidy_there task c (tidy.UpgradeBelow pair) slot f h = two_there pair slot (still_there pair.here f.3) (held_there pair.above f.2.0) h
+  tidy_there task c (tidy.TakeAway pair) slot f h = both_there (key_bytes task) pair slot f.0.held h
+  tidy_there task c (tidy.MakeSmaller pair) slot f h = both_there (key_bytes task) pair slot f.0.held h
+  tidy_there task c (tidy.PutSmaller pair copy) slot f h = both_there (key_bytes task) pair slot f.0.held h
+  tidy_there task c (tidy.UnlockBelow pair) slot f h = two_there pair slot (held_there pair.here f.2) (held_there pair.above f.1) h
 
   -- a node that a range is at, and one that it goes to
   two_spots : (one other : Spot) (slot : ℕ) → Known t pin one → IsThere t pin other.slot → IsIn slot (other.slot ∷ one.slot ∷ []) → IsThere t pin slot
@@ -140,6 +166,12 @@ module _ (t : NodeMap ℕ) (pin : ℕ) where
       elim h [ inl e ↦ subst (λ (z : ℕ). IsThere t pin z) e f.2 | inr more ↦ one_there spot.slot slot (still_there spot f.0.here) more ]
   scan_there root task course (scan.CheckAbove spot below from) slot f h = two_spots spot below slot f.0.here (still_there below f.2) h
   scan_there root task course scan.Finish slot f h = absurd h
+
+-- if each share is granted, each child is seen as it is
+seen_granted : (c seen : Option (Child ℕ)) → IsSeenOf (Unit {0}) c seen → c ≡ seen
+seen_granted None seen is = sym is
+seen_granted (Some (Payload v)) seen is = sym (is tt)
+seen_granted (Some (below_at s)) seen is = sym is
 
 module _ (t : NodeMap ℕ) (root pin : ℕ) (r : Record ℕ) (placed : IsPlaced t root) where
   abbrev key : List ℕ
@@ -157,6 +189,8 @@ module _ (t : NodeMap ℕ) (root pin : ℕ) (r : Record ℕ) (placed : IsPlaced 
   named_there (Confirm spot) slot f h = one_there t pin spot.slot slot (still_there t pin spot f.1) h
   named_there (Tail tail) slot f h = tail_there t pin root r.task tail slot f h
   named_there (Scan course at) slot f h = scan_there t pin root r.task course at slot f h
+  named_there (Seek c at) slot f h = seek_there t pin root r.task c at slot f h
+  named_there (Tidy c at) slot f h = tidy_there t pin r.task c at slot f h
   named_there Finish slot f h = absurd h
 
   -- the slot that a Read has reported is in use, if the word of the node that was read is still the
@@ -181,6 +215,15 @@ module _ (t : NodeMap ℕ) (root pin : ℕ) (r : Record ℕ) (placed : IsPlaced 
       let at = first_entry 0 256 (bound_at course.cursor at_key.node.node.prefix) at_key.node.node.children (below_at slot) (placed.ordered spot.slot at_key.node linked)
       (sym (s.at_key at_key.node at_key.here at_key.word).0 ∙ child) in
       let below : IsBelow t at_key.node at.0 slot = placed.below spot.slot at_key.node linked at.0 slot at.1 in
+      record { node = below.node; here = below.linked.here; safe = subst (λ z. IsSafe pin z) (sym below.linked.lifetime) tt }
+  follow_there (Seek c (seek.Check path)) slot f h =
+      let s : SawBelow (Unit {0}) t path r.task = f.1 in
+      let one_seen : s.seen ≡ h.0.seen = some_same s.seen h.0.seen (sym s.is ∙ h.0.is) in
+      let child : s.seen.child ≡ Some (below_at slot) = ap (λ (z : Seen ℕ). z.child) one_seen ∙ h.0.child in
+      let at_key : NodeStays t path.here = h.1 in
+      let linked = known_linked t root key placed pin path.here at_key.node f.0.on.here at_key.here at_key.word in
+      let at : entry at_key.node (next_byte at_key.node.node.prefix key) ≡ Some (below_at slot) = seen_granted (entry at_key.node (next_byte at_key.node.node.prefix key)) s.seen.child (s.child at_key.node at_key.here at_key.word) ∙ child in
+      let below : IsBelow t at_key.node (next_byte at_key.node.node.prefix key) slot = placed.below path.here.slot at_key.node linked (next_byte at_key.node.node.prefix key) slot at in
       record { node = below.node; here = below.linked.here; safe = subst (λ z. IsSafe pin z) (sym below.linked.lifetime) tt }
   follow_there stage slot f h = absurd h
 
@@ -219,17 +262,20 @@ module _ (t t' : NodeMap ℕ) (root pin : ℕ) (Mine : ℕ → Type 0) (leaves :
   followed : (stage : Stage) (slot : ℕ) → FactsAt (Unit {0}) same_number t root pin r.task stage → MayFollow t' stage r.task.last slot → MayFollow t stage r.task.last slot
   followed (Check path) slot f h = (h.0, stayed path.here f.1.here h.1)
   followed (Scan course (scan.Check spot)) slot f h = (h.0, stayed spot f.0.here h.1)
+  followed (Seek c (seek.Check path)) slot f h = (h.0, stayed path.here f.0.on.here h.1)
   followed stage slot f h = h
 
 same_follows : (t t' : NodeMap ℕ) (same : (s : ℕ) → t' s ≡ t s) (stage : Stage) (last : Option (Seen ℕ)) (slot : ℕ) → MayFollow t' stage last slot → MayFollow t stage last slot
 same_follows t t' same (Check path) last slot h = (h.0, record { node = h.1.node; here = sym (same path.here.slot) ∙ h.1.here; word = h.1.word })
 same_follows t t' same (Scan course (scan.Check spot)) last slot h = (h.0, record { node = h.1.node; here = sym (same spot.slot) ∙ h.1.here; word = h.1.word })
+same_follows t t' same (Seek c (seek.Check path)) last slot h = (h.0, record { node = h.1.node; here = sym (same path.here.slot) ∙ h.1.here; word = h.1.word })
 same_follows t t' same stage last slot h = h
 
 -- a slot that may be followed was seen
 saw_of : (t : NodeMap ℕ) (stage : Stage) (last : Option (Seen ℕ)) (slot : ℕ) → MayFollow t stage last slot → SawNode last slot
 saw_of t (Check path) last slot h = h.0
 saw_of t (Scan course (scan.Check spot)) last slot h = h.0
+saw_of t (Seek c (seek.Check path)) last slot h = h.0
 saw_of t stage last slot h = absurd h
 
 -- the slot is the root's, or live for the call by the events before

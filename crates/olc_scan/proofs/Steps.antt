@@ -23,7 +23,7 @@ use Rattle.olc_state.specs.inner.Turns.{ShowsNodes}
 use Rattle.olc_state.specs.inner.World.{PlacedNode, NodeLifetime, NodeMap, is_linked}
 use Rattle.olc_state.proofs.Options.{none_some, some_same}
 use Rattle.olc_state.proofs.Reaching.{one, seen_at}
-use Rattle.olc_descend.proofs.Events.{Within, check_ok, check_fails, is_by, not_by, take}
+use Rattle.olc_descend.proofs.Events.{Within, check_ok, check_fails, failed_open, take, take_fails}
 use Rattle.olc_descend.proofs.Spots.{put_known}
 use Rattle.olc_state.specs.declared.scan.RangeProgress.{RangeProgress}
 use Rattle.olc_state.specs.declared.scan.Scan.{Scan}
@@ -123,7 +123,7 @@ module _ {M : Type 0} (Granted : Type 0) (same : M → M → Bool) (t : NodeMap 
         reads = λ slot h. absurd h;
         keeps = λ z w h. elim (put_known [] root a.word z w h) [ inl is ↦ inr (λ b hb. ap (λ (x : PlacedNode M). x.word) (some_same b a (sym hb ∙ subst (λ (x : ℕ). t x ≡ Some a) is.0 here)) ∙ is.1) | inr never ↦ absurd (none_some w never) ];
         leaves = λ m. refl;
-        does = λ s id shows. take Granted same s id (now TakeRoot) env (inl f.0.undecided) root (one a) true (seen_at t root s shows root a here) (λ e. is_new f.0 f.1 f.2) (λ e. sym shows.root_is) (is_by free);
+        does = λ s id shows. take Granted same s id (now TakeRoot) env (inl f.0.undecided) root (one a) (seen_at t root s shows root a here) (λ e. is_new f.0 f.1 f.2) (λ e. sym shows.root_is) free;
       }
 
   take_restarts : (scan : Scan) (slot : ℕ) (a : PlacedNode M) → IsRanging task course → t slot ≡ Some a → (IsFree a.word → ⊥) → (slot ≡ root) ⊎ IsIn slot (named_on scan)
@@ -138,7 +138,7 @@ module _ {M : Type 0} (Granted : Type 0) (same : M → M → Bool) (t : NodeMap 
     reads = λ z h. absurd h;
     keeps = λ z w h. absurd (none_some w h);
     leaves = λ m. refl;
-    does = λ s id shows. take Granted same s id (now scan) env (inl r.undecided) slot (one a) false (seen_at t root s shows slot a here) (anew s shows) (first s shows) (not_by free);
+    does = λ s id shows. take_fails Granted same s id (now scan) env (inl r.undecided) (back (now scan)) (failed_open (now scan) r.undecided) slot (one a) (seen_at t root s shows slot a here) (anew s shows) (first s shows) free;
   }
 
   pub root_restarts : (a : PlacedNode M) → ScanFacts t root pin task course TakeRoot → t root ≡ Some a → (IsFree a.word → ⊥)
@@ -166,8 +166,8 @@ module _ {M : Type 0} (Granted : Type 0) (same : M → M → Bool) (t : NodeMap 
         reads = λ z h. absurd h;
         keeps = λ z w h. elim (put_known ((spot.slot, spot.word) ∷ []) slot a.word z w h) [ inl is ↦ inr (λ b hb. ap (λ (x : PlacedNode M). x.word) (some_same b a (sym hb ∙ subst (λ (x : ℕ). t x ≡ Some a) is.0 here)) ∙ is.1) | inr old ↦ inl old ];
         leaves = λ m. refl;
-        does = λ s id shows. take Granted same s id (now (TakeBelow spot slot)) env (inl at.ranging.undecided) slot (one a) true (seen_at t root s shows slot a here)
-            (λ e. absurd (f.3 (e ∙ shows.root_is))) (λ e. absurd (some_word spot.slot spot.word [] e)) (is_by free);
+        does = λ s id shows. take Granted same s id (now (TakeBelow spot slot)) env (inl at.ranging.undecided) slot (one a) (seen_at t root s shows slot a here)
+            (λ e. absurd (f.3 (e ∙ shows.root_is))) (λ e. absurd (some_word spot.slot spot.word [] e)) free;
       }
 
   pub below_restarts : (spot : Spot) (slot : ℕ) (a : PlacedNode M) → ScanFacts t root pin task course (TakeBelow spot slot) → t slot ≡ Some a → (IsFree a.word → ⊥)
@@ -192,7 +192,7 @@ module _ {M : Type 0} (Granted : Type 0) (same : M → M → Bool) (t : NodeMap 
       reads = λ z h. absurd h;
       keeps = λ z w h. absurd (none_some w h);
       leaves = λ m. refl;
-      does = λ s id shows. check_fails Granted same s id (now scan) env (inl at.ranging.undecided) spot.slot spot.word (one a) (seen_at t root s shows spot.slot a here) known other;
+      does = λ s id shows. check_fails Granted same s id (now scan) env (inl at.ranging.undecided) spot.slot spot.word (one a) (seen_at t root s shows spot.slot a here) known (back (now scan)) (failed_open (now scan) at.ranging.undecided) other;
     }
 
     -- that passes

@@ -14,6 +14,11 @@ use Rattle.olc_state.specs.declared.tail.NodePair.{NodePair}
 use Rattle.olc_state.specs.declared.tail.Tail.{Tail}
 use Rattle.olc_state.specs.declared.tail.Tail.TheVariants.{Upgrade, Write, MakeLeaf, Link, Unlock, UpgradeAbove, UpgradeBelow, MakeLeafBelow, Grow, MakeMiddle, Replace, Insert, Obsolete, UnlockBelow}
 use Rattle.olc_state.specs.declared.tail.Tail.TheVariants as tail
+use Rattle.olc_state.specs.declared.cleanup.Cleanup.{Cleanup}
+use Rattle.olc_state.specs.declared.cleanup.Tidy.{Tidy}
+use Rattle.olc_state.specs.declared.cleanup.Tidy.TheVariants as tidy
+use Rattle.olc_state.specs.inner.CleanupFacts.{TidyFacts}
+use Rattle.olc_state.specs.inner.CleanupStages.{held_tidying, made_tidying}
 use Rattle.olc_state.specs.inner.Facts.{Facts, FactsAt, Holding}
 use Rattle.olc_state.specs.inner.Shown.{held_at, made_at, lifetime}
 use Rattle.olc_state.specs.inner.TailFacts.{AreHeld, IsHeld, IsPrivateOf, IsOut, TailFacts}
@@ -44,6 +49,7 @@ nothing_made (stage.Tail (Grow pair leaf)) none = absurd (cc)
 nothing_made (stage.Tail (MakeMiddle pair leaf)) none = absurd (cc)
 nothing_made (stage.Tail (Replace pair copy leaf)) none = absurd (cc)
 nothing_made (stage.Tail (Insert pair middle leaf)) none = absurd (cc)
+nothing_made (stage.Tidy c (tidy.PutSmaller pair copy)) none = absurd (cc)
 nothing_made s none = refl
 
 pub holds_nothing : (s : Stage) → held_at s ≡ [] → (slot : ℕ) → Holding s slot → ⊥
@@ -102,13 +108,25 @@ module _ {M : Type 0} (t : NodeMap M) where
   made_stands : (slot : ℕ) (a : TableNode M) → IsPrivateOf t slot a → StandsPrivate slot
   made_stands slot a h = record { node = h.node; here = h.here; lifetime = h.lifetime; word = h.word }
 
+  tidy_holds : (pin : ℕ) (task : Task M) (c : Cleanup) (x : Tidy) (slot : ℕ) → TidyFacts t pin task c x → IsTrue (is_in slot (held_tidying x)) → StandsLocked slot
+  tidy_holds pin task c (tidy.UpgradeAbove pair) slot f h = none_of slot h
+  tidy_holds pin task c (tidy.UpgradeBelow pair) slot f h = one_of StandsLocked pair.above.slot slot (held_stands pair.above f.2.0) h
+  tidy_holds pin task c (tidy.TakeAway pair) slot f h = both_stand pair _ slot f.0.held h
+  tidy_holds pin task c (tidy.MakeSmaller pair) slot f h = both_stand pair _ slot f.0.held h
+  tidy_holds pin task c (tidy.PutSmaller pair copy) slot f h = both_stand pair _ slot f.0.held h
+  tidy_holds pin task c (tidy.UnlockBelow pair) slot f h = two_of StandsLocked pair.here.slot pair.above.slot slot (held_stands pair.here f.2) (held_stands pair.above f.1) h
+
+  tidy_made : (pin : ℕ) (task : Task M) (c : Cleanup) (x : Tidy) (slot : ℕ) → TidyFacts t pin task c x → IsTrue (is_in slot (made_tidying x)) → StandsPrivate slot
+  tidy_made pin task c (tidy.PutSmaller pair copy) slot f h = one_of StandsPrivate copy slot (made_stands copy _ f.1) h
+  tidy_made pin task c x slot f h = none_of slot h
+
   module _ (Granted : Type 0) (same : M → M → Bool) (root pin : ℕ) where
     tail_holds : (task : Task M) (tail : Tail) (slot : ℕ) → TailFacts Granted same t root pin task tail → IsTrue (is_in slot (held_in tail)) → StandsLocked slot
     tail_holds task (Upgrade path small) slot f h = none_of slot h
     tail_holds task (Write spot) slot f h = one_of StandsLocked spot.slot slot (held_stands spot f.held) h
     tail_holds task (MakeLeaf spot) slot f h = one_of StandsLocked spot.slot slot (held_stands spot f.held) h
     tail_holds task (Link spot leaf) slot f h = one_of StandsLocked spot.slot slot (held_stands spot f.0.held) h
-    tail_holds task (Unlock spot) slot f h = one_of StandsLocked spot.slot slot (held_stands spot f.0) h
+    tail_holds task (Unlock spot left) slot f h = one_of StandsLocked spot.slot slot (held_stands spot f.0) h
     tail_holds task (UpgradeAbove pair large) slot f h = none_of slot h
     tail_holds task (UpgradeBelow pair large) slot f h = one_of StandsLocked pair.above.slot slot (held_stands pair.above f.1) h
     tail_holds task (MakeLeafBelow pair large) slot f h = both_stand pair _ slot f.0.held h
@@ -117,7 +135,7 @@ module _ {M : Type 0} (t : NodeMap M) where
     tail_holds task (Replace pair copy leaf) slot f h = both_stand pair _ slot f.0.held h
     tail_holds task (Insert pair middle leaf) slot f h = both_stand pair _ slot f.0.held h
     tail_holds task (tail.Detach pair) slot f h = both_stand pair _ slot f.held h
-    tail_holds task (Obsolete pair) slot f h = two_of StandsLocked pair.here.slot pair.above.slot slot (out_stands pair.here f.2) (held_stands pair.above f.1) h
+    tail_holds task (Obsolete pair left) slot f h = two_of StandsLocked pair.here.slot pair.above.slot slot (out_stands pair.here f.2) (held_stands pair.above f.1) h
     tail_holds task (UnlockBelow pair) slot f h = two_of StandsLocked pair.here.slot pair.above.slot slot (held_stands pair.here f.2) (held_stands pair.above f.1) h
 
     tail_made : (task : Task M) (tail : Tail) (slot : ℕ) → TailFacts Granted same t root pin task tail → IsTrue (is_in slot (made_in tail)) → StandsPrivate slot
@@ -135,6 +153,7 @@ module _ {M : Type 0} (t : NodeMap M) where
       where
         at : (task : Task M) (s : Stage) → FactsAt Granted same t root pin task s → IsTrue (is_in slot (held_at s)) → StandsLocked slot
         at task (stage.Tail tail) x y = tail_holds task tail slot x y
+        at task (stage.Tidy c step) x y = tidy_holds pin task c step slot x y
         at task s x y = none_of slot y
 
     pub made_at_slot : (r : Record M) (slot : ℕ) → Facts Granted same t root pin r → IsTrue (is_in slot (made_at r.stage)) → StandsPrivate slot
@@ -142,4 +161,5 @@ module _ {M : Type 0} (t : NodeMap M) where
       where
         at : (task : Task M) (s : Stage) → FactsAt Granted same t root pin task s → IsTrue (is_in slot (made_at s)) → StandsPrivate slot
         at task (stage.Tail tail) x y = tail_made task tail slot x y
+        at task (stage.Tidy c step) x y = tidy_made pin task c step slot x y
         at task s x y = none_of slot y

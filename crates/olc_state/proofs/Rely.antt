@@ -10,7 +10,7 @@ use Rattle.spec_olc.specs.Lock.{IsFree}
 use Rattle.spec_olc.specs.Calls.{key_of}
 use Rattle.spec_olc.specs.Lists.{is_in}
 use Rattle.spec_olc.specs.Local.{payload_in}
-use Rattle.spec_olc.specs.Reading.{IsReading, bound_at, child_for, first_from}
+use Rattle.spec_olc.specs.Reading.{IsReading, IsSeenOf, bound_at, child_for, first_from}
 use Rattle.spec_olc.specs.declared.types.Seen.{Seen}
 use Rattle.olc_state.specs.inner.Tables.{IsSafe, Known, IsThere, OnWay, While, LedTo, CameFrom, OnPath, TestOf, Guarantees, PrivateStays, Remains}
 use Rattle.olc_state.specs.inner.TailFacts.{CaseFacts, IsConfirmed, IsPresent, LargeCase, MayStore, SmallCase, found, path_to, stands_at, AreHeld, AtNode, AtPair, Below, HasCopy, HasLeaf, HasMiddle, HasOwn, HasOwnLeaf, IsAbove, IsHeld, IsLarge, IsPrivateOf, IsOut, IsSmall, LargeWork, SmallWork, TailFacts, WritesAtKey, grown_by, is_for, leaf_of, middle_of}
@@ -18,6 +18,13 @@ use Rattle.olc_state.specs.inner.Tails.{both_slots, held_in, made_in, one_more}
 use Rattle.olc_state.specs.inner.Tasks.{MaySee, Agrees, Saw, key_bytes}
 use Rattle.olc_state.specs.inner.Facts.{FactsAt, Facts, Holding}
 use Rattle.olc_state.specs.inner.Shown.{flight}
+use Rattle.olc_state.specs.declared.cleanup.Cleanup.{Cleanup}
+use Rattle.olc_state.specs.declared.cleanup.Seek.{Seek}
+use Rattle.olc_state.specs.declared.cleanup.Seek.TheVariants as seek
+use Rattle.olc_state.specs.declared.cleanup.Tidy.{Tidy}
+use Rattle.olc_state.specs.declared.cleanup.Tidy.TheVariants as tidy
+use Rattle.olc_state.specs.inner.CleanupFacts.{CleansAt, IsSeeking, IsWithin, SeekFacts, TidyFacts, smaller_of}
+use Rattle.olc_state.specs.inner.CleanupStages.{held_tidying, made_tidying}
 use Rattle.olc_state.specs.inner.Scans.{GoesTo, IsAtNode, LeadsFirst, LooksAt, SawFirst, ScanFacts}
 use Rattle.olc_state.specs.declared.scan.RangeProgress.{RangeProgress}
 use Rattle.olc_state.specs.declared.scan.Scan.{Scan}
@@ -141,6 +148,44 @@ module _ {M : Type 0} (t t' : NodeMap M) (Mine : ℕ → Type 0) (pin : ℕ) (g 
   )
   scan_lasts root task course scan.Finish f = f
 
+  -- what a call that cleans up knows on its way down
+  within_lasts : (spot : Spot) (k : List ℕ) (most : ℕ) → Known t pin spot → IsWithin t spot.slot k most → IsWithin t' spot.slot k most
+  within_lasts spot k most kn f b bt = first_lasts spot (λ p. Begins p k × (length p ≤ most)) kn f b bt
+
+  seeking_lasts : (root : ℕ) (task : Task M) (c : Cleanup) (path : Path) → IsSeeking t root pin task c path → IsSeeking t' root pin task c path
+  seeking_lasts root task c path f = record {
+    cleans = f.cleans;
+    on = path_lasts root (key_bytes task) path f.on;
+    within = within_lasts path.here (key_bytes task) c.length f.on.here f.within;
+  }
+
+  seek_lasts : (Granted : Type 0) (root : ℕ) (task : Task M) (c : Cleanup) (s : Seek) → SeekFacts Granted t root pin task c s → SeekFacts Granted t' root pin task c s
+  seek_lasts Granted root task c seek.TakeRoot f = f
+  seek_lasts Granted root task c (seek.Read path) f = seeking_lasts root task c path f
+  seek_lasts Granted root task c (seek.Check path) f = (
+    seeking_lasts root task c path f.0,
+    record {
+      seen = f.1.seen;
+      is = f.1.is;
+      child = while_lasts path.here (λ n. IsSeenOf Granted (lookup n.children (next_byte n.prefix (key_bytes task))) f.1.seen.child) f.0.on.here f.1.child;
+    },
+  )
+  seek_lasts Granted root task c (seek.TakeBelow path slot) f = (
+    seeking_lasts root task c path f.0,
+    led_lasts path.here (key_bytes task) slot f.0.on.here f.1,
+    there_lasts slot f.2,
+    f.3,
+    f.4,
+  )
+  seek_lasts Granted root task c (seek.CheckAbove path spot fits) f = (
+    seeking_lasts root task c path f.0,
+    led_lasts path.here (key_bytes task) spot.slot f.0.on.here f.1,
+    known_lasts spot f.2,
+    (λ good. within_lasts spot (key_bytes task) c.length f.2 (f.3 good)),
+    f.4,
+  )
+  seek_lasts Granted root task c seek.Finish f = f
+
   -- an event of another call leaves what this one holds as it is
   stays : (slot : ℕ) (a : PlacedNode M) → t slot ≡ Some a → IsSafe pin a.lifetime → (IsFree a.word → ⊥) → (Mine slot → ⊥) → t' slot ≡ Some a
   stays slot a at safe locked off =
@@ -225,6 +270,46 @@ module _ {M : Type 0} (t t' : NodeMap M) (Mine : ℕ → Type 0) (pin : ℕ) (g 
       fork = h.fork;
       made = made_lasts middle (middle_of h.prefix a slot (key_bytes task) leaf) off h.made;
     }
+
+    -- what a call that cleans up knows at the node
+    abbrev cleans_at_lasts : (task : Task M) (c : Cleanup) (pair : NodePair) → ((s : ℕ) → IsTrue (is_in s (both_slots pair)) → Mine s → ⊥) → CleansAt t task c pair → CleansAt t' task c pair
+    cleans_at_lasts task c pair off f = record {
+      cleans = f.cleans;
+      held = both_last pair (key_bytes task) f.held
+          (off pair.here.slot (first_in pair.here.slot (pair.above.slot ∷ [])))
+          (off pair.above.slot (next_in pair.here.slot pair.above.slot (pair.above.slot ∷ []) (first_in pair.above.slot [])));
+      reaches = f.reaches;
+    }
+
+    tidy_lasts : (task : Task M) (c : Cleanup) (x : Tidy) → ((s : ℕ) → IsTrue (is_in s (held_tidying x)) → Mine s → ⊥) → ((s : ℕ) → IsTrue (is_in s (made_tidying x)) → Mine s → ⊥)
+        → TidyFacts t pin task c x → TidyFacts t' pin task c x
+    tidy_lasts task c (tidy.UpgradeAbove pair) held made f = (
+      f.0,
+      above_lasts pair (key_bytes task) (known_there pair.above f.2) f.1,
+      known_lasts pair.above f.2,
+      led_lasts pair.above (key_bytes task) pair.here.slot f.2 f.3,
+      known_lasts pair.here f.4,
+      within_lasts pair.here (key_bytes task) c.length f.4 f.5,
+    )
+    tidy_lasts task c (tidy.UpgradeBelow pair) held made f = (
+      f.0,
+      above_lasts pair (key_bytes task) (held_there pair.above f.2.0) f.1,
+      (held_lasts pair.above f.2.0 (held pair.above.slot (first_in pair.above.slot [])), f.2.1),
+      known_lasts pair.here f.3,
+      within_lasts pair.here (key_bytes task) c.length f.3 f.4,
+    )
+    tidy_lasts task c (tidy.TakeAway pair) held made f = (cleans_at_lasts task c pair held f.0, f.1)
+    tidy_lasts task c (tidy.MakeSmaller pair) held made f = (cleans_at_lasts task c pair held f.0, f.1)
+    tidy_lasts task c (tidy.PutSmaller pair copy) held made f = (
+      cleans_at_lasts task c pair held f.0,
+      made_lasts copy (smaller_of f.0.held.here.node.node) (made copy (first_in copy [])) f.1,
+    )
+    tidy_lasts task c (tidy.UnlockBelow pair) held made f = (
+      f.0,
+      held_lasts pair.above f.1 (held pair.above.slot (next_in pair.here.slot pair.above.slot (pair.above.slot ∷ []) (first_in pair.above.slot []))),
+      held_lasts pair.here f.2 (held pair.here.slot (first_in pair.here.slot (pair.above.slot ∷ []))),
+      f.3,
+    )
 
   module _ (Granted : Type 0) (same : M → M → Bool) where
     -- what agrees with a node, by the node alone
@@ -366,7 +451,7 @@ module _ {M : Type 0} (t t' : NodeMap M) (Mine : ℕ → Type 0) (pin : ℕ) (g 
         at_node_lasts task spot Leaf (held spot.slot (first_in spot.slot [])) f.0,
         leaf_lasts privates task leaf (made leaf (first_in leaf [])) f.1,
       )
-      tail_lasts root task (Unlock spot) held made f = (held_lasts spot f.0 (held spot.slot (first_in spot.slot [])), f.1)
+      tail_lasts root task (Unlock spot left) held made f = (held_lasts spot f.0 (held spot.slot (first_in spot.slot [])), f.1)
       tail_lasts root task (UpgradeAbove pair large) held made f = (
         below_lasts task pair large (known_there pair.above f.1) f.0,
         known_lasts pair.above f.1,
@@ -396,7 +481,7 @@ module _ {M : Type 0} (t t' : NodeMap M) (Mine : ℕ → Type 0) (pin : ℕ) (g 
         middle_lasts privates task f.0.held.here.node pair.here.slot middle leaf (made middle (first_in middle (leaf ∷ []))) f.2,
       )
       tail_lasts root task (tail.Detach pair) held made f = at_pair_lasts task pair Detach held f
-      tail_lasts root task (Obsolete pair) held made f = (
+      tail_lasts root task (Obsolete pair left) held made f = (
         f.0,
         held_lasts pair.above f.1 (held pair.above.slot (next_in pair.here.slot pair.above.slot (pair.above.slot ∷ []) (first_in pair.above.slot []))),
         out_lasts pair.here f.2 (held pair.here.slot (first_in pair.here.slot (pair.above.slot ∷ []))),
@@ -440,6 +525,8 @@ module _ {M : Type 0} (t t' : NodeMap M) (Mine : ℕ → Type 0) (pin : ℕ) (g 
       )
       at_lasts root task (stage.Tail tail) off f = tail_lasts root task tail (λ s h. off s (inl h)) (λ s h. off s (inr h)) f
       at_lasts root task (stage.Scan course s) off f = scan_lasts root task course s f
+      at_lasts root task (stage.Seek c s) off f = seek_lasts Granted root task c s f
+      at_lasts root task (stage.Tidy c x) off f = tidy_lasts privates task c x (λ s h. off s (inl h)) (λ s h. off s (inr h)) f
       at_lasts root task Finish off f = f
 
       -- the facts of a call last through any event that the call may rely on, if nothing that it holds is the other's

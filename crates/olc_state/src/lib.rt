@@ -5,6 +5,7 @@
 #![tactic(auto)]
 
 pub mod calls;
+pub mod cleanup;
 pub mod content;
 pub mod scan;
 pub mod stage;

@@ -1,5 +1,6 @@
 //! A call in flight: what it does next, and what it remembers.
 
+use crate::cleanup::{Cleanup, Seek, Tidy};
 use crate::scan::{RangeProgress, Scan};
 use crate::tail::{Case, Tail};
 use node_table::tree_node::TreeNode;
@@ -59,6 +60,10 @@ pub enum Stage {
     Tail(Tail),
     /// A range, which has stages of its own: how far it is, and what it does next.
     Scan(RangeProgress, Scan),
+    /// A call with its reply that cleans up: for which node, and what it does next on its way down.
+    Seek(Cleanup, Seek),
+    /// The same at the node.
+    Tidy(Cleanup, Tidy),
     Finish,
 }
 

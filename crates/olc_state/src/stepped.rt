@@ -62,7 +62,19 @@ pub fn going<P>(stage: Stage, report: Report) -> Stepped<P>
     }
 }
 
-/// An event after which the call goes back to the root, and forgets what it has seen and asked.
+/// An event after which the call goes on from this stage, and has forgotten what it has seen and asked.
+pub fn forgets<P: Drop>(task: &mut Task<P>, stage: Stage, report: Report) -> Stepped<P>
+    ensures task { task.new ≡ restarted task.old }
+    ensures event { result ≡ record { stage = stage; report = report; outcome = Outcome.Going } }
+{
+    task.last = None;
+    task.spare = None;
+    task.question = None;
+    task.asking = Asking::Fresh;
+    going(stage, report)
+}
+
+/// An event after which the call goes back to the root.
 pub fn back<P: Drop>(task: &mut Task<P>, report: Report) -> Stepped<P>
     ensures task { task.new ≡ restarted task.old }
     ensures event { result ≡ record {
@@ -71,11 +83,7 @@ pub fn back<P: Drop>(task: &mut Task<P>, report: Report) -> Stepped<P>
       outcome = Outcome.Going;
     } }
 {
-    task.last = None;
-    task.spare = None;
-    task.question = None;
-    task.asking = Asking::Fresh;
-    going(Stage::TakeRoot, report)
+    forgets(task, Stage::TakeRoot, report)
 }
 
 /// A Read after which the call goes on to its Check.

@@ -10,9 +10,10 @@
 //! | the only payload of a leaf is removed | `UpgradeAbove`, `UpgradeBelow`, `Detach`, `Obsolete`, `Unlock` |
 //! | a prefix that leaves the key | `UpgradeAbove`, `UpgradeBelow`, `MakeLeafBelow`, `MakeMiddle`, `Insert`, `UnlockBelow`, `Unlock` |
 //!
-//! After the last `Unlock` the call ends; where the second upgrade has failed, it goes back to the
-//! root.
+//! After the last `Unlock` the call ends, or cleans up what its Write has left; where the second upgrade has failed, it
+//! goes back to the root.
 
+use crate::cleanup::Cleanup;
 use crate::stage::{Path, Spot};
 
 /// What is changed at the call's node alone.
@@ -66,8 +67,8 @@ pub enum Tail {
     MakeLeaf(Spot),
     /// Links that leaf.
     Link(Spot, usize),
-    /// Unlocks the one node that is held.
-    Unlock(Spot),
+    /// Unlocks the one node that is held; the cleanup that follows.
+    Unlock(Spot, Option<Cleanup>),
     /// Locks the parent.
     UpgradeAbove(NodePair, Large),
     /// Locks the node, with the parent held.
@@ -84,8 +85,8 @@ pub enum Tail {
     Insert(NodePair, usize, usize),
     /// Takes the leaf with its only payload out of the tree.
     Detach(NodePair),
-    /// Marks the node obsolete that is no longer in the tree.
-    Obsolete(NodePair),
+    /// Marks the node obsolete that is no longer in the tree; the cleanup that follows.
+    Obsolete(NodePair, Option<Cleanup>),
     /// Unlocks the node, with the parent held.
     UnlockBelow(NodePair),
 }

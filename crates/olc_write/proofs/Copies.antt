@@ -31,7 +31,7 @@ use Rattle.olc_state.specs.inner.TailFacts.{IsFork, leaf_of, stores}
 use Rattle.olc_state.specs.inner.Tasks.{key_bytes}
 use Rattle.olc_state.proofs.Options.{none_some, some_same}
 use Rattle.olc_laws.proofs.Prefixes.{begins_on, key_byte}
-use Rattle.olc_write.proofs.MakingMoves.{at}
+use Rattle.olc_write.proofs.MakingNodes.{at}
 
 begins_take : (n : ℕ) (k : List ℕ) → Begins (take n k) k
 begins_take n k = begins_by (take n k) (drop n k) k (sym (take-append-drop n k))

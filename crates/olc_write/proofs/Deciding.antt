@@ -12,15 +12,17 @@ use Rattle.node_table.specs.declared.child.Child.TheVariants.{Payload, Node as b
 use Rattle.spec_olc.specs.Calls.{Outline, asked_of, bytes_of, key_of, map_asked, map_call, map_reply}
 use Rattle.spec_olc.specs.Content.{IsContent}
 use Rattle.spec_olc.specs.Deciding.{AppliesCall}
+use Rattle.spec_olc.specs.Due.{IsLeft}
 use Rattle.spec_olc.specs.Kinds.{DoesAs, report_of}
 use Rattle.spec_olc.specs.Lists.{is_in}
-use Rattle.spec_olc.specs.Local.{IsLocal, SeesPayloads, seen_map, seen_payload}
+use Rattle.spec_olc.specs.Local.{IsLocal, SeesPayloads, SharesNone, seen_map, seen_payload}
 use Rattle.spec_olc.specs.State.{State, CallState, settled}
 use Rattle.spec_olc.specs.State as state
 use Rattle.spec_olc.specs.Writing.{IsOwn, HeldNode, TakesOut, changed, emptied, entry_below, linked}
 use Rattle.spec_olc.specs.declared.types.Env.{Env}
 use Rattle.spec_olc.specs.declared.types.Kind.TheVariants as kind
 use Rattle.spec_olc.specs.declared.types.Outcome.TheVariants.{Decided}
+use Rattle.spec_olc.specs.declared.types.Progress.{Progress}
 use Rattle.spec_olc.specs.declared.types.Progress.TheVariants as progress
 use Rattle.spec_olc.specs.declared.types.Reply.{Reply}
 use Rattle.spec_olc.specs.declared.types.Outcome.{Outcome}
@@ -32,9 +34,9 @@ use Rattle.olc_state.specs.inner.Shown.{flight, shown}
 use Rattle.olc_state.specs.inner.Tables.{IsIn, IsPlaced, Keeps}
 use Rattle.olc_state.specs.inner.TailFacts.{HasRoom, WritesAtKey}
 use Rattle.olc_state.specs.inner.Tasks.{closed, key_bytes}
-use Rattle.olc_state.specs.inner.Turns.{IsCourse, ShowsNodes}
+use Rattle.olc_state.specs.inner.Turns.{IsCourse, ShowsNodes, work_of}
 use Rattle.olc_state.specs.inner.World.{PlacedNode, NodeMap, entry, is_linked}
-use Rattle.olc_state.specs.inner.Tails.{named_in, spots_in, tail_work}
+use Rattle.olc_state.specs.inner.Tails.{cleaning_in, named_in, spots_in}
 use Rattle.olc_state.specs.declared.stage.Stage.TheVariants.{Tail}
 use Rattle.spec_olc.specs.Lock.{IsFree, IsLocked}
 use Rattle.olc_state.proofs.Contents.{kept_there, none_there}
@@ -148,7 +150,7 @@ module _ {M : Type 0} where
 
 -- THE COURSE of a write to a node of its tail: the call names no other then, and remembers no word
 pub write_course : {M : Type 0} (t t' : NodeMap M) (root : ℕ) (task : Task M) (env : Env M) (tail next : tails.Tail) (slot : ℕ) (out : Outcome M)
-    → IsIn slot (named_in tail) → named_in next ≡ named_in tail → spots_in next ≡ [] → tail_work progress.Decided next < tail_work task.progress tail
+    → IsIn slot (named_in tail) → named_in next ≡ named_in tail → spots_in next ≡ [] → work_of t' (at (Tail next) (with_reply task)) < work_of t (at (Tail tail) task)
     → IsCourse t t' root (at (Tail tail) task) env (at (Tail next) (with_reply task)) (report_of kind.Write (Some slot) 0 true) out
 write_course t t' root task env tail next slot out mine named remembered less = record {
   touches = λ z e make. inr (subst (λ (x : ℕ). IsIn x (named_in tail)) (some_same slot z e) mine);
@@ -160,7 +162,7 @@ write_course t t' root task env tail next slot out mine named remembered less = 
 }
 
 -- THE DECISION. If `Granted` holds, a share is always granted. `same` compares two payloads.
-module _ {M : Type 0} (Granted : Type 0) (same : M → M → Bool) (task : Task M) (tail : tails.Tail) (pin : ℕ) (at_key : Option M) (w : WritesAtKey Granted same task at_key) where
+module _ {M : Type 0} (Granted : Type 0) (same : M → M → Bool) (task : Task M) (tail : tails.Tail) (quiet : cleaning_in tail ≡ None) (pin : ℕ) (at_key : Option M) (w : WritesAtKey Granted same task at_key) where
   abbrev pub writing_call : CallState M
   writing_call = flight pin (at (Tail tail) task)
 
@@ -180,7 +182,7 @@ module _ {M : Type 0} (Granted : Type 0) (same : M → M → Bool) (task : Task 
       (change_replied same m w.opened.op task.asking at_key w.value task.returns w.change w.opened.returned (seen_stands m there))
 
   last_seen : SeesPayloads Granted same writing_call → lookup (seen_map writing_call) (key_of task.outline) ≡ at_key
-  last_seen sees = alone_there (key_of task.outline) (seen_payload task.last) ∙ w.seen sees
+  last_seen sees = alone_there (key_of task.outline) (seen_payload task.last) ∙ w.seen (subst (λ (c : Option ℕ). SharesNone task.outline c → Granted) quiet sees)
 
   -- the reply is what the map's call replies with this current value
   pub replies : IsLocal Granted same writing_call writing_reply
@@ -221,10 +223,11 @@ module _ {M : Type 0} (Granted : Type 0) (same : M → M → Bool) (task : Task 
       → s'.nodes ≡ emptied gone (linked writing_call.made (put s.nodes held.slot (changed writing_call held.node child)))
       → IsOwn writing_call child → ((c : Child M) → child ≡ Some c → MayHave held.node.node.prefix c) → Fits held.node.node.form (length (changed writing_call held.node child).node.children)
       → TakesOut s writing_call (entry_below writing_call held.node) child gone
-      → next ≡ record (settled progress.Decided (record writing_call { made = [] })) { remembered = next.remembered }
+      → (left : Option ℕ) → IsLeft progress.Open child (changed writing_call held.node child).node left
+      → next ≡ record (settled progress.Decided (record writing_call { made = []; cleaning = left })) { remembered = next.remembered }
       → Among next.remembered writing_call.remembered
       → DoesAs Granted same s s' id writing_call env (report_of kind.Write (Some held.slot) 0 true) (Decided writing_reply) kind.Write
-  writes_answer s s' id env next books books' after count charge held child gone nodes own shape fits takes is within =
+  writes_answer s s' id env next books books' after count charge held child gone nodes own shape fits takes left leaves is within =
       let count_is : books'.count ≡ s.count = count ∙ sym (ap (λ (b : StoreCounts). b.count) after.was) in
       let charge_is : books'.charge ≡ s.charge = charge ∙ sym (ap (λ (b : StoreCounts). b.charge) after.was) in (
         inl w.opened.undecided,
@@ -238,6 +241,8 @@ module _ {M : Type 0} (Granted : Type 0) (same : M → M → Bool) (task : Task 
           shape = shape;
           fits = fits;
           takes_out = takes;
+          left = left;
+          leaves = subst (λ (p : Progress). IsLeft p child (changed writing_call held.node child).node left) (sym w.opened.undecided) leaves;
           reports = replies;
           becomes = record {
             next = next;
@@ -253,9 +258,9 @@ module _ {M : Type 0} (Granted : Type 0) (same : M → M → Bool) (task : Task 
       → (held : HeldNode s writing_call) (c : Child M)
       → s'.nodes ≡ linked writing_call.made (put s.nodes held.slot (changed writing_call held.node (Some c)))
       → IsOwn writing_call (Some c) → MayHave held.node.node.prefix c → Fits held.node.node.form (length (changed writing_call held.node (Some c)).node.children)
-      → next ≡ record (settled progress.Decided (record writing_call { made = [] })) { remembered = next.remembered }
+      → next ≡ record (settled progress.Decided (record writing_call { made = []; cleaning = None })) { remembered = next.remembered }
       → Among next.remembered writing_call.remembered
       → DoesAs Granted same s s' id writing_call env (report_of kind.Write (Some held.slot) 0 true) (Decided writing_reply) kind.Write
   writes_child s s' id env next books books' after count charge held c nodes own shape fits is within =
       writes_answer s s' id env next books books' after count charge held (Some c) None nodes own (λ d e. subst (λ (z : Child M). MayHave held.node.node.prefix z) (some_same c d e) shape) fits
-      (takes_none s writing_call (entry_below writing_call held.node) c) is within
+      (takes_none s writing_call (entry_below writing_call held.node) c) None refl is within

@@ -27,14 +27,13 @@ use Rattle.olc_state.specs.inner.Moves.{StoreCounts, IsAfter, IsMove}
 use Rattle.olc_state.specs.inner.Shown.{flight}
 use Rattle.olc_state.specs.inner.Tables.{IsPlaced, Keeps, byte_at}
 use Rattle.olc_state.specs.inner.TailFacts.{AtPair, found}
-use Rattle.olc_state.specs.inner.Tails.{both_slots}
+use Rattle.olc_state.specs.inner.Tails.{both_slots, length_in, unlock_work}
 use Rattle.olc_state.specs.inner.Tasks.{key_bytes}
-use Rattle.olc_state.specs.inner.Turns.{ShowsNodes}
+use Rattle.olc_state.specs.inner.Turns.{ShowsNodes, cleanup_work}
 use Rattle.olc_state.specs.inner.World.{PlacedNode, NodeMap, entry, is_linked, is_detached}
 use Rattle.olc_state.proofs.Options.{none_some, some_same}
 use Rattle.olc_state.proofs.Reaching.{one, seen_at}
 use Rattle.olc_state.proofs.Records.{at}
-use Rattle.olc_state.proofs.Unlike.{decided_open}
 use Rattle.olc_state.proofs.Members.{first_in, next_in}
 use Rattle.olc_laws.proofs.Detaching.{TakesOut as Takes, taken_effect, taken_takes}
 use Rattle.olc_laws.proofs.Effects.{Effect, OthersStay}
@@ -42,6 +41,10 @@ use Rattle.olc_laws.proofs.Writing.{IsLeafFor, answered, leaf_nodes}
 use Rattle.olc_write.proofs.Deciding.{AnswersPair, StandsAt, becomes_of, entries_after, held_locked, with_reply, write_course, writes_answer}
 use Rattle.olc_write.proofs.Parents.{holders_of}
 use Rattle.olc_write.proofs.Showing.{ShownBy, linked_shown, linked_there, nodes_are, put_map, put_shown, Rises-linked, with_here, with_others, with_slot}
+use Rattle.olc_state.specs.declared.cleanup.Cleanup.{Cleanup}
+use Rattle.spec_olc.specs.declared.types.Progress.TheVariants as progress
+use Rattle.olc_write.specs.inner.Leaving.{IsLeftOf}
+use Rattle.olc_write.proofs.Leftovers.{ends_with, is_left, left_short, may_have_removed, removing_work}
 
 module _ {V : Type 0} where
   -- a list with one entry, that of this key
@@ -169,31 +172,31 @@ module _ {M : Type 0} (Granted : Type 0) (same : M → M → Bool) (t t' : NodeM
     taken_placed = taken.placed
 
     -- AS A PUBLIC EVENT
-    does_taken : (s s' : State M) (id : ℕ) → ShowsNodes t root s → ShowsNodes t' root s' → IsMap s.nodes → IsMap s'.nodes → IsAfter s s' id (flight pin (at (Tail (Obsolete pair)) (with_reply task))) books books'
+    does_taken : (left : Option Cleanup) → IsLeftOf true above_after.node left → (s s' : State M) (id : ℕ) → ShowsNodes t root s → ShowsNodes t' root s' → IsMap s.nodes → IsMap s'.nodes → IsAfter s s' id (flight pin (at (Tail (Obsolete pair left)) (with_reply task))) books books'
         → DoesAs Granted same s s' id (flight pin (at (Tail (Detach pair)) task)) env (report_of kind.Write (Some p) 0 true) (Decided (reply_with task.outline at_key task.returns)) kind.Write
-    does_taken s s' id shows shows' map map' after =
+    does_taken left leaves s s' id shows shows' map map' after =
         let call : CallState M = flight pin (at (Tail (Detach pair)) task) in
         let mine : HeldNode s call = record { slot = p; node = one a; mine = next_in q p (p ∷ []) (first_in p []); here = seen_at t root s shows p a own.held.above.linked.here } in
         let leaf : HeldNode s call = record { slot = q; node = one b; mine = first_in q (p ∷ []); here = seen_at t root s shows q b own.held.here.linked.here } in
-        writes_answer Granted same task (Detach pair) pin at_key own.work.writes s s' id env (flight pin (at (Tail (Obsolete pair)) (with_reply task))) books books' after count charge
+        writes_answer Granted same task (Detach pair) refl pin at_key own.work.writes s s' id env (flight pin (at (Tail (Obsolete pair left)) (with_reply task))) books books' after count charge
         mine None (Some (q, one b))
         (nodes_taken t t' root s s' p q above_after b shows shows' map map' above own.held.here.linked.lifetime gone others)
         (own.work.writes.stores ∙ own.work.may) (λ c e. absurd (none_some c e))
         (without_fits a (byte_at a k) (below_at q) (placed.ordered p a own.held.above.linked) own.held.leads fits)
         (subst (λ (z : Option (Child M)). TakesOut s call z None (Some (q, one b))) (sym own.held.leads) (leaf, refl, refl))
-        refl (λ slot word h. absurd (none_some word h))
+        (length_in left) (is_left true above_after.node left leaves) refl (λ slot word h. absurd (none_some word h))
 
     -- THE EVENT
-    pub taken_moves : IsMove Granted same t t' root pin books books' (at (Tail (Detach pair)) task) env (at (Tail (Obsolete pair)) (with_reply task)) (report_of kind.Write (Some p) 0 true)
+    pub taken_moves : (left : Option Cleanup) → IsLeftOf true above_after.node left → IsMove Granted same t t' root pin books books' (at (Tail (Detach pair)) task) env (at (Tail (Obsolete pair left)) (with_reply task)) (report_of kind.Write (Some p) 0 true)
         (Decided (reply_with task.outline at_key task.returns))
-    taken_moves =
+    taken_moves left leaves =
         let w = own.work.writes in
         let found_is : at_key ≡ Some own.work.is.2.0 = ap payload_in own.work.is.2.1 in
         record {
           facts = record {
             small = small;
             at = (
-              decided_open,
+              ends_with Granted same task w.opened above_after.node left (may_have_removed same Granted task at_key w own.work.may) (placed.short p a own.held.above.linked) leaves,
               record {
                 node = above_after;
                 linked = record { here = above; lifetime = own.held.above.linked.lifetime };
@@ -211,9 +214,12 @@ module _ {M : Type 0} (Granted : Type 0) (same : M → M → Bool) (t t' : NodeM
           holds = λ s h. inl h;
           holders = holders_of t t' (both_slots pair) [] (p ∷ q ∷ []) (p ∷ q ∷ []) taken.needs
               (λ s h. elim h [ inl e ↦ inr (inl e) | inr (inl e) ↦ inl e | inr (inr none) ↦ absurd none ]) (λ s h. absurd h);
-          course = write_course t t' root task env (Detach pair) (Obsolete pair) p _ (inr (inl refl)) refl refl (omega arith);
-          does = does_taken;
-          carries = becomes_of Granted same task (Detach pair) pin at_key w t t' root books books' placed taken.placed small
+          course = write_course t t' root task env (Detach pair) (Obsolete pair left) p _ (inr (inl refl)) refl refl
+              (let more : cleanup_work task.progress task.outline ≡ 70 = removing_work same Granted task at_key w own.work.may in
+              let rest : unlock_work progress.Decided left ≤ 72 = left_short above_after.node left leaves (placed.short p a own.held.above.linked) in
+              omega (arith, more, rest));
+          does = does_taken left leaves;
+          carries = becomes_of Granted same task (Detach pair) refl pin at_key w t t' root books books' placed taken.placed small
               (subst (λ (z : Option M). StandsAt t k z) (sym found_is) (leaf_keeps Granted same t task pair own))
               (subst (λ (z : Option M). AnswersPair t t' (key_of task.outline) z) (sym own.work.may) (taken_takes takes root placed own.work.is.2.0 leaf_is small))
               (subst (λ (z : Option M). books'.entries ≡ entries_after at_key z books.entries) (sym own.work.may)

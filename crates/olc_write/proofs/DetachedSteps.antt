@@ -34,6 +34,8 @@ use Rattle.olc_write.proofs.Detached.{drained, leaf_keeps, none_left, taken_move
 use Rattle.olc_write.proofs.Standstill.{still_kept}
 use Rattle.olc_write.proofs.Steps.{ByteIn, DetachesNode, FitsIn, detached_still}
 use Rattle.olc_write.proofs.Wrote.{payload_meant}
+use Rattle.olc_state.specs.declared.cleanup.Cleanup.{Cleanup}
+use Rattle.olc_write.specs.inner.Leaving.{IsLeftOf}
 
 module _ {P M : Type 0} (meaning : P → M) where
   -- the node in a slot has nothing under a byte any more
@@ -112,6 +114,15 @@ module _ {P A M : Type 0} (meaning : P → M) (charge : A → Option ℕ) (Grant
     (second b ((first a facts.at.held.above.linked.here).others q (λ e. facts.at.held.over.apart (sym e)) ∙ facts.at.held.here.linked.here)).here,
   )
 
+  -- and the parent in its
+  pub above_still : (s1 s2 s3 : Store P) (byte last : ℕ) → TakesChild meaning old.store s1 p byte → TakesChild meaning s1 s2 q last → DetachesNode meaning s2 s3 q → (x : PlacedNode M) × (meant_table meaning s3 p ≡ Some x)
+  above_still s1 s2 s3 byte last first second gone =
+      let apart : p ≢ q = facts.at.held.over.apart in
+      let sets = first a facts.at.held.above.linked.here in
+      let there = sets.others q (λ e. apart (sym e)) ∙ facts.at.held.here.linked.here in
+      let taken = second b there in
+      (_, (gone _ taken.here).others p apart ∙ (taken.others p apart ∙ sets.here))
+
   pub pair_counted : CountsEntries meaning charge old → 1 ≤ old.entries
   pair_counted counted =
       counted.some (key_of task.outline) facts.at.work.is.2.0 facts.small
@@ -123,16 +134,17 @@ module _ {P A M : Type 0} (meaning : P → M) (charge : A → Option ℕ) (Grant
     abbrev t' : NodeMap M
     t' = table_in meaning charge new
 
-    abbrev MovesWith : Reply M → Type 0
-    MovesWith r =
+    abbrev MovesWith : Option Cleanup → Reply M → Type 0
+    MovesWith left r =
         IsMove Granted same t t' old.store.root pin (counts_in meaning charge old) (counts_in meaning charge new) (at (Tail (Detach pair)) (meant_task meaning task)) (env_of meaning env)
-        (at (Tail (Obsolete pair)) (with_reply (meant_task meaning task))) (report_of kind.Write (Some p) 0 true) (Decided r)
+        (at (Tail (Obsolete pair left)) (with_reply (meant_task meaning task))) (report_of kind.Write (Some p) 0 true) (Decided r)
 
     pub detaches : (s1 s2 : Store P) (w : TakesLeaf meaning old.store s1 s2 new.store p q k)
+        → (left : Option Cleanup) → ((x : PlacedNode M) → t' p ≡ Some x → IsLeftOf true x.node left)
         → (child : Child P) → ((x : PlacedNode M) → meant_table meaning s1 q ≡ Some x → entry x w.last ≡ Some (child_of meaning child))
         → StockMoves meaning charge Granted same old new pin (record { stage = Tail (Detach pair); task = task }) env
-        (record { stage = Tail (Obsolete pair); task = with_reply task }) (report_of kind.Write (Some p) 0 true) (Decided (reply_with task.outline (payload_in (Some child)) task.returns))
-    detaches s1 s2 w child was =
+        (record { stage = Tail (Obsolete pair left); task = with_reply task }) (report_of kind.Write (Some p) 0 true) (Decided (reply_with task.outline (payload_in (Some child)) task.returns))
+    detaches s1 s2 w left leaves child was =
         let held = facts.at.held in
         let here = held.here.linked.here in
         let apart = held.over.apart in
@@ -144,9 +156,9 @@ module _ {P A M : Type 0} (meaning : P → M) (charge : A → Option ℕ) (Grant
         let root = root_left meaning w a b held.above.linked.here here apart in
         let said : in_some meaning (payload_in (Some child)) ≡ payload_in (found b k) =
         payload_meant meaning (Some child) ∙ (ap payload_in (sym (was b there)) ∙ ap (λ (x : ℕ). payload_in (entry b x)) (w.also b here)) in
-        let move : MovesWith (reply_with task.outline (payload_in (found b k)) (in_some meaning task.returns)) =
+        let move : MovesWith left (reply_with task.outline (payload_in (found b k)) (in_some meaning task.returns)) =
         taken_moves Granted same t t' old.store.root pin (meant_task meaning task) pair kept.placed facts.small (counts_in meaning charge old) (counts_in meaning charge new) (env_of meaning env)
-        (ap (λ z. z.count) lives) (ap charge budget) entries facts.at (fits a held.above.linked.here) above gone others in
+        (ap (λ z. z.count) lives) (ap charge budget) entries facts.at (fits a held.above.linked.here) above gone others left (leaves _ above) in
         let placed : IsPlaced t' old.store.root =
         taken_placed Granted same t t' old.store.root pin (meant_task meaning task) pair kept.placed facts.small (counts_in meaning charge old) (counts_in meaning charge new) (env_of meaning env)
         (ap (λ z. z.count) lives) (ap charge budget) entries facts.at (fits a held.above.linked.here) above gone others in
@@ -154,7 +166,7 @@ module _ {P A M : Type 0} (meaning : P → M) (charge : A → Option ℕ) (Grant
           kept = still_kept meaning charge old new (p ∷ q ∷ []) kept others
               (detached_still meaning t t' p q a _ b (drained b) [] held.above.linked above held.here.linked gone (λ o h. absurd h) (λ o h. absurd h))
               (subst (λ z. IsPlaced t' z) (sym root) placed) lives sizes budget;
-          move = subst (λ (r : Reply M). MovesWith r) (sym (reply_meant meaning task.outline (payload_in (Some child)) task.returns ∙ ap (λ z. reply_with task.outline z (in_some meaning task.returns)) said)) move;
+          move = subst (λ (r : Reply M). MovesWith left r) (sym (reply_meant meaning task.outline (payload_in (Some child)) task.returns ∙ ap (λ z. reply_with task.outline z (in_some meaning task.returns)) said)) move;
           root = root;
           seats = ap (λ z. z.seats) lives;
         }

@@ -1,6 +1,6 @@
 -- WRITE INTO A LEAF: the held leaf has the call's payload under the key's byte, a new one or in another's place, or has
 -- none there any more.
-use Rattle.std.proofs.Common.{◌≡◌, ◌≢◌, ℕ, ◌≤◌, Bool, true, List, [], ◌∷◌, length, Option, Some, None, IsSome, inl, inr, refl, sym, subst, ap, ◌∙◌, arith}
+use Rattle.std.proofs.Common.{◌≡◌, ◌≢◌, ℕ, ◌≤◌, Bool, true, List, [], ◌∷◌, length, Option, Some, None, IsSome, inl, inr, refl, sym, subst, ap, ◌∙◌, arith, ◌<◌}
 use Rattle.node_base.specs.Form.{Fits, Within, limit}
 use Rattle.spec_map.specs.Map.{Rises, with_answer, without}
 use Rattle.spec_map.proofs.ByteMapLaws.{length-without_present}
@@ -26,7 +26,7 @@ use Rattle.olc_state.specs.inner.Facts.{Facts, Holding}
 use Rattle.olc_state.specs.inner.Moves.{StoreCounts, IsMove}
 use Rattle.olc_state.specs.inner.Shown.{flight, shown}
 use Rattle.olc_state.specs.inner.Tables.{IsBelow, IsLinked, IsPlaced, byte_at}
-use Rattle.olc_state.specs.inner.TailFacts.{HasRoom, IsHeld, WritesAtKey, found}
+use Rattle.olc_state.specs.inner.TailFacts.{HasRoom, IsHeld, WritesAtKey, found, UnlocksWith}
 use Rattle.olc_state.specs.inner.Tasks.{key_bytes}
 use Rattle.olc_state.specs.inner.World.{PlacedNode, NodeMap, entry}
 use Rattle.olc_state.proofs.Options.{none_some, some_same}
@@ -39,6 +39,12 @@ use Rattle.olc_laws.proofs.Effects.{Effect, beside_one}
 use Rattle.olc_laws.proofs.Entries.{WritesPayload, entry_effect, entry_puts, entry_takes, payload}
 use Rattle.olc_laws.proofs.Writing.{answered}
 use Rattle.olc_write.proofs.Deciding.{AnswersPair, StandsAt, becomes_of, entries_after, held_locked, nodes_written, put_fits, takes_none, with_reply, write_course, writes_answer}
+use Rattle.olc_state.specs.declared.cleanup.Cleanup.{Cleanup}
+use Rattle.olc_state.specs.inner.Tails.{length_in, unlock_work}
+use Rattle.olc_state.specs.inner.Turns.{cleanup_work, work_of}
+use Rattle.spec_olc.specs.declared.types.Progress.TheVariants as progress
+use Rattle.olc_write.specs.inner.Leaving.{IsLeftBy}
+use Rattle.olc_write.proofs.Leftovers.{ends_with, is_left_by, left_short, may_have_removed, removing_work}
 
 -- what fits leaves room for fewer
 fewer_within : (most : Option ℕ) (m n : ℕ) → m ≤ n → Within most n → Within most m
@@ -141,11 +147,28 @@ module _ {M : Type 0} (Granted : Type 0) (same : M → M → Bool) (t t' : NodeM
     pub entry_placed : IsPlaced t' root
     entry_placed = (entry_effect entry_written root placed (Holding (Tail (Write spot))) (λ p. Unit {0}) mine).placed
 
+    unlocks_with : (value : Option M) → leaf_value ≡ value → (left : Option Cleanup) → IsLeftBy value leaf_after.node left → UnlocksWith Granted same (with_reply task) left
+    unlocks_with value is None leaves = inr decided_open
+    unlocks_with (Some v) is (Some c) leaves = absurd (none_some c (sym leaves))
+    unlocks_with None is (Some c) leaves =
+        let short : length leaf_after.node.prefix ≤ 7 = omega (arith, facts.at.work.is.0) in
+        ends_with Granted same task facts.at.work.writes.opened leaf_after.node (Some c) (may_have_removed same Granted task _ facts.at.work.writes is) short leaves
+
+    -- a cleanup follows only if the key was removed
+    ends_sooner : (value : Option M) → leaf_value ≡ value → (left : Option Cleanup) → IsLeftBy value leaf_after.node left
+        → work_of t' (at (Tail (Unlock spot left)) (with_reply task)) < work_of t (at (Tail (Write spot)) task)
+    ends_sooner (Some v) is left leaves = rw leaves (omega arith)
+    ends_sooner None is left leaves =
+        let more : cleanup_work task.progress task.outline ≡ 70 = removing_work same Granted task _ facts.at.work.writes is in
+        let short : length leaf_after.node.prefix ≤ 7 = omega (arith, facts.at.work.is.0) in
+        let rest : unlock_work progress.Decided left ≤ 72 = left_short leaf_after.node left leaves short in
+        omega (arith, more, rest)
+
     -- THE EVENT
-    pub entry_move : (books books' : StoreCounts) (at_key : Option M) → Fits leaf_held.node.form (length leaf_held.node.children) → at_key ≡ payload_in (found leaf_held (key_bytes task))
+    pub entry_move : (left : Option Cleanup) → IsLeftBy leaf_value leaf_after.node left → (books books' : StoreCounts) (at_key : Option M) → Fits leaf_held.node.form (length leaf_held.node.children) → at_key ≡ payload_in (found leaf_held (key_bytes task))
         → books'.count ≡ books.count → books'.charge ≡ books.charge → books'.entries ≡ entries_after at_key leaf_value books.entries
-        → IsMove Granted same t t' root pin books books' (at (Tail (Write spot)) task) env (at (Tail (Unlock spot)) (with_reply task)) (report_of kind.Write (Some spot.slot) 0 true) (Decided (reply_with task.outline at_key task.returns))
-    entry_move books books' at_key fits stands_is count charge entries =
+        → IsMove Granted same t t' root pin books books' (at (Tail (Write spot)) task) env (at (Tail (Unlock spot left)) (with_reply task)) (report_of kind.Write (Some spot.slot) 0 true) (Decided (reply_with task.outline at_key task.returns))
+    entry_move left leaves books books' at_key fits stands_is count charge entries =
         let a : PlacedNode M = leaf_held in
         let w = facts.at.work.writes in
         let writes : WritesAtKey Granted same task at_key =
@@ -162,7 +185,7 @@ module _ {M : Type 0} (Granted : Type 0) (same : M → M → Bool) (t t' : NodeM
         subst (λ (z : Option M). StandsAt t (key_bytes task) z) (sym stands_is)
         (leaf_stands t root (key_bytes task) placed spot.slot a facts.at.held.linked begins facts.at.work.is.0 (found a (key_bytes task)) refl) in
         record {
-          facts = record { small = facts.small; at = (still_held, inr decided_open) };
+          facts = record { small = facts.small; at = (still_held, unlocks_with w.value refl left leaves) };
           counts = omega (arith, count);
           others = effect.others;
           privates = effect.privates;
@@ -171,9 +194,9 @@ module _ {M : Type 0} (Granted : Type 0) (same : M → M → Bool) (t t' : NodeM
             | inl named ↦ inl (inl (listed s (spot.slot ∷ []) named))
             | inr more ↦ inr (more.0, (λ h. elim h [ inl held ↦ more.1 (told s (spot.slot ∷ []) held) | inr made ↦ told s [] made ]))
           ];
-          course = write_course t t' root task env (Write spot) (Unlock spot) spot.slot _ (inl refl) refl refl (omega arith);
+          course = write_course t t' root task env (Write spot) (Unlock spot left) spot.slot _ (inl refl) refl refl (ends_sooner w.value refl left leaves);
           does = λ s s' id shows shows' map map' step.
-              writes_answer Granted same task (Write spot) pin at_key writes s s' id env (flight pin (at (Tail (Unlock spot)) (with_reply task))) books books' step count charge
+              writes_answer Granted same task (Write spot) refl pin at_key writes s s' id env (flight pin (at (Tail (Unlock spot left)) (with_reply task))) books books' step count charge
               (record { slot = spot.slot; node = one a; mine = listed spot.slot (spot.slot ∷ []) (inl refl); here = seen_at t root s shows spot.slot a facts.at.held.linked.here })
               (payload w.value)
               None
@@ -188,8 +211,9 @@ module _ {M : Type 0} (Granted : Type 0) (same : M → M → Bool) (t t' : NodeM
               (own_payload (flight pin (at (Tail (Write spot)) task)) w.value w.stores) (payload_shaped a.node.prefix w.value facts.at.work.is.0)
               (payload_fits a (byte_at a (key_bytes task)) w.value (placed.ordered spot.slot a facts.at.held.linked) fits facts.at.work.is.1)
               (takes_payload s (flight pin (at (Tail (Write spot)) task)) (found a (key_bytes task)) w.value (no_node_below t root placed spot.slot a facts.at.held.linked facts.at.work.is.0 (byte_at a (key_bytes task))))
+              (length_in left) (is_left_by w.value leaf_after.node left leaves)
               refl (λ slot word h. absurd (none_some word h));
           carries = λ s s' shows shows' m content.
-              becomes_of Granted same task (Write spot) pin at_key writes t t' root books books' placed effect.placed facts.small there (entry_answers t t' spot.slot leaf_key a w.value entry_written root placed) entries
+              becomes_of Granted same task (Write spot) refl pin at_key writes t t' root books books' placed effect.placed facts.small there (entry_answers t t' spot.slot leaf_key a w.value entry_written root placed) entries
               s s' shows shows' m content;
         }

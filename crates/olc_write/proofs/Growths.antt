@@ -14,7 +14,7 @@ use Rattle.olc_state.specs.declared.tail.Large.TheVariants.{GrowLeaf, GrowInner,
 use Rattle.olc_state.specs.declared.tail.NodePair.{NodePair}
 use Rattle.olc_state.specs.inner.Tables.{byte_at, IsIn, IsBelow, IsPlaced, Keeps}
 use Rattle.olc_state.specs.inner.Tails.{one_more}
-use Rattle.olc_state.specs.inner.TailFacts.{IsFork, IsHeld, IsPrivateOf, AreHeld, HasLeaf, HasCopy, HasMiddle, AtPair, grown_by, found, stores}
+use Rattle.olc_state.specs.inner.TailFacts.{IsFork, IsPrivateOf, AreHeld, HasLeaf, HasCopy, HasMiddle, AtPair, grown_by, found, stores}
 use Rattle.olc_state.specs.inner.TailFacts as spec
 use Rattle.olc_state.specs.inner.Tasks.{key_bytes}
 use Rattle.olc_state.specs.inner.World.{PlacedNode, NodeMap, is_private, is_linked, is_detached}
@@ -28,7 +28,7 @@ use Rattle.olc_laws.proofs.Writing.{answered, WritesBelow}
 use Rattle.olc_write.proofs.Deciding.{held_locked}
 use Rattle.olc_write.proofs.Linked.{made_leaf, made_published}
 
-new_free : (word : ℕ) → word ≡ 0 → IsFree word
+pub new_free : (word : ℕ) → word ≡ 0 → IsFree word
 new_free word e = omega (arith, e)
 
 -- a prefix after which two lists go on differently is longer than one after which they go on alike
@@ -68,7 +68,7 @@ module _ {M : Type 0} where
     q = pair.here.slot
 
     -- the parent leads to another node now
-    parent_writes : (new : ℕ) (held : AreHeld t pair (key_bytes task)) → LeadsNow t' p held.above.node (key_bytes task) new → WritesBelow t t' p key held.above.node (Some (below_at new))
+    pub parent_writes : (new : ℕ) (held : AreHeld t pair (key_bytes task)) → LeadsNow t' p held.above.node (key_bytes task) new → WritesBelow t t' p key held.above.node (Some (below_at new))
     parent_writes new held after = record {
       here = held.above.linked;
       locked = held_locked held.above.node.word pair.above.word held.above.word held.above.free;

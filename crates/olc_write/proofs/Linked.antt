@@ -129,7 +129,7 @@ module _ {M : Type 0} (Granted : Type 0) (same : M → M → Bool) (t t' : NodeM
 
     -- THE EVENT
     pub link_move : (books books' : StoreCounts) → Fits inner_held.node.form (length inner_held.node.children) → books'.count ≡ books.count → books'.charge ≡ books.charge → books'.entries ≡ books.entries + 1
-        → IsMove Granted same t t' root pin books books' (at (Tail (Link spot leaf)) task) env (at (Tail (Unlock spot)) (with_reply task)) (report_of kind.Write (Some spot.slot) 0 true) (Decided (reply_with task.outline None task.returns))
+        → IsMove Granted same t t' root pin books books' (at (Tail (Link spot leaf)) task) env (at (Tail (Unlock spot None)) (with_reply task)) (report_of kind.Write (Some spot.slot) 0 true) (Decided (reply_with task.outline None task.returns))
     link_move books books' fits count charge entries =
         let a : PlacedNode M = inner_held in
         let w = facts.at.0.work.writes in
@@ -160,9 +160,9 @@ module _ {M : Type 0} (Granted : Type 0) (same : M → M → Bool) (t t' : NodeM
               ]),
             )
           ];
-          course = write_course t t' root task env (Link spot leaf) (Unlock spot) spot.slot _ (inl refl) refl refl (omega arith);
+          course = write_course t t' root task env (Link spot leaf) (Unlock spot None) spot.slot _ (inl refl) refl refl (omega arith);
           does = λ s s' id shows shows' map map' step.
-              writes_child Granted same task (Link spot leaf) pin None writes s s' id env (flight pin (at (Tail (Unlock spot)) (with_reply task))) books books' step count charge
+              writes_child Granted same task (Link spot leaf) refl pin None writes s s' id env (flight pin (at (Tail (Unlock spot None)) (with_reply task))) books books' step count charge
               (record { slot = spot.slot; node = one a; mine = listed spot.slot (spot.slot ∷ []) (inl refl); here = seen_at t root s shows spot.slot a facts.at.0.held.linked.here })
               (below_at leaf)
               (nodes_written t t' root s s' (leaf ∷ []) spot.slot (one inner_after) shows shows' map map' (record {
@@ -180,7 +180,7 @@ module _ {M : Type 0} (Granted : Type 0) (same : M → M → Bool) (t t' : NodeM
               (put_fits a (byte_at a (key_bytes task)) (below_at leaf) (placed.ordered spot.slot a facts.at.0.held.linked) fits (λ e. facts.at.0.work.is.2))
               refl (λ slot word h. absurd (none_some word h));
           carries = λ s s' shows shows' m content.
-              becomes_of Granted same task (Link spot leaf) pin None writes t t' root books books' placed effect.placed facts.small
+              becomes_of Granted same task (Link spot leaf) refl pin None writes t t' root books books' placed effect.placed facts.small
               (absent_here t root (key_bytes task) placed spot.slot a facts.at.0.held.linked begins empty) (subst (λ (z : Option M). AnswersPair t t' link_key z) (sym enters.1) (link_puts links root placed))
               (entries ∙ rw enters.1 refl)
               s s' shows shows' m content;

@@ -41,8 +41,8 @@ use Rattle.olc_write.specs.inner.Makings.{AddsBuilt, AreOfKind, IsBetween, IsGro
 use Rattle.olc_write.proofs.Copies.{copy_new, middle_new}
 use Rattle.olc_write.proofs.CopyLaws.{may_from}
 use Rattle.olc_write.proofs.MakingEvents.{granted_moves}
+use Rattle.olc_write.proofs.MakingNodes.{at}
 use Rattle.olc_write.proofs.MakingFacts.{Enters, copy_enters, copy_made, middle_made}
-use Rattle.olc_write.proofs.MakingMoves.{at}
 use Rattle.olc_write.proofs.MakingTurns.{built_is}
 
 module _ {M : Type 0} where
@@ -141,7 +141,7 @@ module _ {P A M : Type 0} (meaning : P → M) (charge : A → Option ℕ) (Grant
         let fits : Fits x.node.form (length x.node.children) =
         subst (λ (z : TableNode M). Fits z.form (length z.children)) (sym is_node) (subst (λ (c : ℕ). Fits n.form c) (sym (length-mapped (child_of meaning) n.children)) grown.fits) in
         granted_moves meaning charge Granted same old new kept pin task env (Grow pair leaf) (Replace pair slot leaf) facts.small work.writes.opened.undecided enters
-        (record { holds = cons_none pair.here.slot (pair.above.slot ∷ []); held = refl; named = refl; remembered = refl })
+        (record { holds = cons_none pair.here.slot (pair.above.slot ∷ []); held = refl; named = refl; remembered = refl }) refl refl
         slot (meant_node meaning adds.node) adds.adds refl (omega arith)
         (λ s shows. subst (λ (a : TableNode M). IsNewNode s (flight pin (at (Grow pair leaf) job)) a) (sym is)
         (copy_new s pin job pair leaf (held_node s old.store.root t shows (Grow pair leaf) pair.here.slot x held.linked (first_in pair.here.slot (pair.above.slot ∷ []))) child
@@ -162,7 +162,7 @@ module _ {P A M : Type 0} (meaning : P → M) (charge : A → Option ℕ) (Grant
         subst (λ (z : TableNode M). meant_node meaning adds.node ≡ record { form = N4; prefix = p; children = put ((next_byte p z.prefix, below_at pair.here.slot) ∷ []) (next_byte p k) (below_at leaf) }) (sym is_node) between.is in
         let fork : IsFork p x.node.prefix k = subst (λ (z : TableNode M). IsFork p z.prefix k) (sym is_node) between.fork in
         granted_moves meaning charge Granted same old new kept pin task env (MakeMiddle pair leaf) (Insert pair slot leaf) facts.small work.writes.opened.undecided (record { point = work.writes.opened.point; value = facts.at.1.value; stores = facts.at.1.stores })
-        (record { holds = cons_none pair.here.slot (pair.above.slot ∷ []); held = refl; named = refl; remembered = refl })
+        (record { holds = cons_none pair.here.slot (pair.above.slot ∷ []); held = refl; named = refl; remembered = refl }) refl refl
         slot (meant_node meaning adds.node) adds.adds refl (omega arith)
         (λ s shows. subst (λ (a : TableNode M). IsNewNode s (flight pin (at (MakeMiddle pair leaf) job)) a) (sym is)
         (middle_new s pin job pair leaf p (held_node s old.store.root t shows (MakeMiddle pair leaf) pair.here.slot x held.linked (first_in pair.here.slot (pair.above.slot ∷ []))) fork

@@ -7,6 +7,14 @@ use Rattle.node_base.specs.Form.{stated_size}
 use Rattle.spec_olc.specs.State.{VersionedNode}
 use Rattle.spec_olc.specs.WellFormed.{sizes_of}
 use Rattle.olc_state.proofs.Options.{none_some, some_same}
+use Rattle.olc_state.specs.declared.stage.Record.{Record}
+use Rattle.olc_state.specs.declared.stage.Stage.TheVariants.{Tail}
+use Rattle.olc_state.specs.declared.stage.Task.{Task}
+use Rattle.olc_state.specs.declared.tail.Tail as tails
+
+-- a call at an event of its tail
+abbrev pub at : {M : Type 0} → tails.Tail → Task M → Record M
+at tail task = record { stage = Tail tail; task = task }
 
 module _ {M : Type 0} where
   first-size : (e : ℕ × VersionedNode M) (es : List (ℕ × VersionedNode M)) (k : ℕ) (a : VersionedNode M) → e.0 ≡ k → lookup (e ∷ es) k ≡ Some a → sizes_of (e ∷ es) ≡ sizes_of (without (e ∷ es) k) + stated_size a.node.form

@@ -23,8 +23,8 @@ use Rattle.olc_state.proofs.Unlike.{cons_none}
 use Rattle.olc_write.specs.inner.Makings.{AddsBuilt, GivesUp, IsLeafForTask, gone, next_make}
 use Rattle.olc_write.proofs.Copies.{leaf_new}
 use Rattle.olc_write.proofs.MakingEvents.{granted_moves, refused_moves}
+use Rattle.olc_write.proofs.MakingNodes.{at}
 use Rattle.olc_write.proofs.MakingFacts.{Enters, copy_enters, both_left, held_still, leaf_enters, leaf_enters_below, leaf_made, leaf_made_below, linked_still, over}
-use Rattle.olc_write.proofs.MakingMoves.{at}
 
 -- what holds of each node that was built holds of this one
 pub built_is : {X : Type 0} (Q : X → Type 0) (built : Option X) (x : X) → IfSome built Q → built ≡ Some x → Q x
@@ -39,16 +39,16 @@ module _ {P A M : Type 0} (meaning : P → M) (charge : A → Option ℕ) (Grant
       let own : Enters (meant_task meaning task) = leaf_enters Granted same (meant_task meaning task) facts.at.held.node facts.at.work in
       let is : meant_node meaning adds.node ≡ leaf_of (key_bytes (meant_task meaning task)) own.value = built_is (λ n. IsLeafForTask meaning task n) built adds.node leaf adds.is own.value own.stores in
       granted_moves meaning charge Granted same old new kept pin task env (MakeLeaf spot) (Link spot slot) facts.small facts.at.work.writes.opened.undecided own
-      (record { holds = cons_none spot.slot []; held = refl; named = refl; remembered = refl })
+      (record { holds = cons_none spot.slot []; held = refl; named = refl; remembered = refl }) refl refl
       slot (meant_node meaning adds.node) adds.adds refl (omega arith)
       (λ s shows. subst (λ (a : TableNode M). IsNewNode s (flight pin (at (MakeLeaf spot) (meant_task meaning task))) a) (sym is) (leaf_new s pin (meant_task meaning task) (MakeLeaf spot) own.value own.stores))
       (leaf_made (table_in meaning charge old) (table_in meaning charge new) Granted same (meant_task meaning task) slot (meant_node meaning adds.node) adds.adds.empty adds.adds.here adds.adds.others spot facts.at own is)
 
   pub leaf_refused : (spot : Spot) → StockKnows meaning charge Granted same old pin (at (MakeLeaf spot) task) → GivesUp meaning charge old new None
-      → StockMoves meaning charge Granted same old new pin (at (MakeLeaf spot) task) env (at (Unlock spot) (gone task)) (report_of kind.Make None 0 true) Refused
+      → StockMoves meaning charge Granted same old new pin (at (MakeLeaf spot) task) env (at (Unlock spot None) (gone task)) (report_of kind.Make None 0 true) Refused
   leaf_refused spot facts gives =
-      refused_moves meaning charge Granted same old new kept pin task env (MakeLeaf spot) (Unlock spot) facts.small facts.at.work.writes.opened.undecided (leaf_enters Granted same (meant_task meaning task) facts.at.held.node facts.at.work)
-      (record { holds = cons_none spot.slot []; held = refl; named = refl; remembered = refl })
+      refused_moves meaning charge Granted same old new kept pin task env (MakeLeaf spot) (Unlock spot None) facts.small facts.at.work.writes.opened.undecided (leaf_enters Granted same (meant_task meaning task) facts.at.held.node facts.at.work)
+      (record { holds = cons_none spot.slot []; held = refl; named = refl; remembered = refl }) refl refl
       None refl gives refl (omega arith) (
         held_still (table_in meaning charge old) (table_in meaning charge new) spot facts.at.held (linked_still (table_in meaning charge old) (table_in meaning charge new) None _ _ spot.slot facts.at.held.node gives.up facts.at.held.linked),
         inr (over (table_in meaning charge old) (table_in meaning charge new) Granted same (meant_task meaning task) None _ _ gives.up),
@@ -64,7 +64,7 @@ module _ {P A M : Type 0} (meaning : P → M) (charge : A → Option ℕ) (Grant
       let own : Enters (meant_task meaning task) = leaf_enters_below Granted same (meant_task meaning task) GrowInner facts.at.0.held.here.node facts.at.1 work in
       let is : meant_node meaning adds.node ≡ leaf_of (key_bytes (meant_task meaning task)) own.value = built_is (λ n. IsLeafForTask meaning task n) built adds.node leaf adds.is own.value own.stores in
       granted_moves meaning charge Granted same old new kept pin task env (MakeLeafBelow pair GrowInner) (Grow pair (Some slot)) facts.small work.writes.opened.undecided own
-      (record { holds = cons_none pair.here.slot (pair.above.slot ∷ []); held = refl; named = refl; remembered = refl })
+      (record { holds = cons_none pair.here.slot (pair.above.slot ∷ []); held = refl; named = refl; remembered = refl }) refl refl
       slot (meant_node meaning adds.node) adds.adds refl (omega arith)
       (λ s shows. subst (λ (a : TableNode M). IsNewNode s (flight pin (at (MakeLeafBelow pair GrowInner) (meant_task meaning task))) a) (sym is) (leaf_new s pin (meant_task meaning task) (MakeLeafBelow pair GrowInner) own.value own.stores))
       (leaf_made_below (table_in meaning charge old) (table_in meaning charge new) Granted same (meant_task meaning task) slot (meant_node meaning adds.node) adds.adds.empty adds.adds.here adds.adds.others pair GrowInner facts.at.0 own is)
@@ -73,7 +73,7 @@ module _ {P A M : Type 0} (meaning : P → M) (charge : A → Option ℕ) (Grant
       let own : Enters (meant_task meaning task) = leaf_enters_below Granted same (meant_task meaning task) Split facts.at.0.held.here.node facts.at.1 work in
       let is : meant_node meaning adds.node ≡ leaf_of (key_bytes (meant_task meaning task)) own.value = built_is (λ n. IsLeafForTask meaning task n) built adds.node leaf adds.is own.value own.stores in
       granted_moves meaning charge Granted same old new kept pin task env (MakeLeafBelow pair Split) (MakeMiddle pair slot) facts.small work.writes.opened.undecided own
-      (record { holds = cons_none pair.here.slot (pair.above.slot ∷ []); held = refl; named = refl; remembered = refl })
+      (record { holds = cons_none pair.here.slot (pair.above.slot ∷ []); held = refl; named = refl; remembered = refl }) refl refl
       slot (meant_node meaning adds.node) adds.adds refl (omega arith)
       (λ s shows. subst (λ (a : TableNode M). IsNewNode s (flight pin (at (MakeLeafBelow pair Split) (meant_task meaning task))) a) (sym is) (leaf_new s pin (meant_task meaning task) (MakeLeafBelow pair Split) own.value own.stores))
       (leaf_made_below (table_in meaning charge old) (table_in meaning charge new) Granted same (meant_task meaning task) slot (meant_node meaning adds.node) adds.adds.empty adds.adds.here adds.adds.others pair Split facts.at.0 own is)
@@ -83,7 +83,7 @@ module _ {P A M : Type 0} (meaning : P → M) (charge : A → Option ℕ) (Grant
       → StockMoves meaning charge Granted same old new pin (at (MakeLeafBelow pair large) task) env (at (UnlockBelow pair) (gone task)) (report_of kind.Make None 0 true) Refused
   leaf_refused_below pair large facts gives =
       refused_moves meaning charge Granted same old new kept pin task env (MakeLeafBelow pair large) (UnlockBelow pair) facts.small facts.at.0.work.writes.opened.undecided (leaf_enters_below Granted same (meant_task meaning task) large facts.at.0.held.here.node facts.at.1 facts.at.0.work)
-      (record { holds = cons_none pair.here.slot (pair.above.slot ∷ []); held = refl; named = refl; remembered = refl })
+      (record { holds = cons_none pair.here.slot (pair.above.slot ∷ []); held = refl; named = refl; remembered = refl }) refl refl
       None refl gives refl (omega arith)
       (both_left (table_in meaning charge old) (table_in meaning charge new) Granted same (meant_task meaning task) None _ _ gives.up pair (key_bytes (meant_task meaning task)) facts.at.0.held)
 
@@ -91,7 +91,7 @@ module _ {P A M : Type 0} (meaning : P → M) (charge : A → Option ℕ) (Grant
       → StockMoves meaning charge Granted same old new pin (at (MakeMiddle pair leaf) task) env (at (UnlockBelow pair) (gone task)) (report_of kind.Make None 0 true) Refused
   middle_refused pair leaf facts gives =
       refused_moves meaning charge Granted same old new kept pin task env (MakeMiddle pair leaf) (UnlockBelow pair) facts.small facts.at.0.work.writes.opened.undecided (leaf_enters_below Granted same (meant_task meaning task) Split facts.at.0.held.here.node tt facts.at.0.work)
-      (record { holds = cons_none pair.here.slot (pair.above.slot ∷ []); held = refl; named = refl; remembered = refl })
+      (record { holds = cons_none pair.here.slot (pair.above.slot ∷ []); held = refl; named = refl; remembered = refl }) refl refl
       (Some leaf) refl gives refl (omega arith)
       (both_left (table_in meaning charge old) (table_in meaning charge new) Granted same (meant_task meaning task) (Some leaf) _ _ gives.up pair (key_bytes (meant_task meaning task)) facts.at.0.held)
 
@@ -99,6 +99,6 @@ module _ {P A M : Type 0} (meaning : P → M) (charge : A → Option ℕ) (Grant
       → StockMoves meaning charge Granted same old new pin (at (Grow pair leaf) task) env (at (UnlockBelow pair) (gone task)) (report_of kind.Make None 0 true) Refused
   copy_refused pair leaf facts gives =
       refused_moves meaning charge Granted same old new kept pin task env (Grow pair leaf) (UnlockBelow pair) facts.small facts.at.0.work.writes.opened.undecided (copy_enters Granted same (meant_task meaning task) leaf facts.at.0.held.here.node facts.at.0.work)
-      (record { holds = cons_none pair.here.slot (pair.above.slot ∷ []); held = refl; named = refl; remembered = refl })
+      (record { holds = cons_none pair.here.slot (pair.above.slot ∷ []); held = refl; named = refl; remembered = refl }) refl refl
       leaf refl gives refl (omega arith)
       (both_left (table_in meaning charge old) (table_in meaning charge new) Granted same (meant_task meaning task) leaf _ _ gives.up pair (key_bytes (meant_task meaning task)) facts.at.0.held)

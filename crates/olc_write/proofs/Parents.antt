@@ -26,7 +26,7 @@ use Rattle.olc_state.specs.inner.Moves.{StoreCounts, IsAfter, IsMove}
 use Rattle.olc_state.specs.inner.Shown.{flight, shown, held_at, made_at}
 use Rattle.olc_state.specs.inner.Tables.{IsIn, IsLinked, IsPlaced, NeedsHolder, byte_at}
 use Rattle.olc_state.specs.inner.TailFacts.{IsHeld, AreHeld, AtPair, HasLeaf, HasCopy, HasMiddle, WritesAtKey, is_for}
-use Rattle.olc_state.specs.inner.Tails.{both_slots, one_more}
+use Rattle.olc_state.specs.inner.Tails.{both_slots, one_more, cleaning_in}
 use Rattle.olc_state.specs.inner.Tasks.{key_bytes}
 use Rattle.olc_state.specs.inner.Turns.{ShowsNodes}
 use Rattle.olc_state.specs.inner.World.{PlacedNode, NodeMap, is_private, is_linked, is_detached}
@@ -44,7 +44,7 @@ use Rattle.olc_laws.proofs.Writing.{answered}
 use Rattle.olc_write.proofs.Deciding.{AnswersPair, ShowsWrite, StandsAt, becomes_of, entries_after, nodes_written, with_reply, write_course, writes_child}
 use Rattle.olc_write.proofs.Growths.{BecomesLinked, LeadsNow, IsPrivate, copy_private, middle_private, above_inner, grows_leaf, grows_inner, splits, copied_absent, split_absent}
 
-not_in : (b : Bool) → b ≡ false → IsTrue b → ⊥
+pub not_in : (b : Bool) → b ≡ false → IsTrue b → ⊥
 not_in b e h = cc
 
 out_list : (n : ℕ) (xs : List ℕ) → (IsIn n xs → ⊥) → is_in n xs ≡ false
@@ -91,6 +91,56 @@ module _ {M : Type 0} where
   detached_shown : (b : PlacedNode M) → b.lifetime ≡ is_linked → shown (Some (record b { lifetime = is_detached })) ≡ shown (Some b)
   detached_shown b e = rw e refl
 
+-- THE PARENT of a node that another one replaces
+module _ {M : Type 0} (t t' : NodeMap M) (task : Task M) (pair : NodePair) where
+  -- what a reader sees of the nodes
+  pub shows_above : (new : ℕ) (made : List ℕ) (held : AreHeld t pair (key_bytes task)) → LeadsNow t' pair.above.slot held.above.node (key_bytes task) new → ((s : ℕ) → IsIn s made → IsPublished t t' s)
+      → ((o : ℕ) → o ≢ pair.above.slot → (IsIn o made → ⊥) → shown (t' o) ≡ shown (t o))
+      → ShowsWrite t t' made pair.above.slot (one (answered held.above.node (byte_at held.above.node (key_bytes task)) (Some (below_at new))))
+  shows_above new made held above published others = record {
+    was = held.above.node;
+    here = held.above.linked.here;
+    there = ap shown above;
+    apart = out_list pair.above.slot made (λ h. published_off t t' pair.above.slot pair.above.slot held.above.node (published pair.above.slot h) held.above.linked refl);
+    published = λ o h. let x = published o (told o made h) in (x.node, x.made, x.after);
+    others = λ o far out. others o far (λ h. not_in (is_in o made) out (listed o made h));
+  }
+
+  -- the parent is still held
+  pub above_held : (new : ℕ) (held : AreHeld t pair (key_bytes task)) → LeadsNow t' pair.above.slot held.above.node (key_bytes task) new → IsHeld t' pair.above
+  above_held new held above = record {
+    node = answered held.above.node (byte_at held.above.node (key_bytes task)) (Some (below_at new));
+    linked = record { here = above; lifetime = held.above.linked.lifetime };
+    word = held.above.word;
+    free = held.above.free;
+    room = held.above.room;
+  }
+
+  -- what a reader sees beside the parent, where a node is detached
+  pub others_shown : (made : List ℕ) (held : AreHeld t pair (key_bytes task)) → t' pair.here.slot ≡ Some (record held.here.node { lifetime = is_detached }) → OthersStay t t' (pair.above.slot ∷ pair.here.slot ∷ made)
+      → (o : ℕ) → o ≢ pair.above.slot → (IsIn o made → ⊥) → shown (t' o) ≡ shown (t o)
+  others_shown made held here others o far out =
+      elim (eqb_tells o pair.here.slot) [
+        | inl same_slot ↦
+            subst (λ z. shown (t' z) ≡ shown (t z)) (sym same_slot.1)
+            (ap shown here ∙ (detached_shown held.here.node held.here.linked.lifetime ∙ sym (ap shown held.here.linked.here)))
+        | inr off ↦ ap shown (others o (λ h. elim h [ inl e ↦ far (sym e) | inr (inl e) ↦ off.1 (sym e) | inr (inr later) ↦ out later ]))
+      ]
+
+module _ {M : Type 0} (t : NodeMap M) (root : ℕ) (task : Task M) (pair : NodePair) (placed : IsPlaced t root) where
+  -- another child in a child's place leaves their number
+  pub still_fits : (new : ℕ) (held : AreHeld t pair (key_bytes task)) → Fits held.above.node.node.form (length held.above.node.node.children)
+      → Fits held.above.node.node.form (length (put held.above.node.node.children (byte_at held.above.node (key_bytes task)) (below_at new)))
+  still_fits new held fits =
+      let a : PlacedNode M = held.above.node in
+      subst (λ n. Fits a.node.form n) (sym (length-put_some 0 256 a.node.children (byte_at a (key_bytes task)) (below_at new) (placed.ordered pair.above.slot a held.above.linked) (rw held.leads refl))) fits
+
+module _ {M : Type 0} (t t' : NodeMap M) where
+  pub published_by : (made : List ℕ) → ((s : ℕ) → IsIn s made → IsPrivate t s) → ((s : ℕ) → IsIn s made → BecomesLinked t t' s) → (s : ℕ) → IsIn s made → IsPublished t t' s
+  published_by made private linked s h =
+      let x = private s h in
+      record { node = x.node; made = x.here; private = x.lifetime; after = linked s h x.node x.here }
+
 module _ {M : Type 0} (Granted : Type 0) (same : M → M → Bool) (t t' : NodeMap M) (root pin : ℕ) (task : Task M) (pair : NodePair) (placed : IsPlaced t root) (small : key_of task.outline < 2 ^ 64)
     (books books' : StoreCounts) (env : Env M) (count : books'.count ≡ books.count) (charge : books'.charge ≡ books.charge) (entries : books'.entries ≡ books.entries + 1) where
   abbrev k : List ℕ
@@ -112,51 +162,21 @@ module _ {M : Type 0} (Granted : Type 0) (same : M → M → Bool) (t t' : NodeM
   entries_entered : (value : Option M) (v : M) → value ≡ Some v → books'.entries ≡ entries_after None value books.entries
   entries_entered value v is = subst (λ (z : Option M). books'.entries ≡ entries_after None z books.entries) (sym is) entries
 
-  -- what a reader sees of the nodes
-  shows_above : (new : ℕ) (made : List ℕ) (held : AreHeld t pair k) → LeadsNow t' p held.above.node k new → ((s : ℕ) → IsIn s made → IsPublished t t' s)
-      → ((o : ℕ) → o ≢ p → (IsIn o made → ⊥) → shown (t' o) ≡ shown (t o))
-      → ShowsWrite t t' made p (one (answered held.above.node (byte_at held.above.node k) (Some (below_at new))))
-  shows_above new made held above published others = record {
-    was = held.above.node;
-    here = held.above.linked.here;
-    there = ap shown above;
-    apart = out_list p made (λ h. published_off t t' p p held.above.node (published p h) held.above.linked refl);
-    published = λ o h. let x = published o (told o made h) in (x.node, x.made, x.after);
-    others = λ o far out. others o far (λ h. not_in (is_in o made) out (listed o made h));
-  }
-
-  -- another child in a child's place leaves their number
-  still_fits : (new : ℕ) (held : AreHeld t pair k) → Fits held.above.node.node.form (length held.above.node.node.children)
-      → Fits held.above.node.node.form (length (put held.above.node.node.children (byte_at held.above.node k) (below_at new)))
-  still_fits new held fits =
-      let a : PlacedNode M = held.above.node in
-      subst (λ n. Fits a.node.form n) (sym (length-put_some 0 256 a.node.children (byte_at a k) (below_at new) (placed.ordered p a held.above.linked) (rw held.leads refl))) fits
-
   -- AS A PUBLIC EVENT
-  does_above : (tail next : tails.Tail) (new : ℕ) (held : AreHeld t pair k) (w : WritesAtKey Granted same task None) → IsTrue (is_in p (held_at (Tail tail))) → IsTrue (is_in new (made_at (Tail tail)))
-      → (let call : CallState M = flight pin (at (Tail tail) task) in let after : CallState M = flight pin (at (Tail next) (with_reply task)) in after ≡ record (settled progress.Decided (record call { made = [] })) { remembered = after.remembered })
+  does_above : (tail next : tails.Tail) → cleaning_in tail ≡ None → (new : ℕ) (held : AreHeld t pair k) (w : WritesAtKey Granted same task None) → IsTrue (is_in p (held_at (Tail tail))) → IsTrue (is_in new (made_at (Tail tail)))
+      → (let call : CallState M = flight pin (at (Tail tail) task) in let after : CallState M = flight pin (at (Tail next) (with_reply task)) in after ≡ record (settled progress.Decided (record call { made = []; cleaning = None })) { remembered = after.remembered })
       → (let after : CallState M = flight pin (at (Tail next) (with_reply task)) in after.remembered ≡ [])
       → Fits held.above.node.node.form (length held.above.node.node.children)
       → ShowsWrite t t' (made_at (Tail tail)) p (one (answered held.above.node (byte_at held.above.node k) (Some (below_at new))))
       → (s s' : State M) (id : ℕ) → ShowsNodes t root s → ShowsNodes t' root s' → IsMap s.nodes → IsMap s'.nodes → IsAfter s s' id (flight pin (at (Tail next) (with_reply task))) books books'
       → DoesAs Granted same s s' id (flight pin (at (Tail tail) task)) env (report_of kind.Write (Some p) 0 true) (Decided (reply_with task.outline None task.returns)) kind.Write
-  does_above tail next new held w mine own is no_spots fits written s s' id shows shows' map map' after =
-      writes_child Granted same task tail pin None w s s' id env (flight pin (at (Tail next) (with_reply task))) books books' after count charge
+  does_above tail next quiet new held w mine own is no_spots fits written s s' id shows shows' map map' after =
+      writes_child Granted same task tail quiet pin None w s s' id env (flight pin (at (Tail next) (with_reply task))) books books' after count charge
       (record { slot = p; node = one held.above.node; mine = mine; here = seen_at t root s shows p held.above.node held.above.linked.here })
       (below_at new)
       (nodes_written t t' root s s' (made_at (Tail tail)) p (one (answered held.above.node (byte_at held.above.node k) (Some (below_at new)))) shows shows' map map' written)
-      own (above_inner t root task pair placed held) (still_fits new held fits) is
+      own (above_inner t root task pair placed held) (still_fits t root task pair placed new held fits) is
       (λ slot word e. absurd (none_some word (subst (λ (z : List (ℕ × ℕ)). lookup z slot ≡ Some word) no_spots e)))
-
-  -- the parent is still held
-  above_held : (new : ℕ) (held : AreHeld t pair k) → LeadsNow t' p held.above.node k new → IsHeld t' pair.above
-  above_held new held above = record {
-    node = answered held.above.node (byte_at held.above.node k) (Some (below_at new));
-    linked = record { here = above; lifetime = held.above.linked.lifetime };
-    word = held.above.word;
-    free = held.above.free;
-    room = held.above.room;
-  }
 
   both_in : (s : ℕ) → IsIn s (p ∷ q ∷ []) → IsIn s (both_slots pair)
   both_in s h = elim h [ inl e ↦ inr (inl e) | inr (inl e) ↦ inl e | inr (inr none) ↦ absurd none ]
@@ -167,13 +187,13 @@ module _ {M : Type 0} (Granted : Type 0) (same : M → M → Bool) (t t' : NodeM
       → OthersStay t t' (p ∷ q ∷ copy ∷ one_more leaf)
       → Effect t t' root (Holding (Tail (Replace pair copy leaf))) (λ z. z ≤ books.count) (p ∷ q ∷ copy ∷ one_more leaf) (p ∷ q ∷ [])
       → (v : M) → w.value ≡ Some v → StandsAt t k None → PutsPair t t' (key_of task.outline) v
-      → IsMove Granted same t t' root pin books books' (at (Tail (Replace pair copy leaf)) task) env (at (Tail (Obsolete pair)) (with_reply task)) (report_of kind.Write (Some p) 0 true) (Decided (reply_with task.outline None task.returns))
+      → IsMove Granted same t t' root pin books books' (at (Tail (Replace pair copy leaf)) task) env (at (Tail (Obsolete pair None)) (with_reply task)) (report_of kind.Write (Some p) 0 true) (Decided (reply_with task.outline None task.returns))
   replaced_by copy leaf held w fits above here published others effect v is absent puts = record {
     facts = record {
       small = small;
       at = (
         decided_open,
-        above_held copy held above,
+        above_held t t' task pair copy held above,
         record { node = record held.here.node { lifetime = is_detached }; here = here; lifetime = refl; word = held.here.word; free = held.here.free },
         held.over.apart,
       );
@@ -183,16 +203,10 @@ module _ {M : Type 0} (Granted : Type 0) (same : M → M → Bool) (t t' : NodeM
     privates = effect.privates;
     holds = λ s h. elim h [ inl mine ↦ inl (inl mine) | inr none ↦ absurd (not_in false refl none) ];
     holders = holders_of t t' (both_slots pair) (copy ∷ one_more leaf) (p ∷ q ∷ copy ∷ one_more leaf) (p ∷ q ∷ []) effect.needs both_in (λ s h. inr (inr h));
-    course = write_course t t' root task env (Replace pair copy leaf) (Obsolete pair) p _ (inr (inl refl)) refl refl (omega arith);
-    does = does_above (Replace pair copy leaf) (Obsolete pair) copy held w (next_in q p (p ∷ []) (first_in p [])) (first_in copy (one_more leaf)) refl refl fits
-        (shows_above copy (copy ∷ one_more leaf) held above published (λ o far out.
-        elim (eqb_tells o q) [
-          | inl same_slot ↦
-              subst (λ z. shown (t' z) ≡ shown (t z)) (sym same_slot.1)
-              (ap shown here ∙ (detached_shown held.here.node held.here.linked.lifetime ∙ sym (ap shown held.here.linked.here)))
-          | inr off ↦ ap shown (others o (λ h. elim h [ inl e ↦ far (sym e) | inr (inl e) ↦ off.1 (sym e) | inr (inr later) ↦ out later ]))
-        ]));
-    carries = becomes_of Granted same task (Replace pair copy leaf) pin None w t t' root books books' placed effect.placed small absent (answers_entered w.value v is puts) (entries_entered w.value v is);
+    course = write_course t t' root task env (Replace pair copy leaf) (Obsolete pair None) p _ (inr (inl refl)) refl refl (omega arith);
+    does = does_above (Replace pair copy leaf) (Obsolete pair None) refl copy held w (next_in q p (p ∷ []) (first_in p [])) (first_in copy (one_more leaf)) refl refl fits
+        (shows_above t t' task pair copy (copy ∷ one_more leaf) held above published (others_shown t t' task pair (copy ∷ one_more leaf) held here others));
+    carries = becomes_of Granted same task (Replace pair copy leaf) refl pin None w t t' root books books' placed effect.placed small absent (answers_entered w.value v is puts) (entries_entered w.value v is);
   }
 
   -- THE MIDDLE NODE is put between
@@ -211,7 +225,7 @@ module _ {M : Type 0} (Granted : Type 0) (same : M → M → Bool) (t t' : NodeM
           small = small;
           at = (
             decided_open,
-            above_held middle held above,
+            above_held t t' task pair middle held above,
             record {
               node = held.here.node;
               linked = record { here = here; lifetime = held.here.linked.lifetime };
@@ -229,29 +243,24 @@ module _ {M : Type 0} (Granted : Type 0) (same : M → M → Bool) (t t' : NodeM
         holders = holders_of t t' (both_slots pair) (middle ∷ leaf ∷ []) (p ∷ middle ∷ leaf ∷ []) (p ∷ []) effect.needs
             (λ s h. elim h [ inl e ↦ inr (inl e) | inr none ↦ absurd none ]) (λ s h. inr h);
         course = write_course t t' root task env (Insert pair middle leaf) (UnlockBelow pair) p _ (inr (inl refl)) refl refl (omega arith);
-        does = does_above (Insert pair middle leaf) (UnlockBelow pair) middle held w (next_in q p (p ∷ []) (first_in p [])) (first_in middle (leaf ∷ [])) refl refl fits
-            (shows_above middle (middle ∷ leaf ∷ []) held above published (λ o far out. ap shown (off o far out)));
-        carries = becomes_of Granted same task (Insert pair middle leaf) pin None w t t' root books books' placed effect.placed small absent (answers_entered w.value v is puts) (entries_entered w.value v is);
+        does = does_above (Insert pair middle leaf) (UnlockBelow pair) refl middle held w (next_in q p (p ∷ []) (first_in p [])) (first_in middle (leaf ∷ [])) refl refl fits
+            (shows_above t t' task pair middle (middle ∷ leaf ∷ []) held above published (λ o far out. ap shown (off o far out)));
+        carries = becomes_of Granted same task (Insert pair middle leaf) refl pin None w t t' root books books' placed effect.placed small absent (answers_entered w.value v is puts) (entries_entered w.value v is);
       }
-
-  published_by : (made : List ℕ) → ((s : ℕ) → IsIn s made → IsPrivate t s) → ((s : ℕ) → IsIn s made → BecomesLinked t t' s) → (s : ℕ) → IsIn s made → IsPublished t t' s
-  published_by made private linked s h =
-      let x = private s h in
-      record { node = x.node; made = x.here; private = x.lifetime; after = linked s h x.node x.here }
 
   -- A REPLACE
   pub copy_moves : (copy : ℕ) (leaf : Option ℕ) (own : AtPair Granted same t task pair (is_for leaf)) (has : HasCopy t task own.held.here.node copy leaf)
       → Fits own.held.above.node.node.form (length own.held.above.node.node.children)
       → LeadsNow t' p own.held.above.node k copy → t' q ≡ Some (record own.held.here.node { lifetime = is_detached }) → ((s : ℕ) → IsIn s (copy ∷ one_more leaf) → BecomesLinked t t' s)
       → OthersStay t t' (p ∷ q ∷ copy ∷ one_more leaf)
-      → IsPlaced t' root × IsMove Granted same t t' root pin books books' (at (Tail (Replace pair copy leaf)) task) env (at (Tail (Obsolete pair)) (with_reply task)) (report_of kind.Write (Some p) 0 true) (Decided (reply_with task.outline None task.returns))
+      → IsPlaced t' root × IsMove Granted same t t' root pin books books' (at (Tail (Replace pair copy leaf)) task) env (at (Tail (Obsolete pair None)) (with_reply task)) (report_of kind.Write (Some p) 0 true) (Decided (reply_with task.outline None task.returns))
   copy_moves copy None own has fits above here linked others =
       let mine : ℕ → Type 0 = Holding (Tail (Replace pair copy None)) in
       let value = entered own.work.writes in
       let g = grows_leaf Granted same t t' root task pair placed small copy own has value.0 (own.work.writes.stores ∙ value.1) above here (linked copy (inl refl)) others in
       let effect = grown_leaf_effect g root placed mine (λ z. z ≤ books.count) (inl (next_in q p (p ∷ []) (first_in p []))) (inl (first_in q (p ∷ []))) (inr (first_in copy [])) in (
         effect.placed,
-        replaced_by copy None own.held own.work.writes fits above here (published_by (copy ∷ []) (copy_private t task own.held.here.node copy None has) linked) others effect value.0 value.1
+        replaced_by copy None own.held own.work.writes fits above here (published_by t t' (copy ∷ []) (copy_private t task own.held.here.node copy None has) linked) others effect value.0 value.1
             (copied_absent Granted same t t' root task pair placed small own.held own.work.is.0 own.work.is.2)
             (grown_leaf_puts g root placed),
       )
@@ -262,7 +271,7 @@ module _ {M : Type 0} (Granted : Type 0) (same : M → M → Bool) (t t' : NodeM
       let effect = grown_inner_effect g root placed mine (λ z. z ≤ books.count) (inl (next_in q p (p ∷ []) (first_in p []))) (inl (first_in q (p ∷ []))) (inr (first_in copy (leaf ∷ [])))
       (inr (next_in copy leaf (leaf ∷ []) (first_in leaf []))) in (
         effect.placed,
-        replaced_by copy (Some leaf) own.held own.work.writes fits above here (published_by (copy ∷ leaf ∷ []) (copy_private t task own.held.here.node copy (Some leaf) has) linked) others effect value.0 value.1
+        replaced_by copy (Some leaf) own.held own.work.writes fits above here (published_by t t' (copy ∷ leaf ∷ []) (copy_private t task own.held.here.node copy (Some leaf) has) linked) others effect value.0 value.1
             (copied_absent Granted same t t' root task pair placed small own.held own.work.is.0 own.work.is.2)
             (grown_inner_puts g root placed),
       )
@@ -280,7 +289,7 @@ module _ {M : Type 0} (Granted : Type 0) (same : M → M → Bool) (t t' : NodeM
       let effect = split_effect g root placed mine (λ z. z ≤ books.count) (inl (next_in q p (p ∷ []) (first_in p []))) (inr (first_in middle (leaf ∷ [])))
       (inr (next_in middle leaf (leaf ∷ []) (first_in leaf []))) in (
         effect.placed,
-        inserted_by middle leaf own.held own.work.writes fits above (published_by (middle ∷ leaf ∷ []) (middle_private t task q own.held.here.node middle leaf has_leaf has) linked) others effect value.0 value.1
+        inserted_by middle leaf own.held own.work.writes fits above (published_by t t' (middle ∷ leaf ∷ []) (middle_private t task q own.held.here.node middle leaf has_leaf has) linked) others effect value.0 value.1
             (split_absent Granted same t t' root task pair placed small own.held own.work.is)
             (split_puts g root placed),
       )

@@ -250,7 +250,7 @@ module _ {P A M : Type 0} (meaning : P → M) (charge : A → Option ℕ) (Grant
   pub replaces : (s1 s2 : Store P) (copy : ℕ) (leaf : Option ℕ) (facts : StockKnows meaning charge Granted same old pin (record { stage = Tail (Replace pair copy leaf); task = task }))
       → PutsBelow meaning old.store s1 s2 (copy ∷ one_more leaf) p copy key_bytes → DetachesNode meaning s2 new.store q
       → StockMoves meaning charge Granted same old new pin (record { stage = Tail (Replace pair copy leaf); task = task }) env
-      (record { stage = Tail (Obsolete pair); task = with_reply task }) (report_of kind.Write (Some p) 0 true) (Decided (reply_with task.outline None task.returns))
+      (record { stage = Tail (Obsolete pair None); task = with_reply task }) (report_of kind.Write (Some p) 0 true) (Decided (reply_with task.outline None task.returns))
   replaces s1 s2 copy leaf facts w detaches =
       let own = facts.at.0 in
       let a : PlacedNode M = own.held.above.node in
@@ -268,7 +268,7 @@ module _ {P A M : Type 0} (meaning : P → M) (charge : A → Option ℕ) (Grant
         kept = still_kept meaning charge old new (p ∷ q ∷ made) kept others
             (detached_still meaning t t' p q a (answered a (byte_at a key_bytes) (Some (below_at copy))) b (record b { lifetime = is_detached }) made own.held.above.linked above own.held.here.linked gone private linked)
             (subst (λ z. IsPlaced t' z) (sym root) moves.0) lives sizes budget;
-        move = told_move (Tail (Replace pair copy leaf)) (Tail (Obsolete pair)) moves.1;
+        move = told_move (Tail (Replace pair copy leaf)) (Tail (Obsolete pair None)) moves.1;
         root = root;
         seats = ap (λ z. z.seats) lives;
       }

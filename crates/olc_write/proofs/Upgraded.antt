@@ -23,6 +23,7 @@ use Rattle.olc_state.specs.declared.tail.Tail.{Tail}
 use Rattle.olc_state.specs.declared.tail.Tail.TheVariants.{Upgrade, Write, MakeLeaf, Unlock, UpgradeAbove, UpgradeBelow, MakeLeafBelow, Grow}
 use Rattle.olc_state.specs.declared.tail.Tail.TheVariants as tails
 use Rattle.olc_state.specs.inner.Facts.{Facts}
+use Rattle.olc_state.specs.inner.Shown.{flight}
 use Rattle.olc_state.specs.inner.Moves.{StoreCounts, IsMove}
 use Rattle.olc_state.specs.inner.Tables.{IsIn, IsLinked, IsPlaced, Known, OnWay, While}
 use Rattle.olc_state.specs.inner.TailFacts.{AtNode, AtPair, Below, IsHeld, IsSmall, LargeWork, SmallWork, TailFacts}
@@ -55,7 +56,7 @@ makes_leaf Split pair is = refl
 makes_leaf Detach pair is = elim is [ inl e ↦ cc | inr e ↦ cc ]
 
 -- a list of one word has no other
-one_known : (slot word s w : ℕ) → lookup ((slot, word) ∷ []) s ≡ Some w → slot ≡ s
+pub one_known : (slot word s w : ℕ) → lookup ((slot, word) ∷ []) s ≡ Some w → slot ≡ s
 one_known slot word s w h =
     elim (eqb_tells slot s) [
       | inl e ↦ e.1
@@ -113,6 +114,19 @@ large_less progress Split pair = omega arith
 large_less progress Detach pair = omega arith
 
 module _ {M : Type 0} where
+  -- the call after its upgrade
+  small_alike : (pin : ℕ) (task : Task M) (small : Small) (path : Path)
+      → flight pin (at (tail_at (small_next small path.here)) task) ≡ record (flight pin (at (tail_at (Upgrade path small)) task)) { held = path.here.slot ∷ []; remembered = spots_in (small_next small path.here) }
+  small_alike pin task Entry path = refl
+  small_alike pin task Leaf path = refl
+
+  large_alike : (pin : ℕ) (task : Task M) (large : Large) (pair : NodePair)
+      → flight pin (at (tail_at (large_next large pair)) task) ≡ record (flight pin (at (tail_at (UpgradeBelow pair large)) task)) { held = both_slots pair; remembered = spots_in (large_next large pair) }
+  large_alike pin task GrowLeaf pair = refl
+  large_alike pin task GrowInner pair = refl
+  large_alike pin task Split pair = refl
+  large_alike pin task Detach pair = refl
+
   -- what is to be done at a node is so whatever its word is
   module _ (Granted : Type 0) (same : M → M → Bool) (task : Task M) where
     large_work : (large : Large) (a : PlacedNode M) (word : ℕ) → LargeWork Granted same large task a → LargeWork Granted same large task (record a { word = word })
@@ -140,13 +154,13 @@ module _ {M : Type 0} (Granted : Type 0) (same : M → M → Bool) (t : NodeMap 
   -- a remembered node that may be locked, and is
   module _ (t' : NodeMap M) (spot : Spot) (a : PlacedNode M) (here : t spot.slot ≡ Some a) (known : Known t pin spot) (may : MayUpgrade a.word spot.word)
       (after : t' spot.slot ≡ Some (record a { word = a.word + 2 })) (others : (o : ℕ) → o ≢ spot.slot → t' o ≡ t o) where
-    linked : IsLinked t spot.slot a
+    pub linked : IsLinked t spot.slot a
     linked = known_linked t root (key_bytes task) placed pin spot a known here may.same
 
-    upgrades : Upgrades t t' spot.slot a
+    pub upgrades : Upgrades t t' spot.slot a
     upgrades = record { here = linked; free = may.free; after = after; others = beside_one t t' spot.slot others }
 
-    is_held : IsHeld t' spot
+    abbrev pub is_held : IsHeld t' spot
     is_held = record {
       node = record a { word = a.word + 2 };
       linked = record { here = after; lifetime = linked.lifetime };
@@ -155,18 +169,18 @@ module _ {M : Type 0} (Granted : Type 0) (same : M → M → Bool) (t : NodeMap 
       room = λ e. may.room (ap version may.same ∙ e);
     }
 
-    on_way : OnWay t spot.slot (key_bytes task) → OnWay t' spot.slot (key_bytes task)
+    pub on_way : OnWay t spot.slot (key_bytes task) → OnWay t' spot.slot (key_bytes task)
     on_way way b at_b = subst (λ (z : PlacedNode M). Begins z.node.prefix (key_bytes task)) (some_same (record a { word = a.word + 2 }) b (sym after ∙ at_b)) (way a here)
 
     -- the other node of a pair is unchanged
     module _ (other : Spot) (apart : other.slot ≢ spot.slot) where
-      known_still : Known t pin other → Known t' pin other
+      pub known_still : Known t pin other → Known t' pin other
       known_still k = record { node = k.node; here = others other.slot apart ∙ k.here; safe = k.safe; free = k.free; word = k.word }
 
-      held_still : IsHeld t other → IsHeld t' other
+      abbrev pub held_still : IsHeld t other → IsHeld t' other
       held_still h = record { node = h.node; linked = record { here = others other.slot apart ∙ h.linked.here; lifetime = h.linked.lifetime }; word = h.word; free = h.free; room = h.room }
 
-      way_still : OnWay t other.slot (key_bytes task) → OnWay t' other.slot (key_bytes task)
+      pub way_still : OnWay t other.slot (key_bytes task) → OnWay t' other.slot (key_bytes task)
       way_still way b at_b = way b (sym (others other.slot apart) ∙ at_b)
 
       while_still : (Q : PlacedNode M → Type 0) → While t other Q → While t' other Q
@@ -179,7 +193,6 @@ module _ {M : Type 0} (Granted : Type 0) (same : M → M → Bool) (t : NodeMap 
 
     pub upgrade_locks : (t' : NodeMap M) → MayUpgrade a.word path.here.word → env.fail ≡ false → t' path.here.slot ≡ Some (record a { word = a.word + 2 }) → ((o : ℕ) → o ≢ path.here.slot → t' o ≡ t o)
         → IsMove Granted same t t' root pin books books (at (tail_at (Upgrade path small)) task) env (at (tail_at (small_next small path.here)) task) (report_of kind.Upgrade (Some path.here.slot) 0 true) Going
-    unfolding is_held
     upgrade_locks t' may whole after others =
         let f = facts.at in
         let work : SmallWork Granted same small task a = f.2 a here may.same in
@@ -188,19 +201,19 @@ module _ {M : Type 0} (Granted : Type 0) (same : M → M → Bool) (t : NodeMap 
           held = is_held t' path.here a here f.1.here may after others;
           work = record { writes = work.writes; is = small_is small a (key_bytes task) (a.word + 2) work.is };
         } in
-        locks Granted same t root pin books task env placed facts.small f.0 (Upgrade path small) path.here.slot path.here.word a here known_here (inl refl) refl
-        t' (upgrades t' path.here a here f.1.here may after others) may whole (small_next small path.here) (small_facts Granted same t' root pin task small path.here now)
-        (small_held small path.here) (small_made small path.here)
+        locks Granted same t root pin books task env placed (tail_at (Upgrade path small)) (inl f.0.undecided) f.0.point path.here.slot path.here.word a here known_here (inl refl) refl
+        t' (upgrades t' path.here a here f.1.here may after others) may whole (tail_at (small_next small path.here)) (record { small = facts.small; at = small_facts Granted same t' root pin task small path.here now })
+        (small_alike pin task small path) (small_held small path.here) (small_made small path.here)
         (subst (λ z. Among z (path_spots path)) (sym (small_spots small path.here)) (among_none (path_spots path)))
         (λ s w h. absurd (none_some w (subst (λ (z : List (ℕ × ℕ)). lookup z s ≡ Some w) (small_spots small path.here) h)))
         (λ s h. elim (subst (λ z. IsIn s z) (small_named small path.here) h) [ inl e ↦ inl e | inr never ↦ absurd never ])
-        (small_less task.progress small path)
+        (λ s h. h) (let less = small_less task.progress small path in omega (arith, less))
 
     pub upgrade_fails : (MayUpgrade a.word path.here.word → env.fail ≡ false → ⊥)
         → IsMove Granted same t t root pin books books (at (tail_at (Upgrade path small)) task) env (at TakeRoot (restarted task)) (report_of kind.Upgrade (Some path.here.slot) 0 false) Going
     upgrade_fails cannot =
         let f = facts.at in
-        fails_back Granted same t root pin books task env placed facts.small f.0 (Upgrade path small) path.here.slot path.here.word a here known_here (inl refl) refl
+        fails_back Granted same t root pin books task env placed facts.small f.0 (Upgrade path small) path.here.slot path.here.word a here known_here (inl refl) refl refl
         f.1.here.free cannot refl
 
   -- THE PARENT
@@ -212,33 +225,35 @@ module _ {M : Type 0} (Granted : Type 0) (same : M → M → Bool) (t : NodeMap 
 
     pub above_locks : (t' : NodeMap M) → MayUpgrade a.word pair.above.word → env.fail ≡ false → t' pair.above.slot ≡ Some (record a { word = a.word + 2 }) → ((o : ℕ) → o ≢ pair.above.slot → t' o ≡ t o)
         → IsMove Granted same t t' root pin books books (at (tail_at (UpgradeAbove pair large)) task) env (at (tail_at (UpgradeBelow pair large)) task) (report_of kind.Upgrade (Some pair.above.slot) 0 true) Going
-    unfolding is_held
     above_locks t' may whole after others =
         let f = facts.at in
         let below : Below Granted same t pin task pair large = f.0 in
         let far : pair.here.slot ≢ pair.above.slot = λ e. below.over.apart (sym e) in
-        locks Granted same t root pin books task env placed facts.small below.opened (UpgradeAbove pair large) pair.above.slot pair.above.word a here above_known (inr (inl refl)) refl
-        t' (upgrades t' pair.above a here f.1 may after others) may whole (UpgradeBelow pair large) (
-          record {
-            opened = below.opened;
-            over = record { way = on_way t' pair.above a here f.1 may after others below.over.way; apart = below.over.apart };
-            here = known_still t' pair.above a here f.1 may after others pair.here far below.here;
-            work = while_still t' pair.above a here f.1 may after others pair.here far (LargeWork Granted same large task) below.work;
-          },
-          is_held t' pair.above a here f.1 may after others,
-          f.2 a here may.same,
-        )
-        refl refl
+        locks Granted same t root pin books task env placed (tail_at (UpgradeAbove pair large)) (inl below.opened.undecided) below.opened.point pair.above.slot pair.above.word a here above_known (inr (inl refl)) refl
+        t' (upgrades t' pair.above a here f.1 may after others) may whole (tail_at (UpgradeBelow pair large)) (record {
+          small = facts.small;
+          at = (
+            record {
+              opened = below.opened;
+              over = record { way = on_way t' pair.above a here f.1 may after others below.over.way; apart = below.over.apart };
+              here = known_still t' pair.above a here f.1 may after others pair.here far below.here;
+              work = while_still t' pair.above a here f.1 may after others pair.here far (LargeWork Granted same large task) below.work;
+            },
+            is_held t' pair.above a here f.1 may after others,
+            f.2 a here may.same,
+          );
+        })
+        refl refl refl
         (among_last ((pair.above.slot, pair.above.word) ∷ []) pair.here.slot pair.here.word)
         (λ s w h e. far (one_known pair.here.slot pair.here.word s w h ∙ e))
-        (λ s h. h)
+        (λ s h. h) (λ s h. h)
         (omega arith)
 
     pub above_fails : (MayUpgrade a.word pair.above.word → env.fail ≡ false → ⊥)
         → IsMove Granted same t t root pin books books (at (tail_at (UpgradeAbove pair large)) task) env (at TakeRoot (restarted task)) (report_of kind.Upgrade (Some pair.above.slot) 0 false) Going
     above_fails cannot =
         let f = facts.at in
-        fails_back Granted same t root pin books task env placed facts.small f.0.opened (UpgradeAbove pair large) pair.above.slot pair.above.word a here above_known (inr (inl refl)) refl
+        fails_back Granted same t root pin books task env placed facts.small f.0.opened (UpgradeAbove pair large) pair.above.slot pair.above.word a here above_known (inr (inl refl)) refl refl
         f.1.free cannot refl
 
   -- THE NODE BELOW A HELD PARENT
@@ -248,7 +263,6 @@ module _ {M : Type 0} (Granted : Type 0) (same : M → M → Bool) (t : NodeMap 
 
     pub below_locks : (t' : NodeMap M) → MayUpgrade a.word pair.here.word → env.fail ≡ false → t' pair.here.slot ≡ Some (record a { word = a.word + 2 }) → ((o : ℕ) → o ≢ pair.here.slot → t' o ≡ t o)
         → IsMove Granted same t t' root pin books books (at (tail_at (UpgradeBelow pair large)) task) env (at (tail_at (large_next large pair)) task) (report_of kind.Upgrade (Some pair.here.slot) 0 true) Going
-    unfolding is_held held_still
     below_locks t' may whole after others =
         let f = facts.at in
         let below : Below Granted same t pin task pair large = f.0 in
@@ -262,17 +276,17 @@ module _ {M : Type 0} (Granted : Type 0) (same : M → M → Bool) (t : NodeMap 
           };
           work = large_work Granted same task large a (a.word + 2) work;
         } in
-        locks Granted same t root pin books task env placed facts.small below.opened (UpgradeBelow pair large) pair.here.slot pair.here.word a here below_known (inl refl) refl
-        t' (upgrades t' pair.here a here below.here may after others) may whole (large_next large pair) (large_facts Granted same t' root pin task large pair now)
-        (large_held large pair) (large_made large pair)
+        locks Granted same t root pin books task env placed (tail_at (UpgradeBelow pair large)) (inl below.opened.undecided) below.opened.point pair.here.slot pair.here.word a here below_known (inl refl) refl
+        t' (upgrades t' pair.here a here below.here may after others) may whole (tail_at (large_next large pair)) (record { small = facts.small; at = large_facts Granted same t' root pin task large pair now })
+        (large_alike pin task large pair) (large_held large pair) (large_made large pair)
         (subst (λ z. Among z ((pair.here.slot, pair.here.word) ∷ [])) (sym (large_spots large pair)) (among_none ((pair.here.slot, pair.here.word) ∷ [])))
         (λ s w h. absurd (none_some w (subst (λ (z : List (ℕ × ℕ)). lookup z s ≡ Some w) (large_spots large pair) h)))
         (λ s h. subst (λ z. IsIn s z) (large_named large pair) h)
-        (large_less task.progress large pair)
+        (λ s h. h) (let less = large_less task.progress large pair in omega (arith, less))
 
     pub below_fails : (MayUpgrade a.word pair.here.word → env.fail ≡ false → ⊥)
-        → IsMove Granted same t t root pin books books (at (tail_at (UpgradeBelow pair large)) task) env (at (tail_at (Unlock pair.above)) task) (report_of kind.Upgrade (Some pair.here.slot) 0 false) Going
+        → IsMove Granted same t t root pin books books (at (tail_at (UpgradeBelow pair large)) task) env (at (tail_at (Unlock pair.above None)) task) (report_of kind.Upgrade (Some pair.here.slot) 0 false) Going
     below_fails cannot =
         let f = facts.at in
-        fails_held Granted same t root pin books task env placed facts.small f.0.opened (UpgradeBelow pair large) pair.here.slot pair.here.word a here below_known (inl refl) refl
-        f.0.here.free cannot pair.above refl (inr (inl refl)) f.1
+        fails_held Granted same t root pin books task env placed facts.small f.0.opened (UpgradeBelow pair large) pair.here.slot pair.here.word a here below_known (inl refl) refl refl
+        f.0.here.free cannot pair.above refl (inr (inl refl)) f.1 (omega arith)

@@ -45,6 +45,8 @@ use Rattle.olc_write.proofs.Deciding.{StandsAt, entries_after, with_reply}
 use Rattle.olc_write.proofs.Entering.{entry_move, entry_placed, leaf_stands}
 use Rattle.olc_write.proofs.Keeping.{StoreKeeps, keeps_then, kept_by, sets_keeps}
 use Rattle.olc_write.proofs.Linked.{link_move, link_placed, made_published}
+use Rattle.olc_state.specs.declared.cleanup.Cleanup.{Cleanup}
+use Rattle.olc_write.specs.inner.Leaving.{IsLeftBy}
 
 module _ {P M : Type 0} (meaning : P → M) where
   -- what a call stores means what its meaning stores
@@ -128,7 +130,7 @@ module _ {P A M : Type 0} (meaning : P → M) (charge : A → Option ℕ) (Grant
       (subst (λ (z : Option M). StandsAt (table_in meaning charge old) (key_bytes task) z) (sym e)
       (leaf_stands (table_in meaning charge old) old.store.root (key_bytes task) kept.placed spot.slot leaf_at facts.at.held.linked (facts.at.way leaf_at facts.at.held.linked.here) facts.at.work.is.0 (entry leaf_at byte_here) refl))
 
-  pub wrote_moves : (store : Store P) (byte : ℕ) (value before : Option P) (had has : Bool) (entries : ℕ) (env : Env P)
+  pub wrote_moves : (store : Store P) (left : Option Cleanup) (byte : ℕ) (value before : Option P) (had has : Bool) (entries : ℕ) (env : Env P)
       → value ≡ stores task
       → byte ≡ byte_here
       → Fits leaf_at.node.form (length leaf_at.node.children)
@@ -136,9 +138,10 @@ module _ {P A M : Type 0} (meaning : P → M) (charge : A → Option ℕ) (Grant
       → in_some meaning before ≡ payload_in (entry leaf_at byte)
       → stored_sizes store.nodes.slots ≡ stored_sizes old.store.nodes.slots → store.pins ≡ old.store.pins
       → had ≡ is_some before → has ≡ is_some value → entries ≡ entries_with old.entries had has
+      → ((a : PlacedNode M) → meant_table meaning store spot.slot ≡ Some a → IsLeftBy (in_some meaning value) a.node left)
       → StockMoves meaning charge Granted same old (record old { store = store; entries = entries }) pin (record { stage = Tail (Write spot); task = task }) env
-      (record { stage = Tail (Unlock spot); task = with_reply task }) (report_of kind.Write (Some spot.slot) 0 true) (Decided (reply_with task.outline before task.returns))
-  wrote_moves store byte value before had has entries env value_is byte_is fits sets stood sizes pins had_is has_is entries_is =
+      (record { stage = Tail (Unlock spot left); task = with_reply task }) (report_of kind.Write (Some spot.slot) 0 true) (Decided (reply_with task.outline before task.returns))
+  wrote_moves store left byte value before had has entries env value_is byte_is fits sets stood sizes pins had_is has_is entries_is leaves =
       let a : PlacedNode M = leaf_at in
       let new : Stock P A = record old { store = store; entries = entries } in
       let here : meant_table meaning old.store spot.slot ≡ Some a = facts.at.held.linked.here in
@@ -156,9 +159,10 @@ module _ {P A M : Type 0} (meaning : P → M) (charge : A → Option ℕ) (Grant
         kept = kept_by meaning charge old new kept keeps refl
             (entry_placed Granted same (table_in meaning charge old) (table_in meaning charge new) old.store.root pin (meant_task meaning task) (env_of meaning env) spot kept.placed facts after sets.others);
         move = subst (λ (z : Reply M). IsMove Granted same (table_in meaning charge old) (table_in meaning charge new) old.store.root pin (counts_in meaning charge old) (counts_in meaning charge new)
-            (meant_record meaning (record { stage = Tail (Write spot); task = task })) (env_of meaning env) (meant_record meaning (record { stage = Tail (Unlock spot); task = with_reply task })) (report_of kind.Write (Some spot.slot) 0 true) (Decided z))
+            (meant_record meaning (record { stage = Tail (Write spot); task = task })) (env_of meaning env) (meant_record meaning (record { stage = Tail (Unlock spot left); task = with_reply task })) (report_of kind.Write (Some spot.slot) 0 true) (Decided z))
             (sym (reply_meant meaning task.outline before task.returns))
             (entry_move Granted same (table_in meaning charge old) (table_in meaning charge new) old.store.root pin (meant_task meaning task) (env_of meaning env) spot kept.placed facts after sets.others
+            left (subst (λ (z : Option M). IsLeftBy z (answered a byte_here (payload facts.at.work.writes.value)).node left) (sym means) (leaves _ after))
             (counts_in meaning charge old) (counts_in meaning charge new) (in_some meaning before) fits at_key sets.count refl counts);
         root = sets.root;
         seats = sets.seats;
@@ -187,7 +191,7 @@ module _ {P A M : Type 0} (meaning : P → M) (charge : A → Option ℕ) (Grant
         → stored_sizes between.nodes.slots ≡ stored_sizes old.store.nodes.slots → between.pins ≡ old.store.pins
         → stored_sizes store.nodes.slots ≡ stored_sizes between.nodes.slots → store.pins ≡ between.pins
         → StockMoves meaning charge Granted same old (record old { store = store; entries = old.entries + 1 }) pin (record { stage = Tail (Link spot leaf); task = task }) env
-        (record { stage = Tail (Unlock spot); task = with_reply task }) (report_of kind.Write (Some spot.slot) 0 true) (Decided (reply_with task.outline None task.returns))
+        (record { stage = Tail (Unlock spot None); task = with_reply task }) (report_of kind.Write (Some spot.slot) 0 true) (Decided (reply_with task.outline None task.returns))
     linked_moves store byte env byte_is fits puts sizes pins sizes' pins' =
         let a : PlacedNode M = inner_at in
         let new : Stock P A = record old { store = store; entries = old.entries + 1 } in
@@ -204,7 +208,7 @@ module _ {P A M : Type 0} (meaning : P → M) (charge : A → Option ℕ) (Grant
           kept = kept_by meaning charge old new kept (keeps_then meaning old.store between store first second) refl
               (link_placed Granted same (table_in meaning charge old) (table_in meaning charge new) old.store.root pin (meant_task meaning task) (env_of meaning env) spot leaf kept.placed facts after after_leaf others);
           move = subst (λ (z : Reply M). IsMove Granted same (table_in meaning charge old) (table_in meaning charge new) old.store.root pin (counts_in meaning charge old) (counts_in meaning charge new)
-              (meant_record meaning (record { stage = Tail (Link spot leaf); task = task })) (env_of meaning env) (meant_record meaning (record { stage = Tail (Unlock spot); task = with_reply task })) (report_of kind.Write (Some spot.slot) 0 true) (Decided z))
+              (meant_record meaning (record { stage = Tail (Link spot leaf); task = task })) (env_of meaning env) (meant_record meaning (record { stage = Tail (Unlock spot None); task = with_reply task })) (report_of kind.Write (Some spot.slot) 0 true) (Decided z))
               (sym (reply_meant meaning task.outline None task.returns))
               (link_move Granted same (table_in meaning charge old) (table_in meaning charge new) old.store.root pin (meant_task meaning task) (env_of meaning env) spot leaf kept.placed facts after after_leaf others
               (counts_in meaning charge old) (counts_in meaning charge new) fits (sets.count ∙ publishes.count) refl refl);

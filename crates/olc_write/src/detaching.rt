@@ -4,6 +4,7 @@ ghost use Rattle.std.specs.Prelude.{◌≡◌};
 ghost use Rattle.spec_olc.specs.declared.types.Env.{Env};
 ghost use Rattle.olc_state.specs.inner.Stocks.{CountsEntries, IsStoreSound, KnowsAt, MovesBy};
 
+use crate::leaving::left_at;
 use crate::linking::{byte_below, payload_of};
 use node_table::allocator::Allocator;
 use olc_state::stage::{Stage, Task};
@@ -36,6 +37,12 @@ pub(crate) fn detach<P: HasMeaning, A: Allocator>(
     let before = payload_of(Some(stock.store.take_child(leaf, last)));
     stock.store.detach(leaf);
     stock.entries -= 1;
+    let left = left_at(&stock.store, slot, true);
     let report = report(Kind::Write, slot, 0, true);
-    changed(task, Stage::Tail(Tail::Obsolete(pair)), report, before)
+    changed(
+        task,
+        Stage::Tail(Tail::Obsolete(pair, left)),
+        report,
+        before,
+    )
 }

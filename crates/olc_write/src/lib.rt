@@ -4,10 +4,11 @@
 #![tactic(auto)]
 
 mod detaching;
-mod freeing;
-mod linking;
-mod locking;
-mod making;
+pub mod freeing;
+pub mod leaving;
+pub mod linking;
+pub mod locking;
+pub mod making;
 mod replacing;
 mod storing;
 pub mod writing;

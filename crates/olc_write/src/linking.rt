@@ -14,6 +14,7 @@ ghost use Rattle.olc_state.specs.inner.Tables.{byte_at};
 ghost use Rattle.olc_state.specs.inner.World.{PlacedNode, entry};
 ghost use Rattle.olc_write.specs.inner.Storing.{entries_with, with_payload};
 
+use crate::leaving::left_by;
 use crate::storing::take_stored;
 use node_table::allocator::Allocator;
 use node_table::child::Child;
@@ -46,8 +47,9 @@ pub(crate) fn write<P: HasMeaning, A: Allocator>(
     let stores = value.is_some();
     let before = set_payload(&mut stock.store, slot, byte, value);
     stock.entries = counted(stock.entries, before.is_some(), stores);
+    let left = left_by(&stock.store, slot, stores);
     let report = report(Kind::Write, slot, 0, true);
-    changed(task, Stage::Tail(Tail::Unlock(spot)), report, before)
+    changed(task, Stage::Tail(Tail::Unlock(spot, left)), report, before)
 }
 
 // Puts a payload under a byte of a leaf, or removes the one there, and returns the previous one.
@@ -111,11 +113,11 @@ pub(crate) fn link<P: HasMeaning, A: Allocator>(
     stock.store.put_child(slot, byte, Child::Node(leaf));
     stock.entries = stock.entries + 1;
     let report = report(Kind::Write, slot, 0, true);
-    changed(task, Stage::Tail(Tail::Unlock(spot)), report, None)
+    changed(task, Stage::Tail(Tail::Unlock(spot, None)), report, None)
 }
 
 /// The byte under which a key goes on below the node in a slot.
-pub(crate) fn byte_below<P: HasMeaning>(store: &Store<P>, slot: usize, key: u64) -> u8
+pub fn byte_below<P: HasMeaning>(store: &Store<P>, slot: usize, key: u64) -> u8
     requires { (a : PlacedNode P.Meaning) × (meant_table P.meaning store.now slot ≡ Some a)
         × (length a.node.prefix ≤ 7) }
     ensures byte { (a : PlacedNode P.Meaning) → meant_table P.meaning store.now slot ≡ Some a

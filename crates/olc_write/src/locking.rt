@@ -31,8 +31,8 @@ fn locked<P>(node: &Stored<P>, spot: Spot, fail: bool) -> Option<Word64>
     }
 }
 
-// Locks a node, and returns whether it did.
-fn lock<P: HasMeaning>(store: &mut Store<P>, spot: Spot, fail: bool) -> bool
+/// Locks a node, and returns whether it did.
+pub fn lock<P: HasMeaning>(store: &mut Store<P>, spot: Spot, fail: bool) -> bool
     requires there { IsSome (meant_table P.meaning store.old spot.slot) }
     ensures exactly { (a : PlacedNode P.Meaning) → meant_table P.meaning store.old spot.slot ≡ Some a
         → IsTrue result ↔ (MayUpgrade a.word spot.word × (fail ≡ false)) }
@@ -131,6 +131,6 @@ pub(crate) fn upgrade_below<P: HasMeaning, A: Allocator>(
         going(Stage::Tail(next), report(Kind::Upgrade, spot.slot, 0, true))
     } else {
         let report = report(Kind::Upgrade, spot.slot, 0, false);
-        going(Stage::Tail(Tail::Unlock(pair.above)), report)
+        going(Stage::Tail(Tail::Unlock(pair.above, None)), report)
     }
 }

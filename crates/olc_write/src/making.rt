@@ -103,9 +103,9 @@ fn take_node<P: HasMeaning, A: Allocator>(stock: &mut Stock<P, A>, slot: usize)
     stock.budget.deallocate(size);
 }
 
-// Puts the node that was built into a free slot. If none was built, or it is refused, frees the
-// private node that the call has made before.
-fn make_node<P: HasMeaning, A: Allocator>(
+/// Puts the node that was built into a free slot. If none was built, or it is refused, frees the private node that the
+/// call has made before.
+pub fn make_node<P: HasMeaning, A: Allocator>(
     stock: &mut Stock<P, A>,
     built: Option<TreeNode<P>>,
     made: Option<usize>,
@@ -239,8 +239,8 @@ fn empty_as<P: HasMeaning>(node: &TreeNode<P>, alloc: Global) -> Option<TreeNode
     }
 }
 
-// A copy of the node in the least form, with a share of each payload.
-fn copied<P: HasMeaning>(node: &TreeNode<P>, alloc: Global) -> Option<TreeNode<P>>
+/// A copy of the node in the least form, with a share of each payload.
+pub fn copied<P: HasMeaning>(node: &TreeNode<P>, alloc: Global) -> Option<TreeNode<P>>
     requires { AreOfKind node.now }
     ensures { IfSome result (λ n. IsCopy P.meaning 256 node.now n) }
 {
@@ -321,7 +321,7 @@ pub(crate) fn make_leaf<P: HasMeaning, A: Allocator>(
     let built = leaf_for(task, stock.alloc);
     match make_node(stock, built, None) {
         Some(leaf) => makes(Tail::Link(spot, leaf), leaf),
-        None => gives_up(task, Tail::Unlock(spot)),
+        None => gives_up(task, Tail::Unlock(spot, None)),
     }
 }
 

@@ -44,7 +44,7 @@ pub(crate) fn replace<P: HasMeaning, A: Allocator>(
     stock.store.detach(pair.here.slot);
     stock.entries += 1;
     let report = report(Kind::Write, slot, 0, true);
-    changed(task, Stage::Tail(Tail::Obsolete(pair)), report, None)
+    changed(task, Stage::Tail(Tail::Obsolete(pair, None)), report, None)
 }
 
 /// Puts the middle node between, which decides the call.

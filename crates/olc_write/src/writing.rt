@@ -38,7 +38,7 @@ pub fn write_on<P: HasMeaning, A: Allocator>(
         Tail::Write(spot) => write(stock, pin, task, spot),
         Tail::MakeLeaf(spot) => make_leaf(stock, pin, task, spot),
         Tail::Link(spot, leaf) => link(stock, pin, task, spot, leaf),
-        Tail::Unlock(spot) => unlock(stock, pin, task, spot),
+        Tail::Unlock(spot, left) => unlock(stock, pin, task, spot, left),
         Tail::UpgradeAbove(pair, large) => upgrade_above(stock, pin, task, pair, large, fail),
         Tail::UpgradeBelow(pair, large) => upgrade_below(stock, pin, task, pair, large, fail),
         Tail::MakeLeafBelow(pair, large) => make_leaf_below(stock, pin, task, pair, large),
@@ -47,7 +47,7 @@ pub fn write_on<P: HasMeaning, A: Allocator>(
         Tail::Replace(pair, copy, leaf) => replace(stock, pin, task, pair, copy, leaf),
         Tail::Insert(pair, middle, leaf) => insert(stock, pin, task, pair, middle, leaf),
         Tail::Detach(pair) => detach(stock, pin, task, pair),
-        Tail::Obsolete(pair) => obsolete(stock, pin, task, pair),
+        Tail::Obsolete(pair, left) => obsolete(stock, pin, task, pair, left),
         Tail::UnlockBelow(pair) => unlock_below(stock, pin, task, pair),
     }
 }

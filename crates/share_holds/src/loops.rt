@@ -26,8 +26,15 @@ use spec_olc::types::{Kind, Op, Outcome, Reply, StartError};
 use std::sync::Wait;
 use std::sync::ledger::Ledger;
 
-/// How many slots a call tries to reclaim at most, once it has retired a node or was refused.
-const RECLAIMS: u32 = 2;
+// How many slots a call tries to reclaim at most, once it has retired a node or was refused: one more than a call of its
+// kind retires at most, so that slots which couldn't be reclaimed earlier become fewer. A removal retires up to three: the
+// node that it took out, and one for each of its two cleanups. Any other call retires up to one, the node that it replaced.
+fn most_reclaims<P>(op: &Op<P>) -> u32 {
+    match op {
+        Op::Remove(_) | Op::ComputeIfPresent(_) | Op::CompareExchange(..) => 4,
+        Op::Get(_) | Op::Insert(..) | Op::ComputeOrInsert(..) | Op::Range(..) => 2,
+    }
+}
 
 // One more share of what the closure answered.
 fn again<P: Drop, T, M: Lent<P, T>>(answer: &Option<P>) -> Result<Option<P>, OOMError>
@@ -53,11 +60,12 @@ pub(crate) fn pause_unless(went_on: bool, pause: &Backoff) {
     }
 }
 
-// Reclaims what may be reclaimed, if that is wanted: at most `RECLAIMS` slots, each in a hold of its own.
+// Reclaims what may be reclaimed after this call, if that is wanted: each slot in a hold of its own.
 fn reclaim_if<L: Ledger, P: Drop, T, M: Lent<P, T>, R: Wait>(
     lock: &MapLock<L, P, T, M>,
     rt: &R,
     seat: &mut MapSeat<L, P, T, M>,
+    op: &Op<P>,
     wanted: bool,
 )
     requires table { seat.old.table_id ≡ lock.now }
@@ -68,7 +76,7 @@ fn reclaim_if<L: Ledger, P: Drop, T, M: Lent<P, T>, R: Wait>(
     if !wanted {
         return;
     }
-    for _ in 0..RECLAIMS {
+    for _ in 0..most_reclaims(op) {
         if !reclaim(lock, rt, seat) {
             return;
         }
@@ -133,7 +141,7 @@ pub(crate) fn finish<L: Ledger, P: Drop, T, M: Lent<P, T>, R: Wait, G: Gate>(
     ensures known { KnowsOf (Some (id, Ready)) seat.old.me seat.new.me }
 {
     let retired = last_events(lock, rt, seat, id, op, gate);
-    reclaim_if(lock, rt, seat, retired || reclaims);
+    reclaim_if(lock, rt, seat, op, retired || reclaims);
 }
 
 // The events of a call that runs, with what its closure answered last. The closure is called while the lock is free. Its
@@ -230,7 +238,7 @@ fn attempt<L: Ledger, P: Drop, T, M: Lent<P, T>, R: Wait, B: Purse<L>, F, Q: Ask
         Ok(begun) => begun,
         Err(StartError::InFlight) => unreachable!(),
         Err(StartError::Oom(_)) => {
-            reclaim_if(lock, rt, seat, true);
+            reclaim_if(lock, rt, seat, op, true);
             return Tried::Refused;
         }
     };

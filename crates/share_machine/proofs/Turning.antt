@@ -8,11 +8,11 @@ use Rattle.spec_olc.proofs.Steps.{others_stay}
 use Rattle.spec_olc.specs.Calls.{Outline, IsPoint}
 use Rattle.spec_olc.specs.Content.{IsContent}
 use Rattle.spec_olc.specs.Deciding.{ContentAfter, IsContentStep, AppliesCall}
-use Rattle.spec_olc.specs.Kinds.{NextIs, CheckOutcome, ReadOutcome, AnswerOutcome, WriteOutcome, DoesAs, IsStep, refusal, refused, not_locked, unlocked}
+use Rattle.spec_olc.specs.Kinds.{NextIs, CheckOutcome, ReadOutcome, AnswerOutcome, WriteOutcome, DoesAs, IsStep, failed, refusal, refused, not_locked, unlocked}
 use Rattle.spec_olc.specs.Lists.{is_in, off}
 use Rattle.spec_olc.specs.Local.{IsLocal}
 use Rattle.spec_olc.specs.Reading.{GoesOn, HasAll, LooksOn, MayGive}
-use Rattle.spec_olc.specs.State.{State, CallState, back, settled}
+use Rattle.spec_olc.specs.State.{State, CallState, settled}
 use Rattle.spec_olc.specs.declared.types.Asking.{Asking}
 use Rattle.spec_olc.specs.declared.types.Asking.TheVariants.{Fresh, Wants, Given}
 use Rattle.spec_olc.specs.declared.types.Env.{Env}
@@ -139,6 +139,23 @@ module _ {M : Type 0} where
         )
       ]
 
+  -- a call that has failed, at a Take, Check or Upgrade, and one that has unlocked a node
+  after_failed : (p : Progress) (call : CallState M) → Lasts call (failed p call) × Quiet call (failed p call)
+  after_failed progress.Open call = (record { outline = refl; op = refl; progress = refl }, inl refl)
+  after_failed _ call = (record { outline = refl; op = refl; progress = refl }, inl refl)
+
+  after_not_locked : (p : Progress) (held : List ℕ) (call : CallState M) → Lasts call (not_locked p held call) × Quiet call (not_locked p held call)
+  after_not_locked progress.Open [] call = (record { outline = refl; op = refl; progress = refl }, inl refl)
+  after_not_locked progress.Open (slot ∷ held) call = (record { outline = refl; op = refl; progress = refl }, inr refl)
+  after_not_locked _ held call = (record { outline = refl; op = refl; progress = refl }, inl refl)
+
+  after_unlocked : (p : Progress) (cleaning : Option ℕ) (held left : List ℕ) (call : CallState M)
+      → Lasts call (unlocked p cleaning held (record call { held = left })) × Quiet call (unlocked p cleaning held (record call { held = left }))
+  after_unlocked progress.Open cleaning held left call = (record { outline = refl; op = refl; progress = refl }, inl refl)
+  after_unlocked _ None held left call = (record { outline = refl; op = refl; progress = refl }, inr refl)
+  after_unlocked _ (Some length_is) [] left call = (record { outline = refl; op = refl; progress = refl }, inl refl)
+  after_unlocked _ (Some length_is) (slot ∷ held) left call = (record { outline = refl; op = refl; progress = refl }, inr refl)
+
   looked_on : (outline : Outline) (s : State M) (call planned : CallState M) → LooksOn outline s call planned → Lasts call planned × Quiet call planned
   looked_on (Range a b n) s call planned h = went_on call (record call { cursor = h.cursor; reach = h.reach }) planned (record { outline = refl; op = refl; progress = refl }) refl h.next_is
   looked_on outline s call planned h = (subst (λ (f : CallState M). Lasts call f) (sym h) (record { outline = refl; op = refl; progress = refl }), inr (ap (λ (f : CallState M). f.asking) h))
@@ -223,10 +240,11 @@ module _ {M : Type 0} where
     made_none calm progress.Decided is o e base b = going o e calm base _ b (record { outline = refl; op = refl; progress = refl }) (inr refl)
     made_none calm progress.Refused is o e base b = going o e calm base _ b (record { outline = refl; op = refl; progress = refl }) (inr refl)
 
-    wrote : (o : Outcome M) → WriteOutcome Granted same call o → (base : State M) → Ends base (settled progress.Decided (record call { made = [] })) → Result o
-    wrote Going h base b = by_plan Going base (settled progress.Decided (record call { made = [] })) b (writes call.outline call.op call.progress call.asking env.answer report.kind h)
-    wrote (Decided reply) h base b = decides reply h base (record call { made = [] }) b refl
-    wrote o h base b = absurd h
+    wrote : (left : Option ℕ) (o : Outcome M) → WriteOutcome Granted same call o → (base : State M) → Ends base (settled progress.Decided (record call { made = []; cleaning = left })) → Result o
+    wrote left Going h base b =
+        by_plan Going base (settled progress.Decided (record call { made = []; cleaning = left })) b (writes call.outline call.op call.progress call.asking env.answer report.kind h)
+    wrote left (Decided reply) h base b = decides reply h base (record call { made = []; cleaning = left }) b refl
+    wrote left o h base b = absurd h
 
     -- an event of a kind other than Answer isn't an Answer
     calm_by : (k : Kind) → report.kind ≡ k → (k ≡ kind.Answer → ⊥) → Calm
@@ -237,45 +255,37 @@ module _ {M : Type 0} where
     step_turns map kind.Take is d = going out d.1.reports.1 (calm_by kind.Take is (λ e. cc)) old _ d.1.becomes (taken report.ok) (asked report.ok)
       where
         plan : Bool → CallState M
-        plan ok = if ok then record call { remembered = put call.remembered d.1.slot d.1.node.word } else back call
+        plan ok = if ok then record call { remembered = put call.remembered d.1.slot d.1.node.word } else failed call.progress call
 
         taken : (ok : Bool) → Lasts call (plan ok)
         taken true = record { outline = refl; op = refl; progress = refl }
-        taken false = record { outline = refl; op = refl; progress = refl }
+        taken false = (after_failed call.progress call).0
 
         asked : (ok : Bool) → Quiet call (plan ok)
         asked true = inr refl
-        asked false = inl refl
+        asked false = (after_failed call.progress call).1
     step_turns map kind.Check is d =
         let calm = calm_by kind.Check is (λ e. cc) in
         by_ok report.ok
         (λ good. found calm out d.1.planned d.1.becomes (d.1.passes good))
         (λ bad.
         let f = d.1.fails bad in
-        going out f.0 calm old d.1.planned d.1.becomes (subst (λ (x : CallState M). Lasts call x) (sym f.1) (record { outline = refl; op = refl; progress = refl })) (inl (ap (λ (x : CallState M). x.asking) f.1)))
+        let l = after_failed call.progress call in
+        going out f.0 calm old d.1.planned d.1.becomes (subst (λ (x : CallState M). Lasts call x) (sym f.1) l.0) (subst (λ (x : CallState M). Quiet call x) (sym f.1) l.1))
     step_turns map kind.Read is d = saw (calm_by kind.Read is (λ e. cc)) d.1.knows.node.node d.1.whole out d.1.sees
     step_turns map kind.Upgrade is d =
         let calm = calm_by kind.Upgrade is (λ e. cc) in
         by_ok report.ok
         (λ good. going out d.1.reports.1 calm _ _ (d.1.locks good) (record { outline = refl; op = refl; progress = refl }) (inr refl))
-        (λ bad. let l = stopped call.held in going out d.1.reports.1 calm old _ (d.1.fails bad) l.0 l.1)
-      where
-        stopped : (held : List ℕ) → Lasts call (not_locked held call) × Quiet call (not_locked held call)
-        stopped [] = (record { outline = refl; op = refl; progress = refl }, inl refl)
-        stopped (slot ∷ held) = (record { outline = refl; op = refl; progress = refl }, inr refl)
+        (λ bad. let l = after_not_locked call.progress call.held call in going out d.1.reports.1 calm old _ (d.1.fails bad) l.0 l.1)
     step_turns map kind.Make is (t, u, inl d) = going out d.reports.1 (calm_by kind.Make is (λ e. cc)) _ _ d.becomes (record { outline = refl; op = refl; progress = refl }) (inr refl)
     step_turns map kind.Make is (t, u, inr d) = made_none (calm_by kind.Make is (λ e. cc)) call.progress refl out d.reports.1 _ d.becomes
-    step_turns map kind.Write is d = wrote out d.1.reports _ d.1.becomes
+    step_turns map kind.Write is d = wrote d.1.left out d.1.reports _ d.1.becomes
     step_turns map kind.Obsolete is d = going out d.reports.1 (calm_by kind.Obsolete is (λ e. cc)) _ _ d.becomes (record { outline = refl; op = refl; progress = refl }) (inr refl)
-    step_turns map kind.Unlock is d = let l = freed call.progress in going out d.reports.1 (calm_by kind.Unlock is (λ e. cc)) _ _ d.becomes l.0 l.1
-      where
-        plan : Progress → CallState M
-        plan p = unlocked p (record call { held = off d.held.slot call.held })
-
-        freed : (p : Progress) → Lasts call (plan p) × Quiet call (plan p)
-        freed progress.Open = (record { outline = refl; op = refl; progress = refl }, inl refl)
-        freed progress.Decided = (record { outline = refl; op = refl; progress = refl }, inr refl)
-        freed progress.Refused = (record { outline = refl; op = refl; progress = refl }, inr refl)
+    step_turns map kind.Unlock is d =
+        let left = off d.held.slot call.held in
+        let l = after_unlocked call.progress call.cleaning left left call in
+        going out d.reports.1 (calm_by kind.Unlock is (λ e. cc)) _ _ d.becomes l.0 l.1
     step_turns map kind.Answer is d = heard d.1.asked out d.1.wanted d.1.hears
     step_turns map kind.Finish is d =
         subst (λ (o : Outcome M). Result o) (sym d.reports.1)

@@ -1,4 +1,5 @@
 mod budgets;
+mod charges;
 mod drained;
 mod guards;
 mod mixed;

@@ -17,3 +17,4 @@ pub mod Scanning
 pub mod ScanBreaks
 pub mod Untouched
 pub mod Refusing
+pub mod Cleaning

@@ -1,11 +1,11 @@
 -- The outcome of an event of a range in flight, and the call after it.
-use Rattle.std.proofs.Common.{◌≡◌, ℕ, ◌+◌, ◌<◌, ◌≤◌, Bool, true, false, IsTrue, List, [], ◌∷◌, Option, Some, if◌then◌else◌, inl, inr, ◌⊎◌, refl, sym, subst, ap, ◌∙◌, arith}
+use Rattle.std.proofs.Common.{◌≡◌, ℕ, ◌+◌, ◌<◌, ◌≤◌, Bool, true, false, IsTrue, List, [], ◌∷◌, Option, Some, None, if◌then◌else◌, inl, inr, ◌⊎◌, refl, sym, subst, ap, ◌∙◌, arith}
 use Rattle.spec_map.proofs.MapLaws.{lookup-put_same}
 use Rattle.spec_map.specs.Map.{lookup, put}
 use Rattle.node_table.specs.TableNode.{TableNode}
 use Rattle.spec_olc.specs.Calls.{Outline, IsPoint}
 use Rattle.spec_olc.specs.Content.{Reaches, at_root, by_child, IsStoredAt}
-use Rattle.spec_olc.specs.Kinds.{NextIs, DoesAs, CheckOutcome, AnswerOutcome, IsAtWork, MayEnd, ReadOutcome, WriteOutcome, not_locked, refusal, refused, unlocked}
+use Rattle.spec_olc.specs.Kinds.{NextIs, DoesAs, CheckOutcome, AnswerOutcome, IsAtWork, MayEnd, ReadOutcome, WriteOutcome, failed, not_locked, refusal, refused, unlocked}
 use Rattle.spec_olc.specs.Local.{AsksWith}
 use Rattle.spec_olc.specs.Reading.{HasAll, LooksOn, MayGive, MovesOn, NoneIsStored}
 use Rattle.spec_olc.specs.State.{CallState, State, back, settled, with_call}
@@ -116,10 +116,11 @@ module _ {M : Type 0} where
           | inr is ↦ let e : progress.Decided ≡ progress.Refused = sym is.0 ∙ dropped in cc
         ]
 
-    unlocked_progress : (p : Progress) (f : CallState M) → (unlocked p f).progress ≡ f.progress
-    unlocked_progress progress.Open f = refl
-    unlocked_progress progress.Decided f = refl
-    unlocked_progress progress.Refused f = refl
+    unlocked_dropped : (p : Progress) (cleaning : Option ℕ) (held : List ℕ) (f : CallState M) → (unlocked p cleaning held f).progress ≡ f.progress
+    unlocked_dropped progress.Open cleaning held f = refl
+    unlocked_dropped _ None held f = refl
+    unlocked_dropped _ (Some length_is) [] f = refl
+    unlocked_dropped _ (Some length_is) (slot ∷ held) f = refl
 
     pub drops_on : call.progress ≡ progress.Refused → (k : Kind) → DoesAs Granted same old new id call env report out k → Drops id new out
     drops_on dropped kind.Start d = absurd d
@@ -130,7 +131,7 @@ module _ {M : Type 0} where
     drops_on dropped kind.Make d = absurd (idle d.0 dropped)
     drops_on dropped kind.Write d = absurd (idle d.0 dropped)
     drops_on dropped kind.Obsolete d = subst (λ (o : Outcome M). Drops id new o) (sym d.reports.1) (drops _ _ d.becomes dropped)
-    drops_on dropped kind.Unlock d = subst (λ (o : Outcome M). Drops id new o) (sym d.reports.1) (drops _ _ d.becomes (unlocked_progress call.progress _ ∙ dropped))
+    drops_on dropped kind.Unlock d = subst (λ (o : Outcome M). Drops id new o) (sym d.reports.1) (drops _ _ d.becomes (unlocked_dropped call.progress call.cleaning _ _ ∙ dropped))
     drops_on dropped kind.Answer d = absurd (idle d.0 dropped)
     drops_on dropped kind.Finish d = subst (λ (o : Outcome M). Drops id new o) (sym d.reports.1) tt
     drops_on dropped kind.Reclaim d = absurd d
@@ -184,6 +185,10 @@ module _ {M : Type 0} where
 
       stays : (o : Outcome M) → o ≡ Going → (base : State M) (planned : CallState M) → After base planned → Keeps planned → Result o
       stays o e base planned after k = goes o e base planned after (kept_walks planned k) (kept_looks planned k)
+
+      -- it has no reply, so where it fails it goes back to the root
+      fails_back : failed call.progress call ≡ back call
+      fails_back = ap (λ (p : Progress). failed p call) walking.undecided
 
       restarts : Keeps (back call)
       restarts = record { outline = refl; op = refl; progress_is = refl; cursor = refl; reach = walking.order; order = omega arith; as_many = refl }
@@ -263,18 +268,18 @@ module _ {M : Type 0} where
       heard asked Refused d = refuses Refused refl old call d.2.becomes
       heard asked _ d = absurd d
 
-      took : (ok : Bool) (slot word : ℕ) → After old (if ok then (record call { remembered = put call.remembered slot word }) else back call) → Result Going
+      took : (ok : Bool) (slot word : ℕ) → After old (if ok then (record call { remembered = put call.remembered slot word }) else failed call.progress call) → Result Going
       took true slot word after = stays Going refl old _ after (record { outline = refl; op = refl; progress_is = refl; cursor = refl; reach = omega arith; order = walking.order; as_many = refl })
-      took false slot word after = stays Going refl old (back call) after restarts
+      took false slot word after = stays Going refl old (back call) (subst (λ (p : CallState M). After old p) fails_back after) restarts
 
-      not_locked_keeps : (held : List ℕ) → Keeps (not_locked held call)
+      not_locked_keeps : (held : List ℕ) → Keeps (not_locked progress.Open held call)
       not_locked_keeps [] = restarts
       not_locked_keeps (slot ∷ held) = record { outline = refl; op = refl; progress_is = refl; cursor = refl; reach = omega arith; order = walking.order; as_many = refl }
 
-      unlocked_keeps : (p : Progress) (held : List ℕ) → Keeps (unlocked p (record call { held = held }))
-      unlocked_keeps progress.Open held = record { outline = refl; op = refl; progress_is = refl; cursor = refl; reach = walking.order; order = omega arith; as_many = refl }
-      unlocked_keeps progress.Decided held = record { outline = refl; op = refl; progress_is = refl; cursor = refl; reach = omega arith; order = walking.order; as_many = refl }
-      unlocked_keeps progress.Refused held = record { outline = refl; op = refl; progress_is = refl; cursor = refl; reach = omega arith; order = walking.order; as_many = refl }
+      unlocked_keeps : (p : Progress) → p ≡ progress.Open → (held : List ℕ) → Keeps (unlocked p call.cleaning held (record call { held = held }))
+      unlocked_keeps progress.Decided e held = absurd (open_decided (sym e))
+      unlocked_keeps progress.Refused e held = absurd (open_refused (sym e))
+      unlocked_keeps progress.Open e held = record { outline = refl; op = refl; progress_is = refl; cursor = refl; reach = walking.order; order = omega arith; as_many = refl }
 
       makes_none : (p : Progress) (base : State M) (f : CallState M) → p ≡ progress.Open → out ≡ refusal p → After base (refused p f) → Result out
       makes_none progress.Open base f e reports after = refuses out reports base f after
@@ -299,17 +304,17 @@ module _ {M : Type 0} where
       walks_on kind.Take d = subst (λ (o : Outcome M). Result o) (sym d.1.reports.1) (took report.ok d.1.slot d.1.node.word d.1.becomes)
       walks_on kind.Check d =
           by_ok report.ok (λ good. found out d.1.planned d.1.becomes (d.1.passes good))
-          (λ bad. let f = d.1.fails bad in stays out f.0 old (back call) (subst (λ (p : CallState M). After old p) f.1 d.1.becomes) restarts)
+          (λ bad. let f = d.1.fails bad in stays out f.0 old (back call) (subst (λ (p : CallState M). After old p) (f.1 ∙ fails_back) d.1.becomes) restarts)
       walks_on kind.Read d = saw d.1.knows.node.node d.1.whole out d.1.sees
       walks_on kind.Upgrade d =
           by_ok report.ok
           (λ good. stays out d.1.reports.1 _ _ (d.1.locks good) (record { outline = refl; op = refl; progress_is = refl; cursor = refl; reach = omega arith; order = walking.order; as_many = refl }))
-          (λ bad. stays out d.1.reports.1 old _ (d.1.fails bad) (not_locked_keeps call.held))
+          (λ bad. stays out d.1.reports.1 old _ (subst (λ (p : Progress). After old (not_locked p call.held call)) walking.undecided (d.1.fails bad)) (not_locked_keeps call.held))
       walks_on kind.Make (w, may, inl d) = stays out d.reports.1 _ _ d.becomes (record { outline = refl; op = refl; progress_is = refl; cursor = refl; reach = omega arith; order = walking.order; as_many = refl })
       walks_on kind.Make (w, may, inr d) = makes_none call.progress _ _ walking.undecided d.reports.1 d.becomes
       walks_on kind.Write d = absurd (writes_none out d.1.reports)
       walks_on kind.Obsolete d = stays out d.reports.1 _ _ d.becomes (record { outline = refl; op = refl; progress_is = refl; cursor = refl; reach = omega arith; order = walking.order; as_many = refl })
-      walks_on kind.Unlock d = stays out d.reports.1 _ _ d.becomes (unlocked_keeps call.progress _)
+      walks_on kind.Unlock d = stays out d.reports.1 _ _ d.becomes (unlocked_keeps call.progress walking.undecided _)
       walks_on kind.Answer d = heard d.1.asked out d.1.hears
       walks_on kind.Finish d = subst (λ (o : Outcome M). Result o) (sym d.reports.1) (ends d.may)
       walks_on kind.Reclaim d = absurd d

@@ -40,7 +40,7 @@ refused_going e = cc
 refused_done : {M : Type 0} → ◌≡◌ {A = Outcome M} Refused Done → ⊥
 refused_done e = cc
 
-by_ok : {X : Type 0} → (ok : Bool) → (IsTrue ok → X) → (ok ≡ false → X) → X
+pub by_ok : {X : Type 0} → (ok : Bool) → (IsTrue ok → X) → (ok ≡ false → X) → X
 by_ok true good bad = good refl
 by_ok false good bad = bad refl
 

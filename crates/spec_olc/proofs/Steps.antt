@@ -5,9 +5,9 @@ use Rattle.spec_map.proofs.MapLaws.{lookup-put_same, lookup-put_other, lookup-wi
 use Rattle.spec_map.specs.Map.{lookup, put}
 use Rattle.node_table.specs.TableNode.{TableNode}
 use Rattle.spec_olc.specs.declared.types.Outcome.TheVariants as outcome
-use Rattle.spec_olc.specs.Kinds.{NextIs, ReadOutcome, AnswerOutcome, Takes, Retires, Unlocks, DoesAs, unlocked}
+use Rattle.spec_olc.specs.Kinds.{NextIs, ReadOutcome, AnswerOutcome, Takes, Retires, Unlocks, DoesAs, failed, unlocked}
 use Rattle.spec_olc.specs.Lists.{is_in, off}
-use Rattle.spec_olc.specs.State.{State, CallState, with_call, back}
+use Rattle.spec_olc.specs.State.{State, CallState, with_call}
 use Rattle.spec_olc.specs.declared.types.Env.{Env}
 use Rattle.spec_olc.specs.declared.types.Kind.TheVariants as kind
 use Rattle.spec_olc.specs.declared.types.Kind.{Kind}
@@ -16,14 +16,14 @@ use Rattle.spec_olc.specs.declared.types.Progress.{Progress}
 use Rattle.spec_olc.specs.declared.types.Progress.TheVariants as progress
 use Rattle.spec_olc.specs.declared.types.Report.{Report}
 
-some_is : {X : Type 0} (x y : X) → Some x ≡ Some y → x ≡ y
+pub some_is : {X : Type 0} (x y : X) → Some x ≡ Some y → x ≡ y
 some_is x y e = cc
 
 none_if : {X : Type 0} (o : Option X) → ((x : X) → o ≡ Some x → ⊥) → o ≡ None
 none_if None h = refl
 none_if (Some x) h = absurd (h x refl)
 
-none_some : {X : Type 0} (x : X) → None ≡ Some x → ⊥
+pub none_some : {X : Type 0} (x : X) → None ≡ Some x → ⊥
 none_some x e = cc
 
 module _ {M : Type 0} where
@@ -36,6 +36,15 @@ module _ {M : Type 0} where
   other_call base new id other put_there after ne =
       ap (λ (s : State M). lookup s.calls other) after ∙ lookup-put_other base.calls id put_there other ne
 
+  -- a call that has failed remembers no word, and keeps what it holds and has made
+  failed_forgets : (p : Progress) (call : CallState M) → (failed p call).remembered ≡ []
+  failed_forgets progress.Open call = refl
+  failed_forgets _ call = refl
+
+  pub failed_keeps : (p : Progress) (call : CallState M) → ((failed p call).held ≡ call.held) × ((failed p call).made ≡ call.made) × ((failed p call).cursor ≡ call.cursor)
+  failed_keeps progress.Open call = (refl, refl, refl)
+  failed_keeps _ call = (refl, refl, refl)
+
   module _ (Granted : Type 0) (same : M → M → Bool) (old new : State M) (id : ℕ) (call next : CallState M) (env : Env M) (report : Report) (out : Outcome M) where
     -- the call after an event, and the calls of other numbers
     next_is : (base : State M) (planned : CallState M) (b : NextIs Granted same old new id call env report out base planned) → lookup new.calls id ≡ Some next → b.next ≡ next
@@ -44,19 +53,21 @@ module _ {M : Type 0} where
     away : (base : State M) (planned : CallState M) (other : ℕ) → NextIs Granted same old new id call env report out base planned → other ≢ id → lookup new.calls other ≡ lookup base.calls other
     away base planned other b ne = other_call base new id other b.next b.after ne
 
-    forgotten : (b : NextIs Granted same old new id call env report out old (back call)) → (slot : ℕ) → lookup b.next.remembered slot ≡ None
-    forgotten b slot = none_if _ (λ w e. none_some w (b.remembered slot w e))
+    forgotten : (b : NextIs Granted same old new id call env report out old (failed call.progress call)) → (slot : ℕ) → lookup b.next.remembered slot ≡ None
+    forgotten b slot = none_if _ (λ w e. none_some w (ap (λ (words : List (ℕ × ℕ)). lookup words slot) (sym (failed_forgets call.progress call)) ∙ b.remembered slot w e))
 
     pub failed_take : Takes Granted same old new id call env report out → report.ok ≡ false → lookup new.calls id ≡ Some next → (slot : ℕ) → lookup next.remembered slot ≡ None
     failed_take t fails here slot =
-        let b : NextIs Granted same old new id call env report out old (back call) =
-        subst (λ (ok : Bool). NextIs Granted same old new id call env report out old (if ok then record call { remembered = put call.remembered t.slot t.node.word } else back call)) fails t.becomes in
-        subst (λ (n : CallState M). lookup n.remembered slot ≡ None) (next_is old (back call) b here) (forgotten b slot)
+        let b : NextIs Granted same old new id call env report out old (failed call.progress call) =
+        subst (λ (ok : Bool). NextIs Granted same old new id call env report out old (if ok then record call { remembered = put call.remembered t.slot t.node.word } else failed call.progress call)) fails t.becomes in
+        subst (λ (n : CallState M). lookup n.remembered slot ≡ None) (next_is old (failed call.progress call) b here) (forgotten b slot)
 
-    keeps_held : (ok : Bool) (slot word : ℕ) (b : NextIs Granted same old new id call env report out old (if ok then record call { remembered = put call.remembered slot word } else back call))
+    keeps_held : (ok : Bool) (slot word : ℕ) (b : NextIs Granted same old new id call env report out old (if ok then record call { remembered = put call.remembered slot word } else failed call.progress call))
         → (b.next.held ≡ call.held) × (b.next.made ≡ call.made) × (b.next.cursor ≡ call.cursor)
     keeps_held true slot word b = (ap (λ (f : CallState M). f.held) b.is, ap (λ (f : CallState M). f.made) b.is, ap (λ (f : CallState M). f.cursor) b.is)
-    keeps_held false slot word b = (ap (λ (f : CallState M). f.held) b.is, ap (λ (f : CallState M). f.made) b.is, ap (λ (f : CallState M). f.cursor) b.is)
+    keeps_held false slot word b =
+        let kept = failed_keeps call.progress call in
+        (ap (λ (f : CallState M). f.held) b.is ∙ kept.0, ap (λ (f : CallState M). f.made) b.is ∙ kept.1, ap (λ (f : CallState M). f.cursor) b.is ∙ kept.2)
 
     pub take_keeps : Takes Granted same old new id call env report out → lookup new.calls id ≡ Some next → (next.held ≡ call.held) × (next.made ≡ call.made) × (next.cursor ≡ call.cursor)
     take_keeps t here =
@@ -71,15 +82,16 @@ module _ {M : Type 0} where
           | inr far ↦ rw (far.0, far.0) (is_off slot xs)
         ]
 
-    unlocked_held : (p : Progress) (f : CallState M) → (unlocked p f).held ≡ f.held
-    unlocked_held progress.Open f = refl
-    unlocked_held progress.Decided f = refl
-    unlocked_held progress.Refused f = refl
+    unlocked_held : (p : Progress) (cleaning : Option ℕ) (held : List ℕ) (f : CallState M) → (unlocked p cleaning held f).held ≡ f.held
+    unlocked_held progress.Open cleaning held f = refl
+    unlocked_held _ None held f = refl
+    unlocked_held _ (Some length_is) [] f = refl
+    unlocked_held _ (Some length_is) (slot ∷ held) f = refl
 
     pub unlock_frees : (slot : ℕ) → Unlocks Granted same old new id call env report out → report.slot ≡ Some slot → lookup new.calls id ≡ Some next → is_in slot next.held ≡ false
     unlock_frees slot u at here =
         let slot_is : u.held.slot ≡ slot = some_is u.held.slot slot (sym (ap (λ (r : Report). r.slot) u.reports.0) ∙ at) in
-        let held_is : u.becomes.next.held ≡ off u.held.slot call.held = ap (λ (f : CallState M). f.held) u.becomes.is ∙ unlocked_held call.progress (record call { held = off u.held.slot call.held }) in
+        let held_is : u.becomes.next.held ≡ off u.held.slot call.held = ap (λ (f : CallState M). f.held) u.becomes.is ∙ unlocked_held call.progress call.cleaning (off u.held.slot call.held) (record call { held = off u.held.slot call.held }) in
         subst (λ (n : CallState M). is_in slot n.held ≡ false) (next_is _ _ u.becomes here)
         (ap (is_in slot) held_is ∙ (ap (λ s. is_in slot (off s call.held)) slot_is ∙ is_off slot call.held))
 

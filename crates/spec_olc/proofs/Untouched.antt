@@ -3,10 +3,10 @@ use Rattle.std.proofs.Common.{◌≡◌, ◌≢◌, ℕ, ◌+◌, Bool, true, fa
 use Rattle.spec_map.specs.Map.{lookup, put}
 use Rattle.node_table.specs.TableNode.{TableNode}
 use Rattle.spec_olc.specs.Calls.{IsPoint, Outline}
-use Rattle.spec_olc.specs.Kinds.{NextIs, Checks, DoesAs, CheckOutcome, AnswerOutcome, IsStep, ReadOutcome}
+use Rattle.spec_olc.specs.Kinds.{NextIs, Checks, DoesAs, CheckOutcome, AnswerOutcome, IsStep, ReadOutcome, failed}
 use Rattle.spec_olc.specs.Lists.{is_in}
 use Rattle.spec_olc.specs.Reading.{GoesOn, LooksOn}
-use Rattle.spec_olc.specs.State.{CallState, LeavesNodes, State, back}
+use Rattle.spec_olc.specs.State.{CallState, LeavesNodes, State}
 use Rattle.spec_olc.specs.declared.types.Env.{Env}
 use Rattle.spec_olc.specs.declared.types.Kind.TheVariants as kind
 use Rattle.spec_olc.specs.declared.types.Kind.{Kind}
@@ -14,7 +14,7 @@ use Rattle.spec_olc.specs.declared.types.Op.TheVariants.{Range}
 use Rattle.spec_olc.specs.declared.types.Outcome.TheVariants as outcome
 use Rattle.spec_olc.specs.declared.types.Outcome.{Outcome}
 use Rattle.spec_olc.specs.declared.types.Report.{Report}
-use Rattle.spec_olc.proofs.Steps.{call_after}
+use Rattle.spec_olc.proofs.Steps.{call_after, failed_keeps}
 
 some_is : {X : Type 0} (x y : X) → Some x ≡ Some y → x ≡ y
 some_is x y e = cc
@@ -54,13 +54,13 @@ module _ {M : Type 0} where
           sym (ap (λ (f : CallState M). f.held) one) ∙ (ap (λ (f : CallState M). f.held) b.is ∙ (held ∙ none)),
     )
 
-    taken_held : (ok : Bool) (slot word : ℕ) → (if ok then record call { remembered = put call.remembered slot word } else back call).held ≡ call.held
+    taken_held : (ok : Bool) (slot word : ℕ) → (if ok then record call { remembered = put call.remembered slot word } else failed call.progress call).held ≡ call.held
     taken_held true slot word = refl
-    taken_held false slot word = refl
+    taken_held false slot word = (failed_keeps call.progress call).0
 
     checked_held : (ok : Bool) (c : Checks Granted same old new id call env report out) → report.ok ≡ ok → c.planned.held ≡ call.held
     checked_held true c e = finds_held c.planned out (c.passes (subst (λ (z : Bool). IsTrue z) (sym e) refl))
-    checked_held false c e = ap (λ (f : CallState M). f.held) (c.fails e).1
+    checked_held false c e = ap (λ (f : CallState M). f.held) (c.fails e).1 ∙ (failed_keeps call.progress call).0
 
     reads : (node : TableNode M) (whole : Bool) (o : Outcome M) → ReadOutcome Granted same old new id call env report out node whole o → Leaves
     reads node true outcome.Going d = leaves _ d.2 refl

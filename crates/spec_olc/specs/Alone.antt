@@ -1,7 +1,7 @@
 -- OBSTRUCTION-FREE: a point call that runs alone ends within a fixed number of its own events.
-use Rattle.std.specs.Prelude.{◌≡◌, ◌≢◌, ℕ, ◌-◌, ◌<◌, false, List, [], ◌∷◌, Some, None, ◌⊎◌}
+use Rattle.std.specs.Prelude.{◌≡◌, ◌≢◌, ℕ, ◌-◌, ◌<◌, Bool, true, false, if◌then◌else◌, List, [], ◌∷◌, Some, None, ◌⊎◌}
 use Rattle.spec_map.specs.Map.{lookup}
-use Rattle.spec_olc.specs.Calls.{IsPoint}
+use Rattle.spec_olc.specs.Calls.{IsPoint, Outline}
 use Rattle.spec_olc.specs.Lock.{version, last_version}
 use Rattle.spec_olc.specs.Runs.{Transition}
 use Rattle.spec_olc.specs.State.{State, CallState, VersionedNode}
@@ -10,14 +10,22 @@ use Rattle.spec_olc.specs.declared.trace.Line.TheVariants.{Done as Made}
 use Rattle.spec_olc.specs.declared.types.Event.{Event}
 use Rattle.spec_olc.specs.declared.types.Event.TheVariants.{Step}
 use Rattle.spec_olc.specs.declared.types.Kind.TheVariants as kind
+use Rattle.spec_olc.specs.declared.types.Op.TheVariants.{Remove, ComputeIfPresent, CompareExchange}
 use Rattle.spec_olc.specs.declared.types.Outcome.TheVariants.{Refused, Done}
 
--- the bound from the call's Start on, which counts as one, and from any event on
-abbrev pub from_its_start : ℕ
-from_its_start = 40
+-- a call of this kind may remove its key, and cleans up after that
+abbrev pub may_remove : Outline → Bool
+may_remove (Remove k) = true
+may_remove (ComputeIfPresent k) = true
+may_remove (CompareExchange k old new) = true
+may_remove _ = false
 
-abbrev pub from_any_event : ℕ
-from_any_event = 80
+-- the bound from the call's Start on, which counts as one, and from any event on
+abbrev pub from_its_start : Outline → ℕ
+from_its_start op = if may_remove op then 120 else 40
+
+abbrev pub from_any_event : Outline → ℕ
+from_any_event op = if may_remove op then 200 else 80
 
 -- no other call holds a node, and no node has the last version
 pub record IsUncontended (s : State ℕ) (id : ℕ) : Type 0 where
@@ -43,11 +51,11 @@ EndsWithin id (x ∷ xs) now left =
     CountsDown id now x.event x.line left (λ n. EndsWithin id xs x.after n)
 
 -- Each point call in flight ends within 80 of its own events from here on, and each one that starts
--- here within 40.
+-- here within 40; within 200 and 120 if it may remove its key.
 abbrev pub AllEndAlone : State ℕ → List Transition → Type 0
 AllEndAlone now [] = Unit {0}
 AllEndAlone now (x ∷ xs) = ((id : ℕ) (call : CallState ℕ) → IsPoint call.outline
-    → (lookup now.calls id ≡ Some call → EndsWithin id (x ∷ xs) now from_any_event)
+    → (lookup now.calls id ≡ Some call → EndsWithin id (x ∷ xs) now (from_any_event call.outline))
     × (lookup now.calls id ≡ None → lookup x.after.calls id ≡ Some call
-    → EndsWithin id xs x.after (from_its_start - 1)))
+    → EndsWithin id xs x.after (from_its_start call.outline - 1)))
     × AllEndAlone x.after xs

@@ -8,6 +8,7 @@ use Rattle.node_table.specs.declared.child.Child.{Child}
 use Rattle.node_table.specs.declared.child.Child.TheVariants.{Payload}
 use Rattle.spec_olc.specs.Calls.{IsPoint, Outline, key_of, outline_of, stored}
 use Rattle.spec_olc.specs.Content.{IsCurrent}
+use Rattle.spec_olc.specs.Due.{IsLeft}
 use Rattle.spec_olc.specs.Lists.{off, without_all}
 use Rattle.spec_olc.specs.Local.{SharesNone, SeesPayloads, IsLocal, LeavesAll, IsQuestion}
 use Rattle.spec_olc.specs.Retirement.{stamp_at, count_after}
@@ -60,24 +61,39 @@ module _ {M : Type 0} where
   MayMake call = IsPoint call.outline
       × (IsSome (stored call.op call.asking) ⊎ IsSome call.cleaning)
 
-  -- after a failed Upgrade a call goes back to the root at once only if it holds no node
-  abbrev pub not_locked : List ℕ → CallState M → CallState M
-  not_locked [] call = back call
-  not_locked (slot ∷ held) call = call
+  -- the call cleans up no more
+  abbrev pub stopped : CallState M → CallState M
+  stopped call = record call { cleaning = None }
 
-  -- after an Unlock a call goes back to the root only if it has no reply
-  abbrev pub unlocked : Progress → CallState M → CallState M
-  unlocked progress.Open call = back call
-  unlocked _ call = call
+  -- A FAILED TAKE OR CHECK: a call goes back to the root; one that cleans up stops that
+  abbrev pub failed : Progress → CallState M → CallState M
+  failed progress.Open call = back call
+  failed _ call = stopped (back call)
 
-  -- A REFUSAL: a call without a reply only ends; one that cleans up gives the cleanup up
+  -- after a failed Upgrade a call without a reply goes back to the root at once only if it holds no
+  -- node; one that cleans up stops that
+  abbrev pub not_locked : Progress → List ℕ → CallState M → CallState M
+  not_locked progress.Open [] call = back call
+  not_locked progress.Open (slot ∷ held) call = call
+  not_locked _ held call = stopped (back call)
+
+  -- after an Unlock, with these nodes still held: a call without a reply goes back to the root; so
+  -- does one that has to clean up, once it holds no node; one that still holds another has found
+  -- nothing to clean up
+  abbrev pub unlocked : Progress → Option ℕ → List ℕ → CallState M → CallState M
+  unlocked progress.Open cleaning held call = back call
+  unlocked _ None held call = call
+  unlocked _ (Some length_is) [] call = back call
+  unlocked _ (Some length_is) (slot ∷ held) call = stopped call
+
+  -- A REFUSAL: a call without a reply only ends; one that cleans up stops that
   abbrev pub refusal : Progress → Outcome M
   refusal progress.Open = Refused
   refusal _ = Going
 
   abbrev pub refused : Progress → CallState M → CallState M
   refused progress.Open call = settled progress.Refused call
-  refused _ call = call
+  refused _ call = stopped call
 
   -- only these nodes are left, and the sizes of the others are uncharged
   pub record FreesNodes (old : State M) (nodes : List (ℕ × VersionedNode M))
@@ -142,8 +158,8 @@ module _ {M : Type 0} (Granted : Type 0) (same : M → M → Bool) where
     remembering slot word = record call { remembered = put call.remembered slot word }
 
     -- TAKE: reports the node's word, and is ok exactly if the word is free. Then the call remembers
-    -- it, else it goes back to the root. At the root the call has seen and asked nothing, and a
-    -- call that remembers no word takes the root.
+    -- it, else it has failed. At the root the call has seen and asked nothing, and a call that
+    -- remembers no word takes the root.
     pub record Takes : Type 0 where
       pub slot : ℕ
       pub node : VersionedNode M
@@ -152,18 +168,19 @@ module _ {M : Type 0} (Granted : Type 0) (same : M → M → Bool) where
       pub first : call.remembered ≡ [] → slot ≡ old.root
       pub reports : HasReport (report_of kind.Take (Some slot) node.word report.ok) Going
       pub ok : IsTrue report.ok ↔ IsFree node.word
-      pub becomes : NextIs old (if report.ok then remembering slot node.word else back call)
+      pub becomes : NextIs old
+          (if report.ok then remembering slot node.word else failed call.progress call)
       pub remembers : IsTrue report.ok → lookup becomes.next.remembered slot ≡ Some node.word
 
     -- CHECK of any node that the call remembers: ok exactly if its word is the remembered one. If
-    -- not, the call goes back to the root, and the outcome is Going.
+    -- not, the call has failed, and the outcome is Going.
     pub record Checks : Type 0 where
       pub knows : Remembered
       pub planned : CallState M
       pub is : report ≡ report_of kind.Check (Some knows.slot) 0 report.ok
       pub ok : IsTrue report.ok ↔ (knows.node.word ≡ knows.word)
       pub passes : IsTrue report.ok → CheckOutcome old call planned out
-      pub fails : report.ok ≡ false → (out ≡ Going) × (planned ≡ back call)
+      pub fails : report.ok ≡ false → (out ≡ Going) × (planned ≡ failed call.progress call)
       pub becomes : NextIs old planned
 
     -- the outcome of a Read: the call has seen a child, or a share of the payload there was refused
@@ -197,7 +214,7 @@ module _ {M : Type 0} (Granted : Type 0) (same : M → M → Bool) where
       pub ok : IsTrue report.ok ↔ (MayUpgrade knows.node.word knows.word × (env.fail ≡ false))
       pub locks : IsTrue report.ok → NextIs (with_word old knows.slot knows.node 2)
           (record call { held = knows.slot ∷ call.held })
-      pub fails : report.ok ≡ false → NextIs old (not_locked call.held call)
+      pub fails : report.ok ≡ false → NextIs old (not_locked call.progress call.held call)
 
     -- MAKE that is granted: a private node in a slot that was free, its size charged
     pub record Makes : Type 0 where
@@ -221,7 +238,7 @@ module _ {M : Type 0} (Granted : Type 0) (same : M → M → Bool) where
 
     -- WRITE: changes one entry of one held node, under the key's byte, if the node has room for it.
     -- It publishes the nodes that the call has made, and empties the node that it takes out, if
-    -- there is one.
+    -- there is one. A node that it leaves due is left to clean up.
     pub record Writes : Type 0 where
       pub held : HeldNode old call
       pub child : Option (Child M)
@@ -232,9 +249,11 @@ module _ {M : Type 0} (Granted : Type 0) (same : M → M → Bool) where
       pub shape : (c : Child M) → child ≡ Some c → MayHave held.node.node.prefix c
       pub fits : Fits held.node.node.form (length (changed call held.node child).node.children)
       pub takes_out : TakesOut old call (entry_below call held.node) child gone
+      pub left : Option ℕ
+      pub leaves : IsLeft call.progress child (changed call held.node child).node left
       pub reports : WriteOutcome call out
       pub becomes : NextIs (record (written old call held child gone) { entries = entries })
-          (settled progress.Decided (record call { made = [] }))
+          (settled progress.Decided (record call { made = []; cleaning = left }))
 
     -- OBSOLETE: adds 1 to the word of a held node, and retires it, stamped with the count of
     -- retirements
@@ -249,7 +268,8 @@ module _ {M : Type 0} (Granted : Type 0) (same : M → M → Bool) where
       pub held : HeldNode old call
       pub reports : HasReport (report_of kind.Unlock (Some held.slot) 0 true) Going
       pub becomes : NextIs (with_word old held.slot held.node 2)
-          (unlocked call.progress (record call { held = off held.slot call.held }))
+          (unlocked call.progress call.cleaning (off held.slot call.held)
+          (record call { held = off held.slot call.held }))
 
     -- the outcome of an Answer: the closure's answer is taken, or a share of it was refused
     abbrev pub AnswerOutcome : Option M → Outcome M → Type 0

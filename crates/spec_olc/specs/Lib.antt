@@ -2,6 +2,7 @@ pub mod Alone
 pub mod Calls
 pub mod Content
 pub mod Deciding
+pub mod Due
 pub mod Kinds
 pub mod Lasting
 pub mod Linearizable

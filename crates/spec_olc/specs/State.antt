@@ -37,7 +37,7 @@ pub record CallState (M : Type 0) : Type 0 where
   pub reach : ℕ
   -- how many pairs a range has given
   pub given : ℕ
-  -- the length of the prefix for which it cleans up
+  -- after a removal: the length of the prefix of the node for which it has to clean up, or does
   pub cleaning : Option ℕ
   -- since it last went back to the root: the words that it remembers, by slot, what its last Read
   -- reported, and how far it is with its closure

@@ -7,6 +7,7 @@ ghost use Rattle.spec_map.specs.Map.{Pairs, lookup};
 ghost use Rattle.spec_olc.specs.Calls.{IsPoint};
 ghost use Rattle.spec_olc.specs.Content.{IsContent, IsStoredAt};
 ghost use Rattle.spec_olc.specs.Deciding.{IsContentStep};
+ghost use Rattle.spec_olc.specs.Due.{IsDue};
 ghost use Rattle.spec_olc.specs.Linearizable.{IsLinearizable};
 ghost use Rattle.spec_olc.specs.Meaning.{meant};
 ghost use Rattle.spec_olc.specs.Orderly.{IsOrderly};
@@ -22,7 +23,7 @@ ghost use Rattle.spec_olc.specs.Local.{LeavesAll};
 ghost use Rattle.spec_olc.specs.Lock.{IsFree, IsObsolete};
 ghost use Rattle.spec_olc.specs.Runs.{Transition, IsHistory, fresh, same_number};
 ghost use Rattle.node_table.specs.TableNode.{TableNode};
-ghost use Rattle.spec_olc.specs.Writing.{IsNewNode, entry_below, with_children};
+ghost use Rattle.spec_olc.specs.Writing.{IsNewNode, changed, entry_below, with_children};
 ghost use Rattle.spec_olc.specs.State.{LeavesNodes, publish, State, CallState, VersionedNode, not_yet, published};
 ghost use Rattle.spec_olc.specs.Touching.{IsLive};
 ghost use Rattle.spec_olc.specs.WellFormed.{IsWellFormed};
@@ -414,4 +415,34 @@ pub fn what_breaks_a_range()
 pub fn a_range_stops_before_its_end()
     ensures { (start end limit key : ℕ) (events : List Reported) → IsScan start end limit events
         → end ≤ key → lookup (given events) key ≡ None }
+{}
+
+/// Only a Write lets a call begin to clean up: after any other step it cleans up as before, or no more.
+pub fn only_a_write_begins_a_cleanup<P: HasMeaning>()
+    ensures { (old new : State P.Meaning) (id : ℕ) (call next : CallState P.Meaning)
+        (env : Env P.Meaning) (report : Report) (out : Outcome P.Meaning)
+        → lookup old.calls id ≡ Some call
+        → IsStep P.always_shared P.same_meaning old new id env report out
+        → out ≢ Outcome.Done → report.kind ≢ Kind.Write → lookup new.calls id ≡ Some next
+        → (next.cleaning ≡ call.cleaning) ⊎ (next.cleaning ≡ None) }
+{}
+
+/// What a Write leaves to clean up is a node from which it has taken a child, and which has few left.
+pub fn a_cleanup_is_for_a_due_node<P: HasMeaning>()
+    ensures { (old new : State P.Meaning) (id : ℕ) (call next : CallState P.Meaning)
+        (env : Env P.Meaning) (report : Report) (out : Outcome P.Meaning) (length_is : ℕ)
+        → (w : Writes P.always_shared P.same_meaning old new id call env report out)
+        → lookup new.calls id ≡ Some next → next.cleaning ≡ Some length_is
+        → (w.child ≡ None) × IsDue (changed call w.held.node w.child).node
+        × (length_is ≡ length w.held.node.node.prefix) }
+{}
+
+/// A point call that has its reply decides nothing, asks nothing and isn't refused, so neither does one that cleans up.
+pub fn a_cleanup_decides_nothing<P: HasMeaning>()
+    ensures { (old new : State P.Meaning) (id : ℕ) (call : CallState P.Meaning)
+        (env : Env P.Meaning) (report : Report) (out : Outcome P.Meaning)
+        → lookup old.calls id ≡ Some call → IsPoint call.outline
+        → call.progress ≡ Progress.Decided
+        → IsStep P.always_shared P.same_meaning old new id env report out
+        → (out ≡ Outcome.Going) ⊎ (out ≡ Outcome.Done) }
 {}

@@ -19,7 +19,7 @@ const GROWTH_TOLD: &str =
     "0 ok none\n0 ok none\n0 ok none\n0 ok none\n2 ok none\nskipped\n1 2\nreclaimed 1\ncontent 0=0 1=1 2=2 3=3 4=4\n";
 
 /// What is read, and what is written for it.
-const REPLAYED: [(&str, &str); 14] = [
+const REPLAYED: [(&str, &str); 15] = [
     ("", "content\n"),
     (TORN, "0 ok none\n2 ok 42\n1 43\ncontent 1=43\n"),
     (GROWTH, GROWTH_TOLD),
@@ -48,9 +48,13 @@ const REPLAYED: [(&str, &str); 14] = [
         "start 0 insert 1 42\nstep 0 8\nstart 1 range 0 10 8\nstep 1 11\nstart 1 range 0 10 1\nstep 1 9\nstart 1 range 5 5 8\nstep 1 2\n",
         "0 ok none\n1 pair 1 42\nskipped\n1 pair 1 42\nskipped\nskipped\ncontent 1=42\n",
     ),
-    // an inner node that was emptied is passed over
+    // a range after a cleanup; and one that passes over an inner node that was emptied and isn't taken out yet
     (
-        "start 0 insert 1 1\nstep 0 8\nstart 0 insert 256 2\nstep 0 13\nstart 0 insert 65536 3\nstep 0 13\nstart 0 remove 1\nstep 0 21\nstart 0 remove 256\nstep 0 21\nstart 1 range 0 131072 1\nstep 1 23\n",
+        "start 0 insert 1 1\nstep 0 8\nstart 0 insert 256 2\nstep 0 13\nstart 0 insert 65536 3\nstep 0 13\nstart 0 remove 1\nstep 0 21\nstart 0 remove 256\nstep 0 37\nstart 1 range 0 131072 1\nstep 1 12\n",
+        "0 ok none\n0 ok none\n0 ok none\n0 1\n0 2\n1 pair 65536 3\ncontent 65536=3\n",
+    ),
+    (
+        "start 0 insert 1 1\nstep 0 8\nstart 0 insert 256 2\nstep 0 13\nstart 0 insert 65536 3\nstep 0 13\nstart 0 remove 1\nstep 0 21\nstart 0 remove 256\nstep 0 20\nstart 1 range 0 131072 1\nstep 1 23\n",
         "0 ok none\n0 ok none\n0 ok none\n0 1\n0 2\n1 pair 65536 3\ncontent 65536=3\n",
     ),
     // no range contains the key 2^64 - 1

@@ -1,6 +1,6 @@
 //! Insertions, alone and two at a time: their events, their answers and what is stored then.
 //!
-//! A letter denotes an event, a small one if a word isn't free or isn't the remembered one, an upgrade fails, or memory
+//! A letter denotes an event, a small one if a word isn't free or isn't the remembered one, an upgrade fails, or a node
 //! is refused: Start, Take, Read, Check, Upgrade, mAke, Write, Obsolete, unLock, Finish.
 
 use node_table::allocator::Budget;
@@ -12,8 +12,11 @@ use std::alloc::{AllocError, Global};
 use std::collections::BTreeMap;
 use std::test::Fail;
 
-// More events than a call takes that is alone.
+// More events than a call takes that is alone and removes nothing.
 pub(super) const MANY: usize = 41;
+
+// More events than a call takes that is alone and may clean up.
+pub(super) const WHOLE: usize = 120;
 
 const ONE: [(u64, u64); 1] = [(1, 42)];
 
@@ -49,6 +52,15 @@ pub(super) fn letter(kind: Kind) -> char {
 fn told(line: &Line) -> Option<char> {
     match line {
         Line::Done(report, Outcome::Refused, _) => Some(letter(report.kind).to_ascii_lowercase()),
+        Line::Done(
+            Report {
+                kind: Kind::Make,
+                slot: None,
+                ..
+            },
+            _,
+            _,
+        ) => Some('a'),
         Line::Done(
             Report {
                 kind,
@@ -115,7 +127,11 @@ pub(super) fn push_all(
 }
 
 // The letters of the lines from one on.
-fn push_letters(trace: &Trace, from: usize, letters: &mut String) -> Result<(), AllocError> {
+pub(super) fn push_letters(
+    trace: &Trace,
+    from: usize,
+    letters: &mut String,
+) -> Result<(), AllocError> {
     for line in trace.lines.iter().skip(from) {
         if let Some(c) = told(line) {
             letters.push(c)?;

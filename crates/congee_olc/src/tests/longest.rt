@@ -1,5 +1,7 @@
-//! The longest call of all: eight nodes down to a full leaf, which has to grow for what a closure answers.
+//! The longest calls: eight nodes down to a full leaf, which has to grow for what a closure answers; and to a leaf that
+//! goes, which two cleanups follow.
 
+use crate::tests::cleanups::{Case, Setting, wrong_case};
 use crate::tests::parts::{Call, Part, Row, Wanted, wrong_row};
 use std::test::Fail;
 
@@ -78,5 +80,50 @@ const LONGEST: [Row<'static>; 2] = [
 #[test]
 fn the_longest_call_alone(rt: HostRuntime) -> Result<(), Fail> {
     assert_eq!(rt; wrong_row(rt.alloc(), &LONGEST)?, None);
+    Ok(())
+}
+
+// The key 0 in a leaf of its own below eight nodes. The last of them has that leaf alone, and the one before has few
+// children once it has lost this node.
+const DEEP_DOWN: Setting<'static> = Setting::Pairs(
+    &[
+        (0, 0),
+        (1 << 8, 8),
+        (1 << 16, 16),
+        (2 << 16, 17),
+        (3 << 16, 18),
+        (4 << 16, 19),
+        (1 << 24, 24),
+        (1 << 32, 32),
+        (1 << 40, 40),
+        (1 << 48, 48),
+        (1 << 56, 56),
+    ],
+    &[4 << 16, 1 << 8],
+);
+
+// 100 events from the start, and 103 from where another call has changed the leaf.
+const LONGEST_CLEANUPS: [Case<'static>; 2] = [
+    Case {
+        setting: DEEP_DOWN,
+        parts: &[Part::Start(1, Call::IfPresent(0)), Part::Steps(1, 99, None)],
+        course: "STRCTCRCTCRCTCRCTCRCTCRCTCRCTCRCQUUWOLTRCTCRCTCRCTCRCTCRCTCRCTCRCUUWOLTRCTCRCTCRCTCRCTCRCTCRCUUAWOLF",
+    },
+    Case {
+        setting: DEEP_DOWN,
+        parts: &[
+            Part::Start(1, Call::IfPresent(0)),
+            Part::Steps(1, 31, None),
+            Part::Start(2, Call::Insert(0, 77)),
+            Part::Steps(2, 35, None),
+            Part::Steps(1, 103, None),
+        ],
+        course: "STRCTCRCTCRCTCRCTCRCTCRCTCRCTCRCSTRCTCRCTCRCTCRCTCRCTCRCTCRCTCRCUWLFQUuLTRCTCRCTCRCTCRCTCRCTCRCTCRCTCRCQUUWOLTRCTCRCTCRCTCRCTCRCTCRCTCRCUUWOLTRCTCRCTCRCTCRCTCRCTCRCUUAWOLF",
+    },
+];
+
+#[test]
+fn the_longest_cleanups(rt: HostRuntime) -> Result<(), Fail> {
+    assert_eq!(rt; wrong_case(rt.alloc(), &LONGEST_CLEANUPS)?, None);
     Ok(())
 }

@@ -1,7 +1,7 @@
 //! One call on a machine without pairs, event by event, and each of the machine's other calls once.
 
 use crate::tests::courses::{Numbers, of_pairs, plain};
-use crate::tests::insertions::MANY;
+use crate::tests::insertions::WHOLE;
 use node_table::allocator::Budget;
 use node_table::child::Child;
 use olc_machine::machine::Machine;
@@ -139,7 +139,7 @@ fn has_stats(machine: &Numbers, levels: &[Level], pairs: u64) -> Result<bool, OO
 fn removes(machine: &mut Numbers, key: u64) -> bool {
     let op = Op::Remove(key);
     let started = machine.start(0, &op).is_ok();
-    for _ in 0..MANY {
+    for _ in 0..WHOLE {
         machine.step(0, &op, plain());
     }
     started && !machine.is_in_flight(0)

@@ -11,7 +11,7 @@ use spec_olc::types::{Env, Event, Op, Reply, Seen};
 use std::alloc::{AllocError, Global};
 use std::collections::BTreeMap;
 
-/// A point call of a row.
+/// A call of a row.
 #[derive(Clone, Copy)]
 pub(super) enum Call {
     Get(u64),
@@ -20,6 +20,7 @@ pub(super) enum Call {
     IfPresent(u64),
     OrInsert(u64, u64),
     Exchange(u64, u64, Option<u64>),
+    Range(u64, u64, u64),
 }
 
 impl Call {
@@ -31,6 +32,7 @@ impl Call {
             Call::IfPresent(key) => Op::ComputeIfPresent(key),
             Call::OrInsert(key, otherwise) => Op::ComputeOrInsert(key, otherwise),
             Call::Exchange(key, old, new) => Op::CompareExchange(key, old, new),
+            Call::Range(start, end, limit) => Op::Range(start, end, limit),
         }
     }
 }

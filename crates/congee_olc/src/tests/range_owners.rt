@@ -51,7 +51,7 @@ fn give(machine: &mut Shared, count: usize) -> Result<usize, StartError> {
 }
 
 // Whether each value has so many owners.
-fn have_owners(values: &[Arc<u64>], count: usize) -> bool {
+pub(super) fn have_owners(values: &[Arc<u64>], count: usize) -> bool {
     for value in values {
         if Arc::strong_count(value) != count {
             return false;
@@ -96,9 +96,9 @@ fn a_range_gives_each_share_back(rt: HostRuntime) -> Result<(), Fail> {
 
 /// An owner of a number, which is shared as often as a cell still allows.
 #[derive(Drop)]
-struct Scarce<'a> {
-    number: Arc<u64>,
-    left: &'a Cell<u64>,
+pub(super) struct Scarce<'a> {
+    pub(super) number: Arc<u64>,
+    pub(super) left: &'a Cell<u64>,
 }
 
 impl<'a> Payload for Scarce<'a> {
@@ -146,7 +146,7 @@ impl<'a> HasMeaning for Scarce<'a> {
     ghost same_is_equal_meaning = { λ x y e. absurd (false≢true e) };
 }
 
-type Rationed<'a> = Machine<Scarce<'a>, Budget>;
+pub(super) type Rationed<'a> = Machine<Scarce<'a>, Budget>;
 
 // What the events of a range report: how many pairs, whether they are the first of the stored ones, and whether the
 // range is refused.

@@ -1,6 +1,6 @@
 //! Ranges beside other calls: what they give, by the oracle of ranges.
 
-use crate::tests::insertions::{MANY, ends_so, push_all, push_insert, push_steps, step};
+use crate::tests::insertions::{MANY, WHOLE, ends_so, push_all, push_insert, push_steps, step};
 use crate::tests::parts::{Call, Part, push_parts};
 use crate::tests::range_oracle::{Bounds, served};
 use olc_replay::replay::replay;
@@ -39,7 +39,7 @@ fn push_case(events: &mut Vec<Event<u64>>, case: Case<'_>, at: usize) -> Result<
     for (call, answer) in case.beside {
         push_parts(
             events,
-            &[Part::Start(2, *call), Part::Steps(2, MANY, *answer)],
+            &[Part::Start(2, *call), Part::Steps(2, WHOLE, *answer)],
         )?;
     }
     for _ in 0..TO_END {
@@ -300,6 +300,83 @@ const FULL: [Case<'static>; 4] = [
 #[test]
 fn ranges_beside_calls_on_full_nodes(rt: HostRuntime) -> Result<(), Fail> {
     assert_eq!(rt; wrong_case(rt.alloc(), &FULL, 12)?, None);
+    Ok(())
+}
+
+// Nodes that shrink beside a range: leaves and inner nodes of each larger form, and one that is filled again; nodes that
+// go, one below the other, and come back.
+const CLEANED: [Case<'static>; 7] = [
+    Case {
+        dense: (5, 1),
+        pairs: &[],
+        beside: &[(Call::Remove(4), None), (Call::Remove(0), None)],
+        bounds: ALL,
+    },
+    Case {
+        dense: (17, 1),
+        pairs: &[],
+        beside: &[
+            (Call::Remove(0), None),
+            (Call::Remove(2), None),
+            (Call::Remove(4), None),
+            (Call::Exchange(6, 6, None), None),
+            (Call::IfPresent(8), None),
+            (Call::Insert(8, 9), None),
+        ],
+        bounds: ALL,
+    },
+    Case {
+        dense: (5, 256),
+        pairs: &[(1, 9)],
+        beside: &[
+            (Call::Remove(512), None),
+            (Call::Remove(256), None),
+            (Call::Insert(512, 8), None),
+        ],
+        bounds: ALL,
+    },
+    Case {
+        dense: (0, 0),
+        pairs: &[(256, 1), (512, 2), (65536, 3), (131072, 4)],
+        beside: &[(Call::Remove(256), None), (Call::Remove(512), None)],
+        bounds: ALL,
+    },
+    Case {
+        dense: (0, 0),
+        pairs: &[(256, 1), (512, 2), (65536, 3), (131072, 4)],
+        beside: &[
+            (Call::Remove(512), None),
+            (Call::Remove(256), None),
+            (Call::Insert(256, 9), None),
+        ],
+        bounds: (0, 70000, 2),
+    },
+    Case {
+        dense: (0, 0),
+        pairs: &[(0, 0), (256, 1), (65536, 2), (16777216, 3), (1 << 40, 4)],
+        beside: &[
+            (Call::Remove(256), None),
+            (Call::Remove(65536), None),
+            (Call::Remove(16777216), None),
+            (Call::Remove(0), None),
+        ],
+        bounds: ALL,
+    },
+    Case {
+        dense: (5, 65536),
+        pairs: &[(256, 9)],
+        beside: &[
+            (Call::Remove(262144), None),
+            (Call::Remove(0), None),
+            (Call::Remove(256), None),
+        ],
+        bounds: (0, 1000000, 99),
+    },
+];
+
+#[test]
+fn ranges_beside_cleanups(rt: HostRuntime) -> Result<(), Fail> {
+    assert_eq!(rt; wrong_case(rt.alloc(), &CLEANED, 60)?, None);
     Ok(())
 }
 

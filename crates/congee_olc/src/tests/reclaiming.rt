@@ -2,7 +2,10 @@
 //!
 //! The first leaf of a schedule has slot 1.
 
-use crate::tests::insertions::{FIVE, FOUR, MANY, push_all};
+use crate::tests::cleanups::{
+    LEAVES, Setting, TWO_CLEANUPS, end_well, last_key, push_setting, removing,
+};
+use crate::tests::insertions::{FIVE, FOUR, WHOLE, push_all};
 use crate::tests::parts::{
     Call, Part, Row, Wanted, goes_so, is_legal, push_answered, push_parts, wrong_row,
 };
@@ -186,21 +189,23 @@ impl Flying {
     }
 }
 
-// What is known of the slot 1: the calls that have been in flight since its retirement, and whether it was reclaimed.
+// What is known of a slot: the calls that have been in flight since its retirement, and whether it was reclaimed.
 #[derive(Clone, Copy)]
 struct Watch {
+    slot: usize,
     flying: Flying,
     waits_for: Option<Flying>,
     reclaimed: bool,
 }
 
 impl Watch {
-    fn new() -> Self {
+    fn new(slot: usize) -> Self {
         let flying = Flying {
             first: false,
             second: false,
         };
         Watch {
+            slot,
             flying,
             waits_for: None,
             reclaimed: false,
@@ -220,7 +225,7 @@ impl Watch {
         if report.kind == Kind::Finish {
             self.end(id);
         }
-        if report.kind == Kind::Obsolete && report.slot == Some(1) {
+        if report.kind == Kind::Obsolete && report.slot == Some(self.slot) {
             self.waits_for = Some(self.flying);
         }
     }
@@ -249,34 +254,62 @@ impl Watch {
                 self.note_step(*id, report);
                 true
             }
-            (Event::Reclaim(_), Line::Done(..)) => self.note_reclaim(true),
-            (Event::Reclaim(_), Line::Skipped) => self.note_reclaim(false),
+            (Event::Reclaim(slot), line) if *slot == self.slot => {
+                self.note_reclaim(matches!(line, Line::Done(..)))
+            }
             _ => true,
         }
     }
 }
 
-// Whether the slot 1 is reclaimed at the first event that may, and not before.
-fn is_soonest(events: &[Event<u64>], trace: &Trace) -> bool {
-    let mut watch = Watch::new();
+// Whether a slot is reclaimed at the first event that may, if it is retired, and not before; and whether it is.
+fn watched(events: &[Event<u64>], trace: &Trace, slot: usize) -> (bool, bool) {
+    let mut watch = Watch::new(slot);
     for (event, line) in events.iter().zip(&trace.lines) {
         if !watch.note(event, line) {
-            return false;
+            return (false, watch.reclaimed);
         }
     }
-    watch.reclaimed && watch.waits_for.is_none()
+    (watch.waits_for.is_none(), watch.reclaimed)
 }
 
-// So many events of a number's call, after each of which the slot 1 is to be reclaimed.
-fn push_watched(events: &mut Vec<Event<u64>>, id: u64, steps: usize) -> Result<(), AllocError> {
+// Whether a slot is retired, and reclaimed at the first event that may.
+fn is_soonest(events: &[Event<u64>], trace: &Trace, slot: usize) -> bool {
+    watched(events, trace, slot) == (true, true)
+}
+
+// So many events of a number's call, after each of which these slots are to be reclaimed.
+fn push_watched(
+    events: &mut Vec<Event<u64>>,
+    id: u64,
+    steps: usize,
+    slots: &[usize],
+) -> Result<(), AllocError> {
     for _ in 0..steps {
         push_answered(events, id, 1, None)?;
-        events.push(Event::Reclaim(1))?;
+        for slot in slots {
+            events.push(Event::Reclaim(*slot))?;
+        }
     }
     Ok(())
 }
 
-// A call that is stopped after so many events, another one that retires the slot 1, and the end of the first.
+// A call that is stopped after so many events, another one, and the end of the first.
+fn push_both_watched(
+    events: &mut Vec<Event<u64>>,
+    calls: (Call, Call),
+    at: usize,
+    slots: &[usize],
+) -> Result<(), AllocError> {
+    push_parts(events, &[Part::Start(1, calls.0)])?;
+    push_watched(events, 1, at, slots)?;
+    push_parts(events, &[Part::Start(2, calls.1)])?;
+    push_watched(events, 2, 60, slots)?;
+    push_watched(events, 1, WHOLE, slots)?;
+    push_watched(events, 2, WHOLE, slots)
+}
+
+// Whether the slot 1 is reclaimed as soon as it may be.
 fn is_reclaimed(
     alloc: Global,
     pairs: &[(u64, u64)],
@@ -286,14 +319,9 @@ fn is_reclaimed(
 ) -> Result<bool, OOMError> {
     let mut events = Vec::new(alloc);
     push_all(&mut events, pairs)?;
-    push_parts(&mut events, &[Part::Start(1, reader)])?;
-    push_watched(&mut events, 1, at)?;
-    push_parts(&mut events, &[Part::Start(2, writer)])?;
-    push_watched(&mut events, 2, MANY)?;
-    push_watched(&mut events, 1, MANY)?;
-    push_watched(&mut events, 2, MANY)?;
+    push_both_watched(&mut events, (reader, writer), at, &[1])?;
     let trace = replay(alloc, &events)?;
-    Ok(is_soonest(&events, &trace) && is_legal(alloc, &trace)?)
+    Ok(is_soonest(&events, &trace, 1) && is_legal(alloc, &trace)?)
 }
 
 // Calls that retire no leaf.
@@ -352,5 +380,95 @@ fn a_leaf_that_grew_is_reclaimed_at_once(rt: HostRuntime) -> Result<(), Fail> {
         wrong_reader(rt.alloc(), &FOUR, Call::OrInsert(4, 4))?,
         None
     );
+    Ok(())
+}
+
+// A removal in one of these settings and the slots that it retires, which are all that are reclaimed here.
+const RETIRED: [(Setting<'static>, u64, &'static [usize]); 4] = [
+    (Setting::Keys(5, 4, 1), 3, &[2]),
+    (Setting::Keys(17, 13, 1), 12, &[3]),
+    (Setting::Pairs(&[(1, 1), (256, 2)], &[1]), 256, &[2, 3]),
+    (TWO_CLEANUPS, 0, &[1, 3, 9]),
+];
+
+// Calls that look at what a cleanup works on, or change it, and whether it may then have nothing to retire.
+const BESIDE: [(Call, bool); 4] = [
+    (Call::Get(1), false),
+    (Call::Range(0, u64::MAX, 99), false),
+    (Call::Insert(0, 99), true),
+    (Call::Insert(1 << 56, 99), false),
+];
+
+// The first event of a call after which a removal goes wrong whose slots are to be reclaimed after each event.
+fn wrong_reclaim(
+    alloc: Global,
+    setting: Setting<'_>,
+    calls: ((Call, bool), Call),
+    slots: &[usize],
+) -> Result<Option<usize>, OOMError> {
+    let ((call, may_fill), removal) = calls;
+    for at in 0..12 {
+        let mut events = Vec::new(alloc);
+        push_setting(&mut events, setting)?;
+        push_both_watched(&mut events, (call, removal), at, slots)?;
+        let trace = replay(alloc, &events)?;
+        for slot in slots {
+            let (is_timely, is_reclaimed) = watched(&events, &trace, *slot);
+            if !is_timely || !(is_reclaimed || may_fill) || !is_legal(alloc, &trace)? {
+                return Ok(Some(at));
+            }
+        }
+    }
+    Ok(None)
+}
+
+// The first of the calls beside which that goes wrong.
+fn wrong_beside(
+    alloc: Global,
+    setting: Setting<'_>,
+    key: u64,
+    slots: &[usize],
+) -> Result<Option<(usize, usize)>, OOMError> {
+    for (place, call) in BESIDE.iter().enumerate() {
+        if let Some(at) = wrong_reclaim(alloc, setting, (*call, Call::Remove(key)), slots)? {
+            return Ok(Some((place, at)));
+        }
+    }
+    Ok(None)
+}
+
+#[test]
+fn what_a_cleanup_retires_is_reclaimed_at_once(rt: HostRuntime) -> Result<(), Fail> {
+    for (setting, key, slots) in RETIRED {
+        let wrong = wrong_beside(rt.alloc(), setting, key, slots)?;
+        assert_eq!(rt; wrong, None, "removal of {key}");
+    }
+    Ok(())
+}
+
+const ANY: [usize; 6] = [1, 2, 3, 4, 5, 9];
+
+// Whether two calls end well, each of the slots reclaimed as soon as it may be, after each event.
+fn wrong_where_all_go(alloc: Global, setting: Setting<'_>) -> Result<Option<usize>, OOMError> {
+    let key = last_key(setting);
+    for at in 0..27 {
+        for (call, _) in removing(key, key) {
+            let mut events = Vec::new(alloc);
+            push_setting(&mut events, setting)?;
+            push_both_watched(&mut events, (Call::Remove(0), call), at, &ANY)?;
+            if !end_well(alloc, &events)? {
+                return Ok(Some(at));
+            }
+        }
+    }
+    Ok(None)
+}
+
+#[test]
+fn two_removals_where_slots_are_used_anew(rt: HostRuntime) -> Result<(), Fail> {
+    for leaf in LEAVES {
+        assert_eq!(rt; wrong_where_all_go(rt.alloc(), leaf)?, None);
+    }
+    assert_eq!(rt; wrong_where_all_go(rt.alloc(), TWO_CLEANUPS)?, None);
     Ok(())
 }

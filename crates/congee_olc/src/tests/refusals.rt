@@ -1,8 +1,15 @@
-//! Insertions to which nodes are refused: each request of each tail once, and every budget up to what all need.
+//! Calls to which nodes are refused: each request of each tail once, every budget up to what all insertions need, and
+//! the smaller nodes of cleanups.
 
 ghost use Rattle.std.specs.Prelude.{None};
 
-use crate::tests::insertions::{FOUR, FOUR_APART, MANY, is_history, push_all, push_insert};
+use crate::tests::cleanups::{
+    Setting, TWO_CLEANUPS, last_key, push_setting, removing, started_and_ended,
+};
+use crate::tests::insertions::{
+    FOUR, FOUR_APART, MANY, WHOLE, is_history, push_all, push_insert, push_letters,
+};
+use crate::tests::parts::{Call, Part, is_legal, push_parts};
 use node_base::base_node::NodeSize;
 use node_table::allocator::{Allocator, Budget};
 use olc_replay::replay::replay_with;
@@ -132,5 +139,141 @@ fn wrong_budget(alloc: Global) -> Result<Option<u64>, OOMError> {
 #[test]
 fn every_budget_gives_a_legal_history(rt: HostRuntime) -> Result<(), Fail> {
     assert_eq!(rt; wrong_budget(rt.alloc())?, None);
+    Ok(())
+}
+
+/// A setting, the request for the smaller node that the removal of its last key asks for, counted from the root's, and
+/// the letters of that removal where this is refused, and of the next one.
+struct Smaller<'a> {
+    setting: Setting<'a>,
+    key: u64,
+    request: u64,
+    course: &'a str,
+    next: (u64, &'a str),
+}
+
+// Leaves, an inner node, and the second of two cleanups. Both locked nodes are unlocked, the call ends as decided, and
+// the next removal makes the smaller node.
+const SMALLER: [Smaller<'static>; 5] = [
+    Smaller {
+        setting: Setting::Keys(5, 4, 1),
+        key: 3,
+        request: 4,
+        course: "STRCTCRCUWLTRCTCRCUUaLLF",
+        next: (2, "STRCTCRCUWLTRCTCRCUUAWOLF"),
+    },
+    Smaller {
+        setting: Setting::Keys(17, 13, 1),
+        key: 12,
+        request: 5,
+        course: "STRCTCRCUWLTRCTCRCUUaLLF",
+        next: (11, "STRCTCRCUWLTRCTCRCUUAWOLF"),
+    },
+    Smaller {
+        setting: Setting::Keys(49, 37, 1),
+        key: 36,
+        request: 6,
+        course: "STRCTCRCUWLTRCTCRCUUaLLF",
+        next: (35, "STRCTCRCUWLTRCTCRCUUAWOLF"),
+    },
+    Smaller {
+        setting: Setting::Keys(5, 4, 256),
+        key: 768,
+        request: 9,
+        course: "STRCTCRCTCRCUUWOLTRCTCRCUUaLLF",
+        next: (512, "STRCTCRCTCRCUUWOLTRCTCRCUUAWOLF"),
+    },
+    Smaller {
+        setting: TWO_CLEANUPS,
+        key: 0,
+        request: 11,
+        course: "STRCTCRCTCRCTCRCUUWOLTRCTCRCTCRCUUWOLTRCTCRCUUaLLF",
+        next: (65536, "STRCTCRCTCRCUUWOLTRCTCRCUUAWOLF"),
+    },
+];
+
+// The events of a removal of each of these keys, after a setting.
+fn removals_of(
+    alloc: Global,
+    setting: Setting<'_>,
+    keys: [u64; 2],
+) -> Result<(Vec<Event<u64>>, usize), AllocError> {
+    let mut events = Vec::new(alloc);
+    push_setting(&mut events, setting)?;
+    let before = events.len();
+    for key in keys {
+        push_parts(
+            &mut events,
+            &[
+                Part::Start(1, Call::Remove(key)),
+                Part::Steps(1, WHOLE, None),
+            ],
+        )?;
+    }
+    Ok((events, before))
+}
+
+// Whether both removals take their courses, and are answered as by the plain map.
+fn is_refused_so(alloc: Global, row: &Smaller<'_>) -> Result<bool, OOMError> {
+    let (events, before) = removals_of(alloc, row.setting, [row.key, row.next.0])?;
+    let left = AtomicU64::new(row.request);
+    let trace = replay_with(alloc, OneRefused { left: &left }, &events)?;
+    let mut letters = String::new(alloc);
+    push_letters(&trace, before, &mut letters)?;
+    let mut wanted = String::new(alloc);
+    wanted.push_str(row.course)?;
+    wanted.push_str(row.next.1)?;
+    Ok(letters.as_str() == wanted.as_str() && is_legal(alloc, &trace)?)
+}
+
+// The request of the first row that goes wrong.
+fn wrong_smaller(alloc: Global) -> Result<Option<u64>, OOMError> {
+    for row in &SMALLER {
+        if !is_refused_so(alloc, row)? {
+            return Ok(Some(row.request));
+        }
+    }
+    Ok(None)
+}
+
+#[test]
+fn a_smaller_node_is_refused(rt: HostRuntime) -> Result<(), Fail> {
+    assert_eq!(rt; wrong_smaller(rt.alloc())?, None);
+    Ok(())
+}
+
+// Whether each call ends, and is answered as by the plain map, where one request is refused.
+fn ends_without(alloc: Global, setting: Setting<'_>, request: u64) -> Result<bool, OOMError> {
+    let mut events = Vec::new(alloc);
+    push_setting(&mut events, setting)?;
+    let key = last_key(setting);
+    for (call, answer) in removing(key, key) {
+        push_parts(
+            &mut events,
+            &[Part::Start(1, call), Part::Steps(1, WHOLE, answer)],
+        )?;
+        push_insert(&mut events, 1, (key, key), MANY)?;
+    }
+    let left = AtomicU64::new(request);
+    let trace = replay_with(alloc, OneRefused { left: &left }, &events)?;
+    let (started, ended) = started_and_ended(&events, &trace);
+    Ok(started == ended && is_legal(alloc, &trace)?)
+}
+
+// The first request whose refusal goes wrong.
+fn wrong_without(alloc: Global, setting: Setting<'_>) -> Result<Option<u64>, OOMError> {
+    for request in 2..24 {
+        if !ends_without(alloc, setting, request)? {
+            return Ok(Some(request));
+        }
+    }
+    Ok(None)
+}
+
+#[test]
+fn each_node_refused_where_nodes_shrink(rt: HostRuntime) -> Result<(), Fail> {
+    for row in &SMALLER {
+        assert_eq!(rt; wrong_without(rt.alloc(), row.setting)?, None);
+    }
     Ok(())
 }

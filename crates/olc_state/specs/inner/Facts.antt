@@ -13,9 +13,11 @@ use Rattle.olc_words.specs.declared.epoch.Life.{Life}
 use Rattle.olc_words.specs.declared.epoch.Life.TheVariants.{InUse}
 use Rattle.olc_state.specs.declared.stage.Record.{Record}
 use Rattle.olc_state.specs.declared.stage.Stage.{Stage}
-use Rattle.olc_state.specs.declared.stage.Stage.TheVariants.{TakeRoot, Read, Check, TakeBelow, CheckAbove, Answer, Confirm, Tail, Scan, Finish}
+use Rattle.olc_state.specs.declared.stage.Stage.TheVariants.{TakeRoot, Read, Check, TakeBelow, CheckAbove, Answer, Confirm, Tail, Scan, Seek, Tidy, Finish}
 use Rattle.olc_state.specs.declared.stage.Stored.{Stored}
 use Rattle.olc_state.specs.declared.stage.Task.{Task}
+use Rattle.olc_state.specs.inner.CleanupFacts.{SeekFacts, TidyFacts}
+use Rattle.olc_state.specs.inner.CleanupStages.{named_seeking, named_tidying}
 use Rattle.olc_state.specs.inner.ScanSpots.{named_on}
 use Rattle.olc_state.specs.inner.Scans.{ScanFacts}
 use Rattle.olc_state.specs.inner.Shown.{held_at, made_at, state_of}
@@ -40,6 +42,8 @@ named_at (Answer case) = case_slots case
 named_at (Confirm spot) = spot.slot ∷ []
 named_at (Tail tail) = named_in tail
 named_at (Scan course scan) = named_on scan
+named_at (Seek c seek) = named_seeking seek
+named_at (Tidy c tidy) = named_tidying tidy
 named_at Finish = []
 
 -- If `Granted` holds, a share is always granted. `same` compares two payloads.
@@ -63,6 +67,8 @@ module _ {M : Type 0} (Granted : Type 0) (same : M → M → Bool) where
       × OnWay t spot.slot (key_bytes task) × While t spot (IsConfirmed Granted same task)
   FactsAt t root pin task (Tail tail) = TailFacts Granted same t root pin task tail
   FactsAt t root pin task (Scan course scan) = ScanFacts t root pin task course scan
+  FactsAt t root pin task (Seek c seek) = SeekFacts Granted t root pin task c seek
+  FactsAt t root pin task (Tidy c tidy) = TidyFacts t pin task c tidy
   FactsAt t root pin task Finish = task.progress ≢ progress.Open
 
   pub record Facts (t : NodeMap M) (root pin : ℕ) (r : Record M) : Type 0 where

@@ -10,6 +10,7 @@ use Rattle.spec_olc.specs.declared.types.Op.{Op}
 use Rattle.spec_olc.specs.declared.types.Op.TheVariants.{Range}
 use Rattle.spec_olc.specs.declared.types.Progress.TheVariants as progress
 use Rattle.spec_olc.specs.declared.types.Seen.{Seen}
+use Rattle.olc_state.specs.declared.cleanup.Seek.TheVariants as seek
 use Rattle.olc_state.specs.declared.scan.RangeProgress.{RangeProgress}
 use Rattle.olc_state.specs.declared.scan.Scan.{Scan}
 use Rattle.olc_state.specs.declared.scan.Scan.TheVariants.{TakeRoot, Read, Check, TakeBelow, CheckAbove, Finish}
@@ -33,6 +34,7 @@ BeginsAt _ at = at ≡ stage.TakeRoot
 abbrev pub IsAtEnd : Stage → Type 0
 IsAtEnd stage.Finish = Unit {0}
 IsAtEnd (stage.Scan course Finish) = Unit {0}
+IsAtEnd (stage.Seek c seek.Finish) = Unit {0}
 IsAtEnd _ = ⊥
 
 module _ {M : Type 0} where

@@ -10,10 +10,11 @@ use Rattle.olc_words.specs.declared.epoch.Life.{Life}
 use Rattle.olc_words.specs.declared.epoch.Seat.{Seat}
 use Rattle.olc_state.specs.declared.stage.Record.{Record}
 use Rattle.olc_state.specs.declared.stage.Stage.{Stage}
-use Rattle.olc_state.specs.declared.stage.Stage.TheVariants.{TakeRoot, Read, Check, TakeBelow, CheckAbove, Answer, Confirm, Tail, Scan, Finish}
+use Rattle.olc_state.specs.declared.stage.Stage.TheVariants.{TakeRoot, Read, Check, TakeBelow, CheckAbove, Answer, Confirm, Tail, Scan, Seek, Tidy, Finish}
 use Rattle.olc_state.specs.declared.stage.Stored.{Stored}
+use Rattle.olc_state.specs.inner.CleanupStages.{held_tidying, made_tidying, spots_seeking, spots_tidying}
 use Rattle.olc_state.specs.inner.ScanSpots.{spots_on}
-use Rattle.olc_state.specs.inner.Tails.{path_spots, case_spots, spots_in, held_in, made_in}
+use Rattle.olc_state.specs.inner.Tails.{path_spots, case_spots, cleaning_in, spots_in, held_in, made_in}
 use Rattle.olc_state.specs.inner.World.{World, NodeLifetime, is_private, is_linked, is_detached, is_retired, PlacedNode, placed_node}
 
 abbrev pub lifetime : NodeLifetime → Lifetime
@@ -33,6 +34,8 @@ spots_of (Answer case) = case_spots case
 spots_of (Confirm spot) = (spot.slot, spot.word) ∷ []
 spots_of (Tail tail) = spots_in tail
 spots_of (Scan course scan) = spots_on scan
+spots_of (Seek c seek) = spots_seeking seek
+spots_of (Tidy c tidy) = spots_tidying tidy
 spots_of Finish = []
 
 -- the least key that a call may still return, the key from which it searches on, and how many pairs
@@ -49,13 +52,22 @@ abbrev pub given_at : Stage → ℕ
 given_at (Scan course scan) = course.given
 given_at stage = 0
 
+-- the length of the prefix for which it cleans up
+abbrev pub cleaning_at : Stage → Option ℕ
+cleaning_at (Tail tail) = cleaning_in tail
+cleaning_at (Seek c seek) = Some c.length
+cleaning_at (Tidy c tidy) = Some c.length
+cleaning_at stage = None
+
 -- the nodes that it holds, and its private ones
 abbrev pub held_at : Stage → List ℕ
 held_at (Tail tail) = held_in tail
+held_at (Tidy c tidy) = held_tidying tidy
 held_at _ = []
 
 abbrev pub made_at : Stage → List ℕ
 made_at (Tail tail) = made_in tail
+made_at (Tidy c tidy) = made_tidying tidy
 made_at _ = []
 
 module _ {P : Type 0} where
@@ -79,7 +91,7 @@ module _ {P : Type 0} where
     cursor = cursor_at r.stage (key_of r.task.outline);
     reach = reach_at r.stage (key_of r.task.outline);
     given = given_at r.stage;
-    cleaning = None;
+    cleaning = cleaning_at r.stage;
     remembered = spots_of r.stage;
     seen = r.task.last;
     asking = r.task.asking;

@@ -13,6 +13,7 @@ use Rattle.spec_olc.specs.Local.{payload_in, seen_payload}
 use Rattle.spec_olc.specs.declared.types.Asking.TheVariants.{Wants}
 use Rattle.spec_olc.specs.declared.types.Progress.TheVariants as progress
 use Rattle.spec_olc.specs.Lock.{IsFree, version, last_version}
+use Rattle.olc_state.specs.declared.cleanup.Cleanup.{Cleanup}
 use Rattle.olc_state.specs.declared.stage.Path.{Path}
 use Rattle.olc_state.specs.declared.stage.Spot.{Spot}
 use Rattle.olc_state.specs.declared.stage.Task.{Task}
@@ -28,7 +29,7 @@ use Rattle.olc_state.specs.declared.tail.Tail.TheVariants.{Upgrade, Write, MakeL
 use Rattle.olc_state.specs.declared.tail.Tail.TheVariants as tail
 use Rattle.olc_state.specs.inner.Effects.{HasClosure, IsChange, IsOrInsert}
 use Rattle.olc_state.specs.inner.Tables.{byte_at, IsLinked, Known, OnWay, While, LedTo, OnPath}
-use Rattle.olc_state.specs.inner.Tasks.{IsOpen, MaySee, key_bytes}
+use Rattle.olc_state.specs.inner.Tasks.{CleansUp, IsOpen, MaySee, key_bytes}
 use Rattle.olc_state.specs.inner.World.{PlacedNode, NodeMap, entry, is_private, is_detached}
 
 -- both go on from the prefix, each by a byte of its own
@@ -271,13 +272,23 @@ module _ {M : Type 0} (Granted : Type 0) (same : M → M → Bool) where
   abbrev pub IsOver : Task M → Type 0
   IsOver task = task.progress ≢ progress.Open
 
+  -- the same, and it cleans up after that if it has to
+  abbrev pub EndsWith : Task M → Option Cleanup → Type 0
+  EndsWith task None = IsOver task
+  EndsWith task (Some c) = CleansUp task c
+
+  -- one that unlocks its last node has its reply, or goes back to the root
+  abbrev pub UnlocksWith : Task M → Option Cleanup → Type 0
+  UnlocksWith task None = IsOpen task ⊎ IsOver task
+  UnlocksWith task (Some c) = CleansUp task c
+
   abbrev pub TailFacts : NodeMap M → ℕ → ℕ → Task M → Tail → Type 0
   TailFacts t root pin task (Upgrade path small) = IsOpen task
       × OnPath t root pin (key_bytes task) path × While t path.here (SmallWork small task)
   TailFacts t root pin task (Write spot) = AtNode t task spot Entry
   TailFacts t root pin task (MakeLeaf spot) = AtNode t task spot Leaf
   TailFacts t root pin task (Link spot leaf) = AtNode t task spot Leaf × HasLeaf t task leaf
-  TailFacts t root pin task (Unlock spot) = IsHeld t spot × (IsOpen task ⊎ IsOver task)
+  TailFacts t root pin task (Unlock spot left) = IsHeld t spot × UnlocksWith task left
   TailFacts t root pin task (UpgradeAbove pair large) = Below t pin task pair large
       × Known t pin pair.above × LedTo t pair.above (key_bytes task) pair.here.slot
   TailFacts t root pin task (UpgradeBelow pair large) = Below t pin task pair large
@@ -294,7 +305,7 @@ module _ {M : Type 0} (Granted : Type 0) (same : M → M → Bool) where
       (at : AtPair t task pair Split) × HasLeaf t task leaf
       × HasMiddle t task at.held.here.node pair.here.slot middle leaf
   TailFacts t root pin task (tail.Detach pair) = AtPair t task pair Detach
-  TailFacts t root pin task (Obsolete pair) = IsOver task
+  TailFacts t root pin task (Obsolete pair left) = EndsWith task left
       × IsHeld t pair.above × IsOut t pair.here × (pair.above.slot ≢ pair.here.slot)
   TailFacts t root pin task (UnlockBelow pair) = IsOver task
       × IsHeld t pair.above × IsHeld t pair.here × (pair.above.slot ≢ pair.here.slot)

@@ -1,9 +1,10 @@
 -- THE TAILS: what a call holds, has made and remembers before each event that writes, and how many
 -- events it has left.
-use Rattle.std.specs.Prelude.{ℕ, ◌+◌, List, [], ◌∷◌, Option, Some, None}
+use Rattle.std.specs.Prelude.{ℕ, ◌+◌, ◌*◌, List, [], ◌∷◌, Option, Some, None, if◌then◌else◌}
 use Rattle.spec_map.specs.Map.{put}
 use Rattle.spec_olc.specs.declared.types.Progress.{Progress}
 use Rattle.spec_olc.specs.declared.types.Progress.TheVariants.{Open}
+use Rattle.olc_state.specs.declared.cleanup.Cleanup.{Cleanup}
 use Rattle.olc_state.specs.declared.stage.Path.{Path}
 use Rattle.olc_state.specs.declared.stage.Spot.{Spot}
 use Rattle.olc_state.specs.declared.tail.Case.{Case}
@@ -44,7 +45,7 @@ named_in (Upgrade path small) = path_slots path
 named_in (Write spot) = spot.slot ∷ []
 named_in (MakeLeaf spot) = spot.slot ∷ []
 named_in (Link spot leaf) = spot.slot ∷ []
-named_in (Unlock spot) = spot.slot ∷ []
+named_in (Unlock spot left) = spot.slot ∷ []
 named_in (UpgradeAbove pair large) = both_slots pair
 named_in (UpgradeBelow pair large) = both_slots pair
 named_in (MakeLeafBelow pair large) = both_slots pair
@@ -53,7 +54,7 @@ named_in (MakeMiddle pair leaf) = both_slots pair
 named_in (Replace pair copy leaf) = both_slots pair
 named_in (Insert pair middle leaf) = both_slots pair
 named_in (tail.Detach pair) = both_slots pair
-named_in (Obsolete pair) = both_slots pair
+named_in (Obsolete pair left) = both_slots pair
 named_in (UnlockBelow pair) = both_slots pair
 
 -- the nodes that are held, the last one locked first
@@ -62,7 +63,7 @@ held_in (Upgrade path small) = []
 held_in (Write spot) = spot.slot ∷ []
 held_in (MakeLeaf spot) = spot.slot ∷ []
 held_in (Link spot leaf) = spot.slot ∷ []
-held_in (Unlock spot) = spot.slot ∷ []
+held_in (Unlock spot left) = spot.slot ∷ []
 held_in (UpgradeAbove pair large) = []
 held_in (UpgradeBelow pair large) = pair.above.slot ∷ []
 held_in (MakeLeafBelow pair large) = both_slots pair
@@ -71,7 +72,7 @@ held_in (MakeMiddle pair leaf) = both_slots pair
 held_in (Replace pair copy leaf) = both_slots pair
 held_in (Insert pair middle leaf) = both_slots pair
 held_in (tail.Detach pair) = both_slots pair
-held_in (Obsolete pair) = both_slots pair
+held_in (Obsolete pair left) = both_slots pair
 held_in (UnlockBelow pair) = both_slots pair
 
 -- the private nodes, the last one made first
@@ -80,7 +81,7 @@ made_in (Upgrade path small) = []
 made_in (Write spot) = []
 made_in (MakeLeaf spot) = []
 made_in (Link spot leaf) = leaf ∷ []
-made_in (Unlock spot) = []
+made_in (Unlock spot left) = []
 made_in (UpgradeAbove pair large) = []
 made_in (UpgradeBelow pair large) = []
 made_in (MakeLeafBelow pair large) = []
@@ -89,7 +90,7 @@ made_in (MakeMiddle pair leaf) = leaf ∷ []
 made_in (Replace pair copy leaf) = copy ∷ one_more leaf
 made_in (Insert pair middle leaf) = middle ∷ leaf ∷ []
 made_in (tail.Detach pair) = []
-made_in (Obsolete pair) = []
+made_in (Obsolete pair left) = []
 made_in (UnlockBelow pair) = []
 
 -- the words that are remembered of nodes that aren't held
@@ -101,7 +102,7 @@ spots_in (Upgrade path small) = path_spots path
 spots_in (Write spot) = []
 spots_in (MakeLeaf spot) = []
 spots_in (Link spot leaf) = []
-spots_in (Unlock spot) = []
+spots_in (Unlock spot left) = []
 spots_in (UpgradeAbove pair large) = pair_spots pair
 spots_in (UpgradeBelow pair large) = (pair.here.slot, pair.here.word) ∷ []
 spots_in (MakeLeafBelow pair large) = []
@@ -110,8 +111,18 @@ spots_in (MakeMiddle pair leaf) = []
 spots_in (Replace pair copy leaf) = []
 spots_in (Insert pair middle leaf) = []
 spots_in (tail.Detach pair) = []
-spots_in (Obsolete pair) = []
+spots_in (Obsolete pair left) = []
 spots_in (UnlockBelow pair) = []
+
+-- the length of the prefix for which a call has to clean up after its tail
+abbrev pub length_in : Option Cleanup → Option ℕ
+length_in None = None
+length_in (Some c) = Some c.length
+
+abbrev pub cleaning_in : Tail → Option ℕ
+cleaning_in (Unlock spot left) = length_in left
+cleaning_in (Obsolete pair left) = length_in left
+cleaning_in tail = None
 
 -- what a call remembers that waits for its closure's answer
 abbrev pub case_slots : Case → List ℕ
@@ -135,17 +146,22 @@ large_work GrowInner = 6
 large_work Split = 6
 large_work Detach = 4
 
--- an Unlock without a reply leads back to the root
-abbrev pub unlock_work : Progress → ℕ
-unlock_work Open = 40
-unlock_work _ = 2
+-- of a cleanup, those of a second one
+abbrev pub more_work : Cleanup → ℕ
+more_work c = if c.again then 4 * c.length + 5 else 0
+
+-- an Unlock without a reply leads back to the root, as does one before a cleanup
+abbrev pub unlock_work : Progress → Option Cleanup → ℕ
+unlock_work Open left = 40
+unlock_work _ None = 2
+unlock_work _ (Some c) = 4 * c.length + 11 + more_work c
 
 abbrev pub tail_work : Progress → Tail → ℕ
 tail_work progress (Upgrade path small) = 1 + small_work small
 tail_work progress (Write spot) = 3
 tail_work progress (MakeLeaf spot) = 4
 tail_work progress (Link spot leaf) = 3
-tail_work progress (Unlock spot) = unlock_work progress
+tail_work progress (Unlock spot left) = unlock_work progress left
 tail_work progress (UpgradeAbove pair large) = 2 + large_work large
 tail_work progress (UpgradeBelow pair large) = 1 + large_work large
 tail_work progress (MakeLeafBelow pair large) = 6
@@ -154,7 +170,7 @@ tail_work progress (MakeMiddle pair leaf) = 5
 tail_work progress (Replace pair copy leaf) = 4
 tail_work progress (Insert pair middle leaf) = 4
 tail_work progress (tail.Detach pair) = 4
-tail_work progress (Obsolete pair) = 3
+tail_work progress (Obsolete pair left) = 1 + unlock_work progress left
 tail_work progress (UnlockBelow pair) = 3
 
 -- an answer for a present key may take the leaf out

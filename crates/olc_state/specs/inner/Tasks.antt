@@ -1,6 +1,7 @@
 -- THE TASK of a call: what it has seen, and whether it still has its payloads.
-use Rattle.std.specs.Prelude.{Bool, ◌≡◌, ℕ, List, Option, Some, None}
+use Rattle.std.specs.Prelude.{Bool, IsTrue, ◌≡◌, ◌≤◌, ℕ, List, Option, Some, None}
 use Rattle.node_table.specs.declared.child.Child.TheVariants.{Node as below_at}
+use Rattle.spec_olc.specs.Alone.{may_remove}
 use Rattle.spec_olc.specs.Calls.{IsPoint, bytes_of, key_of, outline_of}
 use Rattle.spec_olc.specs.Local.{SharesNone, payload_in}
 use Rattle.spec_olc.specs.Reading.{IsReading, child_for}
@@ -9,6 +10,7 @@ use Rattle.spec_olc.specs.declared.types.Op.{Op}
 use Rattle.spec_olc.specs.declared.types.Progress.{Progress}
 use Rattle.spec_olc.specs.declared.types.Progress.TheVariants as progress
 use Rattle.spec_olc.specs.declared.types.Seen.{Seen}
+use Rattle.olc_state.specs.declared.cleanup.Cleanup.{Cleanup}
 use Rattle.olc_state.specs.declared.stage.Path.{Path}
 use Rattle.olc_state.specs.declared.stage.Stage.{Stage}
 use Rattle.olc_state.specs.declared.stage.Stage.TheVariants.{Check}
@@ -38,6 +40,15 @@ module _ {M : Type 0} where
   pub record IsFreshly (task : Task M) : Type 0 where
     pub opened : IsOpen task
     pub fresh : task.asking ≡ Fresh
+
+  -- A CALL THAT CLEANS UP, or has to, has removed its key, and has its reply and no payload
+  pub record CleansUp (task : Task M) (c : Cleanup) : Type 0 where
+    pub decided : task.progress ≡ progress.Decided
+    pub op : task.op ≡ None
+    pub fresh : task.asking ≡ Fresh
+    pub point : IsPoint task.outline
+    pub removes : IsTrue (may_remove task.outline)
+    pub short : c.length ≤ 7
 
   -- what is left of a call that has its reply, or was refused
   abbrev pub closed : Progress → Task M → Task M

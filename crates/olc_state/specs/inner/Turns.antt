@@ -1,9 +1,10 @@
 -- ONE EVENT as the machine's inside has it: what it leaves to its own call and to all others, and
 -- what it does to what a reader sees. The kinds of events are proved to be of this form, and the
 -- theorem on runs is proved from it.
-use Rattle.std.specs.Prelude.{[], false, true, ◌≡◌, ◌≢◌, ℕ, ◌+◌, ◌-◌, ◌*◌, ◌<◌, ◌≤◌, Bool, length, Option, Some, None, ◌⊎◌}
+use Rattle.std.specs.Prelude.{[], false, true, if◌then◌else◌, ◌≡◌, ◌≢◌, ℕ, ◌+◌, ◌-◌, ◌*◌, ◌<◌, ◌≤◌, Bool, length, Option, Some, None, ◌⊎◌}
 use Rattle.spec_map.specs.Map.{Pairs, lookup}
-use Rattle.spec_olc.specs.Calls.{IsPoint, outline_of}
+use Rattle.spec_olc.specs.Alone.{may_remove}
+use Rattle.spec_olc.specs.Calls.{IsPoint, Outline, outline_of}
 use Rattle.spec_olc.specs.Content.{IsContent}
 use Rattle.spec_olc.specs.Deciding.{ContentAfter, IsContentStep}
 use Rattle.spec_olc.specs.Kinds.{DoesAs, IsReclaim, IsStart, IsStep, report_of}
@@ -15,6 +16,7 @@ use Rattle.spec_olc.specs.declared.types.Op.{Op}
 use Rattle.spec_olc.specs.declared.types.Outcome.{Outcome}
 use Rattle.spec_olc.specs.declared.types.Outcome.TheVariants.{Done}
 use Rattle.spec_olc.specs.declared.types.Progress.{Progress}
+use Rattle.spec_olc.specs.declared.types.Progress.TheVariants.{Open}
 use Rattle.spec_olc.specs.declared.types.Report.{Report}
 use Rattle.spec_olc.specs.declared.types.Seen.{Seen}
 use Rattle.olc_words.specs.Epoch.{pin_of}
@@ -22,8 +24,11 @@ use Rattle.spec_olc.specs.Lock.{version, last_version}
 use Rattle.olc_state.specs.declared.stage.Record.{Record}
 use Rattle.olc_state.specs.declared.stage.Spot.{Spot}
 use Rattle.olc_state.specs.declared.stage.Stage.{Stage}
-use Rattle.olc_state.specs.declared.stage.Stage.TheVariants.{TakeRoot, Read, Check, TakeBelow, CheckAbove, Answer, Confirm, Tail, Scan, Finish}
+use Rattle.olc_state.specs.declared.stage.Stage.TheVariants.{TakeRoot, Read, Check, TakeBelow, CheckAbove, Answer, Confirm, Tail, Scan, Seek, Tidy, Finish}
+use Rattle.olc_state.specs.declared.cleanup.Seek.{Seek as CleanupSeek}
+use Rattle.olc_state.specs.declared.cleanup.Seek.TheVariants as seek
 use Rattle.olc_state.specs.declared.scan.Scan.TheVariants as scan
+use Rattle.olc_state.specs.inner.CleanupStages.{seek_work, tidy_work}
 use Rattle.olc_state.specs.inner.Scans.{BeginsAt, IsAtEnd}
 use Rattle.olc_state.specs.inner.Tables.{Guarantees, NeedsHolder, IsIn}
 use Rattle.olc_state.specs.inner.Tasks.{SawNode}
@@ -32,13 +37,27 @@ use Rattle.olc_state.specs.inner.Shown.{shown, flight, held_at, made_at, spots_o
 use Rattle.olc_state.specs.inner.Tails.{case_work, tail_work}
 use Rattle.olc_state.specs.inner.World.{World, PlacedNode, NodeMap, table_of, record_of}
 
+-- what a call without a reply may have to clean up: two nodes, if it may remove its key
+abbrev pub cleanup_work : Progress → Outline → ℕ
+cleanup_work Open outline = if may_remove outline then 70 else 0
+cleanup_work _ outline = 0
+
 module _ {M : Type 0} where
   -- the length of the prefix of the node in a slot
   abbrev pub depth_in : Option (PlacedNode M) → ℕ
   depth_in None = 0
   depth_in (Some a) = length a.node.prefix
 
-  -- how many events of its own a call at this stage has left at most if it runs alone
+  -- the length of the prefix of the node that a cleanup is at on its way down
+  abbrev pub seek_depth : NodeMap M → CleanupSeek → ℕ
+  seek_depth t (seek.Read path) = depth_in (t path.here.slot)
+  seek_depth t (seek.Check path) = depth_in (t path.here.slot)
+  seek_depth t (seek.TakeBelow path slot) = depth_in (t path.here.slot)
+  seek_depth t (seek.CheckAbove path spot fits) = depth_in (t path.here.slot)
+  seek_depth t seek = 0
+
+  -- how many events of its own a call at this stage has left at most if it runs alone, without those
+  -- of a cleanup that it may have to begin
   abbrev pub work : NodeMap M → Progress → Stage → ℕ
   work t progress TakeRoot = 39
   work t progress (Read path) = 4 * (7 - depth_in (t path.here.slot)) + 10
@@ -49,10 +68,12 @@ module _ {M : Type 0} where
   work t progress (Confirm spot) = 2
   work t progress (Tail tail) = tail_work progress tail
   work t progress (Scan course scan) = 1
+  work t progress (Seek c seek) = seek_work c seek (seek_depth t seek)
+  work t progress (Tidy c tidy) = tidy_work c tidy
   work t progress Finish = 1
 
   abbrev pub work_of : NodeMap M → Record M → ℕ
-  work_of t call = work t call.task.progress call.stage
+  work_of t call = work t call.task.progress call.stage + cleanup_work call.task.progress call.task.outline
 
   -- each word that a call remembers is still the current word of its node
   abbrev pub AllCurrent : NodeMap M → Stage → Type 0
@@ -67,9 +88,9 @@ module _ {M : Type 0} where
     pub alone : (s : ℕ) → NeedsHolder t s → Holding stage s
 
   -- the call remembers nothing any more, and begins again
-  pub record StartsOver (t : NodeMap M) (next : Record M) : Type 0 where
+  pub record StartsOver (t t' : NodeMap M) (call next : Record M) : Type 0 where
     pub forgotten : spots_of next.stage ≡ []
-    pub work : work_of t next ≤ 40
+    pub work : work_of t' next < work_of t call + 40
 
   pub record NodeStays (t : NodeMap M) (spot : Spot) : Type 0 where
     pub node : PlacedNode M
@@ -80,6 +101,7 @@ module _ {M : Type 0} where
   abbrev pub MayFollow : NodeMap M → Stage → Option (Seen M) → ℕ → Type 0
   MayFollow t (Check path) last slot = SawNode last slot × NodeStays t path.here
   MayFollow t (Scan course (scan.Check spot)) last slot = SawNode last slot × NodeStays t spot
+  MayFollow t (Seek c (seek.Check path)) last slot = SawNode last slot × NodeStays t path.here
   MayFollow t _ last slot = ⊥
 
   -- THE COURSE of a call that goes on: which slot it touches, which slots it may touch next and how it learned of them,
@@ -95,7 +117,7 @@ module _ {M : Type 0} where
     pub outline : next.task.outline ≡ call.task.outline
     pub keeps : AllCurrent t call.stage → AllCurrent t' next.stage
     pub falls : IsPoint call.task.outline
-        → (StartsOver t' next × (AllCurrent t call.stage → IsUndisturbed t call.stage env report.kind → ⊥))
+        → (StartsOver t t' call next × (AllCurrent t call.stage → IsUndisturbed t call.stage env report.kind → ⊥))
         ⊎ (work_of t' next < work_of t call)
 
   -- what the state shows of these nodes

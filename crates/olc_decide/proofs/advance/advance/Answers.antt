@@ -52,3 +52,9 @@ step-requires-clause-facts g c = known_at g.P.Payload.always_shared g.P.HasMeani
 
 pub returns-in-Scan : goal.returns-in-Scan
 returns-in-Scan g c = reads_at g.P.Payload.always_shared g.P.HasMeaning.same_meaning _ c.args.store.now.root c.args.pin _ _ _ c.in-Scan.is _ _ _ _ (c.step.ensures c.args.env refl)
+
+pub seek-requires-clause-facts : goal.seek-requires-clause-facts
+seek-requires-clause-facts g c = known_at g.P.Payload.always_shared g.P.HasMeaning.same_meaning _ c.args.store.now.root c.args.pin _ _ _ c.in-Seek.is c.requires.facts
+
+pub returns-in-Seek : goal.returns-in-Seek
+returns-in-Seek g c = reads_at g.P.Payload.always_shared g.P.HasMeaning.same_meaning _ c.args.store.now.root c.args.pin _ _ _ c.in-Seek.is _ _ _ _ (c.seek.ensures c.args.env refl)

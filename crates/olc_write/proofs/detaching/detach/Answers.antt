@@ -1,6 +1,6 @@
 use Rattle.std.proofs.Common.{ℕ, refl, subst, ◌∙◌}
 use Rattle.spec_olc.specs.Calls.{bytes_of}
-use Rattle.olc_write.proofs.DetachedSteps.{detaches, leaf_still, leaf_there, pair_counted}
+use Rattle.olc_write.proofs.DetachedSteps.{above_still, detaches, leaf_still, leaf_there, pair_counted}
 use Rattle.olc_write.proofs.Steps.{ByteIn}
 use Rattle.olc_write.proofs.detaching.detach.Goals as goal
 
@@ -21,6 +21,12 @@ pub overflow_sub-stock : goal.overflow_sub-stock
 overflow_sub-stock g c =
     pair_counted g.P.HasMeaning.meaning g.A.Allocator.charge g.P.Payload.always_shared g.P.HasMeaning.same_meaning c.args.stock.now c.args.pin c.args.task.now c.args.pair c.requires.kept c.requires.facts c.requires.counted
 
+pub left_at-left-requires : goal.left_at-left-requires
+left_at-left-requires g c =
+    let facts = c.requires.facts in
+    above_still g.P.HasMeaning.meaning g.A.Allocator.charge g.P.Payload.always_shared g.P.HasMeaning.same_meaning c.args.stock.now c.args.pin c.args.task.now c.args.pair c.requires.kept facts
+    c.take_child.new.self c.take_child-2.new.self c.detach.new.self c.byte_below-byte.result c.byte_below-last.result c.take_child.ensures.sets c.take_child-2.ensures.sets c.detach.ensures.sets
+
 pub returns : goal.returns
 returns g c = record {
   moves = λ env.
@@ -35,5 +41,5 @@ returns g c = record {
         first = c.take_child.ensures.sets;
         second = c.take_child-2.ensures.sets;
         detaches = c.detach.ensures.sets;
-      }) c.take_child-2.result c.take_child-2.ensures.before);
+      }) c.left_at-left.result c.left_at-left.ensures c.take_child-2.result c.take_child-2.ensures.before);
 }

@@ -17,5 +17,5 @@ returns g c =
           rw (c.going.ensures, c.report-report.ensures)
           (retires_moves g.P.HasMeaning.meaning g.A.Allocator.charge g.P.Payload.always_shared g.P.HasMeaning.same_meaning c.args.stock.now c.retire.new.self c.args.pin _ env _ _ _ c.requires.kept
           c.args.pair.here.slot gone.node gone.here gone.lifetime (locked_now gone.node.word c.args.pair.here.word gone.word gone.free) after c.retire.ensures.others c.retire.ensures.root c.retire.ensures.seats c.retire.ensures.count c.retire.ensures.sizes c.retire.ensures.admitted
-          (obsoletes g.P.Payload.always_shared g.P.HasMeaning.same_meaning _ c.args.stock.now.store.root c.args.pin _ _ _ c.requires.kept.placed _ c.args.pair c.requires.facts after c.retire.ensures.others));
+          (obsoletes g.P.Payload.always_shared g.P.HasMeaning.same_meaning _ c.args.stock.now.store.root c.args.pin _ _ _ c.requires.kept.placed _ c.args.pair c.args.left c.requires.facts after c.retire.ensures.others));
     }

@@ -3,6 +3,7 @@ use Rattle.spec_olc.specs.Calls.{bytes_of}
 use Rattle.spec_olc.specs.Local.{payload_in}
 use Rattle.olc_state.specs.inner.Tables.{byte_at}
 use Rattle.olc_state.specs.inner.World.{entry}
+use Rattle.olc_write.proofs.Leftovers.{leaves_by}
 use Rattle.olc_write.proofs.Wrote.{leaf_counts, leaf_has, wrote_moves}
 use Rattle.olc_write.proofs.linking.write.Goals as goal
 
@@ -44,8 +45,14 @@ returns g c = record {
       let value = c.take_stored-value in
       rw (c.changed.ensures.task, c.changed.ensures.event, value.ensures.rest, c.report-report.ensures)
       (wrote_moves g.P.HasMeaning.meaning g.A.Allocator.charge g.P.Payload.always_shared g.P.HasMeaning.same_meaning old c.args.pin c.args.task.now c.args.spot c.requires.kept facts
-      set.new.store c.byte_below-byte.result value.result set.result c.is_some.result c.is_some-stores.result c.counted-stock.result env value.ensures.value
+      set.new.store c.left_by-left.result c.byte_below-byte.result value.result set.result c.is_some.result c.is_some-stores.result c.counted-stock.result env value.ensures.value
       (c.byte_below-byte.ensures.byte a here ∙ ap (λ k. byte_at a (bytes_of k)) c.key.ensures) (c.byte_below-byte.ensures.within a here)
       (set.ensures.sets a here) (set.ensures.before a here) set.ensures.sizes set.ensures.lives
-      c.is_some.ensures c.is_some-stores.ensures c.counted-stock.ensures);
+      c.is_some.ensures c.is_some-stores.ensures c.counted-stock.ensures
+      (λ b there. leaves_by g.P.HasMeaning.meaning b.node c.left_by-left.result value.result c.is_some-stores.result c.is_some-stores.ensures c.left_by-left.ensures.stored (λ none. c.left_by-left.ensures.removed none b there)));
 }
+
+pub left_by-left-requires : goal.left_by-left-requires
+left_by-left-requires g c =
+    let facts = c.requires.facts in
+    (_, (c.set_payload-before.ensures.sets facts.at.held.node facts.at.held.linked.here).here)

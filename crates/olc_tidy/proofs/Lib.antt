@@ -1,0 +1,6 @@
+pub mod SmallerForms
+pub mod SmallerMakes
+pub mod Stepping
+pub mod Stores
+pub mod Upgrades
+pub mod Writes
