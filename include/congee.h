@@ -3,22 +3,25 @@
  * MIT license (LICENSE).
  *
  *     cc -Iinclude prog.c out/c-library/libcongee.a      (tools/c-library builds the archive)
+ *     cc prog.c $(pkg-config --cflags --libs congee)     (where tools/install has put it)
  *
  * What the caller must ensure. Nothing checks it, and the theorem holds only for programs that do:
  *
- *   - A map is a pointer that congee_new or congee_new_with_limit returned and that wasn't passed to congee_free since.
- *     Nobody reads, copies or changes what it points to.
- *   - One call at a time on a map, reads included. Maps are independent of one another. A map may go to another thread
- *     where a lock, the start or the join of a thread, or a sequentially consistent atomic orders the calls; to share
- *     one, put it behind a lock.
- *   - A place for a value (value, old, found) is null, where the value isn't wanted, or an aligned uint64_t that nothing
- *     else uses during the call. The place of a new map isn't null.
- *   - The buffer of congee_range is an array of at least n pairs that are initialised and that nothing else uses during
- *     the call. Where n is 0 it may be null.
+ *   - A map is a pointer that congee_new, congee_new_with_limit or congee_thaw returned and that wasn't passed to
+ *     congee_free or frozen since. A reader of a frozen map is one that congee_freeze or congee_frozen_another returned
+ *     and that wasn't passed to congee_frozen_free or thawed since. Nobody reads, copies or changes what these point to.
+ *   - One call at a time on a map and on each reader, reads included. Different maps and different readers, also those of
+ *     one frozen map, may be in calls at once. A map or a reader may go to another thread where a lock, the start or the
+ *     join of a thread, or a sequentially consistent atomic orders the calls; to share one, put it behind a lock.
+ *   - A place for a value or a pair (value, old, found, pair) is null, where it isn't wanted, or an aligned uint64_t or
+ *     struct congee_pair that nothing else uses during the call. The place of a new map or reader isn't null.
+ *   - The buffer of a range is an array of at least n pairs that are initialised and that nothing else uses during the
+ *     call. Where n is 0 it may be null.
  *   - No call is made in a signal handler, or in the forked child of a process with threads. There is stack for a call: it
  *     goes some eight levels deep, and takes a few kilobytes.
  *   - malloc, realloc and free, which the library calls, are of one allocator and align blocks as C asks.
- *   - The names that begin with congee_c_ or rattle_ are the archive's, and this header is of the same version.
+ *   - The names that begin with congee_c_ or rattle_ are the archive's, and this header is of the same version
+ *     (CONGEE_VERSION == congee_version()).
  *
  * A refusal (CONGEE_OOM) comes if malloc finds no memory or the map's limit is reached. It changes nothing: not the
  * map, its charge or the places. errno carries no information about it. A place is written only in the cases that a
@@ -35,11 +38,20 @@
 extern "C" {
 #endif
 
+/* The version of this header: 100 for 0.1.0. */
+#define CONGEE_VERSION_MAJOR 0
+#define CONGEE_VERSION_MINOR 1
+#define CONGEE_VERSION_PATCH 0
+#define CONGEE_VERSION (CONGEE_VERSION_MAJOR * 10000 + CONGEE_VERSION_MINOR * 100 + CONGEE_VERSION_PATCH)
+
 /* What a call answers where there is no memory. */
 #define CONGEE_OOM (-1)
 
 /* A map. */
 struct congee;
+
+/* A reader of a map that nobody changes. */
+struct congee_frozen;
 
 struct congee_pair {
     uint64_t key;
@@ -51,6 +63,11 @@ struct congee_handle {
     struct congee *map;
 };
 
+struct congee_frozen_handle {
+    struct congee_frozen *reader;
+};
+
+uint32_t congee_c_version(void);
 int32_t congee_c_new(uint64_t limit, struct congee_handle *out);
 void congee_c_free(struct congee_handle handle);
 int32_t congee_c_get(struct congee_handle *handle, uint64_t key, uint64_t *value);
@@ -58,10 +75,42 @@ int32_t congee_c_insert(struct congee_handle *handle, uint64_t key, uint64_t val
 int32_t congee_c_remove(struct congee_handle *handle, uint64_t key, uint64_t *before);
 int32_t congee_c_compare_exchange(struct congee_handle *handle, uint64_t key, uint64_t expected, uint64_t desired,
                                   uint64_t *found);
+int32_t congee_c_compare_remove(struct congee_handle *handle, uint64_t key, uint64_t expected, uint64_t *found);
+int32_t congee_c_add(struct congee_handle *handle, uint64_t key, uint64_t number, uint64_t *before);
+int32_t congee_c_get_or_insert(struct congee_handle *handle, uint64_t key, uint64_t value, uint64_t *found);
 size_t congee_c_range(struct congee_handle *handle, uint64_t start, uint64_t end, struct congee_pair *buffer, size_t n);
+int32_t congee_c_first(struct congee_handle *handle, struct congee_pair *pair);
+int32_t congee_c_last(struct congee_handle *handle, struct congee_pair *pair);
+int32_t congee_c_floor(struct congee_handle *handle, uint64_t key, struct congee_pair *pair);
+int32_t congee_c_ceiling(struct congee_handle *handle, uint64_t key, struct congee_pair *pair);
+int32_t congee_c_below(struct congee_handle *handle, uint64_t key, struct congee_pair *pair);
+int32_t congee_c_above(struct congee_handle *handle, uint64_t key, struct congee_pair *pair);
+int32_t congee_c_pop_first(struct congee_handle *handle, struct congee_pair *pair);
+int32_t congee_c_pop_last(struct congee_handle *handle, struct congee_pair *pair);
+size_t congee_c_range_inclusive(struct congee_handle *handle, uint64_t start, uint64_t last, struct congee_pair *buffer,
+                                size_t n);
+size_t congee_c_range_descending(struct congee_handle *handle, uint64_t start, uint64_t last, struct congee_pair *buffer,
+                                 size_t n);
 bool congee_c_is_empty(struct congee_handle *handle);
 uint64_t congee_c_count(struct congee_handle *handle);
 uint64_t congee_c_charged(struct congee_handle *handle);
+int32_t congee_c_freeze(struct congee_handle handle, struct congee_frozen_handle *out, struct congee_handle *back);
+int32_t congee_c_thaw(struct congee_frozen_handle frozen, struct congee_handle *out, struct congee_frozen_handle *back);
+int32_t congee_c_frozen_another(struct congee_frozen_handle *frozen, struct congee_frozen_handle *out);
+void congee_c_frozen_free(struct congee_frozen_handle frozen);
+int32_t congee_c_frozen_get(struct congee_frozen_handle *frozen, uint64_t key, uint64_t *value);
+size_t congee_c_frozen_range(struct congee_frozen_handle *frozen, uint64_t start, uint64_t end,
+                             struct congee_pair *buffer, size_t n);
+size_t congee_c_frozen_range_inclusive(struct congee_frozen_handle *frozen, uint64_t start, uint64_t last,
+                                       struct congee_pair *buffer, size_t n);
+size_t congee_c_frozen_range_descending(struct congee_frozen_handle *frozen, uint64_t start, uint64_t last,
+                                        struct congee_pair *buffer, size_t n);
+uint64_t congee_c_frozen_count(struct congee_frozen_handle *frozen);
+
+/* The version of the archive, by the same numbers as CONGEE_VERSION. */
+static inline uint32_t congee_version(void) {
+    return congee_c_version();
+}
 
 /* Makes an empty map whose nodes may take so many bytes by their stated sizes: 64, 168, 672 or 2104 bytes for a node of up to
  * 4, 16, 48 or 256 entries. The first node is of the largest size, so a smaller limit is refused here. Answers 0 with
@@ -140,13 +189,165 @@ static inline int congee_compare_exchange(struct congee *map, uint64_t key, uint
     return 2;
 }
 
+/* If the key's value is `expected`, removes the key and answers 1. If it is another, answers 2 with that value in *found,
+ * and if the key is absent, answers 0; the map is unchanged then. Is never refused. */
+static inline int congee_compare_remove(struct congee *map, uint64_t key, uint64_t expected, uint64_t *found) {
+    struct congee_handle handle = {map};
+    uint64_t it = 0;
+    int code = congee_c_compare_remove(&handle, key, expected, &it);
+    if (code != 2)
+        return code == 1;
+    if (found)
+        *found = it;
+    return 2;
+}
+
+/* Adds the number to the key's value, and a new key gets the number as its value. The sum is modulo 2^64: it wraps, and
+ * is not refused. Answers as congee_insert: 0 for a new key, and *old is unchanged; 1 with the value before the addition
+ * in *old; or CONGEE_OOM, only for a new key that needs a node of its own or a larger one. To subtract, add
+ * -(uint64_t)number. */
+static inline int congee_add(struct congee *map, uint64_t key, uint64_t number, uint64_t *old) {
+    struct congee_handle handle = {map};
+    uint64_t it = 0;
+    int code = congee_c_add(&handle, key, number, &it);
+    if (code != 1)
+        return code == 0 ? 0 : CONGEE_OOM;
+    if (old)
+        *old = it;
+    return 1;
+}
+
+/* Gives the key the value if it is absent, and keeps the value that a present key has. Answers 0 for a new key, and
+ * *found is unchanged; 1 with the present value in *found; or CONGEE_OOM, only for a new key that needs a node of its
+ * own or a larger one. */
+static inline int congee_get_or_insert(struct congee *map, uint64_t key, uint64_t value, uint64_t *found) {
+    struct congee_handle handle = {map};
+    uint64_t it = 0;
+    int code = congee_c_get_or_insert(&handle, key, value, &it);
+    if (code != 1)
+        return code == 0 ? 0 : CONGEE_OOM;
+    if (found)
+        *found = it;
+    return 1;
+}
+
 /* Writes the first pairs with start <= key < end to the buffer, keys ascending, n at most, and answers how many; the
- * rest of the buffer is unchanged. So UINT64_MAX is in no range: look it up. To go on, begin at the last key plus 1.
+ * rest of the buffer is unchanged. So UINT64_MAX is in no range: see congee_range_inclusive. To go on, begin at the last key plus 1.
  * Takes no memory. It reads the nodes that hold these pairs and two paths from the root, of at most eight nodes each,
  * whatever else the map has. */
 static inline size_t congee_range(struct congee *map, uint64_t start, uint64_t end, struct congee_pair *buffer, size_t n) {
     struct congee_handle handle = {map};
     return n == 0 ? 0 : congee_c_range(&handle, start, end, buffer, n);
+}
+
+/* Writes the first pairs with start <= key <= last to the buffer, keys ascending, as congee_range: so UINT64_MAX may be the
+ * last key. To go on, begin at the last key read plus 1, unless that is `last`. */
+static inline size_t congee_range_inclusive(struct congee *map, uint64_t start, uint64_t last, struct congee_pair *buffer,
+                                            size_t n) {
+    struct congee_handle handle = {map};
+    return n == 0 ? 0 : congee_c_range_inclusive(&handle, start, last, buffer, n);
+}
+
+/* The same with keys descending: writes the last pairs with start <= key <= last, the greatest key first. Reads one path
+ * for each pair, and one more. To go on, end at the last key read minus 1, unless that is `start`. */
+static inline size_t congee_range_descending(struct congee *map, uint64_t start, uint64_t last, struct congee_pair *buffer,
+                                             size_t n) {
+    struct congee_handle handle = {map};
+    return n == 0 ? 0 : congee_c_range_descending(&handle, start, last, buffer, n);
+}
+
+/* Writes the pair with the least key to *pair and answers 1, or answers 0 for an empty map. Takes no memory. */
+static inline int congee_first(struct congee *map, struct congee_pair *pair) {
+    struct congee_handle handle = {map};
+    struct congee_pair it = {0, 0};
+    if (congee_c_first(&handle, &it) == 0)
+        return 0;
+    if (pair)
+        *pair = it;
+    return 1;
+}
+
+/* Writes the pair with the greatest key to *pair and answers 1, or answers 0 for an empty map. Takes no memory. */
+static inline int congee_last(struct congee *map, struct congee_pair *pair) {
+    struct congee_handle handle = {map};
+    struct congee_pair it = {0, 0};
+    if (congee_c_last(&handle, &it) == 0)
+        return 0;
+    if (pair)
+        *pair = it;
+    return 1;
+}
+
+/* The pair with the greatest key <= this one: answers 1 with it in *pair, or 0 where there is none. Takes no
+ * memory. */
+static inline int congee_floor(struct congee *map, uint64_t key, struct congee_pair *pair) {
+    struct congee_handle handle = {map};
+    struct congee_pair it = {0, 0};
+    if (congee_c_floor(&handle, key, &it) == 0)
+        return 0;
+    if (pair)
+        *pair = it;
+    return 1;
+}
+
+/* The pair with the least key >= this one: answers 1 with it in *pair, or 0 where there is none. Takes no
+ * memory. */
+static inline int congee_ceiling(struct congee *map, uint64_t key, struct congee_pair *pair) {
+    struct congee_handle handle = {map};
+    struct congee_pair it = {0, 0};
+    if (congee_c_ceiling(&handle, key, &it) == 0)
+        return 0;
+    if (pair)
+        *pair = it;
+    return 1;
+}
+
+/* The pair with the greatest key < this one: answers 1 with it in *pair, or 0 where there is none. Takes no
+ * memory. */
+static inline int congee_below(struct congee *map, uint64_t key, struct congee_pair *pair) {
+    struct congee_handle handle = {map};
+    struct congee_pair it = {0, 0};
+    if (congee_c_below(&handle, key, &it) == 0)
+        return 0;
+    if (pair)
+        *pair = it;
+    return 1;
+}
+
+/* The pair with the least key > this one: answers 1 with it in *pair, or 0 where there is none. Takes no
+ * memory. */
+static inline int congee_above(struct congee *map, uint64_t key, struct congee_pair *pair) {
+    struct congee_handle handle = {map};
+    struct congee_pair it = {0, 0};
+    if (congee_c_above(&handle, key, &it) == 0)
+        return 0;
+    if (pair)
+        *pair = it;
+    return 1;
+}
+
+/* Removes the pair with the least key, writes it to *pair and answers 1, or answers 0 for an empty map.
+ * Is never refused. */
+static inline int congee_pop_first(struct congee *map, struct congee_pair *pair) {
+    struct congee_handle handle = {map};
+    struct congee_pair it = {0, 0};
+    if (congee_c_pop_first(&handle, &it) == 0)
+        return 0;
+    if (pair)
+        *pair = it;
+    return 1;
+}
+
+/* Removes the pair with the greatest key, writes it to *pair and answers 1, or answers 0 for an empty map.
+ * Is never refused. */
+static inline int congee_pop_last(struct congee *map, struct congee_pair *pair) {
+    struct congee_handle handle = {map};
+    struct congee_pair it = {0, 0};
+    if (congee_c_pop_last(&handle, &it) == 0)
+        return 0;
+    if (pair)
+        *pair = it;
+    return 1;
 }
 
 /* Whether there is no pair. */
@@ -165,6 +366,83 @@ static inline uint64_t congee_count(struct congee *map) {
 static inline uint64_t congee_charged(struct congee *map) {
     struct congee_handle handle = {map};
     return congee_c_charged(&handle);
+}
+
+/* Freezes a map: from here on nobody changes it, and threads may look keys up at once, each by a reader of its own.
+ * Answers 0 with the first reader in *out and null in *map, or CONGEE_OOM with null in *out, and *map is as it was. Takes
+ * two small blocks beside the map's nodes, which stay where they are. */
+static inline int congee_freeze(struct congee **map, struct congee_frozen **out) {
+    struct congee_handle handle = {*map}, back = {NULL};
+    struct congee_frozen_handle made = {NULL};
+    int code = congee_c_freeze(handle, &made, &back);
+    *map = back.map;
+    *out = made.reader;
+    return code;
+}
+
+/* Makes one more reader of a frozen map, for another thread. Answers 0 with the reader in *out, or CONGEE_OOM with null
+ * there. Takes a small block. */
+static inline int congee_frozen_another(struct congee_frozen *frozen, struct congee_frozen **out) {
+    struct congee_frozen_handle handle = {frozen}, made = {NULL};
+    int code = congee_c_frozen_another(&handle, &made);
+    *out = made.reader;
+    return code;
+}
+
+/* Makes the map changeable again where this is its last reader. Answers 1 with the map in *out and null in *frozen, or 0
+ * with null in *out where there are other readers, and *frozen is as it was. Takes no memory. */
+static inline int congee_thaw(struct congee_frozen **frozen, struct congee **out) {
+    struct congee_frozen_handle handle = {*frozen}, back = {NULL};
+    struct congee_handle made = {NULL};
+    int code = congee_c_thaw(handle, &made, &back);
+    *frozen = back.reader;
+    *out = made.map;
+    return code;
+}
+
+/* Frees the reader, and the map's memory with its last reader. For null it does nothing. */
+static inline void congee_frozen_free(struct congee_frozen *frozen) {
+    struct congee_frozen_handle handle = {frozen};
+    if (frozen)
+        congee_c_frozen_free(handle);
+}
+
+/* Looks the key up, as congee_get. */
+static inline int congee_frozen_get(struct congee_frozen *frozen, uint64_t key, uint64_t *value) {
+    struct congee_frozen_handle handle = {frozen};
+    uint64_t it = 0;
+    if (congee_c_frozen_get(&handle, key, &it) == 0)
+        return 0;
+    if (value)
+        *value = it;
+    return 1;
+}
+
+/* Writes the first pairs with start <= key < end to the buffer, as congee_range. */
+static inline size_t congee_frozen_range(struct congee_frozen *frozen, uint64_t start, uint64_t end,
+                                         struct congee_pair *buffer, size_t n) {
+    struct congee_frozen_handle handle = {frozen};
+    return n == 0 ? 0 : congee_c_frozen_range(&handle, start, end, buffer, n);
+}
+
+/* Writes the first pairs with start <= key <= last to the buffer, as congee_range_inclusive. */
+static inline size_t congee_frozen_range_inclusive(struct congee_frozen *frozen, uint64_t start, uint64_t last,
+                                                   struct congee_pair *buffer, size_t n) {
+    struct congee_frozen_handle handle = {frozen};
+    return n == 0 ? 0 : congee_c_frozen_range_inclusive(&handle, start, last, buffer, n);
+}
+
+/* The same with keys descending, as congee_range_descending. */
+static inline size_t congee_frozen_range_descending(struct congee_frozen *frozen, uint64_t start, uint64_t last,
+                                                    struct congee_pair *buffer, size_t n) {
+    struct congee_frozen_handle handle = {frozen};
+    return n == 0 ? 0 : congee_c_frozen_range_descending(&handle, start, last, buffer, n);
+}
+
+/* How many pairs there are, in constant time. */
+static inline uint64_t congee_frozen_count(struct congee_frozen *frozen) {
+    struct congee_frozen_handle handle = {frozen};
+    return congee_c_frozen_count(&handle);
 }
 
 #ifdef __cplusplus

@@ -1,6 +1,6 @@
 /* Each of the first 400 allocations fails in turn: the call answers CONGEE_OOM, everything is as it was, and nothing leaks.
- * Then each that removals make, alone and with all after it: none of them is refused. Then the least limits, and one below
- * each. Linked with --wrap for malloc, realloc and free. */
+ * Then each that removals make, alone and with all after it: none of them is refused. Then each that freezing a map and
+ * another reader take. Then the least limits, and one below each. Linked with --wrap for malloc, realloc and free. */
 #include "congee.h"
 #include <stdio.h>
 #include <stdlib.h>
@@ -54,10 +54,22 @@ static uint64_t key_of(uint64_t i) {
 
 /* The map has the keys below a place, each with its place as its value, and no other key. */
 static void check(struct congee *map, uint64_t below) {
-    uint64_t value;
+    uint64_t value = 0;
     need(congee_count(map) == below, "the count after a refusal");
     for (uint64_t i = 0; i < KEYS; i++)
         need(congee_get(map, key_of(i), &value) == (i < below) && (i >= below || value == i), "a pair after a refusal");
+}
+
+/* Enters a new key by one of the calls that may. */
+static int enter(struct congee *map, uint64_t i, uint64_t *old) {
+    switch (i % 3) {
+    case 0:
+        return congee_insert(map, key_of(i), i, old);
+    case 1:
+        return congee_add(map, key_of(i), i, old);
+    default:
+        return congee_get_or_insert(map, key_of(i), i, old);
+    }
 }
 
 /* Fills a map with one allocation refused, and returns how many insertions were refused. */
@@ -65,13 +77,13 @@ static long fill(struct congee *map) {
     long refused = 0;
     for (uint64_t i = 0; i < KEYS; i++) {
         uint64_t old = 99, charged = congee_charged(map);
-        int code = congee_insert(map, key_of(i), i, &old);
+        int code = enter(map, i, &old);
         if (code == CONGEE_OOM) {
             refused++;
             left = -1;
             need(old == 99 && congee_charged(map) == charged, "what a refusal leaves");
             check(map, i);
-            code = congee_insert(map, key_of(i), i, &old);
+            code = enter(map, i, &old);
         }
         need(code == 0 && old == 99, "an insertion");
     }
@@ -103,6 +115,41 @@ static bool empty(long granted, bool all_after) {
     return failed > 0;
 }
 
+/* Freezes a map and makes another reader, with so many allocations granted, and thaws it again. Returns whether one
+ * failed. */
+static bool freeze(long granted) {
+    struct congee *map;
+    struct congee_frozen *one, *other;
+    uint64_t value;
+    need(congee_new(&map) == 0, "a map");
+    need(fill(map) == 0, "an insertion with memory");
+    uint64_t charged = congee_charged(map);
+    left = granted;
+    failed = 0;
+    if (congee_freeze(&map, &one) == CONGEE_OOM) {
+        need(map != NULL && one == NULL && failed == 1, "what a refused freeze leaves");
+        left = -1;
+        check(map, KEYS);
+    } else {
+        need(map == NULL && one != NULL, "what a freeze leaves");
+        if (congee_frozen_another(one, &other) == 0) {
+            need(congee_thaw(&one, &map) == 0 && one != NULL && map == NULL, "a thaw with another reader");
+            congee_frozen_free(other);
+        } else {
+            need(other == NULL && failed == 1, "what a refused reader leaves");
+        }
+        need(congee_frozen_get(one, key_of(7), &value) == 1 && value == 7, "a pair of a frozen map");
+        left = 0; /* (a thaw takes no memory) */
+        need(congee_thaw(&one, &map) == 1 && one == NULL && map != NULL, "a thaw by the last reader");
+        left = -1;
+        check(map, KEYS);
+    }
+    need(congee_charged(map) == charged, "the charge of a map that was frozen");
+    congee_free(map);
+    need(live == 0, "a block leaks");
+    return failed > 0;
+}
+
 static int insert_with_limit(uint64_t limit) {
     struct congee *map;
     if (congee_new_with_limit(&map, limit) == CONGEE_OOM) {
@@ -116,7 +163,7 @@ static int insert_with_limit(uint64_t limit) {
 }
 
 int main(void) {
-    long maps = 0, insertions = 0, removals = 0;
+    long maps = 0, insertions = 0, removals = 0, readers = 0;
     for (long fail = 0; fail < FIRST; fail++) {
         struct congee *map;
         left = fail;
@@ -137,10 +184,14 @@ int main(void) {
     while (empty(removals, false) && empty(removals, true))
         removals++;
     need(removals >= KEYS / 20, "each leaf takes memory for a smaller node");
+    while (freeze(readers))
+        readers++;
+    need(readers == 3, "a frozen map takes two blocks, and another reader one");
     need(insert_with_limit(2103) == -2, "a limit below the first node's size");
     need(insert_with_limit(2104) == CONGEE_OOM && insert_with_limit(2167) == CONGEE_OOM, "a limit below a leaf's size");
     need(insert_with_limit(2168) == 0, "the least limit for one pair");
     need(live == 0, "a block leaks");
-    printf("%ld maps, %ld insertions and %ld smaller nodes refused, no block lost\n", maps, insertions, removals);
+    printf("%ld maps, %ld insertions, %ld smaller nodes and %ld readers refused, no block lost\n", maps, insertions, removals,
+           readers);
     return 0;
 }

@@ -52,6 +52,83 @@ static void check_range(struct congee *map, int i, uint64_t *seed) {
         need(got[k].key == 0xeeeeeeeeeeeeeeeeu && got[k].value == 0xeeeeeeeeeeeeeeeeu, "the rest of the buffer stays");
 }
 
+/* The place of the first present key from a place on, or KEYS; and of the last one up to a place, or -1. */
+static int next_present(int i) {
+    while (i < KEYS && !stands[i])
+        i++;
+    return i;
+}
+
+static int last_present(int i) {
+    while (i >= 0 && !stands[i])
+        i--;
+    return i;
+}
+
+static void check_pair(int code, struct congee_pair pair, int i, const char *what) {
+    bool is_there = i >= 0 && i < KEYS;
+    need(code == is_there, what);
+    need(pair.key == (is_there ? keys[i] : 99) && pair.value == (is_there ? values[i] : 99), what);
+}
+
+/* The ends, and the neighbours of a key and of the number before it. */
+static void check_neighbours(struct congee *map, int i) {
+    struct congee_pair none = {99, 99}, pair = none;
+    check_pair(congee_first(map, &pair), pair, next_present(0), "first");
+    pair = none;
+    check_pair(congee_last(map, &pair), pair, last_present(KEYS - 1), "last");
+    pair = none;
+    check_pair(congee_floor(map, keys[i], &pair), pair, last_present(i), "floor");
+    pair = none;
+    check_pair(congee_ceiling(map, keys[i], &pair), pair, next_present(i), "ceiling");
+    pair = none;
+    check_pair(congee_below(map, keys[i], &pair), pair, last_present(i - 1), "below");
+    pair = none;
+    check_pair(congee_above(map, keys[i], &pair), pair, next_present(i + 1), "above");
+    if (i > 0) {
+        pair = none;
+        check_pair(congee_floor(map, keys[i] - 1, &pair), pair, last_present(i - 1), "floor before a key");
+        pair = none;
+        check_pair(congee_above(map, keys[i] - 1, &pair), pair, next_present(i), "above a number before a key");
+    }
+    need(congee_first(map, NULL) == (count > 0), "first without a place");
+}
+
+static void check_pop(struct congee *map, bool is_first) {
+    struct congee_pair pair = {99, 99};
+    int i = is_first ? next_present(0) : last_present(KEYS - 1);
+    check_pair(is_first ? congee_pop_first(map, &pair) : congee_pop_last(map, &pair), pair, i, "pop");
+    if (i >= 0 && i < KEYS) {
+        stands[i] = false;
+        count--;
+    }
+}
+
+/* A range that includes its last key, from either end. */
+static void check_inclusive(struct congee *map, int i, uint64_t *seed) {
+    struct congee_pair got[ROOM] = {{0, 0}}, down[ROOM] = {{0, 0}};
+    int last = i + (int)(next(seed) % 64) - 4;
+    last = last < 0 ? 0 : last >= KEYS ? KEYS - 1 : last;
+    size_t n = next(seed) % (ROOM + 1), k = 0, d = 0;
+    size_t told = congee_range_inclusive(map, keys[i], keys[last], n > 0 ? got : NULL, n);
+    size_t told_down = congee_range_descending(map, keys[i], keys[last], n > 0 ? down : NULL, n);
+    for (int j = i; j <= last && k < n; j++)
+        if (stands[j]) {
+            need(k < told && got[k].key == keys[j] && got[k].value == values[j], "a pair of a range with its end");
+            k++;
+        }
+    for (int j = last; j >= i && d < n; j--)
+        if (stands[j]) {
+            need(d < told_down && down[d].key == keys[j] && down[d].value == values[j], "a pair of a descending range");
+            d++;
+        }
+    need(k == told && d == told_down, "how many pairs a range with its end has");
+    for (; k < ROOM; k++)
+        need(got[k].key == 0 && got[k].value == 0, "the rest of the buffer stays");
+    for (; d < ROOM; d++)
+        need(down[d].key == 0 && down[d].value == 0, "the rest of the buffer stays, descending");
+}
+
 static void check_exchange(struct congee *map, int i, uint64_t value, uint64_t *seed) {
     uint64_t expected = next(seed) % 4, found = 99;
     int wanted = !stands[i] ? 0 : values[i] == expected ? 1 : 2;
@@ -61,10 +138,39 @@ static void check_exchange(struct congee *map, int i, uint64_t value, uint64_t *
         values[i] = value;
 }
 
+static void check_removal(struct congee *map, int i, uint64_t *seed) {
+    uint64_t expected = next(seed) % 4, found = 99;
+    int wanted = !stands[i] ? 0 : values[i] == expected ? 1 : 2;
+    need(congee_compare_remove(map, keys[i], expected, &found) == wanted, "compare_remove");
+    need(found == (wanted == 2 ? values[i] : 99), "what compare_remove found");
+    if (wanted == 1) {
+        stands[i] = false;
+        count--;
+    }
+}
+
+static void check_sum(struct congee *map, int i, uint64_t *seed) {
+    uint64_t number = next(seed) % 2 ? UINT64_MAX : 1, old = 99;
+    need(congee_add(map, keys[i], number, &old) == stands[i] && old == (stands[i] ? values[i] : 99), "add");
+    values[i] = stands[i] ? values[i] + number : number;
+    count += !stands[i];
+    stands[i] = true;
+}
+
+static void check_first(struct congee *map, int i, uint64_t value) {
+    uint64_t found = 99;
+    need(congee_get_or_insert(map, keys[i], value, &found) == stands[i], "get_or_insert");
+    need(found == (stands[i] ? values[i] : 99), "what get_or_insert found");
+    if (!stands[i])
+        values[i] = value;
+    count += !stands[i];
+    stands[i] = true;
+}
+
 static void call(struct congee *map, uint64_t *seed, unsigned removals) {
     int i = (int)(next(seed) % KEYS);
     uint64_t value = next(seed) % 4, out = 99, stood = stands[i] ? values[i] : 99;
-    unsigned kind = next(seed) % 12;
+    unsigned kind = next(seed) % 19;
     if (kind < removals) {
         need(congee_remove(map, keys[i], &out) == stands[i] && out == stood, "remove");
         count -= stands[i];
@@ -78,8 +184,25 @@ static void call(struct congee *map, uint64_t *seed, unsigned removals) {
         need(congee_get(map, keys[i], &out) == stands[i] && out == stood, "get");
     } else if (kind < 10) {
         check_exchange(map, i, value, seed);
-    } else {
+    } else if (kind < 12) {
         check_range(map, i, seed);
+    } else if (kind == 12) {
+        check_removal(map, i, seed);
+    } else if (kind == 13) {
+        check_sum(map, i, seed);
+    } else if (kind == 14) {
+        check_first(map, i, value);
+    } else if (kind == 15) {
+        check_inclusive(map, i, seed);
+    } else if (kind == 16) {
+        check_neighbours(map, i);
+    } else if (kind == 17) {
+        check_pop(map, value % 2 == 0);
+    } else {
+        need(congee_add(map, keys[i], 0, NULL) == stands[i], "add without a place");
+        values[i] = stands[i] ? values[i] : 0;
+        count += !stands[i];
+        stands[i] = true;
     }
     need(congee_count(map) == count && congee_is_empty(map) == (count == 0), "count and is_empty");
 }

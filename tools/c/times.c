@@ -6,7 +6,7 @@
 #include <stdlib.h>
 #include <time.h>
 
-enum { INSERT, GET, OVERWRITE, RANGE, REMOVE, KINDS, ROUNDS = 7, PAGE = 100 };
+enum { INSERT, GET, READER, ADD, OVERWRITE, RANGE, REMOVE, KINDS, ROUNDS = 7, PAGE = 100 };
 
 static uint64_t next(uint64_t *state) { /* splitmix64 */
     uint64_t z = (*state += 0x9e3779b97f4a7c15u);
@@ -21,6 +21,19 @@ static double now(void) {
     return 1e9 * (double)t.tv_sec + (double)t.tv_nsec;
 }
 
+/* Look-ups on a reader of the map, which is frozen for them. */
+static uint64_t look_up_frozen(struct congee **map, const uint64_t *keys, uint64_t n) {
+    struct congee_frozen *frozen;
+    uint64_t sum = 0, value = 0;
+    if (congee_freeze(map, &frozen))
+        exit(1);
+    for (uint64_t i = 0; i < n; i++)
+        sum += (uint64_t)congee_frozen_get(frozen, keys[i], &value) + value;
+    if (!congee_thaw(&frozen, map))
+        exit(1);
+    return sum;
+}
+
 static uint64_t make(struct congee *map, int kind, const uint64_t *keys, uint64_t n) {
     static struct congee_pair page[PAGE];
     uint64_t sum = 0, value = 0;
@@ -28,6 +41,7 @@ static uint64_t make(struct congee *map, int kind, const uint64_t *keys, uint64_
         switch (kind) {
         case INSERT:
         case OVERWRITE: sum += (uint64_t)congee_insert(map, keys[i], i, &value); break;
+        case ADD: sum += (uint64_t)congee_add(map, keys[i], 1, &value) + value; break;
         case GET: sum += (uint64_t)congee_get(map, keys[i], &value) + value; break;
         case RANGE: sum += congee_range(map, keys[i], UINT64_MAX, page, PAGE); break;
         default: sum += (uint64_t)congee_remove(map, keys[i], &value) + value;
@@ -51,14 +65,15 @@ static int times(uint64_t n, bool is_dense) {
         for (int kind = 0; kind < KINDS; kind++) {
             uint64_t calls = kind == RANGE && n > 20000 ? 20000 : n;
             double start = now();
-            sum += make(map, kind, keys, calls);
+            sum += kind == READER ? look_up_frozen(&map, keys, calls) : make(map, kind, keys, calls);
             double time = (now() - start) / (double)calls;
             least[kind] = time < least[kind] ? time : least[kind];
         }
         congee_free(map);
     }
-    printf("C     %8" PRIu64 " %-6s  insert %6.1f  get %6.1f  overwrite %6.1f  range of 100 %8.1f  remove %6.1f  (%" PRIx64 ")\n", n,
-           is_dense ? "dense" : "random", least[INSERT], least[GET], least[OVERWRITE], least[RANGE], least[REMOVE], sum);
+    printf("C     %8" PRIu64 " %-6s  insert %6.1f  get %6.1f  by a reader %6.1f  add %6.1f  overwrite %6.1f  range of 100 %8.1f  remove %6.1f  (%" PRIx64 ")\n", n,
+           is_dense ? "dense" : "random", least[INSERT], least[GET], least[READER], least[ADD],
+           least[OVERWRITE], least[RANGE], least[REMOVE], sum);
     free(keys);
     return 0;
 }

@@ -1,8 +1,9 @@
 //! A million mixed calls, each answer compared with that of a `BTreeMap`; ranges of all kinds of bounds too.
 
-use proved_congee::Congee;
+use proved_congee::{Map, Readers};
 use std::collections::BTreeMap;
 use std::ops::Bound;
+use std::thread;
 
 const CALLS: u64 = 1_000_000;
 
@@ -44,15 +45,23 @@ fn is_range(bounds: (Bound<u64>, Bound<u64>)) -> bool {
     }
 }
 
-fn check_range(map: &Congee, plain: &BTreeMap<u64, u64>, seed: &mut u64) {
+fn check_range(map: &Map, plain: &BTreeMap<u64, u64>, seed: &mut u64) {
     let bounds = (bound(seed), bound(seed));
     let count = (next(seed) % 200) as usize;
     if is_range(bounds) {
-        let wanted = plain
-            .range(bounds)
-            .take(count)
-            .map(|(key, value)| (*key, *value));
-        assert!(map.range(bounds).take(count).eq(wanted));
+        let mut wanted = plain.range(bounds).map(|(key, value)| (*key, *value));
+        let mut given = map.range(bounds);
+        // (from both ends, in any turn)
+        for _ in 0..count {
+            let pair = match next(seed) % 3 {
+                0 => (given.next_back(), wanted.next_back()),
+                _ => (given.next(), wanted.next()),
+            };
+            assert_eq!(pair.0, pair.1);
+        }
+        let (least, most) = given.size_hint();
+        let left = wanted.count();
+        assert!(least <= left && most.map_or(true, |most| left <= most));
     } else {
         assert_eq!(map.range(bounds).next(), None);
     }
@@ -61,7 +70,7 @@ fn check_range(map: &Congee, plain: &BTreeMap<u64, u64>, seed: &mut u64) {
 /// A window of keys moves on: the charge is never more than that of the first four windows.
 fn move_window(apart: u64) {
     const WINDOW: u64 = 1024;
-    let mut map = Congee::new().unwrap();
+    let mut map = Map::new().unwrap();
     let mut most = 0;
     for i in 0..60_000 {
         assert_eq!(map.insert(i * apart, i), Ok(None));
@@ -75,18 +84,83 @@ fn move_window(apart: u64) {
     }
 }
 
+/// Four threads read the frozen map; then it thaws.
+fn read_side_by_side(map: Map, plain: &BTreeMap<u64, u64>) -> Map {
+    let readers = Readers::new(map.freeze().unwrap());
+    thread::scope(|scope| {
+        for first in 0..4 {
+            let readers = &readers;
+            scope.spawn(move || {
+                let own = readers.reader().unwrap();
+                let start = key(&mut { first });
+                let wanted = plain.range(start..).map(|(key, value)| (*key, *value));
+                assert!(own.range(start..).eq(wanted));
+                assert!(own.keys().rev().eq(plain.keys().rev().copied()));
+                assert!(own.iter().all(|(key, value)| own.get(key) == Some(value)));
+                assert!(!own.contains_key(1) && own.len() == plain.len());
+            });
+        }
+    });
+    readers.into_inner().thaw().unwrap()
+}
+
 fn main() {
     move_window(1);
     move_window(256);
-    let mut map = Congee::new().unwrap();
+    let mut map = Map::new().unwrap();
     let mut plain = BTreeMap::new();
     let mut seed = 7;
     for call in 0..CALLS {
         let (at, value) = (key(&mut seed), next(&mut seed) % 4);
-        match next(&mut seed) % 12 {
+        match next(&mut seed) % 18 {
             0..=4 => assert_eq!(map.insert(at, value), Ok(plain.insert(at, value))),
             5 | 6 => assert_eq!(map.remove(at), plain.remove(&at)),
             7 | 8 => assert_eq!(map.get(at), plain.get(&at).copied()),
+            11 => {
+                let number = value.wrapping_sub(2);
+                let wanted = plain.get(&at).copied();
+                plain.insert(
+                    at,
+                    wanted.map_or(number, |stands| stands.wrapping_add(number)),
+                );
+                assert_eq!(map.add(at, number), Ok(wanted));
+            }
+            12 => {
+                let wanted = *plain.entry(at).or_insert(value);
+                assert_eq!(map.get_or_insert(at, value), Ok(wanted));
+            }
+            13 => {
+                let wanted = match plain.get(&at).copied() {
+                    Some(stands) if stands == value => Ok(()),
+                    stands => Err(stands),
+                };
+                if wanted.is_ok() {
+                    plain.remove(&at);
+                }
+                assert_eq!(map.compare_remove(at, value), wanted);
+            }
+            15 => {
+                let pair = |found: Option<(&u64, &u64)>| found.map(|(key, value)| (*key, *value));
+                assert_eq!(map.first(), pair(plain.first_key_value()));
+                assert_eq!(map.last(), pair(plain.last_key_value()));
+                assert_eq!(map.floor(at), pair(plain.range(..=at).next_back()));
+                assert_eq!(map.below(at), pair(plain.range(..at).next_back()));
+                assert_eq!(map.ceiling(at), pair(plain.range(at..).next()));
+                assert_eq!(
+                    map.above(at),
+                    pair(plain.range(at..).find(|pair| *pair.0 != at))
+                );
+            }
+            16 if value == 0 => assert_eq!(map.pop_first(), plain.pop_first()),
+            16 if value == 1 => assert_eq!(map.pop_last(), plain.pop_last()),
+            14 => {
+                let halved = |stands: Option<u64>| stands.map(|it| it / 2).filter(|it| *it > 0);
+                let wanted = plain.remove(&at);
+                if let Some(half) = halved(wanted) {
+                    plain.insert(at, half);
+                }
+                assert_eq!(map.compute(at, halved), Ok(wanted));
+            }
             9 | 10 => {
                 let expected = next(&mut seed) % 4;
                 let wanted = match plain.get_mut(&at) {
@@ -101,15 +175,20 @@ fn main() {
             }
             _ => check_range(&map, &plain, &mut seed),
         }
-        assert_eq!(map.len(), plain.len() as u64);
+        assert_eq!(map.len(), plain.len());
         if call == CALLS / 2 {
             // (a map may go on on another thread)
-            map = std::thread::spawn(move || map).join().unwrap();
+            map = thread::spawn(move || map).join().unwrap();
         }
     }
-    assert!(map
-        .iter()
-        .eq(plain.iter().map(|(key, value)| (*key, *value))));
+    let pairs = || plain.iter().map(|(key, value)| (*key, *value));
+    assert!(map.iter().eq(pairs()));
+    assert!(map.keys().eq(plain.keys().copied()) && map.values().eq(plain.values().copied()));
     assert_eq!(map.is_empty(), plain.is_empty());
-    println!("{CALLS} calls, {} pairs at the end", map.len());
+    assert_eq!(Map::try_from_iter(pairs()).as_ref(), Ok(&map));
+    let map = read_side_by_side(map, &plain);
+    println!(
+        "{CALLS} calls, {} pairs at the end",
+        map.into_iter().count()
+    );
 }

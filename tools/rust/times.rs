@@ -1,13 +1,22 @@
 //! What a call costs from Rust, in nanoseconds of the processor, and what it costs on a `BTreeMap`: the least of so many
 //! rounds.
 
-use proved_congee::{Congee, Pair};
+use proved_congee::{Map, Pair};
 use std::collections::BTreeMap;
 use std::hint::black_box;
 
 const ROUNDS: usize = 7;
 const PAGE: usize = 100;
-const KINDS: [&str; 5] = ["insert", "get", "overwrite", "range of 100", "remove"];
+const KINDS: [&str; 8] = [
+    "insert",
+    "get",
+    "floor",
+    "overwrite",
+    "range of 100",
+    "descending",
+    "remove",
+    "pop_first",
+];
 
 extern "C" {
     /// The processor time of the program so far, in microseconds (C's `clock` on Linux).
@@ -27,17 +36,20 @@ fn next(state: &mut u64) -> u64 {
     z ^ (z >> 31)
 }
 
-trait Map {
+trait Timed {
     fn fresh() -> Self;
     fn put(&mut self, key: u64, value: u64) -> Option<u64>;
     fn look_up(&self, key: u64) -> Option<u64>;
+    fn floor(&self, key: u64) -> Option<(u64, u64)>;
     fn read(&self, key: u64, page: &mut [Pair; PAGE]) -> usize;
+    fn read_back(&self, key: u64, page: &mut [Pair; PAGE]) -> usize;
+    fn pop(&mut self) -> Option<(u64, u64)>;
     fn take(&mut self, key: u64) -> Option<u64>;
 }
 
-impl Map for Congee {
+impl Timed for Map {
     fn fresh() -> Self {
-        Congee::new().unwrap()
+        Map::new().unwrap()
     }
     fn put(&mut self, key: u64, value: u64) -> Option<u64> {
         self.insert(key, value).unwrap()
@@ -45,15 +57,24 @@ impl Map for Congee {
     fn look_up(&self, key: u64) -> Option<u64> {
         self.get(key)
     }
+    fn floor(&self, key: u64) -> Option<(u64, u64)> {
+        Map::floor(self, key)
+    }
     fn read(&self, key: u64, page: &mut [Pair; PAGE]) -> usize {
         self.read_range(key, u64::MAX, page)
+    }
+    fn read_back(&self, key: u64, page: &mut [Pair; PAGE]) -> usize {
+        self.read_range_descending(0, key, page)
+    }
+    fn pop(&mut self) -> Option<(u64, u64)> {
+        self.pop_first()
     }
     fn take(&mut self, key: u64) -> Option<u64> {
         self.remove(key)
     }
 }
 
-impl Map for BTreeMap<u64, u64> {
+impl Timed for BTreeMap<u64, u64> {
     fn fresh() -> Self {
         BTreeMap::new()
     }
@@ -62,6 +83,21 @@ impl Map for BTreeMap<u64, u64> {
     }
     fn look_up(&self, key: u64) -> Option<u64> {
         self.get(&key).copied()
+    }
+    fn floor(&self, key: u64) -> Option<(u64, u64)> {
+        let (&key, &value) = self.range(..=key).next_back()?;
+        Some((key, value))
+    }
+    fn read_back(&self, key: u64, page: &mut [Pair; PAGE]) -> usize {
+        let mut count = 0;
+        for (place, (&key, &value)) in page.iter_mut().zip(self.range(..=key).rev()) {
+            *place = Pair { key, value };
+            count += 1;
+        }
+        count
+    }
+    fn pop(&mut self) -> Option<(u64, u64)> {
+        self.pop_first()
     }
     fn read(&self, key: u64, page: &mut [Pair; PAGE]) -> usize {
         let mut count = 0;
@@ -76,24 +112,30 @@ impl Map for BTreeMap<u64, u64> {
     }
 }
 
-fn make<M: Map>(map: &mut M, kind: usize, keys: &[u64]) {
+fn make<M: Timed>(map: &mut M, kind: usize, keys: &[u64]) {
     let mut page = [Pair::default(); PAGE];
     for (i, &key) in keys.iter().enumerate() {
         match kind {
-            0 | 2 => _ = black_box(map.put(key, i as u64)),
+            0 | 3 => _ = black_box(map.put(key, i as u64)),
             1 => _ = black_box(map.look_up(key)),
-            3 => _ = black_box(map.read(key, &mut page)),
-            _ => _ = black_box(map.take(key)),
+            2 => _ = black_box(map.floor(key ^ 1)),
+            4 => _ = black_box(map.read(key, &mut page)),
+            5 => _ = black_box(map.read_back(key, &mut page)),
+            6 => _ = black_box(map.take(key)),
+            _ => _ = black_box(map.pop()),
         }
     }
 }
 
-fn times<M: Map>(name: &str, keys: &[u64], what: &str) {
+fn times<M: Timed>(name: &str, keys: &[u64], what: &str) {
     let mut least = [f64::MAX; KINDS.len()];
     for _ in 0..ROUNDS {
         let mut map = M::fresh();
         for (kind, least) in least.iter_mut().enumerate() {
-            let calls = if kind == 3 {
+            if kind == 7 {
+                make(&mut map, 0, keys);
+            }
+            let calls = if kind == 4 || kind == 5 {
                 keys.len().min(20000)
             } else {
                 keys.len()
@@ -116,7 +158,7 @@ fn main() {
         let dense: Vec<u64> = (0..n).collect();
         let random: Vec<u64> = (0..n).map(|_| next(&mut seed)).collect();
         for (keys, what) in [(&dense, "dense"), (&random, "random")] {
-            times::<Congee>("Rust", keys, what);
+            times::<Map>("Rust", keys, what);
             times::<BTreeMap<u64, u64>>("BTree", keys, what);
         }
     }

@@ -2,6 +2,7 @@
 #![tactic(auto)]
 
 pub use face_maps::congee_arc::{CongeeArc, PayloadCongee};
+pub use face_maps::many::InsertManyError;
 pub use face_maps::typed_congee::Congee;
 pub use face_maps::u64_congee::U64Congee;
 pub use face_runs::{calls, payload_calls, u64_calls};

@@ -3,10 +3,12 @@
 mod asserts;
 mod both;
 mod budgets;
+mod bulk;
 mod computation;
 mod faces;
 mod hostile;
 mod leaks;
+mod neighbours;
 mod rows;
 mod scans;
 mod shared_values;

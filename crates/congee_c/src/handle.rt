@@ -4,10 +4,8 @@ ghost use Rattle.std.specs.Prelude.{◌≡◌, IfOk};
 ghost use Rattle.congee_c.specs.inner.Owned.{held_coded, handle_owns};
 ghost use Rattle.congee_c.specs.declared.held.Held.{Held};
 
-mod parts;
-
 use crate::held::Held;
-use parts::Parts;
+use crate::parts::Parts;
 use std::alloc::{AllocError, Global};
 use std::marker::Model;
 
@@ -35,7 +33,21 @@ impl Handle {
     pub fn new(alloc: Global, held: Held) -> Result<Handle, AllocError>
         ensures { IfOk result (λ handle. handle.held ≡ held) }
     {
-        Ok(Handle::of_parts(Parts::of(Box::new(alloc, held)?)))
+        Ok(Handle::of_box(Box::new(alloc, held)?))
+    }
+
+    /// The handle of a map that is on the heap.
+    pub fn of_box(held: Box<Held>) -> Handle
+        ensures { result.held ≡ held.value }
+    {
+        Handle::of_parts(Parts::of(held))
+    }
+
+    /// The map, still on the heap.
+    pub fn into_box(self) -> Box<Held>
+        ensures { result.value ≡ self.held }
+    {
+        self.into_parts().into_box()
     }
 
     fn of_parts(parts: Parts<Held, Global>) -> Handle
@@ -70,7 +82,7 @@ impl Handle {
 
     /// Drops the map, and frees its block.
     pub fn free(self) {
-        drop(self.into_parts().into_box());
+        drop(self.into_box());
     }
 }
 

@@ -4,6 +4,8 @@
 //! at a time, reads included. A call doesn't move the map (`place`), so C may keep its address alone.
 //!
 //! An answer is an `i32`: 0, 1 or 2 with the meaning that each call documents, and -1 if there is no memory.
+//!
+//! Here are the calls that make a map and get, set and remove one key; `compute`, `near` and `frozen` have the others.
 #![tactic(auto)]
 
 ghost use Rattle.std.specs.Prelude.{◌≡◌, ◌≢◌, ℕ, pos, ◌⊎◌, ◌↔◌, ◌++◌, [], Some, None, IfSome, IsSome, IsTrue, length, min, map, take, drop};
@@ -16,10 +18,16 @@ ghost use Rattle.tree_edit.specs.Tree.{ChargesForNodes, StoresSame};
 ghost use Rattle.congee_c.specs.Answer.{is_there, put_if_there, oom};
 ghost use Rattle.congee_c.specs.Limit.{limit_of, limit_charge};
 
+mod compute;
+mod frozen;
 mod handle;
 mod held;
+mod near;
+mod parts;
 mod room;
 
+pub use frozen::handle::FrozenHandle;
+pub use frozen::room::FrozenRoom;
 pub use handle::Handle;
 use held::Held;
 pub use room::Room;
@@ -43,6 +51,14 @@ impl RangeEntry for Pair {
     fn from_pair(key: u64, value: u64) -> Pair {
         Pair { key, value }
     }
+}
+
+/// The version of the archive, 100 for 0.1.0: 10000 times its first number, 100 times its second, and its third.
+#[unsafe(no_mangle)]
+pub extern "C" fn congee_c_version() -> u32
+    ensures { result ≡ 100 }
+{
+    100
 }
 
 /// Writes the handle of a new, empty map to `out` and answers 0, or answers `OOM` and writes nothing. The stated sizes

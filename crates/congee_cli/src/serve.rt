@@ -1,26 +1,46 @@
 //! The program, but for its streams.
 
-ghost use Rattle.std.specs.Prelude.{◌≡◌, ◌≢◌, ℕ, ◌↔◌, Option, Result, IfSome, IfNone, map, string_bytes, true};
+ghost use Rattle.std.specs.Prelude.{◌≡◌, ◌≢◌, ℕ, ◌↔◌, [], Option, Result, IfSome, IfNone, OnOk, OnErr, map, string_bytes, true};
 ghost use Rattle.text_schedule.specs.Schedule.{EndsSchedule};
 ghost use Rattle.text_schedule.specs.declared.schedule.ScheduleError.{ScheduleError as HowScheduled};
 ghost use Rattle.text_run.specs.Run.{EndsRun};
 ghost use Rattle.text_run.specs.declared.run.RunError.{RunError as HowRun};
-ghost use Rattle.congee_cli.specs.Serve.{AsksRun, AsksSchedule, AsksNothing, run_status, schedule_status};
+ghost use Rattle.text_lines.specs.Watched.{SendsTo, SendsPart};
+ghost use Rattle.congee_cli.specs.Serve.{AsksRun, AsksHelp, AsksSchedule, AsksNothing, help_text, Helps, run_status, schedule_status};
 ghost use Rattle.congee_cli.specs.inner.Asked.{AsksMode};
 
 use std::alloc::Global;
 use std::io::{Read, Write};
 use text_lines::number::number;
 use text_lines::pending::Pending;
-use text_lines::watched::Watched;
+use text_lines::watched::{Failed, Watched};
 use text_run::run::{RunError, run};
 use text_schedule::schedule::{ScheduleError, schedule};
+
+/// What each line of a run does.
+pub(crate) const HELP: &[u8] = b"\
+get K            the value at K, or none\n\
+insert K V       sets the value at K: ok and the value before, or oom\n\
+remove K         takes K out: the value before\n\
+cas K OLD NEW    where OLD is the value at K, puts NEW there (none takes K out): ok and NEW, or err and the value\n\
+add K D          adds D to the value at K (past 64 bits takes K out): the value before, and the sum\n\
+put K D          adds D to the value at K, up to 18446744073709551615, or sets D: ok and the value before, or oom\n\
+range A B N      the first N pairs with keys from A on and below B, 4096 at most: how many, and each as K=V\n\
+keys             all keys: how many, and each\n\
+empty            whether there is no key: true or false\n\
+count            how many keys there are\n\
+first            the pair of the least key, as K=V, or none\n\
+last             the pair of the greatest key\n\
+floor K          the pair of the greatest key that is at most K\n\
+ceiling K        the pair of the least key that is at least K\n";
 
 /// What the words after the program's name ask for.
 #[derive(Clone, Copy)]
 enum Mode {
     /// A run, with a limit in bytes for the nodes of the map or without one.
     Run(Option<u64>),
+    /// The lines of a run.
+    Help,
     Schedule,
 }
 
@@ -42,7 +62,11 @@ pub fn serve<R: Read, W: Write, E: Write>(
         → (ended : Result (Unit {0}) HowRun) × (result ≡ run_status ended)
         × EndsRun R.remaining W.contents input.old input.new output.old output.new ended }
 
-    // The same of a schedule.
+    // The words ask for the lines of a run, which were written.
+    ensures help { AsksHelp (map string_bytes words.now)
+        → Helps W.contents output.old output.new result × (input.new ≡ input.old) }
+
+    // The same as for a run, of a schedule.
     ensures schedule { AsksSchedule (map string_bytes words.now)
         → (ended : Result (Unit {0}) HowScheduled) × (result ≡ schedule_status ended)
         × EndsSchedule R.remaining W.contents input.old input.new output.old output.new ended }
@@ -53,9 +77,29 @@ pub fn serve<R: Read, W: Write, E: Write>(
 {
     match asked_by(words) {
         Some(Mode::Run(limit)) => end_run(errors, run(alloc, input, output, limit)),
+        Some(Mode::Help) => help(output, errors),
         Some(Mode::Schedule) => end_schedule(errors, schedule(alloc, input, output)),
         None => tell(errors, 2, b"usage: congee run [LIMIT] | congee schedule\n"),
     }
+}
+
+// Writes what each line of a run does, and returns the status.
+fn help<W: Write, E: Write>(output: &mut Watched<W>, errors: &mut E) -> u8
+    ensures { Helps W.contents output.old output.new result }
+{
+    match write_help(output) {
+        Ok(()) => 0,
+        Err(_) => report_broken(errors),
+    }
+}
+
+// Writes it. At an `Err` a first part of it was written.
+fn write_help<W: Write>(output: &mut Watched<W>) -> Result<(), Failed>
+    ensures ok { OnOk result (SendsTo W.contents output.old output.new help_text []) }
+    ensures err { OnErr result (SendsPart W.contents output.old output.new help_text) }
+{
+    output.send(HELP)?;
+    output.flush()
 }
 
 // Writes why a run failed, if it did, and returns the status.
@@ -122,6 +166,7 @@ fn asked_by(words: &[String]) -> Option<Mode>
 {
     match words {
         [name] if name.as_str() == "run" => Some(Mode::Run(None)),
+        [name, word] if name.as_str() == "run" && word.as_str() == "--help" => Some(Mode::Help),
         [name, limit] if name.as_str() == "run" => {
             Some(Mode::Run(Some(number(limit.as_bytes())?)))
         }

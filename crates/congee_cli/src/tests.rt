@@ -3,7 +3,7 @@
 mod cleanups;
 mod schedules;
 
-use crate::serve::serve;
+use crate::serve::{HELP, serve};
 use std::alloc::{AllocError, Global};
 use std::io;
 use std::io::{ErrorKind, Read, Write};
@@ -103,6 +103,20 @@ fn answers(rt: HostRuntime) -> Result<(), Fail> {
         ("insert 01 2\n", "bad line\n"),
         ("get 1", "none\n"),
         ("", ""),
+        (
+            "first\nlast\ncount\nfloor 5\nceiling 5\n",
+            "none\nnone\n0\nnone\nnone\n",
+        ),
+        (
+            "insert 3 30\ninsert 18446744073709551615 1\ninsert 300 7\nfirst\nlast\ncount\nfloor 2\nfloor 3\nfloor 299\n\
+             ceiling 4\nceiling 301\nceiling 18446744073709551615\nremove 3\nfirst\ncount\n",
+            "ok none\nok none\nok none\n3=30\n18446744073709551615=1\n3\nnone\n3=30\n3=30\n\
+             300=7\n18446744073709551615=1\n18446744073709551615=1\n30\n300=7\n2\n",
+        ),
+        (
+            "first 1\nlast 1\ncount 1\nfloor\nfloor 1 2\nfloor x\nceiling\nceiling 01\n",
+            "bad line\nbad line\nbad line\nbad line\nbad line\nbad line\nbad line\nbad line\n",
+        ),
         ("\n", "bad line\n"),
         (
             "get 1\nget x\nGET 1\n\nget  1\nget 1 \n get 1\nget 1\r\nget +1\n",
@@ -198,6 +212,22 @@ fn usage(rt: HostRuntime) -> Result<(), Fail> {
         let is_so = gives(rt.alloc(), words, input, Outcome::of(2, "", USAGE))?;
         assert!(rt; is_so, "at {words:?}");
     }
+    Ok(())
+}
+
+#[test]
+fn help_of_a_run(rt: HostRuntime) -> Result<(), Fail> {
+    let words = ["run", "--help"];
+    let outcome = Outcome {
+        status: 0,
+        written: HELP,
+        told: "",
+        reader_failed: false,
+        writer_failed: false,
+    };
+    assert!(rt; gives(rt.alloc(), &words, "get 1\n".as_bytes(), outcome)?);
+    assert!(rt; HELP.starts_with(b"get K            the value at K, or none\ninsert K V"));
+    assert!(rt; HELP.ends_with(b"ceiling K        the pair of the least key that is at least K\n"));
     Ok(())
 }
 

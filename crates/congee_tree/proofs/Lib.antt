@@ -1,1 +1,4 @@
+pub mod BulkLaws
+pub mod DescendingLaws
+pub mod EmptyLaws
 pub mod Places

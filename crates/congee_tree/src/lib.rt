@@ -1,8 +1,11 @@
 //! The tree under the faces: an ordered map from keys of eight bytes to payloads.
 #![tactic(auto)]
 
+pub mod bulk;
 pub mod by_number;
 pub mod into_pairs;
+mod near;
+mod ranges;
 pub mod sorted_pairs;
 pub mod tree;
 

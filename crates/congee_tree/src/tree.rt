@@ -23,7 +23,6 @@ use std::marker::Model;
 use std::sync::ledger::Ledger;
 use tree_edit::tree::Tree;
 use tree_path::reads::ReadCount;
-use tree_walk::range_scan::{RangeEntry, scan};
 use tree_walk::statistics::count_subtree;
 use tree_walk::walk::{key_from, push_keys};
 
@@ -34,7 +33,7 @@ use tree_walk::walk::{key_from, push_keys};
 /// The budget is charged for each node from before it is made until it is freed, at the latest at the drop of the tree.
 #[derive(Drop)]
 pub struct RawCongee<P: Payload, A: Allocator> {
-    tree: Tree<P, A>,
+    pub(crate) tree: Tree<P, A>,
 }
 
 impl<P: Payload, A: Allocator> Model for RawCongee<P, A> {
@@ -185,29 +184,6 @@ impl<P: Payload, A: Allocator> RawCongee<P, A> {
     }
 }
 
-impl<A: Allocator> RawCongee<u64, A> {
-    ghost use Rattle.std.specs.Prelude.{◌≡◌, ◌++◌, length, map, min, take, drop};
-    ghost use Rattle.std.specs.Int.{from_be_bytes, w64};
-    ghost use Rattle.spec_map.specs.Map.{between};
-
-    /// Writes the first pairs with `start <= key < end`, keys ascending, and returns their number: all of them, or as
-    /// many as the buffer has places for. The places after them are unchanged. Takes no memory.
-    pub fn range<E: RangeEntry>(&self, start: &[u8; 8], end: &[u8; 8], buffer: &mut [E]) -> usize
-        ensures count { let first = from_be_bytes w64 start.now in
-            let past = from_be_bytes w64 end.now in
-            result ≡ min (length buffer.old) (length (between self.now.pairs first past)) }
-        ensures written { let first = from_be_bytes w64 start.now in
-            let past = from_be_bytes w64 end.now in
-            let entries = map (λ pair. E.entry pair.0 pair.1) (between self.now.pairs first past) in
-            buffer.new ≡ take result entries ++ drop result buffer.old }
-    {
-        let first = u64::from_be_bytes(*start);
-        let past = u64::from_be_bytes(*end);
-        let (nodes, root) = self.tree.table();
-        scan(nodes, root, first, past, buffer, 0)
-    }
-}
-
 impl<P: Payload, A: Allocator> RawCongee<P, A> {
     ghost use Rattle.std.specs.Prelude.{◌≡◌, IfOk, map};
     ghost use Rattle.std.specs.List.{FoldsTo};
@@ -254,5 +230,18 @@ impl<P: Payload, A: Allocator> RawCongee<P, A> {
         while let Some((key, payload)) = pairs.next() {
             f(key, payload);
         }
+    }
+}
+
+impl<P: Payload, A: Allocator> RawCongee<P, A> {
+    ghost use Rattle.std.specs.Prelude.{◌≡◌, []};
+    ghost use Rattle.tree_edit.specs.Tree.{root_alone};
+
+    /// The law that a tree without pairs has the root alone.
+    pub fn law_empty(&self)
+        ensures { self.now.pairs ≡ [] → self.now.nodes ≡ root_alone }
+    {
+        let _ = self.tree.table();
+        let _ = self.tree.charged();
     }
 }

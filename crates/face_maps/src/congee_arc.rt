@@ -7,6 +7,8 @@ ghost use Rattle.spec_map.specs.Map.{lookup, IsMap};
 ghost use Rattle.tree_edit.specs.TreeCalls.{IsNew, IsChargeOf, Removes, Inserts, ComputesIfPresent};
 ghost use Rattle.tree_edit.specs.Tree.{root_alone};
 
+mod bulk;
+
 use congee_tree::by_number;
 use congee_tree::tree::RawCongee;
 use node_table::allocator::{Allocator, DefaultAllocator};
@@ -31,7 +33,7 @@ pub type CongeeArc<K, V, A = DefaultAllocator> = PayloadCongee<K, Arc<V>, A>;
 /// tree.
 #[derive(Drop)]
 pub struct PayloadCongee<K: Word, P: Payload, A: Allocator = DefaultAllocator> {
-    tree: RawCongee<P, A>,
+    pub(crate) tree: RawCongee<P, A>,
     of: PhantomData<K>,
 }
 

@@ -2,5 +2,7 @@
 #![tactic(auto)]
 
 pub mod congee_arc;
+pub mod many;
+mod near;
 pub mod typed_congee;
 pub mod u64_congee;

@@ -1,6 +1,6 @@
 //! `Congee`, the map from keys to values that are stored as numbers.
 
-ghost use Rattle.std.specs.Prelude.{◌≡◌, ◌≢◌, ℕ, [], Option, Some, None, Ok, Err, IfOk, OnOk, OnErr, IsTrue, ◌↔◌, ◌+◌, ◌<◌, ◌^◌, ◌++◌, length, min, map, take, drop, option_copied};
+ghost use Rattle.std.specs.Prelude.{◌≡◌, ◌≢◌, ℕ, [], Option, Some, None, Ok, Err, IfOk, OnOk, OnErr, IsTrue, ◌↔◌, ◌+◌, ◌<◌, ◌^◌, ◌++◌, length, min, map, take, drop, reverse, option_copied};
 ghost use Rattle.std.specs.List.{FoldsTo};
 ghost use Rattle.std.specs.Option.{option_map};
 ghost use Rattle.spec_map.specs.Map.{lookup, put, without, with_answer, between, IsMap};
@@ -8,6 +8,8 @@ ghost use Rattle.congee_tree.specs.Stats.{AreStatsOf};
 ghost use Rattle.spec_map.specs.Refusal.{NeedsNode};
 ghost use Rattle.tree_edit.specs.TreeCalls.{IsNew, IsChargeOf};
 ghost use Rattle.tree_edit.specs.Tree.{ChargesForNodes, StoresSame};
+
+mod bulk;
 
 use congee_tree::by_number;
 use congee_tree::tree::RawCongee;
@@ -29,7 +31,7 @@ use tree_walk::range_scan::RangeEntry;
 /// The allocator `A` is charged for each node of the map's tree. When the map is dropped, its drainer is called with
 /// each pair, keys ascending.
 pub struct Congee<K: Word, V: Word, A: Allocator = DefaultAllocator, D: Drainer<K, V> = NoDrain> {
-    tree: RawCongee<u64, A>,
+    pub(crate) tree: RawCongee<u64, A>,
     drainer: D,
     of: PhantomData<(K, V)>,
 }
@@ -176,6 +178,62 @@ impl<K: Word, V: Word, A: Allocator, D: Drainer<K, V>> Congee<K, V, A, D> {
     {
         self.tree
             .range(&start.to_be_bytes(), &end.to_be_bytes(), buffer)
+    }
+
+    /// As `range`, with the pair at `last` too, which can be the greatest key.
+    pub fn range_inclusive(&self, start: &K, last: &K, buffer: &mut [(u64, u64)]) -> usize
+        ensures count { result ≡ min (length buffer.old)
+            (length (between self.now.pairs (K.number start.now) (K.number last.now + 1))) }
+        ensures written { buffer.new
+            ≡ take result (between self.now.pairs (K.number start.now) (K.number last.now + 1))
+            ++ drop result buffer.old }
+    {
+        self.range_inclusive_of(start.into_u64(), last.into_u64(), buffer)
+    }
+
+    /// The same for entries of another kind.
+    pub fn range_inclusive_of<E: RangeEntry>(
+        &self,
+        start: u64,
+        last: u64,
+        buffer: &mut [E],
+    ) -> usize
+        ensures count { result
+            ≡ min (length buffer.old) (length (between self.now.pairs start (last + 1))) }
+        ensures written { let pairs = between self.now.pairs start (last + 1) in
+            let entries = map (λ pair. E.entry pair.0 pair.1) pairs in
+            buffer.new ≡ take result entries ++ drop result buffer.old }
+    {
+        self.tree.range_inclusive(start, last, buffer)
+    }
+
+    /// Writes the last pairs, by their numbers, with keys from `start` on and up to `last` to the buffer, descending, as
+    /// many as there are or as fit, and returns how many. The rest of the buffer is unchanged. Takes no memory, and
+    /// reads two paths through the tree for each pair at most.
+    pub fn range_descending(&self, start: &K, last: &K, buffer: &mut [(u64, u64)]) -> usize
+        ensures count { result ≡ min (length buffer.old)
+            (length (between self.now.pairs (K.number start.now) (K.number last.now + 1))) }
+        ensures written { let first = K.number start.now in
+            let pairs = reverse (between self.now.pairs first (K.number last.now + 1)) in
+            buffer.new ≡ take result pairs ++ drop result buffer.old }
+    {
+        self.range_descending_of(start.into_u64(), last.into_u64(), buffer)
+    }
+
+    /// The same for entries of another kind.
+    pub fn range_descending_of<E: RangeEntry>(
+        &self,
+        start: u64,
+        last: u64,
+        buffer: &mut [E],
+    ) -> usize
+        ensures count { result
+            ≡ min (length buffer.old) (length (between self.now.pairs start (last + 1))) }
+        ensures written { let pairs = reverse (between self.now.pairs start (last + 1)) in
+            let entries = map (λ pair. E.entry pair.0 pair.1) pairs in
+            buffer.new ≡ take result entries ++ drop result buffer.old }
+    {
+        self.tree.range_descending(start, last, buffer)
     }
 
     /// The keys, ascending, each read back from its number. `OOMError` comes where there is no memory for their list.

@@ -1,12 +1,14 @@
 //! `U64Congee`, the map from numbers to values that are stored as numbers.
 
-ghost use Rattle.std.specs.Prelude.{◌≡◌, ℕ, [], ◌++◌, length, min, map, take, drop, IfOk, OnOk, OnErr};
+ghost use Rattle.std.specs.Prelude.{◌≡◌, ℕ, [], ◌+◌, ◌++◌, length, min, map, take, drop, reverse, IfOk, OnOk, OnErr};
 ghost use Rattle.std.specs.Int.{to_be_bytes, w64};
 ghost use Rattle.std.specs.Option.{option_map};
 ghost use Rattle.spec_map.specs.Map.{lookup, put, without, between, IsMap};
 ghost use Rattle.spec_map.specs.Refusal.{NeedsNode};
 ghost use Rattle.tree_edit.specs.TreeCalls.{IsNew, IsChargeOf};
 ghost use Rattle.tree_edit.specs.Tree.{root_alone, ChargesForNodes, StoresSame};
+
+mod bulk;
 
 use crate::typed_congee::Congee;
 use node_table::allocator::{Allocator, DefaultAllocator};
@@ -21,7 +23,7 @@ use std::marker::Model;
 /// The allocator `A` is charged for each node of the map's tree.
 #[derive(Drop)]
 pub struct U64Congee<V: Word, A: Allocator = DefaultAllocator> {
-    map: Congee<u64, V, A>,
+    pub(crate) map: Congee<u64, V, A>,
 }
 
 impl<V: Word, A: Allocator> Model for U64Congee<V, A> {
@@ -115,5 +117,29 @@ impl<V: Word, A: Allocator> U64Congee<V, A> {
             ++ drop result buffer.old }
     {
         self.map.range_of(start, end, buffer)
+    }
+
+    /// As `range`, with the pair at `last` too, which can be the greatest key.
+    pub fn range_inclusive(&self, start: u64, last: u64, buffer: &mut [([u8; 8], u64)]) -> usize
+        ensures count { result
+            ≡ min (length buffer.old) (length (between self.now.pairs start (last + 1))) }
+        ensures written { let pairs = between self.now.pairs start (last + 1) in
+            let entries = map (λ pair. (to_be_bytes w64 pair.0, pair.1)) pairs in
+            buffer.new ≡ take result entries ++ drop result buffer.old }
+    {
+        self.map.range_inclusive_of(start, last, buffer)
+    }
+
+    /// Writes the last pairs with keys from `start` on and up to `last` to the buffer, descending, as many as there are
+    /// or as fit, and returns how many: each as `range` does. The rest of the buffer is unchanged. Takes no memory, and
+    /// reads two paths through the tree for each pair at most.
+    pub fn range_descending(&self, start: u64, last: u64, buffer: &mut [([u8; 8], u64)]) -> usize
+        ensures count { result
+            ≡ min (length buffer.old) (length (between self.now.pairs start (last + 1))) }
+        ensures written { let pairs = reverse (between self.now.pairs start (last + 1)) in
+            let entries = map (λ pair. (to_be_bytes w64 pair.0, pair.1)) pairs in
+            buffer.new ≡ take result entries ++ drop result buffer.old }
+    {
+        self.map.range_descending_of(start, last, buffer)
     }
 }

@@ -2,7 +2,7 @@
 use Rattle.std.proofs.Common.{◌≡◌, ℕ, List, [], ◌∷◌, Some, None, ◌⊎◌, inl, inr, nat_eq, refl, ap, subst, ◌∙◌, sym}
 use Rattle.std.specs.List.{AllZip}
 use Rattle.spec_map.specs.Map.{Pairs}
-use Rattle.spec_map.specs.Call.{Call, get, insert, remove, compare_exchange, compute_if_present, compute_or_insert, is_empty, keys, range, Answer, replied, refused, Operation}
+use Rattle.spec_map.specs.Call.{Call, get, insert, remove, compare_exchange, compute_if_present, compute_or_insert, is_empty, keys, range, nearest, count, Answer, replied, refused, Operation}
 use Rattle.spec_map.specs.Refusal.{MayRunOut}
 use Rattle.spec_map.specs.Legal.{IsLegal, after_answer, after_operation}
 use Rattle.face_runs.specs.Calls.{call_of, IsOperation, AreOperations, AreLegalAnswers}
@@ -26,6 +26,8 @@ module _ {K V P : Type 0} where
   is_or_isnt (compute_or_insert k) answer = inr (λ h. h)
   is_or_isnt is_empty answer = inr (λ h. h)
   is_or_isnt keys answer = inr (λ h. h)
+  is_or_isnt (nearest near) answer = inr (λ h. h)
+  is_or_isnt count answer = inr (λ h. h)
 
   is_refused : (call : Call K V) (answer : Answer K V P) → IsRefusedRange call answer → answer ≡ refused
   is_refused (range a b limit) refused h = refl
@@ -38,6 +40,8 @@ module _ {K V P : Type 0} where
   is_refused (compute_or_insert k) answer h = absurd h
   is_refused is_empty answer h = absurd h
   is_refused keys answer h = absurd h
+  is_refused (nearest near) answer h = absurd h
+  is_refused count answer h = absurd h
 
 module _ {K V : Type 0} (c : Conversion K V ℕ) (r : MayRunOut) where
   -- a refusal is read from one

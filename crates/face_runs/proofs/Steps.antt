@@ -1,18 +1,19 @@
 -- Single calls as runs, and one run after another.
-use Rattle.std.proofs.Common.{◌≡◌, ◌≢◌, ℕ, Bool, true, false, IsTrue, ◌↔◌, List, [], ◌∷◌, ◌++◌, Option, Some, None, Result, Ok, Err, length, map, take, nat_eq, refl, ap, ◌∙◌, inl, inr, arith}
+use Rattle.std.proofs.Common.{◌≡◌, ◌≢◌, ℕ, Bool, true, false, IsTrue, ◌↔◌, List, [], ◌∷◌, ◌++◌, Option, Some, None, Result, Ok, Err, length, map, take, nat_eq, refl, sym, ap, ◌∙◌, inl, inr, arith}
 use Rattle.std.specs.Option.{option_map}
 use Rattle.std.proofs.lemmas.List.{map-append}
 use Rattle.std.proofs.lemmas.Bool.{eq-eqb, ne_eqb, cases_eq}
 use Rattle.spec_map.specs.Map.{Pairs, lookup, put, without, with_answer, between}
-use Rattle.spec_map.specs.Call.{compare_exchange, ClosureCall, Answer, old_value, exchanged, computed, tested, listed, ranged, replied, refused, Operation}
+use Rattle.spec_map.specs.Call.{Near, nearest, compare_exchange, ClosureCall, Answer, old_value, exchanged, computed, tested, listed, ranged, found, counted, replied, refused, Operation}
+use Rattle.spec_map.specs.Near.{pair_near}
 use Rattle.spec_map.specs.Refusal.{MayRunOut, at_new_node, NeedsNode}
 use Rattle.spec_map.specs.Legal.{MayAnswer, after_answer, after_exchange, exchange, AnswersBy}
-use Rattle.face_runs.specs.Conversion.{Conversion, converted, exchange_read, answer_read}
+use Rattle.face_runs.specs.Conversion.{Conversion, converted, near_number, pair_read, exchange_read, answer_read}
 use Rattle.face_runs.proofs.ReadRuns.{IsLegalRead-append}
 use Rattle.face_runs.specs.declared.calls.Call.{Call as FaceCall}
-use Rattle.face_runs.specs.declared.calls.Call.TheVariants.{Get, Insert, Remove, CompareExchange, ComputeIfPresent, ComputeOrInsert, IsEmpty, Keys, Range}
+use Rattle.face_runs.specs.declared.calls.Call.TheVariants.{Get, Insert, Remove, CompareExchange, ComputeIfPresent, ComputeOrInsert, IsEmpty, Keys, Range, ValueCount}
 use Rattle.face_runs.specs.declared.calls.Reply.{Reply}
-use Rattle.face_runs.specs.declared.calls.Reply.TheVariants.{Old, Exchanged, Computed, Tested, Refused}
+use Rattle.face_runs.specs.declared.calls.Reply.TheVariants.{Old, Exchanged, Computed, Tested, Found, Counted, Refused}
 use Rattle.face_runs.specs.Calls.{call_of, closure_of, answer_of, AreOperations, AreLegalAnswers, AreLegalReplies, IsLegalReply}
 
 module _ {K V : Type 0} where
@@ -33,6 +34,10 @@ module _ {K V : Type 0} where
     are = are-append calls calls' answers answers' run.operations step.operations run.are step.are;
     legal = IsLegalRead-append c nat_eq r m k n run.operations step.operations run.legal step.legal;
   }
+
+  -- a run of no calls
+  pub run_of_none : (c : Conversion K V ℕ) (r : MayRunOut) (m : Pairs ℕ) (replies : List (Reply K V)) → replies ≡ [] → AreLegalReplies c r m [] replies m
+  run_of_none c r m replies none = rw none (record { operations = []; are = tt; legal = record { plain = []; legal = refl; read = tt } })
 
   -- a run with one call more
   pub run_more : (c : Conversion K V ℕ) (r : MayRunOut) (m k n : Pairs ℕ) (calls : List (FaceCall K V)) (replies : List (Reply K V)) (call : FaceCall K V) (reply : Reply K V)
@@ -156,3 +161,20 @@ module _ {K V : Type 0} (c : Conversion K V ℕ) (m n : Pairs ℕ) where
   -- a range that finds no memory for its pairs
   pub range_refused : (start end : K) (limit : ℕ) → n ≡ m → IsLegalReply c at_new_node m (Range start end limit) Refused n
   range_refused start end limit same = step_of c m n (Range start end limit) Refused None refused tt (refl, tt) same refl
+
+-- what asks for one pair, or for how many there are
+module _ {K V : Type 0} (c : Conversion K V ℕ) (m : Pairs ℕ) where
+  pub near_step : (call : FaceCall K V) (near : Near K) (pair : Option (K × V)) → call_of call ≡ nearest near → pair ≡ option_map (pair_read c) (pair_near m (near_number c near))
+      → IsLegalReply c at_new_node m call (Found pair) m
+  near_step call near pair asks is = record {
+    operations = record { call = nearest near; asked = None; answer = replied (found pair) } ∷ [];
+    are = (record { called = sym asks; asked = tt; answered = refl }, tt);
+    legal = record {
+      plain = record { call = nearest (near_number c near); asked = None; answer = replied (found (pair_near m (near_number c near))) } ∷ [];
+      legal = ((refl, refl), refl);
+      read = (record { call = refl; asked = refl; answer = ap (λ p. replied (found p)) is }, tt);
+    };
+  }
+
+  pub count_step : (n : ℕ) → n ≡ length m → IsLegalReply c at_new_node m ValueCount (Counted n) m
+  count_step n is = step_of c m m ValueCount (Counted n) None (replied (counted (length m))) tt (refl, refl) refl (ap (λ k. replied (counted k)) is)

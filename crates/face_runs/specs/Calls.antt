@@ -1,15 +1,15 @@
 -- Calls of a face and their replies, as a legal run of one map.
 use Rattle.std.specs.Prelude.{◌≡◌, ℕ, List, [], ◌∷◌, Option, Some, None, map, nat_eq}
 use Rattle.spec_map.specs.Map.{Pairs}
-use Rattle.spec_map.specs.Call.{Call, get, insert, remove, compare_exchange, compute_if_present, compute_or_insert, is_empty, keys, range}
-use Rattle.spec_map.specs.Call.{Answer, old_value, exchanged, computed, tested, listed, ranged, replied, refused, Operation}
+use Rattle.spec_map.specs.Call.{Call, get, insert, remove, compare_exchange, compute_if_present, compute_or_insert, is_empty, keys, range, nearest, count, first, last, floor, below, ceiling, above}
+use Rattle.spec_map.specs.Call.{Answer, old_value, exchanged, computed, tested, listed, ranged, found, counted, replied, refused, Operation}
 use Rattle.spec_map.specs.Legal.{AnswersBy}
 use Rattle.spec_map.specs.Refusal.{MayRunOut}
 use Rattle.face_runs.specs.Conversion.{Conversion, IsLegalRead}
 use Rattle.face_runs.specs.declared.calls.Call.{Call as FaceCall}
-use Rattle.face_runs.specs.declared.calls.Call.TheVariants.{Get, Insert, Remove, CompareExchange, ComputeIfPresent, ComputeOrInsert, IsEmpty, Keys, Range}
+use Rattle.face_runs.specs.declared.calls.Call.TheVariants.{Get, Insert, Remove, CompareExchange, ComputeIfPresent, ComputeOrInsert, IsEmpty, Keys, Range, First, Last, Floor, Below, Ceiling, Above, ValueCount}
 use Rattle.face_runs.specs.declared.calls.Reply.{Reply}
-use Rattle.face_runs.specs.declared.calls.Reply.TheVariants.{Old, Exchanged, Computed, Tested, Listed, Ranged, Refused}
+use Rattle.face_runs.specs.declared.calls.Reply.TheVariants.{Old, Exchanged, Computed, Tested, Listed, Ranged, Found, Counted, Refused}
 
 -- keys and values are stored as the numbers that they are written as
 abbrev pub by_numbers : {K V : Type 0} → (K → ℕ) → (ℕ → K) → (V → ℕ) → (ℕ → V) → Conversion K V ℕ
@@ -27,6 +27,13 @@ module _ {K V : Type 0} where
   call_of IsEmpty = is_empty
   call_of Keys = keys
   call_of (Range start end limit) = range start end limit
+  call_of First = nearest first
+  call_of Last = nearest last
+  call_of (Floor key) = nearest (floor key)
+  call_of (Below key) = nearest (below key)
+  call_of (Ceiling key) = nearest (ceiling key)
+  call_of (Above key) = nearest (above key)
+  call_of ValueCount = count
 
   -- what a call's closure returns, for any argument
   abbrev pub closure_of : FaceCall K V → Option ℕ → Option ℕ
@@ -41,6 +48,8 @@ module _ {K V : Type 0} where
   answer_of (Tested b) = replied (tested b)
   answer_of (Listed ks) = replied (listed ks.items)
   answer_of (Ranged pairs) = replied (ranged pairs.items)
+  answer_of (Found pair) = replied (found pair)
+  answer_of (Counted n) = replied (counted n)
   answer_of Refused = refused
 
   -- the operation is this call with this answer

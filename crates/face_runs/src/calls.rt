@@ -34,6 +34,20 @@ pub enum Call<K: Copy, V: Copy> {
     Keys,
     /// The first pairs with keys from the first one on and below the second, at most so many.
     Range(K, K, usize),
+    /// The pair of the least key.
+    First,
+    /// The pair of the greatest key.
+    Last,
+    /// The pair of the greatest key that is at most this one.
+    Floor(K),
+    /// The pair of the greatest key below this one.
+    Below(K),
+    /// The pair of the least key that is at least this one.
+    Ceiling(K),
+    /// The pair of the least key above this one.
+    Above(K),
+    /// How many pairs there are.
+    ValueCount,
 }
 
 /// What a call returns.
@@ -51,6 +65,10 @@ pub enum Reply<K: Copy, V: Copy> {
     Listed(Vec<K>),
     /// The pairs of a range by their numbers, ascending.
     Ranged(Vec<(u64, u64)>),
+    /// A pair, if there is one.
+    Found(Option<(K, V)>),
+    /// A count of pairs.
+    Counted(u128),
     /// There was no memory for it, and nothing was changed.
     Refused,
 }
@@ -88,6 +106,13 @@ pub fn make_call<K: Word, V: Word, A: Allocator, D: Drainer<K, V>>(
             Ok(pairs) => Reply::Ranged(pairs),
             Err(_) => Reply::Refused,
         },
+        Call::First => Reply::Found(map.first()),
+        Call::Last => Reply::Found(map.last()),
+        Call::Floor(key) => Reply::Found(map.floor(key)),
+        Call::Below(key) => Reply::Found(map.below(key)),
+        Call::Ceiling(key) => Reply::Found(map.ceiling(key)),
+        Call::Above(key) => Reply::Found(map.above(key)),
+        Call::ValueCount => Reply::Counted(map.value_count()),
     }
 }
 

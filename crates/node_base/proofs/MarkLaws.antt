@@ -1,12 +1,12 @@
 -- One bit a byte, and the places of the bytes whose bit is set.
-use Rattle.std.proofs.Common.{◌≡◌, ◌≢◌, ℕ, zero, suc, ◌+◌, ◌-◌, ◌*◌, ◌/◌, ◌%◌, ◌^◌, ◌<◌, ◌≤◌, List, length, get_or, slice_get, slice_index, set, replicate, None, refl, ap, sym, subst, ◌∙◌, arith, inl, inr, w64}
+use Rattle.std.proofs.Common.{◌≡◌, ◌≢◌, ℕ, zero, suc, ◌+◌, ◌-◌, ◌*◌, ◌/◌, ◌%◌, ◌^◌, ◌<◌, ◌≤◌, bit_and, List, length, get_or, slice_get, slice_index, set, replicate, None, refl, ap, sym, subst, ◌∙◌, arith, inl, inr, w64, pow-suc}
 use Rattle.std.specs.Int.{bit_at}
 use Rattle.std.specs.Int.Count.{count_trailing_zeros}
 use Rattle.std.proofs.lemmas.Option.{slice_get_past}
 use Rattle.std.proofs.lemmas.Nat.{pow_pos}
 use Rattle.std.proofs.lemmas.Bool.{cases_eq, cases_lt, eq-eqb, ne_eqb}
 use Rattle.std.proofs.lemmas.List.{get_or-set_same, get_or-set_other, get_or_past}
-use Rattle.std.proofs.lemmas.Nat.Bits.{bit_at-zero, bit_at_above, bit_at_cat_high, bit_at-trailing_zeros}
+use Rattle.std.proofs.lemmas.Nat.Bits.{bit_at-zero, bit_at-lt, bit_at_and, bit_at_ones, bit_at_ones_above, ones_shr, bit_at_above, bit_at_cat_high, bit_at-trailing_zeros}
 use Rattle.std.proofs.Math.Nat.{div-add-mod, div-le_self, mod-lt, mul_comm}
 use Rattle.node_base.specs.inner.Marked.{mark_at, marked_place, marked_child}
 use Rattle.node_base.specs.inner.Row.{at_place, under}
@@ -72,6 +72,57 @@ module _ (ws : List ℕ) (at word : ℕ) (is : word ≡ get_or ws (at / 64) 0 / 
         mark-shifted (count_trailing_zeros 64 word) inside ∙ h.1,
         λ i l m. (let e : i ≡ at + (i - at) = omega arith in
             ap (mark_at ws) e ∙ mark-shifted (i - at) (omega (arith, inside)) ∙ h.2 (i - at) (omega arith)),
+      )
+
+-- the highest bit of a number
+pub highest_bit : (n k : ℕ) → 2 ^ k ≤ n → n < 2 * 2 ^ k → (bit_at n k ≡ 1) × ((i : ℕ) → k < i → bit_at n i ≡ 0)
+highest_bit n k from to =
+    let one : n / 2 ^ k ≡ 1 = let parts = div-add-mod n (2 ^ k) in let rest = mod-lt n {m = 2 ^ k} (pow_pos k) in quotient (2 ^ k) (n / 2 ^ k) (n % 2 ^ k) n (omega (arith, parts)) rest from to in
+    (ap (λ q. q % 2) one, λ i more. bit_at_above n (suc k) i (omega (arith, pow-suc 2 k, to)) (omega arith))
+  where
+    quotient : (p q r n : ℕ) → p * q + r ≡ n → r < p → p ≤ n → n < 2 * p → q ≡ 1
+    quotient p zero r n is less from to = absurd (omega (arith, is, less, from))
+    quotient p (suc zero) r n is less from to = refl
+    quotient p (suc (suc q)) r n is less from to = absurd (omega (arith, is, less, from, to))
+
+-- the bits of a word below those of a number
+module _ (ws : List ℕ) (at first word : ℕ) (begins : first ≡ (at - 1) / 64 * 64) (some : 0 < at) (is : word ≡ bit_and (get_or ws (first / 64) 0) ((2 ^ 64 - 1) / 2 ^ (first + 64 - at))) where
+  mark-masked : (i : ℕ) → first ≤ i → i < at → mark_at ws i ≡ bit_at word (i - first)
+  mark-masked i from to =
+      let q : i / 64 ≡ first / 64 = omega (arith, begins) in
+      let r : i % 64 ≡ i - first = omega (arith, begins) in
+      let ones : bit_at ((2 ^ 64 - 1) / 2 ^ (first + 64 - at)) (i - first) ≡ 1 =
+      ap (λ x. bit_at x (i - first)) (ones_shr 64 (first + 64 - at) (omega (arith, begins))) ∙ bit_at_ones (64 - (first + 64 - at)) (i - first) (omega (arith, begins)) in
+      let small = bit_at-lt (get_or ws (first / 64) 0) (i - first) in
+      let both = bit_at_and (get_or ws (first / 64) 0) ((2 ^ 64 - 1) / 2 ^ (first + 64 - at)) (i - first) in
+      ap (λ x. bit_at (get_or ws x 0) (i % 64)) q
+      ∙ ap (bit_at (get_or ws (first / 64) 0)) r
+      ∙ omega (arith, small, ones, both)
+      ∙ ap (λ x. bit_at x (i - first)) (sym is)
+
+  -- no bit is set in what is left of an empty word
+  pub none_marked_below : word ≡ 0 → (i : ℕ) → first ≤ i → i < at → mark_at ws i ≡ 0
+  none_marked_below zero' i from to = mark-masked i from to ∙ ap (λ x. bit_at x (i - first)) zero' ∙ bit_at-zero (i - first)
+
+  -- the highest bit that is set
+  pub last_marked_is : (top : ℕ) → 2 ^ top ≤ word → word < 2 * 2 ^ top → (first + top < at) × (mark_at ws (first + top) ≡ 1) × ((i : ℕ) → first + top < i → i < at → mark_at ws i ≡ 0)
+  last_marked_is top from to =
+      let h = highest_bit word top from to in
+      let inside : first + top < at =
+      elim (cases_lt (first + top) at) [
+        | inl below ↦ below
+        | inr above ↦
+            absurd (let none : bit_at ((2 ^ 64 - 1) / 2 ^ (first + 64 - at)) top ≡ 0 =
+            ap (λ x. bit_at x top) (ones_shr 64 (first + 64 - at) (omega (arith, begins))) ∙ bit_at_ones_above (64 - (first + 64 - at)) top (omega (arith, begins, above)) in
+            let both = bit_at_and (get_or ws (first / 64) 0) ((2 ^ 64 - 1) / 2 ^ (first + 64 - at)) top in
+            let zero' : bit_at word top ≡ 0 = ap (λ x. bit_at x top) is ∙ omega (arith, both, none) in
+            omega (arith, h.0, zero'))
+      ]
+      in
+      let back : first + top - first ≡ top = omega arith in (
+        inside,
+        mark-masked (first + top) (omega arith) inside ∙ ap (bit_at word) back ∙ h.0,
+        λ i more less. mark-masked i (omega arith) less ∙ h.1 (i - first) (omega arith),
       )
 
 -- the bits past the last word aren't set

@@ -2,7 +2,9 @@
 
 ghost use Rattle.std.specs.Prelude.{◌≡◌, ◌↔◌, ℕ, ◌+◌, ◌-◌, ◌<◌, ◌≤◌, List, [], ◌∷◌, ◌++◌, length, take, replicate, IsTrue, false, IsSome, Some, None, IfOk, IfErr, OnOk, OnErr, option_copied};
 ghost use Rattle.std.specs.Int.{w64, to_be_bytes, from_be_bytes};
+ghost use Rattle.std.specs.Option.{option_map};
 ghost use Rattle.spec_map.specs.Map.{lookup, put, without, between, Rises};
+ghost use Rattle.spec_map.specs.Near.{below_of};
 ghost use Rattle.node_base.specs.Form.{Fits, stated_size};
 ghost use Rattle.node_base.specs.Rest.{rest};
 
@@ -222,6 +224,11 @@ pub trait Node<C>: Drop + Sized {
     fn get_children(&self, start: u8, end: u8) -> NodeIter<'_, C>
         ensures children { rest result ≡ between (children self.now) start (end + 1) }
         ensures ascending { Rises 0 256 (children self.now) };
+
+    /// The greatest byte below `to` that has a child.
+    fn last_byte(&self, to: usize) -> Option<u8>
+        requires { to ≤ 256 }
+        ensures { result ≡ option_map (λ found. found.0) (below_of (children self.now) to) };
 
     /// Adds a child under a byte that has none, in a node that is not full.
     fn insert(&mut self, byte: u8, child: C)

@@ -4,8 +4,10 @@
 //! alignment 1 and fills those bytes: so a node in a table of nodes is as large as one cache line, its slot's tag
 //! included.
 
-ghost use Rattle.std.specs.Prelude.{◌≡◌, ℕ, ◌+◌, ◌<◌, List, [], length, None, Some, IfOk, IfErr, OnOk, OnErr, option_copied};
+ghost use Rattle.std.specs.Prelude.{◌≡◌, ℕ, ◌+◌, ◌<◌, ◌≤◌, List, [], length, None, Some, IfOk, IfErr, OnOk, OnErr, option_copied};
+ghost use Rattle.std.specs.Option.{option_map};
 ghost use Rattle.spec_map.specs.Map.{lookup, put, without, between, Rises};
+ghost use Rattle.spec_map.specs.Near.{below_of};
 ghost use Rattle.node_base.specs.Form.{Fits};
 ghost use Rattle.node_base.specs.Rest.{rest};
 
@@ -58,6 +60,12 @@ pub trait Head<C>: Sized {
         requires { IsNode self.now row.now }
         ensures children { rest result ≡ between (children self.now row.now) start (end + 1) }
         ensures ascending { Rises 0 256 (children self.now row.now) };
+
+    /// The greatest byte below `to` that has a child.
+    fn last_byte(&self, row: &Self::Row, to: usize) -> Option<u8>
+        requires node { IsNode self.now row.now }
+        requires within { to ≤ 256 }
+        ensures { result ≡ option_map (λ found. found.0) (below_of (children self.now row.now) to) };
 
     /// Adds a child under a byte that has none, in a node that is not full.
     fn insert(&mut self, row: &mut Self::Row, byte: u8, child: C)
@@ -114,6 +122,10 @@ impl<C, N: Node<C>> Head<C> for Whole<N> {
 
     fn get_children<'a>(&'a self, _row: &'a Own, start: u8, end: u8) -> NodeIter<'a, C> {
         self.node.get_children(start, end)
+    }
+
+    fn last_byte(&self, _row: &Own, to: usize) -> Option<u8> {
+        self.node.last_byte(to)
     }
 
     fn insert(&mut self, _row: &mut Own, byte: u8, child: C) {

@@ -62,3 +62,23 @@ pub fn next_marked(words: &[u64; 4], from: usize) -> Option<u8>
     }
     None
 }
+
+/// The last byte below this number whose bit is set, or `None`. A word is looked at in one step.
+pub fn last_marked(words: &[u64; 4], to: usize) -> Option<u8>
+    requires { to ≤ 256 }
+    ensures order { IfSome result (λ byte. byte < to) }
+    ensures here { IfSome result (λ byte. mark_at words.now byte ≡ 1) }
+    ensures free { IfSome result (λ byte. (i : ℕ) → byte < i → i < to → mark_at words.now i ≡ 0) }
+    ensures none { IfNone result ((i : ℕ) → i < to → mark_at words.now i ≡ 0) }
+{
+    let mut at = to;
+    while at > 0 {
+        let first = (at - 1) / 64 * 64;
+        let word = words[first / 64] & (u64::MAX >> (first + 64 - at));
+        if word != 0 {
+            return Some((first + word.ilog2() as usize) as u8);
+        }
+        at = first;
+    }
+    None
+}

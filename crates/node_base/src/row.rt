@@ -110,6 +110,25 @@ pub fn next_placed(index: &[u8; 256], from: usize, count: usize) -> Option<u8>
     None
 }
 
+/// The last byte below this number whose place is below a count, or `None`.
+pub fn last_placed(index: &[u8; 256], to: usize, count: usize) -> Option<u8>
+    requires { to ≤ 256 }
+    ensures order { IfSome result (λ byte. byte < to) }
+    ensures here { IfSome result (λ byte. slice_index index.now byte < count) }
+    ensures free { IfSome result (λ byte. (b : ℕ) → byte < b → b < to
+        → count ≤ slice_index index.now b) }
+    ensures none { IfNone result ((b : ℕ) → b < to → count ≤ slice_index index.now b) }
+{
+    let mut at = to;
+    while at > 0 {
+        at -= 1;
+        if (index[at] as usize) < count {
+            return Some(at as u8);
+        }
+    }
+    None
+}
+
 /// Whether each byte has its own number as its place.
 pub fn is_by_byte(index: &[u8; 256]) -> bool
     ensures { IsTrue result → (b : ℕ) → b < 256 → slice_index index.now b ≡ b }

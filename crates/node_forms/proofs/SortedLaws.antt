@@ -116,7 +116,7 @@ module _ {C : Type 0} where
       ]
 
   -- the part between two bytes, by their places
-  between-take : (a s e : ℕ) (es : List (ℕ × C)) → Rises a 256 es → s ≤ a → take (count_below es e) es ≡ between es s e
+  pub between-take : (a s e : ℕ) (es : List (ℕ × C)) → Rises a 256 es → s ≤ a → take (count_below es e) es ≡ between es s e
   between-take a s e [] h l = refl
   between-take a s e (x ∷ xs) h l =
       elim (cases_lt x.0 e) [

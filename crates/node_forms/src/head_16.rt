@@ -112,6 +112,16 @@ impl<C: Drop> Head<C> for Head16 {
         })
     }
 
+    fn last_byte(&self, row: &Vec<C>, to: usize) -> Option<u8> {
+        let count = row.len();
+        let i = if to > 255 {
+            count
+        } else {
+            rank(&self.keys, count, to as u8)
+        };
+        if i == 0 { None } else { Some(self.keys[i - 1]) }
+    }
+
     fn insert(&mut self, row: &mut Vec<C>, byte: u8, child: C) {
         let count = row.len();
         let i = rank(&self.keys, count, byte);

@@ -73,6 +73,12 @@ impl<C: Drop> Head<C> for Head4 {
         })
     }
 
+    fn last_byte(&self, _row: &Few<C>, to: usize) -> Option<u8> {
+        let count = self.base.value_count() as usize;
+        let i = place(&self.keys, count, to);
+        if i == 0 { None } else { Some(self.keys[i - 1]) }
+    }
+
     fn insert(&mut self, row: &mut Few<C>, byte: u8, child: C) {
         let count = self.base.value_count() as usize;
         let i = place(&self.keys, count, byte as usize);

@@ -92,6 +92,10 @@ impl<C: Drop> Node<C> for Node16<C> {
         self.head.get_children(&self.children, start, end)
     }
 
+    fn last_byte(&self, to: usize) -> Option<u8> {
+        self.head.last_byte(&self.children, to)
+    }
+
     fn insert(&mut self, byte: u8, child: C) {
         self.head.insert(&mut self.children, byte, child);
     }

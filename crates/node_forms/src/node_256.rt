@@ -7,7 +7,7 @@ ghost use Rattle.node_base.specs.NodeView.{NodeView};
 use crate::node_48::Node48;
 use node_base::base_node::{BaseNode, Node, NodeType};
 use node_base::iter::{Node256Iter, NodeIter};
-use node_base::mask::{is_marked, mark, marks_below, unmark};
+use node_base::mask::{is_marked, last_marked, mark, marks_below, unmark};
 use node_base::row::{add, move_row, place_all, redirect, sort_by_byte};
 use spec_map::error::OOMError;
 use std::alloc::Global;
@@ -163,6 +163,16 @@ impl<C: Drop> Node<C> for Node256<C> {
             index: &marks.index,
             children: &self.children,
         })
+    }
+
+    fn last_byte(&self, to: usize) -> Option<u8> {
+        let marks: &Marks = &self.marks;
+        let Some(byte) = last_marked(&marks.mask, to) else {
+            return None;
+        };
+        // For the proof: brings into scope that the place of its child is a byte.
+        let _place = marks.index[byte as usize];
+        Some(byte)
     }
 
     fn insert(&mut self, byte: u8, child: C) {

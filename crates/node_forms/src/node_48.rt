@@ -10,7 +10,7 @@ use crate::head_16::Head16;
 use crate::node_16::Node16;
 use node_base::base_node::{BaseNode, Node, NodeType};
 use node_base::iter::{Node48Iter, NodeIter};
-use node_base::row::{add, move_row, place_bytes, redirect};
+use node_base::row::{add, last_placed, move_row, place_bytes, redirect};
 use spec_map::error::OOMError;
 use std::alloc::Global;
 use std::marker::Model;
@@ -143,6 +143,10 @@ impl<C: Drop> Node<C> for Node48<C> {
             index: &self.index,
             children: &self.children,
         })
+    }
+
+    fn last_byte(&self, to: usize) -> Option<u8> {
+        last_placed(&self.index, to, self.children.len())
     }
 
     fn insert(&mut self, byte: u8, child: C) {

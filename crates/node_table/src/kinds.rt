@@ -2,7 +2,9 @@
 
 ghost use Rattle.std.specs.Prelude.{◌≡◌, ◌+◌, ◌<◌, ◌≤◌, [], ◌∷◌, length, IfOk, IfErr, OnOk, OnErr, IfSome, IfNone, Some, None};
 ghost use Rattle.std.specs.Int.{w64, to_be_bytes};
+ghost use Rattle.std.specs.Option.{option_map};
 ghost use Rattle.spec_map.specs.Map.{lookup, between, Rises};
+ghost use Rattle.spec_map.specs.Near.{below_of};
 ghost use Rattle.node_base.specs.Form.{Fits};
 ghost use Rattle.node_base.specs.Rest.{rest};
 ghost use Rattle.node_table.specs.Children.{children_left, MayYield};
@@ -66,6 +68,13 @@ pub trait InTable<P>: Sized {
         ensures some { IfSome result (λ found. between (node self.now row.now).children start 256
             ≡ (found.0, looked_at found.1) ∷ between (node self.now row.now).children (found.0 + 1) 256) }
         ensures order { IfSome result (λ found. start ≤ found.0) };
+
+    /// The last child whose byte is below `to`, and its byte.
+    fn last_below<'a>(&'a self, row: &'a Self::Row, to: usize) -> Option<(u8, ChildRef<'a, P>)>
+        requires within { to ≤ 256 }
+        requires kind { IsOfKind self.now row.now }
+        ensures { option_map (λ found. (found.0, looked_at found.1)) result
+            ≡ below_of (node self.now row.now).children to };
 
     /// The children with `from <= byte < to`, ascending.
     fn children_between<'a>(
@@ -172,6 +181,16 @@ impl<P, H: Head<usize>> InTable<P> for InnerHead<H> {
         }
     }
 
+    fn last_below<'a>(&'a self, row: &'a H::Row, to: usize) -> Option<(u8, ChildRef<'a, P>)> {
+        let Some(byte) = self.head.last_byte(row, to) else {
+            return None;
+        };
+        match self.head.get_child(row, byte) {
+            Some(slot) => Some((byte, ChildRef::Node(*slot))),
+            None => unreachable!(),
+        }
+    }
+
     fn children_between<'a>(&'a self, row: &'a H::Row, from: usize, to: usize) -> ChildIter<'a, P> {
         ChildIter::Nodes(children_of(&self.head, row, from, to))
     }
@@ -264,6 +283,16 @@ impl<P, H: Head<P>> InTable<P> for Leaf<H> {
         match self.head.get_children(row, start, 255).next() {
             Some((byte, payload)) => Some((byte, ChildRef::Payload(payload))),
             None => None,
+        }
+    }
+
+    fn last_below<'a>(&'a self, row: &'a H::Row, to: usize) -> Option<(u8, ChildRef<'a, P>)> {
+        let Some(byte) = self.head.last_byte(row, to) else {
+            return None;
+        };
+        match self.head.get_child(row, byte) {
+            Some(payload) => Some((byte, ChildRef::Payload(payload))),
+            None => unreachable!(),
         }
     }
 

@@ -2,7 +2,9 @@
 
 ghost use Rattle.std.specs.Prelude.{◌≡◌, ◌↔◌, ℕ, ◌+◌, ◌<◌, ◌≤◌, [], ◌∷◌, length, IfOk, IfErr, OnOk, OnErr, IfSome, IfNone, IsTrue, false, IsSome, Some, None};
 ghost use Rattle.std.specs.Int.{w64, to_be_bytes};
+ghost use Rattle.std.specs.Option.{option_map};
 ghost use Rattle.spec_map.specs.Map.{lookup, put, without, between, Rises};
+ghost use Rattle.spec_map.specs.Near.{below_of};
 ghost use Rattle.node_base.specs.Form.{Fits, few_in, next_form, smaller_form};
 ghost use Rattle.node_base.specs.Rest.{rest};
 ghost use Rattle.node_table.specs.Children.{children_left, MayYield};
@@ -225,6 +227,27 @@ impl<P: Drop> TreeNode<P> {
             NodeKind::Leaf16(node, row) => node.first_from(row, start),
             NodeKind::Leaf48(node, row) => node.first_from(row, start),
             NodeKind::Leaf256(node, row) => node.first_from(row, start),
+        }
+    }
+
+    /// The last child whose byte is below `to`, and its byte; `None` at 0.
+    ///
+    /// The bytes of a small node are searched at once, the index of a `Node48` is passed downward, and the mask of a
+    /// `Node256` 64 bytes a step.
+    pub fn last_below(&self, to: usize) -> Option<(u8, ChildRef<'_, P>)>
+        requires { to ≤ 256 }
+        ensures { option_map (λ found. (found.0, looked_at found.1)) result
+            ≡ below_of self.now.children to }
+    {
+        match &self.kind {
+            NodeKind::Inner4(node, row) => node.last_below(row, to),
+            NodeKind::Inner16(node, row) => node.last_below(row, to),
+            NodeKind::Inner48(node, row) => node.last_below(row, to),
+            NodeKind::Inner256(node, row) => node.last_below(row, to),
+            NodeKind::Leaf4(node, row) => node.last_below(row, to),
+            NodeKind::Leaf16(node, row) => node.last_below(row, to),
+            NodeKind::Leaf48(node, row) => node.last_below(row, to),
+            NodeKind::Leaf256(node, row) => node.last_below(row, to),
         }
     }
 

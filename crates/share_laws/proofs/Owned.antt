@@ -2,7 +2,7 @@
 use Rattle.std.proofs.Common.{◌≡◌, ◌≢◌, ℕ, ◌+◌, ◌<◌, ◌≤◌, Bool, true, false, cond, List, [], ◌∷◌, Option, Some, None, Result, Ok, Err, nat_eq, refl, sym, ap, subst, ◌∙◌, inl, inr, arith, ◌⊎◌}
 use Rattle.std.proofs.lemmas.Bool.{cases_eq, cases_lt, eq-eqb, ne_eqb}
 use Rattle.spec_map.specs.Map.{Pairs, lookup, put, without, with_answer, between, Rises}
-use Rattle.spec_map.specs.Call.{Call, get, insert, remove, compare_exchange, compute_if_present, compute_or_insert, is_empty, keys, range, ClosureCall, Answer, replied, refused, old_value, exchanged, computed}
+use Rattle.spec_map.specs.Call.{Call, get, insert, remove, compare_exchange, compute_if_present, compute_or_insert, is_empty, keys, range, nearest, count, ClosureCall, Answer, replied, refused, old_value, exchanged, computed}
 use Rattle.spec_map.specs.Legal.{IsLegal, MayAnswer, IsClosureCalled, CallsAlways, CallsIfPresent, after_operation, after_answer, after, after_asking, after_exchange, exchange, reply_of}
 use Rattle.spec_map.specs.Refusal.{never}
 use Rattle.spec_map.proofs.MapLaws.{lookup-put_other, lookup-put_same, lookup-without_other, lookup-without_same, lookup-between_inside, lookup-between_outside, Rises-wider, Rises-put, Rises-without, Rises-between, same_from_lookups}
@@ -44,6 +44,8 @@ module _ {P : Type 0} where
     ascends_after m is_empty asked h = h
     ascends_after m keys asked h = h
     ascends_after m (range a b n) asked h = h
+    ascends_after m (nearest near) asked h = h
+    ascends_after m count asked h = h
 
     ascends_answer : (m : Pairs P) (call : Call ℕ P) (asked : ClosureCall P) (answer : Answer ℕ P P) → Ascends m → Ascends (after_answer same m call asked answer)
     ascends_answer m call asked (replied reply) h = ascends_after m call asked h
@@ -122,6 +124,8 @@ module _ {P : Type 0} where
       own_after m h is_empty asked w = absurd w
       own_after m h keys asked w = absurd w
       own_after m h (range a b n) asked w = absurd w
+      own_after m h (nearest near) asked w = absurd w
+      own_after m h count asked w = absurd w
 
       own_closure : (m : Pairs P) → Ascends m → (call : Call ℕ P) (asked : ClosureCall P) → IsWithin low high call → IsClosureCalled m call asked → IsClosureCalled (own m) call asked
       own_closure m h (get k) asked w c = c
@@ -133,6 +137,8 @@ module _ {P : Type 0} where
       own_closure m h is_empty asked w c = absurd w
       own_closure m h keys asked w c = absurd w
       own_closure m h (range a b n) asked w c = absurd w
+      own_closure m h (nearest near) asked w c = absurd w
+      own_closure m h count asked w c = absurd w
 
       own_reply : (m : Pairs P) → Ascends m → (call : Call ℕ P) (asked : ClosureCall P) → IsWithin low high call → reply_of same m call asked ≡ reply_of same (own m) call asked
       own_reply m h (get k) asked w = ap old_value (sym (found m h k w.0 w.1))
@@ -144,6 +150,8 @@ module _ {P : Type 0} where
       own_reply m h is_empty asked w = absurd w
       own_reply m h keys asked w = absurd w
       own_reply m h (range a b n) asked w = absurd w
+      own_reply m h (nearest near) asked w = absurd w
+      own_reply m h count asked w = absurd w
 
       never_refused : (m : Pairs P) (call : Call ℕ P) (asked : ClosureCall P) → MayAnswer same never m call asked refused → ⊥
       never_refused m (get k) asked h = h.1
@@ -155,6 +163,8 @@ module _ {P : Type 0} where
       never_refused m is_empty asked h = h.1
       never_refused m keys asked h = h.1
       never_refused m (range a b n) asked h = h.1
+      never_refused m (nearest near) asked h = h.1
+      never_refused m count asked h = h.1
 
       own_answer : (m : Pairs P) → Ascends m → (call : Call ℕ P) (asked : ClosureCall P) (answer : Answer ℕ P P) → IsWithin low high call → MayAnswer same never m call asked answer → MayAnswer same never (own m) call asked answer
       own_answer m h call asked (replied reply) w may = (own_closure m h call asked w may.0, may.1 ∙ own_reply m h call asked w)

@@ -3,7 +3,7 @@ use Rattle.std.proofs.Common.{◌≡◌, ◌≢◌, ℕ, ◌≤◌, Bool, List, 
 use Rattle.std.proofs.lemmas.Bool.{cases_eq}
 use Rattle.std.proofs.lemmas.List.{map-append}
 use Rattle.spec_map.specs.Map.{Pairs, lookup, put, with_answer}
-use Rattle.spec_map.specs.Call.{Call, get, insert, remove, compare_exchange, compute_if_present, compute_or_insert, is_empty, keys, range, ClosureCall, Answer, replied, refused, Operation, Reply, old_value}
+use Rattle.spec_map.specs.Call.{Call, get, insert, remove, compare_exchange, compute_if_present, compute_or_insert, is_empty, keys, range, nearest, count, ClosureCall, Answer, replied, refused, Operation, Reply, old_value}
 use Rattle.spec_map.specs.Legal.{Allows, IsLegal, CallsAlways, MayAnswer, after_operation, after_answer, after, after_asking, after_exchange, exchange}
 use Rattle.spec_map.specs.Refusal.{never}
 use Rattle.spec_map.proofs.MapLaws.{lookup-put_other, lookup-put_same, lookup-without_other}
@@ -51,6 +51,8 @@ module _ {P : Type 0} (key : ℕ) where
   call_leaves same m is_empty asked ne = refl
   call_leaves same m keys asked ne = refl
   call_leaves same m (range a b n) asked ne = refl
+  call_leaves same m (nearest near) asked ne = refl
+  call_leaves same m count asked ne = refl
 
   pub answer_leaves : (same : P → P → Bool) (m : Pairs P) (call : Call ℕ P) (asked : ClosureCall P) (answer : Answer ℕ P P) → Leaves key call → lookup (after_answer same m call asked answer) key ≡ lookup m key
   answer_leaves same m call asked (replied reply) ne = call_leaves same m call asked ne
@@ -98,6 +100,8 @@ module _ (key : ℕ) where
   raises_on same m is_empty asked (replied reply) may r = untouched same m is_empty asked r
   raises_on same m keys asked (replied reply) may r = untouched same m keys asked r
   raises_on same m (range a b n) asked (replied reply) may r = untouched same m (range a b n) asked r
+  raises_on same m (nearest near) asked (replied reply) may r = untouched same m (nearest near) asked r
+  raises_on same m count asked (replied reply) may r = untouched same m count asked r
 
   pub rises : (same : ℕ → ℕ → Bool) (m n : Pairs ℕ) (es : List (Entry ℕ)) → IsLegal same never m (operations_of es) n → AllRaise key es → IsAtLeast (lookup m key) (lookup n key)
   rises same m n [] h raise = subst (λ l. IsAtLeast (lookup m key) (lookup l key)) (sym h) (least_same (lookup m key))

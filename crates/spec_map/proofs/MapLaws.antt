@@ -5,7 +5,7 @@ use Rattle.spec_map.specs.Map.{lookup, put, without, between, Rises}
 
 module _ {V : Type 0} where
   -- the look-up at the first key, and at any other
-  lookup-first : (e : ℕ × V) (es : List (ℕ × V)) → lookup (e ∷ es) e.0 ≡ Some e.1
+  pub lookup-first : (e : ℕ × V) (es : List (ℕ × V)) → lookup (e ∷ es) e.0 ≡ Some e.1
   lookup-first e es = rw (eq-eqb e.0 e.0 refl)
 
   pub lookup-next : (e : ℕ × V) (es : List (ℕ × V)) (k : ℕ) → e.0 ≢ k → lookup (e ∷ es) k ≡ lookup es k

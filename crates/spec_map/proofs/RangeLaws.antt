@@ -1,7 +1,8 @@
 -- The part of an ascending list between two bytes.
-use Rattle.std.proofs.Common.{◌≡◌, ℕ, ◌+◌, ◌<◌, ◌≤◌, List, [], ◌∷◌, refl, ap, sym, subst, ◌∙◌, arith, inl, inr}
+use Rattle.std.proofs.Common.{◌≡◌, ℕ, ◌+◌, ◌<◌, ◌≤◌, List, [], ◌∷◌, ◌++◌, refl, ap, sym, subst, ◌∙◌, arith, inl, inr}
 use Rattle.std.proofs.lemmas.Bool.{lt-ltb, le-ltb, le-leb, lt-leb, cases_lt}
 use Rattle.spec_map.specs.Map.{between, Rises}
+use Rattle.spec_map.proofs.MapLaws.{Rises-between}
 
 module _ {C : Type 0} where
   -- the whole, where the bounds are no narrower
@@ -29,6 +30,57 @@ module _ {C : Type 0} where
       elim (cases_lt x.0 s) [
         | inl less ↦ rw (lt-leb s x.0 less) (between-crossed s e xs l)
         | inr more ↦ rw (le-leb s x.0 more, le-ltb x.0 e (omega arith)) (between-crossed s e xs l)
+      ]
+
+  -- the pairs of a range ascend from its start
+  pub between-rises : (a b s e : ℕ) (es : List (ℕ × C)) → Rises a b es → Rises s b (between es s e)
+  between-rises a b s e [] h = tt
+  between-rises a b s e (x ∷ xs) h =
+      elim (cases_lt x.0 s) [
+        | inl less ↦ rw (lt-leb s x.0 less) (between-rises (x.0 + 1) b s e xs h.2)
+        | inr from ↦ elim (cases_lt x.0 e) [
+          | inl to ↦ rw (le-leb s x.0 from, lt-ltb x.0 e to) (from, h.1, Rises-between (x.0 + 1) b s e xs h.2)
+          | inr past ↦ rw (le-leb s x.0 from, le-ltb x.0 e past) (between-rises (x.0 + 1) b s e xs h.2)
+        ]
+      ]
+
+  -- the pairs of a range ascend below its end
+  pub between-inside : (a b s e : ℕ) (es : List (ℕ × C)) → Rises a b es → s ≤ a → Rises a e (between es s e)
+  between-inside a b s e [] h l = tt
+  between-inside a b s e (x ∷ xs) h l =
+      elim (cases_lt x.0 e) [
+        | inl to ↦ rw (le-leb s x.0 (omega (arith, h.0)), lt-ltb x.0 e to) (h.0, to, between-inside (x.0 + 1) b s e xs h.2 (omega (arith, h.0)))
+        | inr past ↦ rw (le-leb s x.0 (omega (arith, h.0)), le-ltb x.0 e past, between-above (x.0 + 1) b s e xs h.2 (omega arith)) tt
+      ]
+
+  pub between-within : (a b s e : ℕ) (es : List (ℕ × C)) → Rises a b es → Rises s e (between es s e)
+  between-within a b s e [] h = tt
+  between-within a b s e (x ∷ xs) h =
+      elim (cases_lt x.0 s) [
+        | inl less ↦ rw (lt-leb s x.0 less) (between-within (x.0 + 1) b s e xs h.2)
+        | inr from ↦ elim (cases_lt x.0 e) [
+          | inl to ↦ rw (le-leb s x.0 from, lt-ltb x.0 e to) (from, to, between-inside (x.0 + 1) b s e xs h.2 (omega arith))
+          | inr past ↦ rw (le-leb s x.0 from, le-ltb x.0 e past) (between-within (x.0 + 1) b s e xs h.2)
+        ]
+      ]
+
+  -- those up to a key in the middle, and those from there on
+  pub between-split : (a b s m e : ℕ) (es : List (ℕ × C)) → Rises a b es → s ≤ m → m ≤ e → between es s e ≡ between es s m ++ between es m e
+  between-split a b s m e [] h l k = refl
+  between-split a b s m e (x ∷ xs) h l k =
+      let rest = between-split (x.0 + 1) b s m e xs h.2 l k in
+      elim (cases_lt x.0 s) [
+        | inl less ↦ rw (lt-leb s x.0 less, lt-leb m x.0 (omega arith)) rest
+        | inr from ↦ elim (cases_lt x.0 m) [
+          | inl before ↦ rw (le-leb s x.0 from, lt-ltb x.0 e (omega arith), lt-ltb x.0 m before, lt-leb m x.0 before) (ap (λ t. x ∷ t) rest)
+          | inr after ↦
+              let none = between-above (x.0 + 1) b s m xs h.2 (omega arith) in
+              let same : between xs s e ≡ between xs m e = rest ∙ ap (λ t. t ++ between xs m e) none in
+              elim (cases_lt x.0 e) [
+                | inl to ↦ rw (le-leb s x.0 from, le-leb m x.0 after, lt-ltb x.0 e to, le-ltb x.0 m after, none) (ap (λ t. x ∷ t) same)
+                | inr past ↦ rw (le-leb s x.0 from, le-leb m x.0 after, le-ltb x.0 e past, le-ltb x.0 m after) rest
+              ]
+        ]
       ]
 
   -- the first between two bytes, of which the second is past all, and those after it

@@ -1,7 +1,7 @@
 -- The laws of legal runs.
 use Rattle.std.proofs.Common.{◌≡◌, ℕ, ◌<◌, ◌^◌, Bool, List, [], ◌∷◌, ◌++◌, Option, Some, None, Result, Ok, Err, map, refl, sym, ap, subst, ◌∙◌, arith}
 use Rattle.spec_map.specs.Map.{Pairs, IsMap, lookup, with_answer}
-use Rattle.spec_map.specs.Call.{Call, get, insert, remove, compare_exchange, compute_if_present, compute_or_insert, is_empty, keys, range}
+use Rattle.spec_map.specs.Call.{Call, get, insert, remove, compare_exchange, compute_if_present, compute_or_insert, is_empty, keys, range, nearest, count}
 use Rattle.spec_map.specs.Call.{ClosureCall, Answer, replied, refused, Operation}
 use Rattle.spec_map.specs.Refusal.{MayRunOut, at_new_key, at_new_node, MayRefuse}
 use Rattle.spec_map.specs.Legal.{IsLegal, MayAnswer, after_operation, after_answer, after, after_asking, after_exchange, exchange, KeyFitsU64, KeysFitU64}
@@ -38,6 +38,8 @@ module _ {P : Type 0} where
   IsMap-after same m is_empty asked wide h = h
   IsMap-after same m keys asked wide h = h
   IsMap-after same m (range a b n) asked wide h = h
+  IsMap-after same m (nearest near) asked wide h = h
+  IsMap-after same m count asked wide h = h
 
   IsMap-after_answer : (same : P → P → Bool) (m : Pairs P) (call : Call ℕ P) (asked : ClosureCall P) (answer : Answer ℕ P P) → KeyFitsU64 call → IsMap m → IsMap (after_answer same m call asked answer)
   IsMap-after_answer same m call asked (replied reply) wide h = IsMap-after same m call asked wide h
@@ -88,6 +90,8 @@ module _ {P : Type 0} where
   refuses_less m is_empty h = h
   refuses_less m keys h = h
   refuses_less m (range a b n) h = h
+  refuses_less m (nearest near) h = h
+  refuses_less m count h = h
 
   answers_more : (same : P → P → Bool) (m : Pairs P) (call : Call ℕ P) (asked : ClosureCall P) (answer : Answer ℕ P P)
       → MayAnswer same at_new_node m call asked answer → MayAnswer same at_new_key m call asked answer

@@ -1,6 +1,17 @@
 -- Calls on an ordered map, and what they return.
 use Rattle.std.specs.Prelude.{ℕ, Bool, List, Option, Result}
 
+-- Where a pair may be looked for: at an end of the map, or next to a key.
+pub data Near (K : Type 0) : Type 0 where
+  first : Near K
+  last : Near K
+  -- the greatest key that is at most this one, and the greatest below it
+  floor : K → Near K
+  below : K → Near K
+  -- the least key that is at least this one, and the least above it
+  ceiling : K → Near K
+  above : K → Near K
+
 -- A call with keys of type K and values of type V. The two compute calls have a closure besides.
 pub data Call (K V : Type 0) : Type 0 where
   get : K → Call K V
@@ -14,6 +25,10 @@ pub data Call (K V : Type 0) : Type 0 where
   keys : Call K V
   -- from a key on, below a key, at most so many pairs
   range : K → K → ℕ → Call K V
+  -- one pair, by where it is
+  nearest : Near K → Call K V
+  -- how many pairs there are
+  count : Call K V
 
 -- What the closure of a call was called with and what it returned, if it was called. It is passed what is stored, of
 -- type P, and returns such a value, or nothing.
@@ -31,6 +46,8 @@ pub data Reply (K V P : Type 0) : Type 0 where
   tested : Bool → Reply K V P
   listed : List K → Reply K V P
   ranged : List (ℕ × P) → Reply K V P
+  found : Option (K × V) → Reply K V P
+  counted : ℕ → Reply K V P
 
 -- the outcome: a reply, or a refusal for lack of memory
 pub data Answer (K V P : Type 0) : Type 0 where

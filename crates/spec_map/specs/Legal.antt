@@ -2,9 +2,10 @@
 use Rattle.std.specs.Prelude.{◌≡◌, ℕ, ◌<◌, ◌^◌, Bool, List, [], ◌∷◌, Option, Some, None, Result, Ok, Err, if◌then◌else◌, ◌==◌, length, map, take}
 use Rattle.std.specs.List.{AllByRecursion}
 use Rattle.spec_map.specs.Map.{Pairs, lookup, put, without, with_answer, between}
-use Rattle.spec_map.specs.Call.{Call, get, insert, remove, compare_exchange, compute_if_present, compute_or_insert, is_empty, keys, range}
-use Rattle.spec_map.specs.Call.{Reply, old_value, exchanged, computed, tested, listed, ranged}
+use Rattle.spec_map.specs.Call.{Call, get, insert, remove, compare_exchange, compute_if_present, compute_or_insert, is_empty, keys, range, nearest, count}
+use Rattle.spec_map.specs.Call.{Reply, old_value, exchanged, computed, tested, listed, ranged, found, counted}
 use Rattle.spec_map.specs.Call.{ClosureCall, Answer, replied, refused, Operation}
+use Rattle.spec_map.specs.Near.{pair_near}
 use Rattle.spec_map.specs.Refusal.{MayRunOut, MayRefuse}
 
 module _ {P : Type 0} where
@@ -58,6 +59,8 @@ module _ {P : Type 0} (same : P → P → Bool) where
   apply m is_empty asked = (tested (length m == 0), m)
   apply m keys asked = (listed (map (λ e. e.0) m), m)
   apply m (range a b n) asked = (ranged (take n (between m a b)), m)
+  apply m (nearest near) asked = (found (pair_near m near), m)
+  apply m count asked = (counted (length m), m)
 
   abbrev pub reply_of : Pairs P → Call ℕ P → ClosureCall P → Reply ℕ P P
   reply_of m call asked = (apply m call asked).0

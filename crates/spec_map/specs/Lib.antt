@@ -1,5 +1,6 @@
 pub mod Call
 pub mod Legal
 pub mod Map
+pub mod Near
 pub mod Refusal
 pub mod Request

@@ -4,5 +4,6 @@
 
 pub mod error;
 pub mod laws;
+pub mod near_laws;
 pub mod payload;
 pub mod traits;

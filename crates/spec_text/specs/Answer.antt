@@ -1,12 +1,12 @@
 -- What a line is answered.
 use Rattle.std.specs.Prelude.{◌≡◌, ℕ, List, ◌++◌, length, codes, decimal, Bool, true, false, Option, Some, None}
 use Rattle.std.specs.List.{flat_map}
-use Rattle.spec_map.specs.Call.{old_value, exchanged, computed, tested, listed, ranged, Answer, replied, refused, Operation}
+use Rattle.spec_map.specs.Call.{old_value, exchanged, computed, tested, listed, ranged, found, counted, Answer, replied, refused, Operation}
 use Rattle.spec_map.specs.Legal.{AnswersBy}
 use Rattle.spec_text.specs.declared.command.Command.{Command}
 use Rattle.spec_text.specs.declared.command.Command.TheVariants.{Insert, Put}
 use Rattle.spec_text.specs.Command.{SpellsCommand, IsNoCommand, command_call, command_closure}
-use Rattle.spec_text.specs.Value.{value_text, exchanged_text, computed_text, key_text, pair_text}
+use Rattle.spec_text.specs.Value.{value_text, exchanged_text, computed_text, found_text, key_text, pair_text}
 
 abbrev pub test_text : Bool → List ℕ
 test_text true = codes "true"
@@ -22,6 +22,8 @@ answer_text command (replied (computed result)) = computed_text result
 answer_text command (replied (ranged pairs)) = decimal (length pairs) ++ flat_map pair_text pairs
 answer_text command (replied (listed keys)) = decimal (length keys) ++ flat_map key_text keys
 answer_text command (replied (tested b)) = test_text b
+answer_text command (replied (found pair)) = found_text pair
+answer_text command (replied (counted n)) = decimal n
 answer_text command refused = codes "oom"
 
 -- the line is a command that asks for the call, its closure answered it, and the text is that of the outcome

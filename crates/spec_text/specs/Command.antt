@@ -1,10 +1,10 @@
 -- The lines that are commands.
 use Rattle.std.specs.Prelude.{ℕ, ◌+◌, ◌-◌, ◌≤◌, ◌^◌, List, [], ◌∷◌, codes, decimal, Option, Some, None, if◌then◌else◌, min, nat_lt}
-use Rattle.spec_map.specs.Call.{Call, get, insert, remove, compare_exchange, compute_if_present, compute_or_insert, is_empty, range, keys}
+use Rattle.spec_map.specs.Call.{Call, get, insert, remove, compare_exchange, compute_if_present, compute_or_insert, is_empty, range, keys, nearest, count, first, last, floor, ceiling}
 use Rattle.spec_text.specs.Grammar.{Spells}
 use Rattle.spec_text.specs.Value.{value_text}
 use Rattle.spec_text.specs.declared.command.Command.{Command}
-use Rattle.spec_text.specs.declared.command.Command.TheVariants.{Get, Insert, Remove, Exchange, Add, Put, Range, Keys, Empty}
+use Rattle.spec_text.specs.declared.command.Command.TheVariants.{Get, Insert, Remove, Exchange, Add, Put, Range, Keys, Empty, First, Last, Floor, Ceiling, Count}
 
 -- the words of a command. A number is written in decimal, without a leading zero
 abbrev pub words_of_command : Command → List (List ℕ)
@@ -19,6 +19,11 @@ words_of_command (Range start end limit) =
     codes "range" ∷ decimal start ∷ decimal end ∷ decimal limit ∷ []
 words_of_command Keys = codes "keys" ∷ []
 words_of_command Empty = codes "empty" ∷ []
+words_of_command First = codes "first" ∷ []
+words_of_command Last = codes "last" ∷ []
+words_of_command (Floor key) = codes "floor" ∷ decimal key ∷ []
+words_of_command (Ceiling key) = codes "ceiling" ∷ decimal key ∷ []
+words_of_command Count = codes "count" ∷ []
 
 -- at most 4096 pairs are asked for
 abbrev pub CommandFits : Command → Type 0
@@ -44,6 +49,11 @@ command_call (Put key more) = compute_or_insert key
 command_call (Range start end limit) = range start end limit
 command_call Keys = keys
 command_call Empty = is_empty
+command_call First = nearest first
+command_call Last = nearest last
+command_call (Floor key) = nearest (floor key)
+command_call (Ceiling key) = nearest (ceiling key)
+command_call Count = count
 
 -- the sum, where it has 64 bits
 abbrev pub checked_sum : ℕ → ℕ → Option ℕ

@@ -16,6 +16,11 @@ abbrev pub computed_text : Option (ℕ × Option ℕ) → List ℕ
 computed_text None = codes "none"
 computed_text (Some (old, new)) = decimal old ++ codes " " ++ value_text new
 
+-- a pair, or `none`
+abbrev pub found_text : Option (ℕ × ℕ) → List ℕ
+found_text None = codes "none"
+found_text (Some (key, value)) = decimal key ++ codes "=" ++ decimal value
+
 -- a key behind a space, and a pair with its value
 abbrev pub key_text : ℕ → List ℕ
 key_text key = codes " " ++ decimal key

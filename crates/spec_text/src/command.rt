@@ -21,4 +21,14 @@ pub enum Command {
     Keys,
     /// Whether there is no key.
     Empty,
+    /// The pair of the least key.
+    First,
+    /// The pair of the greatest key.
+    Last,
+    /// The pair of the greatest key that is at most this one.
+    Floor(u64),
+    /// The pair of the least key that is at least this one.
+    Ceiling(u64),
+    /// How many keys there are.
+    Count,
 }

@@ -1,7 +1,7 @@
 //! Bytes that have still to be written.
 
 ghost use Rattle.std.specs.Prelude.{◌≡◌, ℕ, ◌+◌, ◌-◌, ◌≤◌, List, [], ◌++◌, length, take, decimal, OnOk, OnErr, true};
-ghost use Rattle.spec_text.specs.Value.{value_text, exchanged_text, computed_text};
+ghost use Rattle.spec_text.specs.Value.{value_text, exchanged_text, computed_text, found_text};
 ghost use Rattle.text_lines.specs.Watched.{SendsTo, SendsPart};
 
 use crate::watched::{Failed, Watched};
@@ -78,6 +78,16 @@ impl Pending {
         self.add(buffer.format(number).as_bytes());
     }
 
+    /// Adds the decimal text of a count, which is at most 39 bytes.
+    pub fn add_count(&mut self, count: u128)
+        requires { length self.old + 39 ≤ 8192 }
+        ensures text { self.new ≡ self.old ++ decimal count }
+        ensures short { length self.new ≤ length self.old + 39 }
+    {
+        let mut buffer = itoa::Buffer::new();
+        self.add(buffer.format(count).as_bytes());
+    }
+
     /// Adds the decimal text of a value, or `none`, which is at most 20 bytes.
     pub fn add_value(&mut self, value: Option<u64>)
         requires { length self.old + 20 ≤ 8192 }
@@ -120,6 +130,22 @@ impl Pending {
                 self.add_number(old);
                 self.add(b" ");
                 self.add_value(new);
+            }
+        }
+    }
+
+    /// Adds a pair as `KEY=VALUE`, or `none`, at most 41 bytes.
+    pub fn add_found(&mut self, pair: Option<(u64, u64)>)
+        requires { length self.old + 41 ≤ 8192 }
+        ensures text { self.new ≡ self.old ++ found_text pair }
+        ensures short { length self.new ≤ length self.old + 41 }
+    {
+        match pair {
+            None => self.add(b"none"),
+            Some((key, value)) => {
+                self.add_number(key);
+                self.add(b"=");
+                self.add_number(value);
             }
         }
     }

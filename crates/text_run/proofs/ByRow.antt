@@ -7,7 +7,7 @@ use Rattle.spec_map.specs.Legal.{MayAnswer, Allows, IsLegal, after_operation}
 use Rattle.spec_map.specs.Refusal.{at_new_node}
 use Rattle.face_runs.specs.inner.RefusedRanges.{operations_of}
 use Rattle.spec_text.specs.declared.command.Command.{Command}
-use Rattle.spec_text.specs.declared.command.Command.TheVariants.{Get, Insert, Remove, Exchange, Add, Put, Range, Keys, Empty}
+use Rattle.spec_text.specs.declared.command.Command.TheVariants.{Get, Insert, Remove, Exchange, Add, Put, Range, Keys, Empty, First, Last, Floor, Ceiling, Count}
 use Rattle.spec_text.specs.Answer.{answer_text, Obeys, IsAnswered}
 use Rattle.spec_text.specs.Command.{command_call}
 use Rattle.spec_text.specs.Lines.{ended}
@@ -27,6 +27,11 @@ row m (Put key more) asked (replied reply) may = rw may.1 refl
 row m (Range start end limit) asked (replied reply) may = rw may.1 refl
 row m Keys asked (replied reply) may = rw may.1 refl
 row m Empty asked (replied reply) may = rw may.1 refl
+row m First asked (replied reply) may = rw may.1 refl
+row m Last asked (replied reply) may = rw may.1 refl
+row m (Floor key) asked (replied reply) may = rw may.1 refl
+row m (Ceiling key) asked (replied reply) may = rw may.1 refl
+row m Count asked (replied reply) may = rw may.1 refl
 row m (Get key) asked refused may = absurd may.1
 row m (Insert key value) asked refused may = refl
 row m (Remove key) asked refused may = absurd may.1
@@ -36,6 +41,11 @@ row m (Put key more) asked refused may = refl
 row m (Range start end limit) asked refused may = refl
 row m Keys asked refused may = refl
 row m Empty asked refused may = absurd may.1
+row m First asked refused may = absurd may.1
+row m Last asked refused may = absurd may.1
+row m (Floor key) asked refused may = absurd may.1
+row m (Ceiling key) asked refused may = absurd may.1
+row m Count asked refused may = absurd may.1
 
 obeys : (m : Pairs ℕ) (line text : List ℕ) (operation : Operation ℕ ℕ ℕ) → Obeys line text operation → Allows nat_eq at_new_node m operation → ObeysByRow line text operation
 obeys m line text operation o may = record {

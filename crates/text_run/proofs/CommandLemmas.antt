@@ -2,7 +2,7 @@
 use Rattle.std.proofs.Common.{◌≡◌, ℕ, ◌<◌, ◌≤◌, ◌^◌, List, [], ◌∷◌, length, get_or, codes, decimal, Option, Some, None, if◌then◌else◌, bytes_eq, refl, ap, rules, arith}
 use Rattle.std.specs.List.{AllByRecursion}
 use Rattle.spec_text.specs.declared.command.Command.{Command}
-use Rattle.spec_text.specs.declared.command.Command.TheVariants.{Get, Insert, Remove, Exchange, Add, Put, Range, Keys, Empty}
+use Rattle.spec_text.specs.declared.command.Command.TheVariants.{Get, Insert, Remove, Exchange, Add, Put, Range, Keys, Empty, First, Last, Floor, Ceiling, Count}
 use Rattle.spec_text.specs.Command.{words_of_command, CommandFits}
 use Rattle.text_run.specs.inner.CommandReading.{CommandIsWithin}
 use Rattle.text_lines.proofs.GrammarLemmas.{NumbersFit, IsGrammar}
@@ -46,6 +46,26 @@ abbrev empty_from : List (List ℕ) → Option Command
 empty_from [] = Some Empty
 empty_from words = None
 
+abbrev first_from : List (List ℕ) → Option Command
+first_from [] = Some First
+first_from words = None
+
+abbrev last_from : List (List ℕ) → Option Command
+last_from [] = Some Last
+last_from words = None
+
+abbrev floor_from : List (List ℕ) → Option Command
+floor_from (key ∷ []) = Some (Floor (number_from key))
+floor_from words = None
+
+abbrev ceiling_from : List (List ℕ) → Option Command
+ceiling_from (key ∷ []) = Some (Ceiling (number_from key))
+ceiling_from words = None
+
+abbrev count_from : List (List ℕ) → Option Command
+count_from [] = Some Count
+count_from words = None
+
 abbrev command_from : List (List ℕ) → Option Command
 command_from [] = None
 command_from (name ∷ words) =
@@ -57,7 +77,12 @@ command_from (name ∷ words) =
     (if bytes_eq name (codes "put") then put_from words else
     (if bytes_eq name (codes "range") then range_from words else
     (if bytes_eq name (codes "keys") then keys_from words else
-    (if bytes_eq name (codes "empty") then empty_from words else None))))))))
+    (if bytes_eq name (codes "empty") then empty_from words else
+    (if bytes_eq name (codes "first") then first_from words else
+    (if bytes_eq name (codes "last") then last_from words else
+    (if bytes_eq name (codes "floor") then floor_from words else
+    (if bytes_eq name (codes "ceiling") then ceiling_from words else
+    (if bytes_eq name (codes "count") then count_from words else None)))))))))))))
 
 -- what is at most 4096 has 64 bits
 limit_wide : (limit : ℕ) → limit ≤ 4096 → limit < 2 ^ 64
@@ -75,6 +100,11 @@ command_read (Range start end limit) fits =
     rw (number_read start fits.0, number_read end fits.1, number_read limit (limit_wide limit fits.2)) refl
 command_read Keys fits = refl
 command_read Empty fits = refl
+command_read First fits = refl
+command_read Last fits = refl
+command_read (Floor key) fits = ap (λ k. Some (Floor k)) (number_read key fits)
+command_read (Ceiling key) fits = ap (λ k. Some (Ceiling k)) (number_read key fits)
+command_read Count fits = refl
 
 are_words : (command : Command) → CommandIsWithin command → AllByRecursion IsWord (words_of_command command)
 are_words (Get key) fits = (record { lacks = search rules; short = omega arith }, (number_word key fits, tt))
@@ -91,6 +121,11 @@ are_words (Range start end limit) fits =
     (record { lacks = search rules; short = omega arith }, (number_word start fits.0, (number_word end fits.1, (number_word limit (limit_wide limit fits.2), tt))))
 are_words Keys fits = (record { lacks = search rules; short = omega arith }, tt)
 are_words Empty fits = (record { lacks = search rules; short = omega arith }, tt)
+are_words First fits = (record { lacks = search rules; short = omega arith }, tt)
+are_words Last fits = (record { lacks = search rules; short = omega arith }, tt)
+are_words (Floor key) fits = (record { lacks = search rules; short = omega arith }, (number_word key fits, tt))
+are_words (Ceiling key) fits = (record { lacks = search rules; short = omega arith }, (number_word key fits, tt))
+are_words Count fits = (record { lacks = search rules; short = omega arith }, tt)
 
 few_words : (command : Command) → CommandIsWithin command → length (words_of_command command) ≤ 12
 few_words (Get key) fits = omega arith
@@ -102,6 +137,11 @@ few_words (Put key more) fits = omega arith
 few_words (Range start end limit) fits = omega arith
 few_words Keys fits = omega arith
 few_words Empty fits = omega arith
+few_words First fits = omega arith
+few_words Last fits = omega arith
+few_words (Floor key) fits = omega arith
+few_words (Ceiling key) fits = omega arith
+few_words Count fits = omega arith
 
 some_words : (command : Command) → CommandIsWithin command → 0 < length (words_of_command command)
 some_words (Get key) fits = omega arith
@@ -113,6 +153,11 @@ some_words (Put key more) fits = omega arith
 some_words (Range start end limit) fits = omega arith
 some_words Keys fits = omega arith
 some_words Empty fits = omega arith
+some_words First fits = omega arith
+some_words Last fits = omega arith
+some_words (Floor key) fits = omega arith
+some_words (Ceiling key) fits = omega arith
+some_words Count fits = omega arith
 
 -- a command is within its bounds where its numbers have 64 bits and its limit is kept
 within : (command : Command) → NumbersFit (words_of_command command) → CommandFits command → CommandIsWithin command
@@ -125,6 +170,11 @@ within (Put key more) n limit = (n.1.0 key refl, n.1.1.0 more refl)
 within (Range start end count) n limit = (n.1.0 start refl, n.1.1.0 end refl, limit)
 within Keys n limit = tt
 within Empty n limit = tt
+within First n limit = tt
+within Last n limit = tt
+within (Floor key) n limit = n.1.0 key refl
+within (Ceiling key) n limit = n.1.0 key refl
+within Count n limit = tt
 
 numbers_fit : (command : Command) → CommandIsWithin command → NumbersFit (words_of_command command)
 numbers_fit (Get key) fits = (no_number _ (omega arith), (one_decimal key fits, tt))
@@ -138,6 +188,11 @@ numbers_fit (Range start end limit) fits =
     (no_number _ (omega arith), (one_decimal start fits.0, (one_decimal end fits.1, (one_decimal limit (limit_wide limit fits.2), tt))))
 numbers_fit Keys fits = (no_number _ (omega arith), tt)
 numbers_fit Empty fits = (no_number _ (omega arith), tt)
+numbers_fit First fits = (no_number _ (omega arith), tt)
+numbers_fit Last fits = (no_number _ (omega arith), tt)
+numbers_fit (Floor key) fits = (no_number _ (omega arith), (one_decimal key fits, tt))
+numbers_fit (Ceiling key) fits = (no_number _ (omega arith), (one_decimal key fits, tt))
+numbers_fit Count fits = (no_number _ (omega arith), tt)
 
 limits_kept : (command : Command) → CommandIsWithin command → CommandFits command
 limits_kept (Get key) fits = tt
@@ -149,6 +204,11 @@ limits_kept (Put key more) fits = tt
 limits_kept (Range start end limit) fits = fits.2
 limits_kept Keys fits = tt
 limits_kept Empty fits = tt
+limits_kept First fits = tt
+limits_kept Last fits = tt
+limits_kept (Floor key) fits = tt
+limits_kept (Ceiling key) fits = tt
+limits_kept Count fits = tt
 
 pub commands : IsGrammar words_of_command CommandIsWithin CommandFits
 commands = record {
@@ -180,3 +240,8 @@ no_range left none (Range start end limit) fits words =
     let same : left ≡ decimal start ∷ decimal end ∷ decimal limit ∷ [] = cc in none start end limit fits.0 fits.1 fits.2 same
 no_range left none Keys fits words = omega (arith, ap third_byte words)
 no_range left none Empty fits words = omega (arith, ap third_byte words)
+no_range left none First fits words = omega (arith, ap third_byte words)
+no_range left none Last fits words = omega (arith, ap third_byte words)
+no_range left none (Floor key) fits words = omega (arith, ap third_byte words)
+no_range left none (Ceiling key) fits words = omega (arith, ap third_byte words)
+no_range left none Count fits words = omega (arith, ap third_byte words)

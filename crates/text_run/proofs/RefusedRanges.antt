@@ -6,7 +6,7 @@ use Rattle.spec_map.specs.Legal.{Allows, IsLegal, after_answer, after_operation}
 use Rattle.spec_map.specs.Refusal.{at_new_node}
 use Rattle.face_runs.specs.inner.RefusedRanges.{IsRefusedRange, operations_of}
 use Rattle.spec_text.specs.declared.command.Command.{Command}
-use Rattle.spec_text.specs.declared.command.Command.TheVariants.{Get, Insert, Remove, Exchange, Add, Put, Range, Keys, Empty}
+use Rattle.spec_text.specs.declared.command.Command.TheVariants.{Get, Insert, Remove, Exchange, Add, Put, Range, Keys, Empty, First, Last, Floor, Ceiling, Count}
 use Rattle.spec_text.specs.Command.{command_call}
 use Rattle.text_run.proofs.ByRow.{by_row}
 use Rattle.text_run.specs.Run.{Answers}
@@ -26,6 +26,11 @@ undone_or_done (Add key more) outcome text is = inr (λ h. h)
 undone_or_done (Put key more) outcome text is = inr (λ h. h)
 undone_or_done Keys outcome text is = inr (λ h. h)
 undone_or_done Empty outcome text is = inr (λ h. h)
+undone_or_done First outcome text is = inr (λ h. h)
+undone_or_done Last outcome text is = inr (λ h. h)
+undone_or_done (Floor key) outcome text is = inr (λ h. h)
+undone_or_done (Ceiling key) outcome text is = inr (λ h. h)
+undone_or_done Count outcome text is = inr (λ h. h)
 
 module _ (m n : Pairs ℕ) (line text : List ℕ) (lines texts : List (List ℕ)) (operation : Operation ℕ ℕ ℕ) (o : ObeysByRow line text operation) where
   -- the line of a refused range before a run is no operation of it

@@ -5,7 +5,7 @@ use Rattle.spec_map.specs.Legal.{IsLegal, AnswersBy}
 use Rattle.spec_map.specs.Refusal.{at_new_node}
 use Rattle.spec_text.specs.declared.command.Command.{Command}
 use Rattle.text_run.specs.declared.reply.LineReply.{LineReply}
-use Rattle.text_run.specs.declared.reply.LineReply.TheVariants.{Value, Before, Exchanged, Computed, Tested, Ranged, Listed, Refused, BadLine}
+use Rattle.text_run.specs.declared.reply.LineReply.TheVariants.{Value, Before, Exchanged, Computed, Tested, Ranged, Listed, Found, Counted, Refused, BadLine}
 use Rattle.spec_text.specs.Answer.{answer_text}
 use Rattle.spec_text.specs.Command.{SpellsCommand, command_closure}
 use Rattle.text_run.specs.inner.Replied.{line_reply_text, head_text, items_text, reply_answer, reply_asked, reply_operation}
@@ -20,6 +20,8 @@ head_items (Computed r) = append-nil _
 head_items (Tested b) = append-nil _
 head_items (Ranged pairs) = refl
 head_items (Listed keys) = refl
+head_items (Found pair) = append-nil _
+head_items (Counted n) = append-nil _
 head_items Refused = append-nil _
 head_items BadLine = append-nil _
 

@@ -53,6 +53,21 @@ fn named(name: &[u8], words: Words) -> Option<Command>
     if name == b"empty".as_slice() {
         return empty_of(words);
     }
+    if name == b"first".as_slice() {
+        return first_of(words);
+    }
+    if name == b"last".as_slice() {
+        return last_of(words);
+    }
+    if name == b"floor".as_slice() {
+        return floor_of(words);
+    }
+    if name == b"ceiling".as_slice() {
+        return ceiling_of(words);
+    }
+    if name == b"count".as_slice() {
+        return count_of(words);
+    }
     None
 }
 
@@ -131,6 +146,43 @@ fn empty_of(words: Words) -> Option<Command>
 {
     words.end()?;
     Some(Command::Empty)
+}
+
+fn first_of(words: Words) -> Option<Command>
+    ensures { ReadsCommand (codes "first") words.entry result }
+{
+    words.end()?;
+    Some(Command::First)
+}
+
+fn last_of(words: Words) -> Option<Command>
+    ensures { ReadsCommand (codes "last") words.entry result }
+{
+    words.end()?;
+    Some(Command::Last)
+}
+
+fn floor_of(mut words: Words) -> Option<Command>
+    ensures { ReadsCommand (codes "floor") words.entry result }
+{
+    let key = words.next_number()?;
+    words.end()?;
+    Some(Command::Floor(key))
+}
+
+fn ceiling_of(mut words: Words) -> Option<Command>
+    ensures { ReadsCommand (codes "ceiling") words.entry result }
+{
+    let key = words.next_number()?;
+    words.end()?;
+    Some(Command::Ceiling(key))
+}
+
+fn count_of(words: Words) -> Option<Command>
+    ensures { ReadsCommand (codes "count") words.entry result }
+{
+    words.end()?;
+    Some(Command::Count)
 }
 
 // The next word as a number of pairs that a range may ask for.

@@ -33,6 +33,10 @@ pub enum LineReply {
     Ranged(Vec<(u64, u64)>),
     /// All keys, ascending.
     Listed(Vec<u64>),
+    /// A pair, if there is one.
+    Found(Option<(u64, u64)>),
+    /// How many keys there are.
+    Counted(u128),
     /// There was no memory for it, and the map is unchanged.
     Refused,
     /// The line is no command.
@@ -114,6 +118,11 @@ fn execute<A: Allocator>(
             Err(_) => LineReply::Refused,
         },
         Command::Empty => LineReply::Tested(map.is_empty()),
+        Command::First => LineReply::Found(map.first()),
+        Command::Last => LineReply::Found(map.last()),
+        Command::Floor(key) => LineReply::Found(map.floor(&key)),
+        Command::Ceiling(key) => LineReply::Found(map.ceiling(&key)),
+        Command::Count => LineReply::Counted(map.value_count()),
     }
 }
 
@@ -205,6 +214,8 @@ fn add_head(pending: &mut Pending, reply: &LineReply)
         LineReply::Tested(false) => pending.add(b"false"),
         LineReply::Ranged(pairs) => pending.add_number(pairs.len() as u64),
         LineReply::Listed(keys) => pending.add_number(keys.len() as u64),
+        LineReply::Found(pair) => pending.add_found(*pair),
+        LineReply::Counted(count) => pending.add_count(*count),
         LineReply::Refused => pending.add(b"oom"),
         LineReply::BadLine => pending.add(b"bad line"),
     }

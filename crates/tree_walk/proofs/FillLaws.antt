@@ -13,7 +13,7 @@ module _ {E : Type 0} where
   pub fills-none : (whole : List E) → FillsBuffer whole [] 0 whole
   fills-none whole = record { counted = omega arith; filled = refl }
 
-  fills-push : (whole done : List E) (n : ℕ) (b : List E) (x : E) → FillsBuffer whole done n b → n < length b → FillsBuffer whole (done ++ x ∷ []) (n + 1) (set b n x)
+  pub fills-push : (whole done : List E) (n : ℕ) (b : List E) (x : E) → FillsBuffer whole done n b → n < length b → FillsBuffer whole (done ++ x ∷ []) (n + 1) (set b n x)
   fills-push whole done n b x h room =
       let same = same_length whole done n b h in
       let all : n ≡ length done = omega (arith, h.counted) in
@@ -27,7 +27,7 @@ module _ {E : Type 0} where
         filled = after ∙ sym (append_assoc done (x ∷ []) (drop (suc n) whole)) ∙ rw (take_all (n + 1) (done ++ x ∷ []) (simp length-append (omega arith)), add-one n) refl;
       }
 
-  fills-full : (whole done more : List E) (n : ℕ) (b : List E) → FillsBuffer whole done n b → length b ≤ n → FillsBuffer whole (done ++ more) n b
+  pub fills-full : (whole done more : List E) (n : ℕ) (b : List E) → FillsBuffer whole done n b → length b ≤ n → FillsBuffer whole (done ++ more) n b
   fills-full whole done more n b h full =
       let same = same_length whole done n b h in
       record {

@@ -1,5 +1,6 @@
 pub mod BytesLeft
 pub mod FillLaws
+pub mod NearestLaws
 pub mod ScanLaws
 pub mod VisitedLaws
 pub mod WalkLaws

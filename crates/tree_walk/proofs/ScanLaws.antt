@@ -10,8 +10,7 @@ use Rattle.node_table.specs.TableNode.{TableNode}
 use Rattle.node_table.specs.Table.{NodeTable, node_at, pairs_of, pairs_at, IsChild, AreChildren, IsTree, IsSubtree, IsSound}
 use Rattle.node_table.specs.declared.child.Child.{Child}
 use Rattle.node_table.specs.declared.child.Child.TheVariants.{Payload, Node}
-use Rattle.spec_map.proofs.MapLaws.{Rises-between}
-use Rattle.spec_map.proofs.RangeLaws.{between-all, between-above}
+use Rattle.spec_map.proofs.RangeLaws.{between-all, between-above, between-rises, between-within}
 use Rattle.node_table.proofs.BeginLaws.{after}
 use Rattle.tree_path.proofs.ShareLaws.{between-below}
 use Rattle.node_table.proofs.ChildrenLaws as laws
@@ -24,58 +23,6 @@ use Rattle.tree_path.proofs.PathEndLaws.{depth_is}
 use Rattle.tree_walk.specs.declared.range_scan.Window.{Window}
 use Rattle.tree_walk.proofs.WindowLaws.{low-leaf, leaf_fits, padded_key}
 use Rattle.tree_walk.proofs.FillLaws.{fills-none, Written, written-none, written-more, written-end}
-
-module _ {V : Type 0} where
-  -- the pairs of a range ascend from its start
-  between-rises : (a b s e : ℕ) (es : List (ℕ × V)) → Rises a b es → Rises s b (between es s e)
-  between-rises a b s e [] h = tt
-  between-rises a b s e (x ∷ xs) h =
-      elim (cases_lt x.0 s) [
-        | inl less ↦ rw (lt-leb s x.0 less) (between-rises (x.0 + 1) b s e xs h.2)
-        | inr from ↦ elim (cases_lt x.0 e) [
-          | inl to ↦ rw (le-leb s x.0 from, lt-ltb x.0 e to) (from, h.1, Rises-between (x.0 + 1) b s e xs h.2)
-          | inr past ↦ rw (le-leb s x.0 from, le-ltb x.0 e past) (between-rises (x.0 + 1) b s e xs h.2)
-        ]
-      ]
-
-  -- the pairs of a range ascend below its end
-  between-inside : (a b s e : ℕ) (es : List (ℕ × V)) → Rises a b es → s ≤ a → Rises a e (between es s e)
-  between-inside a b s e [] h l = tt
-  between-inside a b s e (x ∷ xs) h l =
-      elim (cases_lt x.0 e) [
-        | inl to ↦ rw (le-leb s x.0 (omega (arith, h.0)), lt-ltb x.0 e to) (h.0, to, between-inside (x.0 + 1) b s e xs h.2 (omega (arith, h.0)))
-        | inr past ↦ rw (le-leb s x.0 (omega (arith, h.0)), le-ltb x.0 e past, between-above (x.0 + 1) b s e xs h.2 (omega arith)) tt
-      ]
-
-  between-within : (a b s e : ℕ) (es : List (ℕ × V)) → Rises a b es → Rises s e (between es s e)
-  between-within a b s e [] h = tt
-  between-within a b s e (x ∷ xs) h =
-      elim (cases_lt x.0 s) [
-        | inl less ↦ rw (lt-leb s x.0 less) (between-within (x.0 + 1) b s e xs h.2)
-        | inr from ↦ elim (cases_lt x.0 e) [
-          | inl to ↦ rw (le-leb s x.0 from, lt-ltb x.0 e to) (from, to, between-inside (x.0 + 1) b s e xs h.2 (omega arith))
-          | inr past ↦ rw (le-leb s x.0 from, le-ltb x.0 e past) (between-within (x.0 + 1) b s e xs h.2)
-        ]
-      ]
-
-  -- those up to a key in the middle, and those from there on
-  pub between-split : (a b s m e : ℕ) (es : List (ℕ × V)) → Rises a b es → s ≤ m → m ≤ e → between es s e ≡ between es s m ++ between es m e
-  between-split a b s m e [] h l k = refl
-  between-split a b s m e (x ∷ xs) h l k =
-      let rest = between-split (x.0 + 1) b s m e xs h.2 l k in
-      elim (cases_lt x.0 s) [
-        | inl less ↦ rw (lt-leb s x.0 less, lt-leb m x.0 (omega arith)) rest
-        | inr from ↦ elim (cases_lt x.0 m) [
-          | inl before ↦ rw (le-leb s x.0 from, lt-ltb x.0 e (omega arith), lt-ltb x.0 m before, lt-leb m x.0 before) (ap (λ t. x ∷ t) rest)
-          | inr after ↦
-              let none = between-above (x.0 + 1) b s m xs h.2 (omega arith) in
-              let same : between xs s e ≡ between xs m e = rest ∙ ap (λ t. t ++ between xs m e) none in
-              elim (cases_lt x.0 e) [
-                | inl to ↦ rw (le-leb s x.0 from, le-leb m x.0 after, lt-ltb x.0 e to, le-ltb x.0 m after, none) (ap (λ t. x ∷ t) same)
-                | inr past ↦ rw (le-leb s x.0 from, le-leb m x.0 after, le-ltb x.0 e past, le-ltb x.0 m after) rest
-              ]
-        ]
-      ]
 
 Rises-of_mapped : {C D : Type 0} (f : C → D) (a b : ℕ) (es : List (ℕ × C)) → Rises a b (mapped f es) → Rises a b es
 Rises-of_mapped f a b [] h = tt
@@ -138,7 +85,7 @@ module _ {P : Type 0} (s : NodeTable P) where
       ]
 
   -- nor under those past it
-  clip : (less : ℕ) (p : List ℕ) (es : List (ℕ × Child P)) (d from to start end : ℕ) → Rises d 256 es → AreChildren (λ q j. IsTree s less q j) p es
+  pub clip : (less : ℕ) (p : List ℕ) (es : List (ℕ × Child P)) (d from to start end : ℕ) → Rises d 256 es → AreChildren (λ q j. IsTree s less q j) p es
       → ((b : ℕ) → b < from → high (p ++ b ∷ []) ≤ start) → ((b : ℕ) → b < 256 → to ≤ b → end ≤ low (p ++ b ∷ []))
       → between (pairs_of (λ j. pairs_at s less j) p es) start end ≡ between (pairs_of (λ j. pairs_at s less j) p (between es from to)) start end
   clip less p [] d from to start end o h before past = refl

@@ -109,10 +109,6 @@ module _ {P K : Type 0} (key : ℕ → K) (s : NodeTable P) where
           go (suc l) h r = record { levels = l; tree = record { above = n.prefix ++ byte ∷ []; tree = h }; fits = r }
 
 module _ {P : Type 0} where
-  first-append : (xs ys : Pairs P) → first_number xs ≢ None → first_number (xs ++ ys) ≡ first_number xs
-  first-append [] ys some = absurd (some refl)
-  first-append (x ∷ xs) ys some = refl
-
   first-none : (xs : Pairs P) → first_number xs ≡ None → xs ≡ []
   first-none [] is = refl
   first-none (x ∷ xs) is = absurd (cc)
@@ -122,58 +118,11 @@ module _ {P : Type 0} (s : NodeTable P) (start less slot : ℕ) (n : TableNode P
   pub record SeekLeft (from : ℕ) : Type 0 where
     pub whole : from_key start (pairs_at s (suc less) slot) ≡ from_key start (pairs_from s less n from)
 
-module _ {P : Type 0} (s : NodeTable P) (start less slot : ℕ) (n : TableNode P) (tree : IsSubtree s (suc less) slot) (here : Some n ≡ node_at s slot) where
-  pub seek_start : (w : Window) (end : ℕ) → IsWindow n.prefix start end w → SeekLeft s start less slot n w.from
-  seek_start w end is =
-      let a = at_node s less slot n tree here in
-      record { whole = ap (from_key start) a.pairs ∙ skip s less n.prefix n.children 0 w.from start (2 ^ 64) a.sound.ordered a.children is.before }
-
-  module _ (from : ℕ) (left : SeekLeft s start less slot n from) where
-    pub seek_end : between n.children from 256 ≡ [] → None ≡ first_number (from_key start (pairs_at s (suc less) slot))
-    seek_end none = sym (ap first_number left.whole ∙ ap (λ es. first_number (from_key start (pairs_of (λ j. pairs_at s less j) n.prefix es))) none)
-
-    module _ (byte : ℕ) (c : Child P) (next : between n.children from 256 ≡ (byte, c) ∷ between n.children (byte + 1) 256) where
-      here_and_more : from_key start (pairs_at s (suc less) slot) ≡ from_key start (pairs_under (λ j. pairs_at s less j) n.prefix byte c) ++ from_key start (pairs_from s less n (byte + 1))
-      here_and_more = left.whole ∙ ap (from_key start) (pairs_next s less n from byte c next) ∙ filter-append _ (pairs_under (λ j. pairs_at s less j) n.prefix byte c) (pairs_from s less n (byte + 1))
-
-      pub seek_found : (o : Option ℕ) → o ≡ first_number (from_key start (pairs_under (λ j. pairs_at s less j) n.prefix byte c)) → o ≢ None → o ≡ first_number (from_key start (pairs_at s (suc less) slot))
-      seek_found o is some = is ∙ sym (ap first_number here_and_more ∙ first-append _ _ (λ none. some (is ∙ none)))
-
-      pub seek_on : None ≡ first_number (from_key start (pairs_under (λ j. pairs_at s less j) n.prefix byte c)) → SeekLeft s start less slot n (byte + 1)
-      seek_on is = record { whole = here_and_more ∙ ap (λ t. t ++ from_key start (pairs_from s less n (byte + 1))) (first-none _ (sym is)) }
-
-    pub seek_payload : (byte : ℕ) (v : P) → between n.children from 256 ≡ (byte, Payload v) ∷ between n.children (byte + 1) 256 → (w : Window) (end : ℕ) → IsWindow n.prefix start end w → w.from ≤ byte → low n.prefix + byte < 2 ^ 64
-        → Some (w.first + byte) ≡ first_number (from_key start (pairs_under (λ j. pairs_at s less j) n.prefix byte (Payload v)))
-    seek_payload byte v next w end is not_before fits =
-        let seven : length n.prefix ≡ 7 = child_at s less slot n from byte (Payload v) _ tree here next in
-        let key = low-leaf n.prefix byte seven in
-        let k = low (n.prefix ++ byte ∷ []) in
-        rw (le-leb start k (is.not_before seven byte not_before), lt-ltb k (2 ^ 64) (omega arith)) (ap (λ x. Some x) (ap (λ x. x + byte) is.first ∙ sym key))
-
-    pub seek_node : (byte j : ℕ) → between n.children from 256 ≡ (byte, Node j) ∷ between n.children (byte + 1) 256 → (o : Option ℕ)
-        → ((l : ℕ) → IsSubtree s (suc l) j → o ≡ first_number (from_key start (pairs_at s (suc l) j))) → o ≡ first_number (from_key start (pairs_under (λ j. pairs_at s less j) n.prefix byte (Node j)))
-    seek_node byte j next o found = go less (child_at s less slot n from byte (Node j) _ tree here next)
-      where
-        go : (l : ℕ) → IsTree s l (n.prefix ++ byte ∷ []) j → o ≡ first_number (from_key start (pairs_at s l j))
-        go zero h = absurd h
-        go (suc l) h = found l (record { above = n.prefix ++ byte ∷ []; tree = h })
-
-pub is_not_none : (o : Option ℕ) → is_some o ≡ true → o ≢ None
-is_not_none None is = absurd (cc)
-is_not_none (Some k) is = λ none. absurd (cc)
-
-pub is_none : (o : Option ℕ) → is_some o ≡ false → None ≡ o
-is_none None is = refl
-is_none (Some k) is = absurd (cc)
-
 module _ {P : Type 0} (s : NodeTable P) where
   pub stands_with_room : (slot taken capacity : ℕ) → KeysFit s slot taken capacity → HasSubtree s slot
   stands_with_room slot taken capacity h = record { levels = suc h.levels; tree = h.tree }
 
 module _ {P : Type 0} (s : NodeTable P) (root : ℕ) (tree : IsTree s depth [] root) where
-  pub root_key : (start : ℕ) (o : Option ℕ) → ((levels : ℕ) → IsSubtree s (suc levels) root → o ≡ first_number (from_key start (pairs_at s (suc levels) root))) → o ≡ first_number (from_key start (pairs_at s depth root))
-  root_key start o found = subst (λ d. o ≡ first_number (from_key start (pairs_at s d root))) (sym depth_is) (found 7 (root_tree s root tree))
-
   pub root_room : (count capacity : ℕ) → count ≡ length (pairs_at s depth root) → count ≤ capacity → KeysFit s root 0 capacity
   root_room count capacity is fits =
       let all : count ≡ length (pairs_at s 8 root) = subst (λ d. count ≡ length (pairs_at s d root)) depth_is is in

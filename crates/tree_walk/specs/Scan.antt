@@ -1,6 +1,7 @@
 -- The pairs of a map from a key on.
 use Rattle.std.specs.Prelude.{ℕ, ◌^◌, [], ◌∷◌, Option, Some, None}
 use Rattle.spec_map.specs.Map.{Pairs, between}
+use Rattle.spec_map.specs.Near.{first_of}
 
 module _ {P : Type 0} where
   -- the pairs from a key on
@@ -14,5 +15,4 @@ module _ {P : Type 0} where
 
   -- the first pair, if there is one
   abbrev pub first_pair : Pairs P → Option (ℕ × P)
-  first_pair [] = None
-  first_pair (e ∷ es) = Some e
+  first_pair es = first_of es

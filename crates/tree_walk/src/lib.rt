@@ -1,6 +1,7 @@
 //! The calls that read many nodes of a tree in a table, and change none.
 #![tactic(auto)]
 
+pub mod nearest;
 mod payloads;
 pub mod range_scan;
 pub mod statistics;

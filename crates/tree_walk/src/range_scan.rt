@@ -63,15 +63,15 @@ pub(crate) struct Window {
     pub(crate) to: usize,
 }
 
-/// Where the keys from `start` on and below `end` are in a node with this base.
-pub(crate) fn window_of(base: &BaseNode, start: u64, end: u64) -> Window
-    ensures { IsWindow base.now.prefix start end result }
+/// Where the keys from `start` on and up to `last` are in a node with this base.
+pub(crate) fn window_of(base: &BaseNode, start: u64, last: u64) -> Window
+    ensures { IsWindow base.now.prefix start (last + 1) result }
 {
     let first = base.first_key();
     let shift = 8 * (7 - base.prefix().len());
     let from = start.saturating_sub(first) >> shift;
-    let to = if first < end {
-        (((end - 1 - first) >> shift) + 1).min(256)
+    let to = if first <= last {
+        ((last - first) >> shift).min(255) + 1
     } else {
         0
     };
@@ -181,25 +181,25 @@ fn write_payloads<E: RangeEntry>(
     }
 }
 
-/// Writes the entries of the subtree's pairs from `start` on and below `end` to the buffer, from place `count` on, and
-/// returns the place after the last. It ends at the buffer's end.
+/// Writes the entries of the subtree's pairs from `start` on and up to `last` to the buffer, from place `count` on, and
+/// returns the place after the last one. It ends at the buffer's end.
 pub fn scan<E: RangeEntry>(
     nodes: &Slab<TreeNode<u64>>,
     slot: usize,
     start: u64,
-    end: u64,
+    last: u64,
     buffer: &mut [E],
     mut count: usize,
 ) -> usize
     requires tree { HasSubtree nodes.now.slots slot }
     requires room { count ≤ length buffer.old }
     ensures { EachSubtree nodes.now.slots slot (λ pairs.
-        AddsEntries (entries_of E.entry start end pairs) buffer.old count buffer.new result) }
+        AddsEntries (entries_of E.entry start (last + 1) pairs) buffer.old count buffer.new result) }
 {
     let Some(node) = nodes.get(slot) else {
         unreachable!()
     };
-    let window = window_of(node.base(), start, end);
+    let window = window_of(node.base(), start, last);
     if node.is_leaf() {
         let ChildIter::Payloads(payloads) = node.children_between(window.from, window.to) else {
             unreachable!()
@@ -219,7 +219,7 @@ pub fn scan<E: RangeEntry>(
             if count >= buffer.len() {
                 return count;
             }
-            count = scan(nodes, below, start, end, buffer, count);
+            count = scan(nodes, below, start, last, buffer, count);
         }
         from = until;
     }

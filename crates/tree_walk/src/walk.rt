@@ -4,7 +4,7 @@ ghost use Rattle.std.specs.Prelude.{◌≡◌, ◌++◌, map, vec_len, vec_capac
 ghost use Rattle.tree_walk.specs.Scan.{first_number, from_key};
 ghost use Rattle.tree_walk.specs.inner.Scan.{HasSubtree, EachSubtree, KeysFit};
 
-use crate::range_scan::window_of;
+use crate::nearest::pair_from;
 use node_table::child::ChildRef;
 use node_table::tree_node::TreeNode;
 use slab::Slab;
@@ -37,20 +37,6 @@ pub fn key_from<P: Drop>(nodes: &Slab<TreeNode<P>>, slot: usize, start: u64) -> 
     ensures { EachSubtree nodes.now.slots slot (λ pairs.
         result ≡ first_number (from_key start pairs)) }
 {
-    let Some(node) = nodes.get(slot) else {
-        unreachable!()
-    };
-    let window = window_of(node.base(), start, u64::MAX);
-    let mut from = window.from;
-    'children: while let Some((byte, child)) = node.first_from(from) {
-        let found = match child {
-            ChildRef::Payload(_) => Some(window.first + byte as u64),
-            ChildRef::Node(below) => key_from(nodes, below, start),
-        };
-        if found.is_some() {
-            return found;
-        }
-        from = byte as usize + 1;
-    }
-    None
+    let (key, _) = pair_from(nodes, slot, start)?;
+    Some(key)
 }

@@ -15,8 +15,8 @@ pub(super) fn scattered(i: u64) -> u64 {
 
 #[derive(Drop)]
 pub(super) struct Both {
-    map: Congee<u64, u64>,
-    plain: SortedPairs<u64>,
+    pub(super) map: Congee<u64, u64>,
+    pub(super) plain: SortedPairs<u64>,
 }
 
 impl Both {

@@ -60,6 +60,63 @@ fn leaf_grows_and_keeps_its_payloads(rt: HostRuntime) -> Result<(), Fail> {
     Ok(())
 }
 
+// The last byte below this number that has a payload, by looking at each.
+fn last_by_looks(leaf: &TreeNode<u64>, to: usize) -> Option<u8> {
+    let mut last = None;
+    for byte in 0..to.min(256) {
+        if payload_at(leaf, byte as u8).is_some() {
+            last = Some(byte as u8);
+        }
+    }
+    last
+}
+
+// The byte of the last payload below this number, if the payload is the one that is under it.
+fn last_payload(leaf: &TreeNode<u64>, to: usize) -> Option<u8> {
+    match leaf.last_below(to.min(256)) {
+        Some((byte, ChildRef::Payload(payload))) if payload_at(leaf, byte) == Some(*payload) => {
+            Some(byte)
+        }
+        _ => None,
+    }
+}
+
+fn has_last_payloads(leaf: &TreeNode<u64>) -> bool {
+    for to in 0..257usize {
+        if last_payload(leaf, to) != last_by_looks(leaf, to) {
+            return false;
+        }
+    }
+    true
+}
+
+// Fills an empty leaf byte by byte, in no order. Whether the last payload below each byte is found in each form.
+fn finds_last_payloads(alloc: Global, leaf: &mut TreeNode<u64>) -> Result<bool, OOMError> {
+    if !has_last_payloads(leaf) {
+        return Ok(false);
+    }
+    for i in 0..256u64 {
+        if leaf.is_full() {
+            leaf.grow(alloc)?;
+        }
+        if !put(leaf, (i.wrapping_mul(167) % 256) as u8, i) {
+            return Ok(false);
+        }
+        if matches!(i, 0 | 3 | 4 | 15 | 16 | 47 | 48 | 100 | 255) && !has_last_payloads(leaf) {
+            return Ok(false);
+        }
+    }
+    Ok(true)
+}
+
+#[test]
+fn last_payload_in_each_form(rt: HostRuntime) -> Result<(), Fail> {
+    let mut leaf = TreeNode::leaf(rt.alloc(), &[1, 2, 3, 4, 5, 6, 7])?;
+    let is_right = finds_last_payloads(rt.alloc(), &mut leaf)?;
+    assert!(rt; is_right);
+    Ok(())
+}
+
 // Puts one slot in the place of another, and takes it out.
 fn changes_a_slot(rt: &impl Abort, node: &mut TreeNode<u64>)
     requires { node.old ≡ record { form = N4; prefix = 1 ∷ []; children = [] } }
@@ -69,6 +126,8 @@ fn changes_a_slot(rt: &impl Abort, node: &mut TreeNode<u64>)
     assert!(rt; matches!(node.get_child(9), Some(ChildRef::Node(6))));
     assert!(rt; matches!(node.first_from(0), Some((9, ChildRef::Node(6)))));
     assert!(rt; node.first_from(10).is_none());
+    assert!(rt; matches!(node.last_below(256), Some((9, ChildRef::Node(6)))));
+    assert!(rt; node.last_below(9).is_none());
     assert!(rt; matches!(node.remove(9), Child::Node(6)));
     assert!(rt; node.get_child(9).is_none());
 }

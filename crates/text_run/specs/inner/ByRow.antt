@@ -3,17 +3,17 @@
 use Rattle.std.specs.Prelude.{◌≡◌, ℕ, List, [], ◌∷◌, ◌++◌, length, codes, decimal, Option, Some, None, nat_eq}
 use Rattle.std.specs.List.{flat_map}
 use Rattle.spec_map.specs.Map.{Pairs}
-use Rattle.spec_map.specs.Call.{old_value, exchanged, computed, tested, listed, ranged, Answer, replied, refused, Operation}
+use Rattle.spec_map.specs.Call.{old_value, exchanged, computed, tested, listed, ranged, found, counted, Answer, replied, refused, Operation}
 use Rattle.spec_map.specs.Legal.{IsLegal, AnswersBy}
 use Rattle.spec_map.specs.Refusal.{at_new_node}
 use Rattle.face_runs.specs.inner.RefusedRanges.{operations_of}
 use Rattle.spec_text.specs.declared.command.Command.{Command}
-use Rattle.spec_text.specs.declared.command.Command.TheVariants.{Get, Insert, Remove, Exchange, Add, Put, Range, Keys, Empty}
+use Rattle.spec_text.specs.declared.command.Command.TheVariants.{Get, Insert, Remove, Exchange, Add, Put, Range, Keys, Empty, First, Last, Floor, Ceiling, Count}
 use Rattle.spec_text.specs.Answer.{test_text}
 use Rattle.spec_text.specs.Bytes.{Sends}
 use Rattle.spec_text.specs.Command.{SpellsCommand, IsNoCommand, command_call, command_closure}
 use Rattle.spec_text.specs.Lines.{ended}
-use Rattle.spec_text.specs.Value.{value_text, exchanged_text, computed_text, key_text, pair_text}
+use Rattle.spec_text.specs.Value.{value_text, exchanged_text, computed_text, found_text, key_text, pair_text}
 
 -- how many there are, and all of them in order
 abbrev pub keys_text : List ℕ → List ℕ
@@ -38,6 +38,11 @@ IsText (Range start end limit) refused text = text ≡ codes "oom"
 IsText Keys (replied (listed keys)) text = text ≡ keys_text keys
 IsText Keys refused text = text ≡ codes "oom"
 IsText Empty (replied (tested b)) text = text ≡ test_text b
+IsText First (replied (found pair)) text = text ≡ found_text pair
+IsText Last (replied (found pair)) text = text ≡ found_text pair
+IsText (Floor key) (replied (found pair)) text = text ≡ found_text pair
+IsText (Ceiling key) (replied (found pair)) text = text ≡ found_text pair
+IsText Count (replied (counted n)) text = text ≡ decimal n
 IsText command answer text = ⊥
 
 -- the line is a command that asks for the call, the closure answered as that command's, and the text is that of the

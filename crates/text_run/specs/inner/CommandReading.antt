@@ -5,7 +5,7 @@ use Rattle.text_lines.specs.inner.Words.{words_left}
 use Rattle.text_lines.specs.declared.words.Words.{Words}
 use Rattle.spec_text.specs.Command.{words_of_command}
 use Rattle.spec_text.specs.declared.command.Command.{Command}
-use Rattle.spec_text.specs.declared.command.Command.TheVariants.{Get, Insert, Remove, Exchange, Add, Put, Range, Keys, Empty}
+use Rattle.spec_text.specs.declared.command.Command.TheVariants.{Get, Insert, Remove, Exchange, Add, Put, Range, Keys, Empty, First, Last, Floor, Ceiling, Count}
 
 -- its numbers have 64 bits, and at most 4096 pairs are asked for
 abbrev pub CommandIsWithin : Command → Type 0
@@ -18,6 +18,11 @@ CommandIsWithin (Put key more) = (key < 2 ^ 64) × (more < 2 ^ 64)
 CommandIsWithin (Range start end limit) = (start < 2 ^ 64) × (end < 2 ^ 64) × (limit ≤ 4096)
 CommandIsWithin Keys = Unit {0}
 CommandIsWithin Empty = Unit {0}
+CommandIsWithin First = Unit {0}
+CommandIsWithin Last = Unit {0}
+CommandIsWithin (Floor key) = key < 2 ^ 64
+CommandIsWithin (Ceiling key) = key < 2 ^ 64
+CommandIsWithin Count = Unit {0}
 
 -- the first word and those behind it are read as this command, or as none
 abbrev pub ReadsCommand : List ℕ → Words → Option Command → Type 0

@@ -1,14 +1,14 @@
 -- What a command is replied, in text and as a call.
 use Rattle.std.specs.Prelude.{ℕ, List, [], ◌++◌, length, codes, decimal, Some, None}
 use Rattle.std.specs.List.{flat_map}
-use Rattle.spec_map.specs.Call.{ClosureCall, Answer, old_value, exchanged, computed, tested, listed, ranged, replied, refused, Operation}
+use Rattle.spec_map.specs.Call.{ClosureCall, Answer, old_value, exchanged, computed, tested, listed, ranged, found, counted, replied, refused, Operation}
 use Rattle.spec_text.specs.Command.{command_call, put_sum}
-use Rattle.spec_text.specs.Value.{value_text, exchanged_text, computed_text, key_text, pair_text}
+use Rattle.spec_text.specs.Value.{value_text, exchanged_text, computed_text, found_text, key_text, pair_text}
 use Rattle.spec_text.specs.Answer.{test_text}
 use Rattle.spec_text.specs.declared.command.Command.{Command}
 use Rattle.spec_text.specs.declared.command.Command.TheVariants.{Add, Put}
 use Rattle.text_run.specs.declared.reply.LineReply.{LineReply}
-use Rattle.text_run.specs.declared.reply.LineReply.TheVariants.{Value, Before, Exchanged, Computed, Tested, Ranged, Listed, Refused, BadLine}
+use Rattle.text_run.specs.declared.reply.LineReply.TheVariants.{Value, Before, Exchanged, Computed, Tested, Ranged, Listed, Found, Counted, Refused, BadLine}
 
 -- the text of a reply
 abbrev pub line_reply_text : LineReply → List ℕ
@@ -19,6 +19,8 @@ line_reply_text (Computed result) = computed_text result
 line_reply_text (Tested b) = test_text b
 line_reply_text (Ranged pairs) = decimal (length pairs.items) ++ flat_map pair_text pairs.items
 line_reply_text (Listed keys) = decimal (length keys.items) ++ flat_map key_text keys.items
+line_reply_text (Found pair) = found_text pair
+line_reply_text (Counted n) = decimal n
 line_reply_text Refused = codes "oom"
 line_reply_text BadLine = codes "bad line"
 
@@ -31,6 +33,8 @@ head_text (Before before) = line_reply_text (Before before)
 head_text (Exchanged r) = line_reply_text (Exchanged r)
 head_text (Computed r) = line_reply_text (Computed r)
 head_text (Tested b) = line_reply_text (Tested b)
+head_text (Found pair) = line_reply_text (Found pair)
+head_text (Counted n) = line_reply_text (Counted n)
 head_text Refused = line_reply_text Refused
 head_text BadLine = line_reply_text BadLine
 
@@ -49,6 +53,8 @@ reply_answer (Computed r) = replied (computed r)
 reply_answer (Tested b) = replied (tested b)
 reply_answer (Ranged pairs) = replied (ranged pairs.items)
 reply_answer (Listed keys) = replied (listed keys.items)
+reply_answer (Found pair) = replied (found pair)
+reply_answer (Counted n) = replied (counted n)
 reply_answer Refused = refused
 reply_answer BadLine = refused
 

@@ -21,15 +21,25 @@ returns-in-len1-clause-some c =
     let same : name ≡ codes "run" = search rules in
     words ∙ ap (λ w. w ∷ []) same
 
-pub returns-in_ok-number-in-len2-clause-some : goal.returns-in_ok-number-in-len2-clause-some
-returns-in_ok-number-in-len2-clause-some c =
+pub returns-in-len2-clause-some : goal.returns-in-len2-clause-some
+returns-in-len2-clause-some c =
     let name = string_bytes c.name-item-then-words-lt3.result in
+    let word = string_bytes c.word-item.result in
+    let words : map string_bytes c.args.words.now ≡ name ∷ word ∷ [] =
+    ap (map string_bytes) (two_items _ _ _ (omega arith) c.name-item-then-words-lt3.is c.word-item.is) in
+    let same : name ≡ codes "run" = search rules in
+    let help : word ≡ codes "--help" = search rules in
+    words ∙ ap (λ w. w ∷ word ∷ []) same ∙ ap (λ w. codes "run" ∷ w ∷ []) help
+
+pub returns-in_ok-number-in-len2-2-clause-some : goal.returns-in_ok-number-in-len2-2-clause-some
+returns-in_ok-number-in-len2-2-clause-some c =
+    let name = string_bytes c.name-item-then-words-lt3-2.result in
     let limit = string_bytes c.limit-item.result in
     let words : map string_bytes c.args.words.now ≡ name ∷ limit ∷ [] =
-    ap (map string_bytes) (two_items _ _ _ (omega arith) c.name-item-then-words-lt3.is c.limit-item.is) in
+    ap (map string_bytes) (two_items _ _ _ (omega arith) c.name-item-then-words-lt3-2.is c.limit-item.is) in
     let same : name ≡ codes "run" = search rules in
-    let number : limit ≡ decimal c.in_ok-number-in-len2.field-0 = search rules in
-    (words ∙ ap (λ w. w ∷ limit ∷ []) same ∙ ap (λ w. codes "run" ∷ w ∷ []) number, c.in_ok-number-in-len2.ensures.range)
+    let number : limit ≡ decimal c.in_ok-number-in-len2-2.field-0 = search rules in
+    (words ∙ ap (λ w. w ∷ limit ∷ []) same ∙ ap (λ w. codes "run" ∷ w ∷ []) number, c.in_ok-number-in-len2-2.ensures.range)
 
 pub returns-in-len1-2-clause-some : goal.returns-in-len1-2-clause-some
 returns-in-len1-2-clause-some c =

@@ -1,8 +1,9 @@
 use Rattle.std.proofs.Common.{ℕ, List, refl, ap}
-use Rattle.spec_map.specs.Call.{listed, ranged, replied}
+use Rattle.spec_map.specs.Call.{first, last, floor, below, ceiling, above, listed, ranged, replied}
+use Rattle.face_runs.specs.declared.calls.Call.TheVariants as call
 use Rattle.face_runs.specs.declared.calls.Reply.TheVariants.{Listed, Ranged}
 use Rattle.face_runs.specs.Calls.{by_numbers, answer_of}
-use Rattle.face_runs.proofs.Steps.{get_step, insert_step, insert_refused, remove_step, exchange_step, compute_if_present_step, compute_or_insert_step, compute_or_insert_refused, is_empty_step, keys_step, keys_refused, range_answers, range_refused}
+use Rattle.face_runs.proofs.Steps.{get_step, insert_step, insert_refused, remove_step, exchange_step, compute_if_present_step, compute_or_insert_step, compute_or_insert_refused, is_empty_step, keys_step, keys_refused, range_answers, range_refused, near_step, count_step}
 use Rattle.face_runs.proofs.calls.make_call.Goals as goal
 
 pub returns-in-Get : goal.returns-in-Get
@@ -84,3 +85,38 @@ pub returns-in-Err-pairs_between : goal.returns-in-Err-pairs_between
 returns-in-Err-pairs_between g c =
     let by = by_numbers g.K.Word.number g.K.Word.of_number g.V.Word.number g.V.Word.of_number in
     rw c.in-Range.is (range_refused by c.args.map.now.pairs c.args.map.now.pairs c.in-Range.start c.in-Range.end c.in-Range.limit refl)
+
+pub returns-in-First : goal.returns-in-First
+returns-in-First g c =
+    let by = by_numbers g.K.Word.number g.K.Word.of_number g.V.Word.number g.V.Word.of_number in
+    rw c.in-First.is (near_step by c.args.map.now.pairs call.First first c.first.result refl c.first.ensures)
+
+pub returns-in-Last : goal.returns-in-Last
+returns-in-Last g c =
+    let by = by_numbers g.K.Word.number g.K.Word.of_number g.V.Word.number g.V.Word.of_number in
+    rw c.in-Last.is (near_step by c.args.map.now.pairs call.Last last c.last.result refl c.last.ensures)
+
+pub returns-in-Floor : goal.returns-in-Floor
+returns-in-Floor g c =
+    let by = by_numbers g.K.Word.number g.K.Word.of_number g.V.Word.number g.V.Word.of_number in
+    rw c.in-Floor.is (near_step by c.args.map.now.pairs (call.Floor c.in-Floor.key) (floor c.in-Floor.key) c.floor.result refl c.floor.ensures)
+
+pub returns-in-Below : goal.returns-in-Below
+returns-in-Below g c =
+    let by = by_numbers g.K.Word.number g.K.Word.of_number g.V.Word.number g.V.Word.of_number in
+    rw c.in-Below.is (near_step by c.args.map.now.pairs (call.Below c.in-Below.key) (below c.in-Below.key) c.below.result refl c.below.ensures)
+
+pub returns-in-Ceiling : goal.returns-in-Ceiling
+returns-in-Ceiling g c =
+    let by = by_numbers g.K.Word.number g.K.Word.of_number g.V.Word.number g.V.Word.of_number in
+    rw c.in-Ceiling.is (near_step by c.args.map.now.pairs (call.Ceiling c.in-Ceiling.key) (ceiling c.in-Ceiling.key) c.ceiling.result refl c.ceiling.ensures)
+
+pub returns-in-Above : goal.returns-in-Above
+returns-in-Above g c =
+    let by = by_numbers g.K.Word.number g.K.Word.of_number g.V.Word.number g.V.Word.of_number in
+    rw c.in-Above.is (near_step by c.args.map.now.pairs (call.Above c.in-Above.key) (above c.in-Above.key) c.above.result refl c.above.ensures)
+
+pub returns-in-ValueCount : goal.returns-in-ValueCount
+returns-in-ValueCount g c =
+    let by = by_numbers g.K.Word.number g.K.Word.of_number g.V.Word.number g.V.Word.of_number in
+    rw c.in-ValueCount.is (count_step by c.args.map.now.pairs c.value_count.result c.value_count.ensures)

@@ -1,0 +1,334 @@
+-- Removing a range of pairs, and the pairs that a closure keeps.
+use Rattle.std.proofs.Common.{◌≡◌, ℕ, suc, ◌+◌, ◌-◌, ◌<◌, ◌≤◌, ◌^◌, ◌&&◌, ◌≢◌, cond, leb, ltb, eqb, not, Bool, true, false, List, [], ◌∷◌, ◌++◌, length, Option, Some, None, refl, ap, sym, subst, ◌∙◌, append_assoc, arith, inl, inr}
+use Rattle.std.proofs.lemmas.Bool.{lt-ltb, le-ltb, le-leb, lt-leb, eq-eqb, ne_eqb, cases_lt, cases_eq}
+use Rattle.std.proofs.lemmas.List.Elements.{filter-append}
+use Rattle.spec_map.specs.Map.{Pairs, lookup, without, between, Rises, IsMap}
+use Rattle.spec_map.proofs.MapLaws.{Rises-wider, Rises-without}
+use Rattle.spec_map.proofs.RangeLaws.{between-all, between-above}
+use Rattle.spec_map.proofs.JoinLaws.{Rises-append}
+use Rattle.tree_walk.specs.Scan.{from_key, first_number, first_pair}
+use Rattle.congee_tree.specs.Bulk.{outside, next_of, Retains}
+use Rattle.congee_tree.specs.inner.Step.{Asks, Extracts}
+use Rattle.std.specs.List.{FoldsTo}
+
+module _ {P : Type 0} where
+  -- no pair is between two keys that are above all
+  pub between-below : (a b s e : ℕ) (es : Pairs P) → Rises a b es → b ≤ s → between es s e ≡ []
+  between-below a b s e [] h l = refl
+  between-below a b s e (x ∷ xs) h l = rw (lt-leb s x.0 (omega arith)) (between-below (x.0 + 1) b s e xs h.2 l)
+
+  -- the first key between two is between them
+  pub first_inside : (m : Pairs P) (s e k : ℕ) → Some k ≡ first_number (between m s e) → (s ≤ k) × (k < e)
+  first_inside [] s e k is = absurd (cc)
+  first_inside (x ∷ xs) s e k is =
+      elim (cases_lt x.0 s) [
+        | inl less ↦ first_inside xs s e k (rw (lt-leb s x.0 less) at is)
+        | inr from ↦ elim (cases_lt x.0 e) [
+          | inl below ↦
+              let here : Some k ≡ Some x.0 = rw (le-leb s x.0 from, lt-ltb x.0 e below) at is in
+              let same : k ≡ x.0 = cc in
+              (omega (arith, same), omega (arith, same))
+          | inr past ↦ first_inside xs s e k (rw (le-leb s x.0 from, le-ltb x.0 e past) at is)
+        ]
+      ]
+
+  -- it is a key of the map
+  pub fewer : (m : Pairs P) (s e k : ℕ) → Some k ≡ first_number (between m s e) → length (without m k) < length m
+  fewer [] s e k is = absurd (cc)
+  fewer (x ∷ xs) s e k is =
+      elim (cases_eq x.0 k) [
+        | inl same ↦ rw (eq-eqb x.0 k same) (omega arith)
+        | inr other ↦ rw (ne_eqb x.0 k other) (let less : length (without xs k) < length xs = fewer xs s e k (later other) in omega (arith, less))
+      ]
+    where
+      later : x.0 ≢ k → Some k ≡ first_number (between xs s e)
+      later other = elim (cases_lt x.0 s) [
+        | inl less ↦ rw (lt-leb s x.0 less) at is
+        | inr from ↦ elim (cases_lt x.0 e) [
+          | inl below ↦
+              absurd (let here : Some k ≡ Some x.0 = rw (le-leb s x.0 from, lt-ltb x.0 e below) at is in
+              let same : k ≡ x.0 = cc in other (sym same))
+          | inr past ↦ rw (le-leb s x.0 from, le-ltb x.0 e past) at is
+        ]
+      ]
+
+  -- the first key from one on, as the first between two
+  pub first_before : (m : Pairs P) (s e k : ℕ) → e ≤ 2 ^ 64 → Some k ≡ first_number (from_key s m) → k < e → Some k ≡ first_number (between m s e)
+  first_before [] s e k top is l = is
+  first_before (x ∷ xs) s e k top is l =
+      elim (cases_lt x.0 s) [
+        | inl less ↦ rw (lt-leb s x.0 less) (first_before xs s e k top (rw (lt-leb s x.0 less) at is) l)
+        | inr from ↦ elim (cases_lt x.0 (2 ^ 64)) [
+          | inl below ↦
+              let here : Some k ≡ Some x.0 = rw (le-leb s x.0 from, lt-ltb x.0 (2 ^ 64) below) at is in
+              let same : k ≡ x.0 = cc in
+              rw (le-leb s x.0 from, lt-ltb x.0 e (omega (arith, same))) here
+          | inr past ↦ rw (le-leb s x.0 from, le-ltb x.0 e (omega (arith, past))) (first_before xs s e k top (rw (le-leb s x.0 from, le-ltb x.0 (2 ^ 64) past) at is) l)
+        ]
+      ]
+
+  pub none_before : (a : ℕ) (m : Pairs P) (s e k : ℕ) → Rises a (2 ^ 64) m → Some k ≡ first_number (from_key s m) → e ≤ k → between m s e ≡ []
+  none_before a [] s e k h is l = refl
+  none_before a (x ∷ xs) s e k h is l =
+      elim (cases_lt x.0 s) [
+        | inl less ↦ rw (lt-leb s x.0 less) (none_before (x.0 + 1) xs s e k h.2 (rw (lt-leb s x.0 less) at is) l)
+        | inr from ↦
+            let here : Some k ≡ Some x.0 = rw (le-leb s x.0 from, lt-ltb x.0 (2 ^ 64) h.1) at is in
+            let same : k ≡ x.0 = cc in
+            rw (le-leb s x.0 from, le-ltb x.0 e (omega (arith, same, l))) (between-above (x.0 + 1) (2 ^ 64) s e xs h.2 (omega (arith, same, l)))
+      ]
+
+  pub nothing_from : (a : ℕ) (m : Pairs P) (s e : ℕ) → Rises a (2 ^ 64) m → None ≡ first_number (from_key s m) → between m s e ≡ []
+  nothing_from a [] s e h is = refl
+  nothing_from a (x ∷ xs) s e h is =
+      elim (cases_lt x.0 s) [
+        | inl less ↦ rw (lt-leb s x.0 less) (nothing_from (x.0 + 1) xs s e h.2 (rw (lt-leb s x.0 less) at is))
+        | inr from ↦ absurd (let here : None ≡ Some x.0 = rw (le-leb s x.0 from, lt-ltb x.0 (2 ^ 64) h.1) at is in cc)
+      ]
+
+  -- a removal between two keys leaves the pairs outside
+  pub outside-without : (m : Pairs P) (s e k : ℕ) → s ≤ k → k < e → outside (without m k) s e ≡ outside m s e
+  outside-without [] s e k p q = refl
+  outside-without (x ∷ xs) s e k p q =
+      elim (cases_eq x.0 k) [
+        | inl same ↦ rw (eq-eqb x.0 k same, le-leb s x.0 (omega (arith, same)), lt-ltb x.0 e (omega (arith, same))) refl
+        | inr other ↦ rw (ne_eqb x.0 k other) (ap (λ (t : Pairs P). cond (not (leb s x.0 && ltb x.0 e)) (x ∷ t) t) (outside-without xs s e k p q))
+      ]
+
+  -- where none is between them, all are outside
+  pub all_outside : (m : Pairs P) (s e : ℕ) → between m s e ≡ [] → outside m s e ≡ m
+  all_outside [] s e is = refl
+  all_outside (x ∷ xs) s e is =
+      elim (cases_lt x.0 s) [
+        | inl less ↦ rw (lt-leb s x.0 less) (ap (λ t. x ∷ t) (all_outside xs s e (rw (lt-leb s x.0 less) at is)))
+        | inr from ↦ elim (cases_lt x.0 e) [
+          | inl below ↦ absurd (let here : x ∷ between xs s e ≡ [] = rw (le-leb s x.0 from, lt-ltb x.0 e below) at is in cc)
+          | inr past ↦ rw (le-leb s x.0 from, le-ltb x.0 e past) (ap (λ t. x ∷ t) (all_outside xs s e (rw (le-leb s x.0 from, le-ltb x.0 e past) at is)))
+        ]
+      ]
+
+  -- each pair is between the two or outside
+  pub parts_length : (m : Pairs P) (s e : ℕ) → length (between m s e) + length (outside m s e) ≡ length m
+  parts_length [] s e = refl
+  parts_length (x ∷ xs) s e =
+      elim (cases_lt x.0 s) [
+        | inl less ↦ rw (lt-leb s x.0 less) (omega (arith, parts_length xs s e))
+        | inr from ↦ elim (cases_lt x.0 e) [
+          | inl below ↦ rw (le-leb s x.0 from, lt-ltb x.0 e below) (omega (arith, parts_length xs s e))
+          | inr past ↦ rw (le-leb s x.0 from, le-ltb x.0 e past) (omega (arith, parts_length xs s e))
+        ]
+      ]
+
+  -- a key of the map has a value
+  pub present : (m : Pairs P) (s e k : ℕ) → Some k ≡ first_number (between m s e) → None ≡ lookup m k → ⊥
+  present [] s e k is none = cc
+  present (x ∷ xs) s e k is none =
+      elim (cases_eq x.0 k) [
+        | inl same ↦ let here : None ≡ Some x.1 = rw (eq-eqb x.0 k same) at none in cc
+        | inr other ↦ elim (cases_lt x.0 s) [
+          | inl less ↦ present xs s e k (rw (lt-leb s x.0 less) at is) (rw (ne_eqb x.0 k other) at none)
+          | inr from ↦ elim (cases_lt x.0 e) [
+            | inl below ↦
+                let here : Some k ≡ Some x.0 = rw (le-leb s x.0 from, lt-ltb x.0 e below) at is in
+                let same : k ≡ x.0 = cc in other (sym same)
+            | inr past ↦ present xs s e k (rw (le-leb s x.0 from, le-ltb x.0 e past) at is) (rw (ne_eqb x.0 k other) at none)
+          ]
+        ]
+      ]
+
+  -- the first pair between two keys, and those that its removal leaves there
+  pub between_taken : (a : ℕ) (m : Pairs P) (s e k : ℕ) (v : P) → Rises a (2 ^ 64) m → Some k ≡ first_number (between m s e) → Some v ≡ lookup m k → between m s e ≡ (k, v) ∷ between (without m k) s e
+  between_taken a [] s e k v h is found = absurd (cc)
+  between_taken a (x ∷ xs) s e k v h is found =
+      elim (cases_lt x.0 s) [
+        | inl less ↦
+            let other : x.0 ≢ k = let inside = first_inside (x ∷ xs) s e k is in omega (arith, less, inside.0) in
+            rw (ne_eqb x.0 k other, lt-leb s x.0 less) (between_taken (x.0 + 1) xs s e k v h.2 (rw (lt-leb s x.0 less) at is) (rw (ne_eqb x.0 k other) at found))
+        | inr from ↦ elim (cases_lt x.0 e) [
+          | inl below ↦
+              let here : Some k ≡ Some x.0 = rw (le-leb s x.0 from, lt-ltb x.0 e below) at is in
+              let same : x.0 ≡ k = cc in
+              let value : Some v ≡ Some x.1 = rw (eq-eqb x.0 k same) at found in
+              let equal : x.1 ≡ v = cc in
+              rw (eq-eqb x.0 k same, le-leb s x.0 from, lt-ltb x.0 e below) (ap (λ (y : ℕ × P). y ∷ between xs s e) (λ i. (same i, equal i)))
+          | inr past ↦ absurd (
+              let rest : Some k ≡ first_number (between xs s e) = rw (le-leb s x.0 from, le-ltb x.0 e past) at is in
+              let none : between xs s e ≡ [] = between-above (x.0 + 1) (2 ^ 64) s e xs h.2 (omega (arith, past)) in
+              let clash : Some k ≡ None = rest ∙ ap first_number none in cc)
+        ]
+      ]
+
+  -- the first pair from a key on
+  pub first_pair_is : (a : ℕ) (m : Pairs P) (s k : ℕ) (v : P) → Rises a (2 ^ 64) m → Some k ≡ first_number (from_key s m) → Some v ≡ lookup m k → first_pair (from_key s m) ≡ Some (k, v)
+  first_pair_is a m s k v h is found = ap first_pair (between_taken a m s (2 ^ 64) k v h is found)
+
+  pub none_of_first : (m : Pairs P) → None ≡ first_number m → m ≡ []
+  none_of_first [] is = refl
+  none_of_first (x ∷ xs) is = absurd (cc)
+
+  pub no_first_pair : (m : Pairs P) → None ≡ first_number m → first_pair m ≡ None
+  no_first_pair [] is = refl
+  no_first_pair (x ∷ xs) is = absurd (cc)
+
+  -- no key is past the greatest
+  none_past : (m : Pairs P) → IsMap m → None ≡ first_number (from_key (2 ^ 64) m)
+  none_past m h = sym (ap first_number (between-below 0 (2 ^ 64) (2 ^ 64) (2 ^ 64) m h (omega arith)))
+
+  pub none_after : (m : Pairs P) → IsMap m → (last : Option ℕ) (k : ℕ) → last ≡ Some k → k + 1 ≡ 2 ^ 64 → None ≡ first_number (from_key (next_of last) m)
+  none_after m h None k is top = absurd (cc)
+  none_after m h (Some j) k is top =
+      let same : j ≡ k = cc in
+      let past : 2 ^ 64 ≡ j + 1 = omega (arith, same, top) in
+      subst (λ n. None ≡ first_number (from_key n m)) past (none_past m h)
+
+  -- a removal behind other pairs
+  without-append : (a b : ℕ) (xs ys : Pairs P) (k : ℕ) → Rises a b xs → b ≤ k → without (xs ++ ys) k ≡ xs ++ without ys k
+  without-append a b [] ys k h p = refl
+  without-append a b (x ∷ xs) ys k h p = rw (ne_eqb x.0 k (omega arith)) (ap (λ t. x ∷ t) (without-append (x.0 + 1) b xs ys k h.2 p))
+
+  -- of the pairs in two parts, below a key and from it on, the second part is the pairs from it on
+  second_part : (from : ℕ) (done left : Pairs P) → Rises 0 from done → Rises from (2 ^ 64) left → from_key from (done ++ left) ≡ left
+  second_part from done left below above =
+      filter-append _ done left
+      ∙ ap (λ (t : Pairs P). t ++ between left from (2 ^ 64)) (between-below 0 from from (2 ^ 64) done below (omega arith))
+      ∙ between-all from (2 ^ 64) from (2 ^ 64) left above (omega arith) (omega arith)
+
+  -- the first of those
+  pub record FirstOf (left : Pairs P) (k : ℕ) (v : P) : Type 0 where
+    pub rest : Pairs P
+    pub is : left ≡ (k, v) ∷ rest
+    pub above : Rises (k + 1) (2 ^ 64) rest
+    pub fits : k < 2 ^ 64
+
+  first_of_left : (from : ℕ) (left : Pairs P) (k : ℕ) (v : P) → Rises from (2 ^ 64) left → first_pair left ≡ Some (k, v) → FirstOf left k v
+  first_of_left from [] k v h is = absurd (cc)
+  first_of_left from (x ∷ xs) k v h is =
+      let same : x ≡ (k, v) = cc in
+      subst (λ (y : ℕ × P). FirstOf (x ∷ xs) y.0 y.1) same (record { rest = xs; is = refl; above = h.2; fits = h.1 })
+
+  none_of_left : (left : Pairs P) → first_pair left ≡ None → left ≡ []
+  none_of_left [] is = refl
+  none_of_left (x ∷ xs) is = absurd (cc)
+
+-- WHILE A CLOSURE IS ASKED: the pairs are those below a key, which it kept, and those from it on, at which it is still
+-- to be called. What those calls keep, behind the former, is what all calls keep of the first pairs.
+module _ {F P : Type 0} (step : F → ℕ × P → Bool → F → Type 0) where
+  pub record Asking (f : F) (first : Pairs P) (g : F) (m : Pairs P) (from : ℕ) : Type 0 where
+    pub done : Pairs P
+    pub left : Pairs P
+    pub is : m ≡ done ++ left
+    pub below : Rises 0 from done
+    pub above : Rises from (2 ^ 64) left
+    pub then : (kept : Pairs P) (last : F) → Retains step g left kept last → Retains step f first (done ++ kept) last
+
+  pub asking_begins : (f : F) (m : Pairs P) → IsMap m → Asking f m f m 0
+  asking_begins f m h = record { done = []; left = m; is = refl; below = tt; above = h; then = λ kept last calls. calls }
+
+  module _ (f : F) (first : Pairs P) (g : F) (m : Pairs P) (from : ℕ) (a : Asking f first g m from) where
+    left_is : from_key from m ≡ a.left
+    left_is = ap (from_key from) a.is ∙ second_part from a.done a.left a.below a.above
+
+    pub asking_ends : first_pair (from_key from m) ≡ None → Retains step f first m g
+    asking_ends none =
+        let empty : a.left ≡ [] = none_of_left a.left (ap first_pair (sym left_is) ∙ none) in
+        let whole : m ≡ a.done ++ [] = a.is ∙ ap (λ (t : Pairs P). a.done ++ t) empty in
+        subst (λ (t : Pairs P). Retains step f first t g) (sym whole)
+        (a.then [] g (subst (λ (t : Pairs P). Retains step g t [] g) (sym empty) (refl, refl)))
+
+    module _ (k : ℕ) (v : P) (here : first_pair (from_key from m) ≡ Some (k, v)) (next : F) where
+      at_first : FirstOf a.left k v
+      at_first = first_of_left from a.left k v a.above (ap first_pair (sym left_is) ∙ here)
+
+      from_is : from ≤ k
+      from_is = let above : Rises from (2 ^ 64) ((k, v) ∷ at_first.rest) = subst (Rises from (2 ^ 64)) at_first.is a.above in above.0
+
+      -- the pair stays
+      pub asking_keeps : step g (k, v) true next → Asking f first next m (k + 1)
+      asking_keeps called =
+          let o = at_first in
+          record {
+            done = a.done ++ (k, v) ∷ [];
+            left = o.rest;
+            is = a.is ∙ ap (λ (t : Pairs P). a.done ++ t) o.is ∙ sym (append_assoc a.done ((k, v) ∷ []) o.rest);
+            below = Rises-append 0 from (k + 1) a.done ((k, v) ∷ []) (omega arith) (omega (arith, from_is)) a.below (from_is, omega arith, tt);
+            above = o.above;
+            then = λ kept last calls.
+                subst (λ (t : Pairs P). Retains step f first t last) (sym (append_assoc a.done ((k, v) ∷ []) kept))
+                (a.then ((k, v) ∷ kept) last (subst (λ (t : Pairs P). Retains step g t ((k, v) ∷ kept) last) (sym o.is)
+                (true, next, kept, called, calls, refl)));
+          }
+
+      -- it goes
+      pub asking_removes : (n : Pairs P) → n ≡ without m k → step g (k, v) false next → Asking f first next n (k + 1)
+      asking_removes n gone called =
+          let o = at_first in
+          let less : without ((k, v) ∷ o.rest) k ≡ o.rest = rw (eq-eqb k k refl) refl in
+          record {
+            done = a.done;
+            left = o.rest;
+            is =
+                gone
+                ∙ ap (λ (t : Pairs P). without t k) (a.is ∙ ap (λ (t : Pairs P). a.done ++ t) o.is)
+                ∙ without-append 0 from a.done ((k, v) ∷ o.rest) k a.below from_is
+                ∙ ap (λ (t : Pairs P). a.done ++ t) less;
+            below = Rises-wider 0 from 0 (k + 1) a.done (omega arith) (omega (arith, from_is)) a.below;
+            above = o.above;
+            then = λ kept last calls.
+                a.then kept last (subst (λ (t : Pairs P). Retains step g t kept last) (sym o.is)
+                (false, next, kept, called, calls, refl));
+          }
+
+      -- the next key to ask about is greater
+      pub asking_goes_on : (from ≤ k) × (k < 2 ^ 64)
+      asking_goes_on = (from_is, at_first.fits)
+
+  -- one question
+  module _ (f : F) (first : Pairs P) (g : F) (m : Pairs P) (from : ℕ) (a : Asking f first g m from) (next : F) (n : Pairs P) where
+    pub asked : (k : ℕ) → Asks step g m from (Some k) next n → Asking f first next n (k + 1)
+    asked k (v, true, here, called, is) =
+        subst (λ (t : Pairs P). Asking f first next t (k + 1)) (sym is) (asking_keeps f first g m from a k v here next called)
+    asked k (v, false, here, called, is) = asking_removes f first g m from a k v here next n is called
+
+    pub asked_all : Asks step g m from None next n → Retains step f first n next
+    asked_all (none, same, is) =
+        subst (λ (t : Pairs P). Retains step f first t next) (sym is)
+        (subst (λ (h : F). Retains step f first m h) (sym same) (asking_ends f first g m from a none))
+
+    pub asked_forward : (k : ℕ) → Asks step g m from (Some k) next n → 2 ^ 64 - (k + 1) < 2 ^ 64 - from
+    asked_forward k (v, stays, here, called, is) = let o = asking_goes_on f first g m from a k v here next in omega (arith, o.0, o.1)
+
+-- WHILE PAIRS OF A RANGE GO: those outside of it stay, and the calls with those that are left are the last of all.
+module _ {F P : Type 0} (step : F → ℕ × P → F → Type 0) (low high : ℕ) where
+  pub record Extracting (f : F) (first : Pairs P) (g : F) (m : Pairs P) : Type 0 where
+    pub ordered : IsMap m
+    pub stays : outside m low high ≡ outside first low high
+    pub then : (last : F) → FoldsTo step g (between m low high) last → FoldsTo step f (between first low high) last
+
+  pub extracting_begins : (f : F) (m : Pairs P) → IsMap m → Extracting f m f m
+  extracting_begins f m h = record { ordered = h; stays = refl; then = λ last calls. calls }
+
+  module _ (f : F) (first : Pairs P) (g : F) (m : Pairs P) (a : Extracting f first g m) (next : F) (n : Pairs P) where
+    pub extracted : Extracts step g m low high true next n → Extracting f first next n
+    extracted (k, v, here, found, called, is) =
+        let inside = first_inside m low high k here in
+        subst (λ (t : Pairs P). Extracting f first next t) (sym is) (record {
+          ordered = Rises-without 0 (2 ^ 64) m k a.ordered;
+          stays = outside-without m low high k inside.0 inside.1 ∙ a.stays;
+          then = λ last calls.
+              a.then last (subst (λ (t : Pairs P). FoldsTo step g t last) (sym (between_taken 0 m low high k v a.ordered here found))
+              (next, called, calls));
+        })
+
+    pub extracted_less : Extracts step g m low high true next n → length n < length m
+    extracted_less (k, v, here, found, called, is) = subst (λ (t : Pairs P). length t < length m) (sym is) (fewer m low high k here)
+
+    -- where the bounds are these
+    module _ (start end : ℕ) (starts : low ≡ start) (ends : high ≡ end) where
+      pub extracted_calls : Extracts step g m low high false next n → FoldsTo step f (between first start end) next
+      extracted_calls (none, same, is) =
+          subst (λ (t : Pairs P). FoldsTo step f t next) (λ i. between first (starts i) (ends i))
+          (a.then next (subst (λ (t : Pairs P). FoldsTo step g t next) (sym (none_of_first _ none)) (sym same)))
+
+      pub extracted_all : Extracts step g m low high false next n → n ≡ outside first start end
+      extracted_all (none, same, is) =
+          is ∙ sym (all_outside m low high (none_of_first _ none)) ∙ a.stays ∙ (λ i. outside first (starts i) (ends i))

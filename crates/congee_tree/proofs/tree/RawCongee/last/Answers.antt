@@ -1,0 +1,7 @@
+use Rattle.std.proofs.Common.{◌∙◌, ◌^◌, ap, arith}
+use Rattle.spec_map.specs.Near.{last_of}
+use Rattle.spec_map.proofs.RangeLaws.{between-all}
+use Rattle.congee_tree.proofs.tree.RawCongee.last.Goals as goal
+
+pub returns : goal.returns
+returns g c = c.floor.ensures ∙ ap (λ es. last_of es) (between-all 0 (2 ^ 64) 0 (2 ^ 64) c.args.self.now.pairs c.law_ordered.ensures (omega arith) (omega arith))

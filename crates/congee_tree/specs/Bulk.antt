@@ -1,0 +1,33 @@
+-- Calls that change many pairs at once.
+use Rattle.std.specs.Prelude.{◌≡◌, ℕ, ◌+◌, Bool, ◌&&◌, not, List, [], ◌∷◌, Option, Some, None, if◌then◌else◌, nat_lt, nat_le, filter, fold}
+use Rattle.std.specs.Fn.{Mut, Called}
+use Rattle.spec_map.specs.Map.{Pairs, put}
+use denote.Ref.{Bor}
+
+-- the pairs with keys below low, or from high on: those that aren't between the two
+abbrev pub outside : {V : Type 0} → Pairs V → ℕ → ℕ → Pairs V
+outside es low high = filter (λ e. not (nat_le low e.0 && nat_lt e.0 high)) es
+
+-- the map after insertions of these pairs, one after another, each key and value written as its number
+abbrev pub put_all : {K V : Type 0} → (K → ℕ) → (V → ℕ) → Pairs ℕ → List (K × V) → Pairs ℕ
+put_all key value m pairs = fold (λ es pair. put es (key pair.0) (value pair.1)) m pairs
+
+-- the least number that a key after this one can be: any number where there is none
+abbrev pub next_of : Option ℕ → ℕ
+next_of None = 0
+next_of (Some k) = k + 1
+
+-- A closure's steps at the items of a list, in their order, each once: it answers which items stay. Those are `kept`.
+module _ {F E : Type 0} (step : F → E → Bool → F → Type 0) where
+  abbrev pub Retains : F → List E → List E → F → Type 0
+  Retains f [] kept last = (kept ≡ []) × (last ≡ f)
+  Retains f (e ∷ es) kept last = (stays : Bool) × (next : F) × (rest : List E)
+      × step f e stays next
+      × Retains next es rest last
+      × (kept ≡ (if stays then e ∷ rest else rest))
+
+-- a call of f at a key and a `&` to a payload may return r, and leave f'
+pub record CalledAtEntry {F K P R : Type 0} (g : Mut F (K × (Bor P × Unit {0})) R) (f : F) (k : K) (p : P) (r : R) (f' : F) : Type 0 where
+  pub shown : Bor P
+  pub shows : shown.now ≡ p
+  pub called : Called g f (k, (shown, tt)) r f'

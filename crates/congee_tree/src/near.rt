@@ -1,0 +1,114 @@
+//! The ends of a tree's pairs, and the neighbours of a key.
+
+ghost use Rattle.std.specs.Prelude.{◌≡◌, IfSome, IfNone, IsSome, Some};
+ghost use Rattle.spec_map.specs.Map.{lookup};
+ghost use Rattle.std.specs.Option.{option_map};
+ghost use Rattle.spec_map.specs.Near.{first_of, last_of, floor_of, below_of, ceiling_of, above_of};
+ghost use Rattle.tree_edit.specs.TreeCalls.{Removes};
+
+use crate::by_number::remove;
+use crate::tree::RawCongee;
+use node_table::allocator::Allocator;
+use spec_map::payload::Payload;
+use std::marker::Brand;
+use std::sync::ledger::Blank;
+use tree_walk::nearest::{pair_from, pair_to};
+
+// Each call reads one path, and beside it at most one that is a dead end: that of the key which is asked for.
+impl<P: Payload, A: Allocator> RawCongee<P, A> {
+    /// The pair with the least key. Takes no memory.
+    pub fn first(&self) -> Option<(u64, &P)>
+        ensures { option_map (λ found. (found.0, found.1.now)) result ≡ first_of self.now.pairs }
+    {
+        // For the proof: brings the order of the keys into scope.
+        self.law_ordered();
+        self.ceiling(0)
+    }
+
+    /// The pair with the greatest key. Takes no memory.
+    pub fn last(&self) -> Option<(u64, &P)>
+        ensures { option_map (λ found. (found.0, found.1.now)) result ≡ last_of self.now.pairs }
+    {
+        // For the proof: brings the order of the keys into scope.
+        self.law_ordered();
+        self.floor(u64::MAX)
+    }
+
+    /// The pair with the greatest key that is at most this one. Takes no memory.
+    pub fn floor(&self, key: u64) -> Option<(u64, &P)>
+        ensures { option_map (λ found. (found.0, found.1.now)) result ≡ floor_of self.now.pairs key }
+    {
+        let (nodes, root) = self.tree.table();
+        pair_to(nodes, root, key)
+    }
+
+    /// The pair with the least key that is at least this one. Takes no memory.
+    pub fn ceiling(&self, key: u64) -> Option<(u64, &P)>
+        ensures { option_map (λ found. (found.0, found.1.now)) result
+            ≡ ceiling_of self.now.pairs key }
+    {
+        let (nodes, root) = self.tree.table();
+        pair_from(nodes, root, key)
+    }
+
+    /// The pair with the greatest key below this one. Takes no memory.
+    pub fn below(&self, key: u64) -> Option<(u64, &P)>
+        ensures { option_map (λ found. (found.0, found.1.now)) result ≡ below_of self.now.pairs key }
+    {
+        if key == 0 {
+            return None;
+        }
+        self.floor(key - 1)
+    }
+
+    /// The pair with the least key above this one. Takes no memory.
+    pub fn above(&self, key: u64) -> Option<(u64, &P)>
+        ensures { option_map (λ found. (found.0, found.1.now)) result ≡ above_of self.now.pairs key }
+    {
+        if key == u64::MAX {
+            return None;
+        }
+        self.ceiling(key + 1)
+    }
+
+    /// Removes the pair with the least key, and returns it. Never fails; it is a removal as any other.
+    pub fn pop_first(&mut self) -> Option<(u64, P)>
+        ensures pair { result ≡ first_of self.old.pairs }
+        ensures removes { IfSome result (λ pair.
+            Removes A.charge self.old pair.0 (Some pair.1) self.new) }
+        ensures empty { IfNone result (self.new ≡ self.old) }
+    {
+        // For the proof: brings the order of the keys into scope.
+        self.law_ordered();
+        let Some((key, _)) = self.first() else {
+            return None;
+        };
+        Some((key, self.take(key)))
+    }
+
+    /// Removes the pair with the greatest key, and returns it. Never fails; it is a removal as any other.
+    pub fn pop_last(&mut self) -> Option<(u64, P)>
+        ensures pair { result ≡ last_of self.old.pairs }
+        ensures removes { IfSome result (λ pair.
+            Removes A.charge self.old pair.0 (Some pair.1) self.new) }
+        ensures empty { IfNone result (self.new ≡ self.old) }
+    {
+        // For the proof: brings the order of the keys into scope.
+        self.law_ordered();
+        let Some((key, _)) = self.last() else {
+            return None;
+        };
+        Some((key, self.take(key)))
+    }
+
+    // Removes the pair at a key that is present, and returns its payload.
+    fn take(&mut self, key: u64) -> P
+        requires { IsSome (lookup self.old.pairs key) }
+        ensures { Removes A.charge self.old key (Some result) self.new }
+    {
+        match remove::<Brand, P, A>(self, key, Blank::new(1)) {
+            Some(payload) => payload,
+            None => unreachable!(),
+        }
+    }
+}

@@ -1,0 +1,370 @@
+//! A map that nobody changes, and its readers.
+
+use crate::map::{as_length, Map};
+use crate::pages::{Keys, Range, Source, Values};
+use crate::sys::*;
+use crate::{OutOfMemory, Pair};
+use std::fmt;
+use std::mem::ManuallyDrop;
+use std::ops::RangeBounds;
+use std::sync::{Mutex, PoisonError};
+
+/// A reader of a map that nobody changes, as [`Map::freeze`] returns it.
+///
+/// A reader is one thread's at a time; several, each on a thread of its own, read the same map side by side. With the last
+/// of them the map is freed.
+///
+/// ```
+/// # fn main() -> Result<(), proved_congee::OutOfMemory> {
+/// let map = proved_congee::Map::try_from_iter((0..1000).map(|key| (key, key * key)))?;
+/// let frozen = map.freeze().map_err(|_| proved_congee::OutOfMemory)?;
+/// let threads = (0..4)
+///     .map(|first| {
+///         let own = frozen.try_clone()?;
+///         Ok(std::thread::spawn(move || own.range(first * 250..).next()))
+///     })
+///     .collect::<Result<Vec<_>, _>>()?;
+/// for (first, thread) in (0..4).zip(threads) {
+///     assert_eq!(thread.join().unwrap(), Some((first * 250, first * 250 * first * 250)));
+/// }
+/// # Ok(())
+/// # }
+/// ```
+pub struct Frozen {
+    reader: *mut OpaqueReader,
+}
+
+// SAFETY: the library proves that a reader may go to another thread (`unsafe impl Send for FrozenHandle`).
+unsafe impl Send for Frozen {}
+
+// SAFETY of the calls below: as of those of `Map`, of a reader's address.
+impl Frozen {
+    pub(crate) fn of_address(reader: *mut OpaqueReader) -> Frozen {
+        Frozen { reader }
+    }
+
+    fn handle(&self) -> FrozenHandle {
+        FrozenHandle {
+            reader: self.reader,
+        }
+    }
+
+    /// One more reader of the same map. Takes a small block.
+    ///
+    /// ```
+    /// # fn main() -> Result<(), proved_congee::OutOfMemory> {
+    /// let map = proved_congee::Map::try_from_iter([(7, 70)])?;
+    /// let one = map.freeze().map_err(|_| proved_congee::OutOfMemory)?;
+    /// assert_eq!(one.try_clone()?.get(7), Some(70));
+    /// # Ok(())
+    /// # }
+    /// ```
+    pub fn try_clone(&self) -> Result<Frozen, OutOfMemory> {
+        let mut made = FrozenHandle::none();
+        match unsafe { congee_c_frozen_another(&mut self.handle(), &mut made) } {
+            0 => Ok(Frozen {
+                reader: made.reader,
+            }),
+            _ => Err(OutOfMemory),
+        }
+    }
+
+    /// The map, to change it again, if this is its last reader; else the reader. Takes no memory.
+    ///
+    /// ```
+    /// # fn main() -> Result<(), proved_congee::OutOfMemory> {
+    /// let map = proved_congee::Map::try_from_iter([(7, 70)])?;
+    /// let one = map.freeze().map_err(|_| proved_congee::OutOfMemory)?;
+    /// let other = one.try_clone()?;
+    /// let one = one.thaw().unwrap_err();
+    /// drop(other);
+    /// let mut map = one.thaw().unwrap();
+    /// assert_eq!(map.remove(7), Some(70));
+    /// # Ok(())
+    /// # }
+    /// ```
+    pub fn thaw(self) -> Result<Map, Frozen> {
+        // (the library owns the reader from here on, or returns it)
+        let handle = ManuallyDrop::new(self).handle();
+        let (mut made, mut back) = (Handle::none(), FrozenHandle::none());
+        match unsafe { congee_c_thaw(handle, &mut made, &mut back) } {
+            1 => Ok(Map::of_address(made.map)),
+            _ => Err(Frozen {
+                reader: back.reader,
+            }),
+        }
+    }
+
+    /// The value at the key.
+    ///
+    /// ```
+    /// # fn main() -> Result<(), proved_congee::OutOfMemory> {
+    /// let map = proved_congee::Map::try_from_iter([(7, 70)])?;
+    /// let frozen = map.freeze().map_err(|_| proved_congee::OutOfMemory)?;
+    /// assert_eq!((frozen.get(7), frozen.get(8)), (Some(70), None));
+    /// # Ok(())
+    /// # }
+    /// ```
+    pub fn get(&self, key: u64) -> Option<u64> {
+        let mut value = 0;
+        let code = unsafe { congee_c_frozen_get(&mut self.handle(), key, &mut value) };
+        (code == 1).then_some(value)
+    }
+
+    /// Whether the key is there.
+    ///
+    /// ```
+    /// # fn main() -> Result<(), proved_congee::OutOfMemory> {
+    /// let map = proved_congee::Map::try_from_iter([(7, 70), (9, 90)])?;
+    /// let frozen = map.freeze().map_err(|_| proved_congee::OutOfMemory)?;
+    /// assert!(frozen.contains_key(7) && !frozen.contains_key(8));
+    /// # Ok(())
+    /// # }
+    /// ```
+    pub fn contains_key(&self, key: u64) -> bool {
+        self.get(key).is_some()
+    }
+
+    /// Writes the first pairs with `start <= key < end` to the buffer, as [`Map::read_range`].
+    ///
+    /// ```
+    /// # fn main() -> Result<(), proved_congee::OutOfMemory> {
+    /// let map = proved_congee::Map::try_from_iter([(7, 70), (9, 90)])?;
+    /// let frozen = map.freeze().map_err(|_| proved_congee::OutOfMemory)?;
+    /// let mut page = [proved_congee::Pair::default(); 4];
+    /// assert_eq!(frozen.read_range(0, 9, &mut page), 1);
+    /// assert_eq!((page[0].key, page[0].value), (7, 70));
+    /// # Ok(())
+    /// # }
+    /// ```
+    pub fn read_range(&self, start: u64, end: u64, buffer: &mut [Pair]) -> usize {
+        unsafe {
+            congee_c_frozen_range(
+                &mut self.handle(),
+                start,
+                end,
+                buffer.as_mut_ptr(),
+                buffer.len(),
+            )
+        }
+    }
+
+    /// Writes the first pairs with `start <= key <= last` to the buffer, as [`Map::read_range_inclusive`].
+    ///
+    /// ```
+    /// # fn main() -> Result<(), proved_congee::OutOfMemory> {
+    /// let map = proved_congee::Map::try_from_iter([(7, 70), (u64::MAX, 90)])?;
+    /// let frozen = map.freeze().map_err(|_| proved_congee::OutOfMemory)?;
+    /// let mut page = [proved_congee::Pair::default(); 2];
+    /// assert_eq!(frozen.read_range_inclusive(0, u64::MAX, &mut page), 2);
+    /// assert_eq!(page.map(|pair| pair.key), [7, u64::MAX]);
+    /// # Ok(())
+    /// # }
+    /// ```
+    pub fn read_range_inclusive(&self, start: u64, last: u64, buffer: &mut [Pair]) -> usize {
+        let (place, n) = (buffer.as_mut_ptr(), buffer.len());
+        unsafe { congee_c_frozen_range_inclusive(&mut self.handle(), start, last, place, n) }
+    }
+
+    /// The same with keys descending, as [`Map::read_range_descending`].
+    ///
+    /// ```
+    /// # fn main() -> Result<(), proved_congee::OutOfMemory> {
+    /// let map = proved_congee::Map::try_from_iter([(7, 70), (u64::MAX, 90)])?;
+    /// let frozen = map.freeze().map_err(|_| proved_congee::OutOfMemory)?;
+    /// let mut page = [proved_congee::Pair::default(); 2];
+    /// assert_eq!(frozen.read_range_descending(0, u64::MAX, &mut page), 2);
+    /// assert_eq!(page.map(|pair| pair.key), [u64::MAX, 7]);
+    /// # Ok(())
+    /// # }
+    /// ```
+    pub fn read_range_descending(&self, start: u64, last: u64, buffer: &mut [Pair]) -> usize {
+        let (place, n) = (buffer.as_mut_ptr(), buffer.len());
+        unsafe { congee_c_frozen_range_descending(&mut self.handle(), start, last, place, n) }
+    }
+
+    /// The pairs whose keys are within the bounds, as [`Map::range`].
+    ///
+    /// ```
+    /// # fn main() -> Result<(), proved_congee::OutOfMemory> {
+    /// let map = proved_congee::Map::try_from_iter([(5, 50), (7, 70), (9, 90)])?;
+    /// let frozen = map.freeze().map_err(|_| proved_congee::OutOfMemory)?;
+    /// assert!(frozen.range(6..).eq([(7, 70), (9, 90)]));
+    /// assert_eq!(frozen.range(..=8).next_back(), Some((7, 70)));
+    /// # Ok(())
+    /// # }
+    /// ```
+    pub fn range(&self, bounds: impl RangeBounds<u64>) -> Range<'_> {
+        Range::of(Source::Frozen(self), bounds)
+    }
+
+    /// All pairs, keys ascending.
+    ///
+    /// ```
+    /// # fn main() -> Result<(), proved_congee::OutOfMemory> {
+    /// let map = proved_congee::Map::try_from_iter([(7, 70), (9, 90)])?;
+    /// let frozen = map.freeze().map_err(|_| proved_congee::OutOfMemory)?;
+    /// assert!(frozen.iter().eq([(7, 70), (9, 90)]));
+    /// # Ok(())
+    /// # }
+    /// ```
+    pub fn iter(&self) -> Range<'_> {
+        self.range(..)
+    }
+
+    /// The keys, ascending.
+    ///
+    /// ```
+    /// # fn main() -> Result<(), proved_congee::OutOfMemory> {
+    /// let map = proved_congee::Map::try_from_iter([(7, 70), (9, 90)])?;
+    /// let frozen = map.freeze().map_err(|_| proved_congee::OutOfMemory)?;
+    /// assert!(frozen.keys().eq([7, 9]));
+    /// # Ok(())
+    /// # }
+    /// ```
+    pub fn keys(&self) -> Keys<'_> {
+        Keys { of: self.iter() }
+    }
+
+    /// The values, keys ascending.
+    ///
+    /// ```
+    /// # fn main() -> Result<(), proved_congee::OutOfMemory> {
+    /// let map = proved_congee::Map::try_from_iter([(7, 70), (9, 90)])?;
+    /// let frozen = map.freeze().map_err(|_| proved_congee::OutOfMemory)?;
+    /// assert!(frozen.values().eq([70, 90]));
+    /// # Ok(())
+    /// # }
+    /// ```
+    pub fn values(&self) -> Values<'_> {
+        Values { of: self.iter() }
+    }
+
+    /// Whether there is no pair, in constant time.
+    ///
+    /// ```
+    /// # fn main() -> Result<(), proved_congee::OutOfMemory> {
+    /// let map = proved_congee::Map::new()?;
+    /// let frozen = map.freeze().map_err(|_| proved_congee::OutOfMemory)?;
+    /// assert!(frozen.is_empty());
+    /// # Ok(())
+    /// # }
+    /// ```
+    pub fn is_empty(&self) -> bool {
+        self.len() == 0
+    }
+
+    /// How many pairs there are, in constant time.
+    ///
+    /// ```
+    /// # fn main() -> Result<(), proved_congee::OutOfMemory> {
+    /// let map = proved_congee::Map::try_from_iter([(7, 70), (9, 90)])?;
+    /// let frozen = map.freeze().map_err(|_| proved_congee::OutOfMemory)?;
+    /// assert_eq!((frozen.len(), frozen.is_empty()), (2, false));
+    /// # Ok(())
+    /// # }
+    /// ```
+    pub fn len(&self) -> usize {
+        as_length(unsafe { congee_c_frozen_count(&mut self.handle()) })
+    }
+}
+
+impl Drop for Frozen {
+    fn drop(&mut self) {
+        // (the address isn't used again)
+        unsafe { congee_c_frozen_free(self.handle()) }
+    }
+}
+
+impl fmt::Debug for Frozen {
+    fn fmt(&self, f: &mut fmt::Formatter<'_>) -> fmt::Result {
+        f.debug_map().entries(self).finish()
+    }
+}
+
+impl<'a> IntoIterator for &'a Frozen {
+    type Item = (u64, u64);
+    type IntoIter = Range<'a>;
+
+    fn into_iter(self) -> Range<'a> {
+        self.iter()
+    }
+}
+
+/// A frozen map that threads share: each takes a reader of its own, and looks up with no lock from then on. It is `Sync`,
+/// by a mutex of one reader, and with no `unsafe`.
+///
+/// ```
+/// use proved_congee::{Map, OutOfMemory, Readers};
+///
+/// # fn main() -> Result<(), OutOfMemory> {
+/// let map = Map::try_from_iter((0..1000).map(|key| (key, key * key)))?;
+/// let readers = Readers::new(map.freeze().map_err(|_| OutOfMemory)?);
+/// std::thread::scope(|scope| {
+///     for first in 0..4 {
+///         let readers = &readers;
+///         scope.spawn(move || {
+///             let own = readers.reader().unwrap();
+///             assert!((first * 250..first * 250 + 250).all(|key| own.get(key) == Some(key * key)));
+///         });
+///     }
+/// });
+/// let mut map = readers.into_inner().thaw().unwrap();
+/// assert_eq!(map.insert(7, 1)?, Some(49));
+/// # Ok(())
+/// # }
+/// ```
+#[derive(Debug)]
+pub struct Readers(Mutex<Frozen>);
+
+impl Readers {
+    /// Readers of this one's map.
+    ///
+    /// ```
+    /// # fn main() -> Result<(), proved_congee::OutOfMemory> {
+    /// let map = proved_congee::Map::try_from_iter([(7, 70), (9, 90)])?;
+    /// let frozen = map.freeze().map_err(|_| proved_congee::OutOfMemory)?;
+    /// let readers = proved_congee::Readers::new(frozen);
+    /// assert_eq!(readers.reader()?.len(), 2);
+    /// # Ok(())
+    /// # }
+    /// ```
+    pub fn new(frozen: Frozen) -> Readers {
+        Readers(Mutex::new(frozen))
+    }
+
+    /// One more reader. Waits while another thread takes one.
+    ///
+    /// ```
+    /// # fn main() -> Result<(), proved_congee::OutOfMemory> {
+    /// let map = proved_congee::Map::try_from_iter([(7, 70), (9, 90)])?;
+    /// let frozen = map.freeze().map_err(|_| proved_congee::OutOfMemory)?;
+    /// let readers = proved_congee::Readers::new(frozen);
+    /// let (one, other) = (readers.reader()?, readers.reader()?);
+    /// assert_eq!(one.get(7), other.get(7));
+    /// # Ok(())
+    /// # }
+    /// ```
+    pub fn reader(&self) -> Result<Frozen, OutOfMemory> {
+        // (a call that panicked left the reader as it was)
+        self.0
+            .lock()
+            .unwrap_or_else(PoisonError::into_inner)
+            .try_clone()
+    }
+
+    /// The reader that this was made of.
+    ///
+    /// ```
+    /// # fn main() -> Result<(), proved_congee::OutOfMemory> {
+    /// let map = proved_congee::Map::try_from_iter([(7, 70), (9, 90)])?;
+    /// let frozen = map.freeze().map_err(|_| proved_congee::OutOfMemory)?;
+    /// let readers = proved_congee::Readers::new(frozen);
+    /// assert_eq!(readers.into_inner().thaw().unwrap().len(), 2);
+    /// # Ok(())
+    /// # }
+    /// ```
+    pub fn into_inner(self) -> Frozen {
+        self.0.into_inner().unwrap_or_else(PoisonError::into_inner)
+    }
+}

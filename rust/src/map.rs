@@ -1,0 +1,615 @@
+//! The map that one thread has.
+
+use crate::frozen::Frozen;
+use crate::pages::{IntoIter, Keys, Range, Source, Values};
+use crate::sys::*;
+use crate::{OutOfMemory, Pair};
+use std::fmt;
+use std::mem::ManuallyDrop;
+use std::ops::RangeBounds;
+
+/// An ordered map from `u64` to `u64`.
+///
+/// A call reads one path through the tree, of at most eight nodes.
+pub struct Map {
+    map: *mut OpaqueMap,
+}
+
+// SAFETY: the library proves that a map may go to another thread (`unsafe impl Send for Handle`).
+unsafe impl Send for Map {}
+
+// SAFETY of the calls below. The address is one that the library returned and that neither `drop` has freed nor `freeze`
+// has taken. Nothing else uses the map during a call: a `Map` isn't `Sync`, so that no two threads are in a call on it, and
+// the library calls nothing back. The handle and each place that the library writes to are locals or borrowed as `&mut`,
+// and initialised.
+impl Map {
+    /// An empty map.
+    ///
+    /// ```
+    /// # fn main() -> Result<(), proved_congee::OutOfMemory> {
+    /// assert!(proved_congee::Map::new()?.is_empty());
+    /// # Ok(())
+    /// # }
+    /// ```
+    pub fn new() -> Result<Map, OutOfMemory> {
+        Map::with_limit(u64::MAX)
+    }
+
+    /// An empty map whose nodes may take so many bytes by their stated sizes: 64, 168, 672 or 2104 bytes for a node of up to
+    /// 4, 16, 48 or 256 entries. The first node is of the largest size.
+    ///
+    /// ```
+    /// use proved_congee::{Map, OutOfMemory};
+    ///
+    /// let mut map = Map::with_limit(2104 + 64).unwrap();
+    /// assert_eq!(map.insert(1, 10), Ok(None));
+    /// assert_eq!(map.insert(u64::MAX, 11), Err(OutOfMemory));
+    /// assert_eq!((map.len(), map.charged()), (1, 2168));
+    /// assert!(Map::with_limit(2103).is_err());
+    /// ```
+    pub fn with_limit(bytes: u64) -> Result<Map, OutOfMemory> {
+        let mut made = Handle::none();
+        match unsafe { congee_c_new(bytes, &mut made) } {
+            0 => Ok(Map { map: made.map }),
+            _ => Err(OutOfMemory),
+        }
+    }
+
+    /// A map of these pairs; of two with one key the later one counts.
+    ///
+    /// ```
+    /// # fn main() -> Result<(), proved_congee::OutOfMemory> {
+    /// let map = proved_congee::Map::try_from_iter((0..100).map(|key| (key * key, key)))?;
+    /// assert_eq!(map.get(81), Some(9));
+    /// # Ok(())
+    /// # }
+    /// ```
+    pub fn try_from_iter(pairs: impl IntoIterator<Item = (u64, u64)>) -> Result<Map, OutOfMemory> {
+        let mut map = Map::new()?;
+        map.try_extend(pairs)?;
+        Ok(map)
+    }
+
+    pub(crate) fn of_address(map: *mut OpaqueMap) -> Map {
+        Map { map }
+    }
+
+    fn handle(&self) -> Handle {
+        Handle { map: self.map }
+    }
+
+    /// The value at the key.
+    ///
+    /// ```
+    /// # fn main() -> Result<(), proved_congee::OutOfMemory> {
+    /// let mut map = proved_congee::Map::new()?;
+    /// map.insert(7, 70)?;
+    /// assert_eq!((map.get(7), map.get(8)), (Some(70), None));
+    /// # Ok(())
+    /// # }
+    /// ```
+    pub fn get(&self, key: u64) -> Option<u64> {
+        let mut value = 0;
+        let code = unsafe { congee_c_get(&mut self.handle(), key, &mut value) };
+        (code == 1).then_some(value)
+    }
+
+    /// Whether the key is there.
+    ///
+    /// ```
+    /// # fn main() -> Result<(), proved_congee::OutOfMemory> {
+    /// let map = proved_congee::Map::try_from_iter([(7, 70)])?;
+    /// assert!(map.contains_key(7) && !map.contains_key(8));
+    /// # Ok(())
+    /// # }
+    /// ```
+    pub fn contains_key(&self, key: u64) -> bool {
+        self.get(key).is_some()
+    }
+
+    /// Sets the key's value, and returns the previous one. Only a new key that needs a node of its own or a larger one
+    /// is refused.
+    ///
+    /// ```
+    /// # fn main() -> Result<(), proved_congee::OutOfMemory> {
+    /// let mut map = proved_congee::Map::new()?;
+    /// assert_eq!(map.insert(7, 70)?, None);
+    /// assert_eq!(map.insert(7, 71)?, Some(70));
+    /// # Ok(())
+    /// # }
+    /// ```
+    pub fn insert(&mut self, key: u64, value: u64) -> Result<Option<u64>, OutOfMemory> {
+        let mut before = 0;
+        let code = unsafe { congee_c_insert(&mut self.handle(), key, value, &mut before) };
+        unless_refused(code, before)
+    }
+
+    /// Inserts the pairs, one after the other. The first refusal ends it, and the pairs before that are in the map.
+    ///
+    /// ```
+    /// use proved_congee::{Map, OutOfMemory};
+    ///
+    /// let mut map = Map::with_limit(2104 + 64).unwrap();
+    /// assert_eq!(map.try_extend([(1, 10), (2, 20), (u64::MAX, 30), (3, 30)]), Err(OutOfMemory));
+    /// assert_eq!(map.iter().collect::<Vec<_>>(), [(1, 10), (2, 20)]);
+    /// ```
+    pub fn try_extend(
+        &mut self,
+        pairs: impl IntoIterator<Item = (u64, u64)>,
+    ) -> Result<(), OutOfMemory> {
+        pairs
+            .into_iter()
+            .try_for_each(|(key, value)| self.insert(key, value).map(drop))
+    }
+
+    /// Gives the key the value if it is absent, and returns the value that it has then. Refused as
+    /// [`insert`](Map::insert) is.
+    ///
+    /// ```
+    /// # fn main() -> Result<(), proved_congee::OutOfMemory> {
+    /// let mut map = proved_congee::Map::new()?;
+    /// assert_eq!(map.get_or_insert(7, 70)?, 70);
+    /// assert_eq!(map.get_or_insert(7, 71)?, 70);
+    /// # Ok(())
+    /// # }
+    /// ```
+    pub fn get_or_insert(&mut self, key: u64, value: u64) -> Result<u64, OutOfMemory> {
+        let mut found = 0;
+        let code = unsafe { congee_c_get_or_insert(&mut self.handle(), key, value, &mut found) };
+        Ok(unless_refused(code, found)?.unwrap_or(value))
+    }
+
+    /// Adds the number to the key's value, and returns the value before; a new key gets the number as its value. The sum
+    /// wraps, as `u64::wrapping_add`. Refused as [`insert`](Map::insert) is.
+    ///
+    /// ```
+    /// # fn main() -> Result<(), proved_congee::OutOfMemory> {
+    /// let mut counts = proved_congee::Map::new()?;
+    /// for letter in b"banana" {
+    ///     counts.add(u64::from(*letter), 1)?;
+    /// }
+    /// assert_eq!(counts.get(u64::from(b'a')), Some(3));
+    /// assert_eq!(counts.add(u64::from(b'a'), u64::MAX)?, Some(3));
+    /// assert_eq!(counts.get(u64::from(b'a')), Some(2));
+    /// # Ok(())
+    /// # }
+    /// ```
+    pub fn add(&mut self, key: u64, number: u64) -> Result<Option<u64>, OutOfMemory> {
+        let mut before = 0;
+        let code = unsafe { congee_c_add(&mut self.handle(), key, number, &mut before) };
+        unless_refused(code, before)
+    }
+
+    /// Calls the closure once, with the key's value if there is one, and stores what it returns, or removes the key for
+    /// `None`. Returns the previous value. Two calls of the library.
+    ///
+    /// Refused as [`insert`](Map::insert) is: then the closure was called, and the map is unchanged.
+    ///
+    /// ```
+    /// # fn main() -> Result<(), proved_congee::OutOfMemory> {
+    /// let mut stock = proved_congee::Map::try_from_iter([(7, 2)])?;
+    /// let mut take = |item| stock.compute(item, |left| left?.checked_sub(1).filter(|left| *left > 0));
+    /// assert_eq!((take(7)?, take(7)?, take(7)?), (Some(2), Some(1), None));
+    /// assert!(stock.is_empty());
+    /// # Ok(())
+    /// # }
+    /// ```
+    pub fn compute(
+        &mut self,
+        key: u64,
+        f: impl FnOnce(Option<u64>) -> Option<u64>,
+    ) -> Result<Option<u64>, OutOfMemory> {
+        match f(self.get(key)) {
+            Some(value) => self.insert(key, value),
+            None => Ok(self.remove(key)),
+        }
+    }
+
+    /// The pair with the least key.
+    ///
+    /// ```
+    /// # fn main() -> Result<(), proved_congee::OutOfMemory> {
+    /// let map = proved_congee::Map::try_from_iter([(5, 50), (7, 70), (9, 90)])?;
+    /// assert_eq!(map.first(), Some((5, 50)));
+    /// # Ok(())
+    /// # }
+    /// ```
+    pub fn first(&self) -> Option<(u64, u64)> {
+        self.pair(|handle, pair| unsafe { congee_c_first(handle, pair) })
+    }
+
+    /// The pair with the greatest key.
+    ///
+    /// ```
+    /// # fn main() -> Result<(), proved_congee::OutOfMemory> {
+    /// let map = proved_congee::Map::try_from_iter([(5, 50), (7, 70), (9, 90)])?;
+    /// assert_eq!(map.last(), Some((9, 90)));
+    /// # Ok(())
+    /// # }
+    /// ```
+    pub fn last(&self) -> Option<(u64, u64)> {
+        self.pair(|handle, pair| unsafe { congee_c_last(handle, pair) })
+    }
+
+    /// The pair with the greatest key that is at most this one.
+    ///
+    /// ```
+    /// # fn main() -> Result<(), proved_congee::OutOfMemory> {
+    /// let map = proved_congee::Map::try_from_iter([(5, 50), (7, 70), (9, 90)])?;
+    /// assert_eq!((map.floor(7), map.floor(8), map.floor(4)), (Some((7, 70)), Some((7, 70)), None));
+    /// # Ok(())
+    /// # }
+    /// ```
+    pub fn floor(&self, key: u64) -> Option<(u64, u64)> {
+        self.pair(|handle, pair| unsafe { congee_c_floor(handle, key, pair) })
+    }
+
+    /// The pair with the least key that is at least this one.
+    ///
+    /// ```
+    /// # fn main() -> Result<(), proved_congee::OutOfMemory> {
+    /// let map = proved_congee::Map::try_from_iter([(5, 50), (7, 70), (9, 90)])?;
+    /// assert_eq!((map.ceiling(7), map.ceiling(6), map.ceiling(10)), (Some((7, 70)), Some((7, 70)), None));
+    /// # Ok(())
+    /// # }
+    /// ```
+    pub fn ceiling(&self, key: u64) -> Option<(u64, u64)> {
+        self.pair(|handle, pair| unsafe { congee_c_ceiling(handle, key, pair) })
+    }
+
+    /// The pair with the greatest key below this one.
+    ///
+    /// ```
+    /// # fn main() -> Result<(), proved_congee::OutOfMemory> {
+    /// let map = proved_congee::Map::try_from_iter([(5, 50), (7, 70), (9, 90)])?;
+    /// assert_eq!((map.below(7), map.below(5)), (Some((5, 50)), None));
+    /// # Ok(())
+    /// # }
+    /// ```
+    pub fn below(&self, key: u64) -> Option<(u64, u64)> {
+        self.pair(|handle, pair| unsafe { congee_c_below(handle, key, pair) })
+    }
+
+    /// The pair with the least key above this one.
+    ///
+    /// ```
+    /// # fn main() -> Result<(), proved_congee::OutOfMemory> {
+    /// let map = proved_congee::Map::try_from_iter([(5, 50), (7, 70), (9, 90)])?;
+    /// assert_eq!((map.above(7), map.above(9)), (Some((9, 90)), None));
+    /// # Ok(())
+    /// # }
+    /// ```
+    pub fn above(&self, key: u64) -> Option<(u64, u64)> {
+        self.pair(|handle, pair| unsafe { congee_c_above(handle, key, pair) })
+    }
+
+    /// Removes the pair with the least key, and returns it. Is never refused.
+    ///
+    /// ```
+    /// # fn main() -> Result<(), proved_congee::OutOfMemory> {
+    /// let mut map = proved_congee::Map::try_from_iter([(5, 50), (7, 70), (9, 90)])?;
+    /// assert_eq!((map.pop_first(), map.first()), (Some((5, 50)), Some((7, 70))));
+    /// # Ok(())
+    /// # }
+    /// ```
+    pub fn pop_first(&mut self) -> Option<(u64, u64)> {
+        self.pair(|handle, pair| unsafe { congee_c_pop_first(handle, pair) })
+    }
+
+    /// Removes the pair with the greatest key, and returns it. Is never refused.
+    ///
+    /// ```
+    /// # fn main() -> Result<(), proved_congee::OutOfMemory> {
+    /// let mut map = proved_congee::Map::try_from_iter([(5, 50), (7, 70), (9, 90)])?;
+    /// assert_eq!((map.pop_last(), map.last()), (Some((9, 90)), Some((7, 70))));
+    /// # Ok(())
+    /// # }
+    /// ```
+    pub fn pop_last(&mut self) -> Option<(u64, u64)> {
+        self.pair(|handle, pair| unsafe { congee_c_pop_last(handle, pair) })
+    }
+
+    // What a call writes to a pair's place, if it answers that it has.
+    fn pair(&self, call: impl FnOnce(&mut Handle, &mut Pair) -> i32) -> Option<(u64, u64)> {
+        let mut pair = Pair::default();
+        (call(&mut self.handle(), &mut pair) == 1).then_some((pair.key, pair.value))
+    }
+
+    /// Removes the key, and returns its previous value. Is never refused.
+    ///
+    /// ```
+    /// # fn main() -> Result<(), proved_congee::OutOfMemory> {
+    /// let mut map = proved_congee::Map::try_from_iter([(7, 70)])?;
+    /// assert_eq!((map.remove(7), map.remove(7)), (Some(70), None));
+    /// # Ok(())
+    /// # }
+    /// ```
+    pub fn remove(&mut self, key: u64) -> Option<u64> {
+        let mut before = 0;
+        let code = unsafe { congee_c_remove(&mut self.handle(), key, &mut before) };
+        (code == 1).then_some(before)
+    }
+
+    /// Replaces the key's value by `desired` if it is `expected`. Otherwise changes nothing, and returns as an error
+    /// the current value, or `None` if the key is absent.
+    ///
+    /// ```
+    /// # fn main() -> Result<(), proved_congee::OutOfMemory> {
+    /// let mut map = proved_congee::Map::try_from_iter([(7, 70)])?;
+    /// assert_eq!(map.compare_exchange(7, 70, 71), Ok(()));
+    /// assert_eq!(map.compare_exchange(7, 70, 72), Err(Some(71)));
+    /// assert_eq!(map.compare_exchange(8, 70, 72), Err(None));
+    /// # Ok(())
+    /// # }
+    /// ```
+    pub fn compare_exchange(
+        &mut self,
+        key: u64,
+        expected: u64,
+        desired: u64,
+    ) -> Result<(), Option<u64>> {
+        let mut found = 0;
+        let code = unsafe {
+            congee_c_compare_exchange(&mut self.handle(), key, expected, desired, &mut found)
+        };
+        if_expected(code, found)
+    }
+
+    /// Removes the key if its value is `expected`. Otherwise changes nothing, and returns as an error the current value,
+    /// or `None` if the key is absent.
+    ///
+    /// ```
+    /// # fn main() -> Result<(), proved_congee::OutOfMemory> {
+    /// let mut map = proved_congee::Map::try_from_iter([(7, 70)])?;
+    /// assert_eq!(map.compare_remove(7, 71), Err(Some(70)));
+    /// assert_eq!(map.compare_remove(7, 70), Ok(()));
+    /// assert_eq!(map.compare_remove(7, 70), Err(None));
+    /// # Ok(())
+    /// # }
+    /// ```
+    pub fn compare_remove(&mut self, key: u64, expected: u64) -> Result<(), Option<u64>> {
+        let mut found = 0;
+        let code =
+            unsafe { congee_c_compare_remove(&mut self.handle(), key, expected, &mut found) };
+        if_expected(code, found)
+    }
+
+    /// Writes the first pairs with `start <= key < end` to the buffer, keys ascending, as many as there are or as fit,
+    /// and returns how many. The rest of the buffer is unchanged. So `u64::MAX` is in no such range.
+    ///
+    /// ```
+    /// use proved_congee::{Map, Pair};
+    ///
+    /// # fn main() -> Result<(), proved_congee::OutOfMemory> {
+    /// let map = Map::try_from_iter([(5, 50), (7, 70), (9, 90)])?;
+    /// let mut page = [Pair::default(); 2];
+    /// assert_eq!(map.read_range(6, 9, &mut page), 1);
+    /// assert_eq!(page, [Pair { key: 7, value: 70 }, Pair::default()]);
+    /// # Ok(())
+    /// # }
+    /// ```
+    pub fn read_range(&self, start: u64, end: u64, buffer: &mut [Pair]) -> usize {
+        unsafe {
+            congee_c_range(
+                &mut self.handle(),
+                start,
+                end,
+                buffer.as_mut_ptr(),
+                buffer.len(),
+            )
+        }
+    }
+
+    /// Writes the first pairs with `start <= key <= last` to the buffer, keys ascending, as many as there are or as fit, and
+    /// returns how many. The rest of the buffer is unchanged.
+    ///
+    /// ```
+    /// # fn main() -> Result<(), proved_congee::OutOfMemory> {
+    /// let map = proved_congee::Map::try_from_iter([(5, 50), (7, 70), (9, 90)])?;
+    /// let mut page = [proved_congee::Pair::default(); 2];
+    /// assert_eq!(map.read_range_inclusive(0, u64::MAX, &mut page), 2);
+    /// assert_eq!(page.map(|pair| (pair.key, pair.value)), [(5, 50), (7, 70)]);
+    /// # Ok(())
+    /// # }
+    /// ```
+    pub fn read_range_inclusive(&self, start: u64, last: u64, buffer: &mut [Pair]) -> usize {
+        let (place, n) = (buffer.as_mut_ptr(), buffer.len());
+        unsafe { congee_c_range_inclusive(&mut self.handle(), start, last, place, n) }
+    }
+
+    /// The same with keys descending: the last pairs of those.
+    ///
+    /// ```
+    /// # fn main() -> Result<(), proved_congee::OutOfMemory> {
+    /// let map = proved_congee::Map::try_from_iter([(5, 50), (7, 70), (9, 90)])?;
+    /// let mut page = [proved_congee::Pair::default(); 2];
+    /// assert_eq!(map.read_range_descending(0, u64::MAX, &mut page), 2);
+    /// assert_eq!(page.map(|pair| (pair.key, pair.value)), [(9, 90), (7, 70)]);
+    /// # Ok(())
+    /// # }
+    /// ```
+    pub fn read_range_descending(&self, start: u64, last: u64, buffer: &mut [Pair]) -> usize {
+        let (place, n) = (buffer.as_mut_ptr(), buffer.len());
+        unsafe { congee_c_range_descending(&mut self.handle(), start, last, place, n) }
+    }
+
+    /// The pairs whose keys are within the bounds, keys ascending; none if the bounds are reversed. They are read from
+    /// the map by pages, at either end the first of 4 pairs and each four times as long, up to 64.
+    ///
+    /// ```
+    /// # fn main() -> Result<(), proved_congee::OutOfMemory> {
+    /// let map = proved_congee::Map::try_from_iter([5, 7, 9, u64::MAX].map(|key| (key, key / 2)))?;
+    /// assert_eq!(map.range(6..9).collect::<Vec<_>>(), [(7, 3)]);
+    /// assert_eq!(map.range(9..).map(|(key, _)| key).collect::<Vec<_>>(), [9, u64::MAX]);
+    /// assert_eq!(map.range(..=9).rev().map(|(key, _)| key).collect::<Vec<_>>(), [9, 7, 5]);
+    /// assert_eq!(map.range(9..6).next(), None);
+    /// # Ok(())
+    /// # }
+    /// ```
+    pub fn range(&self, bounds: impl RangeBounds<u64>) -> Range<'_> {
+        Range::of(Source::Map(self), bounds)
+    }
+
+    /// All pairs, keys ascending.
+    ///
+    /// ```
+    /// # fn main() -> Result<(), proved_congee::OutOfMemory> {
+    /// let map = proved_congee::Map::try_from_iter([(9, 90), (7, 70)])?;
+    /// assert!(map.iter().eq([(7, 70), (9, 90)]));
+    /// # Ok(())
+    /// # }
+    /// ```
+    pub fn iter(&self) -> Range<'_> {
+        self.range(..)
+    }
+
+    /// The keys, ascending.
+    ///
+    /// ```
+    /// # fn main() -> Result<(), proved_congee::OutOfMemory> {
+    /// let map = proved_congee::Map::try_from_iter([(9, 90), (7, 70)])?;
+    /// assert!(map.keys().eq([7, 9]));
+    /// # Ok(())
+    /// # }
+    /// ```
+    pub fn keys(&self) -> Keys<'_> {
+        Keys { of: self.iter() }
+    }
+
+    /// The values, keys ascending.
+    ///
+    /// ```
+    /// # fn main() -> Result<(), proved_congee::OutOfMemory> {
+    /// let map = proved_congee::Map::try_from_iter([(9, 90), (7, 70)])?;
+    /// assert!(map.values().eq([70, 90]));
+    /// # Ok(())
+    /// # }
+    /// ```
+    pub fn values(&self) -> Values<'_> {
+        Values { of: self.iter() }
+    }
+
+    /// Whether there is no pair, in constant time.
+    ///
+    /// ```
+    /// # fn main() -> Result<(), proved_congee::OutOfMemory> {
+    /// assert!(!proved_congee::Map::try_from_iter([(7, 70)])?.is_empty());
+    /// # Ok(())
+    /// # }
+    /// ```
+    pub fn is_empty(&self) -> bool {
+        unsafe { congee_c_is_empty(&mut self.handle()) }
+    }
+
+    /// How many pairs there are, in constant time.
+    ///
+    /// ```
+    /// # fn main() -> Result<(), proved_congee::OutOfMemory> {
+    /// assert_eq!(proved_congee::Map::try_from_iter([(7, 70), (9, 90), (7, 71)])?.len(), 2);
+    /// # Ok(())
+    /// # }
+    /// ```
+    pub fn len(&self) -> usize {
+        as_length(unsafe { congee_c_count(&mut self.handle()) })
+    }
+
+    /// The sum in bytes of the stated sizes of the map's nodes, in constant time: 2104 for an empty map.
+    ///
+    /// ```
+    /// # fn main() -> Result<(), proved_congee::OutOfMemory> {
+    /// let mut map = proved_congee::Map::try_from_iter([(7, 70)])?;
+    /// assert_eq!(map.charged(), 2104 + 64);
+    /// map.remove(7);
+    /// assert_eq!(map.charged(), 2104);
+    /// # Ok(())
+    /// # }
+    /// ```
+    pub fn charged(&self) -> u64 {
+        unsafe { congee_c_charged(&mut self.handle()) }
+    }
+
+    /// Freezes the map: from here on nobody changes it, and it may have several readers, which look up side by side. None
+    /// of its nodes moves or is copied. Where there is no memory for two small blocks, the map is returned as it was.
+    ///
+    /// ```
+    /// # fn main() -> Result<(), proved_congee::OutOfMemory> {
+    /// let map = proved_congee::Map::try_from_iter([(7, 70)])?;
+    /// let one = map.freeze().map_err(|_| proved_congee::OutOfMemory)?;
+    /// let other = one.try_clone()?;
+    /// let looked_up = std::thread::spawn(move || other.get(7));
+    /// assert_eq!((one.get(7), looked_up.join().unwrap()), (Some(70), Some(70)));
+    /// # Ok(())
+    /// # }
+    /// ```
+    pub fn freeze(self) -> Result<Frozen, Map> {
+        // (the library owns the map from here on, or returns it)
+        let handle = ManuallyDrop::new(self).handle();
+        let (mut made, mut back) = (FrozenHandle::none(), Handle::none());
+        match unsafe { congee_c_freeze(handle, &mut made, &mut back) } {
+            0 => Ok(Frozen::of_address(made.reader)),
+            _ => Err(Map { map: back.map }),
+        }
+    }
+}
+
+// What a call returns by its code: the value that it wrote, none, or a refusal.
+fn unless_refused(code: i32, written: u64) -> Result<Option<u64>, OutOfMemory> {
+    match code {
+        0 => Ok(None),
+        1 => Ok(Some(written)),
+        _ => Err(OutOfMemory),
+    }
+}
+
+// What a call that compares returns by its code: whether the value was the expected one, or what it found.
+fn if_expected(code: i32, found: u64) -> Result<(), Option<u64>> {
+    match code {
+        1 => Ok(()),
+        2 => Err(Some(found)),
+        _ => Err(None),
+    }
+}
+
+// (no machine holds more pairs than a `usize` counts)
+pub(crate) fn as_length(count: u64) -> usize {
+    usize::try_from(count).unwrap_or(usize::MAX)
+}
+
+impl Drop for Map {
+    fn drop(&mut self) {
+        // (the address isn't used again)
+        unsafe { congee_c_free(self.handle()) }
+    }
+}
+
+impl fmt::Debug for Map {
+    fn fmt(&self, f: &mut fmt::Formatter<'_>) -> fmt::Result {
+        f.debug_map().entries(self).finish()
+    }
+}
+
+impl PartialEq for Map {
+    fn eq(&self, other: &Map) -> bool {
+        self.len() == other.len() && self.iter().eq(other)
+    }
+}
+
+impl Eq for Map {}
+
+impl<'a> IntoIterator for &'a Map {
+    type Item = (u64, u64);
+    type IntoIter = Range<'a>;
+
+    fn into_iter(self) -> Range<'a> {
+        self.iter()
+    }
+}
+
+impl IntoIterator for Map {
+    type Item = (u64, u64);
+    type IntoIter = IntoIter;
+
+    fn into_iter(self) -> IntoIter {
+        IntoIter::of(self)
+    }
+}

@@ -1,0 +1,285 @@
+//! Iterators, which read a map by pages.
+
+use crate::frozen::Frozen;
+use crate::map::Map;
+use crate::Pair;
+use std::fmt;
+use std::iter::FusedIterator;
+use std::ops::{Bound, RangeBounds};
+
+/// How many pairs are read at once, at most and at first.
+const PAGE: usize = 64;
+const FIRST_PAGE: usize = 4;
+
+/// What pages are read from.
+#[derive(Clone, Copy)]
+pub(crate) enum Source<'a> {
+    Map(&'a Map),
+    Frozen(&'a Frozen),
+}
+
+impl Source<'_> {
+    fn read_ascending(self, start: u64, last: u64, buffer: &mut [Pair]) -> usize {
+        match self {
+            Source::Map(map) => map.read_range_inclusive(start, last, buffer),
+            Source::Frozen(frozen) => frozen.read_range_inclusive(start, last, buffer),
+        }
+    }
+
+    fn read_descending(self, start: u64, last: u64, buffer: &mut [Pair]) -> usize {
+        match self {
+            Source::Map(map) => map.read_range_descending(start, last, buffer),
+            Source::Frozen(frozen) => frozen.read_range_descending(start, last, buffer),
+        }
+    }
+}
+
+/// Pairs that were read at one end of a range and not returned yet, that end's first.
+#[derive(Clone)]
+struct Page {
+    pairs: [Pair; PAGE],
+    at: usize,
+    filled: usize,
+    /// How many pairs are read next.
+    room: usize,
+}
+
+impl Page {
+    fn empty() -> Page {
+        Page {
+            pairs: [Pair::default(); PAGE],
+            at: 0,
+            filled: 0,
+            room: FIRST_PAGE,
+        }
+    }
+
+    fn len(&self) -> usize {
+        self.filled - self.at
+    }
+
+    // Fills the page, and returns the last pair where there was no room for more.
+    fn fill(&mut self, read: impl FnOnce(&mut [Pair]) -> usize) -> Option<Pair> {
+        let room = self.room;
+        self.at = 0;
+        self.filled = read(&mut self.pairs[..room]);
+        self.room = PAGE.min(room * 4);
+        (self.filled == room).then(|| self.pairs[room - 1])
+    }
+
+    fn take_first(&mut self) -> Option<Pair> {
+        let pair = *self.pairs[..self.filled].get(self.at)?;
+        self.at += 1;
+        Some(pair)
+    }
+
+    fn take_last(&mut self) -> Option<Pair> {
+        let pair = *self.pairs[self.at..self.filled].last()?;
+        self.filled -= 1;
+        Some(pair)
+    }
+}
+
+/// What is left of a range: what was read at its two ends, and the keys between these.
+#[derive(Clone)]
+struct Cursor {
+    front: Page,
+    /// (none until the end is asked for)
+    back: Option<Page>,
+    /// The first and the last key of which nothing was read yet.
+    unread: Option<(u64, u64)>,
+}
+
+impl Cursor {
+    fn of(bounds: impl RangeBounds<u64>) -> Cursor {
+        let start = match bounds.start_bound() {
+            Bound::Included(&key) => Some(key),
+            Bound::Excluded(&key) => key.checked_add(1),
+            Bound::Unbounded => Some(0),
+        };
+        let last = match bounds.end_bound() {
+            Bound::Included(&key) => Some(key),
+            Bound::Excluded(&key) => key.checked_sub(1),
+            Bound::Unbounded => Some(u64::MAX),
+        };
+        Cursor {
+            front: Page::empty(),
+            back: None,
+            unread: start.zip(last).filter(|(start, last)| start <= last),
+        }
+    }
+
+    fn next(&mut self, source: Source<'_>) -> Option<Pair> {
+        if self.front.len() == 0 {
+            if let Some((start, last)) = self.unread.take() {
+                self.unread = self
+                    .front
+                    .fill(|page| source.read_ascending(start, last, page))
+                    .filter(|read| read.key < last)
+                    .map(|read| (read.key + 1, last));
+            }
+        }
+        self.front
+            .take_first()
+            .or_else(|| self.back.as_mut()?.take_last())
+    }
+
+    fn next_back(&mut self, source: Source<'_>) -> Option<Pair> {
+        let back = self.back.get_or_insert_with(Page::empty);
+        if back.len() == 0 {
+            if let Some((start, last)) = self.unread.take() {
+                self.unread = back
+                    .fill(|page| source.read_descending(start, last, page))
+                    .filter(|read| start < read.key)
+                    .map(|read| (start, read.key - 1));
+            }
+        }
+        back.take_first().or_else(|| self.front.take_last())
+    }
+
+    fn size_hint(&self) -> (usize, Option<usize>) {
+        let read = self.front.len() + self.back.as_ref().map_or(0, Page::len);
+        (read, self.unread.is_none().then_some(read))
+    }
+}
+
+fn key_and_value(pair: Pair) -> (u64, u64) {
+    (pair.key, pair.value)
+}
+
+/// The pairs of a range, from either end.
+#[derive(Clone)]
+pub struct Range<'a> {
+    source: Source<'a>,
+    cursor: Cursor,
+}
+
+impl<'a> Range<'a> {
+    pub(crate) fn of(source: Source<'a>, bounds: impl RangeBounds<u64>) -> Range<'a> {
+        Range {
+            source,
+            cursor: Cursor::of(bounds),
+        }
+    }
+}
+
+impl Iterator for Range<'_> {
+    type Item = (u64, u64);
+
+    fn next(&mut self) -> Option<(u64, u64)> {
+        self.cursor.next(self.source).map(key_and_value)
+    }
+
+    fn size_hint(&self) -> (usize, Option<usize>) {
+        self.cursor.size_hint()
+    }
+}
+
+impl DoubleEndedIterator for Range<'_> {
+    fn next_back(&mut self) -> Option<(u64, u64)> {
+        self.cursor.next_back(self.source).map(key_and_value)
+    }
+}
+
+impl FusedIterator for Range<'_> {}
+
+impl fmt::Debug for Range<'_> {
+    fn fmt(&self, f: &mut fmt::Formatter<'_>) -> fmt::Result {
+        f.debug_map().entries(self.clone()).finish()
+    }
+}
+
+/// The keys of a map, ascending, from either end.
+#[derive(Clone, Debug)]
+pub struct Keys<'a> {
+    pub(crate) of: Range<'a>,
+}
+
+impl Iterator for Keys<'_> {
+    type Item = u64;
+
+    fn next(&mut self) -> Option<u64> {
+        self.of.next().map(|(key, _)| key)
+    }
+
+    fn size_hint(&self) -> (usize, Option<usize>) {
+        self.of.size_hint()
+    }
+}
+
+impl DoubleEndedIterator for Keys<'_> {
+    fn next_back(&mut self) -> Option<u64> {
+        self.of.next_back().map(|(key, _)| key)
+    }
+}
+
+impl FusedIterator for Keys<'_> {}
+
+/// The values of a map, keys ascending, from either end.
+#[derive(Clone, Debug)]
+pub struct Values<'a> {
+    pub(crate) of: Range<'a>,
+}
+
+impl Iterator for Values<'_> {
+    type Item = u64;
+
+    fn next(&mut self) -> Option<u64> {
+        self.of.next().map(|(_, value)| value)
+    }
+
+    fn size_hint(&self) -> (usize, Option<usize>) {
+        self.of.size_hint()
+    }
+}
+
+impl DoubleEndedIterator for Values<'_> {
+    fn next_back(&mut self) -> Option<u64> {
+        self.of.next_back().map(|(_, value)| value)
+    }
+}
+
+impl FusedIterator for Values<'_> {}
+
+/// The pairs of a map that it owns, from either end. The map is freed with it.
+pub struct IntoIter {
+    map: Map,
+    cursor: Cursor,
+}
+
+impl IntoIter {
+    pub(crate) fn of(map: Map) -> IntoIter {
+        IntoIter {
+            map,
+            cursor: Cursor::of(..),
+        }
+    }
+}
+
+impl Iterator for IntoIter {
+    type Item = (u64, u64);
+
+    fn next(&mut self) -> Option<(u64, u64)> {
+        self.cursor.next(Source::Map(&self.map)).map(key_and_value)
+    }
+
+    fn size_hint(&self) -> (usize, Option<usize>) {
+        self.cursor.size_hint()
+    }
+}
+
+impl DoubleEndedIterator for IntoIter {
+    fn next_back(&mut self) -> Option<(u64, u64)> {
+        self.cursor
+            .next_back(Source::Map(&self.map))
+            .map(key_and_value)
+    }
+}
+
+impl FusedIterator for IntoIter {}
+
+impl fmt::Debug for IntoIter {
+    fn fmt(&self, f: &mut fmt::Formatter<'_>) -> fmt::Result {
+        f.debug_struct("IntoIter").finish_non_exhaustive()
+    }
+}

@@ -1,0 +1,146 @@
+//! What `crates/congee_c` exports, written by hand: `Global` and ghost fields are no bytes, and a slice is a pointer and a
+//! length.
+
+use crate::Pair;
+
+/// What the address of a map points to.
+#[repr(C)]
+pub(crate) struct OpaqueMap {
+    _private: [u8; 0],
+}
+
+/// What the address of a reader points to.
+#[repr(C)]
+pub(crate) struct OpaqueReader {
+    _private: [u8; 0],
+}
+
+/// What the library takes: the address of a map.
+#[repr(C)]
+pub(crate) struct Handle {
+    pub(crate) map: *mut OpaqueMap,
+}
+
+/// The address of a reader of a frozen map.
+#[repr(C)]
+pub(crate) struct FrozenHandle {
+    pub(crate) reader: *mut OpaqueReader,
+}
+
+impl Handle {
+    /// A place for a map.
+    pub(crate) fn none() -> Handle {
+        Handle {
+            map: std::ptr::null_mut(),
+        }
+    }
+}
+
+impl FrozenHandle {
+    /// A place for a reader.
+    pub(crate) fn none() -> FrozenHandle {
+        FrozenHandle {
+            reader: std::ptr::null_mut(),
+        }
+    }
+}
+
+extern "C" {
+    pub(crate) fn congee_c_version() -> u32;
+    pub(crate) fn congee_c_new(limit: u64, out: *mut Handle) -> i32;
+    pub(crate) fn congee_c_free(handle: Handle);
+    pub(crate) fn congee_c_get(handle: *mut Handle, key: u64, value: *mut u64) -> i32;
+    pub(crate) fn congee_c_insert(
+        handle: *mut Handle,
+        key: u64,
+        value: u64,
+        before: *mut u64,
+    ) -> i32;
+    pub(crate) fn congee_c_remove(handle: *mut Handle, key: u64, before: *mut u64) -> i32;
+    pub(crate) fn congee_c_compare_exchange(
+        handle: *mut Handle,
+        key: u64,
+        expected: u64,
+        desired: u64,
+        found: *mut u64,
+    ) -> i32;
+    pub(crate) fn congee_c_compare_remove(
+        handle: *mut Handle,
+        key: u64,
+        expected: u64,
+        found: *mut u64,
+    ) -> i32;
+    pub(crate) fn congee_c_add(handle: *mut Handle, key: u64, number: u64, before: *mut u64)
+        -> i32;
+    pub(crate) fn congee_c_get_or_insert(
+        handle: *mut Handle,
+        key: u64,
+        value: u64,
+        found: *mut u64,
+    ) -> i32;
+    pub(crate) fn congee_c_range(
+        handle: *mut Handle,
+        start: u64,
+        end: u64,
+        buffer: *mut Pair,
+        n: usize,
+    ) -> usize;
+    pub(crate) fn congee_c_first(handle: *mut Handle, pair: *mut Pair) -> i32;
+    pub(crate) fn congee_c_last(handle: *mut Handle, pair: *mut Pair) -> i32;
+    pub(crate) fn congee_c_pop_first(handle: *mut Handle, pair: *mut Pair) -> i32;
+    pub(crate) fn congee_c_pop_last(handle: *mut Handle, pair: *mut Pair) -> i32;
+    pub(crate) fn congee_c_floor(handle: *mut Handle, key: u64, pair: *mut Pair) -> i32;
+    pub(crate) fn congee_c_ceiling(handle: *mut Handle, key: u64, pair: *mut Pair) -> i32;
+    pub(crate) fn congee_c_below(handle: *mut Handle, key: u64, pair: *mut Pair) -> i32;
+    pub(crate) fn congee_c_above(handle: *mut Handle, key: u64, pair: *mut Pair) -> i32;
+    pub(crate) fn congee_c_range_inclusive(
+        handle: *mut Handle,
+        start: u64,
+        last: u64,
+        buffer: *mut Pair,
+        n: usize,
+    ) -> usize;
+    pub(crate) fn congee_c_range_descending(
+        handle: *mut Handle,
+        start: u64,
+        last: u64,
+        buffer: *mut Pair,
+        n: usize,
+    ) -> usize;
+    pub(crate) fn congee_c_is_empty(handle: *mut Handle) -> bool;
+    pub(crate) fn congee_c_count(handle: *mut Handle) -> u64;
+    pub(crate) fn congee_c_charged(handle: *mut Handle) -> u64;
+    pub(crate) fn congee_c_freeze(handle: Handle, out: *mut FrozenHandle, back: *mut Handle)
+        -> i32;
+    pub(crate) fn congee_c_thaw(
+        frozen: FrozenHandle,
+        out: *mut Handle,
+        back: *mut FrozenHandle,
+    ) -> i32;
+    pub(crate) fn congee_c_frozen_another(frozen: *mut FrozenHandle, out: *mut FrozenHandle)
+        -> i32;
+    pub(crate) fn congee_c_frozen_free(frozen: FrozenHandle);
+    pub(crate) fn congee_c_frozen_get(frozen: *mut FrozenHandle, key: u64, value: *mut u64) -> i32;
+    pub(crate) fn congee_c_frozen_range(
+        frozen: *mut FrozenHandle,
+        start: u64,
+        end: u64,
+        buffer: *mut Pair,
+        n: usize,
+    ) -> usize;
+    pub(crate) fn congee_c_frozen_range_inclusive(
+        frozen: *mut FrozenHandle,
+        start: u64,
+        last: u64,
+        buffer: *mut Pair,
+        n: usize,
+    ) -> usize;
+    pub(crate) fn congee_c_frozen_range_descending(
+        frozen: *mut FrozenHandle,
+        start: u64,
+        last: u64,
+        buffer: *mut Pair,
+        n: usize,
+    ) -> usize;
+    pub(crate) fn congee_c_frozen_count(frozen: *mut FrozenHandle) -> u64;
+}
