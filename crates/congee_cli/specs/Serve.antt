@@ -1,5 +1,5 @@
 -- What the program is asked for, and how it ends.
-use Rattle.std.specs.Prelude.{◌≡◌, ℕ, ◌<◌, ◌^◌, ◌⊎◌, List, [], ◌∷◌, Option, Some, None, Result, Ok, Err, codes, decimal}
+use Rattle.std.specs.Prelude.{◌≡◌, ℕ, ◌<◌, ◌^◌, ◌⊎◌, true, List, [], ◌∷◌, Option, Some, None, Result, Ok, Err, codes, decimal}
 use Rattle.std.specs.List.{flat_map}
 use Rattle.spec_text.specs.Lines.{ended}
 use Rattle.text_lines.specs.Watched.{Stream, SendsTo, SendsPart}
@@ -44,11 +44,11 @@ help_text = flat_map ended (
     codes "floor K          the pair of the greatest key that is at most K" ∷
     codes "ceiling K        the pair of the least key that is at least K" ∷ [])
 
--- the exit status after that text, of which a first part was written if a write failed
+-- the exit status after that text, of which a first part was written where a write failed
 abbrev pub Helps : {W : Type 0} → (W → Option (List ℕ)) → Stream W → Stream W → ℕ → Type 0
 Helps contents output output' status =
-    ((status ≡ 0) × SendsTo contents output output' help_text [])
-    ⊎ ((status ≡ 1) × SendsPart contents output output' help_text)
+    ((status ≡ 0) × SendsTo contents output output' help_text [] × (output'.failed ≡ output.failed))
+    ⊎ ((status ≡ 1) × SendsPart contents output output' help_text × (output'.failed ≡ true))
 
 -- the exit statuses
 abbrev pub run_status : Result (Unit {0}) RunError → ℕ

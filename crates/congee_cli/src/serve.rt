@@ -97,6 +97,8 @@ fn help<W: Write, E: Write>(output: &mut Watched<W>, errors: &mut E) -> u8
 fn write_help<W: Write>(output: &mut Watched<W>) -> Result<(), Failed>
     ensures ok { OnOk result (SendsTo W.contents output.old output.new help_text []) }
     ensures err { OnErr result (SendsPart W.contents output.old output.new help_text) }
+    ensures kept { OnOk result (output.new.failed ≡ output.old.failed) }
+    ensures failed { OnErr result (output.new.failed ≡ true) }
 {
     output.send(HELP)?;
     output.flush()
