@@ -87,10 +87,12 @@ int32_t congee_c_below(struct congee_handle *handle, uint64_t key, struct congee
 int32_t congee_c_above(struct congee_handle *handle, uint64_t key, struct congee_pair *pair);
 int32_t congee_c_pop_first(struct congee_handle *handle, struct congee_pair *pair);
 int32_t congee_c_pop_last(struct congee_handle *handle, struct congee_pair *pair);
+void congee_c_clear(struct congee_handle *handle);
 size_t congee_c_range_inclusive(struct congee_handle *handle, uint64_t start, uint64_t last, struct congee_pair *buffer,
                                 size_t n);
 size_t congee_c_range_descending(struct congee_handle *handle, uint64_t start, uint64_t last, struct congee_pair *buffer,
                                  size_t n);
+uint64_t congee_c_remove_range_inclusive(struct congee_handle *handle, uint64_t start, uint64_t last);
 bool congee_c_is_empty(struct congee_handle *handle);
 uint64_t congee_c_count(struct congee_handle *handle);
 uint64_t congee_c_charged(struct congee_handle *handle);
@@ -248,8 +250,8 @@ static inline size_t congee_range_inclusive(struct congee *map, uint64_t start, 
     return n == 0 ? 0 : congee_c_range_inclusive(&handle, start, last, buffer, n);
 }
 
-/* The same with keys descending: writes the last pairs with start <= key <= last, the greatest key first. Reads one path
- * for each pair, and one more. To go on, end at the last key read minus 1, unless that is `start`. */
+/* The same with keys descending: writes the last pairs with start <= key <= last, the greatest key first. Reads
+ * what congee_range does for these pairs. To go on, end at the last key read minus 1, unless that is `start`. */
 static inline size_t congee_range_descending(struct congee *map, uint64_t start, uint64_t last, struct congee_pair *buffer,
                                              size_t n) {
     struct congee_handle handle = {map};
@@ -350,6 +352,18 @@ static inline int congee_pop_last(struct congee *map, struct congee_pair *pair) 
     return 1;
 }
 
+/* Removes all pairs; of the map's nodes the root stays. Takes no memory, and is never refused. */
+static inline void congee_clear(struct congee *map) {
+    struct congee_handle handle = {map};
+    congee_c_clear(&handle);
+}
+
+/* Removes the pairs with start <= key <= last, and answers how many. Is never refused. */
+static inline uint64_t congee_remove_range_inclusive(struct congee *map, uint64_t start, uint64_t last) {
+    struct congee_handle handle = {map};
+    return congee_c_remove_range_inclusive(&handle, start, last);
+}
+
 /* Whether there is no pair. */
 static inline bool congee_is_empty(struct congee *map) {
     struct congee_handle handle = {map};
@@ -437,6 +451,41 @@ static inline size_t congee_frozen_range_descending(struct congee_frozen *frozen
                                                     struct congee_pair *buffer, size_t n) {
     struct congee_frozen_handle handle = {frozen};
     return n == 0 ? 0 : congee_c_frozen_range_descending(&handle, start, last, buffer, n);
+}
+
+/* The neighbours of a key and the ends, as congee_first and the calls after it: each is a range of one pair. */
+static inline int congee_frozen_ceiling(struct congee_frozen *frozen, uint64_t key, struct congee_pair *pair) {
+    struct congee_pair it = {0, 0};
+    if (congee_frozen_range_inclusive(frozen, key, UINT64_MAX, &it, 1) == 0)
+        return 0;
+    if (pair)
+        *pair = it;
+    return 1;
+}
+
+static inline int congee_frozen_floor(struct congee_frozen *frozen, uint64_t key, struct congee_pair *pair) {
+    struct congee_pair it = {0, 0};
+    if (congee_frozen_range_descending(frozen, 0, key, &it, 1) == 0)
+        return 0;
+    if (pair)
+        *pair = it;
+    return 1;
+}
+
+static inline int congee_frozen_above(struct congee_frozen *frozen, uint64_t key, struct congee_pair *pair) {
+    return key == UINT64_MAX ? 0 : congee_frozen_ceiling(frozen, key + 1, pair);
+}
+
+static inline int congee_frozen_below(struct congee_frozen *frozen, uint64_t key, struct congee_pair *pair) {
+    return key == 0 ? 0 : congee_frozen_floor(frozen, key - 1, pair);
+}
+
+static inline int congee_frozen_first(struct congee_frozen *frozen, struct congee_pair *pair) {
+    return congee_frozen_ceiling(frozen, 0, pair);
+}
+
+static inline int congee_frozen_last(struct congee_frozen *frozen, struct congee_pair *pair) {
+    return congee_frozen_floor(frozen, UINT64_MAX, pair);
 }
 
 /* How many pairs there are, in constant time. */

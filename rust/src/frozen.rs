@@ -183,6 +183,94 @@ impl Frozen {
         unsafe { congee_c_frozen_range_descending(&mut self.handle(), start, last, place, n) }
     }
 
+    /// The pair with the least key, as [`Map::first`].
+    ///
+    /// ```
+    /// # fn main() -> Result<(), proved_congee::OutOfMemory> {
+    /// let map = proved_congee::Map::try_from_iter([(5, 50), (7, 70), (9, 90)])?;
+    /// let frozen = map.freeze().map_err(|_| proved_congee::OutOfMemory)?;
+    /// assert_eq!(frozen.first(), Some((5, 50)));
+    /// # Ok(())
+    /// # }
+    /// ```
+    pub fn first(&self) -> Option<(u64, u64)> {
+        self.ceiling(0)
+    }
+
+    /// The pair with the greatest key, as [`Map::last`].
+    ///
+    /// ```
+    /// # fn main() -> Result<(), proved_congee::OutOfMemory> {
+    /// let map = proved_congee::Map::try_from_iter([(5, 50), (7, 70), (9, 90)])?;
+    /// let frozen = map.freeze().map_err(|_| proved_congee::OutOfMemory)?;
+    /// assert_eq!(frozen.last(), Some((9, 90)));
+    /// # Ok(())
+    /// # }
+    /// ```
+    pub fn last(&self) -> Option<(u64, u64)> {
+        self.floor(u64::MAX)
+    }
+
+    /// The pair with the greatest key that is at most this one, as [`Map::floor`].
+    ///
+    /// ```
+    /// # fn main() -> Result<(), proved_congee::OutOfMemory> {
+    /// let map = proved_congee::Map::try_from_iter([(5, 50), (7, 70), (9, 90)])?;
+    /// let frozen = map.freeze().map_err(|_| proved_congee::OutOfMemory)?;
+    /// assert_eq!((frozen.floor(7), frozen.floor(4)), (Some((7, 70)), None));
+    /// # Ok(())
+    /// # }
+    /// ```
+    pub fn floor(&self, key: u64) -> Option<(u64, u64)> {
+        let mut found = [Pair::default()];
+        (self.read_range_descending(0, key, &mut found) == 1)
+            .then_some((found[0].key, found[0].value))
+    }
+
+    /// The pair with the least key that is at least this one, as [`Map::ceiling`].
+    ///
+    /// ```
+    /// # fn main() -> Result<(), proved_congee::OutOfMemory> {
+    /// let map = proved_congee::Map::try_from_iter([(5, 50), (7, 70), (9, 90)])?;
+    /// let frozen = map.freeze().map_err(|_| proved_congee::OutOfMemory)?;
+    /// assert_eq!((frozen.ceiling(8), frozen.ceiling(10)), (Some((9, 90)), None));
+    /// # Ok(())
+    /// # }
+    /// ```
+    pub fn ceiling(&self, key: u64) -> Option<(u64, u64)> {
+        let mut found = [Pair::default()];
+        (self.read_range_inclusive(key, u64::MAX, &mut found) == 1)
+            .then_some((found[0].key, found[0].value))
+    }
+
+    /// The pair with the greatest key below this one, as [`Map::below`].
+    ///
+    /// ```
+    /// # fn main() -> Result<(), proved_congee::OutOfMemory> {
+    /// let map = proved_congee::Map::try_from_iter([(5, 50), (7, 70), (9, 90)])?;
+    /// let frozen = map.freeze().map_err(|_| proved_congee::OutOfMemory)?;
+    /// assert_eq!((frozen.below(7), frozen.below(0)), (Some((5, 50)), None));
+    /// # Ok(())
+    /// # }
+    /// ```
+    pub fn below(&self, key: u64) -> Option<(u64, u64)> {
+        self.floor(key.checked_sub(1)?)
+    }
+
+    /// The pair with the least key above this one, as [`Map::above`].
+    ///
+    /// ```
+    /// # fn main() -> Result<(), proved_congee::OutOfMemory> {
+    /// let map = proved_congee::Map::try_from_iter([(5, 50), (7, 70), (9, 90)])?;
+    /// let frozen = map.freeze().map_err(|_| proved_congee::OutOfMemory)?;
+    /// assert_eq!((frozen.above(7), frozen.above(u64::MAX)), (Some((9, 90)), None));
+    /// # Ok(())
+    /// # }
+    /// ```
+    pub fn above(&self, key: u64) -> Option<(u64, u64)> {
+        self.ceiling(key.checked_add(1)?)
+    }
+
     /// The pairs whose keys are within the bounds, as [`Map::range`].
     ///
     /// ```

@@ -1,7 +1,7 @@
 //! The map that one thread has.
 
 use crate::frozen::Frozen;
-use crate::pages::{IntoIter, Keys, Range, Source, Values};
+use crate::pages::{ends, IntoIter, Keys, Range, Source, Values, PAGE};
 use crate::sys::*;
 use crate::{OutOfMemory, Pair};
 use std::fmt;
@@ -309,6 +309,45 @@ impl Map {
         self.pair(|handle, pair| unsafe { congee_c_pop_last(handle, pair) })
     }
 
+    /// Removes all pairs. Takes no memory, and frees all nodes but the root.
+    ///
+    /// ```
+    /// # fn main() -> Result<(), proved_congee::OutOfMemory> {
+    /// let mut map = proved_congee::Map::try_from_iter([(5, 50), (7, 70)])?;
+    /// map.clear();
+    /// assert!(map.is_empty() && map.charged() == 2104);
+    /// # Ok(())
+    /// # }
+    /// ```
+    pub fn clear(&mut self) {
+        unsafe { congee_c_clear(&mut self.handle()) }
+    }
+
+    /// Calls `keep` with each pair, keys ascending, and removes those for which it returns false. Reads pages of 64 pairs,
+    /// and removes each pair for itself. Is never refused.
+    ///
+    /// ```
+    /// # fn main() -> Result<(), proved_congee::OutOfMemory> {
+    /// let mut map = proved_congee::Map::try_from_iter((0..100).map(|key| (key, key * key)))?;
+    /// map.retain(|key, value| key % 10 == 0 && value > 100);
+    /// assert!(map.keys().eq([20, 30, 40, 50, 60, 70, 80, 90]));
+    /// # Ok(())
+    /// # }
+    /// ```
+    pub fn retain(&mut self, mut keep: impl FnMut(u64, u64) -> bool) {
+        let mut page = [Pair::default(); PAGE];
+        let mut next = Some(0);
+        while let Some(start) = next {
+            let read = self.read_range_inclusive(start, u64::MAX, &mut page);
+            for pair in &page[..read] {
+                if !keep(pair.key, pair.value) {
+                    self.remove(pair.key);
+                }
+            }
+            next = page[..read].last().and_then(|pair| pair.key.checked_add(1));
+        }
+    }
+
     // What a call writes to a pair's place, if it answers that it has.
     fn pair(&self, call: impl FnOnce(&mut Handle, &mut Pair) -> i32) -> Option<(u64, u64)> {
         let mut pair = Pair::default();
@@ -328,6 +367,22 @@ impl Map {
         let mut before = 0;
         let code = unsafe { congee_c_remove(&mut self.handle(), key, &mut before) };
         (code == 1).then_some(before)
+    }
+
+    /// Removes the pairs whose keys are within the bounds, and returns how many they were. Is never refused.
+    ///
+    /// ```
+    /// # fn main() -> Result<(), proved_congee::OutOfMemory> {
+    /// let mut map = proved_congee::Map::try_from_iter([5, 7, 9, u64::MAX].map(|key| (key, key / 2)))?;
+    /// assert_eq!((map.remove_range(6..9), map.remove_range(9..6)), (1, 0));
+    /// assert_eq!((map.remove_range(9..), map.len()), (2, 1));
+    /// # Ok(())
+    /// # }
+    /// ```
+    pub fn remove_range(&mut self, bounds: impl RangeBounds<u64>) -> u64 {
+        ends(bounds).map_or(0, |(start, last)| unsafe {
+            congee_c_remove_range_inclusive(&mut self.handle(), start, last)
+        })
     }
 
     /// Replaces the key's value by `desired` if it is `expected`. Otherwise changes nothing, and returns as an error

@@ -8,7 +8,7 @@ use std::iter::FusedIterator;
 use std::ops::{Bound, RangeBounds};
 
 /// How many pairs are read at once, at most and at first.
-const PAGE: usize = 64;
+pub(crate) const PAGE: usize = 64;
 const FIRST_PAGE: usize = 4;
 
 /// What pages are read from.
@@ -90,22 +90,27 @@ struct Cursor {
     unread: Option<(u64, u64)>,
 }
 
+/// The first and the last key within the bounds, if there is one.
+pub(crate) fn ends(bounds: impl RangeBounds<u64>) -> Option<(u64, u64)> {
+    let start = match bounds.start_bound() {
+        Bound::Included(&key) => Some(key),
+        Bound::Excluded(&key) => key.checked_add(1),
+        Bound::Unbounded => Some(0),
+    };
+    let last = match bounds.end_bound() {
+        Bound::Included(&key) => Some(key),
+        Bound::Excluded(&key) => key.checked_sub(1),
+        Bound::Unbounded => Some(u64::MAX),
+    };
+    start.zip(last).filter(|(start, last)| start <= last)
+}
+
 impl Cursor {
     fn of(bounds: impl RangeBounds<u64>) -> Cursor {
-        let start = match bounds.start_bound() {
-            Bound::Included(&key) => Some(key),
-            Bound::Excluded(&key) => key.checked_add(1),
-            Bound::Unbounded => Some(0),
-        };
-        let last = match bounds.end_bound() {
-            Bound::Included(&key) => Some(key),
-            Bound::Excluded(&key) => key.checked_sub(1),
-            Bound::Unbounded => Some(u64::MAX),
-        };
         Cursor {
             front: Page::empty(),
             back: None,
-            unread: start.zip(last).filter(|(start, last)| start <= last),
+            unread: ends(bounds),
         }
     }
 

@@ -89,6 +89,7 @@ extern "C" {
     pub(crate) fn congee_c_last(handle: *mut Handle, pair: *mut Pair) -> i32;
     pub(crate) fn congee_c_pop_first(handle: *mut Handle, pair: *mut Pair) -> i32;
     pub(crate) fn congee_c_pop_last(handle: *mut Handle, pair: *mut Pair) -> i32;
+    pub(crate) fn congee_c_clear(handle: *mut Handle);
     pub(crate) fn congee_c_floor(handle: *mut Handle, key: u64, pair: *mut Pair) -> i32;
     pub(crate) fn congee_c_ceiling(handle: *mut Handle, key: u64, pair: *mut Pair) -> i32;
     pub(crate) fn congee_c_below(handle: *mut Handle, key: u64, pair: *mut Pair) -> i32;
@@ -107,6 +108,11 @@ extern "C" {
         buffer: *mut Pair,
         n: usize,
     ) -> usize;
+    pub(crate) fn congee_c_remove_range_inclusive(
+        handle: *mut Handle,
+        start: u64,
+        last: u64,
+    ) -> u64;
     pub(crate) fn congee_c_is_empty(handle: *mut Handle) -> bool;
     pub(crate) fn congee_c_count(handle: *mut Handle) -> u64;
     pub(crate) fn congee_c_charged(handle: *mut Handle) -> u64;

@@ -12,6 +12,21 @@ static uint64_t key_of(uint64_t i) {
     return i % 2 ? i * 7 : i * 0x9E3779B97F4A7C15u;
 }
 
+/* Whether the neighbours of a present key are those that a range from it on has. */
+static bool has_neighbours(struct congee_frozen *frozen, uint64_t key) {
+    struct congee_pair from[2] = {{0, 0}}, pair = {0, 0};
+    size_t n = congee_frozen_range_inclusive(frozen, key, UINT64_MAX, from, 2);
+    if (congee_frozen_floor(frozen, key, &pair) != 1 || pair.key != key)
+        return false;
+    if (congee_frozen_ceiling(frozen, key, &pair) != 1 || pair.key != key)
+        return false;
+    if (n < 2)
+        return congee_frozen_above(frozen, key, NULL) == 0 && congee_frozen_last(frozen, &pair) == 1 && pair.key == key;
+    if (congee_frozen_above(frozen, key, &pair) != 1 || pair.key != from[1].key || pair.value != from[1].value)
+        return false;
+    return congee_frozen_below(frozen, from[1].key, &pair) == 1 && pair.key == key;
+}
+
 static void *look_up(void *at) {
     struct congee_frozen *frozen = at;
     struct congee_pair page[PAGE] = {{0, 0}};
@@ -22,6 +37,8 @@ static void *look_up(void *at) {
         if (congee_frozen_get(frozen, key_of(i), &value) != 1 || value != i)
             return at;
         if (call % 64 == 0 && (congee_frozen_range(frozen, key_of(i), UINT64_MAX, page, PAGE) == 0 || page[0].value != i))
+            return at;
+        if (call % 64 == 1 && !has_neighbours(frozen, key_of(i)))
             return at;
         if (congee_frozen_count(frozen) != PAIRS)
             return at;
@@ -62,9 +79,16 @@ int main(void) {
         if (pthread_join(threads[i], &failed) || failed)
             return 8;
     }
-    /* (and the map is freed with its last reader) */
-    if (congee_freeze(&map, &first) || congee_frozen_get(first, 1, &value) != 1 || value != 1)
+    congee_clear(map);
+    if (congee_insert(map, 1, 1, NULL) != 0)
         return 9;
+    /* (and the map is freed with its last reader) */
+    struct congee_pair pair = {0, 0};
+    if (congee_freeze(&map, &first) || congee_frozen_get(first, 1, &value) != 1 || value != 1)
+        return 10;
+    if (congee_frozen_first(first, &pair) != 1 || pair.key != 1 || congee_frozen_below(first, 1, NULL) != 0 ||
+        congee_frozen_above(first, UINT64_MAX, NULL) != 0 || congee_frozen_below(first, 0, NULL) != 0)
+        return 11;
     congee_frozen_free(first);
     printf("%d threads read one map of %d pairs\n", THREADS, PAIRS);
     return 0;

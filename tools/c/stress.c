@@ -8,7 +8,7 @@
 enum { KEYS = 4096, CALLS = 3000000, ROOM = 8 };
 
 static uint64_t keys[KEYS]; /* ascending */
-static bool stands[KEYS];
+static bool present[KEYS];
 static uint64_t values[KEYS];
 static uint64_t count;
 
@@ -41,26 +41,26 @@ static void check_range(struct congee *map, int i, uint64_t *seed) {
     int end = i + (int)(next(seed) % 64) - 4;
     end = end < 0 ? 0 : end >= KEYS ? KEYS - 1 : end;
     size_t n = next(seed) % (ROOM + 1), k = 0;
-    size_t told = congee_range(map, keys[i], keys[end], n > 0 ? got : NULL, n);
+    size_t written = congee_range(map, keys[i], keys[end], n > 0 ? got : NULL, n);
     for (int j = i; j < end && k < n; j++)
-        if (stands[j]) {
-            need(k < told && got[k].key == keys[j] && got[k].value == values[j], "a pair of a range");
+        if (present[j]) {
+            need(k < written && got[k].key == keys[j] && got[k].value == values[j], "a pair of a range");
             k++;
         }
-    need(k == told, "how many pairs a range has");
+    need(k == written, "how many pairs a range has");
     for (; k < ROOM; k++)
         need(got[k].key == 0xeeeeeeeeeeeeeeeeu && got[k].value == 0xeeeeeeeeeeeeeeeeu, "the rest of the buffer stays");
 }
 
 /* The place of the first present key from a place on, or KEYS; and of the last one up to a place, or -1. */
 static int next_present(int i) {
-    while (i < KEYS && !stands[i])
+    while (i < KEYS && !present[i])
         i++;
     return i;
 }
 
 static int last_present(int i) {
-    while (i >= 0 && !stands[i])
+    while (i >= 0 && !present[i])
         i--;
     return i;
 }
@@ -99,7 +99,7 @@ static void check_pop(struct congee *map, bool is_first) {
     int i = is_first ? next_present(0) : last_present(KEYS - 1);
     check_pair(is_first ? congee_pop_first(map, &pair) : congee_pop_last(map, &pair), pair, i, "pop");
     if (i >= 0 && i < KEYS) {
-        stands[i] = false;
+        present[i] = false;
         count--;
     }
 }
@@ -110,19 +110,20 @@ static void check_inclusive(struct congee *map, int i, uint64_t *seed) {
     int last = i + (int)(next(seed) % 64) - 4;
     last = last < 0 ? 0 : last >= KEYS ? KEYS - 1 : last;
     size_t n = next(seed) % (ROOM + 1), k = 0, d = 0;
-    size_t told = congee_range_inclusive(map, keys[i], keys[last], n > 0 ? got : NULL, n);
-    size_t told_down = congee_range_descending(map, keys[i], keys[last], n > 0 ? down : NULL, n);
+    size_t written = congee_range_inclusive(map, keys[i], keys[last], n > 0 ? got : NULL, n);
+    size_t written_down = congee_range_descending(map, keys[i], keys[last], n > 0 ? down : NULL, n);
     for (int j = i; j <= last && k < n; j++)
-        if (stands[j]) {
-            need(k < told && got[k].key == keys[j] && got[k].value == values[j], "a pair of a range with its end");
+        if (present[j]) {
+            need(k < written && got[k].key == keys[j] && got[k].value == values[j], "a pair of a range with its end");
             k++;
         }
     for (int j = last; j >= i && d < n; j--)
-        if (stands[j]) {
-            need(d < told_down && down[d].key == keys[j] && down[d].value == values[j], "a pair of a descending range");
+        if (present[j]) {
+            need(d < written_down && down[d].key == keys[j] && down[d].value == values[j],
+                 "a pair of a descending range");
             d++;
         }
-    need(k == told && d == told_down, "how many pairs a range with its end has");
+    need(k == written && d == written_down, "how many pairs a range with its end has");
     for (; k < ROOM; k++)
         need(got[k].key == 0 && got[k].value == 0, "the rest of the buffer stays");
     for (; d < ROOM; d++)
@@ -131,7 +132,7 @@ static void check_inclusive(struct congee *map, int i, uint64_t *seed) {
 
 static void check_exchange(struct congee *map, int i, uint64_t value, uint64_t *seed) {
     uint64_t expected = next(seed) % 4, found = 99;
-    int wanted = !stands[i] ? 0 : values[i] == expected ? 1 : 2;
+    int wanted = !present[i] ? 0 : values[i] == expected ? 1 : 2;
     need(congee_compare_exchange(map, keys[i], expected, value, &found) == wanted, "compare_exchange");
     need(found == (wanted == 2 ? values[i] : 99), "what compare_exchange found");
     if (wanted == 1)
@@ -140,48 +141,68 @@ static void check_exchange(struct congee *map, int i, uint64_t value, uint64_t *
 
 static void check_removal(struct congee *map, int i, uint64_t *seed) {
     uint64_t expected = next(seed) % 4, found = 99;
-    int wanted = !stands[i] ? 0 : values[i] == expected ? 1 : 2;
+    int wanted = !present[i] ? 0 : values[i] == expected ? 1 : 2;
     need(congee_compare_remove(map, keys[i], expected, &found) == wanted, "compare_remove");
     need(found == (wanted == 2 ? values[i] : 99), "what compare_remove found");
     if (wanted == 1) {
-        stands[i] = false;
+        present[i] = false;
         count--;
     }
 }
 
 static void check_sum(struct congee *map, int i, uint64_t *seed) {
     uint64_t number = next(seed) % 2 ? UINT64_MAX : 1, old = 99;
-    need(congee_add(map, keys[i], number, &old) == stands[i] && old == (stands[i] ? values[i] : 99), "add");
-    values[i] = stands[i] ? values[i] + number : number;
-    count += !stands[i];
-    stands[i] = true;
+    need(congee_add(map, keys[i], number, &old) == present[i] && old == (present[i] ? values[i] : 99), "add");
+    values[i] = present[i] ? values[i] + number : number;
+    count += !present[i];
+    present[i] = true;
 }
 
 static void check_first(struct congee *map, int i, uint64_t value) {
     uint64_t found = 99;
-    need(congee_get_or_insert(map, keys[i], value, &found) == stands[i], "get_or_insert");
-    need(found == (stands[i] ? values[i] : 99), "what get_or_insert found");
-    if (!stands[i])
+    need(congee_get_or_insert(map, keys[i], value, &found) == present[i], "get_or_insert");
+    need(found == (present[i] ? values[i] : 99), "what get_or_insert found");
+    if (!present[i])
         values[i] = value;
-    count += !stands[i];
-    stands[i] = true;
+    count += !present[i];
+    present[i] = true;
+}
+
+/* The removal of a range that includes its last key. */
+static void check_range_removal(struct congee *map, int i, uint64_t *seed) {
+    int last = i + (int)(next(seed) % 4) - 1;
+    last = last < 0 ? 0 : last >= KEYS ? KEYS - 1 : last;
+    uint64_t wanted = 0;
+    for (int j = i; j <= last; j++) {
+        wanted += present[j];
+        present[j] = false;
+    }
+    need(congee_remove_range_inclusive(map, keys[i], keys[last]) == wanted, "remove_range_inclusive");
+    count -= wanted;
+}
+
+static void check_clear(struct congee *map) {
+    congee_clear(map);
+    need(congee_charged(map) == 2104, "the charge of a cleared map");
+    memset(present, 0, sizeof present);
+    count = 0;
 }
 
 static void call(struct congee *map, uint64_t *seed, unsigned removals) {
     int i = (int)(next(seed) % KEYS);
-    uint64_t value = next(seed) % 4, out = 99, stood = stands[i] ? values[i] : 99;
-    unsigned kind = next(seed) % 19;
+    uint64_t value = next(seed) % 4, out = 99, before = present[i] ? values[i] : 99;
+    unsigned kind = next(seed) % 20;
     if (kind < removals) {
-        need(congee_remove(map, keys[i], &out) == stands[i] && out == stood, "remove");
-        count -= stands[i];
-        stands[i] = false;
+        need(congee_remove(map, keys[i], &out) == present[i] && out == before, "remove");
+        count -= present[i];
+        present[i] = false;
     } else if (kind < 6) {
-        need(congee_insert(map, keys[i], value, kind == 5 ? NULL : &out) == stands[i], "insert");
-        need(kind == 5 || out == stood, "what insert replaced");
-        count += !stands[i];
-        stands[i] = true, values[i] = value;
+        need(congee_insert(map, keys[i], value, kind == 5 ? NULL : &out) == present[i], "insert");
+        need(kind == 5 || out == before, "what insert replaced");
+        count += !present[i];
+        present[i] = true, values[i] = value;
     } else if (kind < 8) {
-        need(congee_get(map, keys[i], &out) == stands[i] && out == stood, "get");
+        need(congee_get(map, keys[i], &out) == present[i] && out == before, "get");
     } else if (kind < 10) {
         check_exchange(map, i, value, seed);
     } else if (kind < 12) {
@@ -198,11 +219,15 @@ static void call(struct congee *map, uint64_t *seed, unsigned removals) {
         check_neighbours(map, i);
     } else if (kind == 17) {
         check_pop(map, value % 2 == 0);
+    } else if (kind == 18) {
+        check_range_removal(map, i, seed);
+        if (next(seed) % 4096 == 0)
+            check_clear(map);
     } else {
-        need(congee_add(map, keys[i], 0, NULL) == stands[i], "add without a place");
-        values[i] = stands[i] ? values[i] : 0;
-        count += !stands[i];
-        stands[i] = true;
+        need(congee_add(map, keys[i], 0, NULL) == present[i], "add without a place");
+        values[i] = present[i] ? values[i] : 0;
+        count += !present[i];
+        present[i] = true;
     }
     need(congee_count(map) == count && congee_is_empty(map) == (count == 0), "count and is_empty");
 }
@@ -239,7 +264,7 @@ int main(void) {
         call(map, &seed, c / (CALLS / 6) % 2 == 0 ? 1 : 5);
     uint64_t left = count;
     for (int i = 0; i < KEYS; i++)
-        need(congee_remove(map, keys[i], &out) == stands[i], "the last removals");
+        need(congee_remove(map, keys[i], &out) == present[i], "the last removals");
     need(congee_is_empty(map) && congee_count(map) == 0, "an emptied map is empty");
     need(congee_charged(map) == 2104, "the charge of an emptied map");
     congee_free(map);

@@ -67,6 +67,25 @@ fn check_range(map: &Map, plain: &BTreeMap<u64, u64>, seed: &mut u64) {
     }
 }
 
+fn check_removal(map: &mut Map, plain: &mut BTreeMap<u64, u64>, seed: &mut u64) {
+    let start = key(seed);
+    let end = start.saturating_add(next(seed) % 0x0020020020020020);
+    let bounds = match next(seed) % 3 {
+        0 => (Bound::Included(start), Bound::Excluded(end)),
+        1 => (Bound::Excluded(start), Bound::Included(end)),
+        _ => (Bound::Included(end), Bound::Excluded(start)),
+    };
+    let mut removed = 0;
+    if is_range(bounds) {
+        let keys: Vec<u64> = plain.range(bounds).map(|(key, _)| *key).collect();
+        removed = keys.len();
+        for key in keys {
+            plain.remove(&key);
+        }
+    }
+    assert_eq!(map.remove_range(bounds), removed as u64);
+}
+
 /// A window of keys moves on: the charge is never more than that of the first four windows.
 fn move_window(apart: u64) {
     const WINDOW: u64 = 1024;
@@ -98,6 +117,16 @@ fn read_side_by_side(map: Map, plain: &BTreeMap<u64, u64>) -> Map {
                 assert!(own.keys().rev().eq(plain.keys().rev().copied()));
                 assert!(own.iter().all(|(key, value)| own.get(key) == Some(value)));
                 assert!(!own.contains_key(1) && own.len() == plain.len());
+                let pair = |(key, value): (&u64, &u64)| (*key, *value);
+                assert_eq!(own.first(), plain.first_key_value().map(pair));
+                assert_eq!(own.last(), plain.last_key_value().map(pair));
+                for at in plain.keys().flat_map(|key| [*key, key ^ 1]) {
+                    assert_eq!(own.floor(at), plain.range(..=at).next_back().map(pair));
+                    assert_eq!(own.below(at), plain.range(..at).next_back().map(pair));
+                    assert_eq!(own.ceiling(at), plain.range(at..).next().map(pair));
+                    let above = (Bound::Excluded(at), Bound::Unbounded);
+                    assert_eq!(own.above(at), plain.range(above).next().map(pair));
+                }
             });
         }
     });
@@ -112,7 +141,7 @@ fn main() {
     let mut seed = 7;
     for call in 0..CALLS {
         let (at, value) = (key(&mut seed), next(&mut seed) % 4);
-        match next(&mut seed) % 18 {
+        match next(&mut seed) % 19 {
             0..=4 => assert_eq!(map.insert(at, value), Ok(plain.insert(at, value))),
             5 | 6 => assert_eq!(map.remove(at), plain.remove(&at)),
             7 | 8 => assert_eq!(map.get(at), plain.get(&at).copied()),
@@ -150,6 +179,25 @@ fn main() {
                     map.above(at),
                     pair(plain.range(at..).find(|pair| *pair.0 != at))
                 );
+            }
+            17 => {
+                // (rarely all pairs, or every fourth)
+                match next(&mut seed) % 512 {
+                    0 => {
+                        map.clear();
+                        plain.clear();
+                    }
+                    1 => {
+                        let mut asked = Vec::new();
+                        map.retain(|key, value| {
+                            asked.push(key);
+                            (key ^ value) % 4 > 0
+                        });
+                        assert!(asked.iter().eq(plain.keys()));
+                        plain.retain(|key, value| (*key ^ *value) % 4 > 0);
+                    }
+                    _ => check_removal(&mut map, &mut plain, &mut seed),
+                }
             }
             16 if value == 0 => assert_eq!(map.pop_first(), plain.pop_first()),
             16 if value == 1 => assert_eq!(map.pop_last(), plain.pop_last()),

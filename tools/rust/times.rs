@@ -1,5 +1,5 @@
 //! What a call costs from Rust, in nanoseconds of the processor, and what it costs on a `BTreeMap`: the least of so many
-//! rounds.
+//! rounds. Of the calls on all pairs, `retain` and `clear`, what they cost for each pair.
 
 use proved_congee::{Map, Pair};
 use std::collections::BTreeMap;
@@ -7,7 +7,7 @@ use std::hint::black_box;
 
 const ROUNDS: usize = 7;
 const PAGE: usize = 100;
-const KINDS: [&str; 8] = [
+const KINDS: [&str; 10] = [
     "insert",
     "get",
     "floor",
@@ -16,6 +16,8 @@ const KINDS: [&str; 8] = [
     "descending",
     "remove",
     "pop_first",
+    "retain half",
+    "clear",
 ];
 
 extern "C" {
@@ -45,6 +47,8 @@ trait Timed {
     fn read_back(&self, key: u64, page: &mut [Pair; PAGE]) -> usize;
     fn pop(&mut self) -> Option<(u64, u64)>;
     fn take(&mut self, key: u64) -> Option<u64>;
+    fn keep_odd_values(&mut self);
+    fn empty(&mut self);
 }
 
 impl Timed for Map {
@@ -71,6 +75,12 @@ impl Timed for Map {
     }
     fn take(&mut self, key: u64) -> Option<u64> {
         self.remove(key)
+    }
+    fn keep_odd_values(&mut self) {
+        self.retain(|_, value| value % 2 == 1)
+    }
+    fn empty(&mut self) {
+        self.clear()
     }
 }
 
@@ -110,6 +120,12 @@ impl Timed for BTreeMap<u64, u64> {
     fn take(&mut self, key: u64) -> Option<u64> {
         self.remove(&key)
     }
+    fn keep_odd_values(&mut self) {
+        self.retain(|_, value| *value % 2 == 1)
+    }
+    fn empty(&mut self) {
+        self.clear()
+    }
 }
 
 fn make<M: Timed>(map: &mut M, kind: usize, keys: &[u64]) {
@@ -132,7 +148,7 @@ fn times<M: Timed>(name: &str, keys: &[u64], what: &str) {
     for _ in 0..ROUNDS {
         let mut map = M::fresh();
         for (kind, least) in least.iter_mut().enumerate() {
-            if kind == 7 {
+            if kind >= 7 {
                 make(&mut map, 0, keys);
             }
             let calls = if kind == 4 || kind == 5 {
@@ -141,7 +157,11 @@ fn times<M: Timed>(name: &str, keys: &[u64], what: &str) {
                 keys.len()
             };
             let start = now();
-            make(&mut map, kind, &keys[..calls]);
+            match kind {
+                8 => map.keep_odd_values(),
+                9 => map.empty(),
+                _ => make(&mut map, kind, &keys[..calls]),
+            }
             *least = least.min((now() - start) / calls as f64);
         }
     }

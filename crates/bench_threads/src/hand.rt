@@ -2,7 +2,7 @@
 
 use crate::work::{Loops, Times, Work, all_times, hundredths, tenths, walls};
 use crossbeam_utils::Backoff;
-use face_maps::typed_congee::Congee;
+use face_typed::typed_congee::Congee;
 use node_table::allocator::DefaultAllocator;
 use std::alloc::Global;
 use std::sync::{Mutex, MutexGuard, Wait};

@@ -1,11 +1,11 @@
 //! The map for its users: the typed faces, the forms that threads share, calls as data, and all that they name.
 #![tactic(auto)]
 
-pub use face_maps::congee_arc::{CongeeArc, PayloadCongee};
-pub use face_maps::many::InsertManyError;
-pub use face_maps::typed_congee::Congee;
-pub use face_maps::u64_congee::U64Congee;
+pub use face_payloads::congee_arc::{CongeeArc, PayloadCongee};
 pub use face_runs::{calls, payload_calls, u64_calls};
+pub use face_typed::many::InsertManyError;
+pub use face_typed::typed_congee::Congee;
+pub use face_u64::u64_congee::U64Congee;
 pub use node_base::base_node::NodeSize;
 pub use node_stats::NodeStats;
 pub use node_stats::levels::{LevelStats, Levels};

@@ -36,7 +36,7 @@ pub extern "C" fn congee_c_add(handle: &mut Handle, key: u64, number: u64, befor
         }
     };
     match handle.as_mut().map.compute_or_insert(key, &mut sum) {
-        Ok(stood) => answer(stood, before),
+        Ok(previous) => answer(previous, before),
         Err(_) => OOM,
     }
 }
@@ -65,7 +65,7 @@ pub extern "C" fn congee_c_get_or_insert(
     ensures place { handle.new.ptr ≡ handle.old.ptr }
 {
     match put_if_absent(handle.as_mut(), key, value) {
-        Ok(stood) => answer(stood, found),
+        Ok(previous) => answer(previous, found),
         Err(_) => OOM,
     }
 }

@@ -118,7 +118,10 @@ pub extern "C" fn congee_c_frozen_get(frozen: &mut FrozenHandle, key: u64, value
     ensures same { frozen.new.reader ≡ frozen.old.reader }
     ensures place { frozen.new.ptr ≡ frozen.old.ptr }
 {
-    answer(frozen.as_mut().get(key), value)
+    match frozen.as_mut().held() {
+        Some(held) => answer(held.map.get(&key), value),
+        None => 0,
+    }
 }
 
 /// Writes the first pairs with keys from `start` on and below `end`, keys ascending, as many as there are or as fit,
@@ -138,7 +141,10 @@ pub extern "C" fn congee_c_frozen_range(
     ensures same { frozen.new.reader ≡ frozen.old.reader }
     ensures place { frozen.new.ptr ≡ frozen.old.ptr }
 {
-    frozen.as_mut().range_of(start, end, buffer)
+    match frozen.as_mut().held() {
+        Some(held) => held.map.range_of(start, end, buffer),
+        None => 0,
+    }
 }
 
 /// The same for keys from `start` to `last`, both included.
@@ -157,7 +163,10 @@ pub extern "C" fn congee_c_frozen_range_inclusive(
     ensures same { frozen.new.reader ≡ frozen.old.reader }
     ensures place { frozen.new.ptr ≡ frozen.old.ptr }
 {
-    frozen.as_mut().range_inclusive_of(start, last, buffer)
+    match frozen.as_mut().held() {
+        Some(held) => held.map.range_inclusive_of(start, last, buffer),
+        None => 0,
+    }
 }
 
 /// The same with keys descending: the last pairs of those.
@@ -176,7 +185,10 @@ pub extern "C" fn congee_c_frozen_range_descending(
     ensures same { frozen.new.reader ≡ frozen.old.reader }
     ensures place { frozen.new.ptr ≡ frozen.old.ptr }
 {
-    frozen.as_mut().range_descending_of(start, last, buffer)
+    match frozen.as_mut().held() {
+        Some(held) => held.map.range_descending_of(start, last, buffer),
+        None => 0,
+    }
 }
 
 /// How many pairs there are; saturates at `u64::MAX`. Takes constant time.
@@ -186,5 +198,8 @@ pub extern "C" fn congee_c_frozen_count(frozen: &mut FrozenHandle) -> u64
     ensures same { frozen.new.reader ≡ frozen.old.reader }
     ensures place { frozen.new.ptr ≡ frozen.old.ptr }
 {
-    narrowed(frozen.as_mut().value_count())
+    match frozen.as_mut().held() {
+        Some(held) => narrowed(held.map.value_count()),
+        None => 0,
+    }
 }

@@ -4,7 +4,7 @@ ghost use Rattle.std.specs.Prelude.{IfOk};
 ghost use Rattle.congee_c.specs.Limit.{limit_of, limit_charge};
 ghost use Rattle.tree_edit.specs.TreeCalls.{IsNew};
 
-use face_maps::typed_congee::Congee;
+use face_typed::typed_congee::Congee;
 use node_table::allocator::Budget;
 use spec_map::error::OOMError;
 use std::alloc::Global;

@@ -5,7 +5,8 @@
 //!
 //! An answer is an `i32`: 0, 1 or 2 with the meaning that each call documents, and -1 if there is no memory.
 //!
-//! Here are the calls that make a map and get, set and remove one key; `compute`, `near` and `frozen` have the others.
+//! Here are the calls that make a map and get, set and remove one key; `compute`, `near`, `bulk` and `frozen` have the
+//! others.
 #![tactic(auto)]
 
 ghost use Rattle.std.specs.Prelude.{◌≡◌, ◌≢◌, ℕ, pos, ◌⊎◌, ◌↔◌, ◌++◌, [], Some, None, IfSome, IsSome, IsTrue, length, min, map, take, drop};
@@ -18,6 +19,7 @@ ghost use Rattle.tree_edit.specs.Tree.{ChargesForNodes, StoresSame};
 ghost use Rattle.congee_c.specs.Answer.{is_there, put_if_there, oom};
 ghost use Rattle.congee_c.specs.Limit.{limit_of, limit_charge};
 
+mod bulk;
 mod compute;
 mod frozen;
 mod handle;
@@ -122,7 +124,7 @@ pub extern "C" fn congee_c_insert(
     ensures place { handle.new.ptr ≡ handle.old.ptr }
 {
     match handle.as_mut().map.insert(key, value) {
-        Ok(stood) => answer(stood, before),
+        Ok(previous) => answer(previous, before),
         Err(_) => OOM,
     }
 }

@@ -3,6 +3,8 @@ use Rattle.std.specs.Prelude.{◌≡◌, ℕ, ◌<◌, ◌^◌, ◌⊎◌, true,
 use Rattle.std.specs.List.{flat_map}
 use Rattle.spec_text.specs.Lines.{ended}
 use Rattle.text_lines.specs.Watched.{Stream, SendsTo, SendsPart}
+use Rattle.text_trace.specs.declared.detail.Detail.{Detail}
+use Rattle.text_trace.specs.declared.detail.Detail.TheVariants.{Outcomes, Events, Contents}
 use Rattle.text_schedule.specs.declared.schedule.ScheduleError.{ScheduleError}
 use Rattle.text_schedule.specs.declared.schedule.ScheduleError.TheVariants as schedule
 use Rattle.text_run.specs.declared.run.RunError.{RunError}
@@ -13,9 +15,11 @@ abbrev pub AsksRun : List (List ℕ) → Option ℕ → Type 0
 AsksRun words None = words ≡ codes "run" ∷ []
 AsksRun words (Some limit) = (words ≡ codes "run" ∷ decimal limit ∷ []) × (limit < 2 ^ 64)
 
--- they ask for a schedule
-abbrev pub AsksSchedule : List (List ℕ) → Type 0
-AsksSchedule words = words ≡ codes "schedule" ∷ []
+-- they ask for a schedule, whose text is to be written in this detail
+abbrev pub AsksSchedule : List (List ℕ) → Detail → Type 0
+AsksSchedule words Outcomes = words ≡ codes "schedule" ∷ []
+AsksSchedule words Events = words ≡ codes "trace" ∷ []
+AsksSchedule words Contents = words ≡ codes "trace" ∷ codes "--content" ∷ []
 
 -- they ask for the lines of a run
 abbrev pub AsksHelp : List (List ℕ) → Type 0
@@ -24,7 +28,8 @@ AsksHelp words = words ≡ codes "run" ∷ codes "--help" ∷ []
 -- they ask for something else
 abbrev pub AsksNothing : List (List ℕ) → Type 0
 AsksNothing words =
-    ((limit : Option ℕ) → AsksRun words limit → ⊥) × (AsksHelp words → ⊥) × (AsksSchedule words → ⊥)
+    ((limit : Option ℕ) → AsksRun words limit → ⊥) × (AsksHelp words → ⊥)
+    × ((detail : Detail) → AsksSchedule words detail → ⊥)
 
 -- the lines of a run, one after another
 abbrev pub help_text : List ℕ

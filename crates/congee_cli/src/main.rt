@@ -1,4 +1,5 @@
-//! The program `congee`: serves commands on an ordered map, or replays a schedule of the protocol's events.
+//! The program `congee`: serves commands on an ordered map, or replays a schedule of the protocol's events and writes what
+//! comes of them, or each of them.
 #![tactic(auto)]
 
 pub mod serve;

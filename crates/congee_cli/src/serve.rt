@@ -1,6 +1,7 @@
 //! The program, but for its streams.
 
 ghost use Rattle.std.specs.Prelude.{◌≡◌, ◌≢◌, ℕ, ◌↔◌, [], Option, Result, IfSome, IfNone, OnOk, OnErr, map, string_bytes, true};
+ghost use Rattle.text_trace.specs.declared.detail.Detail.{Detail as HowMuch};
 ghost use Rattle.text_schedule.specs.Schedule.{EndsSchedule};
 ghost use Rattle.text_schedule.specs.declared.schedule.ScheduleError.{ScheduleError as HowScheduled};
 ghost use Rattle.text_run.specs.Run.{EndsRun};
@@ -16,6 +17,7 @@ use text_lines::pending::Pending;
 use text_lines::watched::{Failed, Watched};
 use text_run::run::{RunError, run};
 use text_schedule::schedule::{ScheduleError, schedule};
+use text_trace::detail::Detail;
 
 /// What each line of a run does.
 pub(crate) const HELP: &[u8] = b"\
@@ -41,7 +43,8 @@ enum Mode {
     Run(Option<u64>),
     /// The lines of a run.
     Help,
-    Schedule,
+    /// A schedule, and how much its text shows.
+    Schedule(Detail),
 }
 
 /// Does what the words after the program's name ask for, and returns the exit status. The words are
@@ -67,9 +70,9 @@ pub fn serve<R: Read, W: Write, E: Write>(
         → Helps W.contents output.old output.new result × (input.new ≡ input.old) }
 
     // The same as for a run, of a schedule.
-    ensures schedule { AsksSchedule (map string_bytes words.now)
+    ensures schedule { (detail : HowMuch) → AsksSchedule (map string_bytes words.now) detail
         → (ended : Result (Unit {0}) HowScheduled) × (result ≡ schedule_status ended)
-        × EndsSchedule R.remaining W.contents input.old input.new output.old output.new ended }
+        × EndsSchedule detail R.remaining W.contents input.old input.new output.old output.new ended }
 
     // The words are others.
     ensures usage { (result ≡ 2) ↔ AsksNothing (map string_bytes words.now) }
@@ -78,8 +81,14 @@ pub fn serve<R: Read, W: Write, E: Write>(
     match asked_by(words) {
         Some(Mode::Run(limit)) => end_run(errors, run(alloc, input, output, limit)),
         Some(Mode::Help) => help(output, errors),
-        Some(Mode::Schedule) => end_schedule(errors, schedule(alloc, input, output)),
-        None => tell(errors, 2, b"usage: congee run [LIMIT] | congee schedule\n"),
+        Some(Mode::Schedule(detail)) => {
+            end_schedule(errors, schedule(alloc, detail, input, output))
+        }
+        None => tell(
+            errors,
+            2,
+            b"usage: congee run [LIMIT] | congee schedule | congee trace [--content]\n",
+        ),
     }
 }
 
@@ -172,7 +181,11 @@ fn asked_by(words: &[String]) -> Option<Mode>
         [name, limit] if name.as_str() == "run" => {
             Some(Mode::Run(Some(number(limit.as_bytes())?)))
         }
-        [name] if name.as_str() == "schedule" => Some(Mode::Schedule),
+        [name] if name.as_str() == "schedule" => Some(Mode::Schedule(Detail::Outcomes)),
+        [name] if name.as_str() == "trace" => Some(Mode::Schedule(Detail::Events)),
+        [name, word] if name.as_str() == "trace" && word.as_str() == "--content" => {
+            Some(Mode::Schedule(Detail::Contents))
+        }
         _ => None,
     }
 }

@@ -2,6 +2,7 @@
 
 mod cleanups;
 mod schedules;
+mod traces;
 
 use crate::serve::{HELP, serve};
 use std::alloc::{AllocError, Global};
@@ -10,7 +11,7 @@ use std::io::{ErrorKind, Read, Write};
 use std::test::Fail;
 use text_lines::watched::Watched;
 
-const USAGE: &str = "usage: congee run [LIMIT] | congee schedule\n";
+const USAGE: &str = "usage: congee run [LIMIT] | congee schedule | congee trace [--content]\n";
 
 const BROKEN: &str = "congee: input or output failed\n";
 
@@ -195,7 +196,7 @@ fn long_lines(rt: HostRuntime) -> Result<(), Fail> {
 
 #[test]
 fn usage(rt: HostRuntime) -> Result<(), Fail> {
-    let cases: [&[&str]; 10] = [
+    let cases: [&[&str]; 14] = [
         &[],
         &["walk"],
         &["walk", "1"],
@@ -204,6 +205,10 @@ fn usage(rt: HostRuntime) -> Result<(), Fail> {
         &["run", "+1"],
         &["run", "18446744073709551616"],
         &["schedule", "1"],
+        &["schedule", "--content"],
+        &["trace", "1"],
+        &["trace", "--content", "1"],
+        &["--content"],
         &["run", "1", "2"],
         &["run\n"],
     ];

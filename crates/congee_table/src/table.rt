@@ -1,13 +1,13 @@
 //! The table: its rows, its calls and their errors.
 
-ghost use Rattle.std.specs.Prelude.{◌≡◌, ◌≢◌, ◌↔◌, ◌+◌, ◌≤◌, [], ◌++◌, ◌/◌, ◌%◌, ◌^◌, Some, None, IfOk, OnOk, OnErr, IsErrOf, IsOkUnless, codes, length, min, take, drop};
-ghost use Rattle.spec_map.specs.Map.{lookup, put, without, between, IsMap};
+ghost use Rattle.std.specs.Prelude.{◌≡◌, ◌≢◌, ◌↔◌, [], ◌++◌, ◌/◌, ◌%◌, ◌^◌, Some, None, IfOk, OnOk, OnErr, IsErrOf, IsOkUnless, codes, length, min, take, drop};
+ghost use Rattle.spec_map.specs.Map.{lookup, put, without};
 ghost use Rattle.congee_table.specs.Index.{joined_halves, rows_of, AreIndexes};
 ghost use Rattle.congee_table.specs.Rows.{row_at, IsInGroup, regrouped, group_rows};
 ghost use Rattle.congee_table.specs.declared.table.TableError.TheVariants.{Oom};
 
 use crate::numbers::{high, joined_halves, keep_low, low};
-use face_maps::typed_congee::Congee;
+use face_typed::typed_congee::Congee;
 use node_table::allocator::Allocator;
 use spec_map::error::OOMError;
 use std::alloc::Global;
@@ -147,7 +147,7 @@ impl<A: Allocator> Table<A> {
 
     /// Writes the first rows of the group with ids from this one on to the buffer, by id and value, ids ascending, as
     /// many as there are or as fit, and returns how many. The rest of the buffer is unchanged. Takes no memory: it is
-    /// one scan of the second index, and one look-up for the greatest id, which a scan of the last group can't include.
+    /// one scan of the second index.
     pub fn group(&self, group: u32, from: u32, buffer: &mut [(u64, u64)]) -> usize
         ensures count { result
             ≡ min (length buffer.old) (length (group_rows self.now.rows group from)) }
@@ -156,7 +156,7 @@ impl<A: Allocator> Table<A> {
     {
         let start = joined_halves(group, from);
         let last = joined_halves(group, u32::MAX);
-        let count = range_to(&self.second, start, last, buffer);
+        let count = self.second.range_inclusive(&start, &last, buffer);
         keep_low(&mut buffer[..count]);
         count
     }
@@ -216,30 +216,4 @@ fn leave<A: Allocator>(second: &mut Congee<u64, u64, A>, old: Row, group: u32)
     if old.group != group {
         second.remove(&joined_halves(old.group, old.id));
     }
-}
-
-// Writes the first pairs with keys from `start` to `last`, both included, to the buffer: a scan, which excludes its
-// end, and then the pair of `last`.
-fn range_to<A: Allocator>(
-    index: &Congee<u64, u64, A>,
-    start: u64,
-    last: u64,
-    buffer: &mut [(u64, u64)],
-) -> usize
-    requires ordered { IsMap index.now.pairs }
-    requires forward { start ≤ last }
-    ensures count { result
-        ≡ min (length buffer.old) (length (between index.now.pairs start (last + 1))) }
-    ensures written { buffer.new
-        ≡ take result (between index.now.pairs start (last + 1)) ++ drop result buffer.old }
-{
-    let count = index.range(&start, &last, buffer);
-    if count == buffer.len() {
-        return count;
-    }
-    let Some(value) = index.get(&last) else {
-        return count;
-    };
-    buffer[count] = (last, value);
-    count + 1
 }

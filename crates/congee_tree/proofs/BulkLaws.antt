@@ -1,13 +1,15 @@
 -- Removing a range of pairs, and the pairs that a closure keeps.
-use Rattle.std.proofs.Common.{◌≡◌, ℕ, suc, ◌+◌, ◌-◌, ◌<◌, ◌≤◌, ◌^◌, ◌&&◌, ◌≢◌, cond, leb, ltb, eqb, not, Bool, true, false, List, [], ◌∷◌, ◌++◌, length, Option, Some, None, refl, ap, sym, subst, ◌∙◌, append_assoc, arith, inl, inr}
-use Rattle.std.proofs.lemmas.Bool.{lt-ltb, le-ltb, le-leb, lt-leb, eq-eqb, ne_eqb, cases_lt, cases_eq}
+use Rattle.std.proofs.Common.{◌≡◌, ℕ, ◌+◌, ◌-◌, ◌<◌, ◌≤◌, ◌^◌, ◌&&◌, ◌≢◌, cond, leb, ltb, not, Bool, true, false, [], ◌∷◌, ◌++◌, length, Bor, Option, Some, None, IfSome, IfNone, option_map, refl, ap, sym, subst, ◌∙◌, append_assoc, arith, inl, inr, suc, eqb, List}
+use Rattle.std.proofs.lemmas.Bool.{lt-ltb, le-ltb, le-leb, lt-leb, eq-eqb, ne_eqb, cases_lt, cases_eq, cases_order}
 use Rattle.std.proofs.lemmas.List.Elements.{filter-append}
 use Rattle.spec_map.specs.Map.{Pairs, lookup, without, between, Rises, IsMap}
+use Rattle.spec_map.specs.Near.{first_of}
+use Rattle.spec_map.proofs.NearLaws.{no_first, first_rest}
 use Rattle.spec_map.proofs.MapLaws.{Rises-wider, Rises-without}
 use Rattle.spec_map.proofs.RangeLaws.{between-all, between-above}
 use Rattle.spec_map.proofs.JoinLaws.{Rises-append}
 use Rattle.tree_walk.specs.Scan.{from_key, first_number, first_pair}
-use Rattle.congee_tree.specs.Bulk.{outside, next_of, Retains}
+use Rattle.congee_tree.specs.Bulk.{outside, Retains}
 use Rattle.congee_tree.specs.inner.Step.{Asks, Extracts}
 use Rattle.std.specs.List.{FoldsTo}
 
@@ -107,6 +109,26 @@ module _ {P : Type 0} where
         ]
       ]
 
+  -- those outside a part that ends before a key, without the key, are those outside the part with it
+  pub outside-last : (a b : ℕ) (m : Pairs P) (s k : ℕ) → Rises a b m → s ≤ k → without (outside m s k) k ≡ outside m s (k + 1)
+  outside-last a b [] s k h p = refl
+  outside-last a b (x ∷ xs) s k h p =
+      elim (cases_order x.0 k) [
+        | inl same ↦
+            let before = all_outside xs s k (between-above (x.0 + 1) b s k xs h.2 (omega arith)) in
+            let after = all_outside xs s (k + 1) (between-above (x.0 + 1) b s (k + 1) xs h.2 (omega arith)) in
+            rw (le-leb s x.0 (omega arith), le-ltb x.0 k (omega arith), lt-ltb x.0 (k + 1) (omega arith), eq-eqb x.0 k same) (before ∙ sym after)
+        | inr (inl less) ↦
+            let rest = outside-last (x.0 + 1) b xs s k h.2 p in
+            elim (cases_lt x.0 s) [
+              | inl below ↦ rw (lt-leb s x.0 below, ne_eqb x.0 k (omega arith)) (ap (λ (t : Pairs P). x ∷ t) rest)
+              | inr from ↦ rw (le-leb s x.0 from, lt-ltb x.0 k less, lt-ltb x.0 (k + 1) (omega arith)) rest
+            ]
+        | inr (inr more) ↦
+            rw (le-leb s x.0 (omega arith), le-ltb x.0 k (omega arith), le-ltb x.0 (k + 1) (omega arith), ne_eqb x.0 k (omega arith))
+            (ap (λ (t : Pairs P). x ∷ t) (outside-last (x.0 + 1) b xs s k h.2 p))
+      ]
+
   -- each pair is between the two or outside
   pub parts_length : (m : Pairs P) (s e : ℕ) → length (between m s e) + length (outside m s e) ≡ length m
   parts_length [] s e = refl
@@ -158,28 +180,28 @@ module _ {P : Type 0} where
         ]
       ]
 
-  -- the first pair from a key on
-  pub first_pair_is : (a : ℕ) (m : Pairs P) (s k : ℕ) (v : P) → Rises a (2 ^ 64) m → Some k ≡ first_number (from_key s m) → Some v ≡ lookup m k → first_pair (from_key s m) ≡ Some (k, v)
-  first_pair_is a m s k v h is found = ap first_pair (between_taken a m s (2 ^ 64) k v h is found)
-
   pub none_of_first : (m : Pairs P) → None ≡ first_number m → m ≡ []
   none_of_first [] is = refl
   none_of_first (x ∷ xs) is = absurd (cc)
 
-  pub no_first_pair : (m : Pairs P) → None ≡ first_number m → first_pair m ≡ None
-  no_first_pair [] is = refl
-  no_first_pair (x ∷ xs) is = absurd (cc)
+  -- what a look for a pair returns
+  pub seen_none : (o : Option (ℕ × Bor P)) (m : Pairs P) → option_map (λ found. (found.0, found.1.now)) o ≡ first_of m → IfNone o (first_pair m ≡ None)
+  seen_none None m is = sym is
+  seen_none (Some found) m is = tt
 
-  -- no key is past the greatest
-  none_past : (m : Pairs P) → IsMap m → None ≡ first_number (from_key (2 ^ 64) m)
-  none_past m h = sym (ap first_number (between-below 0 (2 ^ 64) (2 ^ 64) (2 ^ 64) m h (omega arith)))
+  pub seen_some : (o : Option (ℕ × Bor P)) (m : Pairs P) → option_map (λ found. (found.0, found.1.now)) o ≡ first_of m → IfSome o (λ found. first_pair m ≡ Some (found.0, found.1.now))
+  seen_some None m is = tt
+  seen_some (Some found) m is = sym is
 
-  pub none_after : (m : Pairs P) → IsMap m → (last : Option ℕ) (k : ℕ) → last ≡ Some k → k + 1 ≡ 2 ^ 64 → None ≡ first_number (from_key (next_of last) m)
-  none_after m h None k is top = absurd (cc)
-  none_after m h (Some j) k is top =
-      let same : j ≡ k = cc in
-      let past : 2 ^ 64 ≡ j + 1 = omega (arith, same, top) in
-      subst (λ n. None ≡ first_number (from_key n m)) past (none_past m h)
+  -- the first pair is taken off
+  pub popped_none : (m : Pairs P) → None ≡ first_of m → m ≡ []
+  popped_none m is = no_first m (sym is)
+
+  pub popped_first : (m n : Pairs P) (k : ℕ) (v : P) → Some (k, v) ≡ first_of m → n ≡ without m k → m ≡ (k, v) ∷ n
+  popped_first m n k v is others = first_rest m (k, v) (sym is) ∙ ap (λ t. (k, v) ∷ t) (sym others)
+
+  pub fewer_popped : (m n : Pairs P) (k : ℕ) (v : P) → Some (k, v) ≡ first_of m → n ≡ without m k → length n < length m
+  fewer_popped m n k v is others = let one = ap length (popped_first m n k v is others) in omega arith
 
   -- a removal behind other pairs
   without-append : (a b : ℕ) (xs ys : Pairs P) (k : ℕ) → Rises a b xs → b ≤ k → without (xs ++ ys) k ≡ xs ++ without ys k

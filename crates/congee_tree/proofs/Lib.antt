@@ -1,4 +1,3 @@
 pub mod BulkLaws
-pub mod DescendingLaws
 pub mod EmptyLaws
 pub mod Places

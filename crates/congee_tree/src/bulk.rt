@@ -1,29 +1,28 @@
-//! Calls that remove many pairs.
+//! Calls that change many pairs.
 
-ghost use Rattle.std.specs.Prelude.{◌≡◌, [], length, IfSome, IfNone, None, Some};
-ghost use Rattle.congee_tree.specs.Bulk.{outside, next_of};
+ghost use Rattle.std.specs.Prelude.{◌≡◌, ◌+◌, [], length, take, IfSome, IfNone, IfErr, OnOk, slice_get, IsSomeAnd, None, Some};
+ghost use Rattle.congee_tree.specs.Bulk.{outside, next_of, put_all};
 ghost use Rattle.spec_map.specs.Map.{between};
+ghost use Rattle.spec_map.specs.Refusal.{NeedsNode};
 ghost use Rattle.tree_edit.specs.Tree.{root_alone, ChargesForNodes};
 ghost use Rattle.tree_walk.specs.Scan.{from_key, first_number, first_pair};
 
-use crate::by_number::{get, remove, remove_in_place};
+use crate::by_number::remove;
 use crate::tree::RawCongee;
 use node_table::allocator::Allocator;
 use spec_map::payload::Payload;
+use spec_map::traits::Word;
 use std::marker::Brand;
 use std::sync::ledger::Blank;
 
 impl<P: Payload, A: Allocator> RawCongee<P, A> {
-    /// Removes all pairs, which leaves the root alone. Takes no memory. Reads two paths for each pair.
+    /// Removes all pairs, which leaves the root alone. Takes no memory. Reads one path for each pair.
     pub fn clear(&mut self)
         ensures pairs { self.new.pairs ≡ [] }
         ensures nodes { self.new.nodes ≡ root_alone }
         ensures charge { ChargesForNodes A.charge self.old self.new }
     {
-        self.law_ordered();
-        while let Some(key) = self.key_from(0) {
-            let _ = remove_in_place::<Brand, P, A>(self, key, Blank::new(1));
-        }
+        'pairs: while let Some(_) = self.pop_first_in_place() {}
         self.law_empty();
     }
 
@@ -53,29 +52,52 @@ impl<P: Payload, A: Allocator> RawCongee<P, A> {
         }
     }
 
-    /// The first pair whose key is above `last`, or the first of all for `None`. Takes no memory. Reads two paths.
+    /// The first pair whose key is above `last`, or the first of all for `None`. Takes no memory. Reads one path, and
+    /// beside it at most one that is a dead end.
     pub fn pair_after(&self, last: Option<u64>) -> Option<(u64, &P)>
         ensures none { IfNone result (first_pair (from_key (next_of last) self.now.pairs) ≡ None) }
         ensures some { IfSome result (λ pair.
             first_pair (from_key (next_of last) self.now.pairs) ≡ Some (pair.0, pair.1.now)) }
     {
-        self.law_ordered();
-        let key = self.key_after(last)?;
-        let Some(payload) = get::<Brand, P, A>(self, key, Blank::new(1)) else {
-            unreachable!()
-        };
-        Some((key, payload))
+        match last {
+            None => self.ceiling(0),
+            Some(key) => self.above(key),
+        }
     }
 
-    // Its key.
-    fn key_after(&self, last: Option<u64>) -> Option<u64>
-        ensures { result ≡ first_number (from_key (next_of last) self.now.pairs) }
+    /// Removes the pairs with `start <= key <= last`, each as a removal does, and returns how many. Never fails. Reads
+    /// two paths for each of them, and two more.
+    pub fn remove_range_inclusive(&mut self, start: u64, last: u64) -> u128
+        ensures count { result ≡ length (between self.old.pairs start (last + 1)) }
+        ensures pairs { self.new.pairs ≡ outside self.old.pairs start (last + 1) }
+        ensures charge { ChargesForNodes A.charge self.old self.new }
     {
-        self.law_ordered();
-        match last {
-            None => self.key_from(0),
-            Some(u64::MAX) => None,
-            Some(key) => self.key_from(key + 1),
+        if last < start {
+            return 0;
         }
+        self.law_ordered();
+        let before = self.value_count();
+        let _ = self.remove_range(start, last);
+        let _ = remove::<Brand, P, A>(self, last, Blank::new(1));
+        before - self.value_count()
+    }
+}
+
+impl<A: Allocator> RawCongee<u64, A> {
+    /// Inserts the pairs in their order, so of two with one key the later one counts. Where memory is missing for one of
+    /// them, those before it are in the tree, and `Err` has their number.
+    ///
+    /// A pair takes memory, and is refused it, where its insertion by itself would be. It takes no descent where its leaf
+    /// is that of the pair before, unless the leaf was made for that one.
+    pub fn insert_many<K: Word, V: Word>(&mut self, pairs: &[(K, V)]) -> Result<(), usize>
+        ensures ok { OnOk result
+            (self.new.pairs ≡ put_all K.number V.number self.old.pairs pairs.now) }
+        ensures err { IfErr result (λ inserted. self.new.pairs
+            ≡ put_all K.number V.number self.old.pairs (take inserted pairs.now)) }
+        ensures refused { IfErr result (λ inserted. IsSomeAnd (slice_get pairs.now inserted)
+            (λ pair. NeedsNode self.new.pairs (K.number pair.0))) }
+        ensures charge { ChargesForNodes A.charge self.old self.new }
+    {
+        self.tree.insert_many(pairs)
     }
 }

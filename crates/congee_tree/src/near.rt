@@ -1,17 +1,15 @@
 //! The ends of a tree's pairs, and the neighbours of a key.
 
-ghost use Rattle.std.specs.Prelude.{◌≡◌, IfSome, IfNone, IsSome, Some};
-ghost use Rattle.spec_map.specs.Map.{lookup};
+ghost use Rattle.std.specs.Prelude.{◌≡◌, IfSome, IfNone, Some};
+ghost use Rattle.std.specs.Int.{to_be_bytes, w64};
 ghost use Rattle.std.specs.Option.{option_map};
 ghost use Rattle.spec_map.specs.Near.{first_of, last_of, floor_of, below_of, ceiling_of, above_of};
+ghost use Rattle.tree_edit.specs.Reduce.{LosesInPlace};
 ghost use Rattle.tree_edit.specs.TreeCalls.{Removes};
 
-use crate::by_number::remove;
 use crate::tree::RawCongee;
 use node_table::allocator::Allocator;
 use spec_map::payload::Payload;
-use std::marker::Brand;
-use std::sync::ledger::Blank;
 use tree_walk::nearest::{pair_from, pair_to};
 
 // Each call reads one path, and beside it at most one that is a dead end: that of the key which is asked for.
@@ -78,12 +76,19 @@ impl<P: Payload, A: Allocator> RawCongee<P, A> {
             Removes A.charge self.old pair.0 (Some pair.1) self.new) }
         ensures empty { IfNone result (self.new ≡ self.old) }
     {
-        // For the proof: brings the order of the keys into scope.
-        self.law_ordered();
-        let Some((key, _)) = self.first() else {
-            return None;
-        };
-        Some((key, self.take(key)))
+        self.tree.pop_first()
+    }
+
+    // The same, where no node shrinks: takes no memory.
+    pub(crate) fn pop_first_in_place(&mut self) -> Option<(u64, P)>
+        ensures pair { result ≡ first_of self.old.pairs }
+        ensures removes { IfSome result (λ pair.
+            Removes A.charge self.old pair.0 (Some pair.1) self.new) }
+        ensures in_place { IfSome result (λ pair.
+            LosesInPlace self.old.nodes (to_be_bytes w64 pair.0) self.new.nodes) }
+        ensures empty { IfNone result (self.new ≡ self.old) }
+    {
+        self.tree.pop_first_in_place()
     }
 
     /// Removes the pair with the greatest key, and returns it. Never fails; it is a removal as any other.
@@ -93,22 +98,6 @@ impl<P: Payload, A: Allocator> RawCongee<P, A> {
             Removes A.charge self.old pair.0 (Some pair.1) self.new) }
         ensures empty { IfNone result (self.new ≡ self.old) }
     {
-        // For the proof: brings the order of the keys into scope.
-        self.law_ordered();
-        let Some((key, _)) = self.last() else {
-            return None;
-        };
-        Some((key, self.take(key)))
-    }
-
-    // Removes the pair at a key that is present, and returns its payload.
-    fn take(&mut self, key: u64) -> P
-        requires { IsSome (lookup self.old.pairs key) }
-        ensures { Removes A.charge self.old key (Some result) self.new }
-    {
-        match remove::<Brand, P, A>(self, key, Blank::new(1)) {
-            Some(payload) => payload,
-            None => unreachable!(),
-        }
+        self.tree.pop_last()
     }
 }

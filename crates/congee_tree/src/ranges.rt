@@ -6,6 +6,7 @@ ghost use Rattle.spec_map.specs.Map.{between};
 
 use crate::tree::RawCongee;
 use node_table::allocator::Allocator;
+use tree_walk::range_down::scan_down;
 use tree_walk::range_scan::{RangeEntry, scan};
 
 impl<A: Allocator> RawCongee<u64, A> {
@@ -40,8 +41,7 @@ impl<A: Allocator> RawCongee<u64, A> {
         scan(nodes, root, start, last, buffer, 0)
     }
 
-    /// The same with keys descending: the last pairs with `start <= key <= last`. It searches for each pair from the
-    /// root, as `floor` does, and once more.
+    /// The same with keys descending: the last pairs with `start <= key <= last`.
     pub fn range_descending<E: RangeEntry>(&self, start: u64, last: u64, buffer: &mut [E]) -> usize
         ensures count { result
             ≡ min (length buffer.old) (length (between self.now.pairs start (last + 1))) }
@@ -49,24 +49,7 @@ impl<A: Allocator> RawCongee<u64, A> {
             let entries = map (λ pair. E.entry pair.0 pair.1) pairs in
             buffer.new ≡ take result entries ++ drop result buffer.old }
     {
-        // For the proof: brings the order of the keys into scope.
-        self.law_ordered();
-        if start > last {
-            return 0;
-        }
-        let mut count = 0;
-        let mut next = self.floor(last);
-        while count < buffer.len() {
-            let Some((key, value)) = next else {
-                return count;
-            };
-            if key < start {
-                return count;
-            }
-            buffer[count] = E::from_pair(key, *value);
-            count += 1;
-            next = self.below(key);
-        }
-        count
+        let (nodes, root) = self.tree.table();
+        scan_down(nodes, root, start, last, buffer, 0)
     }
 }

@@ -216,8 +216,6 @@ impl<P: Payload, A: Allocator> RawCongee<P, A> {
     pub fn into_pairs(self) -> IntoPairs<P, A>
         ensures { result ≡ self.pairs }
     {
-        // For the proof: brings the order of the keys into scope.
-        let _ = self.tree.table();
         IntoPairs::new(self)
     }
 

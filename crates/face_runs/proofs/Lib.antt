@@ -1,4 +1,5 @@
 pub mod PayloadSteps
+pub mod RangeReads
 pub mod ReadRuns
 pub mod RefusedRanges
 pub mod Steps

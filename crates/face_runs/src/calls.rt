@@ -6,7 +6,7 @@ ghost use Rattle.spec_map.specs.Map.{lookup, put, with_answer, between};
 ghost use Rattle.spec_map.specs.Refusal.{NeedsNode, at_new_node};
 ghost use Rattle.face_runs.specs.Calls.{by_numbers, IsLegalReply, AreLegalReplies};
 
-use face_maps::typed_congee::Congee;
+use face_typed::typed_congee::Congee;
 use node_table::allocator::Allocator;
 use spec_map::error::OOMError;
 use spec_map::traits::{Drainer, Word};

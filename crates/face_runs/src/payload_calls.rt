@@ -5,7 +5,7 @@ ghost use Rattle.spec_map.specs.Map.{lookup, with_answer};
 ghost use Rattle.spec_map.specs.Refusal.{at_new_node};
 ghost use Rattle.face_runs.specs.PayloadCalls.{IsLegalPayloadReply, AreLegalPayloadReplies};
 
-use face_maps::congee_arc::PayloadCongee;
+use face_payloads::congee_arc::PayloadCongee;
 use node_table::allocator::Allocator;
 use spec_map::error::OOMError;
 use spec_map::payload::Payload;

@@ -6,7 +6,7 @@ ghost use Rattle.spec_map.specs.Map.{between};
 ghost use Rattle.spec_map.specs.Refusal.{at_new_node};
 ghost use Rattle.face_runs.specs.U64Calls.{AreLegalU64Replies, IsLegalU64Reply};
 
-use face_maps::u64_congee::U64Congee;
+use face_u64::u64_congee::U64Congee;
 use node_table::allocator::Allocator;
 use spec_map::error::OOMError;
 use spec_map::traits::Word;

@@ -10,6 +10,9 @@ ghost use Rattle.std.specs.VecDeque.{deque_capacity};
 ghost use Rattle.spec_olc.specs.Retirement.{stamp_at, count_after};
 ghost use Rattle.olc_words.specs.Waiting.{Ascends, Waits, IsFirstWaiting, IsListed, IsWithout};
 
+#[cfg(test)]
+mod tests;
+
 use crate::lives::Lives;
 use spec_map::error::OOMError;
 use std::alloc::Global;

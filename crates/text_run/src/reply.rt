@@ -4,8 +4,8 @@ ghost use Rattle.std.specs.Prelude.{◌≡◌, ℕ, ◌+◌, ◌≤◌, ◌++◌
 ghost use Rattle.spec_map.specs.Map.{lookup, put as put_pair, with_answer};
 
 use crate::command::command_of;
-use face_maps::typed_congee::Congee;
 use face_runs::calls::pairs_between;
+use face_typed::typed_congee::Congee;
 use node_table::allocator::Allocator;
 use spec_map::error::OOMError;
 use spec_text::command::Command;

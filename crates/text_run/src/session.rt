@@ -5,7 +5,7 @@ ghost use Rattle.text_run.specs.inner.Answers.{AnswersAll, AnswersPart};
 ghost use Rattle.text_run.specs.inner.Session.{HasAnswered, HasServed, ServesAll, TakesLine, StopsAnswer, BreaksWithin, Breaks};
 
 use crate::reply::{put_reply, reply_to};
-use face_maps::typed_congee::Congee;
+use face_typed::typed_congee::Congee;
 use node_table::allocator::Allocator;
 use spec_map::error::OOMError;
 use std::alloc::Global;

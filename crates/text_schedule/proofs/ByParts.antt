@@ -9,6 +9,7 @@ use Rattle.spec_text.specs.declared.entry.Entry.{Entry}
 use Rattle.text_lines.proofs.Cutting.{cut_read}
 use Rattle.text_lines.specs.declared.watched.Watched.{Watched}
 use Rattle.spec_olc.specs.declared.types.Event.{Event}
+use Rattle.text_trace.specs.declared.detail.Detail.{Detail}
 use Rattle.text_schedule.proofs.Saying.{events_push}
 use Rattle.text_schedule.specs.Schedule.{Parses, HasTooMany, WritesReplay, EndsSchedule}
 use Rattle.text_schedule.specs.inner.Parts.{ParseAsEntries, ParseAsEvents, HasRead, HasTooManyAfter, StopsAt, WritesTrace, EndsScheduleByParts}
@@ -67,9 +68,9 @@ module _ {input input' : Option (List ℕ)} (p : Parses input input') where
     many = subst (λ (es : List (Event ℕ)). 100000 < length es) (sym (events_push p.entries many.0 refl)) many.2;
   }
 
-  writes_trace : {output output' : Option (List ℕ)} (left : List ℕ) → p.lines ≡ lines_of p.read.whole p.read.rest → IsAtEnd input'
-      → WritesReplay (flat_map events_of p.entries) output output' left → WritesTrace input input' output output' left
-  writes_trace left all ends w = record {
+  writes_trace : {output output' : Option (List ℕ)} (detail : Detail) (left : List ℕ) → p.lines ≡ lines_of p.read.whole p.read.rest → IsAtEnd input'
+      → WritesReplay detail (flat_map events_of p.entries) output output' left → WritesTrace detail input input' output output' left
+  writes_trace detail left all ends w = record {
     lines = p.lines;
     read = record {
       taken = _;
@@ -89,11 +90,11 @@ module _ {input input' : Option (List ℕ)} (p : Parses input input') where
     sends = w.sends;
   }
 
-module _ {R W : Type 0} (remaining : R → Option (List ℕ)) (contents : W → Option (List ℕ)) where
+module _ {R W : Type 0} (detail : Detail) (remaining : R → Option (List ℕ)) (contents : W → Option (List ℕ)) where
   pub by_parts : (input input' : Watched R) (output output' : Watched W) (result : Result (Unit {0}) ScheduleError)
-      → EndsSchedule remaining contents input input' output output' result → EndsScheduleByParts remaining contents input input' output output' result
+      → EndsSchedule detail remaining contents input input' output output' result → EndsScheduleByParts detail remaining contents input input' output output' result
   by_parts input input' output output' (Ok done) e =
-      (writes_trace e.0.0 [] e.0.1 e.0.2 e.0.3, not_both _ e.1, not_both _ e.2)
+      (writes_trace e.0.0 detail [] e.0.1 e.0.2 e.0.3, not_both _ e.1, not_both _ e.2)
   by_parts input input' output output' (Err Read) e =
       let p = e.0.0 in (
         record {
@@ -109,7 +110,7 @@ module _ {R W : Type 0} (remaining : R → Option (List ℕ)) (contents : W → 
         e.2,
       )
   by_parts input input' output output' (Err Write) e =
-      ((e.0.0, writes_trace e.0.1.0 e.0.0 e.0.1.1 e.0.1.2 e.0.1.3), not_both _ e.1, e.2)
+      ((e.0.0, writes_trace e.0.1.0 detail e.0.0 e.0.1.1 e.0.1.2 e.0.1.3), not_both _ e.1, e.2)
   by_parts input input' output output' (Err Oom) e = (
     record { lines = e.0.lines; later = e.0.later; read = has_read e.0; events = flat_map events_of e.0.entries; parsed = parsed e.0 },
     not_both _ e.1,

@@ -3,4 +3,3 @@ pub mod Decided
 pub mod Ending
 pub mod EntryLemmas
 pub mod Saying
-pub mod Texts

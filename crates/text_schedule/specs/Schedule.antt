@@ -11,9 +11,10 @@ use Rattle.spec_text.specs.Bytes.{Sends}
 use Rattle.spec_text.specs.Entry.{SpellsEntry, IsNoEntry}
 use Rattle.spec_text.specs.Events.{events_of}
 use Rattle.spec_text.specs.Lines.{Reads, lines_of}
-use Rattle.spec_text.specs.Texts.{trace_text}
 use Rattle.spec_text.specs.declared.entry.Entry.{Entry}
 use Rattle.text_lines.specs.Watched.{Stream}
+use Rattle.text_trace.specs.Detail.{detailed_text}
+use Rattle.text_trace.specs.declared.detail.Detail.{Detail}
 use Rattle.text_schedule.specs.declared.schedule.ScheduleError.{ScheduleError}
 use Rattle.text_schedule.specs.declared.schedule.ScheduleError.TheVariants.{Read, Write, Oom, Line as BadLine, Events}
 
@@ -35,17 +36,17 @@ HasTooMany entries line =
     (entry : Entry) × SpellsEntry line entry
     × (100000 < length (flat_map events_of (entries ++ entry ∷ [])))
 
--- the text of a replay of the events was written, but for the bytes `left` at its end, and nothing else
-pub record WritesReplay (events : List (Event ℕ)) (output output' : Option (List ℕ)) (left : List ℕ)
-    : Type 0 where
+-- the text of a replay of the events was written in this detail, but for the bytes `left` at its end, and nothing else
+pub record WritesReplay (detail : Detail) (events : List (Event ℕ)) (output output' : Option (List ℕ))
+    (left : List ℕ) : Type 0 where
   pub happened : List Line
   pub decided : List Decision
   pub content : Pairs ℕ
   pub replayed : IsReplayed events happened decided content
-  pub sends : Sends output output' (trace_text events happened decided content) left
+  pub sends : Sends output output' (detailed_text detail events happened decided content) left
 
--- by what is left to be read and what was written, of the streams before and after
-module _ {R W : Type 0} (remaining : R → Option (List ℕ)) (contents : W → Option (List ℕ))
+-- in this detail, by what is left to be read and what was written, of the streams before and after
+module _ {R W : Type 0} (detail : Detail) (remaining : R → Option (List ℕ)) (contents : W → Option (List ℕ))
     (input input' : Stream R) (output output' : Stream W) where
   abbrev pub IsParsed : Type 0
   IsParsed = Parses (remaining input.inner) (remaining input'.inner)
@@ -55,7 +56,7 @@ module _ {R W : Type 0} (remaining : R → Option (List ℕ)) (contents : W → 
   abbrev pub IsReplayWritten : List ℕ → Type 0
   IsReplayWritten left =
       (p : IsParsed) × (p.lines ≡ lines_of p.read.whole p.read.rest)
-      × IsAtEnd (remaining input'.inner) × WritesReplay (flat_map events_of p.entries)
+      × IsAtEnd (remaining input'.inner) × WritesReplay detail (flat_map events_of p.entries)
       (contents output.inner) (contents output'.inner) left
 
   -- It ends well; or a read fails, and the whole lines before it parse; or a write fails; or memory is missing; or the

@@ -11,6 +11,7 @@ ghost use Rattle.spec_olc.specs.declared.trace.Decision.{Decision};
 ghost use Rattle.spec_olc.specs.declared.trace.Line.{Line};
 ghost use Rattle.spec_olc.specs.declared.types.Event.{Event};
 ghost use Rattle.spec_text.specs.Texts.{replies_in_lines, number_and_reply};
+ghost use Rattle.text_trace.specs.declared.detail.Detail.{Detail};
 ghost use Rattle.text_schedule.specs.Schedule.{EndsSchedule};
 ghost use Rattle.text_schedule.specs.inner.EntryReading.{EntryIsWithin};
 ghost use Rattle.text_schedule.specs.inner.Parts.{EndsScheduleByParts};
@@ -46,8 +47,8 @@ pub fn decided_lines()
 
 /// How a schedule ends, in parts, which repeat what was read.
 pub fn a_schedule_in_parts<R: Read, W: Write>()
-    ensures { (input input' : Watched R) (output output' : Watched W)
+    ensures { (detail : Detail) (input input' : Watched R) (output output' : Watched W)
         (result : Result (Unit {0}) ScheduleError)
-        → EndsSchedule R.remaining W.contents input input' output output' result
-        → EndsScheduleByParts R.remaining W.contents input input' output output' result }
+        → EndsSchedule detail R.remaining W.contents input input' output output' result
+        → EndsScheduleByParts detail R.remaining W.contents input input' output output' result }
 {}

@@ -30,11 +30,11 @@ use Rattle.tree_edit.proofs.WeightLaws.{size_counted}
 use Rattle.tree_edit.proofs.WholeLaws.{IsInsertion}
 
 -- a charge that changes with the counted sizes changes with those of the nodes
-moves_alike : {A : Type 0} (charge : A → Option ℕ) (old new : SupplyView A) (ns ms : List NodeInfo) → IsCounted old.forms ns → IsCounted new.forms ms → Alike charge old new
+pub moves_alike : {A : Type 0} (charge : A → Option ℕ) (old new : SupplyView A) (ns ms : List NodeInfo) → IsCounted old.forms ns → IsCounted new.forms ms → Alike charge old new
     → MovesAlike (charge old.budget) (charge_of ns) (charge new.budget) (charge_of ms)
 moves_alike charge old new ns ms h k alike = rw (← size_counted old.forms ns h, ← size_counted new.forms ms k) alike
 
-byte_at : (key : List ℕ) → AreBytes key → (i : ℕ) → get_or key i 0 < 256
+pub byte_at : (key : List ℕ) → AreBytes key → (i : ℕ) → get_or key i 0 < 256
 byte_at [] bytes i = omega arith
 byte_at (b ∷ key) bytes zero = bytes.0
 byte_at (b ∷ key) bytes (suc i) = byte_at key bytes.1 i

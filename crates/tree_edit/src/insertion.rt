@@ -62,8 +62,13 @@ fn make_room<P: Drop, A: Allocator>(
     Ok(())
 }
 
-// Puts a child into the node in a slot, which has room.
-fn put_child<P: Drop>(nodes: &mut Slab<TreeNode<P>>, slot: usize, byte: u8, child: Child<P>)
+/// Puts a child into the node in a slot, which has room.
+pub(crate) fn put_child<P: Drop>(
+    nodes: &mut Slab<TreeNode<P>>,
+    slot: usize,
+    byte: u8,
+    child: Child<P>,
+)
     requires { IsReadyFor nodes.old.slots slot byte child }
     ensures keeps { SameElsewhere slot nodes.old.slots nodes.new.slots }
     ensures written { WritesChild nodes.old.slots nodes.new.slots slot byte child }
@@ -117,11 +122,11 @@ pub(crate) fn change_payload<P: Drop>(
     }
 }
 
-// Sets the payload in the leaf where a descent ended, if the key is present there or the leaf has room for one more,
-// and returns the previous one. Takes no memory, and searches the leaf once. Otherwise returns the given payload as
-// `Err`.
+/// Sets the payload in the leaf where a descent ended, if the key is present there or the leaf has room for one more,
+/// and returns the previous one. Takes no memory, and searches the leaf once. Otherwise returns the given payload as
+/// `Err`.
 #[inline(always)]
-fn set_payload<P: Drop>(
+pub(crate) fn set_payload<P: Drop>(
     nodes: &mut Slab<TreeNode<P>>,
     slot: usize,
     stop: &Stop,
@@ -261,9 +266,9 @@ fn split<P: Drop, A: Allocator>(
     }
 }
 
-// Makes a leaf ready for a new key, where its descent ended, and returns the leaf's slot: no later step can fail. All
-// memory is taken before the first change.
-fn make_ready<P: Drop, A: Allocator>(
+/// Makes a leaf ready for a new key, where its descent ended, and returns the leaf's slot: no later step can fail. All
+/// memory is taken before the first change.
+pub(crate) fn make_ready<P: Drop, A: Allocator>(
     nodes: &mut Slab<TreeNode<P>>,
     supply: &mut Supply<A>,
     slot: usize,

@@ -1,6 +1,7 @@
 pub mod BytesLeft
 pub mod FillLaws
 pub mod NearestLaws
+pub mod ScanDownLaws
 pub mod ScanLaws
 pub mod VisitedLaws
 pub mod WalkLaws

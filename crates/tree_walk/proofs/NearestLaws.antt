@@ -111,7 +111,7 @@ module _ {P : Type 0} (s : NodeTable P) (start less slot : ℕ) (n : TableNode P
         go zero h = absurd h
         go (suc l) h = found l (record { above = n.prefix ++ byte ∷ []; tree = h })
 
-pairs_of-append : {P : Type 0} (below : ℕ → Pairs P) (p : List ℕ) (xs ys : List (ℕ × Child P)) → pairs_of below p (xs ++ ys) ≡ pairs_of below p xs ++ pairs_of below p ys
+pub pairs_of-append : {P : Type 0} (below : ℕ → Pairs P) (p : List ℕ) (xs ys : List (ℕ × Child P)) → pairs_of below p (xs ++ ys) ≡ pairs_of below p xs ++ pairs_of below p ys
 pairs_of-append below p [] ys = refl
 pairs_of-append below p (x ∷ xs) ys = ap (λ t. pairs_under below p x.0 x.1 ++ t) (pairs_of-append below p xs ys) ∙ sym (append_assoc (pairs_under below p x.0 x.1) (pairs_of below p xs) (pairs_of below p ys))
 

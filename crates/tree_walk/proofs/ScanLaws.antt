@@ -104,6 +104,13 @@ module _ {P : Type 0} (s : NodeTable P) where
         ]
       ]
 
+  -- what the children under the bytes of the window have
+  pub window_pairs : (less slot : ℕ) (n : TableNode P) → IsSubtree s (suc less) slot → Some n ≡ node_at s slot → (w : Window) (start end : ℕ) → IsWindow n.prefix start end w
+      → between (pairs_at s (suc less) slot) start end ≡ between (pairs_of (λ j. pairs_at s less j) n.prefix (between n.children w.from w.to)) start end
+  window_pairs less slot n tree here w start end is =
+      let a = at_node less slot n tree here in
+      ap (λ es. between es start end) a.pairs ∙ clip less n.prefix n.children 0 w.from w.to start end a.sound.ordered a.children is.before is.past
+
 module _ {P E : Type 0} (entry : ℕ → P → E) (start end : ℕ) where
   entries_of-append : (xs ys : Pairs P) → entries_of entry start end (xs ++ ys) ≡ entries_of entry start end xs ++ entries_of entry start end ys
   entries_of-append xs ys = ap (λ es. map (λ e. entry e.0 e.1) es) (filter-append _ xs ys) ∙ map-append (λ e. entry e.0 e.1) (between xs start end) (between ys start end)
@@ -129,12 +136,8 @@ module _ {P E : Type 0} (entry : ℕ → P → E) (start end : ℕ) where
       pub children : AreChildren (λ q j. IsTree s less q j) n.prefix left
 
     module _ (less slot : ℕ) (n : TableNode P) (tree : IsSubtree s (suc less) slot) (here : Some n ≡ node_at s slot) (w : Window) (is : IsWindow n.prefix start end w) where
-      -- what the children under the bytes of the window have
       in_window : all_entries less slot ≡ entries_of entry start end (pairs_of (λ j. pairs_at s less j) n.prefix (between n.children w.from w.to))
-      in_window =
-          let a = at_node s less slot n tree here in
-          ap (λ es. entries_of entry start end es) a.pairs
-          ∙ ap (λ es. map (λ e. entry e.0 e.1) es) (clip s less n.prefix n.children 0 w.from w.to start end a.sound.ordered a.children is.before is.past)
+      in_window = ap (λ es. map (λ e. entry e.0 e.1) es) (window_pairs s less slot n tree here w start end is)
 
       pub part_start : (b : List E) (count : ℕ) → count ≤ length b → (left : List (ℕ × Child P)) → left ≡ between n.children w.from w.to → Part less slot n left b count b count
       part_start b count inside left is_left =

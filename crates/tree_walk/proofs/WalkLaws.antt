@@ -1,10 +1,7 @@
 -- Walks over all pairs below a node.
-use Rattle.std.proofs.Common.{◌≡◌, ℕ, zero, suc, ◌+◌, ◌^◌, ◌<◌, ◌≤◌, ◌≢◌, List, [], ◌∷◌, ◌++◌, length, map, Option, Some, None, refl, ap, sym, subst, ◌∙◌, arith, append_assoc, length-append}
+use Rattle.std.proofs.Common.{◌≡◌, ℕ, zero, suc, ◌+◌, ◌^◌, ◌<◌, ◌≤◌, List, [], ◌∷◌, ◌++◌, length, map, Some, None, refl, ap, sym, subst, ◌∙◌, arith, append_assoc, length-append}
 use Rattle.std.proofs.lemmas.List.{map-append, length-map}
-use Rattle.std.proofs.lemmas.List.Elements.{filter-append}
-use Rattle.std.proofs.lemmas.Bool.{lt-ltb, le-leb, eq-eqb}
-use Rattle.std.proofs.Common.{true, false}
-use Rattle.std.specs.Option.{is_some}
+use Rattle.std.proofs.lemmas.Bool.{eq-eqb}
 use Rattle.spec_map.specs.Map.{Pairs, lookup, without, between, Rises}
 use Rattle.node_table.specs.Key.{low}
 use Rattle.node_table.specs.TableNode.{TableNode}
@@ -14,10 +11,9 @@ use Rattle.node_table.specs.declared.child.Child.TheVariants.{Payload, Node}
 use Rattle.spec_map.proofs.RangeLaws.{between-all}
 use Rattle.node_table.proofs.KeyLaws.{least-bound, room-positive, AreBytes-append}
 use Rattle.tree_walk.specs.Scan.{from_key, first_number}
-use Rattle.tree_walk.specs.inner.Scan.{IsWindow, HasSubtree, KeysFit}
-use Rattle.tree_walk.specs.declared.range_scan.Window.{Window}
+use Rattle.tree_walk.specs.inner.Scan.{HasSubtree, KeysFit}
 use Rattle.tree_walk.proofs.WindowLaws.{low-leaf}
-use Rattle.tree_walk.proofs.ScanLaws.{at_node, pairs_from, skip, in_leaf, child_at, next_inside, root_tree}
+use Rattle.tree_walk.proofs.ScanLaws.{at_node, pairs_from, in_leaf, child_at, next_inside, root_tree}
 use Rattle.tree_path.specs.inner.Root.{depth}
 use Rattle.tree_path.proofs.PathEndLaws.{depth_is}
 

@@ -3,6 +3,7 @@
 
 pub mod nearest;
 mod payloads;
+pub mod range_down;
 pub mod range_scan;
 pub mod statistics;
 pub mod walk;

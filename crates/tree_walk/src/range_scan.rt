@@ -83,7 +83,16 @@ pub(crate) fn window_of(base: &BaseNode, start: u64, last: u64) -> Window
 }
 
 /// How many children a scan looks at before it reads the first of them.
-const AHEAD: usize = 16;
+pub(crate) const AHEAD: usize = 16;
+
+/// How many of so many places are left after the entries of the node in a slot, by its count.
+#[inline(always)]
+pub(crate) fn room_after(nodes: &Slab<TreeNode<u64>>, slot: usize, room: usize) -> usize {
+    match nodes.get(slot) {
+        Some(node) => room.saturating_sub(node.base().value_count() as usize),
+        None => room,
+    }
+}
 
 // The first of the remaining slots, after its byte. Two words: the iterator's own result is a byte beside a reference,
 // which the processor puts together more slowly than it finds it.
@@ -127,9 +136,7 @@ fn read_ahead(
             return to;
         };
         until = byte + 1;
-        if let Some(below) = nodes.get(below) {
-            room = room.saturating_sub(below.base().value_count() as usize);
-        }
+        room = room_after(nodes, below, room);
         if room == 0 {
             break;
         }

@@ -437,9 +437,14 @@ fn a_drain_asks_for_nothing(rt: HostRuntime) -> Result<(), Fail> {
 }
 
 // Drops a map whose drainer counts the pairs.
-fn dropped(alloc: Global, counts: &Counts, told: &AtomicU64, granted: u64) -> Result<(), OOMError> {
+fn dropped(
+    alloc: Global,
+    counts: &Counts,
+    reported: &AtomicU64,
+    granted: u64,
+) -> Result<(), OOMError> {
     counts.grant(1000);
-    let mut map = Congee::new_with_drainer(alloc, Counted { counts }, Tally { told })?;
+    let mut map = Congee::new_with_drainer(alloc, Counted { counts }, Tally { reported })?;
     for key in 0..300u64 {
         map.insert(key, key)?;
     }
@@ -450,11 +455,11 @@ fn dropped(alloc: Global, counts: &Counts, told: &AtomicU64, granted: u64) -> Re
 #[test]
 fn a_drainer_at_the_drop_asks_for_nothing(rt: HostRuntime) -> Result<(), Fail> {
     let counts = Counts::new();
-    let told = AtomicU64::new(0);
-    dropped(rt.alloc(), &counts, &told, 7)?;
+    let reported = AtomicU64::new(0);
+    dropped(rt.alloc(), &counts, &reported, 7)?;
     assert_eq!(rt;
         (
-            told.load(Ordering::Relaxed),
+            reported.load(Ordering::Relaxed),
             counts.left(),
             counts.charged()
         ),

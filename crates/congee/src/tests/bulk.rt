@@ -2,6 +2,7 @@
 
 mod faces;
 mod mixed;
+mod slices;
 
 use super::asserts::{assert_number, assert_old, assert_pairs, assert_put, assert_test};
 use super::both::scattered;
@@ -103,14 +104,14 @@ fn cleared(rt: HostRuntime) -> Result<(), Fail> {
 /// Records the pairs that it is called with.
 #[derive(Drop)]
 struct Notes<'a> {
-    told: &'a RefCell<Vec<(u64, u64)>>,
+    reported: &'a RefCell<Vec<(u64, u64)>>,
 }
 
 impl Drainer<u64, u64> for Notes<'_> {
     ghost can_drain = { λ _. Unit {0} };
 
     fn drain(&self, k: u64, v: u64) {
-        if let Ok(mut list) = self.told.try_borrow_mut() {
+        if let Ok(mut list) = self.reported.try_borrow_mut() {
             let _ = list.push((k, v));
         }
     }
@@ -129,11 +130,17 @@ fn change(map: &mut Congee<u64, u64, DefaultAllocator, Notes<'_>>) -> Result<u12
 
 // The pairs that the drainer is called with at the drop.
 fn called_at_drop(alloc: Global) -> Result<Vec<(u64, u64)>, OOMError> {
-    let told = RefCell::new(Vec::new(alloc));
-    let mut map = Congee::new_with_drainer(alloc, DefaultAllocator {}, Notes { told: &told })?;
+    let reported = RefCell::new(Vec::new(alloc));
+    let mut map = Congee::new_with_drainer(
+        alloc,
+        DefaultAllocator {},
+        Notes {
+            reported: &reported,
+        },
+    )?;
     let _ = change(&mut map)?;
     drop(map);
-    Ok(told.into_inner())
+    Ok(reported.into_inner())
 }
 
 #[test]
@@ -192,6 +199,37 @@ fn ranges_removed(rt: HostRuntime) -> Result<(), Fail> {
     for range in &RANGES {
         let mut map = Congee::new(alloc, Budget::new(u64::MAX))?;
         assert_range_removed(&rt, alloc, &mut map, &mut SortedPairs::new(alloc), *range)?;
+    }
+    Ok(())
+}
+
+// The same with the pair at the end of the range.
+fn assert_inclusive_removed(
+    rt: &impl Abort,
+    alloc: Global,
+    map: &mut Limited,
+    plain: &mut Plain,
+    range: Range,
+) -> Result<(), OOMError> {
+    let (keys, start, last) = range;
+    fill(map, plain, keys)?;
+    let below = take_plain(alloc, plain, start, last)?.len() as u128;
+    let at_last = u128::from(start <= last && plain.remove(last).is_some());
+    let removed = map.remove_range_inclusive(&start, &last);
+    assert_number(rt, removed, below.wrapping_add(at_last));
+    assert_same(rt, map, plain);
+    let left = plain.pairs().len() as u128;
+    assert_number(rt, map.remove_range_inclusive(&0, &u64::MAX), left);
+    assert_number(rt, map.charged(), 2104);
+    Ok(())
+}
+
+#[test]
+fn inclusive_ranges_removed(rt: HostRuntime) -> Result<(), Fail> {
+    let alloc = rt.alloc();
+    for range in &RANGES {
+        let mut map = Congee::new(alloc, Budget::new(u64::MAX))?;
+        assert_inclusive_removed(&rt, alloc, &mut map, &mut SortedPairs::new(alloc), *range)?;
     }
     Ok(())
 }

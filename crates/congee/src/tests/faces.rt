@@ -355,8 +355,8 @@ fn runs_a_list_of_calls_by_numbers(rt: HostRuntime) -> Result<(), Fail> {
 }
 
 fn reports_it(alloc: Global, error: OOMError, wanted: &str) -> Result<bool, Fail> {
-    let told = format!(in alloc; "{error}, {error:?}")?;
-    Ok(told.as_str() == wanted)
+    let printed = format!(in alloc; "{error}, {error:?}")?;
+    Ok(printed.as_str() == wanted)
 }
 
 #[test]

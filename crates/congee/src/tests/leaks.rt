@@ -35,14 +35,14 @@ impl Allocator for Metered<'_> {
 /// Counts the pairs that it is called with.
 #[derive(Drop)]
 pub(super) struct Tally<'a> {
-    pub(super) told: &'a AtomicU64,
+    pub(super) reported: &'a AtomicU64,
 }
 
 impl Drainer<u64, u64> for Tally<'_> {
     ghost can_drain = { λ _. Unit {0} };
 
     fn drain(&self, _k: u64, _v: u64) {
-        self.told.fetch_add(1, Ordering::Relaxed);
+        self.reported.fetch_add(1, Ordering::Relaxed);
     }
 }
 
@@ -52,10 +52,10 @@ type MeteredMap<'a> = Congee<u64, u64, Metered<'a>, Tally<'a>>;
 fn map_over<'a>(
     alloc: Global,
     held: &'a AtomicU64,
-    told: &'a AtomicU64,
+    reported: &'a AtomicU64,
     requests: u64,
 ) -> Result<MeteredMap<'a>, OOMError> {
-    Congee::new_with_drainer(alloc, Metered { held, requests }, Tally { told })
+    Congee::new_with_drainer(alloc, Metered { held, requests }, Tally { reported })
 }
 
 // Stores so many keys of one leaf after another. Returns whether one was refused, after which none is tried.
@@ -72,17 +72,22 @@ fn is_refused(map: &mut MeteredMap<'_>, keys: u64) -> bool {
 fn dropped(
     alloc: Global,
     held: &AtomicU64,
-    told: &AtomicU64,
+    reported: &AtomicU64,
     requests: u64,
     keys: u64,
 ) -> Result<bool, OOMError> {
-    let mut map = map_over(alloc, held, told, requests)?;
+    let mut map = map_over(alloc, held, reported, requests)?;
     Ok(is_refused(&mut map, keys))
 }
 
 // The same of a map that is drained. Returns with how many pairs the closure is called.
-fn drained(alloc: Global, held: &AtomicU64, told: &AtomicU64, keys: u64) -> Result<u64, OOMError> {
-    let mut map = map_over(alloc, held, told, 100)?;
+fn drained(
+    alloc: Global,
+    held: &AtomicU64,
+    reported: &AtomicU64,
+    keys: u64,
+) -> Result<u64, OOMError> {
+    let mut map = map_over(alloc, held, reported, 100)?;
     is_refused(&mut map, keys);
     let mut count = 0u64;
     map.drain(&mut |_key: u64, _value: u64| count = count.wrapping_add(1));
@@ -93,19 +98,19 @@ fn drained(alloc: Global, held: &AtomicU64, told: &AtomicU64, keys: u64) -> Resu
 // keys.
 fn after_drop(alloc: Global, requests: u64, keys: u64) -> (Option<bool>, u64, u64) {
     let held = AtomicU64::new(0);
-    let told = AtomicU64::new(0);
-    let refused = dropped(alloc, &held, &told, requests, keys).ok();
+    let reported = AtomicU64::new(0);
+    let refused = dropped(alloc, &held, &reported, requests, keys).ok();
     let left = held.load(Ordering::Relaxed);
-    (refused, left, told.load(Ordering::Relaxed))
+    (refused, left, reported.load(Ordering::Relaxed))
 }
 
 // The same after its drain, with how many pairs the closure was called with.
 fn after_drain(alloc: Global, keys: u64) -> (Option<u64>, u64, u64) {
     let held = AtomicU64::new(0);
-    let told = AtomicU64::new(0);
-    let handed = drained(alloc, &held, &told, keys).ok();
+    let reported = AtomicU64::new(0);
+    let handed = drained(alloc, &held, &reported, keys).ok();
     let left = held.load(Ordering::Relaxed);
-    (handed, left, told.load(Ordering::Relaxed))
+    (handed, left, reported.load(Ordering::Relaxed))
 }
 
 #[test]

@@ -117,27 +117,50 @@ fn key_at(step: u64, shift: u32) -> u64 {
     (step.wrapping_mul(167) % 256).wrapping_shl(shift)
 }
 
+// Of the keys of 256 so far apart, all and some, descending: fewer than a scan reads ahead, more, and all.
+fn assert_descending(
+    rt: &impl Abort,
+    alloc: Global,
+    both: &Both,
+    shift: u32,
+) -> Result<(), OOMError> {
+    let some = (3u64.wrapping_shl(shift), 200u64.wrapping_shl(shift));
+    for size in [5, 40, 300] {
+        assert_range(rt, alloc, both, (0, u64::MAX), true, size)?;
+        assert_range(rt, alloc, both, some, true, size)?;
+    }
+    Ok(())
+}
+
 // A node grows through all forms, and shrinks again.
-fn assert_forms(rt: &impl Abort, both: &mut Both, shift: u32) {
+fn assert_forms(
+    rt: &impl Abort,
+    alloc: Global,
+    both: &mut Both,
+    shift: u32,
+) -> Result<(), OOMError> {
     for step in 0..256u64 {
         both.insert(rt, key_at(step, shift), step);
         if matches!(step, 0 | 3 | 4 | 15 | 16 | 47 | 48 | 100 | 255) {
             assert_all_around(rt, both, shift);
+            assert_descending(rt, alloc, both, shift)?;
         }
     }
     for step in 0..256u64 {
         both.remove(rt, key_at(step.wrapping_add(77), shift));
         if matches!(step, 0 | 200 | 219 | 220 | 243 | 244 | 252 | 253 | 255) {
             assert_all_around(rt, both, shift);
+            assert_descending(rt, alloc, both, shift)?;
         }
     }
+    Ok(())
 }
 
 #[test]
 fn neighbours_in_each_form(rt: HostRuntime) -> Result<(), Fail> {
     // in a leaf, above it, in the middle, and in the root
     for shift in [0u32, 8, 32, 56] {
-        assert_forms(&rt, &mut Both::new(rt.alloc())?, shift);
+        assert_forms(&rt, rt.alloc(), &mut Both::new(rt.alloc())?, shift)?;
     }
     Ok(())
 }

@@ -27,7 +27,7 @@ fn pairs_ranged(alloc: Global, map: &Congee<u64, u64>) -> Result<u64, OOMError> 
 }
 
 // How many pairs the list of keys, the statistics and a range report.
-fn told(alloc: Global, map: &Congee<u64, u64>) -> Result<[u64; 3], OOMError> {
+fn reported(alloc: Global, map: &Congee<u64, u64>) -> Result<[u64; 3], OOMError> {
     Ok([
         keys_noted(map)?,
         pairs_counted(map)?,
@@ -38,14 +38,14 @@ fn told(alloc: Global, map: &Congee<u64, u64>) -> Result<[u64; 3], OOMError> {
 fn noted_of(alloc: Global, pairs: u64) -> Result<[u64; 3], OOMError> {
     let mut map = Congee::new(alloc, DefaultAllocator {})?;
     fill(&mut map, pairs)?;
-    told(alloc, &map)
+    reported(alloc, &map)
 }
 
 #[test]
 fn no_size_is_refused(rt: HostRuntime) -> Result<(), Fail> {
     for pairs in [0, 1, 2000] {
-        let told = noted_of(rt.alloc(), pairs)?;
-        assert_eq!(rt; told, [pairs, pairs, pairs]);
+        let reported = noted_of(rt.alloc(), pairs)?;
+        assert_eq!(rt; reported, [pairs, pairs, pairs]);
     }
     Ok(())
 }

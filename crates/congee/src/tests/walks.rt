@@ -61,14 +61,14 @@ fn keys_ascend(rt: HostRuntime) -> Result<(), Fail> {
 /// Records the pairs that it is called with.
 #[derive(Drop)]
 struct Notes<'a> {
-    told: &'a RefCell<Vec<(u64, u64)>>,
+    reported: &'a RefCell<Vec<(u64, u64)>>,
 }
 
 impl Drainer<u64, u64> for Notes<'_> {
     ghost can_drain = { λ _. Unit {0} };
 
     fn drain(&self, k: u64, v: u64) {
-        if let Ok(mut list) = self.told.try_borrow_mut() {
+        if let Ok(mut list) = self.reported.try_borrow_mut() {
             let _ = list.push((k, v));
         }
     }
@@ -85,18 +85,21 @@ fn fill(map: &mut NotedMap<'_>) -> Result<(), OOMError> {
 }
 
 // Such a map.
-fn noted<'a>(alloc: Global, told: &'a RefCell<Vec<(u64, u64)>>) -> Result<NotedMap<'a>, OOMError> {
-    let mut map = Congee::new_with_drainer(alloc, DefaultAllocator {}, Notes { told })?;
+fn noted<'a>(
+    alloc: Global,
+    reported: &'a RefCell<Vec<(u64, u64)>>,
+) -> Result<NotedMap<'a>, OOMError> {
+    let mut map = Congee::new_with_drainer(alloc, DefaultAllocator {}, Notes { reported })?;
     fill(&mut map)?;
     Ok(map)
 }
 
 // The pairs that the drainer is called with when the map is dropped.
 fn called_at_drop(alloc: Global) -> Result<Vec<(u64, u64)>, OOMError> {
-    let told = RefCell::new(Vec::new(alloc));
-    let map = noted(alloc, &told)?;
+    let reported = RefCell::new(Vec::new(alloc));
+    let map = noted(alloc, &reported)?;
     drop(map);
-    Ok(told.into_inner())
+    Ok(reported.into_inner())
 }
 
 #[test]
@@ -108,14 +111,14 @@ fn drainer_is_called_at_the_drop(rt: HostRuntime) -> Result<(), Fail> {
 
 // The pairs that the closure of a drain is called with, and then those that the drainer is.
 fn called_by_drain(alloc: Global) -> Result<Vec<(u64, u64)>, OOMError> {
-    let told = RefCell::new(Vec::new(alloc));
-    let map = noted(alloc, &told)?;
+    let reported = RefCell::new(Vec::new(alloc));
+    let map = noted(alloc, &reported)?;
     let mut list = Vec::new(alloc);
     let mut take = |key: u64, value: u64| {
         let _ = list.push((key, value));
     };
     map.drain(&mut take);
-    for pair in told.into_inner().as_slice() {
+    for pair in reported.into_inner().as_slice() {
         list.push(*pair)?;
     }
     Ok(list)
@@ -128,7 +131,7 @@ fn drain_calls_its_closure_alone(rt: HostRuntime) -> Result<(), Fail> {
     Ok(())
 }
 
-fn tell<D: Drainer<u64, u64>>(drainer: &D) -> bool
+fn drain_one<D: Drainer<u64, u64>>(drainer: &D) -> bool
     requires { D.can_drain drainer.now }
 {
     drainer.drain(7, 70);
@@ -137,18 +140,18 @@ fn tell<D: Drainer<u64, u64>>(drainer: &D) -> bool
 
 #[test]
 fn closure_is_called(rt: HostRuntime) -> Result<(), Fail> {
-    let told = RefCell::new((0u64, 0u64));
+    let reported = RefCell::new((0u64, 0u64));
     let drainer = FnDrain::new(|key: u64, value: u64| {
-        let _ = told.try_replace((key, value));
+        let _ = reported.try_replace((key, value));
     });
-    assert_test(&rt, tell(&drainer), true);
+    assert_test(&rt, drain_one(&drainer), true);
     drop(drainer);
-    assert_eq!(rt; told.into_inner(), (7, 70));
+    assert_eq!(rt; reported.into_inner(), (7, 70));
     Ok(())
 }
 
 #[test]
 fn nobody_is_called(rt: HostRuntime) -> Result<(), Fail> {
-    assert_test(&rt, tell(&NoDrain {}), false);
+    assert_test(&rt, drain_one(&NoDrain {}), false);
     Ok(())
 }

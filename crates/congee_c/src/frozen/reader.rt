@@ -1,6 +1,5 @@
 //! What a handle of a frozen map holds.
 
-use crate::Pair;
 use crate::held::Held;
 use std::alloc::{AllocFailed, Global};
 use std::mem::replace;
@@ -16,8 +15,7 @@ pub enum Reader {
 }
 
 impl Reader {
-    ghost use Rattle.std.specs.Prelude.{◌≡◌, ◌+◌, ◌++◌, IfOk, IfErr, IfSome, IfNone, length, min, map, take, drop, reverse};
-    ghost use Rattle.spec_map.specs.Map.{lookup, between};
+    ghost use Rattle.std.specs.Prelude.{◌≡◌, [], IfOk, IfErr, IfSome, IfNone};
     ghost use Rattle.congee_c.specs.Frozen.{pairs_of, IsReaderOf, ReadSame};
 
     /// The first reader of the map. Where there is no memory, the map is returned as it was.
@@ -64,65 +62,14 @@ impl Reader {
         }
     }
 
-    /// The value at the key.
-    pub fn get(&self, key: u64) -> Option<u64>
-        ensures { result ≡ lookup (pairs_of self.now) key }
+    /// What it reads, or `None` where there is no map.
+    pub fn held(&self) -> Option<&Held>
+        ensures some { IfSome result (λ held. held.now.map.pairs ≡ pairs_of self.now) }
+        ensures none { IfNone result (pairs_of self.now ≡ []) }
     {
         match self {
-            Reader::Of(share) => share.map.get(&key),
+            Reader::Of(share) => Some(share),
             Reader::Empty => None,
-        }
-    }
-
-    /// Writes the first pairs with keys from `start` on and below `end` to the buffer, and returns how many.
-    pub fn range_of(&self, start: u64, end: u64, buffer: &mut [Pair]) -> usize
-        ensures count { result
-            ≡ min (length buffer.old) (length (between (pairs_of self.now) start end)) }
-        ensures written { let pairs = map (λ pair. record { key = pair.0; value = pair.1 })
-            (between (pairs_of self.now) start end) in
-            buffer.new ≡ take result pairs ++ drop result buffer.old }
-    {
-        match self {
-            Reader::Of(share) => share.map.range_of(start, end, buffer),
-            Reader::Empty => 0,
-        }
-    }
-
-    /// The same for keys from `start` to `last`, both included.
-    pub fn range_inclusive_of(&self, start: u64, last: u64, buffer: &mut [Pair]) -> usize
-        ensures count { result
-            ≡ min (length buffer.old) (length (between (pairs_of self.now) start (last + 1))) }
-        ensures written { let pairs = map (λ pair. record { key = pair.0; value = pair.1 })
-            (between (pairs_of self.now) start (last + 1)) in
-            buffer.new ≡ take result pairs ++ drop result buffer.old }
-    {
-        match self {
-            Reader::Of(share) => share.map.range_inclusive_of(start, last, buffer),
-            Reader::Empty => 0,
-        }
-    }
-
-    /// The same with keys descending.
-    pub fn range_descending_of(&self, start: u64, last: u64, buffer: &mut [Pair]) -> usize
-        ensures count { result
-            ≡ min (length buffer.old) (length (between (pairs_of self.now) start (last + 1))) }
-        ensures written { let pairs = map (λ pair. record { key = pair.0; value = pair.1 })
-            (reverse (between (pairs_of self.now) start (last + 1))) in
-            buffer.new ≡ take result pairs ++ drop result buffer.old }
-    {
-        match self {
-            Reader::Of(share) => share.map.range_descending_of(start, last, buffer),
-            Reader::Empty => 0,
-        }
-    }
-
-    /// How many pairs there are.
-    pub fn value_count(&self) -> u128
-        ensures { result ≡ length (pairs_of self.now) }
-    {
-        match self {
-            Reader::Of(share) => share.map.value_count(),
-            Reader::Empty => 0,
         }
     }
 }

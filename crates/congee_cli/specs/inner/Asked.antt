@@ -7,4 +7,4 @@ use Rattle.congee_cli.specs.declared.serve.Mode.TheVariants.{Run, Help, Schedule
 abbrev pub AsksMode : List (List ℕ) → Mode → Type 0
 AsksMode words (Run limit) = AsksRun words limit
 AsksMode words Help = AsksHelp words
-AsksMode words Schedule = AsksSchedule words
+AsksMode words (Schedule detail) = AsksSchedule words detail

@@ -2,7 +2,7 @@
 
 ghost use Rattle.std.specs.Prelude.{None};
 
-use face_maps::typed_congee::Congee;
+use face_typed::typed_congee::Congee;
 use node_base::base_node::NodeSize;
 use node_stats::NodeStats;
 use node_table::allocator::{Allocator, Budget};

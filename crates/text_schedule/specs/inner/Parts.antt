@@ -14,7 +14,8 @@ use Rattle.spec_olc.specs.Replay.{IsReplayed}
 use Rattle.spec_olc.specs.declared.trace.Decision.{Decision}
 use Rattle.spec_olc.specs.declared.trace.Line.{Line}
 use Rattle.spec_olc.specs.declared.types.Event.{Event}
-use Rattle.spec_text.specs.Texts.{trace_text}
+use Rattle.text_trace.specs.Detail.{detailed_text}
+use Rattle.text_trace.specs.declared.detail.Detail.{Detail}
 use Rattle.text_schedule.specs.declared.schedule.ScheduleError.{ScheduleError}
 use Rattle.text_schedule.specs.declared.schedule.ScheduleError.TheVariants.{Read, Write, Oom, Line as BadLine, Events}
 
@@ -52,7 +53,7 @@ pub record HasReadAll (input input' : Option (List ℕ)) (lines : List (List ℕ
   pub lines_are : lines ≡ lines_of whole rest
 
 -- The input's lines parse as events, and what was written is the text of a replay of these, but for the rest `left`.
-pub record WritesTrace (input input' output output' : Option (List ℕ)) (left : List ℕ) : Type 0 where
+pub record WritesTrace (detail : Detail) (input input' output output' : Option (List ℕ)) (left : List ℕ) : Type 0 where
   pub lines : List (List ℕ)
   pub read : HasReadAll input input' lines
   pub events : List (Event ℕ)
@@ -61,7 +62,7 @@ pub record WritesTrace (input input' output output' : Option (List ℕ)) (left :
   pub decided : List Decision
   pub content : Pairs ℕ
   pub replayed : IsReplayed events happened decided content
-  pub sends : Sends output output' (trace_text events happened decided content) left
+  pub sends : Sends output output' (detailed_text detail events happened decided content) left
 
 -- The whole lines of what was read parse as events.
 pub record StopsReadingSchedule (input input' : Option (List ℕ)) : Type 0 where
@@ -99,7 +100,7 @@ pub record HasTooManyAfter (line : List ℕ) (events : List (Event ℕ)) : Type 
   pub parses : SpellsEntry line entry
   pub many : 100000 < length (events ++ events_of entry)
 
-module _ {R W : Type 0} (remaining : R → Option (List ℕ)) (contents : W → Option (List ℕ)) where
+module _ {R W : Type 0} (detail : Detail) (remaining : R → Option (List ℕ)) (contents : W → Option (List ℕ)) where
   -- what is left to be read of the input, and what was written to the output
   abbrev pub unread : Watched R → Option (List ℕ)
   unread input = remaining input.inner
@@ -111,14 +112,14 @@ module _ {R W : Type 0} (remaining : R → Option (List ℕ)) (contents : W → 
   abbrev pub EndsScheduleByParts
       : Watched R → Watched R → Watched W → Watched W → Result (Unit {0}) ScheduleError → Type 0
   EndsScheduleByParts input input' output output' (Ok done) =
-      WritesTrace (unread input) (unread input') (written output) (written output') []
+      WritesTrace detail (unread input) (unread input') (written output) (written output') []
       × (input'.failed ≢ true) × (output'.failed ≢ true)
   EndsScheduleByParts input input' output output' (Err Read) =
       StopsReadingSchedule (unread input) (unread input')
       × (input'.failed ≡ true) × (output' ≡ output)
   EndsScheduleByParts input input' output output' (Err Write) =
       ((left : List ℕ)
-      × WritesTrace (unread input) (unread input') (written output) (written output') left)
+      × WritesTrace detail (unread input) (unread input') (written output) (written output') left)
       × (input'.failed ≢ true) × (output'.failed ≡ true)
   EndsScheduleByParts input input' output output' (Err Oom) =
       StopsForMemory (unread input) (unread input')

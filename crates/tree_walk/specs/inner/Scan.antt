@@ -1,5 +1,5 @@
 -- What a range scan finds and writes.
-use Rattle.std.specs.Prelude.{◌≡◌, ℕ, suc, ◌+◌, ◌<◌, ◌≤◌, List, [], ◌∷◌, ◌++◌, length, min, map, take, drop}
+use Rattle.std.specs.Prelude.{◌≡◌, ℕ, suc, ◌+◌, ◌<◌, ◌≤◌, List, [], ◌∷◌, ◌++◌, length, min, map, reverse, take, drop}
 use Rattle.spec_map.specs.Map.{Pairs, between}
 use Rattle.node_table.specs.Key.{low, high}
 use Rattle.node_table.specs.Table.{NodeTable, pairs_at, IsSubtree}
@@ -17,6 +17,10 @@ pub record IsWindow (p : List ℕ) (start end : ℕ) (w : Window) : Type 0 where
 -- what is written for the pairs of the range
 abbrev pub entries_of : {P E : Type 0} → (ℕ → P → E) → ℕ → ℕ → Pairs P → List E
 entries_of entry start end es = map (λ e. entry e.0 e.1) (between es start end)
+
+-- the same, keys descending
+abbrev pub entries_down : {P E : Type 0} → (ℕ → P → E) → ℕ → ℕ → Pairs P → List E
+entries_down entry start end es = map (λ e. entry e.0 e.1) (reverse (between es start end))
 
 -- what is written for the payloads of a leaf whose keys are those from a first one on
 abbrev pub entries_under : {P E : Type 0} → (ℕ → P → E) → ℕ → List (ℕ × P) → List E

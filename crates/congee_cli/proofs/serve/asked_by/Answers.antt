@@ -47,3 +47,20 @@ returns-in-len1-2-clause-some c =
     let words : map string_bytes c.args.words.now ≡ name ∷ [] = ap (map string_bytes) (one_item _ _ (omega arith) c.name-item-then-words-lt2.is) in
     let same : name ≡ codes "schedule" = search rules in
     words ∙ ap (λ w. w ∷ []) same
+
+pub returns-in-len1-3-clause-some : goal.returns-in-len1-3-clause-some
+returns-in-len1-3-clause-some c =
+    let name = string_bytes c.name-item-then-words-lt2-2.result in
+    let words : map string_bytes c.args.words.now ≡ name ∷ [] = ap (map string_bytes) (one_item _ _ (omega arith) c.name-item-then-words-lt2-2.is) in
+    let same : name ≡ codes "trace" = search rules in
+    words ∙ ap (λ w. w ∷ []) same
+
+pub returns-in-len2-3-clause-some : goal.returns-in-len2-3-clause-some
+returns-in-len2-3-clause-some c =
+    let name = string_bytes c.name-item-then-words-lt3-3.result in
+    let word = string_bytes c.word-item-then-words-lt3.result in
+    let words : map string_bytes c.args.words.now ≡ name ∷ word ∷ [] =
+    ap (map string_bytes) (two_items _ _ _ (omega arith) c.name-item-then-words-lt3-3.is c.word-item-then-words-lt3.is) in
+    let same : name ≡ codes "trace" = search rules in
+    let content : word ≡ codes "--content" = search rules in
+    words ∙ ap (λ w. w ∷ word ∷ []) same ∙ ap (λ w. codes "trace" ∷ w ∷ []) content

@@ -3,7 +3,7 @@ use Rattle.spec_map.specs.Call.{ranged, replied}
 use Rattle.face_runs.specs.declared.u64_calls.U64Reply.TheVariants.{Ranged}
 use Rattle.face_runs.specs.Calls.{by_numbers}
 use Rattle.face_runs.specs.U64Calls.{number_answer}
-use Rattle.face_maps.proofs.Entries.{range_read}
+use Rattle.face_runs.proofs.RangeReads.{range_read}
 use Rattle.face_runs.proofs.Steps.{get_step, insert_step, insert_refused, remove_step, range_answers, range_refused}
 use Rattle.face_runs.proofs.u64_calls.make_u64_call.Goals as goal
 

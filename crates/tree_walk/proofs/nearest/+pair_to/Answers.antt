@@ -1,4 +1,4 @@
-use Rattle.std.proofs.Common.{◌≡◌, ℕ, suc, ◌+◌, ◌≤◌, ◌∷◌, ◌∙◌, Some, ap, option_map, subst, sym, arith, rules}
+use Rattle.std.proofs.Common.{◌≡◌, ℕ, suc, ◌+◌, ◌∷◌, ◌∙◌, Some, ap, option_map, subst, sym, arith, rules}
 use Rattle.spec_map.specs.Map.{between}
 use Rattle.spec_map.specs.Near.{below_of, floor_of}
 use Rattle.node_table.specs.TableNode.{looked_at}

@@ -1,4 +1,4 @@
-use Rattle.std.proofs.Common.{◌≡◌, ◌+◌, ◌-◌, ◌/◌, ◌*◌, ◌^◌, ◌<◌, ◌≤◌, length, min, ap, arith, ◌∙◌, refl}
+use Rattle.std.proofs.Common.{◌≡◌, ◌+◌, ◌-◌, ◌/◌, ◌*◌, ◌^◌, ◌≤◌, length, min, ap, arith, ◌∙◌, refl}
 use Rattle.node_table.specs.Key.{low}
 use Rattle.tree_walk.proofs.WindowLaws.{window_to, window_none, padded_key}
 use Rattle.tree_walk.proofs.range_scan.window_of.Goals as goal

@@ -1,14 +1,9 @@
 use Rattle.std.proofs.Common.{length}
-use Rattle.spec_map.specs.Map.{IsMap}
 use Rattle.tree_edit.specs.Tree.{ChargesForNodes}
 use Rattle.congee_tree.proofs.tree.RawCongee.clear.Given as goal
 
-abbrev pub ghosts-remove_in_place : goal.ghosts-remove_in_place
-ghosts-remove_in_place g a = record { name = a.blank.name; parts = a.blank.parts }
+abbrev pub invariant-pairs : goal.invariant-pairs
+invariant-pairs g l = ChargesForNodes g.A.Allocator.charge l.fn.self l.self
 
-abbrev pub invariant-loop-key : goal.invariant-loop-key
-invariant-loop-key g l =
-    IsMap l.self.pairs × ChargesForNodes g.A.Allocator.charge l.fn.self l.self
-
-abbrev pub decreases-loop-key : goal.decreases-loop-key
-decreases-loop-key g l = length l.self.pairs
+abbrev pub decreases-pairs : goal.decreases-pairs
+decreases-pairs g l = length l.self.pairs

@@ -1,4 +1,4 @@
-use Rattle.std.proofs.Common.{◌^◌, ap, sym, arith}
+use Rattle.std.proofs.Common.{ap, sym, arith}
 use Rattle.tree_walk.specs.Scan.{first_number}
 use Rattle.congee_tree.proofs.BulkLaws.{first_before, none_before, nothing_from}
 use Rattle.congee_tree.proofs.tree.RawCongee.key_between.Goals as goal

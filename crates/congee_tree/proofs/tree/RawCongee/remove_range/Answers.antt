@@ -1,5 +1,4 @@
-use Rattle.std.proofs.Common.{◌≡◌, ◌^◌, ◌∙◌, refl, ap, subst, sym, length, arith}
-use Rattle.spec_map.specs.Map.{between}
+use Rattle.std.proofs.Common.{◌∙◌, refl, ap, sym, length, arith}
 use Rattle.tree_edit.proofs.TidyLaws.{moves_trans}
 use Rattle.congee_tree.specs.Bulk.{outside}
 use Rattle.congee_tree.proofs.BulkLaws.{fewer, first_inside, outside-without, all_outside, parts_length, none_of_first}

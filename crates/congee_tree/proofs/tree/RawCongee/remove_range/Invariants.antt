@@ -1,5 +1,4 @@
 use Rattle.std.proofs.Common.{◌≡◌, length}
-use Rattle.spec_map.specs.Map.{IsMap}
 use Rattle.tree_edit.specs.Tree.{ChargesForNodes}
 use Rattle.congee_tree.specs.Bulk.{outside}
 use Rattle.congee_tree.proofs.tree.RawCongee.remove_range.Given as goal

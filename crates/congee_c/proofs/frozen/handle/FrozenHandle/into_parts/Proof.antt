@@ -21,7 +21,8 @@ use denote.Triple.Spec.{triple_of}
 use denote.Triple.Table.{entered}
 use denote.Triple.Walked.{says, Stays, stay_dropped, walk_of, ends_at, Goes-dropped, walk_Meets}
 use Rattle.std_alloc.proofs.BoxSteps.Form.{D, word, box_typed}
-use Rattle.congee_c.proofs.AsReader.{E, FromHandle as From, as_word}
+use Rattle.congee_c.proofs.AsReader.{E, FromHandle as From}
+use Rattle.congee_c.proofs.AsWord.{as_word}
 use Rattle.congee_c.specs.contracts.frozen.handle.FrozenHandle.into_parts as F
 use Rattle.congee_c.specs.contracts.frozen.handle.FrozenHandle.into_parts.Key.{name as #self}
 use Rattle.congee_c.proofs.frozen.handle.FrozenHandle.into_parts.Statement as stated
@@ -40,7 +41,7 @@ module _ {M : Type 1} {𝓤 : Ura M} (𝓛 : Logic 𝓤) (at_mem : Memory → SP
       let v : D E = record { ptr = z.0.3.0.ptr; alloc = z.0.3.0.alloc; value = z.0.3.0.reader } in
       let To = type_at (F.signature).result tt in
       let made : To.Denot = record { ptr = v.ptr; alloc = v.alloc; value = v.value } in
-      as_word 𝓛 v z.0.4.0 (λ us. WpFn 𝓤 H 𝓣.C 𝓣.Λ code.function (us ++ []) Post) (λ b o hv fa.
+      as_word E 𝓛 v z.0.4.0 (λ us. WpFn 𝓤 H 𝓣.C 𝓣.Λ code.function (us ++ []) Post) (λ b o hv fa.
       let w = word E hv b o in
       qed 𝓛 (‵ (To.own_val made (w ∷ [])) ∷ []) ∵ enter ! 𝓣.C 𝓣.Λ code.function (w ∷ []) _ $ alloc_all ! (λ ls. pass_all ! refl (box_typed E hv b o fa, tt) $
       sets ! (of_opd ! (get_in ! (fld ! refl (stop !)) (sub ! 0 refl (whole !)))) refl (tt, tt) $ sets ! (of_opd ! (get_in ! (fld ! refl (stop !)) (sub ! 1 refl (whole !)))) refl fa $

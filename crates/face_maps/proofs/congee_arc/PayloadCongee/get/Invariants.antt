@@ -1,4 +1,0 @@
-use Rattle.face_maps.proofs.congee_arc.PayloadCongee.get.Given as goal
-
-abbrev pub ghosts-get : goal.ghosts-get
-ghosts-get g a = record { name = a.blank.name; parts = a.blank.parts }

@@ -1,5 +1,0 @@
-use Rattle.std.proofs.Common.{rules}
-use Rattle.face_maps.proofs.typed_congee.Congee.charged.Goals as goal
-
-pub returns : goal.returns
-returns g c = search rules

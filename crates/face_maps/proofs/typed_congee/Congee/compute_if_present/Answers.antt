@@ -1,5 +1,0 @@
-use Rattle.std.proofs.Common.{rules}
-use Rattle.face_maps.proofs.typed_congee.Congee.compute_if_present.Goals as goal
-
-pub returns-clause-present : goal.returns-clause-present
-returns-clause-present g c = search rules

@@ -1,4 +1,0 @@
-use Rattle.face_maps.proofs.typed_congee.Congee.compute_if_present.Given as goal
-
-abbrev pub ghosts-compute_if_present : goal.ghosts-compute_if_present
-ghosts-compute_if_present g a = record { name = a.blank.name; parts = a.blank.parts }

@@ -1,8 +1,0 @@
-use Rattle.std.proofs.Common.{rules}
-use Rattle.face_maps.proofs.typed_congee.Congee.remove.Goals as goal
-
-pub returns-clause-before : goal.returns-clause-before
-returns-clause-before g c = search rules
-
-pub returns-clause-pairs : goal.returns-clause-pairs
-returns-clause-pairs g c = search rules

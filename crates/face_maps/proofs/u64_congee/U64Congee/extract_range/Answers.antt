@@ -1,4 +1,0 @@
-use Rattle.face_maps.proofs.u64_congee.U64Congee.extract_range.Goals as goal
-
-pub returns-clause-calls : goal.returns-clause-calls
-returns-clause-calls g c = rw (← c.self.view_is) c.extract_range.ensures.calls

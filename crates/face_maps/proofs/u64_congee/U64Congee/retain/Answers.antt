@@ -1,4 +1,0 @@
-use Rattle.face_maps.proofs.u64_congee.U64Congee.retain.Goals as goal
-
-pub returns-clause-retains : goal.returns-clause-retains
-returns-clause-retains g c = rw (← c.self.view_is) c.retain.ensures.retains

@@ -1,0 +1,123 @@
+//! Calls of `PayloadCongee` that remove many pairs.
+
+ghost use Rattle.std.specs.Prelude.{◌≡◌, [], ◌+◌, length};
+ghost use Rattle.std.specs.List.{FoldsTo};
+ghost use Rattle.congee_tree.specs.Bulk.{outside, Retains, CalledAtEntry, next_of};
+ghost use Rattle.congee_tree.specs.inner.Step.{Asks, Extracts};
+ghost use Rattle.spec_map.specs.Map.{between};
+ghost use Rattle.tree_edit.specs.Tree.{root_alone, ChargesForNodes};
+
+use super::PayloadCongee;
+use congee_tree::by_number;
+use node_table::allocator::Allocator;
+use spec_map::payload::Payload;
+use spec_map::traits::Word;
+use std::marker::Brand;
+use std::sync::ledger::Blank;
+
+impl<K: Word, P: Payload, A: Allocator> PayloadCongee<K, P, A> {
+    /// Removes all pairs, and drops their payloads: the nodes of the map are those of a new one. Takes no memory. Reads
+    /// one path through the tree for each pair.
+    pub fn clear(&mut self)
+        ensures pairs { self.new.pairs ≡ [] }
+        ensures nodes { self.new.nodes ≡ root_alone }
+        ensures charge { ChargesForNodes A.charge self.old self.new }
+    {
+        self.tree.clear();
+    }
+
+    /// Removes the pairs with keys from `start` on and below `end`, each as `remove` does, drops their payloads, and
+    /// returns how many they were: 2 to the 64 at most. Never fails. Reads two paths through the tree for each of them,
+    /// and one more.
+    pub fn remove_range(&mut self, start: K, end: K) -> u128
+        ensures count { result ≡ length (between self.old.pairs (K.number start) (K.number end)) }
+        ensures pairs { self.new.pairs ≡ outside self.old.pairs (K.number start) (K.number end) }
+        ensures charge { ChargesForNodes A.charge self.old self.new }
+    {
+        self.tree.remove_range(start.into_u64(), end.into_u64())
+    }
+
+    /// As `remove_range`, with the pair at `last` too, which can be the greatest key. Reads one more path.
+    pub fn remove_range_inclusive(&mut self, start: K, last: K) -> u128
+        ensures count { result
+            ≡ length (between self.old.pairs (K.number start) (K.number last + 1)) }
+        ensures pairs { self.new.pairs
+            ≡ outside self.old.pairs (K.number start) (K.number last + 1) }
+        ensures charge { ChargesForNodes A.charge self.old self.new }
+    {
+        self.tree
+            .remove_range_inclusive(start.into_u64(), last.into_u64())
+    }
+
+    /// Removes the pairs with keys from `start` on and below `end`, each as `remove` does, and calls the closure with
+    /// each, keys ascending, each key read back from its number. Never fails. Reads two paths through the tree for each
+    /// of them, and one more.
+    pub fn extract_range<F: FnMut(K, P)>(&mut self, start: K, end: K, f: &mut F)
+        requires { F.IsAlwaysCallable f.old }
+        ensures calls { FoldsTo
+            (λ state pair next. F.step state (K.of_number pair.0) pair.1 tt next)
+            f.old (between self.old.pairs (K.number start) (K.number end)) f.new }
+        ensures pairs { self.new.pairs ≡ outside self.old.pairs (K.number start) (K.number end) }
+        ensures charge { ChargesForNodes A.charge self.old self.new }
+    {
+        let first = start.into_u64();
+        let past = end.into_u64();
+        self.law_ordered();
+        while self.extract_next(first, past, f) {}
+    }
+
+    // Removes the first pair of the range, and calls the closure with it. Returns whether there was one.
+    fn extract_next<F: FnMut(K, P)>(&mut self, start: u64, end: u64, f: &mut F) -> bool
+        requires { F.IsAlwaysCallable f.old }
+        ensures extracts { Extracts
+            (λ state pair next. F.step state (K.of_number pair.0) pair.1 tt next)
+            f.old self.old.pairs start end result f.new self.new.pairs }
+        ensures again { F.IsAlwaysCallable f.new }
+        ensures charge { ChargesForNodes A.charge self.old self.new }
+    {
+        let Some(key) = self.tree.key_between(start, end) else {
+            return false;
+        };
+        let removed = by_number::remove::<Brand, P, A>(&mut self.tree, key, Blank::new(1));
+        let Some(payload) = removed else {
+            unreachable!()
+        };
+        f(K::from_u64(key), payload);
+        true
+    }
+
+    /// Calls the closure with each pair, once, keys ascending, each key read back from its number, and removes those for
+    /// which it returns false, each as `remove` does; their payloads are dropped. Never fails. Reads one path through
+    /// the tree for each pair, and at most one that is a dead end, and one more for each that is removed.
+    pub fn retain<F: FnMut(K, &P) -> bool>(&mut self, f: &mut F)
+        requires { F.IsAlwaysCallable f.old }
+        ensures retains { Retains
+            (λ state pair stays next.
+            CalledAtEntry F.FnMut state (K.of_number pair.0) pair.1 stays next)
+            f.old self.old.pairs self.new.pairs f.new }
+        ensures charge { ChargesForNodes A.charge self.old self.new }
+    {
+        self.law_ordered();
+        let mut last = None;
+        while let Some(key) = self.ask_after(last, f) {
+            last = Some(key);
+        }
+    }
+
+    // Asks the closure about the pair after a key, and removes that pair if it returns false. Returns its key.
+    fn ask_after<F: FnMut(K, &P) -> bool>(&mut self, last: Option<u64>, f: &mut F) -> Option<u64>
+        requires { F.IsAlwaysCallable f.old }
+        ensures asks { Asks
+            (λ state pair stays next.
+            CalledAtEntry F.FnMut state (K.of_number pair.0) pair.1 stays next)
+            f.old self.old.pairs (next_of last) result f.new self.new.pairs }
+        ensures again { F.IsAlwaysCallable f.new }
+        ensures charge { ChargesForNodes A.charge self.old self.new }
+    {
+        let (key, payload) = self.tree.pair_after(last)?;
+        if !f(K::from_u64(key), payload) {
+            let _ = by_number::remove::<Brand, P, A>(&mut self.tree, key, Blank::new(1));
+        }
+        Some(key)
+    }
+}

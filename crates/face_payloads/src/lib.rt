@@ -1,0 +1,4 @@
+//! `CongeeArc`, the face with owners as values.
+#![tactic(auto)]
+
+pub mod congee_arc;

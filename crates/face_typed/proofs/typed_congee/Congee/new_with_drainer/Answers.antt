@@ -1,0 +1,5 @@
+use Rattle.std.proofs.Common.{rules}
+use Rattle.face_typed.proofs.typed_congee.Congee.new_with_drainer.Goals as goal
+
+pub returns : goal.returns
+returns g c = search rules

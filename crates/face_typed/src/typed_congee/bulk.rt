@@ -1,0 +1,142 @@
+//! Calls of `Congee` that change many pairs.
+
+ghost use Rattle.std.specs.Prelude.{◌≡◌, ℕ, [], ◌+◌, ◌<◌, length, take, fold, IfOk, IfErr, OnOk, slice_get, IsSomeAnd};
+ghost use Rattle.std.specs.List.{FoldsTo};
+ghost use Rattle.congee_tree.specs.Bulk.{outside, Retains, put_all, next_of};
+ghost use Rattle.congee_tree.specs.inner.Step.{Asks, Extracts};
+ghost use Rattle.spec_map.specs.Map.{Pairs, put, between};
+ghost use Rattle.spec_map.specs.Refusal.{NeedsNode};
+ghost use Rattle.tree_edit.specs.Tree.{root_alone, ChargesForNodes};
+
+use super::Congee;
+use crate::many::InsertManyError;
+use congee_tree::by_number;
+use node_table::allocator::Allocator;
+use spec_map::traits::{Drainer, Word};
+use std::marker::Brand;
+use std::sync::ledger::Blank;
+
+impl<K: Word, V: Word, A: Allocator, D: Drainer<K, V>> Congee<K, V, A, D> {
+    /// Removes all pairs: the nodes of the map are those of a new one. Its drainer isn't called, now or later, since a
+    /// pair that is removed is none that is left. Takes no memory. Reads one path through the tree for each pair.
+    pub fn clear(&mut self)
+        ensures pairs { self.new.pairs ≡ [] }
+        ensures nodes { self.new.nodes ≡ root_alone }
+        ensures charge { ChargesForNodes A.charge self.old self.new }
+    {
+        self.tree.clear();
+    }
+
+    /// Removes the pairs with keys from `start` on and below `end`, each as `remove` does, and returns how many: 2 to
+    /// the 64 at most. Never fails. Reads two paths through the tree for each of them, and one more.
+    pub fn remove_range(&mut self, start: &K, end: &K) -> u128
+        ensures count { result
+            ≡ length (between self.old.pairs (K.number start.now) (K.number end.now)) }
+        ensures pairs { self.new.pairs
+            ≡ outside self.old.pairs (K.number start.now) (K.number end.now) }
+        ensures charge { ChargesForNodes A.charge self.old self.new }
+    {
+        self.tree.remove_range(start.into_u64(), end.into_u64())
+    }
+
+    /// As `remove_range`, with the pair at `last` too, which can be the greatest key. Reads one more path.
+    pub fn remove_range_inclusive(&mut self, start: &K, last: &K) -> u128
+        ensures count { result
+            ≡ length (between self.old.pairs (K.number start.now) (K.number last.now + 1)) }
+        ensures pairs { self.new.pairs
+            ≡ outside self.old.pairs (K.number start.now) (K.number last.now + 1) }
+        ensures charge { ChargesForNodes A.charge self.old self.new }
+    {
+        self.tree
+            .remove_range_inclusive(start.into_u64(), last.into_u64())
+    }
+
+    /// Removes the pairs with keys from `start` on and below `end`, each as `remove` does, and calls the closure with
+    /// each, keys ascending, each key and value read back from its number. Never fails. Reads two paths through the
+    /// tree for each of them, and one more.
+    pub fn extract_range<F: FnMut(K, V)>(&mut self, start: &K, end: &K, f: &mut F)
+        requires { F.IsAlwaysCallable f.old }
+        ensures calls { FoldsTo
+            (λ state pair next. F.step state (K.of_number pair.0) (V.of_number pair.1) tt next)
+            f.old (between self.old.pairs (K.number start.now) (K.number end.now)) f.new }
+        ensures pairs { self.new.pairs
+            ≡ outside self.old.pairs (K.number start.now) (K.number end.now) }
+        ensures charge { ChargesForNodes A.charge self.old self.new }
+    {
+        let first = start.into_u64();
+        let past = end.into_u64();
+        self.law_ordered();
+        while self.extract_next(first, past, f) {}
+    }
+
+    // Removes the first pair of the range, and calls the closure with it. Returns whether there was one.
+    fn extract_next<F: FnMut(K, V)>(&mut self, start: u64, end: u64, f: &mut F) -> bool
+        requires { F.IsAlwaysCallable f.old }
+        ensures extracts { Extracts
+            (λ state pair next. F.step state (K.of_number pair.0) (V.of_number pair.1) tt next)
+            f.old self.old.pairs start end result f.new self.new.pairs }
+        ensures again { F.IsAlwaysCallable f.new }
+        ensures charge { ChargesForNodes A.charge self.old self.new }
+    {
+        let Some(key) = self.tree.key_between(start, end) else {
+            return false;
+        };
+        let removed = by_number::remove::<Brand, u64, A>(&mut self.tree, key, Blank::new(1));
+        let Some(number) = removed else {
+            unreachable!()
+        };
+        f(K::from_u64(key), V::from_u64(number));
+        true
+    }
+
+    /// Calls the closure with each pair by its numbers, once, keys ascending, and removes those for which it returns
+    /// false, each as `remove` does. Never fails. Reads one path through the tree for each pair, and at most one that is
+    /// a dead end, and one more for each that is removed.
+    pub fn retain<F: FnMut(u64, u64) -> bool>(&mut self, f: &mut F)
+        requires { F.IsAlwaysCallable f.old }
+        ensures retains { Retains
+            (λ state pair stays next. F.step state pair.0 pair.1 stays next)
+            f.old self.old.pairs self.new.pairs f.new }
+        ensures charge { ChargesForNodes A.charge self.old self.new }
+    {
+        self.law_ordered();
+        let mut last = None;
+        while let Some(key) = self.ask_after(last, f) {
+            last = Some(key);
+        }
+    }
+
+    // Asks the closure about the pair after a key, and removes that pair if it returns false. Returns its key.
+    fn ask_after<F: FnMut(u64, u64) -> bool>(&mut self, last: Option<u64>, f: &mut F) -> Option<u64>
+        requires { F.IsAlwaysCallable f.old }
+        ensures asks { Asks
+            (λ state pair stays next. F.step state pair.0 pair.1 stays next)
+            f.old self.old.pairs (next_of last) result f.new self.new.pairs }
+        ensures again { F.IsAlwaysCallable f.new }
+        ensures charge { ChargesForNodes A.charge self.old self.new }
+    {
+        let (key, number) = self.tree.pair_after(last)?;
+        if !f(key, *number) {
+            let _ = by_number::remove::<Brand, u64, A>(&mut self.tree, key, Blank::new(1));
+        }
+        Some(key)
+    }
+
+    /// Inserts the pairs in their order, so of two with one key the later one counts. Where memory is missing for one of
+    /// them, those before it are in the map, and the error has their number; the rest is left out, and may be inserted
+    /// again from there. Each pair costs what `insert` costs.
+    pub fn insert_many(&mut self, pairs: &[(K, V)]) -> Result<(), InsertManyError>
+        ensures ok { OnOk result
+            (self.new.pairs ≡ put_all K.number V.number self.old.pairs pairs.now) }
+        ensures err { IfErr result (λ error. self.new.pairs
+            ≡ put_all K.number V.number self.old.pairs (take error.inserted pairs.now)) }
+        ensures refused { IfErr result (λ error. IsSomeAnd (slice_get pairs.now error.inserted)
+            (λ pair. NeedsNode self.new.pairs (K.number pair.0))) }
+        ensures charge { ChargesForNodes A.charge self.old self.new }
+    {
+        match self.tree.insert_many(pairs) {
+            Ok(()) => Ok(()),
+            Err(inserted) => Err(InsertManyError { inserted }),
+        }
+    }
+}

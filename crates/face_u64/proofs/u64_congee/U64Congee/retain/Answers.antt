@@ -1,0 +1,4 @@
+use Rattle.face_u64.proofs.u64_congee.U64Congee.retain.Goals as goal
+
+pub returns-clause-retains : goal.returns-clause-retains
+returns-clause-retains g c = rw (← c.self.view_is) c.retain.ensures.retains

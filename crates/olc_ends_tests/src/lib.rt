@@ -1,0 +1,5 @@
+//! Tests of the machine's inside at the ends of its counters.
+#![tactic(auto)]
+
+#[cfg(test)]
+mod tests;

@@ -1,0 +1,3 @@
+pub mod Detail
+pub mod EventLine
+pub mod inner

@@ -1,0 +1,157 @@
+//! Removals of the first pair and of the last: one path down the first children, or the last, whose slots are remembered
+//! for the removal.
+
+ghost use Rattle.std.specs.Prelude.{◌≡◌, ◌+◌, false, [], IfSome, IfNone, Some};
+ghost use Rattle.std.specs.Int.{to_be_bytes, w64};
+ghost use Rattle.std.specs.Option.{option_map};
+ghost use Rattle.spec_map.specs.Near.{first_of, last_of};
+ghost use Rattle.node_table.specs.TableNode.{looked_at};
+ghost use Rattle.tree_path.specs.inner.Descent.{IsTrail, SeeksTo};
+ghost use Rattle.tree_path.specs.inner.Root.{HasTree, tree_pairs, tree_nodes};
+ghost use Rattle.tree_edit.specs.Reduce.{AreFilled, LosesInPlace};
+ghost use Rattle.tree_edit.specs.TreeCalls.{Removes};
+ghost use Rattle.tree_edit.specs.inner.Ends.{at_side};
+
+use crate::removal::take_out;
+use crate::tree::Tree;
+use node_table::allocator::Allocator;
+use node_table::child::ChildRef;
+use node_table::tree_node::TreeNode;
+use slab::Slab;
+use tree_path::descent::{PathEnd, Stop};
+
+/// At which side of the pairs a removal is.
+#[derive(Clone, Copy)]
+pub(crate) enum Side {
+    First,
+    Last,
+}
+
+// The node's first child or its last, and the byte.
+#[inline(always)]
+fn child_at<P: Drop>(node: &TreeNode<P>, side: Side) -> Option<(u8, ChildRef<'_, P>)>
+    ensures { option_map (λ found. (found.0, looked_at found.1)) result
+        ≡ at_side side node.now.children }
+{
+    // For the proof: brings the order of the bytes into scope.
+    let _ = node.base();
+    match side {
+        Side::First => node.first_from(0),
+        Side::Last => node.last_below(256),
+    }
+}
+
+// Descends to the first pair or the last, and remembers the slots on the way as `seek_along` does. Returns its key and
+// where the path ends; `None` where there is no pair. Only the root may be empty, so no node on the way is a dead end.
+#[inline(always)]
+fn seek_end<P: Drop>(
+    nodes: &Slab<TreeNode<P>>,
+    root: usize,
+    side: Side,
+    trail: &mut [usize; 8],
+) -> Option<(u64, PathEnd)>
+    requires tree { HasTree nodes.now.slots root }
+    requires filled { AreFilled (tree_nodes nodes.now.slots root) }
+    ensures none { IfNone result (tree_pairs nodes.now.slots root ≡ []) }
+    ensures key { IfSome result (λ found. Some found.0
+        ≡ option_map (λ pair. pair.0) (at_side side (tree_pairs nodes.now.slots root))) }
+    ensures ends { IfSome result (λ found.
+        SeeksTo nodes.now.slots root (to_be_bytes w64 found.0) found.1) }
+    ensures trail { IfSome result (λ found.
+        IsTrail nodes.now.slots root (to_be_bytes w64 found.0) trail.new (found.1.above + 1)) }
+{
+    let mut slot = root;
+    let mut parent = root;
+    let mut above = 0;
+    'down: loop {
+        trail[above] = slot;
+        let Some(node) = nodes.get(slot) else {
+            unreachable!()
+        };
+        let Some((byte, child)) = child_at(node, side) else {
+            return None;
+        };
+        match child {
+            ChildRef::Payload(_) => {
+                let key = node.base().first_key() + byte as u64;
+                let stop = Stop::Leaf(byte);
+                return Some((
+                    key,
+                    PathEnd {
+                        slot,
+                        parent,
+                        above,
+                        stop,
+                    },
+                ));
+            }
+            ChildRef::Node(below) => {
+                parent = slot;
+                slot = below;
+                above += 1;
+            }
+        }
+    }
+}
+
+impl<P: Drop, A: Allocator> Tree<P, A> {
+    /// Removes the pair with the least key, and returns it: a removal as any other. Never fails.
+    pub fn pop_first(&mut self) -> Option<(u64, P)>
+        ensures pair { result ≡ first_of self.old.pairs }
+        ensures removes { IfSome result (λ pair.
+            Removes A.charge self.old pair.0 (Some pair.1) self.new) }
+        ensures empty { IfNone result (self.new ≡ self.old) }
+    {
+        self.pop(Side::First, true)
+    }
+
+    /// The same, where no node shrinks: takes no memory. For a tree that is drained.
+    pub fn pop_first_in_place(&mut self) -> Option<(u64, P)>
+        ensures pair { result ≡ first_of self.old.pairs }
+        ensures removes { IfSome result (λ pair.
+            Removes A.charge self.old pair.0 (Some pair.1) self.new) }
+        ensures in_place { IfSome result (λ pair.
+            LosesInPlace self.old.nodes (to_be_bytes w64 pair.0) self.new.nodes) }
+        ensures empty { IfNone result (self.new ≡ self.old) }
+    {
+        self.pop(Side::First, false)
+    }
+
+    /// Removes the pair with the greatest key, and returns it: a removal as any other. Never fails.
+    pub fn pop_last(&mut self) -> Option<(u64, P)>
+        ensures pair { result ≡ last_of self.old.pairs }
+        ensures removes { IfSome result (λ pair.
+            Removes A.charge self.old pair.0 (Some pair.1) self.new) }
+        ensures empty { IfNone result (self.new ≡ self.old) }
+    {
+        self.pop(Side::Last, true)
+    }
+
+    #[inline(always)]
+    fn pop(&mut self, side: Side, shrinks: bool) -> Option<(u64, P)>
+        ensures pair { result ≡ at_side side self.old.pairs }
+        ensures removes { IfSome result (λ pair.
+            Removes A.charge self.old pair.0 (Some pair.1) self.new) }
+        ensures in_place { IfSome result (λ pair. shrinks ≡ false
+            → LosesInPlace self.old.nodes (to_be_bytes w64 pair.0) self.new.nodes) }
+        ensures empty { IfNone result (self.new ≡ self.old) }
+    {
+        let mut trail = [self.root; 8];
+        let Some((key, spot)) = seek_end(&self.nodes, self.root, side, &mut trail) else {
+            return None;
+        };
+        let bytes = key.to_be_bytes();
+        let Some(payload) = take_out(
+            &mut self.nodes,
+            &mut self.supply,
+            &spot,
+            &trail,
+            &bytes,
+            shrinks,
+        ) else {
+            unreachable!()
+        };
+        self.count -= 1;
+        Some((key, payload))
+    }
+}
