@@ -1,4 +1,4 @@
-"""The page of a schedule that stands alone: legend, picture whose heads stay while it scrolls, and the events as a table."""
+"""The self-contained page of a schedule: legend, picture whose heads stay while it scrolls, and the events as a table."""
 import html
 import string
 

@@ -111,8 +111,8 @@ def draw_body(sheet, at):
 
 def draw_before(sheet, at):
     """The content that the events left which aren't drawn, or how many these are."""
-    told = [words.content_of(it) for it in at.course.events[:at.first] if it.content is not None]
-    sheet.text(at.notes, at.top - 10, short([f"after {at.first} events", *told][-1], 54), "quiet small")
+    contents = [words.content_of(it) for it in at.course.events[:at.first] if it.content is not None]
+    sheet.text(at.notes, at.top - 10, short([f"after {at.first} events", *contents][-1], 54), "quiet small")
 
 
 def draw_band(sheet, at, place):
@@ -159,8 +159,8 @@ def draw_signs(sheet, at, life):
 def life_words(life):
     ends = "reclaimed" if life.retired is not None else "dropped"
     places = {"made": life.made, "published": life.published, "retired": life.retired, ends: life.ended}
-    told = [f"{word} by event {place + 1}" for word, place in places.items() if place is not None]
-    return ", ".join(told) or "there from the start"
+    events = [f"{word} by event {place + 1}" for word, place in places.items() if place is not None]
+    return ", ".join(events) or "there from the start"
 
 
 def draw_hold(sheet, at, call, hold):

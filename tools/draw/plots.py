@@ -19,7 +19,7 @@ RULES = """
 .hand-line { stroke: $quiet; stroke-width: 1.8; fill: none; stroke-dasharray: 2 3 }
 """
 
-# A series' form, told apart by shape as well as colour.
+# A series' form, distinguished by shape as well as colour.
 FORMS = {
     "own": lambda sheet, x, y: sheet.circle(x, y, 5, "own"),
     "second": lambda sheet, x, y: sheet.diamond(x, y, 6.5, "second"),
@@ -72,8 +72,8 @@ def owned(data):
     calls = [call for call in panels[0] if call != "keys"]
     height = 92 + 30 * len(calls)
     title = "Nanoseconds a call of the map with one owner"
-    told = {row["keys"]: ", ".join(f"{call} {'/'.join(map(str, row[call]))}" for call in calls) for row in panels}
-    text = "; ".join(f"{keys}: {times}" for keys, times in told.items())
+    listed = {row["keys"]: ", ".join(f"{call} {'/'.join(map(str, row[call]))}" for call in calls) for row in panels}
+    text = "; ".join(f"{keys}: {times}" for keys, times in listed.items())
     sheet = Sheet(860, height, title, f"Of {', '.join(data['maps'])}. {text}", RULES)
     legend(sheet, [(name, OWNED[name]) for name in data["maps"]], 130, 24)
     sheet.text(846, 28, "nanoseconds a call, by powers of ten", "quiet small end")
@@ -110,9 +110,9 @@ def threads(data):
     """A panel for each kind of keys and each call; in it a line for each form, by one, two and four threads."""
     rows = {(row["keys"], row["form"]): row for row in data["rows"]}
     title = "Nanoseconds a call of the forms that threads share, by one, two and four threads"
-    told = {it: ", ".join(f"{words} {'/'.join(map(str, numbers(row, call).values()))}" for call, words in CALLS.items())
+    listed = {it: ", ".join(f"{words} {'/'.join(map(str, numbers(row, call).values()))}" for call, words in CALLS.items())
             for it, row in rows.items()}
-    text = "; ".join(f"{keys} keys, {THREADS[form][0]}: {times}" for (keys, form), times in told.items())
+    text = "; ".join(f"{keys} keys, {THREADS[form][0]}: {times}" for (keys, form), times in listed.items())
     sheet = Sheet(860, 568, title, text, RULES)
     legend(sheet, THREADS.values(), 60, 24)
     sheet.text(846, 556, "nanoseconds a call of a thread, by powers of ten", "quiet small end")

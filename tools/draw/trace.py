@@ -13,7 +13,7 @@ LINE = re.compile(rf"({NUMBER}) ({NUMBER}|-) ([A-Z-]) ([a-z]+) ({NUMBER}|-) (ok|
 CONTENT = re.compile(rf"content((?: {NUMBER}={NUMBER})*)")
 CALL = re.compile(rf"get {NUMBER}|insert {NUMBER} {NUMBER}|remove {NUMBER}|present {NUMBER}|orinsert {NUMBER} {NUMBER}"
                   rf"|cas {NUMBER} {NUMBER} {VALUE}|range {NUMBER} {NUMBER} {NUMBER}")
-# What a kind's line says of its own, and what any step's line says of its call.
+# The details of a kind's line, and those of any step's line on its call.
 OWN = {
     "T": rf"word (?P<word>{NUMBER})", "R": rf"sees (?P<seen>none|value {NUMBER}|node {NUMBER}) count {NUMBER}(?: full)?",
     "Q": rf"answer (?P<answer>{VALUE})",
@@ -96,13 +96,13 @@ def read_details(event, details):
         return
     match = DETAILS.get(event.kind, PLAIN).fullmatch(details)
     if not match or ((event.is_skipped or event.kind == "X") and details):
-        raise BadTrace(event.line, f"{quoted(details)} isn't what a {KINDS[event.kind]} says")
+        raise BadTrace(event.line, f"{quoted(details)} isn't what a {KINDS[event.kind]} reports")
     found = match.groupdict("")
     event.word = int(found["word"]) if found.get("word") else None
     event.seen, event.text = found.get("seen", ""), found.get("answer", "")
     event.outcome, event.reply = found["outcome"], found["text"]
     if (event.outcome in ("asks", "pair", "decided")) != bool(event.reply):
-        raise BadTrace(event.line, f"{quoted(details)} isn't what a {KINDS[event.kind]} says")
+        raise BadTrace(event.line, f"{quoted(details)} isn't what a {KINDS[event.kind]} reports")
 
 
 def read(lines):

@@ -1,4 +1,4 @@
-"""What an event's row says, in a few words."""
+"""The words of an event's row."""
 
 # A summary lists at most so many calls, or events of a sort.
 MOST = 40

@@ -150,7 +150,7 @@ fn main() {
                 let wanted = plain.get(&at).copied();
                 plain.insert(
                     at,
-                    wanted.map_or(number, |stands| stands.wrapping_add(number)),
+                    wanted.map_or(number, |current| current.wrapping_add(number)),
                 );
                 assert_eq!(map.add(at, number), Ok(wanted));
             }
@@ -160,8 +160,8 @@ fn main() {
             }
             13 => {
                 let wanted = match plain.get(&at).copied() {
-                    Some(stands) if stands == value => Ok(()),
-                    stands => Err(stands),
+                    Some(current) if current == value => Ok(()),
+                    current => Err(current),
                 };
                 if wanted.is_ok() {
                     plain.remove(&at);
@@ -202,7 +202,7 @@ fn main() {
             16 if value == 0 => assert_eq!(map.pop_first(), plain.pop_first()),
             16 if value == 1 => assert_eq!(map.pop_last(), plain.pop_last()),
             14 => {
-                let halved = |stands: Option<u64>| stands.map(|it| it / 2).filter(|it| *it > 0);
+                let halved = |current: Option<u64>| current.map(|it| it / 2).filter(|it| *it > 0);
                 let wanted = plain.remove(&at);
                 if let Some(half) = halved(wanted) {
                     plain.insert(at, half);
@@ -212,11 +212,11 @@ fn main() {
             9 | 10 => {
                 let expected = next(&mut seed) % 4;
                 let wanted = match plain.get_mut(&at) {
-                    Some(stands) if *stands == expected => {
-                        *stands = value;
+                    Some(current) if *current == expected => {
+                        *current = value;
                         Ok(())
                     }
-                    Some(stands) => Err(Some(*stands)),
+                    Some(current) => Err(Some(*current)),
                     None => Err(None),
                 };
                 assert_eq!(map.compare_exchange(at, expected, value), wanted);

@@ -1,4 +1,4 @@
-"""A schedule as it is written, line by line, beside the machine that says what comes next in it."""
+"""A schedule as it is written, line by line, beside the machine that decides what comes next in it."""
 import itertools
 
 from .machine import LAST_NUMBER, PLAIN, Env, Machine, Op, Value

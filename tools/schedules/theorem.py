@@ -1,4 +1,4 @@
-"""What the theorem on schedules says of a replay, tested event by event against a plain dict.
+"""The theorem on schedules, of a replay, tested event by event against a plain dict.
 
 Each call is decided once between its start and its end, and replies as the dict does then; a closure is asked with the current
 value; each range gives pairs that are stored, ascending, and leaves out none that was stored throughout; no step touches a node
