@@ -1,6 +1,7 @@
 -- What the program is asked for, and how it ends.
-use Rattle.std.specs.Prelude.{◌≡◌, ℕ, ◌<◌, ◌^◌, ◌⊎◌, true, List, [], ◌∷◌, Option, Some, None, Result, Ok, Err, codes, decimal}
+use Rattle.std.specs.Prelude.{◌≡◌, ℕ, ◌<◌, ◌^◌, ◌⊎◌, Bool, true, false, List, [], ◌∷◌, Option, Some, None, Result, Ok, Err, codes, decimal}
 use Rattle.std.specs.List.{flat_map}
+use Rattle.spec_map.specs.Map.{Pairs}
 use Rattle.spec_text.specs.Lines.{ended}
 use Rattle.text_lines.specs.Watched.{Stream, SendsTo, SendsPart}
 use Rattle.text_trace.specs.declared.detail.Detail.{Detail}
@@ -10,10 +11,13 @@ use Rattle.text_schedule.specs.declared.schedule.ScheduleError.TheVariants as sc
 use Rattle.text_run.specs.declared.run.RunError.{RunError}
 use Rattle.text_run.specs.declared.run.RunError.TheVariants as run
 
--- the words after the program's name ask for a run, with this limit if there is one
-abbrev pub AsksRun : List (List ℕ) → Option ℕ → Type 0
-AsksRun words None = words ≡ codes "run" ∷ []
-AsksRun words (Some limit) = (words ≡ codes "run" ∷ decimal limit ∷ []) × (limit < 2 ^ 64)
+-- the words after the program's name ask for a run, with this limit if there is one, and for statistics at its end or not
+abbrev pub AsksRun : List (List ℕ) → Option ℕ → Bool → Type 0
+AsksRun words None false = words ≡ codes "run" ∷ []
+AsksRun words None true = words ≡ codes "run" ∷ codes "--stats" ∷ []
+AsksRun words (Some limit) false = (words ≡ codes "run" ∷ decimal limit ∷ []) × (limit < 2 ^ 64)
+AsksRun words (Some limit) true =
+    (words ≡ codes "run" ∷ codes "--stats" ∷ decimal limit ∷ []) × (limit < 2 ^ 64)
 
 -- they ask for a schedule, whose text is to be written in this detail
 abbrev pub AsksSchedule : List (List ℕ) → Detail → Type 0
@@ -28,7 +32,7 @@ AsksHelp words = words ≡ codes "run" ∷ codes "--help" ∷ []
 -- they ask for something else
 abbrev pub AsksNothing : List (List ℕ) → Type 0
 AsksNothing words =
-    ((limit : Option ℕ) → AsksRun words limit → ⊥) × (AsksHelp words → ⊥)
+    ((limit : Option ℕ) (stats : Bool) → AsksRun words limit stats → ⊥) × (AsksHelp words → ⊥)
     × ((detail : Detail) → AsksSchedule words detail → ⊥)
 
 -- the lines of a run, one after another
@@ -56,8 +60,8 @@ Helps contents output output' status =
     ⊎ ((status ≡ 1) × SendsPart contents output output' help_text × (output'.failed ≡ true))
 
 -- the exit statuses
-abbrev pub run_status : Result (Unit {0}) RunError → ℕ
-run_status (Ok done) = 0
+abbrev pub run_status : Result (Pairs ℕ) RunError → ℕ
+run_status (Ok map) = 0
 run_status (Err run.Read) = 1
 run_status (Err run.Write) = 1
 run_status (Err run.Oom) = 3

@@ -1,6 +1,7 @@
 //! The program, but for its streams.
 
-ghost use Rattle.std.specs.Prelude.{◌≡◌, ◌≢◌, ℕ, ◌↔◌, [], Option, Result, IfSome, IfNone, OnOk, OnErr, map, string_bytes, true};
+ghost use Rattle.std.specs.Prelude.{◌≡◌, ◌≢◌, ℕ, ◌↔◌, [], Option, Result, IfSome, IfNone, OnOk, OnErr, map, string_bytes, Bool, true};
+ghost use Rattle.spec_map.specs.Map.{Pairs};
 ghost use Rattle.text_trace.specs.declared.detail.Detail.{Detail as HowMuch};
 ghost use Rattle.text_schedule.specs.Schedule.{EndsSchedule};
 ghost use Rattle.text_schedule.specs.declared.schedule.ScheduleError.{ScheduleError as HowScheduled};
@@ -10,6 +11,9 @@ ghost use Rattle.text_lines.specs.Watched.{SendsTo, SendsPart};
 ghost use Rattle.congee_cli.specs.Serve.{AsksRun, AsksHelp, AsksSchedule, AsksNothing, help_text, Helps, run_status, schedule_status};
 ghost use Rattle.congee_cli.specs.inner.Asked.{AsksMode};
 
+use face_typed::typed_congee::Congee;
+use node_table::allocator::{Allocator, Budget, DefaultAllocator};
+use spec_map::error::OOMError;
 use std::alloc::Global;
 use std::io::{Read, Write};
 use text_lines::number::number;
@@ -39,8 +43,9 @@ ceiling K        the pair of the least key that is at least K\n";
 /// What the words after the program's name ask for.
 #[derive(Clone, Copy)]
 enum Mode {
-    /// A run, with a limit in bytes for the nodes of the map or without one.
-    Run(Option<u64>),
+    /// A run, with a limit in bytes for the nodes of the map or without one, and whether statistics are wanted at its
+    /// end.
+    Run(Option<u64>, bool),
     /// The lines of a run.
     Help,
     /// A schedule, and how much its text shows.
@@ -48,8 +53,8 @@ enum Mode {
 }
 
 /// Does what the words after the program's name ask for, and returns the exit status. The words are
-/// checked before anything is read. What went wrong is written to `errors` in one line; whether that
-/// works changes nothing.
+/// checked before anything is read. What went wrong is written to `errors` in one line, or the statistics of a run's map
+/// where they are wanted; whether that works changes nothing.
 pub fn serve<R: Read, W: Write, E: Write>(
     alloc: Global,
     words: &[String],
@@ -61,8 +66,8 @@ pub fn serve<R: Read, W: Write, E: Write>(
     requires output { output.old.failed ≢ true }
 
     // The words ask for a run, which ended in one of the ways that a run has.
-    ensures run { (limit : Option ℕ) → AsksRun (map string_bytes words.now) limit
-        → (ended : Result (Unit {0}) HowRun) × (result ≡ run_status ended)
+    ensures run { (limit : Option ℕ) (stats : Bool) → AsksRun (map string_bytes words.now) limit stats
+        → (ended : Result (Pairs ℕ) HowRun) × (result ≡ run_status ended)
         × EndsRun R.remaining W.contents input.old input.new output.old output.new ended }
 
     // The words ask for the lines of a run, which were written.
@@ -79,7 +84,7 @@ pub fn serve<R: Read, W: Write, E: Write>(
     ensures untouched { result ≡ 2 → (input.new ≡ input.old) × (output.new ≡ output.old) }
 {
     match asked_by(words) {
-        Some(Mode::Run(limit)) => end_run(errors, run(alloc, input, output, limit)),
+        Some(Mode::Run(limit, stats)) => serve_run(alloc, limit, stats, input, output, errors),
         Some(Mode::Help) => help(output, errors),
         Some(Mode::Schedule(detail)) => {
             end_schedule(errors, schedule(alloc, detail, input, output))
@@ -87,7 +92,7 @@ pub fn serve<R: Read, W: Write, E: Write>(
         None => tell(
             errors,
             2,
-            b"usage: congee run [LIMIT] | congee schedule | congee trace [--content]\n",
+            b"usage: congee run [--stats] [LIMIT] | congee schedule | congee trace [--content]\n",
         ),
     }
 }
@@ -113,19 +118,55 @@ fn write_help<W: Write>(output: &mut Watched<W>) -> Result<(), Failed>
     output.flush()
 }
 
-// Writes why a run failed, if it did, and returns the status.
-fn end_run<E: Write>(errors: &mut E, ended: Result<(), RunError>) -> u8
-    ensures { result ≡ run_status ended }
+// A run with this limit, if there is one.
+fn serve_run<R: Read, W: Write, E: Write>(
+    alloc: Global,
+    limit: Option<u64>,
+    stats: bool,
+    input: &mut Watched<R>,
+    output: &mut Watched<W>,
+    errors: &mut E,
+) -> u8
+    requires input { input.old.failed ≢ true }
+    requires output { output.old.failed ≢ true }
+    ensures { (ended : Result (Pairs ℕ) HowRun) × (result ≡ run_status ended)
+        × EndsRun R.remaining W.contents input.old input.new output.old output.new ended }
 {
-    match ended {
-        Ok(()) => 0,
+    match limit {
+        None => run_within(alloc, DefaultAllocator {}, stats, input, output, errors),
+        Some(limit) => run_within(alloc, Budget::new(limit), stats, input, output, errors),
+    }
+}
+
+// A run whose map has this budget. Writes why it failed, if it did, or the statistics of its map, where they are wanted,
+// and returns the status.
+fn run_within<R: Read, W: Write, E: Write, A: Allocator>(
+    alloc: Global,
+    allocator: A,
+    stats: bool,
+    input: &mut Watched<R>,
+    output: &mut Watched<W>,
+    errors: &mut E,
+) -> u8
+    requires input { input.old.failed ≢ true }
+    requires output { output.old.failed ≢ true }
+    ensures { (ended : Result (Pairs ℕ) HowRun) × (result ≡ run_status ended)
+        × EndsRun R.remaining W.contents input.old input.new output.old output.new ended }
+{
+    match run(alloc, allocator, input, output) {
+        Ok(map) => {
+            if stats {
+                tell_stats(alloc, errors, &map);
+            }
+            0
+        }
         Err(RunError::Read) => report_broken(errors),
         Err(RunError::Write) => report_broken(errors),
         Err(RunError::Oom) => report_no_memory(errors),
     }
 }
 
-// The same of a schedule.
+// Writes why a schedule failed, if it did, and returns the status.
 fn end_schedule<E: Write>(errors: &mut E, ended: Result<(), ScheduleError>) -> u8
     ensures { result ≡ schedule_status ended }
 {
@@ -137,6 +178,24 @@ fn end_schedule<E: Write>(errors: &mut E, ended: Result<(), ScheduleError>) -> u
         Err(ScheduleError::Line(number)) => report_bad_line(errors, number),
         Err(ScheduleError::Events) => tell(errors, 4, b"congee: too many events\n"),
     }
+}
+
+// Writes the statistics of a map, and what its nodes are charged; or that there is no memory for them.
+fn tell_stats<E: Write, A: Allocator>(alloc: Global, errors: &mut E, map: &Congee<u64, u64, A>) {
+    match stats_text(alloc, map) {
+        Ok(text) => {
+            let _ = errors.write_all(text.as_bytes());
+        }
+        Err(_) => {
+            report_no_memory(errors);
+        }
+    }
+}
+
+fn stats_text<A: Allocator>(alloc: Global, map: &Congee<u64, u64, A>) -> Result<String, OOMError> {
+    let stats = map.stats()?;
+    let charged = map.charged();
+    Ok(format!(in alloc; "{stats}Charged: {charged} bytes\n")?)
 }
 
 fn report_broken<E: Write>(errors: &mut E) -> u8
@@ -176,10 +235,16 @@ fn asked_by(words: &[String]) -> Option<Mode>
     ensures none { IfNone result (AsksNothing (map string_bytes words.now)) }
 {
     match words {
-        [name] if name.as_str() == "run" => Some(Mode::Run(None)),
+        [name] if name.as_str() == "run" => Some(Mode::Run(None, false)),
         [name, word] if name.as_str() == "run" && word.as_str() == "--help" => Some(Mode::Help),
+        [name, word] if name.as_str() == "run" && word.as_str() == "--stats" => {
+            Some(Mode::Run(None, true))
+        }
         [name, limit] if name.as_str() == "run" => {
-            Some(Mode::Run(Some(number(limit.as_bytes())?)))
+            Some(Mode::Run(Some(number(limit.as_bytes())?), false))
+        }
+        [name, word, limit] if name.as_str() == "run" && word.as_str() == "--stats" => {
+            Some(Mode::Run(Some(number(limit.as_bytes())?), true))
         }
         [name] if name.as_str() == "schedule" => Some(Mode::Schedule(Detail::Outcomes)),
         [name] if name.as_str() == "trace" => Some(Mode::Schedule(Detail::Events)),

@@ -1,7 +1,9 @@
 //! Whole runs over streams in memory.
 
 mod cleanups;
+mod progress;
 mod schedules;
+mod statistics;
 mod traces;
 
 use crate::serve::{HELP, serve};
@@ -11,7 +13,8 @@ use std::io::{ErrorKind, Read, Write};
 use std::test::Fail;
 use text_lines::watched::Watched;
 
-const USAGE: &str = "usage: congee run [LIMIT] | congee schedule | congee trace [--content]\n";
+const USAGE: &str =
+    "usage: congee run [--stats] [LIMIT] | congee schedule | congee trace [--content]\n";
 
 const BROKEN: &str = "congee: input or output failed\n";
 
@@ -196,7 +199,7 @@ fn long_lines(rt: HostRuntime) -> Result<(), Fail> {
 
 #[test]
 fn usage(rt: HostRuntime) -> Result<(), Fail> {
-    let cases: [&[&str]; 14] = [
+    let cases: [&[&str]; 18] = [
         &[],
         &["walk"],
         &["walk", "1"],
@@ -211,6 +214,10 @@ fn usage(rt: HostRuntime) -> Result<(), Fail> {
         &["--content"],
         &["run", "1", "2"],
         &["run\n"],
+        &["run", "4096", "--stats"],
+        &["run", "--stats", "01"],
+        &["run", "--stats", "--stats"],
+        &["run", "--stats", "4096", "4096"],
     ];
     for words in cases {
         let input = "insert 1 1\n".as_bytes();

@@ -1,5 +1,5 @@
 -- Removing a range of pairs, and the pairs that a closure keeps.
-use Rattle.std.proofs.Common.{◌≡◌, ℕ, ◌+◌, ◌-◌, ◌<◌, ◌≤◌, ◌^◌, ◌&&◌, ◌≢◌, cond, leb, ltb, not, Bool, true, false, [], ◌∷◌, ◌++◌, length, Bor, Option, Some, None, IfSome, IfNone, option_map, refl, ap, sym, subst, ◌∙◌, append_assoc, arith, inl, inr, suc, eqb, List}
+use Rattle.std.proofs.Common.{◌≡◌, ℕ, ◌+◌, ◌-◌, ◌<◌, ◌≤◌, ◌^◌, ◌&&◌, ◌≢◌, cond, leb, ltb, not, Bool, true, false, [], ◌∷◌, ◌++◌, length, Bor, Option, Some, None, IfSome, IfNone, option_map, refl, ap, sym, subst, ◌∙◌, append_assoc, arith, inl, inr, eqb}
 use Rattle.std.proofs.lemmas.Bool.{lt-ltb, le-ltb, le-leb, lt-leb, eq-eqb, ne_eqb, cases_lt, cases_eq, cases_order}
 use Rattle.std.proofs.lemmas.List.Elements.{filter-append}
 use Rattle.spec_map.specs.Map.{Pairs, lookup, without, between, Rises, IsMap}

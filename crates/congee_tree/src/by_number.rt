@@ -7,7 +7,6 @@ ghost use Rattle.std.specs.Option.{ForSome};
 ghost use Rattle.tree_edit.specs.TreeCalls.{Removes, Inserts, ComputesOrInserts, ComputesIfPresent};
 ghost use Rattle.tree_edit.specs.Closure.{TakesOption};
 ghost use Rattle.spec_map.specs.Map.{lookup, IsMap};
-ghost use Rattle.tree_edit.specs.Reduce.{ReducesInPlace};
 
 use crate::tree::RawCongee;
 use node_table::allocator::Allocator;
@@ -60,22 +59,6 @@ pub fn remove<L: Ledger, P: Payload, A: Allocator>(
 {
     let mut reads = ReadCount::<L>::new(blank);
     tree.remove(&key.to_be_bytes(), &mut reads)
-}
-
-/// The same, where no node shrinks: takes no memory.
-pub fn remove_in_place<L: Ledger, P: Payload, A: Allocator>(
-    tree: &mut RawCongee<P, A>,
-    key: u64,
-    blank: Blank,
-) -> Option<P>
-    requires name { blank.name ≡ L.name }
-    requires parts { blank.parts ≡ L.parts }
-    requires some { 0 < blank.parts }
-    ensures removes { Removes A.charge tree.old key result tree.new }
-    ensures in_place { ReducesInPlace result tree.old.nodes (to_be_bytes w64 key) tree.new.nodes }
-{
-    let mut reads = ReadCount::<L>::new(blank);
-    tree.remove_in_place(&key.to_be_bytes(), &mut reads)
 }
 
 /// Where the key is present, calls the closure, once, and stores what it returns; `None` removes the key. Returns the

@@ -8,7 +8,6 @@ ghost use Rattle.std.specs.Int.{from_be_bytes, w64};
 ghost use Rattle.tree_edit.specs.TreeCalls.{IsNew, IsChargeOf, Removes, Inserts, ComputesOrInserts, ComputesIfPresent, ReadsPath};
 ghost use Rattle.tree_edit.specs.Closure.{TakesOption};
 ghost use Rattle.spec_map.specs.Map.{IsMap};
-ghost use Rattle.tree_edit.specs.Reduce.{ReducesInPlace};
 ghost use Rattle.congee_tree.specs.Stats.{AreStatsOf};
 ghost use Rattle.tree_edit.specs.Tree.{payload_at};
 
@@ -106,19 +105,6 @@ impl<P: Payload, A: Allocator> RawCongee<P, A> {
         ensures reads { ReadsPath self.old.nodes key.now reads.old reads.new }
     {
         self.tree.remove(key, reads)
-    }
-
-    /// The same, where no node shrinks: takes no memory. For a tree that is drained.
-    pub fn remove_in_place<L: Ledger>(
-        &mut self,
-        key: &[u8; 8],
-        reads: &mut ReadCount<L>,
-    ) -> Option<P>
-        ensures removes { Removes A.charge self.old (from_be_bytes w64 key.now) result self.new }
-        ensures in_place { ReducesInPlace result self.old.nodes key.now self.new.nodes }
-        ensures reads { ReadsPath self.old.nodes key.now reads.old reads.new }
-    {
-        self.tree.remove_in_place(key, reads)
     }
 
     /// Calls the closure on the key's payload, where the key is present: the payload that it returns replaces that one,

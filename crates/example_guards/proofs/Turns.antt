@@ -6,7 +6,7 @@ use Rattle.spec_olc.specs.Meaning.{in_some}
 use Rattle.spec_olc.specs.Runs.{same_number}
 use Rattle.share_guards.specs.Operations.{returned}
 use Rattle.share_laws.specs.Keys.{AllLeave, OwnsKeys, finds, inserts}
-use Rattle.share_rule.specs.History.{Entry, entry, entries_of, IsHistory}
+use Rattle.share_rule.specs.History.{Entry, entries_of, IsHistory}
 use Rattle.share_rule.specs.Known.{Known, MadeCall, SeenMore, own_entries}
 use Rattle.example_guards.specs.Callers.{HandedOver, KeepsOwn}
 

@@ -1,5 +1,5 @@
 -- The last child below a byte, among children that are made of others.
-use Rattle.std.proofs.Common.{◌≡◌, ℕ, ◌<◌, List, [], ◌∷◌, Option, Some, None, IsSome, option_map, refl, ap, sym, subst, ◌∙◌, arith}
+use Rattle.std.proofs.Common.{◌≡◌, ℕ, List, [], ◌∷◌, Option, Some, None, IsSome, option_map, refl, ap, sym, subst, ◌∙◌, arith}
 use Rattle.spec_map.specs.Map.{lookup, between, Rises}
 use Rattle.spec_map.specs.Near.{last_of, below_of}
 use Rattle.spec_map.proofs.NearLaws.{greatest_between, stored_between}

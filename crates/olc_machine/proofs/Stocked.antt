@@ -12,15 +12,13 @@ use Rattle.spec_olc.specs.declared.types.Outcome.{Outcome}
 use Rattle.spec_olc.specs.declared.types.Report.{Report}
 use Rattle.olc_words.specs.Epoch.{pin_of}
 use Rattle.olc_state.specs.declared.stage.Record.{Record}
-use Rattle.olc_state.specs.declared.stage.Stage.{Stage}
-use Rattle.olc_state.specs.declared.stage.Stage.TheVariants.{Tail}
 use Rattle.olc_state.specs.declared.stage.Stored.{Stored}
 use Rattle.olc_state.specs.declared.stock.Stock.{Stock}
 use Rattle.olc_state.specs.declared.tail.Tail.{Tail as AnyTail}
 use Rattle.olc_state.specs.inner.Facts.{IsSoundWorld, stored_sizes}
 use Rattle.olc_state.specs.inner.Meant.{meant_record, meant_slots, meant_world}
 use Rattle.olc_state.specs.inner.Places.{ChangesPlace}
-use Rattle.olc_state.specs.inner.Shown.{held_at, state_of}
+use Rattle.olc_state.specs.inner.Shown.{state_of}
 use Rattle.olc_state.specs.inner.Stocks.{CountsEntries, IsStoreSound, StockMoves}
 use Rattle.olc_state.specs.inner.Turns.{IsTurn}
 use Rattle.olc_state.specs.inner.World.{World, record_of, table_of}

@@ -1,5 +1,5 @@
 -- From how an event changes the content to its decided history.
-use Rattle.std.proofs.Common.{◌≡◌, ℕ, Option, Some, sym, subst}
+use Rattle.std.proofs.Common.{ℕ, Option, Some, sym, subst}
 use Rattle.spec_map.specs.Map.{Pairs}
 use Rattle.spec_olc.specs.Deciding.{ContentAfter}
 use Rattle.spec_olc.specs.Runs.{IsHistory, same_number, decided_as, decided_by}

@@ -12,7 +12,7 @@ use Rattle.spec_olc.specs.Lists.{off}
 use Rattle.spec_olc.specs.Orderly.{Course, TurnsBy}
 use Rattle.spec_olc.specs.Reading.{GoesOn, LooksOn, MayGive}
 use Rattle.spec_olc.specs.Runs.{Transition, Happens, IsHistory, IsMachineRun, fresh, same_number, decided_at, decided_by, decided_in, events_in, lines_in}
-use Rattle.spec_olc.specs.State.{State, CallState, back}
+use Rattle.spec_olc.specs.State.{State, CallState}
 use Rattle.spec_olc.specs.declared.trace.Decision.{Decision}
 use Rattle.spec_olc.specs.declared.trace.Line.{Line}
 use Rattle.spec_olc.specs.declared.trace.Line.TheVariants.{Done as Made, Skipped}

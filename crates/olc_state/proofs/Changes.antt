@@ -5,7 +5,7 @@ use Rattle.spec_map.specs.Map.{Pairs, lookup, without}
 use Rattle.spec_map.proofs.MapLaws.{Rises-without, lookup-without_same, lookup-without_other, same_from_lookups}
 use Rattle.node_table.specs.declared.child.Child.{Child}
 use Rattle.spec_olc.specs.Content.{Reaches, at_root, by_child, HasEntry, IsStoredAt, IsContent}
-use Rattle.spec_olc.specs.State.{State, CallState, with_node, with_call}
+use Rattle.spec_olc.specs.State.{State}
 use Rattle.spec_olc.specs.State as state
 use Rattle.olc_state.specs.inner.Shown.{shown, state_of}
 use Rattle.olc_state.specs.inner.World.{World, table_of}

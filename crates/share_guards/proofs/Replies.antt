@@ -1,5 +1,5 @@
 -- The kind of a made call: the last operation of a legal history is one that the map allows then.
-use Rattle.std.proofs.Common.{◌≡◌, ℕ, Bool, List, [], ◌∷◌, ◌++◌, sym, ap, ◌∙◌, subst}
+use Rattle.std.proofs.Common.{◌≡◌, ℕ, Bool, List, [], ◌++◌, sym, ap, ◌∙◌, subst}
 use Rattle.std.specs.Prelude.{Option, Some, None, Result, IfSome}
 use Rattle.share_backend.specs.Stages.{operation_by}
 use Rattle.share_holds.specs.Closures.{IsLastCall, StepsAlways, StepsIfPresent}

@@ -1,5 +1,5 @@
 -- The last operation of a legal history.
-use Rattle.std.proofs.Common.{◌≡◌, Bool, List, [], ◌∷◌, ◌++◌}
+use Rattle.std.proofs.Common.{Bool, List, [], ◌∷◌, ◌++◌}
 use Rattle.share_rule.specs.History.{Entry, operations_of}
 use Rattle.spec_map.specs.Legal.{Allows, IsLegal, after_operation}
 use Rattle.spec_map.specs.Map.{Pairs}

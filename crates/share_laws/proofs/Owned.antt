@@ -1,8 +1,8 @@
 -- The calls of a caller that owns keys alone, as those of a map of its own.
-use Rattle.std.proofs.Common.{◌≡◌, ◌≢◌, ℕ, ◌+◌, ◌<◌, ◌≤◌, Bool, true, false, cond, List, [], ◌∷◌, Option, Some, None, Result, Ok, Err, nat_eq, refl, sym, ap, subst, ◌∙◌, inl, inr, arith, ◌⊎◌}
+use Rattle.std.proofs.Common.{◌≡◌, ◌≢◌, ℕ, ◌+◌, ◌<◌, ◌≤◌, Bool, cond, List, [], ◌∷◌, Option, Some, None, Result, Ok, Err, refl, sym, ap, subst, ◌∙◌, inl, inr, arith, ◌⊎◌}
 use Rattle.std.proofs.lemmas.Bool.{cases_eq, cases_lt, eq-eqb, ne_eqb}
 use Rattle.spec_map.specs.Map.{Pairs, lookup, put, without, with_answer, between, Rises}
-use Rattle.spec_map.specs.Call.{Call, get, insert, remove, compare_exchange, compute_if_present, compute_or_insert, is_empty, keys, range, nearest, count, ClosureCall, Answer, replied, refused, old_value, exchanged, computed}
+use Rattle.spec_map.specs.Call.{Call, get, insert, remove, compare_exchange, compute_if_present, compute_or_insert, is_empty, keys, range, nearest, count, ClosureCall, Answer, replied, refused, old_value, exchanged}
 use Rattle.spec_map.specs.Legal.{IsLegal, MayAnswer, IsClosureCalled, CallsAlways, CallsIfPresent, after_operation, after_answer, after, after_asking, after_exchange, exchange, reply_of}
 use Rattle.spec_map.specs.Refusal.{never}
 use Rattle.spec_map.proofs.MapLaws.{lookup-put_other, lookup-put_same, lookup-without_other, lookup-without_same, lookup-between_inside, lookup-between_outside, Rises-wider, Rises-put, Rises-without, Rises-between, same_from_lookups}

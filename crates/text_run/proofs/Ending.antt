@@ -8,7 +8,8 @@ use Rattle.spec_text.specs.Lines.{Reads, lines_of}
 use Rattle.text_lines.proofs.Cutting.{reads_cut, cut_read}
 use Rattle.text_lines.specs.declared.watched.Watched.{Watched}
 use Rattle.text_run.specs.Run.{Answers, EndsRun}
-use Rattle.text_run.specs.inner.Answers.{AnswersLines, AnswersAll, StopsReading, StopsWriting}
+use Rattle.text_run.specs.inner.Answers.{AnswersLines, StopsReading, StopsWriting}
+use Rattle.text_run.specs.inner.Session.{ServesAll}
 use Rattle.text_run.specs.inner.Parts.{EndsRunByParts}
 use Rattle.text_run.specs.declared.run.RunError.{RunError}
 use Rattle.text_run.specs.declared.run.RunError.TheVariants.{Read as ReadFailed, Write as WriteFailed, Oom}
@@ -25,8 +26,10 @@ answered : {lines : List (List ℕ)} {map : Pairs ℕ} {output output' : Option 
 answered {lines} {map} s = record { answers = s.answers; each = s.each; map = map; legal = s.legal; sends = s.sends }
 
 module _ {input input' output output' : Option (List ℕ)} where
-  pub serves_all : (taken : List ℕ) → Consumes input input' taken → AnswersAll taken output output' → (read : Reads input input') × Answers (lines_of read.whole read.rest) output output' []
-  serves_all taken consumes f = (reads_cut consumes f.cut, answered f.shows)
+  pub serves_all : {m : Pairs ℕ} (taken : List ℕ) → Consumes input input' taken → ServesAll m [] output output' taken
+      → (read : Reads input input') × (all : Answers (lines_of read.whole read.rest) output output' []) × (all.map ≡ m)
+  unfolding answered
+  serves_all taken consumes f = (reads_cut consumes f.cut, answered f.shows, refl)
 
   pub serves_whole : StopsReading input input' output output' → (read : Reads input input') × Answers read.whole output output' []
   serves_whole f = (reads_cut f.reads f.written.cut, answered f.written.shows)
@@ -42,9 +45,9 @@ module _ {input input' output output' : Option (List ℕ)} where
 module _ (Shows : List (List ℕ) → Pairs ℕ → Option (List ℕ) → Option (List ℕ) → List ℕ → Type 0)
     (shown : (lines : List (List ℕ)) (output output' : Option (List ℕ)) (left : List ℕ) (a : Answers lines output output' left) → Shows lines a.map output output' left)
     {R W : Type 0} (remaining : R → Option (List ℕ)) (contents : W → Option (List ℕ)) where
-  pub by_parts : (input input' : Watched R) (output output' : Watched W) (result : Result (Unit {0}) RunError)
+  pub by_parts : (input input' : Watched R) (output output' : Watched W) (result : Result (Pairs ℕ) RunError)
       → EndsRun remaining contents input input' output output' result → EndsRunByParts Shows remaining contents input input' output output' result
-  by_parts input input' output output' (Ok done) e = (
+  by_parts input input' output output' (Ok map) e = (
     record {
       taken = _;
       reads = e.0.0.consumes;

@@ -10,7 +10,7 @@ use Rattle.spec_text.specs.Bytes.{Sends}
 use Rattle.spec_text.specs.Lines.{ended}
 use Rattle.text_lines.specs.inner.Kept.{kept_with}
 use Rattle.spec_text.specs.Answer.{IsAnswered}
-use Rattle.text_run.specs.inner.Answers.{Answer, operations_in, texts_in, AnswersLines, AnswersLine, AnswersAll, AnswersWhole, AnswersPart}
+use Rattle.text_run.specs.inner.Answers.{Answer, operations_in, texts_in, AnswersLines, AnswersLine, AnswersWhole, AnswersPart}
 use Rattle.text_run.specs.inner.Session.{HasAnswered, ServesAll, TakesLine, StopsAnswer, Breaks, BreaksWithin}
 use Rattle.text_lines.proofs.Cutting.{cut_none, cut_byte, cut_line, cut_on, lines_go_on, holds_byte, last_line}
 use Rattle.text_lines.proofs.Sending.{sends_more, sends_on, sends_kept, sends_nothing}
@@ -125,41 +125,35 @@ stops_last {m} {kept} {left} {bytes} {old} {mid} {new} some s a = record {
 }
 
 -- at the end of the input
-pub serves_all_none : {m : Pairs ℕ} {left bytes : List ℕ} {old new : Option (List ℕ)} (kept : Option (List ℕ)) → kept ≡ Some [] → HasAnswered m kept left old new bytes → ServesAll left old new bytes
+pub serves_all_none : {m : Pairs ℕ} {left bytes : List ℕ} {old new : Option (List ℕ)} (kept : Option (List ℕ)) → kept ≡ Some [] → HasAnswered m kept left old new bytes → ServesAll m left old new bytes
 serves_all_none {m} {left} {bytes} {old} {new} kept none s =
     let empty : s.rest ≡ [] = rw none at s.held in
     record {
       whole = s.whole;
       rest = [];
       cut = rw empty at s.cut;
-      map = m;
       shows = s.shows;
     }
 
-pub serves_all_line : {m n : Pairs ℕ} {kept : Option (List ℕ)} {left left' bytes : List ℕ} {old mid new : Option (List ℕ)} → (kept ≡ Some [] → ⊥) → HasAnswered m kept left old mid bytes → TakesLine m n kept left left' mid new → ServesAll left' old new bytes
+pub serves_all_line : {m n : Pairs ℕ} {kept : Option (List ℕ)} {left left' bytes : List ℕ} {old mid new : Option (List ℕ)} → (kept ≡ Some [] → ⊥) → HasAnswered m kept left old mid bytes → TakesLine m n kept left left' mid new → ServesAll n left' old new bytes
 serves_all_line {m} {n} {kept} {left} {left'} {bytes} {old} {mid} {new} some s t = record {
   whole = s.whole;
   rest = s.rest;
   cut = s.cut;
-  map = n;
   shows = rw (last_line s.whole s.rest kept some s.held) (tells_line s.rest t.text s.shows (t.answers s.rest s.held) t.sends);
 }
 
-pub serves_all_sent : {left left' bytes : List ℕ} {old mid new : Option (List ℕ)} → ServesAll left old mid bytes → Sends mid new left left' → ServesAll left' old new bytes
-serves_all_sent s sends = record { whole = s.whole; rest = s.rest; cut = s.cut; map = s.map; shows = tells_sent s.shows sends }
+pub serves_all_sent : {m : Pairs ℕ} {left left' bytes : List ℕ} {old mid new : Option (List ℕ)} → ServesAll m left old mid bytes → Sends mid new left left' → ServesAll m left' old new bytes
+serves_all_sent s sends = record { whole = s.whole; rest = s.rest; cut = s.cut; shows = tells_sent s.shows sends }
 
-pub tells_all : {bytes : List ℕ} {old new : Option (List ℕ)} → ServesAll [] old new bytes → AnswersAll bytes old new
-tells_all s = record { whole = s.whole; rest = s.rest; cut = s.cut; map = s.map; shows = s.shows }
+pub tells_all_part : {m : Pairs ℕ} {left bytes : List ℕ} {old new : Option (List ℕ)} → ServesAll m left old new bytes → AnswersPart bytes old new
+tells_all_part {m} {left} s = record { whole = s.whole; rest = s.rest; cut = s.cut; lines = _; later = []; first = sym (append-nil _); map = m; left = left; shows = s.shows }
 
-pub tells_all_part : {left bytes : List ℕ} {old new : Option (List ℕ)} → ServesAll left old new bytes → AnswersPart bytes old new
-tells_all_part {left} s = record { whole = s.whole; rest = s.rest; cut = s.cut; lines = _; later = []; first = sym (append-nil _); map = s.map; left = left; shows = s.shows }
-
-pub serves_all_kept : {left bytes : List ℕ} {old mid new : Option (List ℕ)} → ServesAll left old mid bytes → Keeps mid new → ServesAll left old new bytes
+pub serves_all_kept : {m : Pairs ℕ} {left bytes : List ℕ} {old mid new : Option (List ℕ)} → ServesAll m left old mid bytes → Keeps mid new → ServesAll m left old new bytes
 serves_all_kept s k = record {
   whole = s.whole;
   rest = s.rest;
   cut = s.cut;
-  map = s.map;
   shows = record { answers = s.shows.answers; each = s.shows.each; legal = s.shows.legal; sends = sends_kept s.shows.sends k };
 }
 

@@ -32,12 +32,12 @@ module _ {R W : Type 0} (remaining : R → Option (List ℕ)) (contents : W → 
   abbrev pub AreAnswered : List (List ℕ) → List ℕ → Type 0
   AreAnswered lines left = Answers lines (contents output.inner) (contents output'.inner) left
 
-  -- The whole input is served; or a read fails, and the whole lines before it are served; or a write fails, and a
-  -- beginning was written of the texts of some first lines; or no map could be made, and nothing is read or written.
-  -- A limit for the map isn't part of this.
-  abbrev pub EndsRun : Result (Unit {0}) RunError → Type 0
-  EndsRun (Ok done) =
-      ((read : IsRead) × AreAnswered (lines_of read.whole read.rest) [])
+  -- The whole input is served, and this is the map then; or a read fails, and the whole lines before it are served; or a
+  -- write fails, and a beginning was written of the texts of some first lines; or no map could be made, and nothing is
+  -- read or written. A limit for the map isn't part of this.
+  abbrev pub EndsRun : Result (Pairs ℕ) RunError → Type 0
+  EndsRun (Ok map) =
+      ((read : IsRead) × (all : AreAnswered (lines_of read.whole read.rest) []) × (all.map ≡ map))
       × IsAtEnd (remaining input'.inner) × (input'.failed ≡ false) × (output'.failed ≡ false)
   EndsRun (Err Read) = ((read : IsRead) × AreAnswered read.whole []) × (input'.failed ≡ true)
   EndsRun (Err Write) =

@@ -4,6 +4,7 @@ ghost use Rattle.std.specs.Prelude.{◌≡◌, ◌↔◌, ℕ, ◌<◌, List, Re
 ghost use Rattle.std.specs.List.{join_with_byte};
 ghost use Rattle.spec_text.specs.declared.command.Command.{Command};
 ghost use Rattle.spec_text.specs.Command.{words_of_command, SpellsCommand, IsNoCommand};
+ghost use Rattle.spec_map.specs.Map.{Pairs};
 ghost use Rattle.text_run.specs.Run.{EndsRun};
 ghost use Rattle.text_run.specs.inner.ByRow.{AnswersByRow};
 ghost use Rattle.text_run.specs.inner.CommandReading.{CommandIsWithin};
@@ -36,7 +37,7 @@ pub fn long_lines()
 /// for each outcome.
 pub fn a_run_in_parts<R: Read, W: Write>()
     ensures { (input input' : Watched R) (output output' : Watched W)
-        (result : Result (Unit {0}) RunError)
+        (result : Result (Pairs ℕ) RunError)
         → EndsRun R.remaining W.contents input input' output output' result
         → EndsRunByParts AnswersByRow R.remaining W.contents input input' output output' result }
 {}
@@ -45,7 +46,7 @@ pub fn a_run_in_parts<R: Read, W: Write>()
 /// map refuses no range.
 pub fn refused_ranges_are_outside<R: Read, W: Write>()
     ensures { (input input' : Watched R) (output output' : Watched W)
-        (result : Result (Unit {0}) RunError)
+        (result : Result (Pairs ℕ) RunError)
         → EndsRun R.remaining W.contents input input' output output' result
         → EndsRunByParts AnswersWithoutRefusedRanges R.remaining W.contents
         input input' output output' result }

@@ -1,12 +1,14 @@
 //! The engine of `congee run`: command lines in, answer lines out.
 
 ghost use Rattle.std.specs.Prelude.{◌≡◌, ◌≢◌, ℕ, ◌<◌, List, Option, Err, OnOk, true};
+ghost use Rattle.std.specs.Result.{result_map_both};
 ghost use Rattle.text_run.specs.Run.{EndsRun};
 ghost use Rattle.text_run.specs.inner.Session.{HasServedInput, TurnsTo};
 ghost use Rattle.text_run.specs.declared.run.RunError.TheVariants.{Read as ReadFailed, Write as WriteFailed};
 
 use crate::session::Session;
-use node_table::allocator::{Allocator, Budget, DefaultAllocator};
+use face_typed::typed_congee::Congee;
+use node_table::allocator::Allocator;
 use std::alloc::Global;
 use std::io::{Read, Write};
 use text_lines::watched::Watched;
@@ -25,40 +27,24 @@ pub enum RunError {
 /// How many bytes are read at once.
 const CHUNK: usize = 8192;
 
-/// Serves the command lines of the input, from the empty map on. All answers so far are written
-/// before each read. A line of more than 256 bytes is read to its end without being held, and is
-/// answered `bad line`.
+/// Serves the command lines of the input, from the empty map on, and returns the map at its end. All
+/// answers so far are written before each read. A line of more than 256 bytes is read to its end
+/// without being held, and is answered `bad line`.
 ///
-/// `limit` is a budget for the map's nodes, in bytes.
+/// `allocator` gives the memory of the map's nodes: a `Budget` is a limit for it, in bytes.
 ///
 /// Memory is taken once before the first read; a refusal there returns `RunError::Oom`. From then
 /// on a line that the map, or its budget, has no memory for is answered `oom`, and the run goes on.
-pub fn run<R: Read, W: Write>(
-    alloc: Global,
-    input: &mut Watched<R>,
-    output: &mut Watched<W>,
-    limit: Option<u64>,
-) -> Result<(), RunError>
-    requires input { input.old.failed ≢ true }
-    requires output { output.old.failed ≢ true }
-    ensures { EndsRun R.remaining W.contents input.old input.new output.old output.new result }
-{
-    match limit {
-        None => run_within(alloc, DefaultAllocator {}, input, output),
-        Some(limit) => run_within(alloc, Budget::new(limit), input, output),
-    }
-}
-
-// The run, with this budget for the map's nodes.
-fn run_within<R: Read, W: Write, A: Allocator>(
+pub fn run<R: Read, W: Write, A: Allocator>(
     alloc: Global,
     allocator: A,
     input: &mut Watched<R>,
     output: &mut Watched<W>,
-) -> Result<(), RunError>
+) -> Result<Congee<u64, u64, A>, RunError>
     requires input { input.old.failed ≢ true }
     requires output { output.old.failed ≢ true }
-    ensures { EndsRun R.remaining W.contents input.old input.new output.old output.new result }
+    ensures { EndsRun R.remaining W.contents input.old input.new output.old output.new
+        (result_map_both (λ map. map.pairs) (λ error. error) result) }
 {
     let Ok(mut session) = Session::new(alloc, allocator) else {
         return Err(RunError::Oom);
@@ -73,7 +59,7 @@ fn run_within<R: Read, W: Write, A: Allocator>(
     let Ok(()) = session.finish(output) else {
         return Err(RunError::Write);
     };
-    Ok(())
+    Ok(session.into_map())
 }
 
 // Writes the answers so far, reads once, and serves what was read. Returns whether the input goes on.

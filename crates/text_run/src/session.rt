@@ -1,7 +1,7 @@
 //! A map, and the lines that are served on it.
 
 ghost use Rattle.std.specs.Prelude.{◌≡◌, ℕ, ◌++◌, ◌∷◌, List, [], Option, Some, IfOk, OnOk, OnErr, true};
-ghost use Rattle.text_run.specs.inner.Answers.{AnswersAll, AnswersPart};
+ghost use Rattle.text_run.specs.inner.Answers.{AnswersPart};
 ghost use Rattle.text_run.specs.inner.Session.{HasAnswered, HasServed, ServesAll, TakesLine, StopsAnswer, BreaksWithin, Breaks};
 
 use crate::reply::{put_reply, reply_to};
@@ -112,8 +112,8 @@ impl<A: Allocator> Session<A> {
     fn answer_last<W: Write>(&mut self, output: &mut Watched<W>) -> Result<(), Failed>
         ensures ok { (old : Option (List ℕ)) (bytes : List ℕ)
             → HasServed W.contents self.old output.old old bytes
-            → OnOk result
-            (ServesAll self.new.pending old (W.contents output.new.inner) bytes) }
+            → OnOk result (ServesAll self.new.map.pairs self.new.pending
+            old (W.contents output.new.inner) bytes) }
         ensures err { (old : Option (List ℕ)) (bytes : List ℕ)
             → HasServed W.contents self.old output.old old bytes
             → OnErr result (AnswersPart bytes old (W.contents output.new.inner)) }
@@ -130,7 +130,8 @@ impl<A: Allocator> Session<A> {
     pub fn finish<W: Write>(&mut self, output: &mut Watched<W>) -> Result<(), Failed>
         ensures ok { (old : Option (List ℕ)) (bytes : List ℕ)
             → HasServed W.contents self.old output.old old bytes
-            → OnOk result (AnswersAll bytes old (W.contents output.new.inner)) }
+            → OnOk result (ServesAll self.new.map.pairs []
+            old (W.contents output.new.inner) bytes) }
         ensures err { (old : Option (List ℕ)) (bytes : List ℕ)
             → HasServed W.contents self.old output.old old bytes
             → OnErr result (AnswersPart bytes old (W.contents output.new.inner)) }
@@ -140,5 +141,18 @@ impl<A: Allocator> Session<A> {
         self.answer_last(output)?;
         self.pending.send_to(output)?;
         output.flush()
+    }
+
+    /// The map.
+    pub fn into_map(self) -> Congee<u64, u64, A>
+        ensures { result ≡ self.map }
+    {
+        let Session {
+            alloc: _,
+            map,
+            line: _,
+            pending: _,
+        } = self;
+        map
     }
 }

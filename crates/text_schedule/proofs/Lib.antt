@@ -1,3 +1,4 @@
+pub mod AtEnd
 pub mod ByParts
 pub mod Decided
 pub mod Ending

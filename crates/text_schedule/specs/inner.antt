@@ -1,3 +1,4 @@
+pub mod AtEnd
 pub mod EntryReading
 pub mod Parts
 pub mod Reading

@@ -1,7 +1,7 @@
 //! Laws that follow from the definitions alone, for readers who ask whether to believe the
 //! definitions.
 
-ghost use Rattle.std.specs.Prelude.{◌≡◌, ◌↔◌, ℕ, ◌<◌, List, Result, length, map};
+ghost use Rattle.std.specs.Prelude.{◌≡◌, ◌↔◌, ℕ, ◌<◌, List, [], Result, length, map};
 ghost use Rattle.std.specs.List.{join_with_byte};
 ghost use Rattle.spec_text.specs.declared.entry.Entry.{Entry};
 ghost use Rattle.spec_text.specs.Entry.{words_of_entry, SpellsEntry, IsNoEntry};
@@ -13,6 +13,7 @@ ghost use Rattle.spec_olc.specs.declared.types.Event.{Event};
 ghost use Rattle.spec_text.specs.Texts.{replies_in_lines, number_and_reply};
 ghost use Rattle.text_trace.specs.declared.detail.Detail.{Detail};
 ghost use Rattle.text_schedule.specs.Schedule.{EndsSchedule};
+ghost use Rattle.text_schedule.specs.inner.AtEnd.{map_at_end};
 ghost use Rattle.text_schedule.specs.inner.EntryReading.{EntryIsWithin};
 ghost use Rattle.text_schedule.specs.inner.Parts.{EndsScheduleByParts};
 
@@ -43,6 +44,13 @@ pub fn decided_lines()
     ensures { (events : List (Event ℕ)) (lines : List Line) (decided : List Decision)
         (content : Pairs ℕ) → IsReplayed events lines decided content
         → replies_in_lines events lines ≡ map number_and_reply decided }
+{}
+
+/// The contents that a trace shows come to the content at its end: the map after the last decided call.
+pub fn contents_come_to_the_content()
+    ensures { (events : List (Event ℕ)) (lines : List Line) (decided : List Decision)
+        (content : Pairs ℕ) → IsReplayed events lines decided content
+        → map_at_end [] lines decided ≡ content }
 {}
 
 /// How a schedule ends, in parts, which repeat what was read.

@@ -13,7 +13,7 @@ use Rattle.spec_text.specs.Lines.{ended}
 use Rattle.spec_text.specs.Texts.{event_texts, decided_after, content_text, trace_text}
 use Rattle.text_trace.specs.EventLine.{event_line}
 use Rattle.text_trace.specs.declared.detail.Detail.{Detail}
-use Rattle.text_trace.specs.declared.detail.Detail.TheVariants.{Outcomes, Events, Contents}
+use Rattle.text_trace.specs.declared.detail.Detail.TheVariants.{Outcomes, Contents}
 
 -- the map after the first of these decided calls
 abbrev pub after_first : List Decision → Pairs ℕ → Pairs ℕ

@@ -11,7 +11,6 @@ use Rattle.spec_olc.specs.declared.types.Kind.{Kind}
 use Rattle.spec_olc.specs.declared.types.Kind.TheVariants as kind
 use Rattle.spec_olc.specs.declared.types.Outcome.{Outcome}
 use Rattle.spec_olc.specs.declared.types.Outcome.TheVariants.{Ask, Pair, Decided, Refused, Done}
-use Rattle.spec_olc.specs.declared.types.Report.{Report}
 use Rattle.spec_olc.specs.declared.types.Seen.{Seen}
 use Rattle.spec_text.specs.Entry.{words_of_op, words_of_child}
 use Rattle.spec_text.specs.Texts.{reply_text}

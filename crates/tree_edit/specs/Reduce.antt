@@ -70,11 +70,6 @@ module _ {P : Type 0} where
   Reduces None old key new = new ≡ old
   Reduces (Some before) old key new = LosesKey old key new
 
-  -- the same where no node changes its form
-  abbrev pub ReducesInPlace : Option P → List NodeInfo → List ℕ → List NodeInfo → Type 0
-  ReducesInPlace None old key new = new ≡ old
-  ReducesInPlace (Some before) old key new = LosesInPlace old key new
-
   -- what a computation at a present key does to the nodes, by what the closure returns
   abbrev pub Recomputes : Option P → List NodeInfo → List ℕ → List NodeInfo → Type 0
   Recomputes (Some payload) old key new = new ≡ old

@@ -7,7 +7,6 @@ ghost use Rattle.std.specs.Prelude.{◌≡◌, ◌↔◌, ◌<◌, ◌≤◌, le
 ghost use Rattle.std.specs.Int.{from_be_bytes, w64};
 ghost use Rattle.node_base.specs.Form.{few_in};
 ghost use Rattle.tree_edit.specs.TreeCalls.{Removes, ReadsPath};
-ghost use Rattle.tree_edit.specs.Reduce.{ReducesInPlace};
 ghost use Rattle.node_table.specs.Table.{NodeTable, node_at};
 ghost use Rattle.node_table.specs.TableNode.{TableNode};
 ghost use Rattle.tree_path.specs.inner.Descent.{SeeksTo};
@@ -213,44 +212,10 @@ impl<P: Drop, A: Allocator> Tree<P, A> {
         ensures removes { Removes A.charge self.old (from_be_bytes w64 key.now) result self.new }
         ensures reads { ReadsPath self.old.nodes key.now reads.old reads.new }
     {
-        self.take::<L>(key, reads, true)
-    }
-
-    /// The same, where no node shrinks: takes no memory. For a tree that is drained.
-    pub fn remove_in_place<L: Ledger>(
-        &mut self,
-        key: &[u8; 8],
-        reads: &mut ReadCount<L>,
-    ) -> Option<P>
-        ensures removes { Removes A.charge self.old (from_be_bytes w64 key.now) result self.new }
-        ensures in_place { ReducesInPlace result self.old.nodes key.now self.new.nodes }
-        ensures reads { ReadsPath self.old.nodes key.now reads.old reads.new }
-    {
-        self.take::<L>(key, reads, false)
-    }
-
-    #[inline(always)]
-    fn take<L: Ledger>(
-        &mut self,
-        key: &[u8; 8],
-        reads: &mut ReadCount<L>,
-        shrinks: bool,
-    ) -> Option<P>
-        ensures removes { Removes A.charge self.old (from_be_bytes w64 key.now) result self.new }
-        ensures in_place { shrinks ≡ false
-            → ReducesInPlace result self.old.nodes key.now self.new.nodes }
-        ensures reads { ReadsPath self.old.nodes key.now reads.old reads.new }
-    {
         let mut trail = [self.root; 8];
         let spot = seek_along(&self.nodes, self.root, key, reads, &mut trail);
-        let Some(before) = take_out(
-            &mut self.nodes,
-            &mut self.supply,
-            &spot,
-            &trail,
-            key,
-            shrinks,
-        ) else {
+        let Some(before) = take_out(&mut self.nodes, &mut self.supply, &spot, &trail, key, true)
+        else {
             return None;
         };
         self.count -= 1;

@@ -5,6 +5,6 @@ use Rattle.congee_cli.specs.declared.serve.Mode.{Mode}
 use Rattle.congee_cli.specs.declared.serve.Mode.TheVariants.{Run, Help, Schedule}
 
 abbrev pub AsksMode : List (List ℕ) → Mode → Type 0
-AsksMode words (Run limit) = AsksRun words limit
+AsksMode words (Run limit stats) = AsksRun words limit stats
 AsksMode words Help = AsksHelp words
 AsksMode words (Schedule detail) = AsksSchedule words detail

@@ -124,7 +124,7 @@ impl<K: Word, V: Word, A: Allocator, D: Drainer<K, V>> Congee<K, V, A, D> {
 
     /// Inserts the pairs in their order, so of two with one key the later one counts. Where memory is missing for one of
     /// them, those before it are in the map, and the error has their number; the rest is left out, and may be inserted
-    /// again from there. Each pair costs what `insert` costs.
+    /// again from there. Each pair costs what `insert` costs, and less where the pair before went into the same leaf.
     pub fn insert_many(&mut self, pairs: &[(K, V)]) -> Result<(), InsertManyError>
         ensures ok { OnOk result
             (self.new.pairs ≡ put_all K.number V.number self.old.pairs pairs.now) }

@@ -1,5 +1,5 @@
 -- One event of a call: it writes, or only reads.
-use Rattle.std.specs.Prelude.{◌≡◌, ℕ, Bool, [], Option, Some, None, ◌⊎◌}
+use Rattle.std.specs.Prelude.{◌≡◌, ℕ, Bool, [], Option, Some, ◌⊎◌}
 use Rattle.spec_olc.specs.Meaning.{env_of, in_some, outcome_of}
 use Rattle.spec_olc.specs.declared.types.Env.{Env}
 use Rattle.spec_olc.specs.declared.types.Outcome.{Outcome}

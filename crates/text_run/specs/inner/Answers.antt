@@ -8,7 +8,7 @@ use Rattle.spec_map.specs.Refusal.{at_new_node}
 use Rattle.spec_text.specs.Answer.{IsAnswered}
 use Rattle.spec_text.specs.Bytes.{Sends}
 use Rattle.spec_text.specs.Lines.{ended}
-use Rattle.text_run.specs.inner.Parts.{ShowsAll, ShowsWhole, ShowsPart, BreaksReading, BreaksWriting}
+use Rattle.text_run.specs.inner.Parts.{ShowsWhole, ShowsPart, BreaksReading, BreaksWriting}
 
 -- a line with its answer: the text, and the operation if it is a command
 abbrev pub Answer : Type 0
@@ -36,9 +36,6 @@ pub record AnswersLine (m : Pairs ℕ) (line text : List ℕ) (n : Pairs ℕ) : 
   pub legal : IsLegal nat_eq at_new_node m (operations_in ((text, done) ∷ [])) n
 
 -- the lines of some bytes, or of what was read, are answered so
-abbrev pub AnswersAll : List ℕ → Option (List ℕ) → Option (List ℕ) → Type 0
-AnswersAll bytes old new = ShowsAll AnswersLines bytes old new
-
 abbrev pub AnswersWhole : List ℕ → Option (List ℕ) → Option (List ℕ) → Type 0
 AnswersWhole bytes old new = ShowsWhole AnswersLines bytes old new
 

@@ -60,8 +60,8 @@ module _ (Shows : List (List ℕ) → Pairs ℕ → Option (List ℕ) → Option
   module _ {R W : Type 0} (remaining : R → Option (List ℕ)) (contents : W → Option (List ℕ)) where
     -- how a run ends, by these
     abbrev pub EndsRunByParts
-        : Watched R → Watched R → Watched W → Watched W → Result (Unit {0}) RunError → Type 0
-    EndsRunByParts input input' output output' (Ok done) =
+        : Watched R → Watched R → Watched W → Watched W → Result (Pairs ℕ) RunError → Type 0
+    EndsRunByParts input input' output output' (Ok map) =
         Finishes (remaining input.inner) (remaining input'.inner)
         (contents output.inner) (contents output'.inner)
         × (input'.failed ≢ true) × (output'.failed ≢ true)

@@ -30,12 +30,12 @@ pub record ServesInput (m : Pairs ℕ) (kept : Option (List ℕ)) (left : List �
   pub serves : HasAnswered m kept left output output' taken
 
 -- the same, and the line that has begun has been answered too
-pub record ServesAll (left : List ℕ) (old new : Option (List ℕ)) (bytes : List ℕ) : Type 0 where
+pub record ServesAll (m : Pairs ℕ) (left : List ℕ) (old new : Option (List ℕ)) (bytes : List ℕ)
+    : Type 0 where
   pub whole : List (List ℕ)
   pub rest : List ℕ
   pub cut : Cuts bytes whole rest
-  pub map : Pairs ℕ
-  pub shows : AnswersLines (lines_of whole rest) map old new left
+  pub shows : AnswersLines (lines_of whole rest) m old new left
 
 -- the line of which kept is held has been answered; its text follows what was still to be written
 pub record TakesLine (m n : Pairs ℕ) (kept : Option (List ℕ)) (left left' : List ℕ)

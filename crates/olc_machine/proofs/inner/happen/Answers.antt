@@ -1,6 +1,5 @@
-use Rattle.std.proofs.Common.{Some, None, inr, refl, sym, subst, IsTrue, ◌∙◌}
+use Rattle.std.proofs.Common.{Some, sym, ◌∙◌}
 use Rattle.std.proofs.lemmas.Bool.{false≢true}
-use Rattle.olc_machine.proofs.Ends.{end_holds}
 use Rattle.olc_machine.proofs.inner.happen.Goals as goal
 
 pub go_on-requires-clause-facts : goal.go_on-requires-clause-facts

@@ -2,7 +2,7 @@ use Rattle.std.proofs.Common.{◌++◌, ◌∙◌, arith}
 use Rattle.std.proofs.lemmas.Result.{err_from_is_err_and}
 use Rattle.spec_olc.specs.declared.types.Event.TheVariants.{Reclaim}
 use Rattle.text_lines.proofs.Sending.{sends_on, sends_with}
-use Rattle.text_trace.proofs.Texts.{told_from, told_rest, tells_event, tells_content}
+use Rattle.text_trace.proofs.Texts.{told_from, tells_event, tells_content}
 use Rattle.text_trace.proofs.printing.put_events.Goals as goal
 
 pub returns-in_err-make_room-clause-err : goal.returns-in_err-make_room-clause-err

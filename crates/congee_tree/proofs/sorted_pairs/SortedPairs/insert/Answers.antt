@@ -4,7 +4,6 @@ use Rattle.spec_map.specs.Map.{IsMap}
 use Rattle.spec_map.proofs.MapLaws.{Rises-put}
 use Rattle.congee_tree.proofs.Places.{lookup_found, put_found, lookup_in_gap, put_in_gap}
 use Rattle.congee_tree.proofs.sorted_pairs.SortedPairs.insert.Goals as goal
-use Rattle.congee_tree.proofs.sorted_pairs.SortedPairs.insert.Goals.{In-Err}
 
 -- the key was present, and its pair is overwritten
 pub invariant_of-self : goal.invariant_of-self

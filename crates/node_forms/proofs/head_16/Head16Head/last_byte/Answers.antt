@@ -1,4 +1,4 @@
-use Rattle.std.proofs.Common.{rules, arith, ◌≡◌, ◌≤◌, ◌∙◌, take, length}
+use Rattle.std.proofs.Common.{rules, arith, ◌≡◌, ◌∙◌, take, length}
 use Rattle.node_base.specs.inner.Sorted.{below}
 use Rattle.node_forms.proofs.SearchLaws.{rank-at, end-at}
 use Rattle.node_forms.proofs.LastLaws.{last_none, last_some}

@@ -1,4 +1,4 @@
-use Rattle.std.proofs.Common.{ap, sym, ◌∙◌}
+use Rattle.std.proofs.Common.{ap, ◌∙◌}
 use Rattle.node_table.specs.declared.child.Child.TheVariants.{Node}
 use Rattle.node_table.proofs.LastLaws.{last-none, last-found, found-present}
 use Rattle.std.specs.Option.{is_some}

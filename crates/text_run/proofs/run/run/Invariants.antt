@@ -1,6 +1,6 @@
 use Rattle.std.proofs.Common.{◌≡◌}
 use Rattle.text_run.specs.inner.Session.{ServesInput}
-use Rattle.text_run.proofs.run.run_within.Given as goal
+use Rattle.text_run.proofs.run.run.Given as goal
 
 abbrev pub invariant-loop-error : goal.invariant-loop-error
 invariant-loop-error g l = record {

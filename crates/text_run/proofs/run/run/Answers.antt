@@ -7,7 +7,7 @@ use Rattle.text_run.specs.declared.run.RunError.TheVariants.{Read as ReadFailed,
 use Rattle.text_run.specs.declared.session.Session.{Session}
 use Rattle.text_run.specs.inner.Session.{TurnsTo}
 use Rattle.text_run.proofs.Ending.{never_failed, serves_all, serves_whole, serves_first}
-use Rattle.text_run.proofs.run.run_within.Goals as goal
+use Rattle.text_run.proofs.run.run.Goals as goal
 
 -- no byte was read yet
 consumes_none : (o : Option (List ℕ)) → Consumes o o []
@@ -44,7 +44,7 @@ returns-in_default-finish g c =
 pub returns : goal.returns
 returns g c =
     let t = c.in-Ok-false.ensures.turns _ _ c.loop-error.invariant.runs in (
-      serves_all t.0.taken t.0.reads (c.in-Ok-finish.ensures.ok _ t.0.taken t.0.serves),
+      rw c.into_map.ensures (serves_all t.0.taken t.0.reads (c.in-Ok-finish.ensures.ok _ t.0.taken t.0.serves)),
       t.1 c.in-Ok-false.field-0-test,
       c.in-Ok-false.ensures.input ∙ c.loop-error.invariant.input ∙ never_failed _ c.requires.input,
       c.in-Ok-finish.ensures.kept ∙ c.in-Ok-false.ensures.output ∙ c.loop-error.invariant.output ∙ never_failed _ c.requires.output,

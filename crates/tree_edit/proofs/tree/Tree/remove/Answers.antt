@@ -3,7 +3,7 @@ use Rattle.node_table.proofs.KeyLaws.{AreBytes-from_items}
 use Rattle.tree_path.proofs.PathEndLaws.{leads_short}
 use Rattle.tree_edit.proofs.CallLaws.{removes_nothing, seeks_along, begins_whole, taken_out}
 use Rattle.tree_edit.proofs.SpotLaws.{leaf_for}
-use Rattle.tree_edit.proofs.tree.Tree.take.Goals as goal
+use Rattle.tree_edit.proofs.tree.Tree.remove.Goals as goal
 
 pub take_out-requires-clause-spot : goal.take_out-requires-clause-spot
 take_out-requires-clause-spot g c = seeks_along g.A.Allocator.charge _ _ _ _ c.self.invariant _ c.self.view_is _ (AreBytes-from_items _ (λ k l. c.fits-key k)) c.told-key _ c.seek_along-spot.ensures.ends _ c.seek_along-spot.ensures.trail
@@ -39,9 +39,3 @@ returns-clause-removes g c =
     let e = c.in-Some.ensures in
     let x = taken_out g.A.Allocator.charge _ _ _ _ c.self.invariant _ c.self.view_is _ (AreBytes-from_items _ (λ k l. c.fits-key k)) c.told-key _ c.seek_along-spot.ensures.ends _ c.seek_along-spot.ensures.trail _ _ _ _ e.before (e.taken refl) c.take_out.ensures.alike in
     x.removes
-
-pub returns-clause-in_place : goal.returns-clause-in_place
-returns-clause-in_place g c =
-    let e = c.in-Some.ensures in
-    let x = taken_out g.A.Allocator.charge _ _ _ _ c.self.invariant _ c.self.view_is _ (AreBytes-from_items _ (λ k l. c.fits-key k)) c.told-key _ c.seek_along-spot.ensures.ends _ c.seek_along-spot.ensures.trail _ _ _ _ e.before (e.taken refl) c.take_out.ensures.alike in
-    x.in_place
