@@ -156,7 +156,7 @@ fn run_within<R: Read, W: Write, E: Write, A: Allocator>(
     match run(alloc, allocator, input, output) {
         Ok(map) => {
             if stats {
-                tell_stats(alloc, errors, &map);
+                write_stats(alloc, errors, &map);
             }
             0
         }
@@ -181,7 +181,7 @@ fn end_schedule<E: Write>(errors: &mut E, ended: Result<(), ScheduleError>) -> u
 }
 
 // Writes the statistics of a map, and what its nodes are charged; or that there is no memory for them.
-fn tell_stats<E: Write, A: Allocator>(alloc: Global, errors: &mut E, map: &Congee<u64, u64, A>) {
+fn write_stats<E: Write, A: Allocator>(alloc: Global, errors: &mut E, map: &Congee<u64, u64, A>) {
     match stats_text(alloc, map) {
         Ok(text) => {
             let _ = errors.write_all(text.as_bytes());

@@ -24,18 +24,18 @@ const BROKEN: &str = "congee: input or output failed\n";
 struct Outcome<'a> {
     status: u8,
     written: &'a [u8],
-    told: &'a str,
+    stderr: &'a str,
     reader_failed: bool,
     writer_failed: bool,
 }
 
 impl<'a> Outcome<'a> {
     // No stream failed.
-    fn of(status: u8, written: &'a str, told: &'a str) -> Outcome<'a> {
+    fn of(status: u8, written: &'a str, stderr: &'a str) -> Outcome<'a> {
         Outcome {
             status,
             written: written.as_bytes(),
-            told,
+            stderr,
             reader_failed: false,
             writer_failed: false,
         }
@@ -68,7 +68,7 @@ fn ends<R: Read + Drop, W: Write>(
     };
     let status = serve(alloc, words, &mut input, &mut output, &mut errors);
     status == wanted.status
-        && errors.taken.as_slice() == wanted.told.as_bytes()
+        && errors.taken.as_slice() == wanted.stderr.as_bytes()
         && input.failed() == wanted.reader_failed
         && output.failed() == wanted.writer_failed
 }
@@ -233,7 +233,7 @@ fn help_of_a_run(rt: HostRuntime) -> Result<(), Fail> {
     let outcome = Outcome {
         status: 0,
         written: HELP,
-        told: "",
+        stderr: "",
         reader_failed: false,
         writer_failed: false,
     };
@@ -260,8 +260,8 @@ fn limits(rt: HostRuntime) -> Result<(), Fail> {
             "",
         ),
     ];
-    for (limit, status, wanted, told) in cases {
-        let wanted = Outcome::of(status, wanted, told);
+    for (limit, status, wanted, stderr) in cases {
+        let wanted = Outcome::of(status, wanted, stderr);
         let is_so = gives(rt.alloc(), &["run", limit], lines.as_bytes(), wanted)?;
         assert!(rt; is_so, "at {limit}");
     }

@@ -15,14 +15,14 @@ const TORN: &str =
 const GROWTH: &str =
     "start 0 insert 0 0\nstep 0 8\nstart 0 insert 1 1\nstep 0 11\nstart 0 insert 2 2\nstep 0 11\nstart 0 insert 3 3\nstep 0 11\nstart 1 get 2\nstep 1 5\nstart 2 insert 4 4\nstep 2 14\nreclaim 1\ntorn 1 none\nstep 1 9\nreclaim 1\n";
 
-const GROWTH_TOLD: &str =
+const GROWTH_TEXT: &str =
     "0 ok none\n0 ok none\n0 ok none\n0 ok none\n2 ok none\nskipped\n1 2\nreclaimed 1\ncontent 0=0 1=1 2=2 3=3 4=4\n";
 
 /// What is read, and what is written for it.
 const REPLAYED: [(&str, &str); 15] = [
     ("", "content\n"),
     (TORN, "0 ok none\n2 ok 42\n1 43\ncontent 1=43\n"),
-    (GROWTH, GROWTH_TOLD),
+    (GROWTH, GROWTH_TEXT),
     // the second upgrade of a removal fails, and it begins again
     (
         "start 0 insert 1 42\nstep 0 8\nstart 1 remove 1\nstep 1 8\nfail 1\nstep 1 14\nreclaim 1\n",
@@ -166,8 +166,8 @@ const FAULTS: [(&str, &str); 5] = [
 
 #[test]
 fn first_fault(rt: HostRuntime) -> Result<(), Fail> {
-    for (input, told) in FAULTS {
-        let wanted = Outcome::of(4, "", told);
+    for (input, stderr) in FAULTS {
+        let wanted = Outcome::of(4, "", stderr);
         let is_so = gives(rt.alloc(), &["schedule"], input.as_bytes(), wanted)?;
         assert!(rt; is_so, "at {input:?}");
     }
@@ -223,7 +223,7 @@ fn broken_schedules(rt: HostRuntime) -> Result<(), Fail> {
 
 #[test]
 fn full_outputs(rt: HostRuntime) -> Result<(), Fail> {
-    let wanted = GROWTH_TOLD.as_bytes();
+    let wanted = GROWTH_TEXT.as_bytes();
     for room in 0..wanted.len() {
         let is_so = fills(
             rt.alloc(),

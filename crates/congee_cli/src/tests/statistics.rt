@@ -44,8 +44,8 @@ fn statistics_of_a_run(rt: HostRuntime) -> Result<(), Fail> {
         ),
         (&["run"], "insert 1 42\nget 1\n", "ok none\n42\n", ""),
     ];
-    for (words, input, wanted, told) in cases {
-        let outcome = Outcome::of(0, wanted, told);
+    for (words, input, wanted, stderr) in cases {
+        let outcome = Outcome::of(0, wanted, stderr);
         let is_so = gives(rt.alloc(), words, input.as_bytes(), outcome)?;
         assert!(rt; is_so, "at {words:?}");
     }

@@ -11,7 +11,7 @@ const CONTENTS: &[&str] = &["trace", "--content"];
 const TORN: &str =
     "start 0 insert 1 42\nstep 0 8\nstart 1 get 1\nstep 1 5\nstart 2 insert 1 43\nstep 2 8\ntorn 1 value 999\nstep 2 3\nstep 1 9\n";
 
-const TORN_TOLD: &str = "1 0 S start - ok insert 1 42\n\
+const TORN_TEXT: &str = "1 0 S start - ok insert 1 42\n\
      2 0 T take 0 ok word 0\n\
      3 0 R read 0 ok sees none count 0\n\
      4 0 C check 0 ok\n\
@@ -54,7 +54,7 @@ const TORN_TOLD: &str = "1 0 S start - ok insert 1 42\n\
 const ASKED: &str =
     "start 0 insert 1 42\nstep 0 8\nstart 1 present 1\nstep 1 7\nanswer 1 none\nstep 1 6\nreclaim 1\nstep 5\nstart 2 get 7\nstart 2 get 8\nstep 2 4\n";
 
-const ASKED_TOLD: &str = "1 0 S start - ok insert 1 42\n\
+const ASKED_TEXT: &str = "1 0 S start - ok insert 1 42\n\
      2 0 T take 0 ok word 0\n\
      3 0 R read 0 ok sees none count 0\n\
      4 0 C check 0 ok\n\
@@ -95,7 +95,7 @@ const ASKED_TOLD: &str = "1 0 S start - ok insert 1 42\n\
 const FAILED: &str =
     "start 0 insert 1 42\nstep 0 8\nstart 1 remove 1\nstep 1 8\nfail 1\nstep 1 14\nreclaim 3\n";
 
-const FAILED_TOLD: &str = "1 0 S start - ok insert 1 42\n\
+const FAILED_TEXT: &str = "1 0 S start - ok insert 1 42\n\
      2 0 T take 0 ok word 0\n\
      3 0 R read 0 ok sees none count 0\n\
      4 0 C check 0 ok\n\
@@ -134,7 +134,7 @@ const FAILED_TOLD: &str = "1 0 S start - ok insert 1 42\n\
 /// A range of eleven events.
 const RANGE: &str = "start 0 insert 1 42\nstep 0 8\nstart 1 range 0 10 8\nstep 1 11\n";
 
-const RANGE_TOLD: &str = "1 0 S start - ok insert 1 42\n\
+const RANGE_TEXT: &str = "1 0 S start - ok insert 1 42\n\
      2 0 T take 0 ok word 0\n\
      3 0 R read 0 ok sees none count 0\n\
      4 0 C check 0 ok\n\
@@ -161,7 +161,7 @@ const RANGE_TOLD: &str = "1 0 S start - ok insert 1 42\n\
 const LOCKED: &str =
     "start 0 insert 1 42\nstep 0 4\nstart 1 cas 1 42 none\nstep 1\nstart 2 orinsert 2 7\nstep 0 4\nstep 1 6\n";
 
-const LOCKED_TOLD: &str = "1 0 S start - ok insert 1 42\n\
+const LOCKED_TEXT: &str = "1 0 S start - ok insert 1 42\n\
      2 0 T take 0 ok word 0\n\
      3 0 R read 0 ok sees none count 0\n\
      4 0 C check 0 ok\n\
@@ -186,7 +186,7 @@ const LOCKED_TOLD: &str = "1 0 S start - ok insert 1 42\n\
 const GROWN: &str =
     "start 0 insert 0 0\nstep 0 8\nstart 0 insert 1 1\nstep 0 11\nstart 0 insert 2 2\nstep 0 11\nstart 0 insert 3 3\nstep 0 11\nstart 1 insert 4 4\nstep 1 14\n";
 
-const GROWN_TOLD: &str = "1 0 S start - ok insert 0 0\n\
+const GROWN_TEXT: &str = "1 0 S start - ok insert 0 0\n\
      2 0 T take 0 ok word 0\n\
      3 0 R read 0 ok sees none count 0\n\
      4 0 C check 0 ok\n\
@@ -257,12 +257,12 @@ const GROWN_TOLD: &str = "1 0 S start - ok insert 0 0\n\
 const TRACED: [(&[&str], &str, &str); 8] = [
     (EVENTS, "", "content\n"),
     (CONTENTS, "", "content\n"),
-    (EVENTS, TORN, TORN_TOLD),
-    (CONTENTS, ASKED, ASKED_TOLD),
-    (EVENTS, FAILED, FAILED_TOLD),
-    (EVENTS, RANGE, RANGE_TOLD),
-    (CONTENTS, LOCKED, LOCKED_TOLD),
-    (CONTENTS, GROWN, GROWN_TOLD),
+    (EVENTS, TORN, TORN_TEXT),
+    (CONTENTS, ASKED, ASKED_TEXT),
+    (EVENTS, FAILED, FAILED_TEXT),
+    (EVENTS, RANGE, RANGE_TEXT),
+    (CONTENTS, LOCKED, LOCKED_TEXT),
+    (CONTENTS, GROWN, GROWN_TEXT),
 ];
 
 #[test]
@@ -291,8 +291,8 @@ const FAULTS: [(&str, &str); 3] = [
 #[test]
 fn faulty_traces(rt: HostRuntime) -> Result<(), Fail> {
     for words in [EVENTS, CONTENTS] {
-        for (input, told) in FAULTS {
-            let wanted = Outcome::of(4, "", told);
+        for (input, stderr) in FAULTS {
+            let wanted = Outcome::of(4, "", stderr);
             let is_so = gives(rt.alloc(), words, input.as_bytes(), wanted)?;
             assert!(rt; is_so, "at {input:?}");
         }
@@ -323,7 +323,7 @@ fn broken_traces(rt: HostRuntime) -> Result<(), Fail> {
 // A write fails: a beginning of the trace was written.
 #[test]
 fn full_traces(rt: HostRuntime) -> Result<(), Fail> {
-    let wanted = TORN_TOLD.as_bytes();
+    let wanted = TORN_TEXT.as_bytes();
     for room in 0..wanted.len() {
         let is_so = fills(rt.alloc(), "trace", TORN.as_bytes(), wanted, room, false)?;
         assert!(rt; is_so, "room for {room}");
