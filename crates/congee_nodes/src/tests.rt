@@ -323,6 +323,6 @@ fn sizes_are_stated(rt: HostRuntime) -> Result<(), Fail> {
         size_of::<Node48<u64>>(),
         size_of::<Node256<u64>>(),
     ];
-    assert_eq!(rt; sizes, [40, 56, 56, 48, 48]);
+    assert_eq!(rt; sizes, [40, 56, 56, 48, 32]);
     Ok(())
 }

@@ -1,16 +1,13 @@
 -- One bit a byte, and the places of the bytes whose bit is set.
-use Rattle.std.proofs.Common.{◌≡◌, ◌≢◌, ℕ, zero, suc, ◌+◌, ◌-◌, ◌*◌, ◌/◌, ◌%◌, ◌^◌, ◌<◌, ◌≤◌, bit_and, List, length, get_or, slice_get, slice_index, set, replicate, None, refl, ap, sym, subst, ◌∙◌, arith, inl, inr, w64, pow-suc}
+use Rattle.std.proofs.Common.{◌≡◌, ◌≢◌, ℕ, zero, suc, ◌+◌, ◌-◌, ◌*◌, ◌/◌, ◌%◌, ◌^◌, ◌<◌, ◌≤◌, bit_and, List, length, get_or, set, replicate, refl, ap, sym, subst, ◌∙◌, arith, inl, inr, w64, pow-suc}
 use Rattle.std.specs.Int.{bit_at}
 use Rattle.std.specs.Int.Count.{count_trailing_zeros}
-use Rattle.std.proofs.lemmas.Option.{slice_get_past}
 use Rattle.std.proofs.lemmas.Nat.{pow_pos}
-use Rattle.std.proofs.lemmas.Bool.{cases_eq, cases_lt, eq-eqb, ne_eqb}
+use Rattle.std.proofs.lemmas.Bool.{cases_eq, cases_lt}
 use Rattle.std.proofs.lemmas.List.{get_or-set_same, get_or-set_other, get_or_past}
 use Rattle.std.proofs.lemmas.Nat.Bits.{bit_at-zero, bit_at-lt, bit_at_and, bit_at_ones, bit_at_ones_above, ones_shr, bit_at_above, bit_at_cat_high, bit_at-trailing_zeros}
 use Rattle.std.proofs.Math.Nat.{div-add-mod, div-le_self, mod-lt, mul_comm}
-use Rattle.node_base.specs.inner.Marked.{mark_at, marked_place, marked_child}
-use Rattle.node_base.specs.inner.Row.{at_place, under}
-use Rattle.node_base.proofs.RowLaws.{under-same}
+use Rattle.node_base.specs.inner.Marked.{mark_at}
 
 -- a word that is written at the place of a bit
 pub marked-here : (ws : List ℕ) (b w n : ℕ) → b / 64 < length ws → bit_at w (b % 64) ≡ n → mark_at (set ws (b / 64) w) b ≡ n
@@ -129,48 +126,9 @@ module _ (ws : List ℕ) (at first word : ℕ) (begins : first ≡ (at - 1) / 64
 pub mark-beyond : (ws : List ℕ) → length ws ≡ 4 → (i : ℕ) → 256 ≤ i → mark_at ws i ≡ 0
 mark-beyond ws four i l = ap (λ x. bit_at x (i % 64)) (get_or_past ws (i / 64) 0 (omega (arith, four, l))) ∙ bit_at-zero (i % 64)
 
-module _ (ws is : List ℕ) (b : ℕ) where
-  pub place-set : mark_at ws b ≡ 1 → marked_place ws is b ≡ slice_index is b
-  place-set one = rw (eq-eqb (mark_at ws b) 1 one) refl
-
-  pub place-clear : mark_at ws b ≢ 1 → marked_place ws is b ≡ 256
-  place-clear other = rw (ne_eqb (mark_at ws b) 1 other) refl
-
-  -- a place that some row reaches is that of a byte whose bit is set
-  pub place-reached : marked_place ws is b < 256 → (mark_at ws b ≡ 1) × (marked_place ws is b ≡ slice_index is b)
-  place-reached l =
-      elim (cases_eq (mark_at ws b) 1) [
-        | inl one ↦ (one, place-set one)
-        | inr other ↦ absurd (let l' = rw (ne_eqb (mark_at ws b) 1 other) at l in omega (arith, l'))
-      ]
-
-  pub place-same : (vs js : List ℕ) → mark_at vs b ≡ mark_at ws b → (mark_at ws b ≡ 1 → slice_index js b ≡ slice_index is b) → marked_place vs js b ≡ marked_place ws is b
-  place-same vs js mark index =
-      elim (cases_eq (mark_at ws b) 1) [
-        | inl one ↦ rw (mark, eq-eqb (mark_at ws b) 1 one) (index one)
-        | inr other ↦ rw (mark, ne_eqb (mark_at ws b) 1 other) refl
-      ]
-
-module _ {C : Type 0} (ws is : List ℕ) (cs : List C) where
-  pub child-set : (b : ℕ) → mark_at ws b ≡ 1 → marked_child ws is cs b ≡ slice_get cs (slice_index is b)
-  child-set b one = rw (eq-eqb (mark_at ws b) 1 one) refl
-
-  pub child-clear : (b : ℕ) → mark_at ws b ≡ 0 → marked_child ws is cs b ≡ None
-  child-clear b none = rw (ne_eqb (mark_at ws b) 1 (omega (arith, none))) refl
-
-  child-at_place : length cs ≤ 256 → (b : ℕ) → marked_child ws is cs b ≡ at_place (marked_place ws is) cs b
-  child-at_place small b =
-      elim (cases_eq (mark_at ws b) 1) [
-        | inl one ↦ rw (eq-eqb (mark_at ws b) 1 one) refl
-        | inr other ↦ rw (ne_eqb (mark_at ws b) 1 other) (sym (slice_get_past cs 256 small))
-      ]
-
-  pub under-marked : length cs ≤ 256 → (b n : ℕ) → under (marked_child ws is cs) b n ≡ under (at_place (marked_place ws is) cs) b n
-  under-marked small b n = under-same (marked_child ws is cs) (at_place (marked_place ws is) cs) b n (λ d l m. child-at_place small d)
-
 -- no bit is set where all words are 0
-pub none-set : (n b : ℕ) (is : List ℕ) → marked_place (replicate n 0) is b ≡ 256
-none-set n b is = place-clear (replicate n 0) is b (λ e. (let z = ap (λ x. bit_at x (b % 64)) (get_or-zeros n (b / 64)) ∙ bit_at-zero (b % 64) in omega (arith, z, e)))
+pub none-set : (n b : ℕ) → mark_at (replicate n 0) b ≡ 0
+none-set n b = ap (λ x. bit_at x (b % 64)) (get_or-zeros n (b / 64)) ∙ bit_at-zero (b % 64)
   where
     get_or-zeros : (n i : ℕ) → get_or {A = ℕ} (replicate n 0) i 0 ≡ 0
     get_or-zeros zero i = refl

@@ -58,7 +58,7 @@ module _ {C : Type 0} (has had : ℕ → Option C) where
       ])
 
   -- one byte has another child
-  under-put : (b : ℕ) (c : C) → b < 256 → has b ≡ Some c → ((d : ℕ) → d < 256 → d ≢ b → has d ≡ had d) → under has 0 256 ≡ put (under had 0 256) b c
+  pub under-put : (b : ℕ) (c : C) → b < 256 → has b ≡ Some c → ((d : ℕ) → d < 256 → d ≢ b → has d ≡ had d) → under has 0 256 ≡ put (under had 0 256) b c
   under-put b c byte here others =
       same_from_lookups 0 256 0 256 (under has 0 256) (put (under had 0 256) b c) (under-rises has 0 256 256 refl) (Rises-put 0 256 (under had 0 256) b c (under-rises had 0 256 256 refl) (omega arith) byte)
       (λ k. elim (cases_eq k b) [
@@ -70,7 +70,7 @@ module _ {C : Type 0} (has had : ℕ → Option C) where
       ])
 
   -- one byte has no child any more
-  under-without : (b : ℕ) → b < 256 → has b ≡ None → ((d : ℕ) → d < 256 → d ≢ b → has d ≡ had d) → under has 0 256 ≡ without (under had 0 256) b
+  pub under-without : (b : ℕ) → b < 256 → has b ≡ None → ((d : ℕ) → d < 256 → d ≢ b → has d ≡ had d) → under has 0 256 ≡ without (under had 0 256) b
   under-without b byte here others =
       same_from_lookups 0 256 0 256 (under has 0 256) (without (under had 0 256) b) (under-rises has 0 256 256 refl) (Rises-without 0 256 (under had 0 256) b (under-rises had 0 256 256 refl))
       (λ k. elim (cases_eq k b) [

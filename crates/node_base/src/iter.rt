@@ -4,7 +4,7 @@ ghost use Rattle.std.specs.Prelude.{◌≡◌, ℕ, ◌+◌, ◌≤◌, length};
 ghost use Rattle.std.specs.Iterator.{YieldsFirstBy, item_count};
 
 use crate::few::Few;
-use crate::mask::next_marked;
+use crate::places::Places;
 use crate::row::next_placed;
 
 /// What `get_children` of a `Node4` returns: bytes, and the children from a place on.
@@ -108,12 +108,8 @@ pub struct Node256Iter<'a, C> {
     pub at: usize,
     /// The last byte of the scan, which belongs to it.
     pub last: u8,
-    /// A bit for each byte, set where the byte has a child: byte `b` is bit `b % 64` of word `b / 64`.
-    pub mask: &'a [u64; 4],
-    /// The place of each marked byte's child; a place past the children means that the byte has none.
-    pub index: &'a [u8; 256],
-    /// The children, in any order.
-    pub children: &'a [C],
+    /// The children, each in the cell of its byte.
+    pub places: &'a Places<C>,
 }
 
 impl<'a, C> Iterator for Node256Iter<'a, C> {
@@ -126,17 +122,14 @@ impl<'a, C> Iterator for Node256Iter<'a, C> {
     ghost remaining = { item_count rest_256 };
 
     fn next(&mut self) -> Option<(u8, &'a C)> {
-        while let Some(byte) = next_marked(self.mask, self.at) {
-            if byte > self.last {
-                return None;
-            }
-            self.at = byte as usize + 1;
-            let i = self.index[byte as usize] as usize;
-            if i < self.children.len() {
-                return Some((byte, &self.children[i]));
-            }
+        let Some(byte) = self.places.next(self.at) else {
+            return None;
+        };
+        if byte > self.last {
+            return None;
         }
-        None
+        self.at = byte as usize + 1;
+        Some((byte, self.places.get_filled(byte)))
     }
 }
 

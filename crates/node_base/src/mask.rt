@@ -1,6 +1,6 @@
 //! A mask of 256 bits, one for each byte: which bytes of a node have a child, in 32 bytes.
 
-ghost use Rattle.std.specs.Prelude.{IsTrue, false, ◌≡◌, ◌≢◌, ℕ, ◌+◌, ◌<◌, ◌≤◌, IfSome, IfNone, slice_index};
+ghost use Rattle.std.specs.Prelude.{IsTrue, false, ◌≡◌, ◌≢◌, ℕ, ◌+◌, ◌<◌, ◌≤◌, IfSome, IfNone};
 ghost use Rattle.node_base.specs.inner.Marked.{mark_at};
 
 /// Whether the bit of a byte is set.
@@ -17,20 +17,6 @@ pub fn mark(words: &mut [u64; 4], byte: u8)
     ensures others { (i : ℕ) → i < 256 → i ≢ byte → mark_at words.new i ≡ mark_at words.old i }
 {
     words[byte as usize / 64] |= 1 << (byte as usize % 64);
-}
-
-/// The mask of the bytes whose place in an index is below a limit.
-pub fn marks_below(index: &[u8; 256], limit: u8) -> [u64; 4]
-    ensures set { (b : ℕ) → b < 256 → slice_index index.now b < limit → mark_at result b ≡ 1 }
-    ensures clear { (b : ℕ) → b < 256 → limit ≤ slice_index index.now b → mark_at result b ≡ 0 }
-{
-    let mut words = [0; 4];
-    for b in 0..256 {
-        if index[b] < limit {
-            mark(&mut words, b as u8);
-        }
-    }
-    words
 }
 
 /// Clears the bit of a byte; the others stay.

@@ -1,7 +1,6 @@
-//! Children in a row, and the index of all bytes, which the larger forms keep: for each byte the place of its child.
+//! Children in a row, and the index of all bytes that a `Node48` has: for each byte the place of its child.
 
-ghost use Rattle.std.specs.Prelude.{IsTrue, ◌≡◌, ◌≢◌, ℕ, ◌+◌, ◌<◌, ◌≤◌, [], ◌∷◌, ◌++◌, length, replicate, IfSome, IfNone, slice_index, vec_len, vec_capacity};
-ghost use Rattle.node_base.specs.inner.Row.{Apart, SameChildren};
+ghost use Rattle.std.specs.Prelude.{◌≡◌, ◌≢◌, ℕ, ◌+◌, ◌<◌, ◌≤◌, [], ◌∷◌, ◌++◌, length, replicate, IfSome, IfNone, slice_index, vec_len, vec_capacity};
 
 use crate::lanes::first_below;
 
@@ -129,105 +128,17 @@ pub fn last_placed(index: &[u8; 256], to: usize, count: usize) -> Option<u8>
     None
 }
 
-/// Whether each byte has its own number as its place.
-pub fn is_by_byte(index: &[u8; 256]) -> bool
-    ensures { IsTrue result → (b : ℕ) → b < 256 → slice_index index.now b ≡ b }
-{
-    // as bytes, and to the end in any case, so that the compiler can compare many at once
-    let mut same = true;
-    for b in 0..256 {
-        same = same & (index[b] == b as u8);
-    }
-    same
-}
-
-// Swaps the child of a byte with the child at the place of the byte's number.
-fn settle<C>(row: &mut [C], index: &mut [u8; 256], byte: u8)
-    requires full { length row.old ≡ 256 }
-    requires apart { Apart (slice_index index.old) }
-    ensures full { length row.new ≡ 256 }
-    ensures apart { Apart (slice_index index.new) }
-    ensures here { slice_index index.new byte ≡ byte }
-    ensures settled { (b : ℕ) → b < 256 → slice_index index.old b ≡ b
-        → slice_index index.new b ≡ b }
-    ensures children { SameChildren (slice_index index.old) row.old (slice_index index.new) row.new }
-{
-    let i = index[byte as usize];
-    if i != byte {
-        row.swap(byte as usize, i as usize);
-        redirect(index, byte, i);
-        index[byte as usize] = byte;
-    }
-}
-
-// The byte of each place that a byte has.
-fn owners_of(index: &[u8; 256]) -> [u8; 256]
-    requires { Apart (slice_index index.now) }
-    ensures { (b : ℕ) → b < 256 → slice_index result (slice_index index.now b) ≡ b }
-{
-    let mut owners = [0; 256];
-    for b in 0..256 {
-        owners[index[b] as usize] = b as u8;
-    }
-    owners
-}
-
-// As `settle`, for one of many bytes: which byte has the place is at hand, and no pass over the index has to find it.
-fn settle_by_owner<C>(row: &mut [C], index: &mut [u8; 256], owners: &mut [u8; 256], byte: u8)
-    requires full { length row.old ≡ 256 }
-    requires apart { Apart (slice_index index.old) }
-    requires owners { (b : ℕ) → b < 256 → slice_index owners.old (slice_index index.old b) ≡ b }
-    ensures full { length row.new ≡ 256 }
-    ensures apart { Apart (slice_index index.new) }
-    ensures owners { (b : ℕ) → b < 256 → slice_index owners.new (slice_index index.new b) ≡ b }
-    ensures here { slice_index index.new byte ≡ byte }
-    ensures settled { (b : ℕ) → b < 256 → slice_index index.old b ≡ b
-        → slice_index index.new b ≡ b }
-    ensures children { SameChildren (slice_index index.old) row.old (slice_index index.new) row.new }
-{
-    let i = index[byte as usize];
-    if i != byte {
-        row.swap(byte as usize, i as usize);
-        let other = owners[byte as usize];
-        // always, as each place of a full row has its byte
-        if index[other as usize] == byte {
-            index[other as usize] = i;
-        }
-        owners[i as usize] = other;
-        index[byte as usize] = byte;
-        owners[byte as usize] = byte;
-    }
-}
-
-// Sorts a row from any order: at most 255 exchanges.
-fn settle_all<C>(row: &mut [C], index: &mut [u8; 256])
-    requires full { length row.old ≡ 256 }
-    requires apart { Apart (slice_index index.old) }
-    ensures full { length row.new ≡ 256 }
-    ensures placed { (b : ℕ) → b < 256 → slice_index index.new b ≡ b }
-    ensures children { SameChildren (slice_index index.old) row.old (slice_index index.new) row.new }
-{
-    let mut owners = owners_of(index);
-    for b in 0..256usize {
-        settle_by_owner(row, index, &mut owners, b as u8);
-    }
-}
-
-/// Sorts a row that has a child for each byte: the child of each comes to the place of its number.
+/// The byte of each place that one byte alone has.
 ///
-/// The child of the byte that came last is moved first: where a child was taken out of a sorted row and another put in,
-/// that is all.
-// out of line, as a node fills seldom
-#[inline(never)]
-pub fn sort_by_byte<C>(row: &mut [C], index: &mut [u8; 256], last: u8)
-    requires full { length row.old ≡ 256 }
-    requires apart { Apart (slice_index index.old) }
-    ensures full { length row.new ≡ 256 }
-    ensures placed { (b : ℕ) → b < 256 → slice_index index.new b ≡ b }
-    ensures children { SameChildren (slice_index index.old) row.old (slice_index index.new) row.new }
+/// It writes for each byte of the index, so that no step depends on which bytes have a child.
+pub fn bytes_by_place(index: &[u8; 256]) -> [u8; 256]
+    ensures { (b : ℕ) → b < 256
+        → ((d : ℕ) → d < 256 → slice_index index.now d ≡ slice_index index.now b → d ≡ b)
+        → slice_index result (slice_index index.now b) ≡ b }
 {
-    settle(row, index, last);
-    if !is_by_byte(index) {
-        settle_all(row, index);
+    let mut bytes = [0; 256];
+    for b in 0..256 {
+        bytes[index[b] as usize] = b as u8;
     }
+    bytes
 }

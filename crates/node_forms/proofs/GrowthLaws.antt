@@ -6,11 +6,9 @@ use Rattle.std.proofs.lemmas.Option.{slice_get_past}
 use Rattle.spec_map.specs.Map.{lookup, Rises}
 use Rattle.spec_map.proofs.JoinLaws.{lookup-above}
 use Rattle.spec_map.proofs.MapLaws.{same_from_lookups}
-use Rattle.node_base.specs.inner.Marked.{mark_at, marked_place}
 use Rattle.node_base.specs.inner.Row.{at_place, in_row, IsRow}
 use Rattle.node_base.specs.inner.Sorted.{pairs, IsSorted}
-use Rattle.node_base.proofs.MarkLaws.{place-set, place-clear}
-use Rattle.node_base.proofs.RowLaws.{under-rises, under-same, lookup-under, lookup-outside}
+use Rattle.node_base.proofs.RowLaws.{under-rises, lookup-under, lookup-outside}
 use Rattle.node_forms.proofs.SortedLaws.{enough_bytes, length-sorted, pairs-none}
 
 module _ {C : Type 0} where
@@ -147,43 +145,3 @@ module _ {C : Type 0} {most : ℕ} {ks : List ℕ} {cs : List C} {count : ℕ} (
         },
         row-of_pairs,
       )
-
--- from a row with an index to one with a mask too
-module _ {C : Type 0} (is vs : List ℕ) {row : List C} {count : ℕ} (r : IsRow 48 (slice_index is) row count)
-    (here : (b : ℕ) → b < 256 → slice_index is b < 48 → mark_at vs b ≡ 1)
-    (clear : (b : ℕ) → b < 256 → 48 ≤ slice_index is b → mark_at vs b ≡ 0) where
-  marked-cases : (b : ℕ) → b < 256 → ((slice_index is b < 48) × (marked_place vs is b ≡ slice_index is b)) ⊎ ((48 ≤ slice_index is b) × (marked_place vs is b ≡ 256))
-  marked-cases b l =
-      elim (cases_lt (slice_index is b) 48) [
-        | inl less ↦ inl (less, place-set vs is b (here b l less))
-        | inr more ↦ inr (more, place-clear vs is b (λ e. omega (arith, clear b l more, e)))
-      ]
-
-  row-same : in_row (marked_place vs is) row ≡ in_row (slice_index is) row
-  row-same =
-      under-same (at_place (marked_place vs is) row) (at_place (slice_index is) row) 0 256
-      (λ d l m. elim (marked-cases d m) [
-        | inl set ↦ ap (slice_get row) set.1
-        | inr free ↦ slice_get_past row (marked_place vs is d) (omega (arith, free.1, r.within)) ∙ sym (slice_get_past row (slice_index is d) (omega (arith, free.0, r.within)))
-      ])
-
-  pub row-marked : (n : ℕ) (ds : List C) → n ≡ count → ds ≡ row → IsRow 256 (marked_place vs is) ds n × (in_row (marked_place vs is) ds ≡ in_row (slice_index is) row)
-  row-marked n ds counted same = rw (counted, same) (
-    record {
-      within = omega (arith, r.within);
-      vacant = λ b l past. elim (marked-cases b l) [
-        | inl set ↦ absurd (omega (arith, r.vacant b l (omega (arith, past, set.1)), set.0))
-        | inr free ↦ free.1
-      ];
-      apart = λ b d l m inside both. elim (marked-cases b l) [
-        | inl set ↦ elim (marked-cases d m) [
-          | inl too ↦ r.apart b d l m (omega (arith, inside, set.1)) (sym set.1 ∙ both ∙ too.1)
-          | inr free ↦ absurd (omega (arith, inside, both, free.1, r.within))
-        ]
-        | inr free ↦ absurd (omega (arith, inside, free.1, r.within))
-      ];
-      each = ap length row-same ∙ r.each;
-      counted = r.counted;
-    },
-    row-same,
-  )

@@ -1,5 +1,5 @@
 -- The greatest byte below another that has a child.
-use Rattle.std.proofs.Common.{◌≡◌, ℕ, zero, suc, ◌+◌, ◌-◌, ◌<◌, ◌≤◌, List, [], ◌∷◌, length, get_or, take, slice_index, Option, Some, None, IfSome, IfNone, option_map, refl, ap, sym, ◌∙◌, arith, inl, inr}
+use Rattle.std.proofs.Common.{◌≡◌, ℕ, zero, suc, ◌+◌, ◌-◌, ◌<◌, ◌≤◌, List, [], ◌∷◌, length, get_or, take, slice_index, Option, Some, None, IsSome, IfSome, IfNone, option_map, refl, ap, sym, ◌∙◌, arith, inl, inr}
 use Rattle.std.proofs.lemmas.Bool.{lt-ltb, le-ltb, cases_lt}
 use Rattle.std.proofs.lemmas.Option.{slice_get_past}
 use Rattle.spec_map.specs.Map.{lookup}
@@ -7,11 +7,8 @@ use Rattle.spec_map.specs.Near.{last_of, below_of}
 use Rattle.spec_map.proofs.ByteMapLaws.{count_below}
 use Rattle.spec_map.proofs.NearLaws.{below_at, none_below}
 use Rattle.node_base.specs.inner.Sorted.{below, pairs, IsSorted}
-use Rattle.node_base.specs.inner.Row.{at_place, in_row, IsRow}
-use Rattle.node_base.specs.inner.Marked.{mark_at, marked_place}
-use Rattle.node_base.proofs.RowLaws.{under-rises, row-lookup, row-present}
-use Rattle.node_base.proofs.MarkLaws.{place-clear}
-use Rattle.node_forms.proofs.MarkedLaws.{marked-inside}
+use Rattle.node_base.specs.inner.Row.{at_place, under, in_row, IsRow}
+use Rattle.node_base.proofs.RowLaws.{under-rises, lookup-under, row-lookup, row-present}
 use Rattle.node_forms.proofs.SortedLaws.{enough_bytes, length-sorted, place_is, between-take}
 
 module _ {C : Type 0} where
@@ -62,10 +59,6 @@ module _ {C : Type 0} {most : ℕ} {place : ℕ → ℕ} {row : List C} {count :
       below_at 0 256 (in_row place row) to byte (under-rises (at_place place row) 0 256 256 refl) less (row-present most place row count r byte (omega arith) inside)
       (λ j more under. absent (byte + 1) j free (omega arith) under)
 
--- a byte whose bit is clear has a place past all children
-pub clear-past : {C : Type 0} (ws is : List ℕ) {row : List C} {count : ℕ} → IsRow 256 (marked_place ws is) row count → (b : ℕ) → mark_at ws b ≡ 0 → length row ≤ marked_place ws is b
-clear-past {C} ws is r b clear = omega (arith, place-clear ws is b (λ e. omega (arith, clear, e)), r.within)
-
 -- what was found in an index
 module _ {C : Type 0} {most : ℕ} (index is : List ℕ) {row : List C} {count : ℕ} (n : ℕ) (r : IsRow most (slice_index index) row count) (same : is ≡ index) (long : n ≡ length row) (to : ℕ) (within : to ≤ 256) where
   pub last_by_index : (o : Option ℕ) → IfSome o (λ byte. byte < to) → IfSome o (λ byte. slice_index is byte < n) → IfSome o (λ byte. (b : ℕ) → byte < b → b < to → n ≤ slice_index is b) → IfNone o ((b : ℕ) → b < to → n ≤ slice_index is b)
@@ -74,16 +67,14 @@ module _ {C : Type 0} {most : ℕ} (index is : List ℕ) {row : List C} {count :
   last_by_index (Some byte) less here free none =
       last_in_row r to within (Some byte) less (omega (arith, here, long, ap (λ x. slice_index x byte) same)) (λ b from under. omega (arith, free b (omega arith) under, long, ap (λ x. slice_index x b) same)) tt
 
--- what was found by a mask
-module _ {C : Type 0} (words ws index : List ℕ) {row : List C} {count : ℕ} (r : IsRow 256 (marked_place words index) row count) (same : ws ≡ words) (to : ℕ) (within : to ≤ 256) where
-  clear : (b : ℕ) → mark_at ws b ≡ 0 → length row ≤ marked_place words index b
-  clear b none = clear-past words index r b (ap (λ x. mark_at x b) (sym same) ∙ none)
+-- what was found among bytes with a child or none
+module _ {C : Type 0} (has : ℕ → Option C) (to : ℕ) (within : to ≤ 256) where
+  free_byte : (j : ℕ) → j < to → has j ≡ None → lookup (under has 0 256) j ≡ None
+  free_byte j less none = lookup-under has 0 256 j (omega arith) (omega arith) ∙ none
 
-  pub none_by_mask : ((i : ℕ) → i < to → mark_at ws i ≡ 0) → None ≡ option_map (λ p. p.0) (below_of (in_row (marked_place words index) row) to)
-  none_by_mask none = last_in_row r to within None tt tt tt (λ b from under. clear b (none b under))
-
-  pub last_by_mask : (byte : ℕ) → byte < to → mark_at ws byte ≡ 1 → ((i : ℕ) → byte < i → i < to → mark_at ws i ≡ 0) → slice_index index byte < 256 → Some byte ≡ option_map (λ p. p.0) (below_of (in_row (marked_place words index) row) to)
-  last_by_mask byte less here free small =
-      last_in_row r to within (Some byte) less
-      (marked-inside words index row r (omega arith) (ap (λ x. mark_at x byte) (sym same) ∙ here) small)
-      (λ b from under. clear b (free b (omega arith) under)) tt
+  pub last_under : (o : Option ℕ) → IfSome o (λ byte. byte < to) → IfSome o (λ byte. IsSome (has byte)) → IfSome o (λ byte. (b : ℕ) → byte < b → b < to → has b ≡ None) → IfNone o ((b : ℕ) → b < to → has b ≡ None)
+      → o ≡ option_map (λ p. p.0) (below_of (under has 0 256) to)
+  last_under None less here free none = none_below (under has 0 256) to (λ j l. free_byte j l (none j l))
+  last_under (Some byte) less here free none =
+      below_at 0 256 (under has 0 256) to byte (under-rises has 0 256 256 refl) less (rw (lookup-under has 0 256 byte (omega arith) (omega arith)) here)
+      (λ j more l. free_byte j l (free j more l))

@@ -60,10 +60,10 @@ pub(crate) fn check<P: HasMeaning>(
 }
 
 // What the call finds, if it looks for the node whose prefix has this length. The root stays as it is.
-fn find<P: Drop>(node: &TreeNode<P>, key: u64, length: u8, path: Path) -> Found
+fn find<P: Drop>(node: &TreeNode<P>, key: u64, length: usize, path: Path) -> Found
     ensures { IsFound node.now (bytes_of key) length path result }
 {
-    if node.base().prefix().len() >= length as usize {
+    if node.base().prefix().len() >= length {
         return match path.above {
             Some(above) => Found::Here(NodePair {
                 above,

@@ -82,8 +82,8 @@ pub(crate) fn take_below<P: HasMeaning>(
 }
 
 // Whether a node's prefix begins the key, and isn't longer than the one that is looked for.
-fn leads_on<P: Drop>(node: &TreeNode<P>, key: u64, length: u8) -> bool
+fn leads_on<P: Drop>(node: &TreeNode<P>, key: u64, length: usize) -> bool
     ensures { IsTrue result ↔ ReachesTo (bytes_of key) length node.now }
 {
-    node.base().prefix().len() <= length as usize && is_on_path(node, key)
+    node.base().prefix().len() <= length && is_on_path(node, key)
 }

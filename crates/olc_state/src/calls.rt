@@ -40,7 +40,12 @@ pub fn put<P: Drop>(places: &mut Places<P>, id: u64, call: Record<P>) -> Result<
     ensures err { OnErr result (places.new.entries ≡ places.old.entries) }
     ensures granted { IsSome (entry_at places.old.entries id) → IsOk result }
 {
-    places.insert(id, Some(call))?;
+    match places.get_mut(&id) {
+        Some(place) => *place = Some(call),
+        None => {
+            places.insert(id, Some(call))?;
+        }
+    }
     Ok(())
 }
 

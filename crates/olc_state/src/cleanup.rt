@@ -20,7 +20,7 @@ use crate::tail::NodePair;
 #[derive(Clone, Copy)]
 pub struct Cleanup {
     /// The length of the node's prefix, in bytes.
-    pub length: u8,
+    pub length: usize,
     /// Whether another cleanup, for the parent, may follow this one.
     pub again: bool,
 }

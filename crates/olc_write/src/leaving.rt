@@ -26,10 +26,7 @@ fn cleanup_of<P: Drop>(node: &TreeNode<P>, again: bool) -> Option<Cleanup>
 {
     let length = node.base().prefix().len();
     if length > 0 && node.is_due() {
-        Some(Cleanup {
-            length: length as u8,
-            again,
-        })
+        Some(Cleanup { length, again })
     } else {
         None
     }

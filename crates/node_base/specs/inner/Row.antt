@@ -1,10 +1,6 @@
 -- Children in a row, in any order, and the place that each byte has in it.
 use Rattle.std.specs.Prelude.{◌≡◌, ℕ, zero, suc, ◌+◌, ◌<◌, ◌≤◌, List, [], ◌∷◌, length, Option, Some, None, slice_get}
 
--- no two bytes have one place
-abbrev pub Apart : (ℕ → ℕ) → Type 0
-Apart place = (b d : ℕ) → b < 256 → d < 256 → place b ≡ place d → b ≡ d
-
 module _ {C : Type 0} where
   -- the child of a byte, if there is one, before others
   abbrev pub joined : ℕ → Option C → List (ℕ × C) → List (ℕ × C)
@@ -31,11 +27,3 @@ module _ {C : Type 0} where
     pub apart : (b d : ℕ) → b < 256 → d < 256 → place b < length row → place b ≡ place d → b ≡ d
     pub each : length (in_row place row) ≡ length row
     pub counted : count ≡ length row
-
-  -- each byte has the child that it had, wherever in the row that is now
-  abbrev pub SameChildren : (ℕ → ℕ) → List C → (ℕ → ℕ) → List C → Type 0
-  SameChildren place row place' row' = (b : ℕ) → b < 256 → at_place place' row' b ≡ at_place place row b
-
-  -- each of the 256 bytes has a child, at the place of its number
-  abbrev pub IsDirect : (ℕ → ℕ) → List C → Type 0
-  IsDirect place row = (length row ≡ 256) × ((b : ℕ) → b < 256 → place b ≡ b)

@@ -1,15 +1,12 @@
-use Rattle.std.proofs.Common.{rules, ◌≡◌, refl, replicate}
-use Rattle.node_base.specs.inner.Marked.{marked_place}
-use Rattle.node_base.proofs.RowLaws.{row-empty}
-use Rattle.node_base.proofs.MarkLaws.{none-set}
+use Rattle.std.proofs.Common.{rules, ◌≡◌, ◌∙◌, length, ap, sym}
+use Rattle.node_base.specs.inner.Places.{in_cells}
+use Rattle.node_forms.proofs.CellLaws.{cells-none}
 use Rattle.node_forms.proofs.node_256.Node256.new.Goals as goal
 
 pub invariant_of-result : goal.invariant_of-result
 invariant_of-result g c =
-    let none : c.in_ok-marks.marks.value ≡ record { mask = replicate 4 0; index = replicate 256 0 } = search rules in
-    rw (none, c.in_ok-children.ensures.items) ((row-empty 256 (marked_place (replicate 4 0) (replicate 256 0)) c.new-base.result.count (λ b l. none-set 4 b (replicate 256 0)) (search rules)).0, search rules, search rules, search rules)
+    let none : c.new-base.result.count ≡ 0 = search rules in
+    (ap (λ x. length (in_cells x)) c.in_ok-places.ensures ∙ ap length (cells-none {C = g.row.C.Denot} 256) ∙ sym none, search rules)
 
 pub returns-clause-empty : goal.returns-clause-empty
-returns-clause-empty g c =
-    let none : c.in_ok-marks.marks.value ≡ record { mask = replicate 4 0; index = replicate 256 0 } = search rules in
-    rw (none, c.in_ok-children.ensures.items) (row-empty 256 (marked_place (replicate 4 0) (replicate 256 0)) 0 (λ b l. none-set 4 b (replicate 256 0)) refl).1
+returns-clause-empty g c = ap in_cells c.in_ok-places.ensures ∙ cells-none 256

@@ -1,82 +1,58 @@
-use Rattle.std.proofs.Common.{rules, arith, ◌≡◌, ◌<◌, ◌∙◌, sym, ap, refl, length, slice_index, length-set}
-use Rattle.std.proofs.lemmas.Option.{slice_get_read}
-use Rattle.node_base.specs.inner.Marked.{mark_at, marked_place}
-use Rattle.node_base.proofs.RowLaws.{row-lookup, row-changed}
-use Rattle.node_base.proofs.MarkLaws.{place-set}
-use Rattle.node_forms.proofs.DirectLaws.{direct-place}
-use Rattle.node_forms.proofs.MarkedLaws.{marked-inside, unmarked-absent}
+use Rattle.std.proofs.Common.{◌≡◌, ◌≢◌, ℕ, ◌<◌, ◌∙◌, sym, ap, refl, List, length, Option, Some, None, Result, Ok, Err, IfOk, OnOk, OnErr}
+use Rattle.spec_map.specs.Map.{lookup, put}
+use Rattle.node_base.specs.inner.Places.{in_cell, in_cells}
+use Rattle.node_forms.proofs.CellLaws.{cell-lookup, cell-full, cells-put, cells-as_many}
 use Rattle.node_forms.proofs.node_256.Node256Node.exchange.Goals as goal
 
--- in a sorted row, the place of a byte is its number
-pub returns-then-self-clause-before : goal.returns-then-self-clause-before
-returns-then-self-clause-before g c =
-    let byte : c.args.byte < 256 = search rules in
-    let m = c.self.inside.marks.value in
-    let row = c.self.inside.children.items in
-    let direct = c.self.invariant.3 c.if-self.true in
-    let z = direct-place m.mask m.index row direct c.args.byte byte in
-    let inside : marked_place m.mask m.index c.args.byte < length row = omega (arith, z, direct.0, byte) in
-    rw (← c.self.view_is, c.replace.ensures.value) (row-lookup 256 (marked_place m.mask m.index) row c.self.inside.base.count c.self.invariant.0 c.args.byte byte
-    ∙ slice_get_read row (length row) (marked_place m.mask m.index c.args.byte) c.index_mut.result.now refl inside (rw (← z) at c.index_mut.ensures.value))
+-- by what the cells returned
+module _ {C : Type 0} (slots new : List (Option C)) (b : ℕ) (byte : b < 256) (child : C) (others : (d : ℕ) → d ≢ b → in_cell new d ≡ in_cell slots d) where
+  as_many : (r : Result C C) → IfOk r (λ c. in_cell slots b ≡ Some c) → OnOk r (in_cell new b ≡ Some child) → OnErr r (new ≡ slots) → length (in_cells new) ≡ length (in_cells slots)
+  as_many (Ok c) before here same = cells-as_many slots new b byte others child here (rw before refl)
+  as_many (Err e) before here same = ap (λ x. length (in_cells x)) same
 
-pub returns-then-self-clause-children : goal.returns-then-self-clause-children
-returns-then-self-clause-children g c =
-    let byte : c.args.byte < 256 = search rules in
-    let m = c.self.inside.marks.value in
-    let row = c.self.inside.children.items in
-    let direct = c.self.invariant.3 c.if-self.true in
-    let z = direct-place m.mask m.index row direct c.args.byte byte in
-    let inside : marked_place m.mask m.index c.args.byte < length row = omega (arith, z, direct.0, byte) in
-    rw (← c.self.view_is, c.replace.ensures.after) (rw z at (row-changed 256 (marked_place m.mask m.index) row c.self.inside.base.count c.self.invariant.0 c.args.byte byte c.args.child inside).1)
+  found : (r : Result C C) → IfOk r (λ c. in_cell slots b ≡ Some c) → IfOk r (λ c. lookup (in_cells slots) b ≡ Some c)
+  found (Ok c) before = cell-lookup slots b byte ∙ before
+  found (Err e) before = tt
+
+  changed : (r : Result C C) → OnOk r (in_cell new b ≡ Some child) → OnOk r (in_cells new ≡ put (in_cells slots) b child)
+  changed (Ok c) here = cells-put slots new b byte others child here
+  changed (Err e) here = tt
+
+  absent : (r : Result C C) → OnErr r (in_cell slots b ≡ None) → OnErr r (lookup (in_cells slots) b ≡ None)
+  absent (Ok c) none = tt
+  absent (Err e) none = cell-lookup slots b byte ∙ none
+
+pub exchange_filled-requires : goal.exchange_filled-requires
+exchange_filled-requires g c = cell-full c.self.inside.places c.args.byte c.ranges.byte.fits (c.self.invariant.0 ∙ sym c.value_count.ensures ∙ c.if-value_count-eq256.true)
 
 pub invariant_of-self : goal.invariant_of-self
 invariant_of-self g c =
-    let byte : c.args.byte < 256 = search rules in
-    let m = c.self.inside.marks.value in
-    let row = c.self.inside.children.items in
-    let direct = c.self.invariant.3 c.if-self.true in
-    let z = direct-place m.mask m.index row direct c.args.byte byte in
-    let inside : marked_place m.mask m.index c.args.byte < length row = omega (arith, z, direct.0, byte) in
-    (rw z at (row-changed 256 (marked_place m.mask m.index) row c.self.inside.base.count c.self.invariant.0 c.args.byte byte c.replace.new.dest inside).0, c.self.invariant.1, c.self.invariant.2, (λ t. (length-set row c.args.byte c.replace.new.dest ∙ direct.0, direct.1)))
+    let s = c.self.inside.places in
+    let some = cell-full s c.args.byte c.ranges.byte.fits (c.self.invariant.0 ∙ sym c.value_count.ensures ∙ c.if-value_count-eq256.true) in
+    (cells-as_many s c.exchange_filled.new.self c.args.byte c.ranges.byte.fits c.exchange_filled.ensures.others c.args.child c.exchange_filled.ensures.here some ∙ c.self.invariant.0, c.self.invariant.1)
 
--- else the index has it
-pub returns-then-is_marked-clause-before : goal.returns-then-is_marked-clause-before
-returns-then-is_marked-clause-before g c =
-    let byte : c.args.byte < 256 = search rules in
-    let m = c.self.inside.marks.value in
-    let row = c.self.inside.children.items in
-    let one : mark_at m.mask c.args.byte ≡ 1 = rw c.deref-marks.ensures at (c.is_marked.ensures.set c.if-is_marked.true) in
-    let small : slice_index m.index c.args.byte < 256 = search rules in
-    let inside = marked-inside m.mask m.index row c.self.invariant.0 byte one small in
-    let z = ap (λ x. slice_index x.index c.args.byte) c.deref-marks.ensures ∙ sym (place-set m.mask m.index c.args.byte one) in
-    rw (← c.self.view_is, c.replace-then-is_marked.ensures.value) (row-lookup 256 (marked_place m.mask m.index) row c.self.inside.base.count c.self.invariant.0 c.args.byte byte
-    ∙ slice_get_read row (length row) (marked_place m.mask m.index c.args.byte) c.index_mut-then-is_marked.result.now refl inside (rw z at c.index_mut-then-is_marked.ensures.value))
+pub invariant_of-self-else-value_count-eq256 : goal.invariant_of-self-else-value_count-eq256
+invariant_of-self-else-value_count-eq256 g c = (
+  as_many c.self.inside.places c.exchange.new.self c.args.byte c.ranges.byte.fits c.args.child c.exchange.ensures.others c.exchange.result c.exchange.ensures.before c.exchange.ensures.here c.exchange.ensures.same
+      ∙ c.self.invariant.0,
+  c.self.invariant.1,
+)
 
-pub returns-then-is_marked-clause-children : goal.returns-then-is_marked-clause-children
-returns-then-is_marked-clause-children g c =
-    let byte : c.args.byte < 256 = search rules in
-    let m = c.self.inside.marks.value in
-    let row = c.self.inside.children.items in
-    let one : mark_at m.mask c.args.byte ≡ 1 = rw c.deref-marks.ensures at (c.is_marked.ensures.set c.if-is_marked.true) in
-    let small : slice_index m.index c.args.byte < 256 = search rules in
-    let inside = marked-inside m.mask m.index row c.self.invariant.0 byte one small in
-    let z = ap (λ x. slice_index x.index c.args.byte) c.deref-marks.ensures ∙ sym (place-set m.mask m.index c.args.byte one) in
-    rw (← c.self.view_is, c.replace-then-is_marked.ensures.after, z) (row-changed 256 (marked_place m.mask m.index) row c.self.inside.base.count c.self.invariant.0 c.args.byte byte c.args.child inside).1
+pub returns-then-value_count-eq256-clause-before : goal.returns-then-value_count-eq256-clause-before
+returns-then-value_count-eq256-clause-before g c = rw (← c.self.view_is) (cell-lookup c.self.inside.places c.args.byte c.ranges.byte.fits ∙ c.exchange_filled.ensures.before)
 
-pub invariant_of-self-then-is_marked : goal.invariant_of-self-then-is_marked
-invariant_of-self-then-is_marked g c =
-    let byte : c.args.byte < 256 = search rules in
-    let m = c.self.inside.marks.value in
-    let row = c.self.inside.children.items in
-    let one : mark_at m.mask c.args.byte ≡ 1 = rw c.deref-marks.ensures at (c.is_marked.ensures.set c.if-is_marked.true) in
-    let small : slice_index m.index c.args.byte < 256 = search rules in
-    let inside = marked-inside m.mask m.index row c.self.invariant.0 byte one small in
-    let z = ap (λ x. slice_index x.index c.args.byte) c.deref-marks.ensures ∙ sym (place-set m.mask m.index c.args.byte one) in
-    rw z ((row-changed 256 (marked_place m.mask m.index) row c.self.inside.base.count c.self.invariant.0 c.args.byte byte c.replace-then-is_marked.new.dest inside).0, c.self.invariant.1, c.self.invariant.2, (λ t. (length-set row (marked_place m.mask m.index c.args.byte) c.replace-then-is_marked.new.dest ∙ (c.self.invariant.3 t).0, (c.self.invariant.3 t).1)))
+pub returns-then-value_count-eq256-clause-children : goal.returns-then-value_count-eq256-clause-children
+returns-then-value_count-eq256-clause-children g c =
+    rw (← c.self.view_is) (cells-put c.self.inside.places c.exchange_filled.new.self c.args.byte c.ranges.byte.fits c.exchange_filled.ensures.others c.args.child c.exchange_filled.ensures.here)
 
-pub returns-else-is_marked-clause-absent : goal.returns-else-is_marked-clause-absent
-returns-else-is_marked-clause-absent g c =
-    let byte : c.args.byte < 256 = search rules in
-    let m = c.self.inside.marks.value in
-    let clear : mark_at m.mask c.args.byte ≡ 0 = rw c.deref-marks.ensures at (c.is_marked.ensures.clear c.if-is_marked.false) in
-    rw (← c.self.view_is) (unmarked-absent m.mask m.index c.self.inside.children.items c.self.invariant.0 byte clear)
+pub returns-else-value_count-eq256-clause-before : goal.returns-else-value_count-eq256-clause-before
+returns-else-value_count-eq256-clause-before g c =
+    rw (← c.self.view_is) (found c.self.inside.places c.exchange.new.self c.args.byte c.ranges.byte.fits c.args.child c.exchange.ensures.others c.exchange.result c.exchange.ensures.before)
+
+pub returns-else-value_count-eq256-clause-children : goal.returns-else-value_count-eq256-clause-children
+returns-else-value_count-eq256-clause-children g c =
+    rw (← c.self.view_is) (changed c.self.inside.places c.exchange.new.self c.args.byte c.ranges.byte.fits c.args.child c.exchange.ensures.others c.exchange.result c.exchange.ensures.here)
+
+pub returns-else-value_count-eq256-clause-absent : goal.returns-else-value_count-eq256-clause-absent
+returns-else-value_count-eq256-clause-absent g c =
+    rw (← c.self.view_is) (absent c.self.inside.places c.exchange.new.self c.args.byte c.ranges.byte.fits c.args.child c.exchange.ensures.others c.exchange.result c.exchange.ensures.absent)
