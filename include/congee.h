@@ -1,31 +1,33 @@
-/* congee.h: an ordered map from uint64_t to uint64_t, kept in an adaptive radix tree. The library is proved: what each
- * function below answers, and what the map is afterwards, is a theorem about its code (crates/congee_c). C11 and C++11.
- * MIT license (LICENSE).
+/* congee.h: an ordered map from uint64_t to uint64_t, in an adaptive radix tree. C11 and C++11. MIT license.
  *
- *     cc -Iinclude prog.c out/c-library/libcongee.a      (tools/c-library builds the archive)
- *     cc prog.c $(pkg-config --cflags --libs congee)     (where tools/install has put it)
+ * A map has pairs of a key and a value, each key once, in the order of the keys. Each call reads one path of at most eight
+ * nodes, unless its comment names another cost. What a removal frees is kept for later insertions, until the map is freed.
  *
- * What the caller must ensure. Nothing checks it, and the theorem holds only for programs that do:
+ * What the library's own functions return, and what the map is afterwards, is proved of their code. They are the exports,
+ * whose names begin with congee_c_. The functions for use are plain C around them, and are tested. So the theorem holds
+ * for a program that keeps the rules below. Nothing checks them.
  *
- *   - A map is a pointer that congee_new, congee_new_with_limit or congee_thaw returned and that wasn't passed to
- *     congee_free or frozen since. A reader of a frozen map is one that congee_freeze or congee_frozen_another returned
- *     and that wasn't passed to congee_frozen_free or thawed since. Nobody reads, copies or changes what these point to.
- *   - One call at a time on a map and on each reader, reads included. Different maps and different readers, also those of
- *     one frozen map, may be in calls at once. A map or a reader may go to another thread where a lock, the start or the
- *     join of a thread, or a sequentially consistent atomic orders the calls; to share one, put it behind a lock.
- *   - A place for a value or a pair (value, old, found, pair) is null, where it isn't wanted, or an aligned uint64_t or
- *     struct congee_pair that nothing else uses during the call. The place of a new map or reader isn't null.
- *   - The buffer of a range is an array of at least n pairs that are initialised and that nothing else uses during the
- *     call. Where n is 0 it may be null.
- *   - No call is made in a signal handler, or in the forked child of a process with threads. There is stack for a call: it
- *     goes some eight levels deep, and takes a few kilobytes.
+ *   - A map is used from when it was made or thawed until it is freed or frozen. A reader is used from when it was made
+ *     until it is freed or thawed. Nobody reads, copies or changes what these point to.
+ *   - One call at a time uses a map, and one a reader, reads included. Different maps may be in calls at once, and so may
+ *     different readers, also those of one frozen map. To share a map between threads that change it, put it behind a lock.
+ *   - A map or a reader goes to another thread by a lock, by the start or the join of a thread, or by a sequentially
+ *     consistent atomic.
+ *   - A place for a value or a pair (value, old, found, pair) is null, where it isn't wanted, or aligned, and nothing else
+ *     uses it during the call. The place of a new map or reader isn't null.
+ *   - The buffer of a range is an array of at least n pairs, which nothing else uses during the call. Where n is 0 it may
+ *     be null. The code only writes to it. The theorem is of buffers that are initialised.
+ *   - No call is made in a signal handler, or in the forked child of a process with threads.
+ *   - There is stack for a call, which goes some eight levels deep and takes a few kilobytes.
  *   - malloc, realloc and free, which the library calls, are of one allocator and align blocks as C asks.
  *   - The names that begin with congee_c_ or rattle_ are the archive's, and this header is of the same version
  *     (CONGEE_VERSION == congee_version()).
  *
- * A refusal (CONGEE_OOM) comes if malloc finds no memory or the map's limit is reached. It changes nothing: not the
+ * A call fails with CONGEE_OOM if malloc finds no memory or the map's limit is reached. Then nothing has changed: not the
  * map, its charge or the places. errno carries no information about it. A place is written only in the cases that a
  * function's comment lists.
+ *
+ * tools/dev/make-pages makes the manual page from this file: from this comment, the headings and each function's comment.
  */
 #ifndef CONGEE_H
 #define CONGEE_H
@@ -44,7 +46,7 @@ extern "C" {
 #define CONGEE_VERSION_PATCH 0
 #define CONGEE_VERSION (CONGEE_VERSION_MAJOR * 10000 + CONGEE_VERSION_MINOR * 100 + CONGEE_VERSION_PATCH)
 
-/* What a call answers where there is no memory. */
+/* What a call returns where there is no memory. */
 #define CONGEE_OOM (-1)
 
 /* A map. */
@@ -58,7 +60,7 @@ struct congee_pair {
     uint64_t value;
 };
 
-/* The exports of the archive. They take a map by the place of its address; the functions below are for use. */
+/* -- Internal: the exports of the archive. They take a map by the place of its address. Read on below them. -- */
 struct congee_handle {
     struct congee *map;
 };
@@ -109,18 +111,22 @@ size_t congee_c_frozen_range_descending(struct congee_frozen_handle *frozen, uin
                                         struct congee_pair *buffer, size_t n);
 uint64_t congee_c_frozen_count(struct congee_frozen_handle *frozen);
 
-/* The version of the archive, by the same numbers as CONGEE_VERSION. */
+/* -- Version -- */
+
+/* The version of the archive, by the same numbers as CONGEE_VERSION: 100 for 0.1.0. */
 static inline uint32_t congee_version(void) {
     return congee_c_version();
 }
 
+/* -- Maps -- */
+
 /* Makes an empty map whose nodes may take so many bytes by their stated sizes: 64, 168, 672 or 2104 bytes for a node of up to
- * 4, 16, 48 or 256 entries. The first node is of the largest size, so a smaller limit is refused here. Answers 0 with
- * the map in *out, or CONGEE_OOM with null there.
+ * 4, 16, 48 or 256 entries. The first node is of the largest size, so a smaller limit fails. Returns 0 with the map in
+ * *out, or CONGEE_OOM with null there.
  *
- * The limit bounds these sizes, not the memory that malloc allocates: with a million random keys 88 bytes a key are
- * charged, and 155 held. When a node grows, the larger one is charged while the smaller still is, so a map near its
- * limit may refuse a key that would fit afterwards. */
+ * The limit bounds these sizes, not the memory that malloc lends: with a million random keys 88 bytes a key are charged,
+ * and 155 lent. When a node grows, the larger one is charged while the smaller still is. So a map near its limit may
+ * fail at a key that would fit afterwards. */
 static inline int congee_new_with_limit(struct congee **out, uint64_t bytes) {
     struct congee_handle made = {NULL};
     int code = congee_c_new(bytes, &made);
@@ -128,19 +134,21 @@ static inline int congee_new_with_limit(struct congee **out, uint64_t bytes) {
     return code;
 }
 
-/* Makes an empty map. Answers 0 with the map in *out, or CONGEE_OOM with null there. */
+/* Makes an empty map. Returns 0 with the map in *out, or CONGEE_OOM with null there. */
 static inline int congee_new(struct congee **out) {
     return congee_new_with_limit(out, UINT64_MAX);
 }
 
-/* Frees all memory of the map. For null it does nothing. */
+/* Frees all memory of the map: each node once. For null it does nothing. */
 static inline void congee_free(struct congee *map) {
     struct congee_handle handle = {map};
     if (map)
         congee_c_free(handle);
 }
 
-/* Looks the key up. Answers 1 with the value in *value, or 0 where the key is absent. Takes no memory. */
+/* -- One key -- */
+
+/* Looks the key up. Returns 1 with the value in *value, or 0 where the key is absent. Takes no memory. */
 static inline int congee_get(struct congee *map, uint64_t key, uint64_t *value) {
     struct congee_handle handle = {map};
     uint64_t it = 0;
@@ -151,8 +159,8 @@ static inline int congee_get(struct congee *map, uint64_t key, uint64_t *value) 
     return 1;
 }
 
-/* Sets the key's value. Answers 0 for a new key, and *old is unchanged; 1 with the previous value in *old; or
- * CONGEE_OOM, only for a new key that needs a node of its own or a larger one. */
+/* Sets the key's value. Returns 0 for a new key, and *old is unchanged. Returns 1 for a present key, with its previous
+ * value in *old. Returns CONGEE_OOM only for a new key that needs a node of its own or a larger one. */
 static inline int congee_insert(struct congee *map, uint64_t key, uint64_t value, uint64_t *old) {
     struct congee_handle handle = {map};
     uint64_t it = 0;
@@ -164,9 +172,8 @@ static inline int congee_insert(struct congee *map, uint64_t key, uint64_t value
     return 1;
 }
 
-/* Removes the key. Answers 1 with the previous value in *old, or 0 if the key is absent, and *old is unchanged. Is
- * never refused: nodes that are empty then are freed, and one that has few entries left gets a smaller form if there is
- * memory for that. */
+/* Removes the key. Returns 1 with its value in *old, or 0 if the key is absent, and *old is unchanged. Never fails: nodes
+ * that are empty then are freed, and one that has few entries left gets a smaller form if there is memory for that. */
 static inline int congee_remove(struct congee *map, uint64_t key, uint64_t *old) {
     struct congee_handle handle = {map};
     uint64_t it = 0;
@@ -177,8 +184,8 @@ static inline int congee_remove(struct congee *map, uint64_t key, uint64_t *old)
     return 1;
 }
 
-/* If the key's value is `expected`, replaces it by `desired` and answers 1. If it is another, answers 2 with that value
- * in *found, and if the key is absent, answers 0; the map is unchanged then. Takes no memory. */
+/* If the key's value is `expected`, replaces it by `desired` and returns 1. If it is another, returns 2 with that value in
+ * *found. If the key is absent, returns 0. At 2 and 0 the map is unchanged. Takes no memory. */
 static inline int congee_compare_exchange(struct congee *map, uint64_t key, uint64_t expected, uint64_t desired,
                                           uint64_t *found) {
     struct congee_handle handle = {map};
@@ -191,8 +198,8 @@ static inline int congee_compare_exchange(struct congee *map, uint64_t key, uint
     return 2;
 }
 
-/* If the key's value is `expected`, removes the key and answers 1. If it is another, answers 2 with that value in *found,
- * and if the key is absent, answers 0; the map is unchanged then. Is never refused. */
+/* If the key's value is `expected`, removes the key and returns 1. If it is another, returns 2 with that value in *found.
+ * If the key is absent, returns 0. At 2 and 0 the map is unchanged. Never fails. */
 static inline int congee_compare_remove(struct congee *map, uint64_t key, uint64_t expected, uint64_t *found) {
     struct congee_handle handle = {map};
     uint64_t it = 0;
@@ -204,10 +211,9 @@ static inline int congee_compare_remove(struct congee *map, uint64_t key, uint64
     return 2;
 }
 
-/* Adds the number to the key's value, and a new key gets the number as its value. The sum is modulo 2^64: it wraps, and
- * is not refused. Answers as congee_insert: 0 for a new key, and *old is unchanged; 1 with the value before the addition
- * in *old; or CONGEE_OOM, only for a new key that needs a node of its own or a larger one. To subtract, add
- * -(uint64_t)number. */
+/* Adds the number to the key's value. A new key gets the number as its value. The sum is modulo 2^64: it wraps, and
+ * doesn't fail. Returns as congee_insert: 0 for a new key, and *old is unchanged. 1 with the value before the addition in
+ * *old. CONGEE_OOM only for a new key that needs a node of its own or a larger one. To subtract, add -(uint64_t)number. */
 static inline int congee_add(struct congee *map, uint64_t key, uint64_t number, uint64_t *old) {
     struct congee_handle handle = {map};
     uint64_t it = 0;
@@ -219,9 +225,9 @@ static inline int congee_add(struct congee *map, uint64_t key, uint64_t number, 
     return 1;
 }
 
-/* Gives the key the value if it is absent, and keeps the value that a present key has. Answers 0 for a new key, and
- * *found is unchanged; 1 with the present value in *found; or CONGEE_OOM, only for a new key that needs a node of its
- * own or a larger one. */
+/* Gives the key the value if it is absent, and keeps the value of a present key. Returns 0 for a new key, and *found is
+ * unchanged. Returns 1 with the present value in *found. Returns CONGEE_OOM only for a new key that needs a node of its own
+ * or a larger one. */
 static inline int congee_get_or_insert(struct congee *map, uint64_t key, uint64_t value, uint64_t *found) {
     struct congee_handle handle = {map};
     uint64_t it = 0;
@@ -233,32 +239,35 @@ static inline int congee_get_or_insert(struct congee *map, uint64_t key, uint64_
     return 1;
 }
 
-/* Writes the first pairs with start <= key < end to the buffer, keys ascending, n at most, and answers how many; the
- * rest of the buffer is unchanged. So UINT64_MAX is in no range: see congee_range_inclusive. To go on, begin at the last key plus 1.
- * Takes no memory. It reads the nodes that hold these pairs and two paths from the root, of at most eight nodes each,
- * whatever else the map has. */
+/* -- Ranges -- */
+
+/* Writes the first pairs with start <= key < end to the buffer, keys ascending, n at most, and returns how many. The rest
+ * of the buffer is unchanged. UINT64_MAX is in no such range: see congee_range_inclusive. To go on, begin at the last key
+ * plus 1. Takes no memory. It reads the nodes that hold these pairs and two paths, whatever else the map has. */
 static inline size_t congee_range(struct congee *map, uint64_t start, uint64_t end, struct congee_pair *buffer, size_t n) {
     struct congee_handle handle = {map};
     return n == 0 ? 0 : congee_c_range(&handle, start, end, buffer, n);
 }
 
-/* Writes the first pairs with start <= key <= last to the buffer, keys ascending, as congee_range: so UINT64_MAX may be the
- * last key. To go on, begin at the last key read plus 1, unless that is `last`. */
+/* Writes the first pairs with start <= key <= last to the buffer, keys ascending, as congee_range. So UINT64_MAX may be the
+ * last key. To go on, begin at the last key read plus 1, unless that key is `last`. */
 static inline size_t congee_range_inclusive(struct congee *map, uint64_t start, uint64_t last, struct congee_pair *buffer,
                                             size_t n) {
     struct congee_handle handle = {map};
     return n == 0 ? 0 : congee_c_range_inclusive(&handle, start, last, buffer, n);
 }
 
-/* The same with keys descending: writes the last pairs with start <= key <= last, the greatest key first. Reads
- * what congee_range does for these pairs. To go on, end at the last key read minus 1, unless that is `start`. */
+/* The same with keys descending: writes the last pairs with start <= key <= last, the greatest key first. Reads what
+ * congee_range does for these pairs. To go on, end at the last key read minus 1, unless that key is `start`. */
 static inline size_t congee_range_descending(struct congee *map, uint64_t start, uint64_t last, struct congee_pair *buffer,
                                              size_t n) {
     struct congee_handle handle = {map};
     return n == 0 ? 0 : congee_c_range_descending(&handle, start, last, buffer, n);
 }
 
-/* Writes the pair with the least key to *pair and answers 1, or answers 0 for an empty map. Takes no memory. */
+/* -- Ends and neighbours -- */
+
+/* Writes the pair with the least key to *pair and returns 1, or returns 0 for an empty map. Takes no memory. */
 static inline int congee_first(struct congee *map, struct congee_pair *pair) {
     struct congee_handle handle = {map};
     struct congee_pair it = {0, 0};
@@ -269,7 +278,7 @@ static inline int congee_first(struct congee *map, struct congee_pair *pair) {
     return 1;
 }
 
-/* Writes the pair with the greatest key to *pair and answers 1, or answers 0 for an empty map. Takes no memory. */
+/* Writes the pair with the greatest key to *pair and returns 1, or returns 0 for an empty map. Takes no memory. */
 static inline int congee_last(struct congee *map, struct congee_pair *pair) {
     struct congee_handle handle = {map};
     struct congee_pair it = {0, 0};
@@ -280,8 +289,8 @@ static inline int congee_last(struct congee *map, struct congee_pair *pair) {
     return 1;
 }
 
-/* The pair with the greatest key <= this one: answers 1 with it in *pair, or 0 where there is none. Takes no
- * memory. */
+/* Writes the pair with the greatest key <= this one to *pair and returns 1, or returns 0 where there is none. Takes no
+ * memory. Reads the key's path, and at most one more. So do the next three. */
 static inline int congee_floor(struct congee *map, uint64_t key, struct congee_pair *pair) {
     struct congee_handle handle = {map};
     struct congee_pair it = {0, 0};
@@ -292,8 +301,7 @@ static inline int congee_floor(struct congee *map, uint64_t key, struct congee_p
     return 1;
 }
 
-/* The pair with the least key >= this one: answers 1 with it in *pair, or 0 where there is none. Takes no
- * memory. */
+/* Writes the pair with the least key >= this one to *pair and returns 1, or returns 0 where there is none. */
 static inline int congee_ceiling(struct congee *map, uint64_t key, struct congee_pair *pair) {
     struct congee_handle handle = {map};
     struct congee_pair it = {0, 0};
@@ -304,8 +312,7 @@ static inline int congee_ceiling(struct congee *map, uint64_t key, struct congee
     return 1;
 }
 
-/* The pair with the greatest key < this one: answers 1 with it in *pair, or 0 where there is none. Takes no
- * memory. */
+/* Writes the pair with the greatest key < this one to *pair and returns 1, or returns 0 where there is none. */
 static inline int congee_below(struct congee *map, uint64_t key, struct congee_pair *pair) {
     struct congee_handle handle = {map};
     struct congee_pair it = {0, 0};
@@ -316,8 +323,7 @@ static inline int congee_below(struct congee *map, uint64_t key, struct congee_p
     return 1;
 }
 
-/* The pair with the least key > this one: answers 1 with it in *pair, or 0 where there is none. Takes no
- * memory. */
+/* Writes the pair with the least key > this one to *pair and returns 1, or returns 0 where there is none. */
 static inline int congee_above(struct congee *map, uint64_t key, struct congee_pair *pair) {
     struct congee_handle handle = {map};
     struct congee_pair it = {0, 0};
@@ -328,8 +334,7 @@ static inline int congee_above(struct congee *map, uint64_t key, struct congee_p
     return 1;
 }
 
-/* Removes the pair with the least key, writes it to *pair and answers 1, or answers 0 for an empty map.
- * Is never refused. */
+/* Removes the pair with the least key, writes it to *pair and returns 1, or returns 0 for an empty map. Never fails. */
 static inline int congee_pop_first(struct congee *map, struct congee_pair *pair) {
     struct congee_handle handle = {map};
     struct congee_pair it = {0, 0};
@@ -340,8 +345,7 @@ static inline int congee_pop_first(struct congee *map, struct congee_pair *pair)
     return 1;
 }
 
-/* Removes the pair with the greatest key, writes it to *pair and answers 1, or answers 0 for an empty map.
- * Is never refused. */
+/* Removes the pair with the greatest key, writes it to *pair and returns 1, or returns 0 for an empty map. Never fails. */
 static inline int congee_pop_last(struct congee *map, struct congee_pair *pair) {
     struct congee_handle handle = {map};
     struct congee_pair it = {0, 0};
@@ -352,19 +356,24 @@ static inline int congee_pop_last(struct congee *map, struct congee_pair *pair) 
     return 1;
 }
 
-/* Removes all pairs; of the map's nodes the root stays. Takes no memory, and is never refused. */
+/* -- Many pairs -- */
+
+/* Removes all pairs, one by one. Of the nodes the root stays. Takes no memory, and never fails. To empty a large map, free
+ * it and make a new one: that is many times faster, and returns its memory to malloc. */
 static inline void congee_clear(struct congee *map) {
     struct congee_handle handle = {map};
     congee_c_clear(&handle);
 }
 
-/* Removes the pairs with start <= key <= last, and answers how many. Is never refused. */
+/* Removes the pairs with start <= key <= last, and returns how many. Reads two paths for each of them. Never fails. */
 static inline uint64_t congee_remove_range_inclusive(struct congee *map, uint64_t start, uint64_t last) {
     struct congee_handle handle = {map};
     return congee_c_remove_range_inclusive(&handle, start, last);
 }
 
-/* Whether there is no pair. */
+/* -- Counts -- */
+
+/* Whether there is no pair, in constant time. */
 static inline bool congee_is_empty(struct congee *map) {
     struct congee_handle handle = {map};
     return congee_c_is_empty(&handle);
@@ -382,9 +391,11 @@ static inline uint64_t congee_charged(struct congee *map) {
     return congee_c_charged(&handle);
 }
 
+/* -- Readers on several threads -- */
+
 /* Freezes a map: from here on nobody changes it, and threads may look keys up at once, each by a reader of its own.
- * Answers 0 with the first reader in *out and null in *map, or CONGEE_OOM with null in *out, and *map is as it was. Takes
- * two small blocks beside the map's nodes, which stay where they are. */
+ * Returns 0 with the first reader in *out and null in *map. Or returns CONGEE_OOM with null in *out, and *map is as it was.
+ * Takes two small blocks beside the map's nodes, which stay where they are. */
 static inline int congee_freeze(struct congee **map, struct congee_frozen **out) {
     struct congee_handle handle = {*map}, back = {NULL};
     struct congee_frozen_handle made = {NULL};
@@ -394,7 +405,7 @@ static inline int congee_freeze(struct congee **map, struct congee_frozen **out)
     return code;
 }
 
-/* Makes one more reader of a frozen map, for another thread. Answers 0 with the reader in *out, or CONGEE_OOM with null
+/* Makes one more reader of a frozen map, for another thread. Returns 0 with the reader in *out, or CONGEE_OOM with null
  * there. Takes a small block. */
 static inline int congee_frozen_another(struct congee_frozen *frozen, struct congee_frozen **out) {
     struct congee_frozen_handle handle = {frozen}, made = {NULL};
@@ -403,8 +414,8 @@ static inline int congee_frozen_another(struct congee_frozen *frozen, struct con
     return code;
 }
 
-/* Makes the map changeable again where this is its last reader. Answers 1 with the map in *out and null in *frozen, or 0
- * with null in *out where there are other readers, and *frozen is as it was. Takes no memory. */
+/* Makes the map changeable again where this is its last reader. Returns 1 with the map in *out and null in *frozen. Where
+ * there are other readers it returns 0 with null in *out, and *frozen is as it was. Takes no memory. */
 static inline int congee_thaw(struct congee_frozen **frozen, struct congee **out) {
     struct congee_frozen_handle handle = {*frozen}, back = {NULL};
     struct congee_handle made = {NULL};
@@ -453,7 +464,7 @@ static inline size_t congee_frozen_range_descending(struct congee_frozen *frozen
     return n == 0 ? 0 : congee_c_frozen_range_descending(&handle, start, last, buffer, n);
 }
 
-/* The neighbours of a key and the ends, as congee_first and the calls after it: each is a range of one pair. */
+/* As congee_ceiling. This one and the next five are ranges of one pair. */
 static inline int congee_frozen_ceiling(struct congee_frozen *frozen, uint64_t key, struct congee_pair *pair) {
     struct congee_pair it = {0, 0};
     if (congee_frozen_range_inclusive(frozen, key, UINT64_MAX, &it, 1) == 0)
@@ -463,6 +474,7 @@ static inline int congee_frozen_ceiling(struct congee_frozen *frozen, uint64_t k
     return 1;
 }
 
+/* As congee_floor. */
 static inline int congee_frozen_floor(struct congee_frozen *frozen, uint64_t key, struct congee_pair *pair) {
     struct congee_pair it = {0, 0};
     if (congee_frozen_range_descending(frozen, 0, key, &it, 1) == 0)
@@ -472,18 +484,22 @@ static inline int congee_frozen_floor(struct congee_frozen *frozen, uint64_t key
     return 1;
 }
 
+/* As congee_above. */
 static inline int congee_frozen_above(struct congee_frozen *frozen, uint64_t key, struct congee_pair *pair) {
     return key == UINT64_MAX ? 0 : congee_frozen_ceiling(frozen, key + 1, pair);
 }
 
+/* As congee_below. */
 static inline int congee_frozen_below(struct congee_frozen *frozen, uint64_t key, struct congee_pair *pair) {
     return key == 0 ? 0 : congee_frozen_floor(frozen, key - 1, pair);
 }
 
+/* As congee_first. */
 static inline int congee_frozen_first(struct congee_frozen *frozen, struct congee_pair *pair) {
     return congee_frozen_ceiling(frozen, 0, pair);
 }
 
+/* As congee_last. */
 static inline int congee_frozen_last(struct congee_frozen *frozen, struct congee_pair *pair) {
     return congee_frozen_floor(frozen, UINT64_MAX, pair);
 }

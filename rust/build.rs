@@ -1,5 +1,5 @@
-//! Links `libcongee.a`: from the folder that `CONGEE_LIB_DIR` names, else from where `tools/c-library` builds it, else from
-//! where `tools/install` has put it, as `pkg-config` reports.
+//! Links `libcongee.a`: from the folder that `CONGEE_LIB_DIR` names, else from `lib/` of this crate, where a package has it, else
+//! from where `tools/c-library` builds it, else from where `tools/install` has put it, as `pkg-config` reports.
 
 use std::env;
 use std::path::PathBuf;
@@ -15,7 +15,7 @@ fn main() {
     }
     let folder = match env::var_os("CONGEE_LIB_DIR") {
         Some(folder) => PathBuf::from(folder),
-        None => built_here().or_else(installed).unwrap_or_else(|| {
+        None => here("lib").or_else(|| here("../out/c-library")).or_else(installed).unwrap_or_else(|| {
             panic!("there is no libcongee.a: run tools/c-library or tools/install, or set CONGEE_LIB_DIR to its folder")
         }),
     };
@@ -27,8 +27,9 @@ fn main() {
     println!("cargo:rustc-link-search=native={}", folder.display());
 }
 
-fn built_here() -> Option<PathBuf> {
-    let folder = PathBuf::from(env::var_os("CARGO_MANIFEST_DIR")?).join("../out/c-library");
+/// A folder beside this file, if the archive is there.
+fn here(folder: &str) -> Option<PathBuf> {
+    let folder = PathBuf::from(env::var_os("CARGO_MANIFEST_DIR")?).join(folder);
     folder.join("libcongee.a").is_file().then_some(folder)
 }
 

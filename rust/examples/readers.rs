@@ -17,7 +17,7 @@ fn add_roots(readers: &Readers, first: u64) -> Result<u64, OutOfMemory> {
 
 fn main() -> Result<(), OutOfMemory> {
     let roots = Map::try_from_iter((0..SQUARES).map(|i| (i * i, i)))?;
-    let readers = Readers::new(roots.freeze().map_err(|_| OutOfMemory)?);
+    let readers = Readers::new(roots.freeze()?);
     let sum = thread::scope(|scope| {
         let threads: Vec<_> = (0..THREADS)
             .map(|i| i * (SQUARES / THREADS))

@@ -11,19 +11,19 @@ use std::sync::{Mutex, PoisonError};
 
 /// A reader of a map that nobody changes, as [`Map::freeze`] returns it.
 ///
-/// A reader is one thread's at a time; several, each on a thread of its own, read the same map side by side. With the last
+/// A reader is one thread's at a time. Several, each on a thread of its own, read the same map side by side. With the last
 /// of them the map is freed.
 ///
 /// ```
 /// # fn main() -> Result<(), proved_congee::OutOfMemory> {
 /// let map = proved_congee::Map::try_from_iter((0..1000).map(|key| (key, key * key)))?;
-/// let frozen = map.freeze().map_err(|_| proved_congee::OutOfMemory)?;
+/// let frozen = map.freeze()?;
 /// let threads = (0..4)
 ///     .map(|first| {
 ///         let own = frozen.try_clone()?;
 ///         Ok(std::thread::spawn(move || own.range(first * 250..).next()))
 ///     })
-///     .collect::<Result<Vec<_>, _>>()?;
+///     .collect::<Result<Vec<_>, proved_congee::OutOfMemory>>()?;
 /// for (first, thread) in (0..4).zip(threads) {
 ///     assert_eq!(thread.join().unwrap(), Some((first * 250, first * 250 * first * 250)));
 /// }
@@ -31,7 +31,7 @@ use std::sync::{Mutex, PoisonError};
 /// # }
 /// ```
 pub struct Frozen {
-    reader: *mut OpaqueReader,
+    reader: *mut OneReaderForEachThread,
 }
 
 // SAFETY: the library proves that a reader may go to another thread (`unsafe impl Send for FrozenHandle`).
@@ -39,7 +39,7 @@ unsafe impl Send for Frozen {}
 
 // SAFETY of the calls below: as of those of `Map`, of a reader's address.
 impl Frozen {
-    pub(crate) fn of_address(reader: *mut OpaqueReader) -> Frozen {
+    pub(crate) fn of_address(reader: *mut OneReaderForEachThread) -> Frozen {
         Frozen { reader }
     }
 
@@ -54,7 +54,7 @@ impl Frozen {
     /// ```
     /// # fn main() -> Result<(), proved_congee::OutOfMemory> {
     /// let map = proved_congee::Map::try_from_iter([(7, 70)])?;
-    /// let one = map.freeze().map_err(|_| proved_congee::OutOfMemory)?;
+    /// let one = map.freeze()?;
     /// assert_eq!(one.try_clone()?.get(7), Some(70));
     /// # Ok(())
     /// # }
@@ -69,12 +69,12 @@ impl Frozen {
         }
     }
 
-    /// The map, to change it again, if this is its last reader; else the reader. Takes no memory.
+    /// The map, to change it again, if this is its last reader. Else the reader. Takes no memory.
     ///
     /// ```
     /// # fn main() -> Result<(), proved_congee::OutOfMemory> {
     /// let map = proved_congee::Map::try_from_iter([(7, 70)])?;
-    /// let one = map.freeze().map_err(|_| proved_congee::OutOfMemory)?;
+    /// let one = map.freeze()?;
     /// let other = one.try_clone()?;
     /// let one = one.thaw().unwrap_err();
     /// drop(other);
@@ -100,7 +100,7 @@ impl Frozen {
     /// ```
     /// # fn main() -> Result<(), proved_congee::OutOfMemory> {
     /// let map = proved_congee::Map::try_from_iter([(7, 70)])?;
-    /// let frozen = map.freeze().map_err(|_| proved_congee::OutOfMemory)?;
+    /// let frozen = map.freeze()?;
     /// assert_eq!((frozen.get(7), frozen.get(8)), (Some(70), None));
     /// # Ok(())
     /// # }
@@ -116,7 +116,7 @@ impl Frozen {
     /// ```
     /// # fn main() -> Result<(), proved_congee::OutOfMemory> {
     /// let map = proved_congee::Map::try_from_iter([(7, 70), (9, 90)])?;
-    /// let frozen = map.freeze().map_err(|_| proved_congee::OutOfMemory)?;
+    /// let frozen = map.freeze()?;
     /// assert!(frozen.contains_key(7) && !frozen.contains_key(8));
     /// # Ok(())
     /// # }
@@ -130,7 +130,7 @@ impl Frozen {
     /// ```
     /// # fn main() -> Result<(), proved_congee::OutOfMemory> {
     /// let map = proved_congee::Map::try_from_iter([(7, 70), (9, 90)])?;
-    /// let frozen = map.freeze().map_err(|_| proved_congee::OutOfMemory)?;
+    /// let frozen = map.freeze()?;
     /// let mut page = [proved_congee::Pair::default(); 4];
     /// assert_eq!(frozen.read_range(0, 9, &mut page), 1);
     /// assert_eq!((page[0].key, page[0].value), (7, 70));
@@ -154,7 +154,7 @@ impl Frozen {
     /// ```
     /// # fn main() -> Result<(), proved_congee::OutOfMemory> {
     /// let map = proved_congee::Map::try_from_iter([(7, 70), (u64::MAX, 90)])?;
-    /// let frozen = map.freeze().map_err(|_| proved_congee::OutOfMemory)?;
+    /// let frozen = map.freeze()?;
     /// let mut page = [proved_congee::Pair::default(); 2];
     /// assert_eq!(frozen.read_range_inclusive(0, u64::MAX, &mut page), 2);
     /// assert_eq!(page.map(|pair| pair.key), [7, u64::MAX]);
@@ -171,7 +171,7 @@ impl Frozen {
     /// ```
     /// # fn main() -> Result<(), proved_congee::OutOfMemory> {
     /// let map = proved_congee::Map::try_from_iter([(7, 70), (u64::MAX, 90)])?;
-    /// let frozen = map.freeze().map_err(|_| proved_congee::OutOfMemory)?;
+    /// let frozen = map.freeze()?;
     /// let mut page = [proved_congee::Pair::default(); 2];
     /// assert_eq!(frozen.read_range_descending(0, u64::MAX, &mut page), 2);
     /// assert_eq!(page.map(|pair| pair.key), [u64::MAX, 7]);
@@ -188,11 +188,12 @@ impl Frozen {
     /// ```
     /// # fn main() -> Result<(), proved_congee::OutOfMemory> {
     /// let map = proved_congee::Map::try_from_iter([(5, 50), (7, 70), (9, 90)])?;
-    /// let frozen = map.freeze().map_err(|_| proved_congee::OutOfMemory)?;
+    /// let frozen = map.freeze()?;
     /// assert_eq!(frozen.first(), Some((5, 50)));
     /// # Ok(())
     /// # }
     /// ```
+    #[doc(alias = "first_key_value")]
     pub fn first(&self) -> Option<(u64, u64)> {
         self.ceiling(0)
     }
@@ -202,11 +203,12 @@ impl Frozen {
     /// ```
     /// # fn main() -> Result<(), proved_congee::OutOfMemory> {
     /// let map = proved_congee::Map::try_from_iter([(5, 50), (7, 70), (9, 90)])?;
-    /// let frozen = map.freeze().map_err(|_| proved_congee::OutOfMemory)?;
+    /// let frozen = map.freeze()?;
     /// assert_eq!(frozen.last(), Some((9, 90)));
     /// # Ok(())
     /// # }
     /// ```
+    #[doc(alias = "last_key_value")]
     pub fn last(&self) -> Option<(u64, u64)> {
         self.floor(u64::MAX)
     }
@@ -216,7 +218,7 @@ impl Frozen {
     /// ```
     /// # fn main() -> Result<(), proved_congee::OutOfMemory> {
     /// let map = proved_congee::Map::try_from_iter([(5, 50), (7, 70), (9, 90)])?;
-    /// let frozen = map.freeze().map_err(|_| proved_congee::OutOfMemory)?;
+    /// let frozen = map.freeze()?;
     /// assert_eq!((frozen.floor(7), frozen.floor(4)), (Some((7, 70)), None));
     /// # Ok(())
     /// # }
@@ -232,7 +234,7 @@ impl Frozen {
     /// ```
     /// # fn main() -> Result<(), proved_congee::OutOfMemory> {
     /// let map = proved_congee::Map::try_from_iter([(5, 50), (7, 70), (9, 90)])?;
-    /// let frozen = map.freeze().map_err(|_| proved_congee::OutOfMemory)?;
+    /// let frozen = map.freeze()?;
     /// assert_eq!((frozen.ceiling(8), frozen.ceiling(10)), (Some((9, 90)), None));
     /// # Ok(())
     /// # }
@@ -248,7 +250,7 @@ impl Frozen {
     /// ```
     /// # fn main() -> Result<(), proved_congee::OutOfMemory> {
     /// let map = proved_congee::Map::try_from_iter([(5, 50), (7, 70), (9, 90)])?;
-    /// let frozen = map.freeze().map_err(|_| proved_congee::OutOfMemory)?;
+    /// let frozen = map.freeze()?;
     /// assert_eq!((frozen.below(7), frozen.below(0)), (Some((5, 50)), None));
     /// # Ok(())
     /// # }
@@ -262,7 +264,7 @@ impl Frozen {
     /// ```
     /// # fn main() -> Result<(), proved_congee::OutOfMemory> {
     /// let map = proved_congee::Map::try_from_iter([(5, 50), (7, 70), (9, 90)])?;
-    /// let frozen = map.freeze().map_err(|_| proved_congee::OutOfMemory)?;
+    /// let frozen = map.freeze()?;
     /// assert_eq!((frozen.above(7), frozen.above(u64::MAX)), (Some((9, 90)), None));
     /// # Ok(())
     /// # }
@@ -276,7 +278,7 @@ impl Frozen {
     /// ```
     /// # fn main() -> Result<(), proved_congee::OutOfMemory> {
     /// let map = proved_congee::Map::try_from_iter([(5, 50), (7, 70), (9, 90)])?;
-    /// let frozen = map.freeze().map_err(|_| proved_congee::OutOfMemory)?;
+    /// let frozen = map.freeze()?;
     /// assert!(frozen.range(6..).eq([(7, 70), (9, 90)]));
     /// assert_eq!(frozen.range(..=8).next_back(), Some((7, 70)));
     /// # Ok(())
@@ -291,7 +293,7 @@ impl Frozen {
     /// ```
     /// # fn main() -> Result<(), proved_congee::OutOfMemory> {
     /// let map = proved_congee::Map::try_from_iter([(7, 70), (9, 90)])?;
-    /// let frozen = map.freeze().map_err(|_| proved_congee::OutOfMemory)?;
+    /// let frozen = map.freeze()?;
     /// assert!(frozen.iter().eq([(7, 70), (9, 90)]));
     /// # Ok(())
     /// # }
@@ -305,7 +307,7 @@ impl Frozen {
     /// ```
     /// # fn main() -> Result<(), proved_congee::OutOfMemory> {
     /// let map = proved_congee::Map::try_from_iter([(7, 70), (9, 90)])?;
-    /// let frozen = map.freeze().map_err(|_| proved_congee::OutOfMemory)?;
+    /// let frozen = map.freeze()?;
     /// assert!(frozen.keys().eq([7, 9]));
     /// # Ok(())
     /// # }
@@ -319,7 +321,7 @@ impl Frozen {
     /// ```
     /// # fn main() -> Result<(), proved_congee::OutOfMemory> {
     /// let map = proved_congee::Map::try_from_iter([(7, 70), (9, 90)])?;
-    /// let frozen = map.freeze().map_err(|_| proved_congee::OutOfMemory)?;
+    /// let frozen = map.freeze()?;
     /// assert!(frozen.values().eq([70, 90]));
     /// # Ok(())
     /// # }
@@ -333,7 +335,7 @@ impl Frozen {
     /// ```
     /// # fn main() -> Result<(), proved_congee::OutOfMemory> {
     /// let map = proved_congee::Map::new()?;
-    /// let frozen = map.freeze().map_err(|_| proved_congee::OutOfMemory)?;
+    /// let frozen = map.freeze()?;
     /// assert!(frozen.is_empty());
     /// # Ok(())
     /// # }
@@ -347,7 +349,7 @@ impl Frozen {
     /// ```
     /// # fn main() -> Result<(), proved_congee::OutOfMemory> {
     /// let map = proved_congee::Map::try_from_iter([(7, 70), (9, 90)])?;
-    /// let frozen = map.freeze().map_err(|_| proved_congee::OutOfMemory)?;
+    /// let frozen = map.freeze()?;
     /// assert_eq!((frozen.len(), frozen.is_empty()), (2, false));
     /// # Ok(())
     /// # }
@@ -387,7 +389,7 @@ impl<'a> IntoIterator for &'a Frozen {
 ///
 /// # fn main() -> Result<(), OutOfMemory> {
 /// let map = Map::try_from_iter((0..1000).map(|key| (key, key * key)))?;
-/// let readers = Readers::new(map.freeze().map_err(|_| OutOfMemory)?);
+/// let readers = Readers::new(map.freeze()?);
 /// std::thread::scope(|scope| {
 ///     for first in 0..4 {
 ///         let readers = &readers;
@@ -411,7 +413,7 @@ impl Readers {
     /// ```
     /// # fn main() -> Result<(), proved_congee::OutOfMemory> {
     /// let map = proved_congee::Map::try_from_iter([(7, 70), (9, 90)])?;
-    /// let frozen = map.freeze().map_err(|_| proved_congee::OutOfMemory)?;
+    /// let frozen = map.freeze()?;
     /// let readers = proved_congee::Readers::new(frozen);
     /// assert_eq!(readers.reader()?.len(), 2);
     /// # Ok(())
@@ -426,7 +428,7 @@ impl Readers {
     /// ```
     /// # fn main() -> Result<(), proved_congee::OutOfMemory> {
     /// let map = proved_congee::Map::try_from_iter([(7, 70), (9, 90)])?;
-    /// let frozen = map.freeze().map_err(|_| proved_congee::OutOfMemory)?;
+    /// let frozen = map.freeze()?;
     /// let readers = proved_congee::Readers::new(frozen);
     /// let (one, other) = (readers.reader()?, readers.reader()?);
     /// assert_eq!(one.get(7), other.get(7));
@@ -446,7 +448,7 @@ impl Readers {
     /// ```
     /// # fn main() -> Result<(), proved_congee::OutOfMemory> {
     /// let map = proved_congee::Map::try_from_iter([(7, 70), (9, 90)])?;
-    /// let frozen = map.freeze().map_err(|_| proved_congee::OutOfMemory)?;
+    /// let frozen = map.freeze()?;
     /// let readers = proved_congee::Readers::new(frozen);
     /// assert_eq!(readers.into_inner().thaw().unwrap().len(), 2);
     /// # Ok(())

@@ -14,8 +14,9 @@
 //! # }
 //! ```
 //!
-//! What each call returns and leaves is a theorem about the library's code, which its contracts state. It holds for callers
-//! that keep what `congee.h` asks of them, and this wrapper keeps it, but for what lies outside a program's text:
+//! What each function of the library returns and leaves is a theorem about its code, which its contracts state. This wrapper
+//! round them is tested, not proved. The theorem holds for callers that keep what `congee.h` asks of them. The wrapper does,
+//! but for what lies outside a program's text:
 //!
 //! - `malloc`, `realloc` and `free` are of one allocator.
 //! - There is stack for a call: some eight levels, and a few kilobytes.
@@ -28,15 +29,23 @@
 //! # Memory
 //!
 //! Where a call may find no memory, or reach the map's limit, it returns a `Result`, and its `Err` has changed nothing.
-//! So there is no `FromIterator`, `Extend`, `Clone` or `Default`, whose refusals would have no place:
+//! So there is no `FromIterator`, `Extend`, `Clone` or `Default`, whose failures would have no place:
 //! [`Map::try_from_iter`] and [`Map::try_extend`] return them. There is no `Index` either, since values are returned and
 //! not lent.
 //!
+//! A limit bounds the stated sizes of the map's nodes ([`Map::charged`]). `malloc` lends up to 1.8 times that. What removals
+//! free is kept for later insertions, until the map is dropped. So to empty a large map, drop it and make a new one.
+//!
+//! # Cost
+//!
+//! A call on one key, an end or a neighbour reads one or two paths of at most eight nodes. `len`, `is_empty` and `charged`
+//! are constant. Iterators read pages of pairs: 4, then 16, and then 64 at a time.
+//!
 //! # Threads
 //!
-//! A map can move to another thread, and isn't shared by threads, since the library takes a map as its own during each call,
-//! reads included. Put it into a `Mutex` to share it, or freeze it: then [`Readers`] hands out readers, which look up side
-//! by side.
+//! A map can move to another thread. Threads can't share it by `&`, since the library takes a map as its own during each
+//! call, reads included. So it isn't `Sync`, and a `RwLock` or an `Arc` alone doesn't help. Put it into a `Mutex`, or freeze
+//! it: then [`Readers`] hands out readers, which look up side by side.
 //!
 //! ```
 //! # use proved_congee::{Map, OutOfMemory};
@@ -67,7 +76,7 @@ mod pages;
 mod sys;
 
 pub use frozen::{Frozen, Readers};
-pub use map::Map;
+pub use map::{FreezeError, Map};
 pub use pages::{IntoIter, Keys, Range, Values};
 
 use std::fmt;
@@ -98,6 +107,13 @@ impl fmt::Display for OutOfMemory {
 }
 
 impl std::error::Error for OutOfMemory {}
+
+/// So that `?` works in a function that returns an `io::Result`.
+impl From<OutOfMemory> for std::io::Error {
+    fn from(_: OutOfMemory) -> Self {
+        std::io::ErrorKind::OutOfMemory.into()
+    }
+}
 
 /// The version of the archive that the program is linked with: its three numbers.
 ///

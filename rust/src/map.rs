@@ -12,7 +12,7 @@ use std::ops::RangeBounds;
 ///
 /// A call reads one path through the tree, of at most eight nodes.
 pub struct Map {
-    map: *mut OpaqueMap,
+    map: *mut OneThreadAtATime,
 }
 
 // SAFETY: the library proves that a map may go to another thread (`unsafe impl Send for Handle`).
@@ -55,7 +55,7 @@ impl Map {
         }
     }
 
-    /// A map of these pairs; of two with one key the later one counts.
+    /// A map of these pairs. Of two with one key the later one counts.
     ///
     /// ```
     /// # fn main() -> Result<(), proved_congee::OutOfMemory> {
@@ -70,7 +70,7 @@ impl Map {
         Ok(map)
     }
 
-    pub(crate) fn of_address(map: *mut OpaqueMap) -> Map {
+    pub(crate) fn of_address(map: *mut OneThreadAtATime) -> Map {
         Map { map }
     }
 
@@ -159,7 +159,7 @@ impl Map {
         Ok(unless_refused(code, found)?.unwrap_or(value))
     }
 
-    /// Adds the number to the key's value, and returns the value before; a new key gets the number as its value. The sum
+    /// Adds the number to the key's value, and returns the value before. A new key gets the number as its value. The sum
     /// wraps, as `u64::wrapping_add`. Refused as [`insert`](Map::insert) is.
     ///
     /// ```
@@ -214,6 +214,7 @@ impl Map {
     /// # Ok(())
     /// # }
     /// ```
+    #[doc(alias = "first_key_value")]
     pub fn first(&self) -> Option<(u64, u64)> {
         self.pair(|handle, pair| unsafe { congee_c_first(handle, pair) })
     }
@@ -227,6 +228,7 @@ impl Map {
     /// # Ok(())
     /// # }
     /// ```
+    #[doc(alias = "last_key_value")]
     pub fn last(&self) -> Option<(u64, u64)> {
         self.pair(|handle, pair| unsafe { congee_c_last(handle, pair) })
     }
@@ -309,7 +311,8 @@ impl Map {
         self.pair(|handle, pair| unsafe { congee_c_pop_last(handle, pair) })
     }
 
-    /// Removes all pairs. Takes no memory, and frees all nodes but the root.
+    /// Removes all pairs, one by one. Takes no memory, and frees all nodes but the root. To drop a large map and make a new one is
+    /// many times faster, and returns its memory.
     ///
     /// ```
     /// # fn main() -> Result<(), proved_congee::OutOfMemory> {
@@ -488,7 +491,7 @@ impl Map {
         unsafe { congee_c_range_descending(&mut self.handle(), start, last, place, n) }
     }
 
-    /// The pairs whose keys are within the bounds, keys ascending; none if the bounds are reversed. They are read from
+    /// The pairs whose keys are within the bounds, keys ascending. There are none if the bounds are reversed. They are read from
     /// the map by pages, at either end the first of 4 pairs and each four times as long, up to 64.
     ///
     /// ```
@@ -584,25 +587,27 @@ impl Map {
     }
 
     /// Freezes the map: from here on nobody changes it, and it may have several readers, which look up side by side. None
-    /// of its nodes moves or is copied. Where there is no memory for two small blocks, the map is returned as it was.
+    /// of its nodes moves or is copied. Where there is no memory for two small blocks, the map is in the error, as it was.
     ///
     /// ```
     /// # fn main() -> Result<(), proved_congee::OutOfMemory> {
     /// let map = proved_congee::Map::try_from_iter([(7, 70)])?;
-    /// let one = map.freeze().map_err(|_| proved_congee::OutOfMemory)?;
+    /// let one = map.freeze()?;
     /// let other = one.try_clone()?;
     /// let looked_up = std::thread::spawn(move || other.get(7));
     /// assert_eq!((one.get(7), looked_up.join().unwrap()), (Some(70), Some(70)));
     /// # Ok(())
     /// # }
     /// ```
-    pub fn freeze(self) -> Result<Frozen, Map> {
+    pub fn freeze(self) -> Result<Frozen, FreezeError> {
         // (the library owns the map from here on, or returns it)
         let handle = ManuallyDrop::new(self).handle();
         let (mut made, mut back) = (FrozenHandle::none(), Handle::none());
         match unsafe { congee_c_freeze(handle, &mut made, &mut back) } {
             0 => Ok(Frozen::of_address(made.reader)),
-            _ => Err(Map { map: back.map }),
+            _ => Err(FreezeError {
+                map: Map { map: back.map },
+            }),
         }
     }
 }
@@ -666,5 +671,32 @@ impl IntoIterator for Map {
 
     fn into_iter(self) -> IntoIter {
         IntoIter::of(self)
+    }
+}
+
+/// There was no memory to freeze the map, which is as it was.
+#[derive(Debug)]
+pub struct FreezeError {
+    map: Map,
+}
+
+impl FreezeError {
+    /// The map.
+    pub fn into_map(self) -> Map {
+        self.map
+    }
+}
+
+impl fmt::Display for FreezeError {
+    fn fmt(&self, f: &mut fmt::Formatter<'_>) -> fmt::Result {
+        OutOfMemory.fmt(f)
+    }
+}
+
+impl std::error::Error for FreezeError {}
+
+impl From<FreezeError> for OutOfMemory {
+    fn from(_: FreezeError) -> OutOfMemory {
+        OutOfMemory
     }
 }

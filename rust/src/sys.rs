@@ -3,28 +3,28 @@
 
 use crate::Pair;
 
-/// What the address of a map points to.
+/// What the address of a map points to. (The compiler shows its name to whoever shares a map by `&`.)
 #[repr(C)]
-pub(crate) struct OpaqueMap {
+pub(crate) struct OneThreadAtATime {
     _private: [u8; 0],
 }
 
-/// What the address of a reader points to.
+/// What the address of a reader points to, named as above.
 #[repr(C)]
-pub(crate) struct OpaqueReader {
+pub(crate) struct OneReaderForEachThread {
     _private: [u8; 0],
 }
 
 /// What the library takes: the address of a map.
 #[repr(C)]
 pub(crate) struct Handle {
-    pub(crate) map: *mut OpaqueMap,
+    pub(crate) map: *mut OneThreadAtATime,
 }
 
 /// The address of a reader of a frozen map.
 #[repr(C)]
 pub(crate) struct FrozenHandle {
-    pub(crate) reader: *mut OpaqueReader,
+    pub(crate) reader: *mut OneReaderForEachThread,
 }
 
 impl Handle {

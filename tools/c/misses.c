@@ -1,4 +1,4 @@
-/* Makes one kind of call on each key of a map, for a program that counts what the processor does (tools/count-misses). */
+/* Makes one kind of call on each key of a map, for a program that counts what the processor does (tools/dev/count-misses). */
 #include "congee.h"
 #include <inttypes.h>
 #include <stdio.h>

@@ -46,7 +46,7 @@ def differences(data, page):
 
 
 def with_bench(data, bench):
-    """The times with those of `tools/bench-threads --json` in the place of the same form's."""
+    """The times with those of `tools/dev/bench-threads --json` in the place of the same form's."""
     names = [f"{call} {count}" for call in CALLS for count in THREADS]
     new = {(row["keys"], row["form"]): {name: round(row[name]) for name in names} for row in bench}
     for row in data["threads"]["rows"]:

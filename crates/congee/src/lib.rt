@@ -1,19 +1,12 @@
-//! The map for its users: the typed faces, the forms that threads share, calls as data, and all that they name.
+//! The map for its users: all of `congee_owned`, the forms that threads share, and calls as data.
+//!
+//! Tested in `test_owned`, `share_maps` and `test_share_hostile`.
 #![tactic(auto)]
 
-pub use face_payloads::congee_arc::{CongeeArc, PayloadCongee};
+pub use congee_owned::{
+    Allocator, Budget, Congee, CongeeArc, DefaultAllocator, Drainer, FnDrain, InsertManyError,
+    LevelStats, Levels, NoDrain, NodeSize, NodeStats, OOMError, Payload, PayloadCongee, U64Congee,
+    Word,
+};
 pub use face_runs::{calls, payload_calls, u64_calls};
-pub use face_typed::many::InsertManyError;
-pub use face_typed::typed_congee::Congee;
-pub use face_u64::u64_congee::U64Congee;
-pub use node_base::base_node::NodeSize;
-pub use node_stats::NodeStats;
-pub use node_stats::levels::{LevelStats, Levels};
-pub use node_table::allocator::{Allocator, Budget, DefaultAllocator};
 pub use share_maps::{locked, shared};
-pub use spec_map::error::OOMError;
-pub use spec_map::payload::Payload;
-pub use spec_map::traits::{Drainer, FnDrain, NoDrain, Word};
-
-#[cfg(test)]
-mod tests;

@@ -1,4 +1,6 @@
 //! Calls that remove many pairs.
+//!
+//! Tested in `tools/c-library`.
 
 ghost use Rattle.std.specs.Prelude.{◌≡◌, ◌+◌, [], length};
 ghost use Rattle.spec_map.specs.Map.{between};

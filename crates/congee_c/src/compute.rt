@@ -1,4 +1,6 @@
 //! Calls that put the new value together from the current one, in one path through the tree.
+//!
+//! Tested in `tools/c-library`.
 
 ghost use Rattle.std.specs.Prelude.{◌≡◌, ◌≢◌, ℕ, pos, ◌⊎◌, None, Some, IfOk, OnOk, OnErr, unwrap_or};
 ghost use Rattle.spec_map.specs.Map.{lookup, put, without, IsMap};

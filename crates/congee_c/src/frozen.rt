@@ -2,6 +2,8 @@
 //!
 //! A map is frozen where it is on the heap: none of its nodes moves or is copied. Each reader has a share of it, and the
 //! last one takes it out again.
+//!
+//! Tested in `tools/c-library`.
 
 ghost use Rattle.std.specs.Prelude.{◌≡◌, pos, ◌⊎◌, ◌+◌, ◌++◌, None, Some, IfSome, IsSome, length, min, map, take, drop, reverse};
 ghost use Rattle.spec_map.specs.Map.{lookup, between};

@@ -1,4 +1,6 @@
 //! A box of the map whose pointer C may hold.
+//!
+//! Tested in `tools/c-library`.
 
 ghost use Rattle.std.specs.Prelude.{◌≡◌, IfOk};
 ghost use Rattle.congee_c.specs.inner.Owned.{held_coded, handle_owns};

@@ -1,4 +1,6 @@
 //! The map that a handle holds.
+//!
+//! Tested in `tools/c-library`.
 
 ghost use Rattle.std.specs.Prelude.{IfOk};
 ghost use Rattle.congee_c.specs.Limit.{limit_of, limit_charge};

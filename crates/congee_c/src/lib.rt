@@ -7,6 +7,8 @@
 //!
 //! Here are the calls that make a map and get, set and remove one key; `compute`, `near`, `bulk` and `frozen` have the
 //! others.
+//!
+//! Tested in `tools/c-library`.
 #![tactic(auto)]
 
 ghost use Rattle.std.specs.Prelude.{◌≡◌, ◌≢◌, ℕ, pos, ◌⊎◌, ◌↔◌, ◌++◌, [], Some, None, IfSome, IsSome, IsTrue, length, min, map, take, drop};

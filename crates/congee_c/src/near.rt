@@ -1,4 +1,6 @@
 //! The ends of a map, the neighbours of a key, and ranges that include their last key, in both directions.
+//!
+//! Tested in `tools/c-library`.
 
 ghost use Rattle.std.specs.Prelude.{◌≡◌, ◌+◌, ◌++◌, length, min, map, take, drop, reverse};
 ghost use Rattle.spec_map.specs.Map.{between};

@@ -1,4 +1,6 @@
 //! Where the handle of a new map is written.
+//!
+//! Tested in `tools/c-library`.
 
 ghost use Rattle.std.specs.Prelude.{◌≡◌, Option, Some};
 ghost use Rattle.congee_c.specs.declared.held.Held.{Held};

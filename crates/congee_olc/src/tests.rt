@@ -1,24 +1,12 @@
-//! Lock words and pins, call by call.
+//! Lock words and pins, the machine call by call, and what a schedule can't say: budgets, refusals and owners.
 
 mod cleanup_owners;
-mod cleanups;
-mod cleanups_beside;
-mod closures;
-mod courses;
 mod epoch;
-mod insertions;
+mod events;
+mod history;
 mod lock;
-mod longest;
 mod machine;
-mod many_pairs;
 mod memory;
-mod pairs;
-mod parts;
-mod range_oracle;
 mod range_owners;
-mod ranges;
-mod reclaiming;
 mod refusals;
-mod removals;
 mod schedules;
-mod worked;

@@ -1,4 +1,6 @@
 //! Calls of a table as data, and whole runs of them.
+//!
+//! Tested in `test_owned/table`.
 
 ghost use Rattle.std.specs.Prelude.{◌≡◌, ◌∷◌, [], take, IfOk, OnErr};
 ghost use Rattle.congee_table.specs.Rows.{group_rows};

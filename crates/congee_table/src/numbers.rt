@@ -1,4 +1,6 @@
 //! Numbers of 64 bits as two halves of 32 bits.
+//!
+//! Tested in `test_owned/table`.
 
 ghost use Rattle.std.specs.Prelude.{◌≡◌, ◌/◌, ◌%◌, ◌^◌, map};
 ghost use Rattle.congee_table.specs.Index.{joined_halves};

@@ -1,4 +1,6 @@
 //! The table: its rows, its calls and their errors.
+//!
+//! Tested in `test_owned/table`.
 
 ghost use Rattle.std.specs.Prelude.{◌≡◌, ◌≢◌, ◌↔◌, [], ◌++◌, ◌/◌, ◌%◌, ◌^◌, Some, None, IfOk, OnOk, OnErr, IsErrOf, IsOkUnless, codes, length, min, take, drop};
 ghost use Rattle.spec_map.specs.Map.{lookup, put, without};

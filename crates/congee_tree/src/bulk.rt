@@ -1,4 +1,6 @@
 //! Calls that change many pairs.
+//!
+//! Tested in `test_owned/bulk`.
 
 ghost use Rattle.std.specs.Prelude.{◌≡◌, ◌+◌, [], length, take, IfSome, IfNone, IfErr, OnOk, slice_get, IsSomeAnd, None, Some};
 ghost use Rattle.congee_tree.specs.Bulk.{outside, next_of, put_all};

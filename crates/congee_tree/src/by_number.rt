@@ -1,4 +1,6 @@
 //! The point calls by a `u64`; the count of reads is dropped.
+//!
+//! Tested in `test_owned` and `tools/dev/try-commands`.
 
 ghost use Rattle.std.specs.Prelude.{◌≡◌, ◌<◌, option_copied};
 ghost use Rattle.std.specs.Fn.{TakesAt};

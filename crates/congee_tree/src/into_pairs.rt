@@ -1,4 +1,6 @@
 //! The pairs of a tree, taken out of it one by one.
+//!
+//! Tested in `test_owned` and `tools/dev/try-commands`.
 
 ghost use Rattle.std.specs.Prelude.{◌≡◌};
 ghost use Rattle.std.specs.Iterator.{YieldsFirst, item_count};

@@ -1,4 +1,6 @@
 //! The tree under the faces: an ordered map from keys of eight bytes to payloads.
+//!
+//! Tested in `test_owned` and `tools/dev/try-commands`.
 #![tactic(auto)]
 
 pub mod bulk;

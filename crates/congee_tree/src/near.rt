@@ -1,4 +1,6 @@
 //! The ends of a tree's pairs, and the neighbours of a key.
+//!
+//! Tested in `test_owned/neighbours`.
 
 ghost use Rattle.std.specs.Prelude.{◌≡◌, IfSome, IfNone, Some};
 ghost use Rattle.std.specs.Int.{to_be_bytes, w64};

@@ -1,4 +1,6 @@
 //! The pairs of a range, ascending or descending.
+//!
+//! Tested in `test_owned` and `tools/dev/try-commands`.
 
 ghost use Rattle.std.specs.Prelude.{◌≡◌, ◌+◌, ◌++◌, length, map, min, take, drop, reverse};
 ghost use Rattle.std.specs.Int.{from_be_bytes, w64};

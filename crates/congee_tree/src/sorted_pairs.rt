@@ -1,6 +1,8 @@
 //! The plainest ordered map: one vector of pairs, their keys ascending.
 //!
 //! Its contract is the definition of the ordered map, call for call. So tests may compare any other body with it.
+//!
+//! Tested in `test_owned` and `tools/dev/try-commands`.
 
 ghost use Rattle.std.specs.Prelude.{◌≡◌, ℕ, [], length, IfOk, IfErr, OnOk, OnErr, option_copied};
 ghost use Rattle.spec_map.specs.Map.{lookup, put, without, IsMap};

@@ -1,5 +1,7 @@
 //! `RawCongee`, the adaptive radix tree under the typed faces (*The Adaptive Radix Tree*, Leis et al.): the tree of
 //! `tree_edit`, and the walks over it.
+//!
+//! Tested in `test_owned` and `tools/dev/try-commands`.
 
 ghost use Rattle.std.specs.Prelude.{◌≡◌, ◌+◌, ◌<◌, ◌^◌, ◌↔◌, [], length, IfOk, IsTrue, option_copied};
 ghost use Rattle.std.specs.Fn.{TakesAt};

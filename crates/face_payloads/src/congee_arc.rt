@@ -1,4 +1,6 @@
 //! `CongeeArc`, the map from keys to shared values.
+//!
+//! Tested in `test_owned/shared_values` and `test_owned/leaks`.
 
 ghost use Rattle.std.specs.Prelude.{◌≡◌, [], IfOk, IsTrue, ◌↔◌, map as each, option_copied};
 ghost use Rattle.std.specs.Fn.{TakesAt};

@@ -1,4 +1,6 @@
 //! Calls of a face as data, and whole runs of them: every list of calls is a legal run of one map.
+//!
+//! Tested in `test_owned/faces`.
 
 ghost use Rattle.std.specs.Prelude.{◌≡◌, ℕ, Some, None, take, IfOk, OnOk, OnErr};
 ghost use Rattle.std.specs.Option.{option_map};

@@ -1,4 +1,6 @@
 //! Calls of the faces and their replies as data, and whole runs of them: each is a legal run of one map.
+//!
+//! Tested in `test_owned/faces`.
 #![tactic(auto)]
 
 pub mod calls;

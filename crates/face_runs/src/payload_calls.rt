@@ -1,4 +1,6 @@
 //! Calls of `CongeeArc` as data, and whole runs of them.
+//!
+//! Tested in `test_owned/faces`.
 
 ghost use Rattle.std.specs.Prelude.{◌≡◌, Some, None, IfOk, OnErr};
 ghost use Rattle.spec_map.specs.Map.{lookup, with_answer};

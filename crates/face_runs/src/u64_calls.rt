@@ -1,4 +1,6 @@
 //! Calls of `U64Congee` as data, and whole runs of them.
+//!
+//! Tested in `test_owned/faces`.
 
 ghost use Rattle.std.specs.Prelude.{◌≡◌, take, IfOk, OnErr, map as each};
 ghost use Rattle.std.specs.Int.{to_be_bytes, w64};

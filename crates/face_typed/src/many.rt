@@ -1,4 +1,6 @@
 //! The error of an insertion of several pairs.
+//!
+//! Tested in `test_owned/bulk`.
 
 ghost use Rattle.std.specs.Prelude.{Some, codes};
 

@@ -1,4 +1,6 @@
 //! `Congee`, the map from keys to values that are stored as numbers.
+//!
+//! Tested in `test_owned/faces`.
 
 ghost use Rattle.std.specs.Prelude.{◌≡◌, ◌≢◌, ℕ, [], Option, Some, None, Ok, Err, IfOk, OnOk, OnErr, IsTrue, ◌↔◌, ◌+◌, ◌<◌, ◌^◌, ◌++◌, length, min, map, take, drop, reverse, option_copied};
 ghost use Rattle.std.specs.List.{FoldsTo};

@@ -1,4 +1,6 @@
 //! `U64Congee`, the map from numbers to values that are stored as numbers.
+//!
+//! Tested in `test_owned/faces`.
 
 ghost use Rattle.std.specs.Prelude.{◌≡◌, ℕ, [], ◌+◌, ◌++◌, length, min, map, take, drop, reverse, IfOk, OnOk, OnErr};
 ghost use Rattle.std.specs.Int.{to_be_bytes, w64};

@@ -1,4 +1,6 @@
 //! What all forms of nodes have, the size that each is charged, and the one contract that they meet.
+//!
+//! Tested in `congee_nodes`.
 
 ghost use Rattle.std.specs.Prelude.{◌≡◌, ◌↔◌, ℕ, ◌+◌, ◌-◌, ◌<◌, ◌≤◌, List, [], ◌∷◌, ◌++◌, length, take, replicate, IsTrue, false, IsSome, Some, None, IfOk, IfErr, OnOk, OnErr, option_copied};
 ghost use Rattle.std.specs.Int.{w64, to_be_bytes, from_be_bytes};

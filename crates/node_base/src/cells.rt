@@ -1,5 +1,7 @@
 //! A block of 256 cells on the heap, each empty or with a child: the children of a node by their bytes, with no index
 //! and no order to keep.
+//!
+//! Tested in `congee_nodes`.
 
 ghost use Rattle.std.specs.Prelude.{◌≡◌, length, List, Option, Some, None, replicate, IfOk, IsSome, slice_index_or, slice_set};
 ghost use Rattle.std.specs.Coded.{coded_list, coded_option};

@@ -1,4 +1,6 @@
 //! Up to four children in the node itself, so that a node with few takes no memory of its own.
+//!
+//! Tested in `congee_nodes`.
 
 ghost use Rattle.std.specs.Prelude.{◌≡◌, ℕ, ◌+◌, ◌<◌, ◌≤◌, [], ◌++◌, length, option_copied, slice_get, slice_index_or, slice_set, vec_len, vec_capacity};
 ghost use Rattle.std.specs.List.{insert, remove};

@@ -3,6 +3,8 @@
 //! A struct of both has the row's alignment, and so begins eight bytes behind the enum's tag. A head alone has
 //! alignment 1 and fills those bytes: so a node in a table of nodes is as large as one cache line, its slot's tag
 //! included.
+//!
+//! Tested in `congee_nodes`.
 
 ghost use Rattle.std.specs.Prelude.{◌≡◌, ℕ, ◌+◌, ◌<◌, ◌≤◌, List, [], length, None, Some, IfOk, IfErr, OnOk, OnErr, option_copied};
 ghost use Rattle.std.specs.Option.{option_map};

@@ -1,4 +1,6 @@
 //! Iterators over the children of a node, each with its byte, ascending. They borrow the node and take no memory.
+//!
+//! Tested in `congee_nodes`.
 
 ghost use Rattle.std.specs.Prelude.{◌≡◌, ℕ, ◌+◌, ◌≤◌, length};
 ghost use Rattle.std.specs.Iterator.{YieldsFirstBy, item_count};

@@ -1,6 +1,8 @@
 //! The search among sixteen bytes, or four, all lanes at once (*The Adaptive Radix Tree*, Leis et al., section III).
 //!
 //! Bytes past the count never match, whatever they are.
+//!
+//! Tested in `congee_nodes`.
 
 ghost use Rattle.std.specs.Prelude.{◌≡◌, ℕ, ◌+◌, ◌-◌, ◌≤◌, ◌==◌, nat_lt, not, take, count_by, bit_and, ◌%◌, ◌^◌};
 ghost use Rattle.std.specs.List.{prefix_len};

@@ -1,4 +1,6 @@
 //! A mask of 256 bits, one for each byte: which bytes of a node have a child, in 32 bytes.
+//!
+//! Tested in `congee_nodes`.
 
 ghost use Rattle.std.specs.Prelude.{IsTrue, false, ◌≡◌, ◌≢◌, ℕ, ◌+◌, ◌<◌, ◌≤◌, IfSome, IfNone};
 ghost use Rattle.node_base.specs.inner.Marked.{mark_at};

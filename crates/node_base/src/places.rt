@@ -1,4 +1,6 @@
 //! A cell for each byte's child and the mask of the filled ones: the children of a node that can have 256.
+//!
+//! Tested in `congee_nodes`.
 
 ghost use Rattle.std.specs.Prelude.{◌≡◌, ◌≢◌, ℕ, ◌<◌, ◌≤◌, [], replicate, Some, None, IsSome, IfSome, IfNone, IfOk, IfErr, OnOk, OnErr, option_copied, slice_get, slice_index, vec_len, vec_capacity};
 ghost use Rattle.node_base.specs.inner.Places.{in_cell, IsMarked};

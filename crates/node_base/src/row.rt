@@ -1,4 +1,6 @@
 //! Children in a row, and the index of all bytes that a `Node48` has: for each byte the place of its child.
+//!
+//! Tested in `congee_nodes`.
 
 ghost use Rattle.std.specs.Prelude.{◌≡◌, ◌≢◌, ℕ, ◌+◌, ◌<◌, ◌≤◌, [], ◌∷◌, ◌++◌, length, replicate, IfSome, IfNone, slice_index, vec_len, vec_capacity};
 

@@ -1,4 +1,6 @@
 //! Bytes in ascending order at the front of an array.
+//!
+//! Tested in `congee_nodes`.
 
 ghost use Rattle.std.specs.Prelude.{◌≡◌, ℕ, ◌+◌, ◌-◌, ◌<◌, ◌≤◌, length, take, slice_index};
 ghost use Rattle.node_base.specs.inner.Sorted.{below};

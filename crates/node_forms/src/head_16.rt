@@ -1,4 +1,6 @@
 //! The head of a node with up to sixteen bytes: the bytes, ascending. The children are in the row beside it.
+//!
+//! Tested in `congee_nodes`.
 
 ghost use Rattle.std.specs.Prelude.{◌≡◌, ℕ, ◌<◌, ◌≤◌, [], length, IfOk, OnOk, OnErr};
 ghost use Rattle.node_base.specs.inner.Few.{listed};

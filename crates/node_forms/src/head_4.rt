@@ -1,4 +1,6 @@
 //! The head of a node with up to four bytes: the bytes, ascending. The children are in the row beside it.
+//!
+//! Tested in `congee_nodes`.
 
 ghost use Rattle.std.specs.Prelude.{◌≡◌, ℕ, ◌≤◌, length};
 

@@ -1,4 +1,6 @@
 //! The four forms of a node.
+//!
+//! Tested in `congee_nodes`.
 #![tactic(auto)]
 
 pub mod head_16;

@@ -1,4 +1,6 @@
 //! A node with a cell for the child of each byte (*The Adaptive Radix Tree*, Leis et al., section III).
+//!
+//! Tested in `congee_nodes`.
 
 ghost use Rattle.std.specs.Prelude.{◌≡◌, ℕ, ◌≤◌, [], length, IfOk, OnOk, OnErr};
 ghost use Rattle.node_base.specs.NodeView.{NodeView};

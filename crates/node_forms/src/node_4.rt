@@ -1,5 +1,7 @@
 //! A node with up to four bytes, ascending, and the children beside them
 //! (*The Adaptive Radix Tree*, Leis et al., section III).
+//!
+//! Tested in `congee_nodes`.
 
 ghost use Rattle.std.specs.Prelude.{◌≡◌, ℕ, ◌≤◌, [], length, IfOk, IsOk};
 ghost use Rattle.node_base.specs.NodeView.{NodeView};

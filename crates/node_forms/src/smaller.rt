@@ -2,6 +2,8 @@
 //!
 //! The larger node is left without children. All memory is taken before the first change, and refused only for lack of
 //! it.
+//!
+//! Tested in `congee_nodes`.
 
 ghost use Rattle.std.specs.Prelude.{◌≡◌, ℕ, ◌≤◌, [], length, IfOk, OnErr};
 ghost use Rattle.node_base.specs.inner.Few.{listed};

@@ -1,4 +1,6 @@
 //! Fractions in hundredths, by whole numbers alone.
+//!
+//! Tested in `congee_nodes/stats`.
 
 ghost use Rattle.std.specs.Prelude.{◌≡◌, ◌+◌, ◌*◌, ◌<◌, ◌≤◌, ◌^◌, Some};
 ghost use Rattle.node_stats.specs.Fractions.{hundredths as hundredths_of, IsNearestHundredth, with_two_decimals, right_aligned};

@@ -1,4 +1,6 @@
 //! The counts of one level, and the list of the levels.
+//!
+//! Tested in `congee_nodes/stats`.
 
 ghost use Rattle.std.specs.Prelude.{◌≡◌, ◌+◌, ◌-◌, ◌<◌, ◌++◌, length, replicate, OnOk, OnErr, slice_set};
 ghost use Rattle.node_base.specs.Form.{form_place};

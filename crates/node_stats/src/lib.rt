@@ -2,6 +2,8 @@
 //!
 //! A level is the number of nodes above. No number here is a float: a fraction is exact until it is printed in
 //! hundredths.
+//!
+//! Tested in `congee_nodes/stats`.
 #![tactic(auto)]
 
 ghost use Rattle.std.specs.Prelude.{◌≡◌, ◌+◌, List, [], ◌∷◌, ◌++◌, OnOk, OnErr};

@@ -1,4 +1,6 @@
 //! The text of the statistics: a type for each part of it.
+//!
+//! Tested in `congee_nodes/stats`.
 
 ghost use Rattle.std.specs.Prelude.{◌≡◌, ◌≤◌, ◌<◌, ◌^◌, ◌*◌, length, Some};
 ghost use Rattle.node_base.specs.Form.{stated_size};

@@ -1,4 +1,6 @@
 //! A budget over the stated sizes of nodes.
+//!
+//! Tested in `congee_nodes`.
 
 ghost use Rattle.std.specs.Prelude.{◌≡◌, ℕ, ◌+◌, ◌≤◌, ◌↔◌, Option, Some, None, IsOk, OnOk, OnErr};
 ghost use Rattle.node_table.specs.Charge.{add_charge, Covers};

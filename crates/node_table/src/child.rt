@@ -1,4 +1,6 @@
 //! What a node of a tree in one table has under a byte.
+//!
+//! Tested in `congee_nodes`.
 
 use node_base::iter::NodeIter;
 

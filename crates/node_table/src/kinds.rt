@@ -1,4 +1,6 @@
 //! A node of one form as a node of a tree in one table: its children are slots or payloads.
+//!
+//! Tested in `congee_nodes`.
 
 ghost use Rattle.std.specs.Prelude.{◌≡◌, ◌+◌, ◌<◌, ◌≤◌, [], ◌∷◌, length, IfOk, IfErr, OnOk, OnErr, IfSome, IfNone, Some, None};
 ghost use Rattle.std.specs.Int.{w64, to_be_bytes};

@@ -1,4 +1,6 @@
 //! A node of a tree in one table: a leaf, whose children are payloads, or an inner node, whose children are slots.
+//!
+//! Tested in `congee_nodes`.
 
 ghost use Rattle.std.specs.Prelude.{◌≡◌, ◌↔◌, ℕ, ◌+◌, ◌<◌, ◌≤◌, [], ◌∷◌, length, IfOk, IfErr, OnOk, OnErr, IfSome, IfNone, IsTrue, false, IsSome, Some, None};
 ghost use Rattle.std.specs.Int.{w64, to_be_bytes};

@@ -1,4 +1,6 @@
 //! The next event of a call, by its stage.
+//!
+//! Tested in `tools/dev/try-schedules`.
 
 ghost use Rattle.std.specs.Prelude.{◌≡◌, ◌≢◌, ◌↔◌, IsTrue};
 ghost use Rattle.olc_state.specs.inner.Tables.{IsPlaced};

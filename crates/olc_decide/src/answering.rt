@@ -1,4 +1,6 @@
 //! Answer: a call takes what its closure answered; and the Check that decides it if the answer is the current value.
+//!
+//! Tested in `tools/dev/try-schedules`.
 
 ghost use Rattle.std.specs.Prelude.{◌≡◌, Option, Some, None, IfErr, IfOk, IsOk, IsSome, option_copied, true};
 ghost use Rattle.spec_olc.specs.Kinds.{SharesAnswer, report_of};

@@ -1,4 +1,6 @@
 //! Check: whether the current node's word is still the remembered one, and what follows for the key.
+//!
+//! Tested in `tools/dev/try-schedules`.
 
 ghost use Rattle.std.specs.Prelude.{◌≡◌, Some};
 ghost use Rattle.spec_olc.specs.declared.types.Env.{Env};

@@ -1,4 +1,6 @@
 //! What a call finds at a node on its key's path, and what it does if its key is absent.
+//!
+//! Tested in `tools/dev/try-schedules`.
 
 ghost use Rattle.std.specs.Prelude.{◌≡◌, ◌↔◌, IsTrue, Some, None, false};
 ghost use Rattle.spec_olc.specs.declared.types.Env.{Env};

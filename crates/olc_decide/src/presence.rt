@@ -1,4 +1,6 @@
 //! What a point call does if its key is present.
+//!
+//! Tested in `tools/dev/try-schedules`.
 
 ghost use Rattle.std.specs.Prelude.{◌≡◌, None};
 ghost use Rattle.node_table.specs.TableNode.{seen};

@@ -1,4 +1,6 @@
 //! Check: whether a node's word is still the remembered one. If it isn't, the call cleans up no more.
+//!
+//! Tested in `tools/dev/try-schedules`.
 
 ghost use Rattle.std.specs.Prelude.{◌≡◌};
 ghost use Rattle.spec_olc.specs.Calls.{bytes_of};

@@ -1,5 +1,7 @@
 //! Read: the child under the key's byte of the current node. If a share of a payload is refused, it reports no child,
 //! as a call that cleans up doesn't look at payloads.
+//!
+//! Tested in `tools/dev/try-schedules`.
 
 ghost use Rattle.std.specs.Prelude.{◌≡◌, Some};
 ghost use Rattle.spec_olc.specs.Calls.{bytes_of};

@@ -1,4 +1,6 @@
 //! The next event of a call that cleans up, on its way down.
+//!
+//! Tested in `tools/dev/try-schedules`.
 
 ghost use Rattle.std.specs.Prelude.{◌≡◌, ◌≢◌};
 ghost use Rattle.spec_olc.specs.declared.types.Env.{Env};

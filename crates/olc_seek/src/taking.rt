@@ -1,5 +1,7 @@
 //! Take: the word of the root, or of the node that was read, which is remembered if it is free. If it isn't, the call
 //! cleans up no more.
+//!
+//! Tested in `tools/dev/try-schedules`.
 
 ghost use Rattle.std.specs.Prelude.{◌↔◌, IsTrue};
 ghost use Rattle.spec_olc.specs.Calls.{bytes_of};

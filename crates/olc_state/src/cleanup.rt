@@ -12,6 +12,8 @@
 //! The last events are those of a tail: `Obsolete` and `Unlock`. Whatever fails on the way or is refused ends the
 //! cleanup, and the call ends with the reply that it has. If a first cleanup has taken a node away and left the parent
 //! with few children, a second one follows for the parent.
+//!
+//! Tested in `congee_olc` and `tools/dev/try-schedules`.
 
 use crate::stage::{Path, Spot};
 use crate::tail::NodePair;

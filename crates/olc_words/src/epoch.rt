@@ -3,15 +3,14 @@
 //! A pin is the count of retirements at a call's start. A node that was retired when the count was n may be reclaimed
 //! once every call in flight has a pin above n. The count saturates at `2^64 - 1`; nodes that are retired from then on
 //! are kept until the tree is dropped.
+//!
+//! Tested in `congee_olc/epoch` and `test_olc_ends`.
 
 ghost use Rattle.std.specs.Prelude.{◌≡◌, ℕ, ◌<◌, ◌≤◌, ◌⊎◌, ◌↔◌, true, false, IsTrue, Some, None, IsSome, IfSome, IfNone, IsOk, OnOk, OnErr, []};
 ghost use Rattle.olc_words.specs.Epoch.{is_seated, pin_of, life_of, ChangesSeat, ChangesLife, admitted, StartedAfter, AllStartedAfter, IsReclaimable};
 ghost use Rattle.std.specs.VecDeque.{deque_capacity};
 ghost use Rattle.spec_olc.specs.Retirement.{stamp_at, count_after};
 ghost use Rattle.olc_words.specs.Waiting.{Ascends, Waits, IsFirstWaiting, IsListed, IsWithout};
-
-#[cfg(test)]
-mod tests;
 
 use crate::lives::Lives;
 use spec_map::error::OOMError;
@@ -144,10 +143,17 @@ impl Pins {
     pub fn new(alloc: Global) -> Self
         ensures { result ≡ record { seats = []; slots = []; count = 0 } }
     {
+        Self::at_count(alloc, 0)
+    }
+
+    /// As `new`, but so many nodes count as retired already, and their slots as forgotten. Takes no memory.
+    pub fn at_count(alloc: Global, count: u64) -> Self
+        ensures { result ≡ record { seats = []; slots = []; count = count } }
+    {
         Pins {
             seats: BTreeMap::new(alloc),
             slots: Lives::new(alloc),
-            count: 0,
+            count,
             waiting: VecDeque::new(alloc),
             whole: true,
         }

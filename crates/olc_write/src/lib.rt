@@ -1,6 +1,8 @@
 //! The events of a call that write: its tail, from the first upgrade to the last unlock.
 //!
 //! The table in `olc_state::tail` lists which events follow one another in each case.
+//!
+//! Tested in `tools/dev/try-schedules` and `congee_olc/refusals`.
 #![tactic(auto)]
 
 mod detaching;

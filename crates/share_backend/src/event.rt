@@ -1,4 +1,6 @@
 //! The event of a call.
+//!
+//! Tested in `share_maps` and `test_share_hostile`.
 
 use spec_olc::types::{Outcome, Report};
 

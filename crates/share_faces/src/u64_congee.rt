@@ -1,4 +1,6 @@
 //! `U64Congee`, the map from numbers to values that numbers represent, which threads share.
+//!
+//! Tested in `share_maps` and `test_share_hostile`.
 
 ghost use Rattle.std.specs.Prelude.{◌≡◌, ◌≢◌, ℕ, ◌≤◌, ◌+◌, ◌^◌, [], length, IfOk, OnErr, MatchResult, map};
 ghost use Rattle.spec_map.specs.Call.{get, insert, remove};

@@ -1,5 +1,7 @@
 //! The point calls, by number and payload. Each returns what the map returns at the end of a legal history that begins
 //! with what the guard had seen.
+//!
+//! Tested in `test_share_guards` and `share_maps/guards`.
 
 ghost use Rattle.std.specs.Prelude.{◌≡◌, Some, IfOk, IfSome, OnErr};
 ghost use Rattle.spec_map.specs.Call.{compare_exchange, exchanged, get, insert, old_value, remove};

@@ -1,5 +1,7 @@
 //! The calls of a map that threads share, by guards that know what they have seen: each reply is the map's at the end
 //! of one legal history that begins with what its guard had seen.
+//!
+//! Tested in `test_share_guards` and `share_maps/guards`.
 #![tactic(auto)]
 
 pub mod calls;

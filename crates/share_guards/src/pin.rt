@@ -1,4 +1,6 @@
 //! Why a guard wasn't given.
+//!
+//! Tested in `test_share_guards` and `share_maps/guards`.
 
 use spec_map::error::OOMError;
 use std::error::Error;

@@ -1,4 +1,6 @@
 //! The pairs of a range: those of one moment, in one hold, or those that a call of many events finds.
+//!
+//! Tested in `test_share_guards` and `share_maps/guards`.
 
 ghost use Rattle.std.specs.Prelude.{◌≡◌, ◌≤◌, length};
 

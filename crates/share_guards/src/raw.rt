@@ -1,4 +1,6 @@
 //! A map that threads share, and its guards.
+//!
+//! Tested in `test_share_guards` and `share_maps/guards`.
 
 ghost use Rattle.std.specs.Prelude.{◌≡◌, [], None, IfOk, OnErr};
 ghost use Rattle.spec_olc.specs.Calls.{IsPoint, outline_of};

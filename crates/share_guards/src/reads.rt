@@ -1,5 +1,7 @@
 //! What is read of a shared map at one moment, each in one hold of the lock, by a seat that is borrowed for it. The
 //! contract of the same call of `LockedState` states what a hold returns, for the state under the lock.
+//!
+//! Tested in `test_share_guards` and `share_maps/guards`.
 
 ghost use Rattle.std.specs.Prelude.{◌≡◌, ◌≢◌, ◌++◌, ◌^◌, ℕ, [], None, IfOk, IfSome, MatchResult, length, map, min, take, drop};
 ghost use Rattle.spec_map.specs.Map.{Pairs, IsMap, between};

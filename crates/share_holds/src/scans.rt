@@ -1,4 +1,6 @@
 //! The pairs of a range that is a call of many events.
+//!
+//! Tested in `share_maps` and `test_share_hostile`.
 
 ghost use Rattle.std.specs.Prelude.{◌≡◌, ◌≤◌, Some, IfSome, length};
 ghost use Rattle.share_backend.specs.declared.lent.CallStage.TheVariants.{Ready};

@@ -1,4 +1,6 @@
 //! Holds that leave the map as it is: what is read of it at one moment.
+//!
+//! Tested in `share_maps` and `test_share_hostile`.
 
 ghost use Rattle.std.specs.Prelude.{◌≡◌, ◌≢◌, ◌++◌, ◌^◌, ℕ, None, IfOk, IfSome, MatchResult, length, map, min, take, drop};
 ghost use Rattle.spec_map.specs.Map.{Pairs, IsMap, between};

@@ -1,4 +1,6 @@
 //! The result of one attempt at a call.
+//!
+//! Tested in `share_maps` and `test_share_hostile`.
 
 use spec_olc::types::Reply;
 

@@ -1,4 +1,6 @@
 //! A booking that the ledger of std doesn't have: by more than a `u64`.
+//!
+//! Tested in `share_maps`.
 #![tactic(auto)]
 
 ghost use Rattle.std.specs.Prelude.{◌≡◌, ◌+◌, ◌-◌, ◌^◌, ◌<◌};

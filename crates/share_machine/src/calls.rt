@@ -1,4 +1,6 @@
 //! The machine's calls, with payloads replaced by their meanings.
+//!
+//! Tested in `share_maps`.
 
 ghost use Rattle.std.specs.Prelude.{◌≡◌, ◌≢◌, ◌+◌, ◌≤◌, ◌^◌, ℕ, [], Some, None, Err, IfOk, OnErr, MatchOption, map};
 ghost use Rattle.spec_map.specs.Map.{Pairs, IsMap};

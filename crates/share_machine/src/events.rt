@@ -1,4 +1,6 @@
 //! The machine of a map whose calls are made of many events.
+//!
+//! Tested in `share_maps`.
 
 use node_table::allocator::Allocator;
 use olc_machine::machine::Machine;

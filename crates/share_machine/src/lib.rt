@@ -1,4 +1,6 @@
 //! The protocol's machine as the map under a lock: each event of a call is one event of the machine.
+//!
+//! Tested in `share_maps`.
 #![tactic(auto)]
 
 mod calls;

@@ -1,4 +1,6 @@
 //! The machine under the lock.
+//!
+//! Tested in `share_maps`.
 
 ghost use Rattle.std.specs.Prelude.{◌≡◌, ◌≢◌, ℕ, Some};
 ghost use Rattle.spec_map.specs.Map.{Pairs};

@@ -1,4 +1,6 @@
 //! The machine of shared owners under the lock.
+//!
+//! Tested in `share_maps`.
 
 ghost use Rattle.std.specs.Prelude.{◌≡◌, ◌≢◌, ℕ, Some, false};
 ghost use Rattle.std.specs.Arc.{arc_value};

@@ -1,4 +1,6 @@
 //! The lock, and the seats at its table.
+//!
+//! Tested in `test_share_guards`.
 
 ghost use Rattle.std.specs.Prelude.{◌≡◌, ◌≢◌, [], ◌∷◌, Some, None, IfOk, IfSome, MatchOption};
 ghost use Rattle.share_rule.specs.inner.SeatView.{Blank};
@@ -14,9 +16,6 @@ use std::alloc::Global;
 use std::marker::Model;
 use std::mem;
 use std::sync::Wait;
-
-#[cfg(test)]
-mod tests;
 
 /// How often the lock is tried before a thread sleeps. Its holder makes one event, in some hundred nanoseconds.
 const TRIES: u32 = 64;
@@ -97,6 +96,18 @@ impl<T, N, S: Protected<T, N> + Drop> Lock<T, N, S> {
         let mut base = lent?;
         let mut seat = self.board.shared.split_seat::<Cut>(&mut base);
         let _ = self.perch.give(base, EMPTY, RESTING);
+        self.board.shared.load::<Enter>(&mut seat, 0);
+        Some(seat)
+    }
+
+    /// The seat from which `seat` makes the others, with a caller of its own: until it is back (`leave`), no other is
+    /// given. `None` if another thread is just being given one.
+    pub fn resting_seat(&self) -> Option<LockSeat<T, N, S>>
+        ensures { IfSome result (λ s. (s.table_id ≡ self.now) × IsIdle s.me × (seen_of s.me.0 ≡ [])
+            × (at_of s.me.0 ≡ None)) }
+    {
+        let (_, lent) = self.perch.take(EMPTY);
+        let mut seat = lent?;
         self.board.shared.load::<Enter>(&mut seat, 0);
         Some(seat)
     }

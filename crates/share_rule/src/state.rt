@@ -1,4 +1,6 @@
 //! The state of a shared map lies under a lock of this rule.
+//!
+//! Tested in `test_share_guards`.
 
 use crate::rule::Protected;
 use share_backend::lent::{CallStage, Lent};

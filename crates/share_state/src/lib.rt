@@ -1,4 +1,6 @@
 //! The state under a shared map's lock: the map, and the ledger in which the number of its pairs is booked.
+//!
+//! Tested in `share_maps`.
 #![tactic(auto)]
 
 pub mod purse;

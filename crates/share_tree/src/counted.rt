@@ -1,4 +1,6 @@
 //! A tree whose changes are counted by key.
+//!
+//! Tested in `share_maps` and `test_share_hostile/changes`.
 
 ghost use Rattle.std.specs.Prelude.{◌≡◌, [], None, IfOk, OnOk, OnErr, IsSome, IsTrue, option_copied};
 ghost use Rattle.spec_map.specs.Map.{IsMap, lookup, put, without, with_answer};

@@ -12,6 +12,8 @@
 //! do. Otherwise the closure is asked again.
 //!
 //! A range is no call of this map: it is read by pages, or pair by pair.
+//!
+//! Tested in `share_maps` and `test_share_hostile/changes`.
 #![tactic(auto)]
 
 mod asking;
@@ -24,7 +26,5 @@ mod opened;
 mod owners;
 mod payloads;
 pub mod seat;
-#[cfg(test)]
-mod tests;
 mod turned;
 mod turns;

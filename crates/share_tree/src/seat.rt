@@ -1,4 +1,6 @@
 //! A number that is seated.
+//!
+//! Tested in `share_maps` and `test_share_hostile/changes`.
 
 use spec_olc::types::Op;
 

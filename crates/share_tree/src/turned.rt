@@ -1,4 +1,6 @@
 //! The result of an event of a running call.
+//!
+//! Tested in `share_maps` and `test_share_hostile/changes`.
 
 use crate::seat::CallSeat;
 use spec_olc::types::{Kind, Outcome};

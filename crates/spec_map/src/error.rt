@@ -1,4 +1,6 @@
 //! The one error of the project: out of memory.
+//!
+//! Tested in `congee_nodes` and `test_owned`.
 
 ghost use Rattle.std.specs.Prelude.{Some, codes};
 

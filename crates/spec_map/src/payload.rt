@@ -1,4 +1,6 @@
 //! What a tree can store: values that are shared and compared.
+//!
+//! Tested in `congee_nodes` and `test_owned`.
 
 ghost use Rattle.std.specs.Prelude.{◌≡◌, Bool, true, false, IfOk, IsOk, ◌==◌, refl};
 ghost use Rattle.std.specs.Arc.{arc_value};

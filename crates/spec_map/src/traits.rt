@@ -1,4 +1,6 @@
 //! The trait of keys and values, and drainers, which are called with the pairs of a map that is dropped.
+//!
+//! Tested in `congee_nodes` and `test_owned`.
 
 ghost use Rattle.std.specs.Prelude.{◌≡◌, ℕ};
 

@@ -1,4 +1,6 @@
 //! Lines of text, in and out: the bytes of a line, its words, numbers and values, and streams that note a failure.
+//!
+//! Tested in `test_serve`.
 #![tactic(auto)]
 
 pub mod laws;

@@ -1,4 +1,6 @@
 //! The line that has begun.
+//!
+//! Tested in `test_serve`.
 
 ghost use Rattle.std.specs.Prelude.{◌≡◌, ℕ, ◌≤◌, List, [], take, Option, Some, None, MatchOption, IsTrue, ◌↔◌, if◌then◌else◌, nat_le};
 ghost use Rattle.text_lines.specs.inner.Kept.{kept_with};

@@ -1,4 +1,6 @@
 //! Lists of keys and of pairs as text, each behind a space.
+//!
+//! Tested in `test_serve`.
 
 ghost use Rattle.std.specs.Prelude.{◌≡◌, ℕ, ◌+◌, ◌≤◌, ◌++◌, length, OnOk, OnErr, true};
 ghost use Rattle.std.specs.List.{flat_map};

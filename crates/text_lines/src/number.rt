@@ -1,4 +1,6 @@
 //! Numbers of 64 bits as text.
+//!
+//! Tested in `test_serve`.
 
 ghost use Rattle.std.specs.Prelude.{◌≡◌, ◌↔◌, ℕ, ◌<◌, ◌^◌, length, slice_index, IsTrue, IfSome, IfNone, decimal};
 

@@ -1,4 +1,6 @@
 //! Bytes that have still to be written.
+//!
+//! Tested in `test_serve`.
 
 ghost use Rattle.std.specs.Prelude.{◌≡◌, ℕ, ◌+◌, ◌-◌, ◌≤◌, List, [], ◌++◌, length, take, decimal, OnOk, OnErr, true};
 ghost use Rattle.spec_text.specs.Value.{value_text, exchanged_text, computed_text, found_text};

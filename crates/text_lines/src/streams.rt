@@ -2,6 +2,8 @@
 //!
 //! The contracts of `Read` and `Write` don't state when a call fails. What is proved over these two traits holds for
 //! each reader and writer, so also for those that never fail: none of it can rest on a failure that didn't happen.
+//!
+//! Tested in `test_serve`.
 
 ghost use Rattle.std.specs.Prelude.{◌≡◌, ℕ, List, Option, ⊤, ◌<◌, length, IfOk, OnErr};
 ghost use Rattle.std.specs.Io.{ReadsAtMost, WritesAtMost};

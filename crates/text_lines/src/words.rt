@@ -1,4 +1,6 @@
 //! The words of a line.
+//!
+//! Tested in `test_serve`.
 
 ghost use Rattle.std.specs.Prelude.{◌≡◌, ◌≢◌, ℕ, ◌∷◌, [], List, ◌<◌, ◌≤◌, ◌^◌, length, slice_index, Option, MatchOption, IfSome, IfNone, decimal};
 ghost use Rattle.spec_text.specs.Value.{value_text};

@@ -1,4 +1,6 @@
 //! Commands, and the lines that parse as commands.
+//!
+//! Tested in `test_serve` and `tools/dev/try-commands`.
 
 ghost use Rattle.std.specs.Prelude.{◌≡◌, ℕ, List, ◌∷◌, ◌≤◌, IfSome, IfNone, codes, decimal};
 

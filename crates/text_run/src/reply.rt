@@ -1,4 +1,6 @@
 //! Replies to lines, and the texts of the replies.
+//!
+//! Tested in `test_serve` and `tools/dev/try-commands`.
 
 ghost use Rattle.std.specs.Prelude.{◌≡◌, ℕ, ◌+◌, ◌≤◌, ◌++◌, ◌∷◌, List, [], length, Some, None, IfOk, OnOk, OnErr, nat_eq, true};
 ghost use Rattle.spec_map.specs.Map.{lookup, put as put_pair, with_answer};

@@ -1,4 +1,6 @@
 //! The engine of `congee run`: command lines in, answer lines out.
+//!
+//! Tested in `test_serve` and `tools/dev/try-commands`.
 
 ghost use Rattle.std.specs.Prelude.{◌≡◌, ◌≢◌, ℕ, ◌<◌, List, Option, Err, OnOk, true};
 ghost use Rattle.std.specs.Result.{result_map_both};

@@ -1,4 +1,6 @@
 //! A map, and the lines that are served on it.
+//!
+//! Tested in `test_serve` and `tools/dev/try-commands`.
 
 ghost use Rattle.std.specs.Prelude.{◌≡◌, ℕ, ◌++◌, ◌∷◌, List, [], Option, Some, IfOk, OnOk, OnErr, true};
 ghost use Rattle.text_run.specs.inner.Answers.{AnswersPart};

@@ -1,4 +1,6 @@
 //! The entries of a schedule, and the lines that parse as entries.
+//!
+//! Tested in `test_serve` and `tools/dev/try-schedules`.
 
 ghost use Rattle.std.specs.Prelude.{◌≡◌, ℕ, List, ◌∷◌, ◌<◌, ◌≤◌, IfSome, IfNone, codes, decimal};
 

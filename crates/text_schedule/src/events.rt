@@ -1,4 +1,6 @@
 //! The events that entries denote.
+//!
+//! Tested in `test_serve` and `tools/dev/try-schedules`.
 
 ghost use Rattle.std.specs.Prelude.{◌≡◌, ◌++◌, ◌∷◌, [], true, length, OnOk};
 ghost use Rattle.spec_text.specs.declared.entry.Entry.TheVariants.{Steps};

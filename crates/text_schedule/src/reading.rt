@@ -1,4 +1,6 @@
 //! Parses lines as the events of a schedule.
+//!
+//! Tested in `test_serve` and `tools/dev/try-schedules`.
 
 ghost use Rattle.std.specs.Prelude.{◌≡◌, ℕ, ◌+◌, ◌<◌, ◌++◌, ◌∷◌, List, [], length, Option, Some, Err, IfOk, IfErr, OnOk, IfSome, IfNone, true};
 ghost use Rattle.spec_text.specs.Entry.{SpellsEntry, IsNoEntry};

@@ -1,4 +1,6 @@
 //! The engine of `congee schedule` and `congee trace`: the lines of a schedule in, the text of its replay out.
+//!
+//! Tested in `test_serve` and `tools/dev/try-schedules`.
 
 ghost use Rattle.std.specs.Prelude.{◌≡◌, ◌≢◌, true};
 ghost use Rattle.text_schedule.specs.Schedule.{EndsSchedule};

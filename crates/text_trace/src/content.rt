@@ -1,4 +1,6 @@
 //! The content after the calls that are decided so far: its pairs, keys ascending, in a vector that has room for them.
+//!
+//! Tested in `test_serve` and `examples/schedules/`.
 
 ghost use Rattle.std.specs.Prelude.{◌≡◌, ◌≢◌, ℕ, ◌+◌, ◌<◌, ◌≤◌, length, slice_index_or, IfSome, IfNone, vec_len, vec_capacity};
 ghost use Rattle.spec_map.specs.Legal.{after_operation, after_exchange, exchange};

@@ -1,4 +1,6 @@
 //! How much the text of a trace shows.
+//!
+//! Tested in `test_serve` and `examples/schedules/`.
 
 /// What is written of a replayed schedule. The content at the end is written last in each.
 #[derive(Clone, Copy, Debug, PartialEq, Eq)]

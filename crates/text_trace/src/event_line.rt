@@ -1,4 +1,6 @@
 //! The line of an event, with its fields.
+//!
+//! Tested in `test_serve` and `examples/schedules/`.
 
 ghost use Rattle.std.specs.Prelude.{◌≡◌, ◌+◌, ◌≤◌, ◌∷◌, ◌++◌, length, codes, decimal};
 ghost use Rattle.std.specs.List.{join_with_byte};

@@ -1,4 +1,6 @@
 //! What comes of an event: a line, or nothing.
+//!
+//! Tested in `test_serve` and `examples/schedules/`.
 
 ghost use Rattle.std.specs.Prelude.{◌≡◌, ◌++◌, ◌+◌, ◌≤◌, length};
 ghost use Rattle.std.specs.List.{flat_map};

@@ -1,4 +1,6 @@
 //! The text of a replayed schedule, in more or less detail.
+//!
+//! Tested in `test_serve` and `examples/schedules/`.
 
 ghost use Rattle.std.specs.Prelude.{◌≡◌, ◌++◌, ◌+◌, ◌≤◌, [], length, drop, Err, IfOk, OnOk, OnErr, true, vec_len, vec_capacity};
 ghost use Rattle.std.specs.List.{flat_map};

@@ -1,5 +1,7 @@
 //! Insertions of many pairs, one after another. The leaf where one pair went is remembered, and a key that belongs to it,
 //! too, takes no descent: so dense keys that ascend descend twice for each leaf.
+//!
+//! Tested in `test_owned/bulk`.
 
 ghost use Rattle.std.specs.Prelude.{◌≡◌, ◌<◌, fold, take, IfOk, IfErr, OnOk, OnErr, slice_get, IsSomeAnd};
 ghost use Rattle.std.specs.Int.{from_be_bytes, w64};

@@ -1,6 +1,8 @@
 //! A computation at a key that is present: what a closure returns replaces the payload, or the payload is removed.
 //!
 //! Never fails: where the payload is removed, this is a removal.
+//!
+//! Tested in `test_owned` and `tools/dev/try-commands`.
 
 ghost use Rattle.std.specs.Fn.{TakesAt};
 ghost use Rattle.std.specs.Int.{from_be_bytes, w64};

@@ -1,5 +1,7 @@
 //! Removals of the first pair and of the last: one path down the first children, or the last, whose slots are remembered
 //! for the removal.
+//!
+//! Tested in `test_owned/neighbours`.
 
 ghost use Rattle.std.specs.Prelude.{◌≡◌, ◌+◌, false, [], IfSome, IfNone, Some};
 ghost use Rattle.std.specs.Int.{to_be_bytes, w64};

@@ -4,6 +4,8 @@
 //!
 //! What a call does at a leaf is inline (`#[inline(always)]`), as its result has several words, which a call returns
 //! through memory.
+//!
+//! Tested in `test_owned` and `tools/dev/try-commands`.
 
 ghost use Rattle.std.specs.Prelude.{◌≡◌, ℕ, ◌<◌, ◌^◌, [], take, IfOk, IfErr, IfSome, IfNone, OnOk, OnErr, IsSome, Some, None, option_copied};
 ghost use Rattle.std.specs.Int.{from_be_bytes, w64};

@@ -1,4 +1,6 @@
 //! A tree as one value, and the calls that change one pair of it.
+//!
+//! Tested in `test_owned` and `tools/dev/try-commands`.
 #![tactic(auto)]
 
 pub mod beside;

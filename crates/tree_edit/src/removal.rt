@@ -2,6 +2,8 @@
 //! first that isn't shrinks if it has few children left.
 //!
 //! Never fails: without memory for the smaller form the node keeps its own.
+//!
+//! Tested in `test_owned/shrinking` and `tools/dev/try-commands`.
 
 ghost use Rattle.std.specs.Prelude.{◌≡◌, ◌↔◌, ◌<◌, ◌≤◌, length, slice_index, true, false, IfSome, IfNone, IsTrue, IsSome, Some, None};
 ghost use Rattle.std.specs.Int.{from_be_bytes, w64};

@@ -7,6 +7,8 @@
 //!
 //! The modules beside this one change it. They work on its parts, which needn't agree with one another between two
 //! steps; a `Tree` is parts that agree.
+//!
+//! Tested in `test_owned` and `tools/dev/try-commands`.
 
 ghost use Rattle.std.specs.Prelude.{◌≡◌, length, IfOk, option_copied};
 ghost use Rattle.tree_path.specs.inner.Root.{HasTree, tree_pairs, tree_nodes};

@@ -1,4 +1,6 @@
 //! The path of a key from the root down, which all point calls take.
+//!
+//! Tested in `test_owned` and `tools/dev/try-commands`.
 
 ghost use Rattle.std.specs.Prelude.{◌≡◌, ◌+◌, ◌≤◌, length, IsSome, Some, option_copied};
 ghost use Rattle.std.specs.Int.{w64, to_be_bytes};

@@ -1,4 +1,6 @@
 //! What the nodes of a tree are taken from: the machine's memory, and a budget that is charged for each of them.
+//!
+//! Tested in `test_owned` and `tools/dev/try-commands`.
 
 ghost use Rattle.std.specs.Prelude.{◌≡◌, ◌+◌, ◌*◌, ◌<◌, ◌^◌, [], length, IfOk, OnOk, OnErr};
 ghost use Rattle.node_table.specs.Charge.{add_charge, Covers};

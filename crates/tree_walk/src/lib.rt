@@ -1,4 +1,6 @@
 //! The calls that read many nodes of a tree in a table, and change none.
+//!
+//! Tested in `test_owned` and `tools/dev/try-commands`.
 #![tactic(auto)]
 
 pub mod nearest;

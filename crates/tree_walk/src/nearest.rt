@@ -1,4 +1,6 @@
 //! The stored pair nearest to a key: one path down, and beside it at most one dead end, the path of the key itself.
+//!
+//! Tested in `test_owned/neighbours`.
 
 ghost use Rattle.std.specs.Prelude.{◌≡◌};
 ghost use Rattle.std.specs.Option.{option_map};

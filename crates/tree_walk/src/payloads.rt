@@ -1,4 +1,6 @@
 //! The payloads of a leaf, taken one by one from an iterator of any form.
+//!
+//! Tested in `test_owned` and `tools/dev/try-commands`.
 
 ghost use Rattle.std.specs.Prelude.{◌≡◌, ℕ, List, [], ◌∷◌, IfSome, IfNone};
 

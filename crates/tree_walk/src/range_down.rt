@@ -2,6 +2,8 @@
 //!
 //! In each node a scan begins at the last byte whose keys aren't all past the range, and goes down from child to child,
 //! so no path is walked again for the next pair. It reads the nodes that the ascending scan of the same pairs reads.
+//!
+//! Tested in `test_owned/neighbours`.
 
 ghost use Rattle.std.specs.Prelude.{◌≡◌, ℕ, ◌+◌, ◌<◌, ◌≤◌, [], length, IfSome, IfNone, Some};
 ghost use Rattle.spec_map.specs.Map.{between};

@@ -9,6 +9,8 @@
 //! An iterator remembers the place in each node, so that a node isn't searched again for each child. The payloads of a
 //! leaf are written in one loop, which is compiled for each form of nodes by itself. Some children of an inner node are
 //! read ahead.
+//!
+//! Tested in `test_owned/scans`.
 
 ghost use Rattle.std.specs.Prelude.{◌≡◌, ℕ, ◌+◌, ◌^◌, ◌<◌, ◌≤◌, [], ◌∷◌, length, IfSome, IfNone};
 ghost use Rattle.node_table.specs.Key.{low};

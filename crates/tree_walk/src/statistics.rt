@@ -1,4 +1,6 @@
 //! The statistics of a tree: one walk over all of its nodes, each counted on its level.
+//!
+//! Tested in `test_owned/statistics` and `tools/dev/try-commands`.
 
 ghost use Rattle.std.specs.Prelude.{OnOk, ◌≡◌, ◌-◌};
 ghost use Rattle.node_table.specs.Table.{IsSubtree};

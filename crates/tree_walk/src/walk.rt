@@ -1,4 +1,6 @@
 //! Walks over all pairs of a subtree, keys ascending.
+//!
+//! Tested in `test_owned` and `tools/dev/try-commands`.
 
 ghost use Rattle.std.specs.Prelude.{◌≡◌, ◌++◌, map, vec_len, vec_capacity};
 ghost use Rattle.tree_walk.specs.Scan.{first_number, from_key};

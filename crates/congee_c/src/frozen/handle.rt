@@ -1,4 +1,6 @@
 //! A box of a reader of a frozen map, whose pointer C may hold: to the reader what `Handle` is to the map.
+//!
+//! Tested in `tools/c-library`.
 
 ghost use Rattle.std.specs.Prelude.{◌≡◌, IfOk};
 ghost use Rattle.congee_c.specs.inner.Owned.{reader_coded, frozen_owns};

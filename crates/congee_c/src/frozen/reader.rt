@@ -1,4 +1,6 @@
 //! What a handle of a frozen map holds.
+//!
+//! Tested in `tools/c-library`.
 
 use crate::held::Held;
 use std::alloc::{AllocFailed, Global};

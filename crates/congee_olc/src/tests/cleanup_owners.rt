@@ -1,37 +1,20 @@
 //! Cleanups over owners of shared values: which shares they take and free.
 
-use crate::tests::insertions::WHOLE;
-use crate::tests::machine::shared_event;
-use crate::tests::range_owners::{Rationed, Scarce, have_owners};
+use crate::tests::events::WHOLE;
+use crate::tests::machine::event;
+use crate::tests::range_owners::{Rationed, Scarce, have_owners, store_rationed};
 use node_table::allocator::Budget;
 use olc_machine::machine::Machine;
-use spec_map::payload::Payload;
 use spec_olc::types::{Kind, Op, Outcome, StartError};
 use std::alloc::Global;
 use std::cell::Cell;
 use std::sync::Arc;
 use std::test::Fail;
 
-// Values that are stored at the keys from 0 on, each with one more owner.
-fn store<'a>(
-    machine: &mut Rationed<'a>,
-    alloc: Global,
-    left: &'a Cell<u64>,
-    count: u64,
-) -> Result<Vec<Arc<u64>>, Fail> {
-    let mut values = Vec::new(alloc);
-    for key in 0..count {
-        let value = Arc::new(alloc, key)?;
-        let number = value.share()?;
-        values.push(value)?;
-        let op = Op::Insert(key, Scarce { number, left });
-        machine.start(0, &op)?;
-        for _ in 0..WHOLE {
-            machine.step(0, &op, shared_event());
-        }
-    }
-    Ok(values)
-}
+// The keys of a leaf of five, and of one of 17.
+const FIVE: [u64; 5] = [0, 1, 2, 3, 4];
+
+const SEVENTEEN: [u64; 17] = [0, 1, 2, 3, 4, 5, 6, 7, 8, 9, 10, 11, 12, 13, 14, 15, 16];
 
 // The events of a removal.
 #[derive(Clone, Copy)]
@@ -73,7 +56,7 @@ fn remove(machine: &mut Rationed<'_>, key: u64, may: May<'_>) -> Result<Summary,
         if !machine.is_in_flight(0) {
             break;
         }
-        let (report, outcome) = machine.step(0, &op, shared_event());
+        let (report, outcome) = machine.step(0, &op, event());
         summary.events = summary.events.saturating_add(1);
         if let Outcome::Decided(_) = outcome {
             summary.decided = true;
@@ -101,10 +84,10 @@ fn remove_all(
     Ok(())
 }
 
-// Whether so many values have two owners, and those behind them one.
-fn are_split(values: &[Arc<u64>], stored: usize) -> bool {
-    for (place, value) in values.iter().enumerate() {
-        let owners = if place < stored { 2 } else { 1 };
+// Whether the values of the first so many keys have two owners, and those behind them one.
+fn are_split(values: &[Arc<u64>], stored: u64) -> bool {
+    for value in values {
+        let owners = if **value < stored { 2 } else { 1 };
         if Arc::strong_count(value) != owners {
             return false;
         }
@@ -112,44 +95,41 @@ fn are_split(values: &[Arc<u64>], stored: usize) -> bool {
     true
 }
 
-// What goes wrong where one of 13 keys is removed, with so many shares for the twelve that the smaller leaf has: it ends
-// as decided; with too few shares nothing is made, and the next removal makes it; each value has its owners in the end.
-fn wrong_with(alloc: Global, shares: u64) -> Result<Option<&'static str>, Fail> {
+// Whether one of 13 keys is removed, with so many shares for the twelve that the smaller leaf has, and the next one with
+// all: both end as decided; the leaf is made where there are enough shares, and else by the next removal.
+fn remove_right(machine: &mut Rationed<'_>, may: May<'_>) -> Result<bool, StartError> {
+    let enough = may.shares >= 12;
+    let first = remove(machine, 12, may)?;
+    may.left.set(u64::MAX);
+    let next = remove(machine, 11, all(may.left))?;
+    remove_all(machine, may.left, 17, 17)?;
+    let events = if enough { 25 } else { 24 };
+    Ok(
+        first.decided
+            && !first.refused
+            && first.made == enough
+            && next.made == !enough
+            && first.events == events,
+    )
+}
+
+// The same on a machine, and whether each value has its owners in the end.
+fn ends_with(alloc: Global, shares: u64) -> Result<bool, Fail> {
     let left = Cell::new(u64::MAX);
     let mut machine = Machine::new(alloc, Budget::new(1 << 16))?;
-    let values = store(&mut machine, alloc, &left, 17)?;
+    let values = store_rationed(&mut machine, alloc, &left, &SEVENTEEN)?;
     remove_all(&mut machine, &left, 13, 17)?;
     let may = May {
         shares,
         ..all(&left)
     };
-    let summary = remove(&mut machine, 12, may)?;
-    left.set(u64::MAX);
-    let next = remove(&mut machine, 11, all(&left))?;
-    remove_all(&mut machine, &left, 17, 17)?;
-    if !summary.decided || summary.refused {
-        return Ok(Some("the reply"));
-    }
-    if summary.made != (shares >= 12) || next.made == summary.made {
-        return Ok(Some("the smaller node"));
-    }
-    if summary.events != if summary.made { 25 } else { 24 } {
-        return Ok(Some("the events"));
-    }
-    if !are_split(&values, 11) {
-        return Ok(Some("the owners"));
-    }
-    Ok(None)
+    Ok(remove_right(&mut machine, may)? && are_split(&values, 11))
 }
 
 #[test]
 fn a_refused_share_ends_a_cleanup(rt: HostRuntime) -> Result<(), Fail> {
     for shares in 0..14 {
-        assert_eq!(rt;
-            wrong_with(rt.alloc(), shares)?,
-            None,
-            "with {shares} shares"
-        );
+        assert!(rt; ends_with(rt.alloc(), shares)?);
     }
     Ok(())
 }
@@ -158,7 +138,7 @@ fn a_refused_share_ends_a_cleanup(rt: HostRuntime) -> Result<(), Fail> {
 fn outlived(alloc: Global, events: usize) -> Result<Vec<Arc<u64>>, Fail> {
     let left = Cell::new(u64::MAX);
     let mut machine = Machine::new(alloc, Budget::new(1 << 16))?;
-    let values = store(&mut machine, alloc, &left, 5)?;
+    let values = store_rationed(&mut machine, alloc, &left, &FIVE)?;
     remove_all(&mut machine, &left, 4, 5)?;
     let may = May {
         events,
@@ -168,18 +148,18 @@ fn outlived(alloc: Global, events: usize) -> Result<Vec<Arc<u64>>, Fail> {
     Ok(values)
 }
 
-// The first place at which a cleanup in flight leaves an owner behind.
-fn first_left_behind(alloc: Global) -> Result<Option<usize>, Fail> {
+// Whether a cleanup in flight leaves no owner behind, at none of its places.
+fn leaves_none_behind(alloc: Global) -> Result<bool, Fail> {
     for events in 1..26 {
         if !have_owners(&outlived(alloc, events)?, 1) {
-            return Ok(Some(events));
+            return Ok(false);
         }
     }
-    Ok(None)
+    Ok(true)
 }
 
 #[test]
 fn a_cleanup_gives_each_share_back(rt: HostRuntime) -> Result<(), Fail> {
-    assert_eq!(rt; first_left_behind(rt.alloc())?, None);
+    assert!(rt; leaves_none_behind(rt.alloc())?);
     Ok(())
 }

@@ -16,22 +16,31 @@ fn words_after(free: u64) -> Option<[u64; 3]> {
     Some([locked.number(), unlocked.number(), obsolete.number()])
 }
 
-#[test]
-fn words_rise_by_two_and_by_one(rt: HostRuntime) {
-    assert_eq!(rt; words_after(0), Some([2, 4, 3]));
-    assert_eq!(rt;
-        words_after(18446744073709551608),
-        Some([
+const ROWS: [(u64, [u64; 3]); 2] = [
+    (0, [2, 4, 3]),
+    (
+        18446744073709551608,
+        [
             18446744073709551610,
             18446744073709551612,
-            18446744073709551611
-        ])
-    );
+            18446744073709551611,
+        ],
+    ),
+];
+
+#[test]
+fn words_rise_by_two_and_by_one(rt: HostRuntime) {
+    for (free, words) in ROWS {
+        assert!(rt; words_after(free) == Some(words));
+    }
+}
+
+fn is_stuck(number: u64) -> bool {
+    let last = Word64::from_number(number);
+    last.upgraded(last).is_none() && last.matches(last) && last.is_free()
 }
 
 #[test]
 fn the_last_version_is_never_upgraded(rt: HostRuntime) {
-    let last = Word64::from_number(18446744073709551612);
-    assert_eq!(rt; last.upgraded(last), None);
-    assert!(rt; last.matches(last) && last.is_free());
+    assert!(rt; is_stuck(18446744073709551612));
 }

@@ -3,8 +3,8 @@
 //! `rt try --test --fail-alloc N` refuses the Nth request of each test. What is refused here is asked for once more, so
 //! that these tests pass for every N: a refusal is reported, and changes nothing else.
 
-use crate::tests::courses::{Numbers, plain};
-use crate::tests::insertions::is_content;
+use crate::tests::history::is_content;
+use crate::tests::machine::{Numbers, event};
 use node_table::allocator::DefaultAllocator;
 use olc_machine::machine::Machine;
 use spec_map::error::OOMError;
@@ -69,7 +69,7 @@ impl Told {
         map: &mut BTreeMap<u64, u64>,
         id: u64,
     ) -> Result<bool, AllocError> {
-        match machine.step(id, &Op::Insert(key_at(id), id), plain()) {
+        match machine.step(id, &Op::Insert(key_at(id), id), event()) {
             (_, Outcome::Decided(Reply::Old(before))) => {
                 self.decided = self.decided.wrapping_add(1);
                 self.agrees = self.agrees && put(map, id)? == before;

@@ -5,8 +5,8 @@ ghost use Rattle.std.specs.Arc.{arc_value};
 ghost use Rattle.std.proofs.Common.{rules, ◌∙◌};
 ghost use Rattle.std.proofs.lemmas.Bool.{false≢true};
 
-use crate::tests::insertions::MANY;
-use crate::tests::machine::{Shared, shared_event};
+use crate::tests::events::WHOLE;
+use crate::tests::machine::{Shared, event};
 use node_table::allocator::Budget;
 use olc_machine::machine::Machine;
 use spec_map::error::OOMError;
@@ -29,8 +29,8 @@ fn store(machine: &mut Shared, alloc: Global) -> Result<Vec<Arc<u64>>, Fail> {
         let op = Op::Insert(key, value.share()?);
         values.push(value)?;
         machine.start(0, &op)?;
-        for _ in 0..MANY {
-            machine.step(0, &op, shared_event());
+        for _ in 0..WHOLE {
+            machine.step(0, &op, event());
         }
     }
     Ok(values)
@@ -42,7 +42,7 @@ fn give(machine: &mut Shared, count: usize) -> Result<usize, StartError> {
     machine.start(1, &op)?;
     let mut pairs = 0usize;
     for _ in 0..count {
-        let (_, outcome) = machine.step(1, &op, shared_event());
+        let (_, outcome) = machine.step(1, &op, event());
         if let Outcome::Pair(..) = outcome {
             pairs = pairs.saturating_add(1);
         }
@@ -77,20 +77,20 @@ fn outlived(alloc: Global, count: usize) -> Result<Vec<Arc<u64>>, Fail> {
     Ok(values)
 }
 
-// The first place at which a range in flight leaves an owner behind.
-fn first_left_behind(alloc: Global) -> Result<Option<usize>, Fail> {
+// Whether a range in flight leaves no owner behind, at none of its places.
+fn leaves_none_behind(alloc: Global) -> Result<bool, Fail> {
     for count in 0..60 {
         if !have_owners(&outlived(alloc, count)?, 1) {
-            return Ok(Some(count));
+            return Ok(false);
         }
     }
-    Ok(None)
+    Ok(true)
 }
 
 #[test]
 fn a_range_gives_each_share_back(rt: HostRuntime) -> Result<(), Fail> {
     assert!(rt; frees(rt.alloc())?);
-    assert_eq!(rt; first_left_behind(rt.alloc())?, None);
+    assert!(rt; leaves_none_behind(rt.alloc())?);
     Ok(())
 }
 
@@ -181,27 +181,28 @@ fn tell(machine: &mut Rationed<'_>) -> Result<Told, StartError> {
         refused: false,
     };
     for _ in 0..200 {
-        let (_, outcome) = machine.step(1, &op, shared_event());
+        let (_, outcome) = machine.step(1, &op, event());
         told.hear(outcome);
     }
     Ok(told)
 }
 
-// Values that are stored at the keys, each with one more owner.
-fn store_rationed<'a>(
+/// Values that are stored at these keys, each with one more owner.
+pub(super) fn store_rationed<'a>(
     machine: &mut Rationed<'a>,
     alloc: Global,
     left: &'a Cell<u64>,
+    keys: &[u64],
 ) -> Result<Vec<Arc<u64>>, Fail> {
     let mut values = Vec::new(alloc);
-    for key in SHARED_KEYS {
-        let value = Arc::new(alloc, key)?;
+    for key in keys {
+        let value = Arc::new(alloc, *key)?;
         let number = value.share()?;
-        let op = Op::Insert(key, Scarce { number, left });
+        let op = Op::Insert(*key, Scarce { number, left });
         values.push(value)?;
         machine.start(0, &op)?;
-        for _ in 0..MANY {
-            machine.step(0, &op, shared_event());
+        for _ in 0..WHOLE {
+            machine.step(0, &op, event());
         }
     }
     Ok(values)
@@ -212,7 +213,7 @@ fn store_rationed<'a>(
 fn ends_with(alloc: Global, shares: u64) -> Result<bool, Fail> {
     let left = Cell::new(u64::MAX);
     let mut machine = Machine::new(alloc, Budget::new(1 << 16))?;
-    let values = store_rationed(&mut machine, alloc, &left)?;
+    let values = store_rationed(&mut machine, alloc, &left, &SHARED_KEYS)?;
     left.set(shares);
     let told = tell(&mut machine)?;
     let as_many = told.pairs as u64 == shares / 2 && told.refused == (shares < 8);
@@ -222,7 +223,7 @@ fn ends_with(alloc: Global, shares: u64) -> Result<bool, Fail> {
 #[test]
 fn a_refused_share_ends_a_range(rt: HostRuntime) -> Result<(), Fail> {
     for shares in 0..10 {
-        assert!(rt; ends_with(rt.alloc(), shares)?, "with {shares} shares");
+        assert!(rt; ends_with(rt.alloc(), shares)?);
     }
     Ok(())
 }

@@ -1,91 +1,59 @@
-//! Whole schedules on the fresh machine, and their traces.
+//! Whole schedules: what of a trace no text shows, and the budgets of a replay.
 
-use crate::tests::insertions::{letter, step};
-use crate::tests::parts::{Call, Part, push_parts};
+use crate::tests::events::{Call, MANY, push_call, push_pairs, push_steps, push_whole};
+use crate::tests::history::is_legal;
 use node_table::allocator::Budget;
 use olc_replay::replay::{replay, replay_with};
 use spec_map::error::OOMError;
 use spec_olc::trace::{Line, Trace};
-use spec_olc::types::{Event, Kind, Op, Outcome, Reply, Report};
+use spec_olc::types::{Event, Kind, Op, Outcome, Report};
 use std::alloc::{AllocError, Global};
 use std::test::Fail;
 
-// The letter of what an event did; a dash where it was skipped.
-fn letter_of(line: &Line) -> char {
-    match line {
-        Line::Done(report, _, _) => letter(report.kind),
-        Line::Skipped => '-',
-    }
+// The pair of 42 at 1, and a call of number 2 whose closure has answered so.
+fn push_asked(events: &mut Vec<Event<u64>>, answer: Option<u64>) -> Result<(), AllocError> {
+    push_pairs(events, &[(1, 42)])?;
+    push_call(events, 2, Call::IfPresent(1), 8, answer)
 }
 
-// A letter for each line of a trace.
-fn course_of(trace: &Trace, letters: &mut String) -> Result<(), AllocError> {
-    for line in &trace.lines {
-        letters.push(letter_of(line))?;
-    }
-    Ok(())
+// The pair is removed before the call locks its leaf, so it finds nothing then.
+fn push_lost_at_once(events: &mut Vec<Event<u64>>) -> Result<(), AllocError> {
+    push_asked(events, Some(50))?;
+    push_whole(events, Call::Remove(1))?;
+    push_steps(events, 2, MANY, Some(50))
 }
 
-// The number of each decided call, and its key if it is a Get that found nothing.
-fn misses_of(trace: &Trace, misses: &mut Vec<(u64, Option<u64>)>) -> Result<(), AllocError> {
-    for decision in &trace.decided {
-        let key = match (&decision.op, &decision.reply) {
-            (Op::Get(key), Reply::Old(None)) => Some(*key),
-            _ => None,
-        };
-        misses.push((decision.id, key))?;
-    }
-    Ok(())
+// The leaf gets another pair, so the call has to unlock its parent again; then the pair is removed.
+fn push_lost_between(events: &mut Vec<Event<u64>>) -> Result<(), AllocError> {
+    push_asked(events, None)?;
+    push_whole(events, Call::Insert(2, 43))?;
+    push_steps(events, 2, 3, None)?;
+    push_whole(events, Call::Remove(1))?;
+    push_steps(events, 2, MANY, None)
 }
 
-// Two Gets in turn, with events that aren't enabled between theirs.
-const TWO_GETS: [Part; 13] = [
-    Part::Start(7, Call::Get(1)),
-    Part::Start(7, Call::Get(2)),
-    Part::Steps(8, 1, None),
-    Part::Steps(7, 1, None),
-    Part::Start(8, Call::Get(256)),
-    Part::Steps(8, 1, None),
-    Part::Steps(7, 1, None),
-    Part::Reclaim(0),
-    Part::Steps(7, 1, None),
-    Part::Steps(8, 1, None),
-    Part::Steps(7, 1, None),
-    Part::Steps(7, 1, None),
-    Part::Steps(8, 1, None),
-];
-
-// What the trace of these events has: a letter a line, the misses, and how many pairs are stored at the end.
-fn told(
-    alloc: Global,
-    events: &[Event<u64>],
-    letters: &mut String,
-    misses: &mut Vec<(u64, Option<u64>)>,
-) -> Result<usize, OOMError> {
+// Whether so many calls are decided, as the plain map has it: a decision names what its closure was asked, if it was.
+fn are_decided(alloc: Global, events: &[Event<u64>], count: usize) -> Result<bool, OOMError> {
     let trace = replay(alloc, events)?;
-    course_of(&trace, letters)?;
-    misses_of(&trace, misses)?;
-    Ok(trace.content.len())
+    Ok(trace.decided.len() == count && is_legal(alloc, &trace)?)
 }
 
-// Whether the trace of the two Gets is so.
-fn is_course_of_two(
-    alloc: Global,
-    course: &str,
-    decided: &[(u64, Option<u64>)],
-) -> Result<bool, OOMError> {
+fn forgets_at_once(alloc: Global) -> Result<bool, OOMError> {
     let mut events = Vec::new(alloc);
-    push_parts(&mut events, &TWO_GETS)?;
-    let mut letters = String::new(alloc);
-    let mut misses = Vec::new(alloc);
-    let pairs = told(alloc, &events, &mut letters, &mut misses)?;
-    Ok(pairs == 0 && letters.as_str() == course && misses.as_slice() == decided)
+    push_lost_at_once(&mut events)?;
+    are_decided(alloc, &events, 3)
+}
+
+fn forgets_between(alloc: Global) -> Result<bool, OOMError> {
+    let mut events = Vec::new(alloc);
+    push_lost_between(&mut events)?;
+    are_decided(alloc, &events, 4)
 }
 
 #[test]
-fn two_gets_of_an_empty_tree(rt: HostRuntime) -> Result<(), Fail> {
-    let decided: [(u64, Option<u64>); 2] = [(7, Some(1)), (8, Some(256))];
-    assert!(rt; is_course_of_two(rt.alloc(), "S--TSTR-CRF-C", &decided)?);
+fn an_answer_that_is_lost_is_not_in_the_decision(rt: HostRuntime) -> Result<(), Fail> {
+    assert!(rt; forgets_at_once(rt.alloc())?);
+    assert!(rt; forgets_between(rt.alloc())?);
     Ok(())
 }
 
@@ -107,7 +75,9 @@ fn has_read_nothing(trace: &Trace) -> bool {
 }
 
 fn reads_nothing(alloc: Global) -> Result<bool, OOMError> {
-    let events = [Event::Start(0, Op::Get(1)), step(0, false), step(0, false)];
+    let mut events = Vec::new(alloc);
+    events.push(Event::Start(0, Op::Get(1)))?;
+    push_steps(&mut events, 0, 2, None)?;
     let trace = replay_with(alloc, Budget::new(2104), &events)?;
     Ok(has_read_nothing(&trace))
 }
@@ -118,12 +88,7 @@ fn a_read_reports_what_it_saw(rt: HostRuntime) -> Result<(), Fail> {
     Ok(())
 }
 
-// Whether a budget of so many bytes has no room for the root.
-fn is_too_small(alloc: Global, bytes: u64) -> bool {
-    replay_with(alloc, Budget::new(bytes), &[step(0, false)]).is_err()
-}
-
 #[test]
 fn a_budget_without_room_for_the_root(rt: HostRuntime) {
-    assert!(rt; is_too_small(rt.alloc(), 2103));
+    assert!(rt; replay_with(rt.alloc(), Budget::new(2103), &[]).is_err());
 }

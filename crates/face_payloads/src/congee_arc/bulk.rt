@@ -1,4 +1,6 @@
 //! Calls of `PayloadCongee` that remove many pairs.
+//!
+//! Tested in `test_owned/bulk`.
 
 ghost use Rattle.std.specs.Prelude.{◌≡◌, [], ◌+◌, length};
 ghost use Rattle.std.specs.List.{FoldsTo};

@@ -3,6 +3,8 @@
 //! Keys are in the order of their numbers. No call fails. Each reads one path through the tree, and beside it at most one
 //! that is a dead end: that of the key which is asked for. It takes no memory; a pop is a removal besides, which may take
 //! some for a smaller node.
+//!
+//! Tested in `test_owned/neighbours`.
 
 ghost use Rattle.std.specs.Prelude.{◌≡◌, ℕ, Option};
 ghost use Rattle.std.specs.Option.{option_map};

@@ -1,4 +1,6 @@
 //! Calls of `U64Congee` that change many pairs.
+//!
+//! Tested in `test_owned/bulk`.
 
 ghost use Rattle.std.specs.Prelude.{◌≡◌, ℕ, [], ◌+◌, length, take, IfErr, OnOk, slice_get, IsSomeAnd};
 ghost use Rattle.std.specs.List.{FoldsTo};

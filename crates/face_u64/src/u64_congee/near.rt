@@ -1,4 +1,6 @@
 //! The ends of a map of numbers, and the neighbours of a key: those of `Congee`.
+//!
+//! Tested in `test_owned/neighbours`.
 
 ghost use Rattle.std.specs.Prelude.{◌≡◌};
 ghost use Rattle.std.specs.Option.{option_map};

@@ -17,7 +17,6 @@ use std::sync::atomic::{AtomicU64, Ordering};
 use std::sync::ledger::{Blank, Ledger};
 use std::sync::{Arc, Wait};
 use std::test::Fail;
-use std::thread::{Threads, join};
 
 // Grants each request, and counts what is charged.
 #[derive(Drop)]
@@ -393,73 +392,5 @@ fn two_or_four_slots_are_reclaimed(rt: HostRuntime) -> Result<(), Fail> {
     let whole = Blank::new((1 << 63) + 1);
     let found = kept_by_a_get::<Brand, _>(&rt, rt.alloc(), whole, &STEPS)?;
     assert!(rt; found == (2488, 6));
-    Ok(())
-}
-
-// Stores 600 keys from this one on, and removes them.
-fn fill_and_empty<L: Ledger, M: Pages, R: Wait>(rt: &R, map: &Map<L, M>, first: u64) -> Option<()> {
-    let mut guard = map.pin_waiting(rt).ok()?;
-    for step in 0..600u64 {
-        map.insert(rt, &mut guard, first.wrapping_add(step), step)
-            .ok()?;
-    }
-    for step in 0..600u64 {
-        map.remove(rt, &mut guard, &first.wrapping_add(step))?;
-    }
-    map.unpin(rt, guard);
-    Some(())
-}
-
-// Stores and removes one key beside those of each thread, until the root alone is charged, at most a thousand times. By
-// that two emptied nodes go, where other calls were in the way of those that emptied them.
-fn settles<L: Ledger, M: Pages, R: Wait>(
-    rt: &R,
-    map: &Map<L, M>,
-    charged: &AtomicU64,
-) -> Result<bool, Fail> {
-    let mut guard = map.pin(rt)?;
-    for _ in 0..1_000u32 {
-        for key in [0, APART] {
-            map.insert(rt, &mut guard, key, key)?;
-            map.remove(rt, &mut guard, &key);
-        }
-        if charged.load(Ordering::SeqCst) == 2104 {
-            return Ok(true);
-        }
-    }
-    Ok(false)
-}
-
-fn by_two<
-    L: Ledger + Send + Sync,
-    M: Pages + Made<u64, u64, Counted> + Send,
-    R: Threads + Wait + Sync,
->(rt: &R, alloc: Global, blank: Blank) -> Result<bool, Fail>
-    requires name { blank.name ≡ L.name }
-    requires parts { blank.parts ≡ L.parts }
-    requires whole { L.parts ≡ 2 ^ 63 + 1 }
-{
-    let charged = Arc::new(alloc, AtomicU64::new(0))?;
-    let counted = Counted {
-        charged: charged.clone()?,
-    };
-    let (map, _) = Map::<L, M>::new(alloc, blank, counted)?;
-    let shared = &map;
-    let (one, two) = join(
-        rt,
-        || fill_and_empty(rt, shared, 0),
-        || fill_and_empty(rt, shared, APART),
-    );
-    one.ok_or("the first gave up")?;
-    two.ok_or("the second gave up")?;
-    settles(rt, &map, &charged)
-}
-
-#[test]
-fn two_threads_fill_and_empty_a_map(rt: HostRuntime) -> Result<(), Fail> {
-    let whole = Blank::new((1 << 63) + 1);
-    assert!(rt; by_two::<Brand, Machine, _>(&rt, rt.alloc(), whole)?);
-    let whole = Blank::new((1 << 63) + 1);
-    assert!(rt; by_two::<Brand, Tree, _>(&rt, rt.alloc(), whole)?);
     Ok(())
 }

@@ -1,4 +1,4 @@
-//! One guard, gates, halves of a share, and closures that two threads call.
+//! Gates, halves of a share, closures that two threads call, and one that calls the map.
 
 ghost use Rattle.std.specs.Prelude.{◌≡◌, ◌+◌, ◌^◌, ◌<◌};
 
@@ -39,10 +39,10 @@ impl Gate for Count {
     }
 }
 
-// Waits for another thread's answer, at most ten seconds.
-fn came<R: Clock>(rt: &R, answered: &AtomicBool) -> bool {
+// Waits for what another thread sets, at most ten seconds.
+fn came<R: Clock>(rt: &R, flag: &AtomicBool) -> bool {
     for _ in 0..10_000u32 {
-        if answered.load(Ordering::SeqCst) {
+        if flag.load(Ordering::SeqCst) {
             return true;
         }
         thread::sleep(rt, Duration::from_millis(1));
@@ -50,11 +50,34 @@ fn came<R: Clock>(rt: &R, answered: &AtomicBool) -> bool {
     false
 }
 
+// Whether the first of two threads is in the middle of its call, and whether the second one's call, which begins only
+// then, is answered.
+#[derive(Drop)]
+struct Turns {
+    begun: AtomicBool,
+    answered: AtomicBool,
+}
+
+impl Turns {
+    fn new() -> Self {
+        Turns {
+            begun: AtomicBool::new(false),
+            answered: AtomicBool::new(false),
+        }
+    }
+
+    // In the middle of a call: whether the other thread's call is answered in time.
+    fn pass<R: Clock>(&self, rt: &R) -> bool {
+        self.begun.store(true, Ordering::SeqCst);
+        came(rt, &self.answered)
+    }
+}
+
 // After the second event it waits for another thread's answer.
 #[derive(Drop)]
 struct Awaits<'a, R> {
     rt: &'a R,
-    answered: &'a AtomicBool,
+    turns: &'a Turns,
     calls: u64,
     in_time: bool,
 }
@@ -63,7 +86,7 @@ impl<'a, R: Clock> Gate for Awaits<'a, R> {
     fn between(&mut self, _report: &Report) {
         self.calls = self.calls.wrapping_add(1);
         if self.calls == 2 {
-            self.in_time = came(self.rt, self.answered);
+            self.in_time = self.turns.pass(self.rt);
         }
     }
 }
@@ -117,14 +140,14 @@ fn a_gate_is_called_between_nine_events(rt: HostRuntime) -> Result<(), Fail> {
 fn get_in_the_middle<L: Ledger, M: Pages, R: Wait + Clock>(
     rt: &R,
     map: &Map<L, M>,
-    answered: &AtomicBool,
+    turns: &Turns,
 ) -> Option<(bool, Option<u64>)> {
     let Ok(mut guard) = map.pin_waiting(rt) else {
         return None;
     };
     let mut gate = Awaits {
         rt,
-        answered,
+        turns,
         calls: 0,
         in_time: false,
     };
@@ -132,18 +155,21 @@ fn get_in_the_middle<L: Ledger, M: Pages, R: Wait + Clock>(
     Some((gate.in_time, found))
 }
 
-// An insertion, and then the flag.
-fn insert_and_report<L: Ledger, M: Pages, R: Wait>(
+// An insertion in the middle of the other thread's call.
+fn insert_and_report<L: Ledger, M: Pages, R: Wait + Clock>(
     rt: &R,
     map: &Map<L, M>,
     key: u64,
-    answered: &AtomicBool,
+    turns: &Turns,
 ) -> bool {
+    if !came(rt, &turns.begun) {
+        return false;
+    }
     let Ok(mut guard) = map.pin_waiting(rt) else {
         return false;
     };
     let done = map.insert(rt, &mut guard, key, key).is_ok();
-    answered.store(true, Ordering::SeqCst);
+    turns.answered.store(true, Ordering::SeqCst);
     done
 }
 
@@ -159,13 +185,12 @@ fn meets_an_insertion<
     let (map, _) = made::<L, M>(alloc, blank)?;
     let mut guard = map.pin(rt)?;
     map.insert(rt, &mut guard, 1, 42)?;
-    let answered = AtomicBool::new(false);
-    let shared = &map;
-    let flag = &answered;
+    let turns = Turns::new();
+    let (shared, both) = (&map, &turns);
     let (got, _) = join(
         rt,
-        || get_in_the_middle(rt, shared, flag),
-        || insert_and_report(rt, shared, 2, flag),
+        || get_in_the_middle(rt, shared, both),
+        || insert_and_report(rt, shared, 2, both),
     );
     Ok(got)
 }
@@ -178,35 +203,6 @@ fn another_thread_inserts_in_the_middle_of_a_get(rt: HostRuntime) -> Result<(), 
         Blank::new((1 << 63) + 1),
     )?;
     assert!(rt; found == Some((true, Some(42))));
-    Ok(())
-}
-
-type Replies = (Option<u64>, Option<u64>, Option<u64>, Option<u64>);
-
-fn by_one_guard<L: Ledger, M: Pages + Made<u64, u64, DefaultAllocator>, R: Wait>(
-    rt: &R,
-    alloc: Global,
-    blank: Blank,
-) -> Result<Replies, Fail>
-    requires name { blank.name ≡ L.name }
-    requires parts { blank.parts ≡ L.parts }
-    requires whole { L.parts ≡ 2 ^ 63 + 1 }
-{
-    let (map, _) = made::<L, M>(alloc, blank)?;
-    let mut guard = map.pin(rt)?;
-    let inserted = map.insert(rt, &mut guard, 7, 70)?;
-    let found = map.get(rt, &mut guard, &7);
-    let removed = map.remove(rt, &mut guard, &7);
-    let after = map.get(rt, &mut guard, &7);
-    Ok((inserted, found, removed, after))
-}
-
-#[test]
-fn one_guard_makes_four_calls(rt: HostRuntime) -> Result<(), Fail> {
-    let replies = by_one_guard::<Brand, Machine, _>(&rt, rt.alloc(), Blank::new((1 << 63) + 1))?;
-    assert!(rt; replies == (None, Some(70), Some(70), None));
-    let replies = by_one_guard::<Brand, Tree, _>(&rt, rt.alloc(), Blank::new((1 << 63) + 1))?;
-    assert!(rt; replies == (None, Some(70), Some(70), None));
     Ok(())
 }
 
@@ -290,14 +286,14 @@ fn count_up<L: Ledger, M: Pages, R: Wait>(
 fn compute_in_the_middle<L: Ledger, M: Pages, R: Wait + Clock>(
     rt: &R,
     map: &Map<L, M>,
-    answered: &AtomicBool,
+    turns: &Turns,
 ) -> bool {
     let Ok(mut guard) = map.pin_waiting(rt) else {
         return false;
     };
     let mut in_time = false;
     let mut waits = |_old: Option<u64>| -> u64 {
-        in_time = came(rt, answered);
+        in_time = turns.pass(rt);
         5
     };
     if map
@@ -332,12 +328,12 @@ fn counted_up<
     all.sort()?;
     let mut guard = map.pin(rt)?;
     let last = map.get(rt, &mut guard, &0);
-    let answered = AtomicBool::new(false);
-    let flag = &answered;
+    let turns = Turns::new();
+    let both = &turns;
     let (in_time, _) = join(
         rt,
-        || compute_in_the_middle(rt, shared, flag),
-        || insert_and_report(rt, shared, 1, flag),
+        || compute_in_the_middle(rt, shared, both),
+        || insert_and_report(rt, shared, 1, both),
     );
     Ok((all, last, in_time))
 }
@@ -363,30 +359,14 @@ fn two_threads_count_up_by_closures(rt: HostRuntime) -> Result<(), Fail> {
     Ok(())
 }
 
-// A computation by one caller whose closure reads another key by a second caller. Returns what it found there.
-fn look_at_events<L: Ledger, R: Wait>(
-    rt: &R,
-    map: &Map<L, Machine>,
-    guard: &mut Guard<'_, L, Machine>,
-) -> Result<Option<u64>, Fail>
-    requires { guard.old.table ≡ map.now }
-    ensures { guard.new.table ≡ map.now }
-{
-    let mut found = None;
-    let mut looks = |_old: Option<u64>| -> u64 {
-        if let Ok(guard) = map.pin(rt) {
-            let mut other = guard;
-            found = map.get(rt, &mut other, &3);
-        }
-        7
-    };
-    let stored = map.compute_or_insert(rt, guard, 4, &mut looks);
-    stored?;
-    Ok(found)
+// What a second caller finds.
+fn look_up<L: Ledger, M: Pages, R: Wait>(rt: &R, map: &Map<L, M>, key: u64) -> Option<u64> {
+    let mut guard = map.pin(rt).ok()?;
+    map.get(rt, &mut guard, &key)
 }
 
-// A closure that calls the map itself.
-fn calls_at_events<L: Ledger, R: Wait>(
+// A computation whose closure reads another key by a second caller. What it found there, and what is stored then.
+fn calls_within<L: Ledger, M: Pages + Made<u64, u64, DefaultAllocator>, R: Wait>(
     rt: &R,
     alloc: Global,
     blank: Blank,
@@ -395,59 +375,24 @@ fn calls_at_events<L: Ledger, R: Wait>(
     requires parts { blank.parts ≡ L.parts }
     requires whole { L.parts ≡ 2 ^ 63 + 1 }
 {
-    let (map, _) = made::<L, Machine>(alloc, blank)?;
+    let (map, _) = made::<L, M>(alloc, blank)?;
     let mut guard = map.pin(rt)?;
     map.insert(rt, &mut guard, 3, 30)?;
-    let found = look_at_events(rt, &map, &mut guard)?;
-    let stored = map.get(rt, &mut guard, &4);
-    Ok((found, stored))
-}
-
-// A computation by one caller whose closure reads another key by a second caller. Returns what it found there.
-fn look_at_the_tree<L: Ledger, R: Wait>(
-    rt: &R,
-    map: &Map<L, Tree>,
-    guard: &mut Guard<'_, L, Tree>,
-) -> Result<Option<u64>, Fail>
-    requires { guard.old.table ≡ map.now }
-    ensures { guard.new.table ≡ map.now }
-{
     let mut found = None;
     let mut looks = |_old: Option<u64>| -> u64 {
-        if let Ok(guard) = map.pin(rt) {
-            let mut other = guard;
-            found = map.get(rt, &mut other, &3);
-        }
+        found = look_up(rt, &map, 3);
         7
     };
-    let stored = map.compute_or_insert(rt, guard, 4, &mut looks);
-    stored?;
-    Ok(found)
-}
-
-// A closure that calls the map itself.
-fn calls_at_the_tree<L: Ledger, R: Wait>(
-    rt: &R,
-    alloc: Global,
-    blank: Blank,
-) -> Result<(Option<u64>, Option<u64>), Fail>
-    requires name { blank.name ≡ L.name }
-    requires parts { blank.parts ≡ L.parts }
-    requires whole { L.parts ≡ 2 ^ 63 + 1 }
-{
-    let (map, _) = made::<L, Tree>(alloc, blank)?;
-    let mut guard = map.pin(rt)?;
-    map.insert(rt, &mut guard, 3, 30)?;
-    let found = look_at_the_tree(rt, &map, &mut guard)?;
+    map.compute_or_insert(rt, &mut guard, 4, &mut looks)?;
     let stored = map.get(rt, &mut guard, &4);
     Ok((found, stored))
 }
 
 #[test]
 fn a_closure_calls_the_map(rt: HostRuntime) -> Result<(), Fail> {
-    let found = calls_at_events::<Brand, _>(&rt, rt.alloc(), Blank::new((1 << 63) + 1))?;
+    let found = calls_within::<Brand, Machine, _>(&rt, rt.alloc(), Blank::new((1 << 63) + 1))?;
     assert!(rt; found == (Some(30), Some(7)));
-    let found = calls_at_the_tree::<Brand, _>(&rt, rt.alloc(), Blank::new((1 << 63) + 1))?;
+    let found = calls_within::<Brand, Tree, _>(&rt, rt.alloc(), Blank::new((1 << 63) + 1))?;
     assert!(rt; found == (Some(30), Some(7)));
     Ok(())
 }

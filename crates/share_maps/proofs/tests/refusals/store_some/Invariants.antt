@@ -1,6 +1,0 @@
--- The guard is one of this map.
-use Rattle.std.proofs.Common.{◌≡◌}
-use Rattle.share_maps.proofs.tests.refusals.store_some.Given as goal
-
-abbrev pub invariant-loop-step : goal.invariant-loop-step
-invariant-loop-step g l = l.guard.table ≡ l.map

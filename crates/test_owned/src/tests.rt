@@ -1,0 +1,18 @@
+//! Worked examples, and comparisons that cross crates.
+
+mod asserts;
+mod budgets;
+mod bulk;
+mod counted;
+mod faces;
+mod hostile;
+mod leaks;
+mod neighbours;
+mod rows;
+mod scans;
+mod shared_values;
+mod shrinking;
+mod sizes;
+mod statistics;
+mod table;
+mod walks;

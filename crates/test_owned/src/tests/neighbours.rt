@@ -1,0 +1,199 @@
+//! Ends, neighbours and pops, by each face.
+
+use super::asserts::assert_number;
+use super::faces::{Half, Tens};
+use congee_owned::{Congee, DefaultAllocator, OOMError, PayloadCongee, U64Congee};
+use std::test::Fail;
+
+type Pair = Option<(u64, u64)>;
+
+/// A question about a key, or a pop.
+#[derive(Clone, Copy, Debug)]
+enum Asked {
+    First,
+    Last,
+    Floor(u64),
+    Ceiling(u64),
+    Below(u64),
+    Above(u64),
+    PopFirst,
+    PopLast,
+}
+
+const LAST: u64 = u64::MAX;
+
+// Of the keys 5, 7, 300 and the greatest, each its own value.
+const ROWS: [(Asked, Pair); 26] = [
+    (Asked::First, Some((5, 5))),
+    (Asked::Last, Some((LAST, LAST))),
+    (Asked::Floor(4), None),
+    (Asked::Floor(5), Some((5, 5))),
+    (Asked::Floor(299), Some((7, 7))),
+    (Asked::Floor(LAST), Some((LAST, LAST))),
+    (Asked::Ceiling(0), Some((5, 5))),
+    (Asked::Ceiling(6), Some((7, 7))),
+    (Asked::Ceiling(300), Some((300, 300))),
+    (Asked::Ceiling(301), Some((LAST, LAST))),
+    (Asked::Below(0), None),
+    (Asked::Below(5), None),
+    (Asked::Below(7), Some((5, 5))),
+    (Asked::Below(LAST), Some((300, 300))),
+    (Asked::Above(0), Some((5, 5))),
+    (Asked::Above(7), Some((300, 300))),
+    (Asked::Above(300), Some((LAST, LAST))),
+    (Asked::Above(LAST), None),
+    (Asked::PopFirst, Some((5, 5))),
+    (Asked::PopLast, Some((LAST, LAST))),
+    (Asked::First, Some((7, 7))),
+    (Asked::Last, Some((300, 300))),
+    (Asked::PopLast, Some((300, 300))),
+    (Asked::PopFirst, Some((7, 7))),
+    (Asked::PopFirst, None),
+    (Asked::PopLast, None),
+];
+
+fn answer(map: &mut Congee<u64, u64>, asked: Asked) -> Pair {
+    match asked {
+        Asked::First => map.first(),
+        Asked::Last => map.last(),
+        Asked::Floor(key) => map.floor(&key),
+        Asked::Ceiling(key) => map.ceiling(&key),
+        Asked::Below(key) => map.below(&key),
+        Asked::Above(key) => map.above(&key),
+        Asked::PopFirst => map.pop_first(),
+        Asked::PopLast => map.pop_last(),
+    }
+}
+
+// How many of the rows have the wanted answer.
+fn right(map: &mut Congee<u64, u64>) -> Result<u32, OOMError> {
+    for key in [5, 7, 300, LAST] {
+        map.insert(key, key)?;
+    }
+    let mut right = 0u32;
+    for (asked, wanted) in &ROWS {
+        if answer(map, *asked) == *wanted {
+            right = right.wrapping_add(1);
+        }
+    }
+    Ok(right)
+}
+
+// Of the same keys by number.
+fn are_right_by_number(map: &mut U64Congee<u64>) -> Result<bool, OOMError> {
+    for key in [5, 7, 300, LAST] {
+        map.insert(key, key)?;
+    }
+    Ok(
+        map.first() == Some((5, 5))
+            && map.last() == Some((LAST, LAST))
+            && map.floor(6) == Some((5, 5))
+            && map.ceiling(6) == Some((7, 7))
+            && map.below(5).is_none()
+            && map.above(7) == Some((300, 300))
+            && map.pop_last() == Some((LAST, LAST))
+            && map.pop_first() == Some((5, 5)),
+    )
+}
+
+fn lent(pair: Option<(u64, &u64)>) -> Pair {
+    let (key, value) = pair?;
+    Some((key, *value))
+}
+
+// Of the same keys, with values that are lent.
+fn are_right_of_payloads(map: &mut PayloadCongee<u64, u64>) -> Result<bool, OOMError> {
+    for key in [5, 7, 300, LAST] {
+        map.insert(key, key)?;
+    }
+    Ok(
+        lent(map.first()) == Some((5, 5))
+            && lent(map.last()) == Some((LAST, LAST))
+            && lent(map.floor(6)) == Some((5, 5))
+            && lent(map.ceiling(6)) == Some((7, 7))
+            && lent(map.below(5)).is_none()
+            && lent(map.above(7)) == Some((300, 300))
+            && map.pop_last() == Some((LAST, LAST))
+            && map.pop_first() == Some((5, 5)),
+    )
+}
+
+#[test]
+fn neighbours(rt: HostRuntime) -> Result<(), Fail> {
+    let mut map = Congee::new(rt.alloc(), DefaultAllocator {})?;
+    assert_number(&rt, u128::from(right(&mut map)?), 26);
+    // (only the root is left)
+    assert_number(&rt, map.charged(), 2104);
+    Ok(())
+}
+
+#[test]
+fn neighbours_of_numbers(rt: HostRuntime) -> Result<(), Fail> {
+    assert!(rt; are_right_by_number(&mut U64Congee::new(rt.alloc())?)?);
+    Ok(())
+}
+
+#[test]
+fn neighbours_of_payloads(rt: HostRuntime) -> Result<(), Fail> {
+    assert!(rt; are_right_of_payloads(&mut PayloadCongee::new(rt.alloc())?)?);
+    Ok(())
+}
+
+const UP: [([u8; 8], u64); 3] = [
+    ([0, 0, 0, 0, 0, 0, 0, 7], 6),
+    ([255; 8], u64::MAX ^ 1),
+    ([9; 8], 9),
+];
+
+const DOWN: [([u8; 8], u64); 3] = [
+    ([0, 0, 0, 0, 0, 0, 0, 7], 6),
+    ([0, 0, 0, 0, 0, 0, 0, 5], 4),
+    ([9; 8], 9),
+];
+
+// Whether the ranges that include their end write these.
+fn has_ranges(map: &mut U64Congee<u64>) -> Result<bool, OOMError> {
+    for key in [5, 7, LAST] {
+        map.insert(key, key ^ 1)?;
+    }
+    let (mut up, mut down) = ([([9; 8], 9); 3], [([9; 8], 9); 3]);
+    let ascending = map.range_inclusive(6, LAST, &mut up);
+    let descending = map.range_descending(5, 7, &mut down);
+    Ok(ascending == 2 && up == UP && descending == 2 && down == DOWN)
+}
+
+#[test]
+fn ranges_of_numbers(rt: HostRuntime) -> Result<(), Fail> {
+    assert!(rt; has_ranges(&mut U64Congee::new(rt.alloc())?)?);
+    Ok(())
+}
+
+const TYPED: [(Half, Tens); 3] = [
+    (Half(2), Tens(10)),
+    (Half(4), Tens(20)),
+    (Half(6), Tens(30)),
+];
+
+// Whether keys 1, 2 and 3 are read back as 2, 4 and 6.
+fn reads_back(map: &mut Congee<Half, Tens>) -> Result<bool, OOMError> {
+    for (key, value) in TYPED {
+        map.insert(key, value)?;
+    }
+    let [one, two, three] = TYPED;
+    Ok(
+        map.first() == Some(one)
+            && map.last() == Some(three)
+            && map.floor(&Half(5)) == Some(two)
+            && map.ceiling(&Half(5)) == Some(two)
+            && map.below(&Half(4)) == Some(one)
+            && map.above(&Half(6)).is_none()
+            && map.pop_first() == Some(one)
+            && map.pop_last() == Some(three),
+    )
+}
+
+#[test]
+fn pairs_are_read_back(rt: HostRuntime) -> Result<(), Fail> {
+    assert!(rt; reads_back(&mut Congee::new(rt.alloc(), DefaultAllocator {})?)?);
+    Ok(())
+}

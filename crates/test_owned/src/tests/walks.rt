@@ -1,0 +1,105 @@
+//! Drains and drainers.
+
+use super::asserts::{assert_pairs, assert_test};
+use congee_owned::{Congee, DefaultAllocator, Drainer, FnDrain, NoDrain, OOMError};
+use std::alloc::Global;
+use std::cell::RefCell;
+use std::test::Fail;
+
+/// Records the pairs that it is called with.
+#[derive(Drop)]
+pub(super) struct Notes<'a> {
+    pub(super) reported: &'a RefCell<Vec<(u64, u64)>>,
+}
+
+impl Drainer<u64, u64> for Notes<'_> {
+    ghost can_drain = { λ _. Unit {0} };
+
+    fn drain(&self, k: u64, v: u64) {
+        if let Ok(mut list) = self.reported.try_borrow_mut() {
+            let _ = list.push((k, v));
+        }
+    }
+}
+
+type NotedMap<'a> = Congee<u64, u64, DefaultAllocator, Notes<'a>>;
+
+// Inserts three pairs into a map whose drainer records its pairs.
+fn fill(map: &mut NotedMap<'_>) -> Result<(), OOMError> {
+    for (key, value) in [(2, 20), (1, 10), (u64::MAX, 30)] {
+        map.insert(key, value)?;
+    }
+    Ok(())
+}
+
+// Such a map.
+fn noted<'a>(
+    alloc: Global,
+    reported: &'a RefCell<Vec<(u64, u64)>>,
+) -> Result<NotedMap<'a>, OOMError> {
+    let mut map = Congee::new_with_drainer(alloc, DefaultAllocator {}, Notes { reported })?;
+    fill(&mut map)?;
+    Ok(map)
+}
+
+// The pairs that the drainer is called with when the map is dropped.
+fn called_at_drop(alloc: Global) -> Result<Vec<(u64, u64)>, OOMError> {
+    let reported = RefCell::new(Vec::new(alloc));
+    let map = noted(alloc, &reported)?;
+    drop(map);
+    Ok(reported.into_inner())
+}
+
+#[test]
+fn drainer_is_called_at_the_drop(rt: HostRuntime) -> Result<(), Fail> {
+    let wanted = [(1, 10), (2, 20), (u64::MAX, 30)];
+    assert_pairs(&rt, 0, &called_at_drop(rt.alloc())?, &wanted);
+    Ok(())
+}
+
+// The pairs that the closure of a drain is called with, and then those that the drainer is.
+fn called_by_drain(alloc: Global) -> Result<Vec<(u64, u64)>, OOMError> {
+    let reported = RefCell::new(Vec::new(alloc));
+    let map = noted(alloc, &reported)?;
+    let mut list = Vec::new(alloc);
+    let mut take = |key: u64, value: u64| {
+        let _ = list.push((key, value));
+    };
+    map.drain(&mut take);
+    for pair in reported.into_inner().as_slice() {
+        list.push(*pair)?;
+    }
+    Ok(list)
+}
+
+#[test]
+fn drain_calls_its_closure_alone(rt: HostRuntime) -> Result<(), Fail> {
+    let wanted = [(1, 10), (2, 20), (u64::MAX, 30)];
+    assert_pairs(&rt, 0, &called_by_drain(rt.alloc())?, &wanted);
+    Ok(())
+}
+
+fn drain_one<D: Drainer<u64, u64>>(drainer: &D) -> bool
+    requires { D.can_drain drainer.now }
+{
+    drainer.drain(7, 70);
+    drainer.wants_pairs()
+}
+
+#[test]
+fn closure_is_called(rt: HostRuntime) -> Result<(), Fail> {
+    let reported = RefCell::new((0u64, 0u64));
+    let drainer = FnDrain::new(|key: u64, value: u64| {
+        let _ = reported.try_replace((key, value));
+    });
+    assert_test(&rt, drain_one(&drainer), true);
+    drop(drainer);
+    assert_eq!(rt; reported.into_inner(), (7, 70));
+    Ok(())
+}
+
+#[test]
+fn nobody_is_called(rt: HostRuntime) -> Result<(), Fail> {
+    assert_test(&rt, drain_one(&NoDrain {}), false);
+    Ok(())
+}

@@ -1,0 +1,9 @@
+//! The program `congee` over any streams: what its words ask for, the run or the schedule that it serves, its exit status, and
+//! how far a long run is.
+//!
+//! Tested in `test_serve`.
+#![tactic(auto)]
+
+pub mod progress;
+pub mod serve;
+pub mod words;

@@ -1,0 +1,131 @@
+//! The maps that threads share, beside the map with one owner in a mutex: one line of times for each form and round.
+//!
+//! A line is: the kind of the keys, the form, and then, in hundredths of a nanosecond a call of one thread: filling the first seven
+//! tenths by one thread; a tenth of new keys each by one, two and four threads; `get` by one, two and four; overwriting and
+//! removing likewise. The form `alone` is the machine without a lock, by one thread, and `events` an event of its `get` and, as a
+//! removal, a `reclaim_next` that finds nothing. Without an argument nothing is measured (the gate runs the program so); `tools/dev/bench-threads` makes a table.
+#![tactic(auto)]
+
+ghost use Rattle.std.specs.Prelude.{◌≡◌, ◌+◌, ◌^◌};
+
+mod alone;
+mod hand;
+mod keys;
+mod shares;
+mod work;
+
+use crate::alone::alone;
+use crate::hand::{bare_holds, by_hand, owned};
+use crate::keys::{dense, random, shuffled};
+use crate::shares::shared;
+use crate::work::Times;
+use node_table::allocator::DefaultAllocator;
+use share_machine::events::Events;
+use share_tree::direct::Direct;
+use std::alloc::Global;
+use std::env;
+use std::io::Write;
+use std::marker::Brand;
+use std::sync::Wait;
+use std::sync::ledger::Blank;
+use std::test::Fail;
+use std::thread::Threads;
+use std::time::Clock;
+
+type Machine = Events<u64, DefaultAllocator>;
+
+type Tree = Direct<u64, DefaultAllocator>;
+
+const KEYS: usize = 1_000_000;
+
+const FEW: usize = 100_000;
+
+fn print_times<W: Write>(out: &mut W, kind: &str, form: &str, t: Times) -> Result<(), Fail> {
+    writeln!(
+        out,
+        "{kind} {form} {} {} {} {} {} {} {} {} {} {} {} {} {}",
+        t.fill,
+        t.new.0,
+        t.new.1,
+        t.new.2,
+        t.get.0,
+        t.get.1,
+        t.get.2,
+        t.over.0,
+        t.over.1,
+        t.over.2,
+        t.remove.0,
+        t.remove.1,
+        t.remove.2
+    )?;
+    Ok(())
+}
+
+fn rounds<R: Threads + Wait + Clock + Sync, W: Write>(
+    rt: &R,
+    alloc: Global,
+    out: &mut W,
+    is_random: bool,
+    count: u32,
+    with_machine: bool,
+) -> Result<(), Fail> {
+    let kind = if is_random { "random" } else { "dense" };
+    let fill = if is_random {
+        random(alloc, KEYS)?
+    } else {
+        dense(alloc, KEYS)?
+    };
+    let order = shuffled(alloc, fill.as_slice())?;
+    let few = order.as_slice().get(..FEW).ok_or("few keys")?;
+    for _ in 0..count {
+        if with_machine {
+            let t = shared::<Brand, Machine, _>(
+                rt,
+                alloc,
+                Blank::new((1 << 63) + 1),
+                fill.as_slice(),
+                few,
+            )?;
+            print_times(out, kind, "shared", t)?;
+            let t = alone(rt, alloc, fill.as_slice(), few)?;
+            print_times(out, kind, "alone", t.calls)?;
+            print_times(out, kind, "events", t.event)?;
+        } else {
+            let t = shared::<Brand, Tree, _>(
+                rt,
+                alloc,
+                Blank::new((1 << 63) + 1),
+                fill.as_slice(),
+                order.as_slice(),
+            )?;
+            print_times(out, kind, "locked", t)?;
+            let t = by_hand(rt, alloc, fill.as_slice(), order.as_slice())?;
+            print_times(out, kind, "hand", t)?;
+            let t = owned(rt, alloc, fill.as_slice(), order.as_slice())?;
+            print_times(out, kind, "owned", t)?;
+            let t = bare_holds(rt, order.as_slice())?;
+            print_times(out, kind, "hold", t)?;
+        }
+    }
+    Ok(())
+}
+
+fn main(rt: HostRuntime) -> Result<(), Fail> {
+    let mut words = env::args(&rt)?;
+    let _ = words.next();
+    let Some(form) = words.next() else {
+        return Ok(());
+    };
+    let is_all = form.as_str() == "all";
+    let alloc = rt.alloc();
+    let mut out = rt.stdout();
+    if is_all || form.as_str() == "locked" {
+        rounds(&rt, alloc, &mut out, false, 5, false)?;
+        rounds(&rt, alloc, &mut out, true, 5, false)?;
+    }
+    if is_all || form.as_str() == "shared" {
+        rounds(&rt, alloc, &mut out, false, 5, true)?;
+        rounds(&rt, alloc, &mut out, true, 5, true)?;
+    }
+    Ok(())
+}
