@@ -1,0 +1,6 @@
+pub mod Asks
+pub mod Cells
+pub mod Fields
+pub mod Held
+pub mod Steps
+pub mod Walks
