@@ -1,0 +1,2 @@
+mod DirectorySteps
+mod NumberSteps

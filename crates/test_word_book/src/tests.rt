@@ -1,0 +1,4 @@
+//! Sizes, one thread, and several threads on one book.
+
+mod directories;
+mod numbers;
