@@ -4,8 +4,10 @@
 //! Tested in `tools/dev/try-program`.
 #![tactic(auto)]
 
+use std::cell::Cell;
 use std::process::ExitCode;
 use text_lines::watched::Watched;
+use text_serve::pipes::{Hushed, Piped};
 use text_serve::progress::{Metered, meter_of};
 use text_serve::serve::{report_no_memory, serve};
 use text_serve::words::words_of;
@@ -16,13 +18,14 @@ fn main(rt: HostRuntime) -> ExitCode {
     };
     let meter = meter_of(&rt.stdin(), &rt.stdout(), rt.stderr(), &rt);
     let mut input = Watched::new(Metered::new(rt.stdin(), meter));
-    let mut output = Watched::new(rt.stdout());
+    let gone = Cell::new(false);
+    let mut output = Watched::new(Piped::new(rt.stdout(), &gone));
     let status = serve(
         rt.alloc(),
         &words,
         &mut input,
         &mut output,
-        &mut rt.stderr(),
+        &mut Hushed::new(rt.stderr(), &gone),
     );
     ExitCode::from(status)
 }

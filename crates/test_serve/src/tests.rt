@@ -1,6 +1,7 @@
 //! Whole runs over streams in memory.
 
 mod faults;
+mod pipes;
 mod progress;
 mod rows;
 mod schedules;
@@ -25,7 +26,7 @@ const CONTENTS: &[&str] = &["trace", "--content"];
 
 const BROKEN: &str = "congee: input or output failed\n";
 
-const NO_MEMORY: &str = "congee: Allocator is out of memory!\n";
+const SMALL_LIMIT: &str = "congee: LIMIT is at least 2104, the bytes of an empty map\n";
 
 /// The words after the program's name, what is read, the exit status, what is written, and the text on standard error.
 type Row = (

@@ -4,6 +4,7 @@
 //! Tested in `test_serve`.
 #![tactic(auto)]
 
+pub mod pipes;
 pub mod progress;
 pub mod serve;
 pub mod words;

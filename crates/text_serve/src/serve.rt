@@ -42,6 +42,9 @@ last             the pair of the greatest key\n\
 floor K          the pair of the greatest key that is at most K\n\
 ceiling K        the pair of the least key that is at least K\n";
 
+/// The least limit, in bytes: what the root of an empty map is charged.
+const LEAST: u64 = 2104;
+
 /// What the words after the program's name ask for.
 #[derive(Clone, Copy)]
 enum Mode {
@@ -135,16 +138,23 @@ fn serve_run<R: Read, W: Write, E: Write>(
         × EndsRun R.remaining W.contents input.old input.new output.old output.new ended }
 {
     match limit {
-        None => run_within(alloc, DefaultAllocator {}, stats, input, output, errors),
-        Some(limit) => run_within(alloc, Budget::new(limit), stats, input, output, errors),
+        Some(limit) => {
+            let budget = Budget::new(limit);
+            run_within(alloc, budget, limit < LEAST, stats, input, output, errors)
+        }
+        None => {
+            let memory = DefaultAllocator {};
+            run_within(alloc, memory, false, stats, input, output, errors)
+        }
     }
 }
 
-// A run whose map has this budget. Writes why it failed, if it did, or the statistics of its map, where they are wanted,
-// and returns the status.
+// A run whose map has this budget, which may be too small for any map. Writes why the run failed, if it did, or the
+// statistics of its map, where they are wanted, and returns the status.
 fn run_within<R: Read, W: Write, E: Write, A: Allocator>(
     alloc: Global,
     allocator: A,
+    too_small: bool,
     stats: bool,
     input: &mut Watched<R>,
     output: &mut Watched<W>,
@@ -164,7 +174,13 @@ fn run_within<R: Read, W: Write, E: Write, A: Allocator>(
         }
         Err(RunError::Read) => report_broken(errors),
         Err(RunError::Write) => report_broken(errors),
-        Err(RunError::Oom) => report_no_memory(errors),
+        Err(RunError::Oom) => {
+            if too_small {
+                report_small_limit(errors)
+            } else {
+                report_no_memory(errors)
+            }
+        }
     }
 }
 
@@ -204,6 +220,16 @@ fn report_broken<E: Write>(errors: &mut E) -> u8
     ensures { result ≡ 1 }
 {
     tell(errors, 1, b"congee: input or output failed\n")
+}
+
+fn report_small_limit<E: Write>(errors: &mut E) -> u8
+    ensures { result ≡ 3 }
+{
+    tell(
+        errors,
+        3,
+        b"congee: LIMIT is at least 2104, the bytes of an empty map\n",
+    )
 }
 
 /// Writes to `errors` that memory was missing, and returns the exit status for it.

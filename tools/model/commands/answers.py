@@ -11,7 +11,7 @@ NUMBER = re.compile("0|[1-9][0-9]*")
 # How many pairs a range may ask for, and how many bytes a line may have.
 PAIRS = 4096
 BYTES = 256
-NO_MEMORY = "congee: Allocator is out of memory!\n"
+SMALL_LIMIT = "congee: LIMIT is at least 2104, the bytes of an empty map\n"
 
 
 def number(word, most=GREATEST):
@@ -142,7 +142,7 @@ class Outcome:
     """How a run on these lines ends under a limit: answers, statistics, the most that was charged, and at which line first."""
 
     def __init__(self, lines, limit=None):
-        self.answers, self.text = [], NO_MEMORY
+        self.answers, self.text = [], SMALL_LIMIT
         self.status, self.most, self.at = 3, 0, None
         try:
             run = Run(limit)

@@ -1,7 +1,7 @@
 //! Rows of `congee run`, worked out by hand.
 
 use crate::tests::streams::Torn;
-use crate::tests::{NO_MEMORY, Outcome, RUN, Row, gives, wrong_row};
+use crate::tests::{Outcome, RUN, Row, SMALL_LIMIT, gives, wrong_row};
 use std::alloc::{AllocError, Global};
 use std::io::Read;
 use std::test::Fail;
@@ -178,7 +178,7 @@ const LIMITS: [(&str, u8, &str); 7] = [
 #[test]
 fn limits(rt: HostRuntime) -> Result<(), Fail> {
     for (limit, status, written) in LIMITS {
-        let stderr = if status == 0 { "" } else { NO_MEMORY };
+        let stderr = if status == 0 { "" } else { SMALL_LIMIT };
         let wanted = Outcome::of(status, written, stderr);
         let is_so = gives(rt.alloc(), &["run", limit], LIMITED.as_bytes(), wanted)?;
         assert!(rt; is_so, "at {limit}");

@@ -1,6 +1,6 @@
 //! The statistics at the end of a run.
 
-use crate::tests::{NO_MEMORY, RUN, Row, wrong_row};
+use crate::tests::{RUN, Row, SMALL_LIMIT, wrong_row};
 use std::test::Fail;
 
 const EMPTY: &str = "\
@@ -41,7 +41,7 @@ const ROWS: &[Row] = &[
         ONE_PAIR,
     ),
     (RUN, "insert 1 42\nget 1\n", 0, "ok none\n42\n", ""),
-    (&["run", "--stats", "2103"], "get 1\n", 3, "", NO_MEMORY),
+    (&["run", "--stats", "2103"], "get 1\n", 3, "", SMALL_LIMIT),
 ];
 
 #[test]
