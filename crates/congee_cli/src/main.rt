@@ -10,6 +10,7 @@ use text_lines::watched::Watched;
 use text_serve::pipes::{Hushed, Piped};
 use text_serve::progress::{Metered, meter_of};
 use text_serve::serve::{report_no_memory, serve};
+use text_serve::typed::{Typed, hints_of};
 use text_serve::words::words_of;
 
 fn main(rt: HostRuntime) -> ExitCode {
@@ -17,7 +18,8 @@ fn main(rt: HostRuntime) -> ExitCode {
         return ExitCode::from(report_no_memory(&mut rt.stderr()));
     };
     let meter = meter_of(&rt.stdin(), &rt.stdout(), rt.stderr(), &rt);
-    let mut input = Watched::new(Metered::new(rt.stdin(), meter));
+    let hints = hints_of(&rt.stdin(), &rt.stdout(), rt.stderr(), &words);
+    let mut input = Watched::new(Typed::new(Metered::new(rt.stdin(), meter), hints));
     let gone = Cell::new(false);
     let mut output = Watched::new(Piped::new(rt.stdout(), &gone));
     let status = serve(

@@ -7,6 +7,7 @@ mod rows;
 mod schedules;
 mod statistics;
 mod streams;
+mod typed;
 mod usage;
 mod words;
 

@@ -7,4 +7,5 @@
 pub mod pipes;
 pub mod progress;
 pub mod serve;
+pub mod typed;
 pub mod words;

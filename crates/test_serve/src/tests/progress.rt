@@ -87,7 +87,7 @@ fn lines_of_progress(rt: HostRuntime) -> Result<(), Fail> {
 
 /// A stream, and whether it is at a terminal.
 #[derive(Drop)]
-struct Stream(bool);
+pub struct Stream(pub bool);
 
 impl IsTerminal for Stream {
     fn is_terminal(&self) -> bool {
