@@ -5,3 +5,9 @@ pub use Rattle.face_runs.specs.Calls
 pub use Rattle.face_runs.specs.Conversion
 pub use Rattle.face_runs.specs.PayloadCalls
 pub use Rattle.face_runs.specs.U64Calls
+pub use Rattle.share_guards.specs.Operations
+pub use Rattle.share_laws.specs.Keys
+pub use Rattle.share_rule.specs.History
+pub use Rattle.share_rule.specs.Known
+pub use Rattle.spec_olc.specs.Meaning
+pub use Rattle.spec_olc.specs.Runs

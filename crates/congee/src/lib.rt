@@ -1,4 +1,5 @@
-//! The map for its users: all of `congee_owned`, the forms that threads share, and calls as data.
+//! The map for its users: all of `congee_owned`, the forms that threads share, what their callers may conclude
+//! (`guard_laws`), and calls as data.
 //!
 //! Tested in `test_owned`, `share_maps` and `test_share_hostile`.
 #![tactic(auto)]
@@ -9,4 +10,6 @@ pub use congee_owned::{
     Word,
 };
 pub use face_runs::{calls, payload_calls, u64_calls};
+pub use share_laws::laws as guard_laws;
+pub use share_maps::shared::{Guard, Kind, Report};
 pub use share_maps::{locked, shared};

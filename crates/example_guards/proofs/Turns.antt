@@ -2,12 +2,12 @@
 use Rattle.std.proofs.Common.{◌≡◌, ℕ, List, [], ◌∷◌, ◌++◌, Option, Some, None, refl, sym, ap, subst, ◌∙◌}
 use Rattle.spec_map.specs.Call.{get, insert, old_value}
 use Rattle.spec_map.specs.Map.{Pairs, between}
-use Rattle.spec_olc.specs.Meaning.{in_some}
-use Rattle.spec_olc.specs.Runs.{same_number}
-use Rattle.share_guards.specs.Operations.{returned}
-use Rattle.share_laws.specs.Keys.{AllLeave, OwnsKeys, finds, inserts}
-use Rattle.share_rule.specs.History.{Entry, entries_of, IsHistory}
-use Rattle.share_rule.specs.Known.{Known, MadeCall, SeenMore, own_entries}
+use Rattle.congee.specs.Meaning.{in_some}
+use Rattle.congee.specs.Runs.{same_number}
+use Rattle.congee.specs.Operations.{returned}
+use Rattle.congee.specs.Keys.{AllLeave, OwnsKeys, finds, inserts}
+use Rattle.congee.specs.History.{Entry, entries_of, IsHistory}
+use Rattle.congee.specs.Known.{Known, MadeCall, SeenMore, own_entries}
 use Rattle.example_guards.specs.Callers.{HandedOver, KeepsOwn}
 
 -- a number is read back as itself

@@ -1,11 +1,11 @@
 -- What the callers know.
 use Rattle.std.specs.Prelude.{◌≡◌, ℕ, List, [], ◌∷◌, ◌++◌, Option, Some}
 use Rattle.spec_map.specs.Map.{Pairs, between}
-use Rattle.spec_olc.specs.Runs.{same_number}
-use Rattle.share_guards.specs.Operations.{inserted_with}
-use Rattle.share_laws.specs.Keys.{AllLeave, IsAtLeast, OwnsKeys, finds, inserts}
-use Rattle.share_rule.specs.History.{Entry, IsHistory}
-use Rattle.share_rule.specs.Known.{Known, MadeCall, own_entries}
+use Rattle.congee.specs.Runs.{same_number}
+use Rattle.congee.specs.Operations.{inserted_with}
+use Rattle.congee.specs.Keys.{AllLeave, IsAtLeast, OwnsKeys, finds, inserts}
+use Rattle.congee.specs.History.{Entry, IsHistory}
+use Rattle.congee.specs.Known.{Known, MadeCall, own_entries}
 
 -- HANDED OVER: the giver's insertion, and later the taker's look-up, which finds the value if nobody changed the key in
 -- between

@@ -2,7 +2,7 @@
 
 ghost use Rattle.std.specs.Prelude.{◌≡◌, Some, IfOk};
 ghost use Rattle.example_guards.specs.Callers.{IsCounted};
-ghost use Rattle.share_laws.specs.Keys.{IsAtLeast};
+ghost use Rattle.congee.specs.Keys.{IsAtLeast};
 
 use crate::Map;
 use congee::OOMError;
@@ -11,7 +11,7 @@ use std::sync::Wait;
 use std::sync::ledger::Ledger;
 
 /// Adds one to the number at the key, or stores 1 there, and returns the number before. The greatest number stays. If all
-/// calls on this key are such ones, its number never falls (`share_laws::laws::a_number_only_rises`).
+/// calls on this key are such ones, its number never falls (`congee::guard_laws::a_number_only_rises`).
 pub fn count<L: Ledger, R: Wait>(
     rt: &R,
     map: &Map<L>,

@@ -5,8 +5,8 @@ ghost use Rattle.example_guards.specs.Callers.{HandedOver};
 
 use crate::Map;
 use congee::OOMError;
+use congee::guard_laws::a_get_finds_what_was_inserted;
 use congee::locked::{Guard, meet};
-use share_laws::laws::a_get_finds_what_was_inserted;
 use std::sync::Wait;
 use std::sync::ledger::Ledger;
 

@@ -5,8 +5,8 @@ ghost use Rattle.example_guards.specs.Callers.{KeepsOwn};
 
 use crate::Map;
 use congee::OOMError;
+use congee::guard_laws::{a_get_finds_what_was_inserted, an_owner_has_a_map_of_its_own};
 use congee::locked::Guard;
-use share_laws::laws::{a_get_finds_what_was_inserted, an_owner_has_a_map_of_its_own};
 use std::sync::Wait;
 use std::sync::ledger::Ledger;
 
