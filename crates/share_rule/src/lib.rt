@@ -6,5 +6,6 @@
 
 pub mod lock;
 pub mod rule;
-pub mod state;
+pub mod spin;
 pub mod view;
+pub mod work;

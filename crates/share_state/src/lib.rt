@@ -3,6 +3,7 @@
 //! Tested in `share_maps`.
 #![tactic(auto)]
 
+mod locked;
 pub mod purse;
 pub mod share;
 pub mod state;

@@ -1,5 +1,5 @@
 -- What a seat knows of its own number after each event of a call.
-use Rattle.std.specs.Prelude.{◌≡◌, ℕ, Bool, true, false, Option, Some, None, Result, Ok, Err, ◌⊎◌}
+use Rattle.std.specs.Prelude.{◌≡◌, ℕ, Bool, true, false, List, [], ◌∷◌, Option, Some, None, Result, Ok, Err, ◌⊎◌}
 use Rattle.share_backend.specs.Stages.{Follows, TakesAnswer, operation_by}
 use Rattle.share_backend.specs.declared.event.EventResult.{EventResult}
 use Rattle.share_backend.specs.declared.lent.CallStage.{CallStage}
@@ -22,15 +22,15 @@ use Rattle.spec_olc.specs.declared.types.Outcome.TheVariants.{Going, Ask, Pair, 
 use Rattle.spec_olc.specs.declared.types.Reply.{Reply}
 
 module _ {T : Type 0} where
-  -- the operation that an event makes, by what was known of its number before
-  abbrev pub operation_at : Option (ℕ × CallStage T) → Outcome T → Option (Operation ℕ T T)
-  operation_at (Some (i, Running o op s)) (Decided reply) = Some (operation_by op (asked_of s) reply)
-  operation_at at outcome = None
+  -- the operation that an event makes, if it makes one, by what was known of its number before
+  abbrev pub operations_at : Option (ℕ × CallStage T) → Outcome T → List (Operation ℕ T T)
+  operations_at (Some (i, Running o op s)) (Decided reply) = operation_by op (asked_of s) reply ∷ []
+  operations_at at outcome = []
 
-  -- the operation that a call's first event makes
-  abbrev pub operation_in : Op T → Outcome T → Option (Operation ℕ T T)
-  operation_in op (Decided reply) = Some (operation_by op None reply)
-  operation_in op outcome = None
+  -- the operation that a call's first event makes, if it makes one
+  abbrev pub operations_in : Op T → Outcome T → List (Operation ℕ T T)
+  operations_in op (Decided reply) = operation_by op None reply ∷ []
+  operations_in op outcome = []
 
   -- a call that has its reply, or was refused
   abbrev pub IsOver : Outline → CallStage T → Type 0
@@ -42,9 +42,9 @@ is_last Done = true
 is_last Unknown = true
 is_last _ = false
 
-abbrev pub operation_opened : {P T E : Type 0} → (P → T) → Op P → Result (EventResult P) E → Option (Operation ℕ T T)
-operation_opened meaning op (Ok event) = operation_in (op_of meaning op) (outcome_of meaning event.outcome)
-operation_opened meaning op (Err e) = None
+abbrev pub operations_opened : {P T E : Type 0} → (P → T) → Op P → Result (EventResult P) E → List (Operation ℕ T T)
+operations_opened meaning op (Ok event) = operations_in (op_of meaning op) (outcome_of meaning event.outcome)
+operations_opened meaning op (Err e) = []
 
 -- the number that was seated
 abbrev pub seated_in : {E : Type 0} → Result ℕ E → Option ℕ

@@ -7,5 +7,5 @@ swap-requires g c =
     let kept = c.self.invariant in (
       c.exchange.ensures.0 ∙ (c.requires.table ∙ sym c.self.view_is),
       omega (arith, kept.0),
-      may_release g.S.Protected.same g.S.Protected.content g.S.Protected.place g.D.Done.operation g.D.Done.number _ c.exchange.new.seat.id c.args.seat.now.me c.exchange.new.seat.me c.args.value (omega (arith, kept.1)) c.requires.may c.exchange.ensures.3,
+      may_release g.S.Protected.same g.S.Protected.content g.S.Protected.place g.D.Done.operations g.D.Done.number _ c.exchange.new.seat.id c.args.seat.now.me c.exchange.new.seat.me c.args.value (omega (arith, kept.1)) c.requires.may c.exchange.ensures.3,
     )

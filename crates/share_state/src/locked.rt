@@ -1,10 +1,10 @@
-//! The state of a shared map lies under a lock of this rule.
+//! The state of a shared map is under a lock of the rule of `share_rule`.
 //!
 //! Tested in `test_share_guards`.
 
-use crate::rule::Protected;
+use crate::state::LockedState;
 use share_backend::lent::{CallStage, Lent};
-use share_state::state::LockedState;
+use share_rule::rule::Protected;
 use std::sync::ledger::Ledger;
 
 impl<L: Ledger, P, T, M: Lent<P, T>> Protected<T, CallStage<T>> for LockedState<L, P, T, M> {
