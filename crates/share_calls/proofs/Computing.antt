@@ -3,7 +3,7 @@ use Rattle.std.proofs.Common.{◌≡◌, ℕ, [], ◌∷◌, refl, sym, ap, subs
 use Rattle.std.specs.Prelude.{Option, Some, None, Result, Ok, Err, IfOk, OnOk, OnErr}
 use Rattle.share_calls.specs.Made.{computed_from}
 use Rattle.share_calls.specs.inner.Attempts.{computation}
-use Rattle.share_rule.specs.Hold.{StepsBy}
+use Rattle.share_rule.specs.inner.Hold.{StepsBy}
 use Rattle.spec_map.specs.Legal.{IsLegal}
 use Rattle.spec_map.specs.Map.{Pairs, lookup, put}
 use Rattle.spec_map.specs.Refusal.{never}

@@ -3,7 +3,7 @@ use Rattle.std.proofs.Common.{◌≡◌, ◌≢◌, ℕ, Bool, true, false, IsTr
 use Rattle.std.proofs.lemmas.Bool.{eq-eqb, ne_eqb}
 use Rattle.std.specs.Prelude.{Option, Some, ◌==◌}
 use Rattle.share_calls.specs.Made.{returned, clearing, removals}
-use Rattle.share_rule.specs.Hold.{StepsBy}
+use Rattle.share_rule.specs.inner.Hold.{StepsBy}
 use Rattle.spec_map.specs.Call.{Operation, is_empty, tested, count, counted, old_value}
 use Rattle.spec_map.specs.Legal.{IsLegal}
 use Rattle.spec_map.specs.Map.{Pairs, lookup, without}

@@ -2,7 +2,7 @@
 use Rattle.std.proofs.Common.{◌≡◌, ◌≢◌, ℕ, [], ◌∷◌, refl, sym, ap, subst, ◌∙◌, inl, inr}
 use Rattle.std.proofs.lemmas.Bool.{cases_eq, eq-eqb, ne_eqb}
 use Rattle.std.specs.Prelude.{Option, Some, None, Result, Ok, Err, IfOk}
-use Rattle.share_rule.specs.Hold.{StepsBy}
+use Rattle.share_rule.specs.inner.Hold.{StepsBy}
 use Rattle.spec_map.specs.Call.{Operation, compare_exchange, exchanged}
 use Rattle.spec_map.specs.Legal.{IsLegal, after_exchange, exchange}
 use Rattle.spec_map.specs.Map.{Pairs, lookup, with_answer}

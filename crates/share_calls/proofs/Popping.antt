@@ -4,7 +4,7 @@ use Rattle.std.specs.Option.{option_map}
 use Rattle.std.specs.Prelude.{Option, Some, None}
 use Rattle.share_calls.specs.Ends.{popping}
 use Rattle.share_calls.specs.Made.{KnowsBy}
-use Rattle.share_rule.specs.Hold.{StepsBy}
+use Rattle.share_rule.specs.inner.Hold.{StepsBy}
 use Rattle.share_rule.specs.Known.{Known, MadeCalls}
 use Rattle.spec_map.proofs.NearLaws.{first_at, last_at}
 use Rattle.spec_map.specs.Call.{Near, first, last, found, old_value}

@@ -5,7 +5,7 @@ use Rattle.atomic_table.specs.Table.{Me}
 use Rattle.std.specs.Prelude.{Option}
 use Rattle.share_calls.specs.Made.{IsOnly, KnowsBy}
 use Rattle.share_rule.specs.History.{IsLegalHistory}
-use Rattle.share_rule.specs.Hold.{HeldBy}
+use Rattle.share_rule.specs.inner.Hold.{HeldBy}
 use Rattle.share_rule.specs.Known.{Known, SeenMore, MadeCall, MadeCalls}
 use Rattle.share_rule.specs.inner.Meeting.{SeesMore}
 use Rattle.share_rule.specs.inner.SeatView.{SeatView}

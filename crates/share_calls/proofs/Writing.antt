@@ -5,7 +5,7 @@ use Rattle.std.proofs.lemmas.List.Filters.{length-filter_both}
 use Rattle.std.specs.Prelude.{◌&&◌, nat_le, nat_lt, filter}
 use Rattle.share_calls.specs.Made.{KnowsBy, returned, listing}
 use Rattle.share_calls.specs.inner.Written.{AreWritten}
-use Rattle.share_rule.specs.Hold.{StepsBy}
+use Rattle.share_rule.specs.inner.Hold.{StepsBy}
 use Rattle.share_rule.specs.Known.{Known, MadeCall}
 use Rattle.spec_map.specs.Call.{range, ranged}
 use Rattle.spec_map.specs.Legal.{IsLegal}

@@ -61,9 +61,12 @@ pub fn number<L: Ledger, P: Drop, T, M: Lent<P, T>, R: Wait>(
     ensures ok { IfOk result (λ id. KnowsOf (Some (id, Ready)) seat.old.me seat.new.me) }
     ensures err { OnErr result (KnowsOf None seat.old.me seat.new.me) }
 {
-    let mut under = lock.take(rt, seat);
+    lock.take(rt, seat);
+    let Some(under) = seat.slot_mut(lock.table(), 0) else {
+        unreachable!()
+    };
     let seated = under.seat();
-    lock.release::<Brand, _, _>(seat, under, &seated, &());
+    lock.release::<Brand, _, _>(seat, &seated, &());
     seated
 }
 
@@ -80,9 +83,12 @@ pub fn unseat<L: Ledger, P: Drop, T, M: Lent<P, T>, R: Wait>(
     ensures table { seat.new.table_id ≡ seat.old.table_id }
     ensures freed { KnowsOf None seat.old.me seat.new.me }
 {
-    let mut under = lock.take(rt, seat);
+    lock.take(rt, seat);
+    let Some(under) = seat.slot_mut(lock.table(), 0) else {
+        unreachable!()
+    };
     under.unseat(id);
-    lock.release::<Brand, _, _>(seat, under, &(), &());
+    lock.release::<Brand, _, _>(seat, &(), &());
 }
 
 /// The first event of a call of a number that is ready.
@@ -103,9 +109,12 @@ pub(crate) fn begin<L: Ledger, P: Drop, T, M: Lent<P, T>, R: Wait, B: Purse<L>>(
     ensures free { result ≢ Err StartError.InFlight }
     ensures begun { Begun M.same M.meaning id op.now result seat.old.me seat.new.me }
 {
-    let mut under = lock.take(rt, seat);
+    lock.take(rt, seat);
+    let Some(under) = seat.slot_mut(lock.table(), 0) else {
+        unreachable!()
+    };
     let begun = under.open(id, op, purse);
-    lock.release::<Brand, _, _>(seat, under, op, &begun);
+    lock.release::<Brand, _, _>(seat, op, &begun);
     begun
 }
 
@@ -132,9 +141,12 @@ pub(crate) fn event<L: Ledger, P: Drop, T, M: Lent<P, T>, R: Wait, B: Purse<L>>(
         (in_some M.meaning answer) result.report.kind (outcome_of M.meaning result.outcome)
         seat.old.me seat.new.me }
 {
-    let mut under = lock.take(rt, seat);
+    lock.take(rt, seat);
+    let Some(under) = seat.slot_mut(lock.table(), 0) else {
+        unreachable!()
+    };
     let made = under.step(id, op, env_with(answer), purse);
-    lock.release::<Brand, _, _>(seat, under, op, &made);
+    lock.release::<Brand, _, _>(seat, op, &made);
     made
 }
 
@@ -156,9 +168,12 @@ pub(crate) fn last_event<L: Ledger, P: Drop, T, M: Lent<P, T>, R: Wait>(
         → AfterLast id (outline_of op.now) p (outcome_of M.meaning result.outcome)
         seat.old.me seat.new.me }
 {
-    let mut under = lock.take(rt, seat);
+    lock.take(rt, seat);
+    let Some(under) = seat.slot_mut(lock.table(), 0) else {
+        unreachable!()
+    };
     let made = under.step(id, op, env_with(None), &mut OwnPurse);
-    lock.release::<Brand, _, _>(seat, under, op, &made);
+    lock.release::<Brand, _, _>(seat, op, &made);
     made
 }
 
@@ -173,8 +188,11 @@ pub(crate) fn reclaim<L: Ledger, P: Drop, T, M: Lent<P, T>, R: Wait>(
     ensures table { seat.new.table_id ≡ seat.old.table_id }
     ensures known { KnowsOf (at_of seat.old.me.0) seat.old.me seat.new.me }
 {
-    let mut under = lock.take(rt, seat);
+    lock.take(rt, seat);
+    let Some(under) = seat.slot_mut(lock.table(), 0) else {
+        unreachable!()
+    };
     let reclaimed = under.reclaim_next();
-    lock.release::<Brand, _, _>(seat, under, &(), &());
+    lock.release::<Brand, _, _>(seat, &(), &());
     reclaimed
 }

@@ -33,9 +33,12 @@ pub fn keys<L: Ledger, P: Drop, T, M: Snapshots<P, T>, R: Wait, K: Word>(
     ensures ascending { IfOk result (λ keys. (m : Pairs T) × IsMap m
         × (keys.items ≡ map K.of_number (map (λ pair. pair.0) m))) }
 {
-    let under = lock.take(rt, seat);
+    lock.take(rt, seat);
+    let Some(under) = seat.slot_mut(lock.table(), 0) else {
+        unreachable!()
+    };
     let keys = under.keys(alloc);
-    lock.release::<Brand, _, _>(seat, under, &(), &());
+    lock.release::<Brand, _, _>(seat, &(), &());
     keys
 }
 
@@ -50,9 +53,12 @@ pub fn stats<L: Ledger, P: Drop, T, M: Snapshots<P, T>, R: Wait>(
     ensures table { seat.new.table_id ≡ seat.old.table_id }
     ensures known { KnowsOf (at_of seat.old.me.0) seat.old.me seat.new.me }
 {
-    let under = lock.take(rt, seat);
+    lock.take(rt, seat);
+    let Some(under) = seat.slot_mut(lock.table(), 0) else {
+        unreachable!()
+    };
     let stats = under.stats();
-    lock.release::<Brand, _, _>(seat, under, &(), &());
+    lock.release::<Brand, _, _>(seat, &(), &());
     stats
 }
 
@@ -67,9 +73,12 @@ pub fn pair_count<L: Ledger, P: Drop, T, M: Snapshots<P, T>, R: Wait>(
     ensures table { seat.new.table_id ≡ seat.old.table_id }
     ensures known { KnowsOf (at_of seat.old.me.0) seat.old.me seat.new.me }
 {
-    let under = lock.take(rt, seat);
+    lock.take(rt, seat);
+    let Some(under) = seat.slot_mut(lock.table(), 0) else {
+        unreachable!()
+    };
     let count = under.pair_count();
-    lock.release::<Brand, _, _>(seat, under, &(), &());
+    lock.release::<Brand, _, _>(seat, &(), &());
     count
 }
 
@@ -87,9 +96,12 @@ pub fn settle<L: Ledger, P: Drop, T, M: Snapshots<P, T>, R: Wait>(
     ensures settled { MatchResult result (λ _. share.weight ≡ 2 ^ 63)
         (λ s. (share.weight ≢ 2 ^ 63) × (s ≡ share)) }
 {
-    let mut under = lock.take(rt, seat);
+    lock.take(rt, seat);
+    let Some(under) = seat.slot_mut(lock.table(), 0) else {
+        unreachable!()
+    };
     let settled = under.settle(share);
-    lock.release::<Brand, _, _>(seat, under, &(), &());
+    lock.release::<Brand, _, _>(seat, &(), &());
     settled
 }
 
@@ -113,8 +125,11 @@ pub fn page<L: Ledger, M: Pages, R: Wait, E: RangeEntry>(
         ++ drop count buffer.old)) }
     ensures none { result ≡ None → buffer.new ≡ buffer.old }
 {
-    let under = lock.take(rt, seat);
+    lock.take(rt, seat);
+    let Some(under) = seat.slot_mut(lock.table(), 0) else {
+        unreachable!()
+    };
     let found = under.page(start, end, buffer);
-    lock.release::<Brand, _, _>(seat, under, &(), &());
+    lock.release::<Brand, _, _>(seat, &(), &());
     found
 }

@@ -3,15 +3,15 @@
 //! Tested in `test_share_guards`.
 
 ghost use Rattle.std.specs.Prelude.{◌≡◌, ◌≢◌, [], ◌∷◌, Some, None, IfOk, IfSome, IsTrue, IsFalse, MatchOption};
-ghost use Rattle.share_rule.specs.Hold.{HeldBy};
+ghost use Rattle.share_rule.specs.inner.Hold.{HeldBy};
 ghost use Rattle.share_rule.specs.inner.SeatView.{Blank};
-ghost use Rattle.share_rule.specs.inner.Steps.{IsIdle, MayRelease, Released, Taken, at_of, seen_of};
+ghost use Rattle.share_rule.specs.inner.Steps.{IsIdle, MayRelease, Released, Won, at_of, seen_of};
 ghost use Rattle.share_rule.specs.inner.Meeting.{SeesMore};
 
 use crate::rule::{Cut, Done, Enter, Law, Leave, Meet, Pair, Protected, Release, Try};
 use crate::view::View;
 use crate::work::Work;
-use atomic_table::{Perch, Seat, Table};
+use atomic_table::{Perch, Seat, Shared, Table};
 use crossbeam_utils::Backoff;
 use spec_map::error::OOMError;
 use std::alloc::Global;
@@ -38,6 +38,9 @@ const RESTING: u64 = 2;
 pub type LockSeat<T, N, S> = Seat<Option<S>, View<T, N, S>>;
 
 type Board<T, N, S> = Table<Option<S>, View<T, N, S>, (), Law<T, N, S>, Global>;
+
+/// The part of the lock's table that threads share.
+pub type Slots<T, N, S> = Shared<Option<S>, View<T, N, S>, (), Law<T, N, S>>;
 
 /// A value S that threads share, under a lock. Contracts see which lock it is.
 #[derive(Drop)]
@@ -143,26 +146,13 @@ impl<T, N, S: Protected<T, N> + Drop> Lock<T, N, S> {
         *b = self.board.shared.split_seat::<Pair>(a);
     }
 
-    // Takes out what lies under the lock, which the seat has won.
-    fn lift(&self, seat: &mut LockSeat<T, N, S>) -> S
-        requires table { seat.old.table_id ≡ self.now }
-        requires won { (value : S) × (seat.old.me.1 ≡ (0, Some value) ∷ []) }
-        ensures table { seat.new.table_id ≡ seat.old.table_id }
-        ensures value { seat.old.me.1 ≡ (0, Some result) ∷ [] }
-        ensures lifted { seat.new.me ≡ (seat.old.me.0, (0, None) ∷ []) }
-    {
-        let found = self.board.shared.exchange(seat, 0, None);
-        let Some(value) = found else { unreachable!() };
-        value
-    }
-
     // Tries to take the lock, and pauses between the tries.
-    fn try_take(&self, seat: &mut LockSeat<T, N, S>) -> Option<S>
+    fn try_take(&self, seat: &mut LockSeat<T, N, S>) -> bool
         requires table { seat.old.table_id ≡ self.now }
         requires idle { IsIdle seat.old.me }
         ensures table { seat.new.table_id ≡ seat.old.table_id }
-        ensures taken { MatchOption result (seat.new.me ≡ seat.old.me)
-            (λ value. Taken S.same S.content S.place seat.old.me value seat.new.me) }
+        ensures won { IsTrue result → Won S.same S.content S.place seat.old.me seat.new.me }
+        ensures lost { IsFalse result → seat.new.me ≡ seat.old.me }
     {
         let pause = Backoff::new();
         for _ in 0..TRIES {
@@ -172,61 +162,61 @@ impl<T, N, S: Protected<T, N> + Drop> Lock<T, N, S> {
                 .compare_exchange::<Try>(seat, 0, FREE, TAKEN)
                 == FREE
             {
-                return Some(self.lift(seat));
+                return true;
             }
             pause.snooze();
         }
-        None
+        false
     }
 
     // Takes the lock, and sleeps until it can.
-    fn await_take<R: Wait>(&self, rt: &R, seat: &mut LockSeat<T, N, S>) -> S
+    fn await_take<R: Wait>(&self, rt: &R, seat: &mut LockSeat<T, N, S>)
         requires table { seat.old.table_id ≡ self.now }
         requires idle { IsIdle seat.old.me }
         ensures table { seat.new.table_id ≡ seat.old.table_id }
-        ensures taken { Taken S.same S.content S.place seat.old.me result seat.new.me }
+        ensures won { Won S.same S.content S.place seat.old.me seat.new.me }
     {
         for _ in rt.forever() {
             if self.board.shared.swap::<Try>(seat, 0, AWAITED) == FREE {
-                return self.lift(seat);
+                return;
             }
             self.board.shared.park(rt, 0, AWAITED as u32);
         }
         unreachable!()
     }
 
-    /// Takes the lock, and what lies under it. A thread that finds it taken pauses, then yields, and finally sleeps.
-    pub fn take<R: Wait>(&self, rt: &R, seat: &mut LockSeat<T, N, S>) -> S
+    /// Takes the lock. What is under it stays in its slot, which the seat has then. A thread that finds it taken
+    /// pauses, then yields, and finally sleeps.
+    pub fn take<R: Wait>(&self, rt: &R, seat: &mut LockSeat<T, N, S>)
         requires table { seat.old.table_id ≡ self.now }
         requires idle { IsIdle seat.old.me }
         ensures table { seat.new.table_id ≡ seat.old.table_id }
-        ensures taken { Taken S.same S.content S.place seat.old.me result seat.new.me }
+        ensures won { Won S.same S.content S.place seat.old.me seat.new.me }
     {
-        match self.try_take(seat) {
-            Some(value) => value,
-            None => self.await_take(rt, seat),
+        if !self.try_take(seat) {
+            self.await_take(rt, seat);
         }
     }
 
-    /// Puts a value under the lock and releases it, after what the call picks as done. It picks this by what was done,
-    /// `first` and `second`. Wakes one thread that sleeps, if one may.
-    pub fn release<D: Done<T>, A, B>(
-        &self,
-        seat: &mut LockSeat<T, N, S>,
-        value: S,
-        first: &A,
-        second: &B,
-    )
+    /// The lock's table, by which a seat lends what is in its slot (`slot_mut`).
+    pub fn table(&self) -> &Slots<T, N, S>
+        ensures { result.now.table_id ≡ self.now }
+    {
+        &self.board.shared
+    }
+
+    /// Releases the lock, after what the call picks as done. It picks this by what was done, `first` and `second`.
+    /// Wakes one thread that sleeps, if one may.
+    pub fn release<D: Done<T>, A, B>(&self, seat: &mut LockSeat<T, N, S>, first: &A, second: &B)
         requires table { seat.old.table_id ≡ self.now }
-        requires may { MayRelease S.place D.operations D.number S.same S.content seat.old.me value }
+        requires may { (value : S) × (seat.old.me.1 ≡ (0, Some value) ∷ [])
+            × MayRelease S.place D.operations D.number S.same S.content (seat.old.me.0, (0, None) ∷ []) value }
         ensures table { seat.new.table_id ≡ seat.old.table_id }
-        ensures released { Released S.place D.operations D.number seat.old.me value seat.new.me }
+        ensures released { (value : S) → seat.old.me.1 ≡ (0, Some value) ∷ []
+            → Released S.place D.operations D.number (seat.old.me.0, (0, None) ∷ []) value seat.new.me }
     {
         let _ = first;
         let _ = second;
-        let None = self.board.shared.exchange(seat, 0, Some(value)) else {
-            unreachable!()
-        };
         if self.board.shared.swap::<Release<D>>(seat, 0, FREE) == AWAITED {
             self.board.shared.wake_one(0);
         }

@@ -3,7 +3,7 @@
 //! Tested in `tools/c-library`.
 
 ghost use Rattle.std.specs.Prelude.{◌≡◌, [], None, IfSome, IsTrue, IsFalse};
-ghost use Rattle.share_rule.specs.Hold.{HeldBy};
+ghost use Rattle.share_rule.specs.inner.Hold.{HeldBy};
 ghost use Rattle.share_rule.specs.inner.Steps.{IsIdle, at_of, seen_of};
 ghost use Rattle.share_rule.specs.inner.Meeting.{SeesMore};
 

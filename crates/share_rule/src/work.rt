@@ -11,7 +11,7 @@ pub trait Work<T, N, S: Protected<T, N>, E> {
     ghost use Rattle.std.specs.Prelude.{ℕ, List};
     ghost use Rattle.spec_map.specs.Call.{Operation};
     ghost use Rattle.spec_map.specs.Map.{Pairs};
-    ghost use Rattle.share_rule.specs.Hold.{StepsBy};
+    ghost use Rattle.share_rule.specs.inner.Hold.{StepsBy};
 
     // The operations that were made, in order, by work that is done, on a value that was this before.
     ghost made: { Self → S → List (Operation ℕ T T) };

@@ -1,14 +1,28 @@
-use Rattle.std.proofs.Common.{ap, subst, sym}
+use Rattle.std.proofs.Common.{ap, subst, sym, ◌∙◌}
 use Rattle.share_holds.proofs.Events.{still_may, still_then}
+use Rattle.share_rule.proofs.InPlace.{left_in, slot_in, taken_in}
 use Rattle.share_holds.proofs.snapshots.settle.Goals as goal
+
+pub slot_mut-requires : goal.slot_mut-requires
+slot_mut-requires g c =
+    (c.take.ensures.table ∙ (c.requires.table ∙ sym c.table.ensures), slot_in _ _ _ c.args.seat.now.me c.take.new.seat.me c.requires.idle c.take.ensures.won)
 
 pub release-requires-clause-may : goal.release-requires-clause-may
 release-requires-clause-may g c =
-    let same = c.settle-settled.ensures.map in
-    still_may _ _ _ c.args.seat.now.me c.take-under.new.seat.me c.take-under.result c.settle-settled.new.self c.take-under.ensures.taken
-    (λ m k. subst (λ (z : g.row.M.Denot). g.M.Lent.content z m) (sym same) k) (λ k. ap (λ (z : g.row.M.Denot). g.M.Lent.place z k) same)
+    let m1 = c.take.new.seat.me in let x = c.in-Some.under in let y = c.settle-settled.new.self in
+    let t = taken_in _ _ _ c.args.seat.now.me m1 c.slot_mut.result.now x c.requires.idle c.take.ensures.won c.slot_mut.ensures.value c.in-Some.is in
+    let left = left_in _ _ _ c.args.seat.now.me m1 y c.requires.idle c.take.ensures.won in
+    let same = c.settle-settled.ensures.map in (
+      y,
+      left,
+      still_may _ _ _ c.args.seat.now.me _ x c.settle-settled.new.self t
+          (λ m k. subst (λ (z : g.row.M.Denot). g.M.Lent.content z m) (sym same) k) (λ k. ap (λ (z : g.row.M.Denot). g.M.Lent.place z k) same),
+    )
 
 pub returns-clause-known : goal.returns-clause-known
 returns-clause-known g c =
-    still_then _ _ _ c.args.seat.now.me c.take-under.new.seat.me c.take-under.result c.settle-settled.new.self c.take-under.ensures.taken c.release.new.seat.me
-    (λ k. ap (λ (z : g.row.M.Denot). g.M.Lent.place z k) c.settle-settled.ensures.map) c.release.ensures.released
+    let m1 = c.take.new.seat.me in let x = c.in-Some.under in let y = c.settle-settled.new.self in
+    let t = taken_in _ _ _ c.args.seat.now.me m1 c.slot_mut.result.now x c.requires.idle c.take.ensures.won c.slot_mut.ensures.value c.in-Some.is in
+    let left = left_in _ _ _ c.args.seat.now.me m1 y c.requires.idle c.take.ensures.won in
+    still_then _ _ _ c.args.seat.now.me _ x c.settle-settled.new.self t c.release.new.seat.me
+    (λ k. ap (λ (z : g.row.M.Denot). g.M.Lent.place z k) c.settle-settled.ensures.map) (c.release.ensures.released y left)

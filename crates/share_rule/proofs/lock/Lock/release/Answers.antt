@@ -1,11 +1,17 @@
-use Rattle.std.proofs.Common.{◌∙◌, sym, arith}
+use Rattle.std.proofs.Common.{◌∙◌, sym, refl, ap, subst, arith, List, ◌∷◌, [], ℕ}
+use Rattle.std.specs.Prelude.{Option, Some, None}
+use Rattle.atomic_table.specs.Table.{Me, rest, step}
+use mathlib.Core.Option.{none}
+use Rattle.share_rule.specs.inner.SeatView.{SeatView}
+use Rattle.share_rule.specs.inner.Steps.{Releases, Released}
 use Rattle.share_rule.proofs.Moves.{may_release}
 use Rattle.share_rule.proofs.lock.Lock.release.Goals as goal
 
 pub swap-requires : goal.swap-requires
 swap-requires g c =
-    let kept = c.self.invariant in (
-      c.exchange.ensures.0 ∙ (c.requires.table ∙ sym c.self.view_is),
-      omega (arith, kept.0),
-      may_release g.S.Protected.same g.S.Protected.content g.S.Protected.place g.D.Done.operations g.D.Done.number _ c.exchange.new.seat.id c.args.seat.now.me c.exchange.new.seat.me c.args.value (omega (arith, kept.1)) c.requires.may c.exchange.ensures.3,
+    let m = c.args.seat.now.me in let held = c.requires.may in (
+      c.requires.table ∙ sym c.self.view_is,
+      omega (arith, c.self.invariant.0),
+      may_release g.S.Protected.same g.S.Protected.content g.S.Protected.place g.D.Done.operations g.D.Done.number _ c.args.seat.now.id (m.0, (0, None) ∷ []) m held.0 (omega (arith, c.self.invariant.1)) held.2
+          (λ i. (m.0, held.1 i)),
     )
