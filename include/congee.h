@@ -3,14 +3,15 @@
  * A map has pairs of a key and a value, each key once, in the order of the keys. Each call reads one path of at most eight
  * nodes, unless its comment names another cost. What a removal frees is kept for later insertions, until the map is freed.
  *
- * What the library's own functions return, and what the map is afterwards, is proved of their code. They are the exports,
- * whose names begin with congee_c_. The functions for use are plain C around them, and are tested. So the theorem holds
- * for a program that keeps the rules below. Nothing checks them.
+ * What the library's own functions return, and what the map is afterwards, is proved of their code. They are the exports
+ * (congee_exports.h), whose names begin with congee_c_. The functions for use are plain C around them, and are tested. So
+ * the theorem holds for a program that keeps the rules below. Nothing checks them.
  *
  *   - A map is used from when it was made or thawed until it is freed or frozen. A reader is used from when it was made
  *     until it is freed or thawed. Nobody reads, copies or changes what these point to.
  *   - One call at a time uses a map, and one a reader, reads included. Different maps may be in calls at once, and so may
  *     different readers, also those of one frozen map. To share a map between threads that change it, put it behind a lock.
+ *     A const map is one that the call leaves as it is. It isn't one that two threads may read at once.
  *   - A map or a reader goes to another thread by a lock, by the start or the join of a thread, or by a sequentially
  *     consistent atomic.
  *   - A place for a value or a pair (value, old, found, pair) is null, where it isn't wanted, or aligned, and nothing else
@@ -36,6 +37,8 @@
 #include <stddef.h>
 #include <stdint.h>
 
+#include "congee_exports.h"
+
 #ifdef __cplusplus
 extern "C" {
 #endif
@@ -55,61 +58,11 @@ struct congee;
 /* A reader of a map that nobody changes. */
 struct congee_frozen;
 
+/* A key and its value. */
 struct congee_pair {
     uint64_t key;
     uint64_t value;
 };
-
-/* -- Internal: the exports of the archive. They take a map by the place of its address. Read on below them. -- */
-struct congee_handle {
-    struct congee *map;
-};
-
-struct congee_frozen_handle {
-    struct congee_frozen *reader;
-};
-
-uint32_t congee_c_version(void);
-int32_t congee_c_new(uint64_t limit, struct congee_handle *out);
-void congee_c_free(struct congee_handle handle);
-int32_t congee_c_get(struct congee_handle *handle, uint64_t key, uint64_t *value);
-int32_t congee_c_insert(struct congee_handle *handle, uint64_t key, uint64_t value, uint64_t *before);
-int32_t congee_c_remove(struct congee_handle *handle, uint64_t key, uint64_t *before);
-int32_t congee_c_compare_exchange(struct congee_handle *handle, uint64_t key, uint64_t expected, uint64_t desired,
-                                  uint64_t *found);
-int32_t congee_c_compare_remove(struct congee_handle *handle, uint64_t key, uint64_t expected, uint64_t *found);
-int32_t congee_c_add(struct congee_handle *handle, uint64_t key, uint64_t number, uint64_t *before);
-int32_t congee_c_get_or_insert(struct congee_handle *handle, uint64_t key, uint64_t value, uint64_t *found);
-size_t congee_c_range(struct congee_handle *handle, uint64_t start, uint64_t end, struct congee_pair *buffer, size_t n);
-int32_t congee_c_first(struct congee_handle *handle, struct congee_pair *pair);
-int32_t congee_c_last(struct congee_handle *handle, struct congee_pair *pair);
-int32_t congee_c_floor(struct congee_handle *handle, uint64_t key, struct congee_pair *pair);
-int32_t congee_c_ceiling(struct congee_handle *handle, uint64_t key, struct congee_pair *pair);
-int32_t congee_c_below(struct congee_handle *handle, uint64_t key, struct congee_pair *pair);
-int32_t congee_c_above(struct congee_handle *handle, uint64_t key, struct congee_pair *pair);
-int32_t congee_c_pop_first(struct congee_handle *handle, struct congee_pair *pair);
-int32_t congee_c_pop_last(struct congee_handle *handle, struct congee_pair *pair);
-void congee_c_clear(struct congee_handle *handle);
-size_t congee_c_range_inclusive(struct congee_handle *handle, uint64_t start, uint64_t last, struct congee_pair *buffer,
-                                size_t n);
-size_t congee_c_range_descending(struct congee_handle *handle, uint64_t start, uint64_t last, struct congee_pair *buffer,
-                                 size_t n);
-uint64_t congee_c_remove_range_inclusive(struct congee_handle *handle, uint64_t start, uint64_t last);
-bool congee_c_is_empty(struct congee_handle *handle);
-uint64_t congee_c_count(struct congee_handle *handle);
-uint64_t congee_c_charged(struct congee_handle *handle);
-int32_t congee_c_freeze(struct congee_handle handle, struct congee_frozen_handle *out, struct congee_handle *back);
-int32_t congee_c_thaw(struct congee_frozen_handle frozen, struct congee_handle *out, struct congee_frozen_handle *back);
-int32_t congee_c_frozen_another(struct congee_frozen_handle *frozen, struct congee_frozen_handle *out);
-void congee_c_frozen_free(struct congee_frozen_handle frozen);
-int32_t congee_c_frozen_get(struct congee_frozen_handle *frozen, uint64_t key, uint64_t *value);
-size_t congee_c_frozen_range(struct congee_frozen_handle *frozen, uint64_t start, uint64_t end,
-                             struct congee_pair *buffer, size_t n);
-size_t congee_c_frozen_range_inclusive(struct congee_frozen_handle *frozen, uint64_t start, uint64_t last,
-                                       struct congee_pair *buffer, size_t n);
-size_t congee_c_frozen_range_descending(struct congee_frozen_handle *frozen, uint64_t start, uint64_t last,
-                                        struct congee_pair *buffer, size_t n);
-uint64_t congee_c_frozen_count(struct congee_frozen_handle *frozen);
 
 /* -- Version -- */
 
@@ -149,8 +102,8 @@ static inline void congee_free(struct congee *map) {
 /* -- One key -- */
 
 /* Looks the key up. Returns 1 with the value in *value, or 0 where the key is absent. Takes no memory. */
-static inline int congee_get(struct congee *map, uint64_t key, uint64_t *value) {
-    struct congee_handle handle = {map};
+static inline int congee_get(const struct congee *map, uint64_t key, uint64_t *value) {
+    struct congee_const_handle handle = {map};
     uint64_t it = 0;
     if (congee_c_get(&handle, key, &it) == 0)
         return 0;
@@ -244,32 +197,33 @@ static inline int congee_get_or_insert(struct congee *map, uint64_t key, uint64_
 /* Writes the first pairs with start <= key < end to the buffer, keys ascending, n at most, and returns how many. The rest
  * of the buffer is unchanged. UINT64_MAX is in no such range: see congee_range_inclusive. To go on, begin at the last key
  * plus 1. Takes no memory. It reads the nodes that hold these pairs and two paths, whatever else the map has. */
-static inline size_t congee_range(struct congee *map, uint64_t start, uint64_t end, struct congee_pair *buffer, size_t n) {
-    struct congee_handle handle = {map};
+static inline size_t congee_range(const struct congee *map, uint64_t start, uint64_t end, struct congee_pair *buffer,
+                                  size_t n) {
+    struct congee_const_handle handle = {map};
     return n == 0 ? 0 : congee_c_range(&handle, start, end, buffer, n);
 }
 
 /* Writes the first pairs with start <= key <= last to the buffer, keys ascending, as congee_range. So UINT64_MAX may be the
  * last key. To go on, begin at the last key read plus 1, unless that key is `last`. */
-static inline size_t congee_range_inclusive(struct congee *map, uint64_t start, uint64_t last, struct congee_pair *buffer,
-                                            size_t n) {
-    struct congee_handle handle = {map};
+static inline size_t congee_range_inclusive(const struct congee *map, uint64_t start, uint64_t last,
+                                            struct congee_pair *buffer, size_t n) {
+    struct congee_const_handle handle = {map};
     return n == 0 ? 0 : congee_c_range_inclusive(&handle, start, last, buffer, n);
 }
 
 /* The same with keys descending: writes the last pairs with start <= key <= last, the greatest key first. Reads what
  * congee_range does for these pairs. To go on, end at the last key read minus 1, unless that key is `start`. */
-static inline size_t congee_range_descending(struct congee *map, uint64_t start, uint64_t last, struct congee_pair *buffer,
-                                             size_t n) {
-    struct congee_handle handle = {map};
+static inline size_t congee_range_descending(const struct congee *map, uint64_t start, uint64_t last,
+                                             struct congee_pair *buffer, size_t n) {
+    struct congee_const_handle handle = {map};
     return n == 0 ? 0 : congee_c_range_descending(&handle, start, last, buffer, n);
 }
 
 /* -- Ends and neighbours -- */
 
 /* Writes the pair with the least key to *pair and returns 1, or returns 0 for an empty map. Takes no memory. */
-static inline int congee_first(struct congee *map, struct congee_pair *pair) {
-    struct congee_handle handle = {map};
+static inline int congee_first(const struct congee *map, struct congee_pair *pair) {
+    struct congee_const_handle handle = {map};
     struct congee_pair it = {0, 0};
     if (congee_c_first(&handle, &it) == 0)
         return 0;
@@ -279,8 +233,8 @@ static inline int congee_first(struct congee *map, struct congee_pair *pair) {
 }
 
 /* Writes the pair with the greatest key to *pair and returns 1, or returns 0 for an empty map. Takes no memory. */
-static inline int congee_last(struct congee *map, struct congee_pair *pair) {
-    struct congee_handle handle = {map};
+static inline int congee_last(const struct congee *map, struct congee_pair *pair) {
+    struct congee_const_handle handle = {map};
     struct congee_pair it = {0, 0};
     if (congee_c_last(&handle, &it) == 0)
         return 0;
@@ -291,8 +245,8 @@ static inline int congee_last(struct congee *map, struct congee_pair *pair) {
 
 /* Writes the pair with the greatest key <= this one to *pair and returns 1, or returns 0 where there is none. Takes no
  * memory. Reads the key's path, and at most one more. So do the next three. */
-static inline int congee_floor(struct congee *map, uint64_t key, struct congee_pair *pair) {
-    struct congee_handle handle = {map};
+static inline int congee_floor(const struct congee *map, uint64_t key, struct congee_pair *pair) {
+    struct congee_const_handle handle = {map};
     struct congee_pair it = {0, 0};
     if (congee_c_floor(&handle, key, &it) == 0)
         return 0;
@@ -302,8 +256,8 @@ static inline int congee_floor(struct congee *map, uint64_t key, struct congee_p
 }
 
 /* Writes the pair with the least key >= this one to *pair and returns 1, or returns 0 where there is none. */
-static inline int congee_ceiling(struct congee *map, uint64_t key, struct congee_pair *pair) {
-    struct congee_handle handle = {map};
+static inline int congee_ceiling(const struct congee *map, uint64_t key, struct congee_pair *pair) {
+    struct congee_const_handle handle = {map};
     struct congee_pair it = {0, 0};
     if (congee_c_ceiling(&handle, key, &it) == 0)
         return 0;
@@ -313,8 +267,8 @@ static inline int congee_ceiling(struct congee *map, uint64_t key, struct congee
 }
 
 /* Writes the pair with the greatest key < this one to *pair and returns 1, or returns 0 where there is none. */
-static inline int congee_below(struct congee *map, uint64_t key, struct congee_pair *pair) {
-    struct congee_handle handle = {map};
+static inline int congee_below(const struct congee *map, uint64_t key, struct congee_pair *pair) {
+    struct congee_const_handle handle = {map};
     struct congee_pair it = {0, 0};
     if (congee_c_below(&handle, key, &it) == 0)
         return 0;
@@ -324,8 +278,8 @@ static inline int congee_below(struct congee *map, uint64_t key, struct congee_p
 }
 
 /* Writes the pair with the least key > this one to *pair and returns 1, or returns 0 where there is none. */
-static inline int congee_above(struct congee *map, uint64_t key, struct congee_pair *pair) {
-    struct congee_handle handle = {map};
+static inline int congee_above(const struct congee *map, uint64_t key, struct congee_pair *pair) {
+    struct congee_const_handle handle = {map};
     struct congee_pair it = {0, 0};
     if (congee_c_above(&handle, key, &it) == 0)
         return 0;
@@ -358,6 +312,37 @@ static inline int congee_pop_last(struct congee *map, struct congee_pair *pair) 
 
 /* -- Many pairs -- */
 
+/* What congee_each calls. It returns 0 to go on. */
+typedef int congee_visitor(struct congee_pair pair, void *with);
+
+/* Calls f(pair, with) for each pair with start <= key <= last, keys ascending, until a call returns something else than 0.
+ * Returns what the last call returned, or 0 where there is no pair. Reads pages of 64 pairs. So f may change the map: it
+ * is called with the pairs of a page as they were when that page was read. Takes no memory. */
+static inline int congee_each(const struct congee *map, uint64_t start, uint64_t last, congee_visitor *f, void *with) {
+    struct congee_pair page[64] = {{0, 0}};
+    size_t n;
+    while ((n = congee_range_inclusive(map, start, last, page, 64)) > 0) {
+        for (size_t i = 0; i < n; i++) {
+            int code = f(page[i], with);
+            if (code != 0)
+                return code;
+        }
+        if (n < 64 || page[63].key == last)
+            return 0;
+        start = page[63].key + 1;
+    }
+    return 0;
+}
+
+/* Inserts n pairs in their order, each as congee_insert, so of two with one key the later one counts. Returns how many it
+ * inserted: n, or fewer where the next one failed. Those before it are in the map. */
+static inline size_t congee_insert_many(struct congee *map, const struct congee_pair *pairs, size_t n) {
+    size_t done = 0;
+    while (done < n && congee_insert(map, pairs[done].key, pairs[done].value, NULL) != CONGEE_OOM)
+        done++;
+    return done;
+}
+
 /* Removes all pairs, one by one. Of the nodes the root stays. Takes no memory, and never fails. To empty a large map, free
  * it and make a new one: that is many times faster, and returns its memory to malloc. */
 static inline void congee_clear(struct congee *map) {
@@ -374,20 +359,20 @@ static inline uint64_t congee_remove_range_inclusive(struct congee *map, uint64_
 /* -- Counts -- */
 
 /* Whether there is no pair, in constant time. */
-static inline bool congee_is_empty(struct congee *map) {
-    struct congee_handle handle = {map};
+static inline bool congee_is_empty(const struct congee *map) {
+    struct congee_const_handle handle = {map};
     return congee_c_is_empty(&handle);
 }
 
 /* How many pairs there are, in constant time. */
-static inline uint64_t congee_count(struct congee *map) {
-    struct congee_handle handle = {map};
+static inline uint64_t congee_count(const struct congee *map) {
+    struct congee_const_handle handle = {map};
     return congee_c_count(&handle);
 }
 
 /* The sum in bytes of the stated sizes of the map's nodes, in constant time: 2104 for an empty map. */
-static inline uint64_t congee_charged(struct congee *map) {
-    struct congee_handle handle = {map};
+static inline uint64_t congee_charged(const struct congee *map) {
+    struct congee_const_handle handle = {map};
     return congee_c_charged(&handle);
 }
 
@@ -407,8 +392,9 @@ static inline int congee_freeze(struct congee **map, struct congee_frozen **out)
 
 /* Makes one more reader of a frozen map, for another thread. Returns 0 with the reader in *out, or CONGEE_OOM with null
  * there. Takes a small block. */
-static inline int congee_frozen_another(struct congee_frozen *frozen, struct congee_frozen **out) {
-    struct congee_frozen_handle handle = {frozen}, made = {NULL};
+static inline int congee_frozen_another(const struct congee_frozen *frozen, struct congee_frozen **out) {
+    struct congee_const_frozen_handle handle = {frozen};
+    struct congee_frozen_handle made = {NULL};
     int code = congee_c_frozen_another(&handle, &made);
     *out = made.reader;
     return code;
@@ -433,8 +419,8 @@ static inline void congee_frozen_free(struct congee_frozen *frozen) {
 }
 
 /* Looks the key up, as congee_get. */
-static inline int congee_frozen_get(struct congee_frozen *frozen, uint64_t key, uint64_t *value) {
-    struct congee_frozen_handle handle = {frozen};
+static inline int congee_frozen_get(const struct congee_frozen *frozen, uint64_t key, uint64_t *value) {
+    struct congee_const_frozen_handle handle = {frozen};
     uint64_t it = 0;
     if (congee_c_frozen_get(&handle, key, &it) == 0)
         return 0;
@@ -444,28 +430,46 @@ static inline int congee_frozen_get(struct congee_frozen *frozen, uint64_t key, 
 }
 
 /* Writes the first pairs with start <= key < end to the buffer, as congee_range. */
-static inline size_t congee_frozen_range(struct congee_frozen *frozen, uint64_t start, uint64_t end,
+static inline size_t congee_frozen_range(const struct congee_frozen *frozen, uint64_t start, uint64_t end,
                                          struct congee_pair *buffer, size_t n) {
-    struct congee_frozen_handle handle = {frozen};
+    struct congee_const_frozen_handle handle = {frozen};
     return n == 0 ? 0 : congee_c_frozen_range(&handle, start, end, buffer, n);
 }
 
 /* Writes the first pairs with start <= key <= last to the buffer, as congee_range_inclusive. */
-static inline size_t congee_frozen_range_inclusive(struct congee_frozen *frozen, uint64_t start, uint64_t last,
+static inline size_t congee_frozen_range_inclusive(const struct congee_frozen *frozen, uint64_t start, uint64_t last,
                                                    struct congee_pair *buffer, size_t n) {
-    struct congee_frozen_handle handle = {frozen};
+    struct congee_const_frozen_handle handle = {frozen};
     return n == 0 ? 0 : congee_c_frozen_range_inclusive(&handle, start, last, buffer, n);
 }
 
 /* The same with keys descending, as congee_range_descending. */
-static inline size_t congee_frozen_range_descending(struct congee_frozen *frozen, uint64_t start, uint64_t last,
+static inline size_t congee_frozen_range_descending(const struct congee_frozen *frozen, uint64_t start, uint64_t last,
                                                     struct congee_pair *buffer, size_t n) {
-    struct congee_frozen_handle handle = {frozen};
+    struct congee_const_frozen_handle handle = {frozen};
     return n == 0 ? 0 : congee_c_frozen_range_descending(&handle, start, last, buffer, n);
 }
 
+/* Calls f for each pair with start <= key <= last, as congee_each. */
+static inline int congee_frozen_each(const struct congee_frozen *frozen, uint64_t start, uint64_t last, congee_visitor *f,
+                                     void *with) {
+    struct congee_pair page[64] = {{0, 0}};
+    size_t n;
+    while ((n = congee_frozen_range_inclusive(frozen, start, last, page, 64)) > 0) {
+        for (size_t i = 0; i < n; i++) {
+            int code = f(page[i], with);
+            if (code != 0)
+                return code;
+        }
+        if (n < 64 || page[63].key == last)
+            return 0;
+        start = page[63].key + 1;
+    }
+    return 0;
+}
+
 /* As congee_ceiling. This one and the next five are ranges of one pair. */
-static inline int congee_frozen_ceiling(struct congee_frozen *frozen, uint64_t key, struct congee_pair *pair) {
+static inline int congee_frozen_ceiling(const struct congee_frozen *frozen, uint64_t key, struct congee_pair *pair) {
     struct congee_pair it = {0, 0};
     if (congee_frozen_range_inclusive(frozen, key, UINT64_MAX, &it, 1) == 0)
         return 0;
@@ -475,7 +479,7 @@ static inline int congee_frozen_ceiling(struct congee_frozen *frozen, uint64_t k
 }
 
 /* As congee_floor. */
-static inline int congee_frozen_floor(struct congee_frozen *frozen, uint64_t key, struct congee_pair *pair) {
+static inline int congee_frozen_floor(const struct congee_frozen *frozen, uint64_t key, struct congee_pair *pair) {
     struct congee_pair it = {0, 0};
     if (congee_frozen_range_descending(frozen, 0, key, &it, 1) == 0)
         return 0;
@@ -485,28 +489,28 @@ static inline int congee_frozen_floor(struct congee_frozen *frozen, uint64_t key
 }
 
 /* As congee_above. */
-static inline int congee_frozen_above(struct congee_frozen *frozen, uint64_t key, struct congee_pair *pair) {
+static inline int congee_frozen_above(const struct congee_frozen *frozen, uint64_t key, struct congee_pair *pair) {
     return key == UINT64_MAX ? 0 : congee_frozen_ceiling(frozen, key + 1, pair);
 }
 
 /* As congee_below. */
-static inline int congee_frozen_below(struct congee_frozen *frozen, uint64_t key, struct congee_pair *pair) {
+static inline int congee_frozen_below(const struct congee_frozen *frozen, uint64_t key, struct congee_pair *pair) {
     return key == 0 ? 0 : congee_frozen_floor(frozen, key - 1, pair);
 }
 
 /* As congee_first. */
-static inline int congee_frozen_first(struct congee_frozen *frozen, struct congee_pair *pair) {
+static inline int congee_frozen_first(const struct congee_frozen *frozen, struct congee_pair *pair) {
     return congee_frozen_ceiling(frozen, 0, pair);
 }
 
 /* As congee_last. */
-static inline int congee_frozen_last(struct congee_frozen *frozen, struct congee_pair *pair) {
+static inline int congee_frozen_last(const struct congee_frozen *frozen, struct congee_pair *pair) {
     return congee_frozen_floor(frozen, UINT64_MAX, pair);
 }
 
 /* How many pairs there are, in constant time. */
-static inline uint64_t congee_frozen_count(struct congee_frozen *frozen) {
-    struct congee_frozen_handle handle = {frozen};
+static inline uint64_t congee_frozen_count(const struct congee_frozen *frozen) {
+    struct congee_const_frozen_handle handle = {frozen};
     return congee_c_frozen_count(&handle);
 }
 

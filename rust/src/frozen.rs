@@ -4,7 +4,10 @@ use crate::map::{as_length, Map};
 use crate::pages::{Keys, Range, Source, Values};
 use crate::sys::*;
 use crate::{OutOfMemory, Pair};
+use std::borrow::Borrow;
+use std::cmp::Ordering;
 use std::fmt;
+use std::hash::{Hash, Hasher};
 use std::mem::ManuallyDrop;
 use std::ops::RangeBounds;
 use std::sync::{Mutex, PoisonError};
@@ -32,6 +35,9 @@ use std::sync::{Mutex, PoisonError};
 /// ```
 pub struct Frozen {
     reader: *mut OneReaderForEachThread,
+    // (as of the map, which nobody changes)
+    limit: u64,
+    charged: u64,
 }
 
 // SAFETY: the library proves that a reader may go to another thread (`unsafe impl Send for FrozenHandle`).
@@ -39,8 +45,16 @@ unsafe impl Send for Frozen {}
 
 // SAFETY of the calls below: as of those of `Map`, of a reader's address.
 impl Frozen {
-    pub(crate) fn of_address(reader: *mut OneReaderForEachThread) -> Frozen {
-        Frozen { reader }
+    pub(crate) fn of_address(
+        reader: *mut OneReaderForEachThread,
+        limit: u64,
+        charged: u64,
+    ) -> Frozen {
+        Frozen {
+            reader,
+            limit,
+            charged,
+        }
     }
 
     fn handle(&self) -> FrozenHandle {
@@ -62,9 +76,7 @@ impl Frozen {
     pub fn try_clone(&self) -> Result<Frozen, OutOfMemory> {
         let mut made = FrozenHandle::none();
         match unsafe { congee_c_frozen_another(&mut self.handle(), &mut made) } {
-            0 => Ok(Frozen {
-                reader: made.reader,
-            }),
+            0 => Ok(Frozen::of_address(made.reader, self.limit, self.charged)),
             _ => Err(OutOfMemory),
         }
     }
@@ -84,14 +96,13 @@ impl Frozen {
     /// # }
     /// ```
     pub fn thaw(self) -> Result<Map, Frozen> {
+        let (limit, charged) = (self.limit, self.charged);
         // (the library owns the reader from here on, or returns it)
         let handle = ManuallyDrop::new(self).handle();
         let (mut made, mut back) = (Handle::none(), FrozenHandle::none());
         match unsafe { congee_c_thaw(handle, &mut made, &mut back) } {
-            1 => Ok(Map::of_address(made.map)),
-            _ => Err(Frozen {
-                reader: back.reader,
-            }),
+            1 => Ok(Map::of_address(made.map, limit)),
+            _ => Err(Frozen::of_address(back.reader, limit, charged)),
         }
     }
 
@@ -105,9 +116,9 @@ impl Frozen {
     /// # Ok(())
     /// # }
     /// ```
-    pub fn get(&self, key: u64) -> Option<u64> {
+    pub fn get(&self, key: impl Borrow<u64>) -> Option<u64> {
         let mut value = 0;
-        let code = unsafe { congee_c_frozen_get(&mut self.handle(), key, &mut value) };
+        let code = unsafe { congee_c_frozen_get(&mut self.handle(), *key.borrow(), &mut value) };
         (code == 1).then_some(value)
     }
 
@@ -121,7 +132,7 @@ impl Frozen {
     /// # Ok(())
     /// # }
     /// ```
-    pub fn contains_key(&self, key: u64) -> bool {
+    pub fn contains_key(&self, key: impl Borrow<u64>) -> bool {
         self.get(key).is_some()
     }
 
@@ -357,6 +368,34 @@ impl Frozen {
     pub fn len(&self) -> usize {
         as_length(unsafe { congee_c_frozen_count(&mut self.handle()) })
     }
+
+    /// What the map is charged, as [`Map::charged`].
+    ///
+    /// ```
+    /// # fn main() -> Result<(), proved_congee::OutOfMemory> {
+    /// let map = proved_congee::Map::try_from_iter([(7, 70)])?;
+    /// let charged = map.charged();
+    /// assert_eq!(map.freeze()?.charged(), charged);
+    /// # Ok(())
+    /// # }
+    /// ```
+    pub fn charged(&self) -> u64 {
+        self.charged
+    }
+
+    /// The map's limit, as [`Map::limit`].
+    ///
+    /// ```
+    /// # fn main() -> Result<(), proved_congee::OutOfMemory> {
+    /// let frozen = proved_congee::Map::with_limit(10_000)?.freeze()?;
+    /// assert_eq!(frozen.try_clone()?.limit(), 10_000);
+    /// assert_eq!(frozen.thaw().unwrap().limit(), 10_000);
+    /// # Ok(())
+    /// # }
+    /// ```
+    pub fn limit(&self) -> u64 {
+        self.limit
+    }
 }
 
 impl Drop for Frozen {
@@ -369,6 +408,36 @@ impl Drop for Frozen {
 impl fmt::Debug for Frozen {
     fn fmt(&self, f: &mut fmt::Formatter<'_>) -> fmt::Result {
         f.debug_map().entries(self).finish()
+    }
+}
+
+/// Whether both have the same pairs.
+impl PartialEq for Frozen {
+    fn eq(&self, other: &Frozen) -> bool {
+        self.len() == other.len() && self.iter().eq(other)
+    }
+}
+
+impl Eq for Frozen {}
+
+/// As of the lists of pairs.
+impl PartialOrd for Frozen {
+    fn partial_cmp(&self, other: &Frozen) -> Option<Ordering> {
+        Some(self.cmp(other))
+    }
+}
+
+/// As of the lists of pairs.
+impl Ord for Frozen {
+    fn cmp(&self, other: &Frozen) -> Ordering {
+        self.iter().cmp(other)
+    }
+}
+
+impl Hash for Frozen {
+    fn hash<H: Hasher>(&self, state: &mut H) {
+        self.len().hash(state);
+        self.iter().for_each(|pair| pair.hash(state));
     }
 }
 

@@ -30,8 +30,8 @@
 //!
 //! Where a call may find no memory, or reach the map's limit, it returns a `Result`, and its `Err` has changed nothing.
 //! So there is no `FromIterator`, `Extend`, `Clone` or `Default`, whose failures would have no place:
-//! [`Map::try_from_iter`] and [`Map::try_extend`] return them. There is no `Index` either, since values are returned and
-//! not lent.
+//! [`Map::try_from_iter`], `TryFrom`, [`Map::try_extend`] and [`Map::try_clone`] return them. There is no `Index` either,
+//! since values are returned and not lent.
 //!
 //! A limit bounds the stated sizes of the map's nodes ([`Map::charged`]). `malloc` lends up to 1.8 times that. What removals
 //! free is kept for later insertions, until the map is dropped. So to empty a large map, drop it and make a new one.
@@ -39,7 +39,8 @@
 //! # Cost
 //!
 //! A call on one key, an end or a neighbour reads one or two paths of at most eight nodes. `len`, `is_empty` and `charged`
-//! are constant. Iterators read pages of pairs: 4, then 16, and then 64 at a time.
+//! are constant. Iterators read pages of pairs: 4, then 16, and then 64 at a time. Where `BTreeMap` takes a key by
+//! reference, a call takes `7` and `&7`.
 //!
 //! # Threads
 //!
@@ -76,7 +77,7 @@ mod pages;
 mod sys;
 
 pub use frozen::{Frozen, Readers};
-pub use map::{FreezeError, Map};
+pub use map::{ExtendError, FreezeError, Map};
 pub use pages::{IntoIter, Keys, Range, Values};
 
 use std::fmt;
@@ -94,6 +95,18 @@ pub struct Pair {
     pub key: u64,
     /// Its value.
     pub value: u64,
+}
+
+impl From<(u64, u64)> for Pair {
+    fn from((key, value): (u64, u64)) -> Pair {
+        Pair { key, value }
+    }
+}
+
+impl From<Pair> for (u64, u64) {
+    fn from(pair: Pair) -> (u64, u64) {
+        (pair.key, pair.value)
+    }
 }
 
 /// There is no memory, or the map's limit is reached. The call has changed nothing.

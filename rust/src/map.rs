@@ -4,7 +4,12 @@ use crate::frozen::Frozen;
 use crate::pages::{ends, IntoIter, Keys, Range, Source, Values, PAGE};
 use crate::sys::*;
 use crate::{OutOfMemory, Pair};
+use std::borrow::Borrow;
+use std::cmp::Ordering;
+use std::collections::BTreeMap;
 use std::fmt;
+use std::hash::{Hash, Hasher};
+use std::iter::FusedIterator;
 use std::mem::ManuallyDrop;
 use std::ops::RangeBounds;
 
@@ -13,6 +18,7 @@ use std::ops::RangeBounds;
 /// A call reads one path through the tree, of at most eight nodes.
 pub struct Map {
     map: *mut OneThreadAtATime,
+    limit: u64,
 }
 
 // SAFETY: the library proves that a map may go to another thread (`unsafe impl Send for Handle`).
@@ -50,7 +56,7 @@ impl Map {
     pub fn with_limit(bytes: u64) -> Result<Map, OutOfMemory> {
         let mut made = Handle::none();
         match unsafe { congee_c_new(bytes, &mut made) } {
-            0 => Ok(Map { map: made.map }),
+            0 => Ok(Map::of_address(made.map, bytes)),
             _ => Err(OutOfMemory),
         }
     }
@@ -70,8 +76,27 @@ impl Map {
         Ok(map)
     }
 
-    pub(crate) fn of_address(map: *mut OneThreadAtATime) -> Map {
-        Map { map }
+    /// One more map of the same pairs, with the same limit. Near that it may be refused, since a node that grows is charged
+    /// beside the one that it takes the place of.
+    ///
+    /// ```
+    /// # fn main() -> Result<(), proved_congee::OutOfMemory> {
+    /// let map = proved_congee::Map::try_from_iter([(7, 70), (9, 90)])?;
+    /// let mut other = map.try_clone()?;
+    /// assert_eq!(other, map);
+    /// other.remove(7);
+    /// assert_eq!(map.get(7), Some(70));
+    /// # Ok(())
+    /// # }
+    /// ```
+    pub fn try_clone(&self) -> Result<Map, OutOfMemory> {
+        let mut other = Map::with_limit(self.limit)?;
+        other.try_extend(self)?;
+        Ok(other)
+    }
+
+    pub(crate) fn of_address(map: *mut OneThreadAtATime, limit: u64) -> Map {
+        Map { map, limit }
     }
 
     fn handle(&self) -> Handle {
@@ -85,12 +110,14 @@ impl Map {
     /// let mut map = proved_congee::Map::new()?;
     /// map.insert(7, 70)?;
     /// assert_eq!((map.get(7), map.get(8)), (Some(70), None));
+    /// let found: Vec<u64> = [7, 8].iter().filter_map(|key| map.get(key)).collect();
+    /// assert_eq!(found, [70]);
     /// # Ok(())
     /// # }
     /// ```
-    pub fn get(&self, key: u64) -> Option<u64> {
+    pub fn get(&self, key: impl Borrow<u64>) -> Option<u64> {
         let mut value = 0;
-        let code = unsafe { congee_c_get(&mut self.handle(), key, &mut value) };
+        let code = unsafe { congee_c_get(&mut self.handle(), *key.borrow(), &mut value) };
         (code == 1).then_some(value)
     }
 
@@ -103,7 +130,7 @@ impl Map {
     /// # Ok(())
     /// # }
     /// ```
-    pub fn contains_key(&self, key: u64) -> bool {
+    pub fn contains_key(&self, key: impl Borrow<u64>) -> bool {
         self.get(key).is_some()
     }
 
@@ -124,22 +151,72 @@ impl Map {
         unless_refused(code, before)
     }
 
-    /// Inserts the pairs, one after the other. The first refusal ends it, and the pairs before that are in the map.
+    /// Inserts the pairs, one after the other. The first refusal ends it, and the pairs before that are in the map. The error
+    /// has their number, and the pair that was refused.
     ///
     /// ```
-    /// use proved_congee::{Map, OutOfMemory};
+    /// use proved_congee::Map;
     ///
     /// let mut map = Map::with_limit(2104 + 64).unwrap();
-    /// assert_eq!(map.try_extend([(1, 10), (2, 20), (u64::MAX, 30), (3, 30)]), Err(OutOfMemory));
+    /// let mut pairs = [(1, 10), (2, 20), (u64::MAX, 30), (3, 30)].into_iter();
+    /// let refused = map.try_extend(&mut pairs).unwrap_err();
+    /// assert_eq!((refused.inserted(), refused.pair()), (2, (u64::MAX, 30)));
     /// assert_eq!(map.iter().collect::<Vec<_>>(), [(1, 10), (2, 20)]);
+    /// assert_eq!(pairs.next(), Some((3, 30)));
     /// ```
     pub fn try_extend(
         &mut self,
         pairs: impl IntoIterator<Item = (u64, u64)>,
-    ) -> Result<(), OutOfMemory> {
-        pairs
-            .into_iter()
-            .try_for_each(|(key, value)| self.insert(key, value).map(drop))
+    ) -> Result<(), ExtendError> {
+        for (inserted, pair) in pairs.into_iter().enumerate() {
+            if self.insert(pair.0, pair.1).is_err() {
+                return Err(ExtendError { inserted, pair });
+            }
+        }
+        Ok(())
+    }
+
+    /// Moves all pairs of another map into this one. Where both have a key, the other's value counts. The first refusal ends it:
+    /// the pairs before that are in this map, and the others still in the other.
+    ///
+    /// ```
+    /// # fn main() -> Result<(), proved_congee::OutOfMemory> {
+    /// let mut map = proved_congee::Map::try_from_iter([(5, 50), (7, 70)])?;
+    /// let mut other = proved_congee::Map::try_from_iter([(7, 71), (9, 90)])?;
+    /// map.try_append(&mut other)?;
+    /// assert!(map.iter().eq([(5, 50), (7, 71), (9, 90)]) && other.is_empty());
+    /// # Ok(())
+    /// # }
+    /// ```
+    #[doc(alias = "append")]
+    pub fn try_append(&mut self, other: &mut Map) -> Result<(), ExtendError> {
+        let moved = self.try_extend(&*other);
+        match &moved {
+            Ok(()) => other.clear(),
+            Err(refused) => {
+                other.remove_range(..refused.pair.0);
+            }
+        }
+        moved
+    }
+
+    /// Takes the pairs from the key on out, into a map of their own with the same limit. Where that is refused, nothing changes.
+    ///
+    /// ```
+    /// # fn main() -> Result<(), proved_congee::OutOfMemory> {
+    /// let mut map = proved_congee::Map::try_from_iter([(5, 50), (7, 70), (9, 90)])?;
+    /// let from_seven = map.try_split_off(7)?;
+    /// assert!(map.keys().eq([5]) && from_seven.keys().eq([7, 9]));
+    /// # Ok(())
+    /// # }
+    /// ```
+    #[doc(alias = "split_off")]
+    pub fn try_split_off(&mut self, key: impl Borrow<u64>) -> Result<Map, OutOfMemory> {
+        let start = *key.borrow();
+        let mut other = Map::with_limit(self.limit)?;
+        other.try_extend(self.range(start..))?;
+        self.remove_range(start..);
+        Ok(other)
     }
 
     /// Gives the key the value if it is absent, and returns the value that it has then. Refused as
@@ -157,6 +234,33 @@ impl Map {
         let mut found = 0;
         let code = unsafe { congee_c_get_or_insert(&mut self.handle(), key, value, &mut found) };
         Ok(unless_refused(code, found)?.unwrap_or(value))
+    }
+
+    /// The key's value. If it is absent, it gets the value that the closure returns, which is called in that case alone. A new
+    /// key takes two calls of the library. Refused as [`insert`](Map::insert) is: then the closure was called, and the map is
+    /// unchanged.
+    ///
+    /// ```
+    /// # fn main() -> Result<(), proved_congee::OutOfMemory> {
+    /// let mut map = proved_congee::Map::new()?;
+    /// assert_eq!(map.get_or_insert_with(7, || 70)?, 70);
+    /// assert_eq!(map.get_or_insert_with(7, || unreachable!())?, 70);
+    /// # Ok(())
+    /// # }
+    /// ```
+    pub fn get_or_insert_with(
+        &mut self,
+        key: u64,
+        f: impl FnOnce() -> u64,
+    ) -> Result<u64, OutOfMemory> {
+        match self.get(key) {
+            Some(value) => Ok(value),
+            None => {
+                let value = f();
+                self.insert(key, value)?;
+                Ok(value)
+            }
+        }
     }
 
     /// Adds the number to the key's value, and returns the value before. A new key gets the number as its value. The sum
@@ -366,9 +470,9 @@ impl Map {
     /// # Ok(())
     /// # }
     /// ```
-    pub fn remove(&mut self, key: u64) -> Option<u64> {
+    pub fn remove(&mut self, key: impl Borrow<u64>) -> Option<u64> {
         let mut before = 0;
-        let code = unsafe { congee_c_remove(&mut self.handle(), key, &mut before) };
+        let code = unsafe { congee_c_remove(&mut self.handle(), *key.borrow(), &mut before) };
         (code == 1).then_some(before)
     }
 
@@ -547,6 +651,32 @@ impl Map {
         Values { of: self.iter() }
     }
 
+    /// The keys of the map, ascending, and the map is gone.
+    ///
+    /// ```
+    /// # fn main() -> Result<(), proved_congee::OutOfMemory> {
+    /// let map = proved_congee::Map::try_from_iter([(9, 90), (7, 70)])?;
+    /// assert!(map.into_keys().eq([7, 9]));
+    /// # Ok(())
+    /// # }
+    /// ```
+    pub fn into_keys(self) -> impl DoubleEndedIterator<Item = u64> + FusedIterator {
+        self.into_iter().map(|(key, _)| key)
+    }
+
+    /// The values of the map, keys ascending, and the map is gone.
+    ///
+    /// ```
+    /// # fn main() -> Result<(), proved_congee::OutOfMemory> {
+    /// let map = proved_congee::Map::try_from_iter([(9, 90), (7, 70)])?;
+    /// assert!(map.into_values().eq([70, 90]));
+    /// # Ok(())
+    /// # }
+    /// ```
+    pub fn into_values(self) -> impl DoubleEndedIterator<Item = u64> + FusedIterator {
+        self.into_iter().map(|(_, value)| value)
+    }
+
     /// Whether there is no pair, in constant time.
     ///
     /// ```
@@ -586,6 +716,20 @@ impl Map {
         unsafe { congee_c_charged(&mut self.handle()) }
     }
 
+    /// The limit that the map was made with, or `u64::MAX`. A frozen map and what is thawed have the same.
+    ///
+    /// ```
+    /// # fn main() -> Result<(), proved_congee::OutOfMemory> {
+    /// let map = proved_congee::Map::with_limit(10_000)?;
+    /// assert!(map.limit() == 10_000 && map.charged() <= map.limit());
+    /// assert_eq!(proved_congee::Map::new()?.limit(), u64::MAX);
+    /// # Ok(())
+    /// # }
+    /// ```
+    pub fn limit(&self) -> u64 {
+        self.limit
+    }
+
     /// Freezes the map: from here on nobody changes it, and it may have several readers, which look up side by side. None
     /// of its nodes moves or is copied. Where there is no memory for two small blocks, the map is in the error, as it was.
     ///
@@ -600,13 +744,14 @@ impl Map {
     /// # }
     /// ```
     pub fn freeze(self) -> Result<Frozen, FreezeError> {
+        let (limit, charged) = (self.limit, self.charged());
         // (the library owns the map from here on, or returns it)
         let handle = ManuallyDrop::new(self).handle();
         let (mut made, mut back) = (FrozenHandle::none(), Handle::none());
         match unsafe { congee_c_freeze(handle, &mut made, &mut back) } {
-            0 => Ok(Frozen::of_address(made.reader)),
+            0 => Ok(Frozen::of_address(made.reader, limit, charged)),
             _ => Err(FreezeError {
-                map: Map { map: back.map },
+                map: Map::of_address(back.map, limit),
             }),
         }
     }
@@ -656,6 +801,59 @@ impl PartialEq for Map {
 
 impl Eq for Map {}
 
+/// As of the lists of pairs.
+impl PartialOrd for Map {
+    fn partial_cmp(&self, other: &Map) -> Option<Ordering> {
+        Some(self.cmp(other))
+    }
+}
+
+/// As of the lists of pairs.
+impl Ord for Map {
+    fn cmp(&self, other: &Map) -> Ordering {
+        self.iter().cmp(other)
+    }
+}
+
+impl Hash for Map {
+    fn hash<H: Hasher>(&self, state: &mut H) {
+        self.len().hash(state);
+        self.iter().for_each(|pair| pair.hash(state));
+    }
+}
+
+impl<const N: usize> TryFrom<[(u64, u64); N]> for Map {
+    type Error = OutOfMemory;
+
+    fn try_from(pairs: [(u64, u64); N]) -> Result<Map, OutOfMemory> {
+        Map::try_from_iter(pairs)
+    }
+}
+
+impl TryFrom<&[(u64, u64)]> for Map {
+    type Error = OutOfMemory;
+
+    fn try_from(pairs: &[(u64, u64)]) -> Result<Map, OutOfMemory> {
+        Map::try_from_iter(pairs.iter().copied())
+    }
+}
+
+impl TryFrom<Vec<(u64, u64)>> for Map {
+    type Error = OutOfMemory;
+
+    fn try_from(pairs: Vec<(u64, u64)>) -> Result<Map, OutOfMemory> {
+        Map::try_from_iter(pairs)
+    }
+}
+
+impl TryFrom<&BTreeMap<u64, u64>> for Map {
+    type Error = OutOfMemory;
+
+    fn try_from(pairs: &BTreeMap<u64, u64>) -> Result<Map, OutOfMemory> {
+        Map::try_from_iter(pairs.iter().map(|(key, value)| (*key, *value)))
+    }
+}
+
 impl<'a> IntoIterator for &'a Map {
     type Item = (u64, u64);
     type IntoIter = Range<'a>;
@@ -671,6 +869,45 @@ impl IntoIterator for Map {
 
     fn into_iter(self) -> IntoIter {
         IntoIter::of(self)
+    }
+}
+
+/// An insertion of [`Map::try_extend`] was refused.
+#[derive(Clone, Copy, Debug, PartialEq, Eq)]
+pub struct ExtendError {
+    inserted: usize,
+    pair: (u64, u64),
+}
+
+impl ExtendError {
+    /// How many pairs were inserted before it. They are in the map.
+    pub fn inserted(&self) -> usize {
+        self.inserted
+    }
+
+    /// The pair that was refused.
+    pub fn pair(&self) -> (u64, u64) {
+        self.pair
+    }
+}
+
+impl fmt::Display for ExtendError {
+    fn fmt(&self, f: &mut fmt::Formatter<'_>) -> fmt::Result {
+        write!(f, "{OutOfMemory}, after {} pairs", self.inserted)
+    }
+}
+
+impl std::error::Error for ExtendError {}
+
+impl From<ExtendError> for OutOfMemory {
+    fn from(_: ExtendError) -> OutOfMemory {
+        OutOfMemory
+    }
+}
+
+impl From<ExtendError> for std::io::Error {
+    fn from(_: ExtendError) -> Self {
+        OutOfMemory.into()
     }
 }
 
@@ -698,5 +935,11 @@ impl std::error::Error for FreezeError {}
 impl From<FreezeError> for OutOfMemory {
     fn from(_: FreezeError) -> OutOfMemory {
         OutOfMemory
+    }
+}
+
+impl From<FreezeError> for std::io::Error {
+    fn from(_: FreezeError) -> Self {
+        OutOfMemory.into()
     }
 }

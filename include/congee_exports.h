@@ -1,0 +1,84 @@
+/* congee_exports.h: what libcongee.a exports, for congee.h, which includes it and has the functions for use. MIT license.
+ *
+ * What each of these functions returns and leaves is proved of its code, for which crates/congee_c has the contracts. They
+ * take a map or a reader by the place of its address. A place for a value or a pair isn't null and is initialised, and so
+ * are the n pairs of a buffer. Where a call only reads, that address is const here. To the archive both are one word. */
+#ifndef CONGEE_EXPORTS_H
+#define CONGEE_EXPORTS_H
+
+#include <stdbool.h>
+#include <stddef.h>
+#include <stdint.h>
+
+#ifdef __cplusplus
+extern "C" {
+#endif
+
+struct congee;
+struct congee_frozen;
+struct congee_pair;
+
+struct congee_handle {
+    struct congee *map;
+};
+
+struct congee_const_handle {
+    const struct congee *map;
+};
+
+struct congee_frozen_handle {
+    struct congee_frozen *reader;
+};
+
+struct congee_const_frozen_handle {
+    const struct congee_frozen *reader;
+};
+
+uint32_t congee_c_version(void);
+int32_t congee_c_new(uint64_t limit, struct congee_handle *out);
+void congee_c_free(struct congee_handle handle);
+int32_t congee_c_get(struct congee_const_handle *handle, uint64_t key, uint64_t *value);
+int32_t congee_c_insert(struct congee_handle *handle, uint64_t key, uint64_t value, uint64_t *before);
+int32_t congee_c_remove(struct congee_handle *handle, uint64_t key, uint64_t *before);
+int32_t congee_c_compare_exchange(struct congee_handle *handle, uint64_t key, uint64_t expected, uint64_t desired,
+                                  uint64_t *found);
+int32_t congee_c_compare_remove(struct congee_handle *handle, uint64_t key, uint64_t expected, uint64_t *found);
+int32_t congee_c_add(struct congee_handle *handle, uint64_t key, uint64_t number, uint64_t *before);
+int32_t congee_c_get_or_insert(struct congee_handle *handle, uint64_t key, uint64_t value, uint64_t *found);
+size_t congee_c_range(struct congee_const_handle *handle, uint64_t start, uint64_t end, struct congee_pair *buffer,
+                      size_t n);
+int32_t congee_c_first(struct congee_const_handle *handle, struct congee_pair *pair);
+int32_t congee_c_last(struct congee_const_handle *handle, struct congee_pair *pair);
+int32_t congee_c_floor(struct congee_const_handle *handle, uint64_t key, struct congee_pair *pair);
+int32_t congee_c_ceiling(struct congee_const_handle *handle, uint64_t key, struct congee_pair *pair);
+int32_t congee_c_below(struct congee_const_handle *handle, uint64_t key, struct congee_pair *pair);
+int32_t congee_c_above(struct congee_const_handle *handle, uint64_t key, struct congee_pair *pair);
+int32_t congee_c_pop_first(struct congee_handle *handle, struct congee_pair *pair);
+int32_t congee_c_pop_last(struct congee_handle *handle, struct congee_pair *pair);
+void congee_c_clear(struct congee_handle *handle);
+size_t congee_c_range_inclusive(struct congee_const_handle *handle, uint64_t start, uint64_t last,
+                                struct congee_pair *buffer, size_t n);
+size_t congee_c_range_descending(struct congee_const_handle *handle, uint64_t start, uint64_t last,
+                                 struct congee_pair *buffer, size_t n);
+uint64_t congee_c_remove_range_inclusive(struct congee_handle *handle, uint64_t start, uint64_t last);
+bool congee_c_is_empty(struct congee_const_handle *handle);
+uint64_t congee_c_count(struct congee_const_handle *handle);
+uint64_t congee_c_charged(struct congee_const_handle *handle);
+int32_t congee_c_freeze(struct congee_handle handle, struct congee_frozen_handle *out, struct congee_handle *back);
+int32_t congee_c_thaw(struct congee_frozen_handle frozen, struct congee_handle *out,
+                      struct congee_frozen_handle *back);
+int32_t congee_c_frozen_another(struct congee_const_frozen_handle *frozen, struct congee_frozen_handle *out);
+void congee_c_frozen_free(struct congee_frozen_handle frozen);
+int32_t congee_c_frozen_get(struct congee_const_frozen_handle *frozen, uint64_t key, uint64_t *value);
+size_t congee_c_frozen_range(struct congee_const_frozen_handle *frozen, uint64_t start, uint64_t end,
+                             struct congee_pair *buffer, size_t n);
+size_t congee_c_frozen_range_inclusive(struct congee_const_frozen_handle *frozen, uint64_t start, uint64_t last,
+                                       struct congee_pair *buffer, size_t n);
+size_t congee_c_frozen_range_descending(struct congee_const_frozen_handle *frozen, uint64_t start, uint64_t last,
+                                        struct congee_pair *buffer, size_t n);
+uint64_t congee_c_frozen_count(struct congee_const_frozen_handle *frozen);
+
+#ifdef __cplusplus
+}
+#endif
+#endif
