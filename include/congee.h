@@ -10,8 +10,8 @@
  *   - A map is used from when it was made or thawed until it is freed or frozen. A reader is used from when it was made
  *     until it is freed or thawed. Nobody reads, copies or changes what these point to.
  *   - One call at a time uses a map, and one a reader, reads included. Different maps may be in calls at once, and so may
- *     different readers, also those of one frozen map. To share a map between threads that change it, put it behind a lock.
- *     A const map is one that the call leaves as it is. It isn't one that two threads may read at once.
+ *     different readers, also those of one frozen map. A const map is one that the call leaves as it is. It isn't one that
+ *     two threads may read at once. For a map that threads share there is congee_shared.h, which this header includes.
  *   - A map or a reader goes to another thread by a lock, by the start or the join of a thread, or by a sequentially
  *     consistent atomic.
  *   - A place for a value or a pair (value, old, found, pair) is null, where it isn't wanted, or aligned, and nothing else
@@ -517,4 +517,7 @@ static inline uint64_t congee_frozen_count(const struct congee_frozen *frozen) {
 #ifdef __cplusplus
 }
 #endif
+
+#include "congee_shared.h"
+
 #endif

@@ -1,8 +1,10 @@
-/* congee_exports.h: what libcongee.a exports, for congee.h, which includes it and has the functions for use. MIT license.
+/* congee_exports.h: what libcongee.a exports, for congee.h and congee_shared.h, which have the functions for use.
+ * MIT license.
  *
- * What each of these functions returns and leaves is proved of its code, for which crates/congee_c has the contracts. They
- * take a map or a reader by the place of its address. A place for a value or a pair isn't null and is initialised, and so
- * are the n pairs of a buffer. Where a call only reads, that address is const here. To the archive both are one word. */
+ * What each of these functions returns and leaves is proved of its code. crates/congee_c and crates/congee_shared_c have the
+ * contracts. They take a map, a reader or a handle by the place of its address. A place for a value, a pair or a number
+ * isn't null and is initialised, and so are the n pairs of a buffer. Where a call only reads, that address is const here.
+ * To the archive both are one word. */
 #ifndef CONGEE_EXPORTS_H
 #define CONGEE_EXPORTS_H
 
@@ -16,6 +18,7 @@ extern "C" {
 
 struct congee;
 struct congee_frozen;
+struct congee_shared;
 struct congee_pair;
 
 struct congee_handle {
@@ -32,6 +35,14 @@ struct congee_frozen_handle {
 
 struct congee_const_frozen_handle {
     const struct congee_frozen *reader;
+};
+
+struct congee_shared_handle {
+    struct congee_shared *guard;
+};
+
+struct congee_const_shared_handle {
+    const struct congee_shared *guard;
 };
 
 uint32_t congee_c_version(void);
@@ -77,6 +88,38 @@ size_t congee_c_frozen_range_inclusive(struct congee_const_frozen_handle *frozen
 size_t congee_c_frozen_range_descending(struct congee_const_frozen_handle *frozen, uint64_t start, uint64_t last,
                                         struct congee_pair *buffer, size_t n);
 uint64_t congee_c_frozen_count(struct congee_const_frozen_handle *frozen);
+
+int32_t congee_c_shared_new(uint64_t limit, struct congee_shared_handle *out);
+int32_t congee_c_shared_another(struct congee_shared_handle *handle, struct congee_shared_handle *out);
+void congee_c_shared_free(struct congee_shared_handle handle);
+int32_t congee_c_shared_get(struct congee_const_shared_handle *handle, uint64_t key, uint64_t *value);
+int32_t congee_c_shared_insert(struct congee_shared_handle *handle, uint64_t key, uint64_t value, uint64_t *before);
+int32_t congee_c_shared_remove(struct congee_shared_handle *handle, uint64_t key, uint64_t *before);
+int32_t congee_c_shared_compare_exchange(struct congee_shared_handle *handle, uint64_t key, uint64_t expected,
+                                         uint64_t desired, uint64_t *found);
+int32_t congee_c_shared_compare_remove(struct congee_shared_handle *handle, uint64_t key, uint64_t expected,
+                                       uint64_t *found);
+int32_t congee_c_shared_add(struct congee_shared_handle *handle, uint64_t key, uint64_t number, uint64_t *before);
+int32_t congee_c_shared_get_or_insert(struct congee_shared_handle *handle, uint64_t key, uint64_t value,
+                                      uint64_t *found);
+int32_t congee_c_shared_range(struct congee_const_shared_handle *handle, uint64_t start, uint64_t end,
+                              struct congee_pair *buffer, size_t n, uint64_t *out);
+int32_t congee_c_shared_range_inclusive(struct congee_const_shared_handle *handle, uint64_t start, uint64_t last,
+                                        struct congee_pair *buffer, size_t n, uint64_t *out);
+int32_t congee_c_shared_range_descending(struct congee_const_shared_handle *handle, uint64_t start, uint64_t last,
+                                         struct congee_pair *buffer, size_t n, uint64_t *out);
+int32_t congee_c_shared_first(struct congee_const_shared_handle *handle, struct congee_pair *pair);
+int32_t congee_c_shared_last(struct congee_const_shared_handle *handle, struct congee_pair *pair);
+int32_t congee_c_shared_floor(struct congee_const_shared_handle *handle, uint64_t key, struct congee_pair *pair);
+int32_t congee_c_shared_ceiling(struct congee_const_shared_handle *handle, uint64_t key, struct congee_pair *pair);
+int32_t congee_c_shared_below(struct congee_const_shared_handle *handle, uint64_t key, struct congee_pair *pair);
+int32_t congee_c_shared_above(struct congee_const_shared_handle *handle, uint64_t key, struct congee_pair *pair);
+int32_t congee_c_shared_pop_first(struct congee_shared_handle *handle, struct congee_pair *pair);
+int32_t congee_c_shared_pop_last(struct congee_shared_handle *handle, struct congee_pair *pair);
+int32_t congee_c_shared_clear(struct congee_shared_handle *handle);
+int32_t congee_c_shared_is_empty(struct congee_const_shared_handle *handle, uint64_t *out);
+int32_t congee_c_shared_count(struct congee_const_shared_handle *handle, uint64_t *out);
+int32_t congee_c_shared_charged(struct congee_const_shared_handle *handle, uint64_t *out);
 
 #ifdef __cplusplus
 }

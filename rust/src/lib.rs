@@ -68,17 +68,31 @@
 //! fn is_shared<T: Sync>() {}
 //! is_shared::<proved_congee::Frozen>();
 //! ```
+//!
+//! ```compile_fail
+//! fn is_shared<T: Sync>() {}
+//! is_shared::<proved_congee::Guard>();
+//! ```
+//!
+//! ```
+//! fn is_shared<T: Send + Sync>() {}
+//! fn may_move<T: Send>() {}
+//! is_shared::<proved_congee::SharedMap>();
+//! may_move::<proved_congee::Guard>();
+//! ```
 
 #![warn(missing_docs, missing_debug_implementations)]
 
 mod frozen;
 mod map;
 mod pages;
+mod shared;
 mod sys;
 
 pub use frozen::{Frozen, Readers};
 pub use map::{ExtendError, FreezeError, Map};
 pub use pages::{IntoIter, Keys, Range, Values};
+pub use shared::{Busy, Guard, SharedMap, TryError};
 
 use std::fmt;
 

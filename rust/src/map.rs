@@ -176,8 +176,8 @@ impl Map {
         Ok(())
     }
 
-    /// Moves all pairs of another map into this one. Where both have a key, the other's value counts. The first refusal ends it:
-    /// the pairs before that are in this map, and the others still in the other.
+    /// Moves all pairs of another map into this one. Where both have a key, the other's value counts. The first refusal
+    /// ends it: the pairs before that are in this map, and the others still in the other.
     ///
     /// ```
     /// # fn main() -> Result<(), proved_congee::OutOfMemory> {
@@ -200,7 +200,8 @@ impl Map {
         moved
     }
 
-    /// Takes the pairs from the key on out, into a map of their own with the same limit. Where that is refused, nothing changes.
+    /// Takes the pairs from the key on out, into a map of their own with the same limit. Where that is refused, nothing
+    /// changes.
     ///
     /// ```
     /// # fn main() -> Result<(), proved_congee::OutOfMemory> {
@@ -767,7 +768,7 @@ fn unless_refused(code: i32, written: u64) -> Result<Option<u64>, OutOfMemory> {
 }
 
 // What a call that compares returns by its code: whether the value was the expected one, or what it found.
-fn if_expected(code: i32, found: u64) -> Result<(), Option<u64>> {
+pub(crate) fn if_expected(code: i32, found: u64) -> Result<(), Option<u64>> {
     match code {
         1 => Ok(()),
         2 => Err(Some(found)),
@@ -875,8 +876,8 @@ impl IntoIterator for Map {
 /// An insertion of [`Map::try_extend`] was refused.
 #[derive(Clone, Copy, Debug, PartialEq, Eq)]
 pub struct ExtendError {
-    inserted: usize,
-    pair: (u64, u64),
+    pub(crate) inserted: usize,
+    pub(crate) pair: (u64, u64),
 }
 
 impl ExtendError {

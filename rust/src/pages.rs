@@ -2,6 +2,7 @@
 
 use crate::frozen::Frozen;
 use crate::map::Map;
+use crate::shared::Guard;
 use crate::Pair;
 use std::fmt;
 use std::iter::FusedIterator;
@@ -16,6 +17,7 @@ const FIRST_PAGE: usize = 4;
 pub(crate) enum Source<'a> {
     Map(&'a Map),
     Frozen(&'a Frozen),
+    Shared(&'a Guard),
 }
 
 impl Source<'_> {
@@ -23,6 +25,7 @@ impl Source<'_> {
         match self {
             Source::Map(map) => map.read_range_inclusive(start, last, buffer),
             Source::Frozen(frozen) => frozen.read_range_inclusive(start, last, buffer),
+            Source::Shared(guard) => guard.read_range_inclusive(start, last, buffer),
         }
     }
 
@@ -30,6 +33,7 @@ impl Source<'_> {
         match self {
             Source::Map(map) => map.read_range_descending(start, last, buffer),
             Source::Frozen(frozen) => frozen.read_range_descending(start, last, buffer),
+            Source::Shared(guard) => guard.read_range_descending(start, last, buffer),
         }
     }
 }

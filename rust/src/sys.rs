@@ -15,6 +15,12 @@ pub(crate) struct OneReaderForEachThread {
     _private: [u8; 0],
 }
 
+/// What the address of a guard points to, named as above.
+#[repr(C)]
+pub(crate) struct OneGuardForEachThread {
+    _private: [u8; 0],
+}
+
 /// What the library takes: the address of a map.
 #[repr(C)]
 pub(crate) struct Handle {
@@ -25,6 +31,12 @@ pub(crate) struct Handle {
 #[repr(C)]
 pub(crate) struct FrozenHandle {
     pub(crate) reader: *mut OneReaderForEachThread,
+}
+
+/// The address of a guard of a map that threads share.
+#[repr(C)]
+pub(crate) struct SharedHandle {
+    pub(crate) guard: *mut OneGuardForEachThread,
 }
 
 impl Handle {
@@ -41,6 +53,15 @@ impl FrozenHandle {
     pub(crate) fn none() -> FrozenHandle {
         FrozenHandle {
             reader: std::ptr::null_mut(),
+        }
+    }
+}
+
+impl SharedHandle {
+    /// A place for a guard.
+    pub(crate) fn none() -> SharedHandle {
+        SharedHandle {
+            guard: std::ptr::null_mut(),
         }
     }
 }
@@ -149,4 +170,97 @@ extern "C" {
         n: usize,
     ) -> usize;
     pub(crate) fn congee_c_frozen_count(frozen: *mut FrozenHandle) -> u64;
+    pub(crate) fn congee_c_shared_new(limit: u64, out: *mut SharedHandle) -> i32;
+    pub(crate) fn congee_c_shared_another(handle: *mut SharedHandle, out: *mut SharedHandle)
+        -> i32;
+    pub(crate) fn congee_c_shared_free(handle: SharedHandle);
+    pub(crate) fn congee_c_shared_get(handle: *mut SharedHandle, key: u64, value: *mut u64) -> i32;
+    pub(crate) fn congee_c_shared_insert(
+        handle: *mut SharedHandle,
+        key: u64,
+        value: u64,
+        before: *mut u64,
+    ) -> i32;
+    pub(crate) fn congee_c_shared_remove(
+        handle: *mut SharedHandle,
+        key: u64,
+        before: *mut u64,
+    ) -> i32;
+    pub(crate) fn congee_c_shared_compare_exchange(
+        handle: *mut SharedHandle,
+        key: u64,
+        expected: u64,
+        desired: u64,
+        found: *mut u64,
+    ) -> i32;
+    pub(crate) fn congee_c_shared_compare_remove(
+        handle: *mut SharedHandle,
+        key: u64,
+        expected: u64,
+        found: *mut u64,
+    ) -> i32;
+    pub(crate) fn congee_c_shared_add(
+        handle: *mut SharedHandle,
+        key: u64,
+        number: u64,
+        before: *mut u64,
+    ) -> i32;
+    pub(crate) fn congee_c_shared_get_or_insert(
+        handle: *mut SharedHandle,
+        key: u64,
+        value: u64,
+        found: *mut u64,
+    ) -> i32;
+    pub(crate) fn congee_c_shared_range(
+        handle: *mut SharedHandle,
+        start: u64,
+        end: u64,
+        buffer: *mut Pair,
+        n: usize,
+        out: *mut u64,
+    ) -> i32;
+    pub(crate) fn congee_c_shared_range_inclusive(
+        handle: *mut SharedHandle,
+        start: u64,
+        last: u64,
+        buffer: *mut Pair,
+        n: usize,
+        out: *mut u64,
+    ) -> i32;
+    pub(crate) fn congee_c_shared_range_descending(
+        handle: *mut SharedHandle,
+        start: u64,
+        last: u64,
+        buffer: *mut Pair,
+        n: usize,
+        out: *mut u64,
+    ) -> i32;
+    pub(crate) fn congee_c_shared_first(handle: *mut SharedHandle, pair: *mut Pair) -> i32;
+    pub(crate) fn congee_c_shared_last(handle: *mut SharedHandle, pair: *mut Pair) -> i32;
+    pub(crate) fn congee_c_shared_floor(
+        handle: *mut SharedHandle,
+        key: u64,
+        pair: *mut Pair,
+    ) -> i32;
+    pub(crate) fn congee_c_shared_ceiling(
+        handle: *mut SharedHandle,
+        key: u64,
+        pair: *mut Pair,
+    ) -> i32;
+    pub(crate) fn congee_c_shared_below(
+        handle: *mut SharedHandle,
+        key: u64,
+        pair: *mut Pair,
+    ) -> i32;
+    pub(crate) fn congee_c_shared_above(
+        handle: *mut SharedHandle,
+        key: u64,
+        pair: *mut Pair,
+    ) -> i32;
+    pub(crate) fn congee_c_shared_pop_first(handle: *mut SharedHandle, pair: *mut Pair) -> i32;
+    pub(crate) fn congee_c_shared_pop_last(handle: *mut SharedHandle, pair: *mut Pair) -> i32;
+    pub(crate) fn congee_c_shared_clear(handle: *mut SharedHandle) -> i32;
+    pub(crate) fn congee_c_shared_is_empty(handle: *mut SharedHandle, out: *mut u64) -> i32;
+    pub(crate) fn congee_c_shared_count(handle: *mut SharedHandle, out: *mut u64) -> i32;
+    pub(crate) fn congee_c_shared_charged(handle: *mut SharedHandle, out: *mut u64) -> i32;
 }

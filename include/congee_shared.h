@@ -1,0 +1,574 @@
+/* congee_shared.h: a map from uint64_t to uint64_t that threads share, each by a handle of its own. C11 and C++11. MIT
+ * license.
+ *
+ * congee.h includes this header. A handle is one caller of the map. All calls of one map are made one after the other,
+ * under one lock. A call holds it no longer than it works: meanwhile it waits for no other call, and calls nothing of
+ * the program but malloc, realloc and free. A call tries the lock a bounded number of times. If it is taken each time,
+ * the map is busy: the call ends, and nothing has changed.
+ *
+ *   - congee_shared_try_get and the others with `try` return CONGEE_BUSY then. They end whatever other threads do with
+ *     the map.
+ *   - congee_shared_get and the others without it yield and try again. They end once the lock is theirs. It goes to
+ *     whoever tries next, so nothing bounds how long that takes. CONGEE_YIELD() is how they yield: sched_yield, unless
+ *     the program defines it before it includes this header. A thread with a real-time priority has to sleep there.
+ *
+ * What a call of the library's own functions returns is proved of their code (congee_exports.h). There is one order of
+ * the calls of all handles of a map, in which each reply is that of an ordered map. A handle's own calls are in it in
+ * their order, and each comes after all that its handle had seen before. A new handle has seen what its maker had. A
+ * call that is busy or finds no memory isn't in it. The functions for use are plain C around the exports, and are
+ * tested.
+ *
+ * What a program owes, beside the rules of congee.h on places, buffers, stack and malloc. Nothing checks it:
+ *
+ *   - A handle is used from when it was made until it is freed. One call at a time uses it. Different handles may be in
+ *     calls at once, those of one map too.
+ *   - A handle goes to another thread by a lock, by the start or the join of a thread, or by a sequentially consistent
+ *     atomic.
+ *   - No thread ends inside a call: it isn't cancelled at any place it may be at (PTHREAD_CANCEL_ASYNCHRONOUS). The map
+ *     would stay busy for all others. A thread that is stopped inside a call keeps the map busy until it goes on, and
+ *     one that is stopped between two calls keeps nobody.
+ *   - No call is made in a signal handler. Inside a call that it interrupts the map is busy, so one that waits would
+ *     wait for ever.
+ *   - No call is made in the forked child of a process with threads. If another thread was in a call, the map is busy
+ *     there for ever.
+ *
+ * tools/dev/make-pages makes the manual page from this file: from this comment, the headings and each function's
+ * comment.
+ */
+#ifndef CONGEE_SHARED_H
+#define CONGEE_SHARED_H
+
+#include "congee.h"
+
+#ifndef CONGEE_YIELD
+#include <sched.h>
+#define CONGEE_YIELD() sched_yield()
+#endif
+
+#ifdef __cplusplus
+extern "C" {
+#endif
+
+/* What a call returns where the lock was taken at each of its tries. */
+#define CONGEE_BUSY (-2)
+
+/* A handle: one caller of a map that threads share. */
+struct congee_shared;
+
+/* -- Shared maps -- */
+
+/* Makes an empty map whose nodes may take so many bytes, as congee_new_with_limit, and its first handle. UINT64_MAX is no
+ * limit. That a limit isn't passed is tested, and no theorem states it. Returns 0 with the handle in *out, or CONGEE_OOM
+ * with null there. */
+static inline int congee_shared_new(uint64_t limit, struct congee_shared **out) {
+    struct congee_shared_handle made = {NULL};
+    int code = congee_c_shared_new(limit, &made);
+    *out = made.guard;
+    return code;
+}
+
+/* Makes one more handle of the map, for another thread. Takes a small block, so a thread keeps its handle for many calls.
+ * Returns 0 with the handle in *out, or CONGEE_OOM with null there. */
+static inline int congee_shared_another(struct congee_shared *map, struct congee_shared **out) {
+    struct congee_shared_handle handle = {map}, made = {NULL};
+    int code = congee_c_shared_another(&handle, &made);
+    *out = made.guard;
+    return code;
+}
+
+/* Frees the handle, and with its last handle the map. For null it does nothing. */
+static inline void congee_shared_free(struct congee_shared *map) {
+    struct congee_shared_handle handle = {map};
+    if (map)
+        congee_c_shared_free(handle);
+}
+
+/* -- One key -- */
+
+/* As congee_get, or CONGEE_BUSY. */
+static inline int congee_shared_try_get(const struct congee_shared *map, uint64_t key, uint64_t *value) {
+    struct congee_const_shared_handle handle = {map};
+    uint64_t it = 0;
+    int code = congee_c_shared_get(&handle, key, &it);
+    if (code == 1 && value)
+        *value = it;
+    return code;
+}
+
+/* The same. Waits while the map is busy. */
+static inline int congee_shared_get(const struct congee_shared *map, uint64_t key, uint64_t *value) {
+    uint64_t it = 0;
+    int code;
+    while ((code = congee_shared_try_get(map, key, &it)) == CONGEE_BUSY)
+        CONGEE_YIELD();
+    if (code != 1)
+        return 0;
+    if (value)
+        *value = it;
+    return 1;
+}
+
+/* As congee_insert, or CONGEE_BUSY. */
+static inline int congee_shared_try_insert(struct congee_shared *map, uint64_t key, uint64_t value, uint64_t *old) {
+    struct congee_shared_handle handle = {map};
+    uint64_t it = 0;
+    int code = congee_c_shared_insert(&handle, key, value, &it);
+    if (code == 1 && old)
+        *old = it;
+    return code;
+}
+
+/* The same. Waits while the map is busy. */
+static inline int congee_shared_insert(struct congee_shared *map, uint64_t key, uint64_t value, uint64_t *old) {
+    int code;
+    while ((code = congee_shared_try_insert(map, key, value, old)) == CONGEE_BUSY)
+        CONGEE_YIELD();
+    return code;
+}
+
+/* As congee_remove, or CONGEE_BUSY. */
+static inline int congee_shared_try_remove(struct congee_shared *map, uint64_t key, uint64_t *old) {
+    struct congee_shared_handle handle = {map};
+    uint64_t it = 0;
+    int code = congee_c_shared_remove(&handle, key, &it);
+    if (code == 1 && old)
+        *old = it;
+    return code;
+}
+
+/* The same. Waits while the map is busy. */
+static inline int congee_shared_remove(struct congee_shared *map, uint64_t key, uint64_t *old) {
+    uint64_t it = 0;
+    int code;
+    while ((code = congee_shared_try_remove(map, key, &it)) == CONGEE_BUSY)
+        CONGEE_YIELD();
+    if (code != 1)
+        return 0;
+    if (old)
+        *old = it;
+    return 1;
+}
+
+/* As congee_compare_exchange, or CONGEE_BUSY. */
+static inline int congee_shared_try_compare_exchange(struct congee_shared *map, uint64_t key, uint64_t expected,
+                                                     uint64_t desired, uint64_t *found) {
+    struct congee_shared_handle handle = {map};
+    uint64_t it = 0;
+    int code = congee_c_shared_compare_exchange(&handle, key, expected, desired, &it);
+    if (code == 2 && found)
+        *found = it;
+    return code;
+}
+
+/* The same. Waits while the map is busy. */
+static inline int congee_shared_compare_exchange(struct congee_shared *map, uint64_t key, uint64_t expected,
+                                                 uint64_t desired, uint64_t *found) {
+    int code;
+    while ((code = congee_shared_try_compare_exchange(map, key, expected, desired, found)) == CONGEE_BUSY)
+        CONGEE_YIELD();
+    return code;
+}
+
+/* As congee_compare_remove, or CONGEE_BUSY. */
+static inline int congee_shared_try_compare_remove(struct congee_shared *map, uint64_t key, uint64_t expected,
+                                                   uint64_t *found) {
+    struct congee_shared_handle handle = {map};
+    uint64_t it = 0;
+    int code = congee_c_shared_compare_remove(&handle, key, expected, &it);
+    if (code == 2 && found)
+        *found = it;
+    return code;
+}
+
+/* The same. Waits while the map is busy. */
+static inline int congee_shared_compare_remove(struct congee_shared *map, uint64_t key, uint64_t expected,
+                                               uint64_t *found) {
+    int code;
+    while ((code = congee_shared_try_compare_remove(map, key, expected, found)) == CONGEE_BUSY)
+        CONGEE_YIELD();
+    return code;
+}
+
+/* As congee_add, or CONGEE_BUSY. */
+static inline int congee_shared_try_add(struct congee_shared *map, uint64_t key, uint64_t number, uint64_t *old) {
+    struct congee_shared_handle handle = {map};
+    uint64_t it = 0;
+    int code = congee_c_shared_add(&handle, key, number, &it);
+    if (code == 1 && old)
+        *old = it;
+    return code;
+}
+
+/* The same. Waits while the map is busy. */
+static inline int congee_shared_add(struct congee_shared *map, uint64_t key, uint64_t number, uint64_t *old) {
+    int code;
+    while ((code = congee_shared_try_add(map, key, number, old)) == CONGEE_BUSY)
+        CONGEE_YIELD();
+    return code;
+}
+
+/* As congee_get_or_insert, or CONGEE_BUSY. */
+static inline int congee_shared_try_get_or_insert(struct congee_shared *map, uint64_t key, uint64_t value,
+                                                  uint64_t *found) {
+    struct congee_shared_handle handle = {map};
+    uint64_t it = 0;
+    int code = congee_c_shared_get_or_insert(&handle, key, value, &it);
+    if (code == 1 && found)
+        *found = it;
+    return code;
+}
+
+/* The same. Waits while the map is busy. */
+static inline int congee_shared_get_or_insert(struct congee_shared *map, uint64_t key, uint64_t value, uint64_t *found) {
+    int code;
+    while ((code = congee_shared_try_get_or_insert(map, key, value, found)) == CONGEE_BUSY)
+        CONGEE_YIELD();
+    return code;
+}
+
+/* -- Ranges -- */
+
+/* As congee_range. The pairs are those of one moment. A further page is of a later one. Returns 0 with the number of
+ * pairs in *written, or CONGEE_BUSY. */
+static inline int congee_shared_try_range(const struct congee_shared *map, uint64_t start, uint64_t end,
+                                          struct congee_pair *buffer, size_t n, size_t *written) {
+    struct congee_const_shared_handle handle = {map};
+    uint64_t it = 0;
+    int code = n == 0 ? 0 : congee_c_shared_range(&handle, start, end, buffer, n, &it);
+    if (code == 0)
+        *written = it;
+    return code;
+}
+
+/* The same. Waits while the map is busy, and returns the number. */
+static inline size_t congee_shared_range(const struct congee_shared *map, uint64_t start, uint64_t end,
+                                         struct congee_pair *buffer, size_t n) {
+    size_t written = 0;
+    while (congee_shared_try_range(map, start, end, buffer, n, &written) == CONGEE_BUSY)
+        CONGEE_YIELD();
+    return written;
+}
+
+/* As congee_range_inclusive, the pairs of one moment. Returns 0 with the number of pairs in *written, or CONGEE_BUSY. */
+static inline int congee_shared_try_range_inclusive(const struct congee_shared *map, uint64_t start, uint64_t last,
+                                                    struct congee_pair *buffer, size_t n, size_t *written) {
+    struct congee_const_shared_handle handle = {map};
+    uint64_t it = 0;
+    int code = n == 0 ? 0 : congee_c_shared_range_inclusive(&handle, start, last, buffer, n, &it);
+    if (code == 0)
+        *written = it;
+    return code;
+}
+
+/* The same. Waits while the map is busy, and returns the number. */
+static inline size_t congee_shared_range_inclusive(const struct congee_shared *map, uint64_t start, uint64_t last,
+                                                   struct congee_pair *buffer, size_t n) {
+    size_t written = 0;
+    while (congee_shared_try_range_inclusive(map, start, last, buffer, n, &written) == CONGEE_BUSY)
+        CONGEE_YIELD();
+    return written;
+}
+
+/* As congee_range_descending, the pairs of one moment. Returns 0 with the number of pairs in *written, or CONGEE_BUSY. */
+static inline int congee_shared_try_range_descending(const struct congee_shared *map, uint64_t start, uint64_t last,
+                                                     struct congee_pair *buffer, size_t n, size_t *written) {
+    struct congee_const_shared_handle handle = {map};
+    uint64_t it = 0;
+    int code = n == 0 ? 0 : congee_c_shared_range_descending(&handle, start, last, buffer, n, &it);
+    if (code == 0)
+        *written = it;
+    return code;
+}
+
+/* The same. Waits while the map is busy, and returns the number. */
+static inline size_t congee_shared_range_descending(const struct congee_shared *map, uint64_t start, uint64_t last,
+                                                    struct congee_pair *buffer, size_t n) {
+    size_t written = 0;
+    while (congee_shared_try_range_descending(map, start, last, buffer, n, &written) == CONGEE_BUSY)
+        CONGEE_YIELD();
+    return written;
+}
+
+/* -- Ends and neighbours -- */
+
+/* As congee_first, or CONGEE_BUSY. */
+static inline int congee_shared_try_first(const struct congee_shared *map, struct congee_pair *pair) {
+    struct congee_const_shared_handle handle = {map};
+    struct congee_pair it = {0, 0};
+    int code = congee_c_shared_first(&handle, &it);
+    if (code == 1 && pair)
+        *pair = it;
+    return code;
+}
+
+/* The same. Waits while the map is busy. */
+static inline int congee_shared_first(const struct congee_shared *map, struct congee_pair *pair) {
+    struct congee_pair it = {0, 0};
+    int code;
+    while ((code = congee_shared_try_first(map, &it)) == CONGEE_BUSY)
+        CONGEE_YIELD();
+    if (code != 1)
+        return 0;
+    if (pair)
+        *pair = it;
+    return 1;
+}
+
+/* As congee_last, or CONGEE_BUSY. */
+static inline int congee_shared_try_last(const struct congee_shared *map, struct congee_pair *pair) {
+    struct congee_const_shared_handle handle = {map};
+    struct congee_pair it = {0, 0};
+    int code = congee_c_shared_last(&handle, &it);
+    if (code == 1 && pair)
+        *pair = it;
+    return code;
+}
+
+/* The same. Waits while the map is busy. */
+static inline int congee_shared_last(const struct congee_shared *map, struct congee_pair *pair) {
+    struct congee_pair it = {0, 0};
+    int code;
+    while ((code = congee_shared_try_last(map, &it)) == CONGEE_BUSY)
+        CONGEE_YIELD();
+    if (code != 1)
+        return 0;
+    if (pair)
+        *pair = it;
+    return 1;
+}
+
+/* As congee_floor, or CONGEE_BUSY. */
+static inline int congee_shared_try_floor(const struct congee_shared *map, uint64_t key, struct congee_pair *pair) {
+    struct congee_const_shared_handle handle = {map};
+    struct congee_pair it = {0, 0};
+    int code = congee_c_shared_floor(&handle, key, &it);
+    if (code == 1 && pair)
+        *pair = it;
+    return code;
+}
+
+/* The same. Waits while the map is busy. */
+static inline int congee_shared_floor(const struct congee_shared *map, uint64_t key, struct congee_pair *pair) {
+    struct congee_pair it = {0, 0};
+    int code;
+    while ((code = congee_shared_try_floor(map, key, &it)) == CONGEE_BUSY)
+        CONGEE_YIELD();
+    if (code != 1)
+        return 0;
+    if (pair)
+        *pair = it;
+    return 1;
+}
+
+/* As congee_ceiling, or CONGEE_BUSY. */
+static inline int congee_shared_try_ceiling(const struct congee_shared *map, uint64_t key, struct congee_pair *pair) {
+    struct congee_const_shared_handle handle = {map};
+    struct congee_pair it = {0, 0};
+    int code = congee_c_shared_ceiling(&handle, key, &it);
+    if (code == 1 && pair)
+        *pair = it;
+    return code;
+}
+
+/* The same. Waits while the map is busy. */
+static inline int congee_shared_ceiling(const struct congee_shared *map, uint64_t key, struct congee_pair *pair) {
+    struct congee_pair it = {0, 0};
+    int code;
+    while ((code = congee_shared_try_ceiling(map, key, &it)) == CONGEE_BUSY)
+        CONGEE_YIELD();
+    if (code != 1)
+        return 0;
+    if (pair)
+        *pair = it;
+    return 1;
+}
+
+/* As congee_below, or CONGEE_BUSY. */
+static inline int congee_shared_try_below(const struct congee_shared *map, uint64_t key, struct congee_pair *pair) {
+    struct congee_const_shared_handle handle = {map};
+    struct congee_pair it = {0, 0};
+    int code = congee_c_shared_below(&handle, key, &it);
+    if (code == 1 && pair)
+        *pair = it;
+    return code;
+}
+
+/* The same. Waits while the map is busy. */
+static inline int congee_shared_below(const struct congee_shared *map, uint64_t key, struct congee_pair *pair) {
+    struct congee_pair it = {0, 0};
+    int code;
+    while ((code = congee_shared_try_below(map, key, &it)) == CONGEE_BUSY)
+        CONGEE_YIELD();
+    if (code != 1)
+        return 0;
+    if (pair)
+        *pair = it;
+    return 1;
+}
+
+/* As congee_above, or CONGEE_BUSY. */
+static inline int congee_shared_try_above(const struct congee_shared *map, uint64_t key, struct congee_pair *pair) {
+    struct congee_const_shared_handle handle = {map};
+    struct congee_pair it = {0, 0};
+    int code = congee_c_shared_above(&handle, key, &it);
+    if (code == 1 && pair)
+        *pair = it;
+    return code;
+}
+
+/* The same. Waits while the map is busy. */
+static inline int congee_shared_above(const struct congee_shared *map, uint64_t key, struct congee_pair *pair) {
+    struct congee_pair it = {0, 0};
+    int code;
+    while ((code = congee_shared_try_above(map, key, &it)) == CONGEE_BUSY)
+        CONGEE_YIELD();
+    if (code != 1)
+        return 0;
+    if (pair)
+        *pair = it;
+    return 1;
+}
+
+/* As congee_pop_first, or CONGEE_BUSY. */
+static inline int congee_shared_try_pop_first(struct congee_shared *map, struct congee_pair *pair) {
+    struct congee_shared_handle handle = {map};
+    struct congee_pair it = {0, 0};
+    int code = congee_c_shared_pop_first(&handle, &it);
+    if (code == 1 && pair)
+        *pair = it;
+    return code;
+}
+
+/* The same. Waits while the map is busy. */
+static inline int congee_shared_pop_first(struct congee_shared *map, struct congee_pair *pair) {
+    struct congee_pair it = {0, 0};
+    int code;
+    while ((code = congee_shared_try_pop_first(map, &it)) == CONGEE_BUSY)
+        CONGEE_YIELD();
+    if (code != 1)
+        return 0;
+    if (pair)
+        *pair = it;
+    return 1;
+}
+
+/* As congee_pop_last, or CONGEE_BUSY. */
+static inline int congee_shared_try_pop_last(struct congee_shared *map, struct congee_pair *pair) {
+    struct congee_shared_handle handle = {map};
+    struct congee_pair it = {0, 0};
+    int code = congee_c_shared_pop_last(&handle, &it);
+    if (code == 1 && pair)
+        *pair = it;
+    return code;
+}
+
+/* The same. Waits while the map is busy. */
+static inline int congee_shared_pop_last(struct congee_shared *map, struct congee_pair *pair) {
+    struct congee_pair it = {0, 0};
+    int code;
+    while ((code = congee_shared_try_pop_last(map, &it)) == CONGEE_BUSY)
+        CONGEE_YIELD();
+    if (code != 1)
+        return 0;
+    if (pair)
+        *pair = it;
+    return 1;
+}
+
+/* -- Many pairs and counts -- */
+
+/* As congee_clear, at one moment. Other calls are busy meanwhile. Returns 0, or CONGEE_BUSY. */
+static inline int congee_shared_try_clear(struct congee_shared *map) {
+    struct congee_shared_handle handle = {map};
+    return congee_c_shared_clear(&handle);
+}
+
+/* The same. Waits while the map is busy. */
+static inline void congee_shared_clear(struct congee_shared *map) {
+    while (congee_shared_try_clear(map) == CONGEE_BUSY)
+        CONGEE_YIELD();
+}
+
+/* As congee_is_empty: 1 where there is no pair, and 0 where there is one. Or CONGEE_BUSY. */
+static inline int congee_shared_try_is_empty(const struct congee_shared *map) {
+    struct congee_const_shared_handle handle = {map};
+    uint64_t it = 0;
+    int code = congee_c_shared_is_empty(&handle, &it);
+    return code == 0 ? it != 0 : code;
+}
+
+/* The same. Waits while the map is busy. */
+static inline bool congee_shared_is_empty(const struct congee_shared *map) {
+    int code;
+    while ((code = congee_shared_try_is_empty(map)) == CONGEE_BUSY)
+        CONGEE_YIELD();
+    return code == 1;
+}
+
+/* As congee_count. Returns 0 with the number in *count, or CONGEE_BUSY. */
+static inline int congee_shared_try_count(const struct congee_shared *map, uint64_t *count) {
+    struct congee_const_shared_handle handle = {map};
+    uint64_t it = 0;
+    int code = congee_c_shared_count(&handle, &it);
+    if (code == 0)
+        *count = it;
+    return code;
+}
+
+/* The same. Waits while the map is busy, and returns the number. */
+static inline uint64_t congee_shared_count(const struct congee_shared *map) {
+    uint64_t count = 0;
+    while (congee_shared_try_count(map, &count) == CONGEE_BUSY)
+        CONGEE_YIELD();
+    return count;
+}
+
+/* As congee_charged. Of this number it is proved that a tree with as many pairs as there are is charged it. Returns 0 with
+ * it in *bytes, or CONGEE_BUSY. */
+static inline int congee_shared_try_charged(const struct congee_shared *map, uint64_t *bytes) {
+    struct congee_const_shared_handle handle = {map};
+    uint64_t it = 0;
+    int code = congee_c_shared_charged(&handle, &it);
+    if (code == 0)
+        *bytes = it;
+    return code;
+}
+
+/* The same. Waits while the map is busy, and returns the number. */
+static inline uint64_t congee_shared_charged(const struct congee_shared *map) {
+    uint64_t bytes = 0;
+    while (congee_shared_try_charged(map, &bytes) == CONGEE_BUSY)
+        CONGEE_YIELD();
+    return bytes;
+}
+
+/* As congee_each, with pages of 64 pairs of one moment each. Between two pages other calls come in. f may call the map. */
+static inline int congee_shared_each(const struct congee_shared *map, uint64_t start, uint64_t last, congee_visitor *f,
+                                     void *with) {
+    struct congee_pair page[64] = {{0, 0}};
+    size_t n;
+    while ((n = congee_shared_range_inclusive(map, start, last, page, 64)) > 0) {
+        for (size_t i = 0; i < n; i++) {
+            int code = f(page[i], with);
+            if (code != 0)
+                return code;
+        }
+        if (n < 64 || page[63].key == last)
+            return 0;
+        start = page[63].key + 1;
+    }
+    return 0;
+}
+
+/* As congee_insert_many, a call for each pair. Other calls may come in between two of them. */
+static inline size_t congee_shared_insert_many(struct congee_shared *map, const struct congee_pair *pairs, size_t n) {
+    size_t done = 0;
+    while (done < n && congee_shared_insert(map, pairs[done].key, pairs[done].value, NULL) != CONGEE_OOM)
+        done++;
+    return done;
+}
+
+#ifdef __cplusplus
+}
+#endif
+#endif

@@ -1,0 +1,312 @@
+//! Guards of a `SharedMap`: a million mixed calls by two of them in turn, each answer compared with that of a `BTreeMap`. Then
+//! threads that change one map by every call, so that sums and counts have to agree.
+
+use proved_congee::{Busy, Guard, OutOfMemory, Pair, SharedMap, TryError};
+use std::collections::BTreeMap;
+use std::sync::OnceLock;
+use std::thread;
+
+const CALLS: u64 = 1_000_000;
+const THREADS: u64 = 4;
+const EACH: u64 = 50_000;
+
+fn next(state: &mut u64) -> u64 {
+    // (splitmix64)
+    *state = state.wrapping_add(0x9e3779b97f4a7c15);
+    let z = (*state ^ (*state >> 30)).wrapping_mul(0xbf58476d1ce4e5b9);
+    let z = (z ^ (z >> 27)).wrapping_mul(0x94d049bb133111eb);
+    z ^ (z >> 31)
+}
+
+/// One of 4096 keys, 0 and `u64::MAX` among them.
+fn key(state: &mut u64) -> u64 {
+    (next(state) % 4096).wrapping_mul(0x0010010010010010) | (next(state) % 2 * 0xf)
+}
+
+type Plain = BTreeMap<u64, u64>;
+
+fn pair(found: Option<(&u64, &u64)>) -> Option<(u64, u64)> {
+    found.map(|(key, value)| (*key, *value))
+}
+
+/// What a call that compares returns, and whether it finds the expected value.
+fn compared(plain: &Plain, at: u64, expected: u64) -> Result<(), Option<u64>> {
+    match plain.get(&at).copied() {
+        Some(current) if current == expected => Ok(()),
+        current => Err(current),
+    }
+}
+
+fn change(guard: &Guard, plain: &mut Plain, at: u64, value: u64, seed: &mut u64) {
+    // (one thread calls, so no call is busy)
+    let waits = next(seed) % 2 == 0;
+    match next(seed) % 9 {
+        0..=2 => {
+            let wanted = plain.insert(at, value);
+            match waits {
+                true => assert_eq!(guard.insert(at, value), Ok(wanted)),
+                false => assert_eq!(guard.try_insert(at, value), Ok(wanted)),
+            }
+        }
+        3 => {
+            let wanted = plain.remove(&at);
+            match waits {
+                true => assert_eq!(guard.remove(&at), wanted),
+                false => assert_eq!(guard.try_remove(at), Ok(wanted)),
+            }
+        }
+        4 => {
+            let wanted = plain.get(&at).copied();
+            let number = value.wrapping_sub(2);
+            plain.insert(at, wanted.unwrap_or(0).wrapping_add(number));
+            match waits {
+                true => assert_eq!(guard.add(at, number), Ok(wanted)),
+                false => assert_eq!(guard.try_add(at, number), Ok(wanted)),
+            }
+        }
+        5 => {
+            let wanted = *plain.entry(at).or_insert(value);
+            match waits {
+                true => assert_eq!(guard.get_or_insert(at, value), Ok(wanted)),
+                false => assert_eq!(guard.try_get_or_insert(at, value), Ok(wanted)),
+            }
+        }
+        6 => {
+            let expected = next(seed) % 4;
+            let wanted = compared(plain, at, expected);
+            if wanted.is_ok() {
+                plain.insert(at, value);
+            }
+            match waits {
+                true => assert_eq!(guard.compare_exchange(at, expected, value), wanted),
+                false => assert_eq!(guard.try_compare_exchange(at, expected, value), Ok(wanted)),
+            }
+        }
+        7 => {
+            let wanted = compared(plain, at, value);
+            if wanted.is_ok() {
+                plain.remove(&at);
+            }
+            match waits {
+                true => assert_eq!(guard.compare_remove(at, value), wanted),
+                false => assert_eq!(guard.try_compare_remove(at, value), Ok(wanted)),
+            }
+        }
+        _ => {
+            let halved = |current: Option<u64>| current.map(|it| it / 2).filter(|it| *it > 0);
+            let wanted = plain.remove(&at);
+            if let Some(half) = halved(wanted) {
+                plain.insert(at, half);
+            }
+            assert_eq!(guard.compute(at, halved), Ok(wanted));
+        }
+    }
+}
+
+fn look(guard: &Guard, plain: &Plain, at: u64, seed: &mut u64) {
+    let waits = next(seed) % 2 == 0;
+    let wanted = [
+        pair(plain.first_key_value()),
+        pair(plain.last_key_value()),
+        pair(plain.range(..=at).next_back()),
+        pair(plain.range(..at).next_back()),
+        pair(plain.range(at..).next()),
+        at.checked_add(1)
+            .and_then(|above| pair(plain.range(above..).next())),
+    ];
+    let found = match waits {
+        true => [
+            guard.first(),
+            guard.last(),
+            guard.floor(at),
+            guard.below(at),
+            guard.ceiling(at),
+            guard.above(at),
+        ],
+        false => [
+            guard.try_first(),
+            guard.try_last(),
+            guard.try_floor(at),
+            guard.try_below(at),
+            guard.try_ceiling(at),
+            guard.try_above(at),
+        ]
+        .map(|found| found.expect("no other thread calls")),
+    };
+    assert_eq!(found, wanted);
+    let wanted = plain.get(&at).copied();
+    assert_eq!((guard.get(at), guard.try_get(&at)), (wanted, Ok(wanted)));
+    assert_eq!(guard.contains_key(&at), wanted.is_some());
+    assert_eq!(
+        (guard.len(), guard.try_len()),
+        (plain.len(), Ok(plain.len()))
+    );
+    assert_eq!(guard.is_empty(), plain.is_empty());
+    assert_eq!(guard.try_is_empty(), Ok(plain.is_empty()));
+    assert_eq!(guard.try_charged(), Ok(guard.charged()));
+}
+
+fn scan(guard: &Guard, plain: &Plain, at: u64, seed: &mut u64) {
+    let last = at.saturating_add(next(seed) % (1 << 60));
+    let mut pages = [[Pair::default(); 20]; 4];
+    let n = (next(seed) % 21) as usize;
+    let [exclusive, inclusive, descending, tried] = &mut pages;
+    let read = [
+        guard.read_range(at, last, &mut exclusive[..n]),
+        guard.read_range_inclusive(at, last, &mut inclusive[..n]),
+        guard.read_range_descending(at, last, &mut descending[..n]),
+        guard
+            .try_read_range_descending(at, last, &mut tried[..n])
+            .expect("no other thread calls"),
+    ];
+    let pairs = |page: usize| {
+        pages[page][..read[page]]
+            .iter()
+            .map(|it| (it.key, it.value))
+    };
+    let wanted = || plain.range(at..=last).map(|(key, value)| (*key, *value));
+    assert!(pairs(0).eq(wanted().filter(|it| it.0 < last).take(n)));
+    assert!(pairs(1).eq(wanted().take(n)));
+    assert!(pairs(2).eq(wanted().rev().take(n)) && pairs(3).eq(wanted().rev().take(n)));
+    assert!(guard.range(at..=last).take(100).eq(wanted().take(100)));
+    assert!(guard
+        .range(at..=last)
+        .rev()
+        .take(100)
+        .eq(wanted().rev().take(100)));
+}
+
+fn end(guard: &Guard, plain: &mut Plain, at: u64, seed: &mut u64) {
+    match next(seed) % 512 {
+        0 => {
+            guard.clear();
+            plain.clear();
+        }
+        1 => {
+            guard.retain(|key, value| (key ^ value) % 4 > 0);
+            plain.retain(|key, value| (*key ^ *value) % 4 > 0);
+        }
+        2..=9 => {
+            let last = at.saturating_add(1 << 50);
+            let keys: Vec<u64> = plain.range(at..=last).map(|(key, _)| *key).collect();
+            assert_eq!(guard.remove_range(at..=last), keys.len() as u64);
+            for key in keys {
+                plain.remove(&key);
+            }
+        }
+        it if it % 4 == 0 => assert_eq!(guard.pop_first(), plain.pop_first()),
+        it if it % 4 == 1 => assert_eq!(guard.pop_last(), plain.pop_last()),
+        it if it % 4 == 2 => assert_eq!(guard.try_pop_first(), Ok(plain.pop_first())),
+        _ => assert_eq!(guard.try_pop_last(), Ok(plain.pop_last())),
+    }
+}
+
+fn against_btree() -> Result<(), OutOfMemory> {
+    let map = SharedMap::new()?;
+    let guards = [map.pin()?, map.try_clone()?.pin()?];
+    let (mut plain, mut seed) = (Plain::new(), 7);
+    for call in 0..CALLS {
+        let guard = &guards[(call % 2) as usize];
+        let (at, value) = (key(&mut seed), next(&mut seed) % 4);
+        match next(&mut seed) % 16 {
+            0..=11 => change(guard, &mut plain, at, value, &mut seed),
+            12 => look(guard, &plain, at, &mut seed),
+            13 => scan(guard, &plain, at, &mut seed),
+            _ => end(guard, &mut plain, at, &mut seed),
+        }
+    }
+    assert!(guards[0]
+        .iter()
+        .eq(plain.iter().map(|(key, value)| (*key, *value))));
+    assert!(guards[1].keys().rev().eq(plain.keys().rev().copied()));
+    drop(map);
+    assert!(guards[1].values().eq(plain.values().copied()));
+    Ok(())
+}
+
+/// A thread's calls. Each adds to a counter by one of the ways to, and a call that doesn't wait is made again while it is busy.
+fn raise(guard: &Guard, number: u64) -> Result<(), OutOfMemory> {
+    for i in 0..EACH {
+        let at = (i * 7 + number) % 16;
+        match i % 4 {
+            0 => {
+                guard.add(at, 1)?;
+            }
+            1 => {
+                guard.compute(at, |current| Some(current.unwrap_or(0) + 1))?;
+            }
+            2 => loop {
+                match guard.try_add(at, 1) {
+                    Ok(_) => break,
+                    Err(TryError::Busy) => thread::yield_now(),
+                    Err(TryError::OutOfMemory) => return Err(OutOfMemory),
+                }
+            },
+            _ => {
+                let mut current = guard.get_or_insert(at, 0)?;
+                while let Err(found) = guard.compare_exchange(at, current, current + 1) {
+                    current = found.expect("no counter goes");
+                }
+            }
+        }
+        // (pages are of one moment each: keys ascend)
+        if i % 64 == 0 {
+            let keys: Vec<u64> = guard.keys().collect();
+            assert!(keys.windows(2).all(|it| it[0] < it[1]) && keys.len() <= 16);
+        }
+        match guard.try_get(at) {
+            Ok(value) => assert!(value.is_some()),
+            Err(Busy) => {}
+        }
+    }
+    Ok(())
+}
+
+fn side_by_side() -> Result<(), OutOfMemory> {
+    let map = SharedMap::new()?;
+    thread::scope(|scope| {
+        let threads: Vec<_> = (0..THREADS)
+            .map(|number| {
+                let map = &map;
+                scope.spawn(move || raise(&map.pin()?, number))
+            })
+            .collect();
+        threads
+            .into_iter()
+            .try_for_each(|it| it.join().expect("no thread panics"))
+    })?;
+    let guard = map.pin()?;
+    // (a guard outlives the map that it is of, on any thread)
+    drop(map);
+    let sum = thread::spawn(move || guard.values().sum::<u64>());
+    assert_eq!(sum.join().expect("no thread panics"), THREADS * EACH);
+    Ok(())
+}
+
+/// A shared map may be in a static, and a thread may keep its guard.
+fn in_a_static() {
+    static MAP: OnceLock<SharedMap> = OnceLock::new();
+    thread_local!(static GUARD: Guard = MAP.get().expect("it is made first").pin().unwrap());
+    MAP.get_or_init(|| SharedMap::new().unwrap());
+    thread::scope(|scope| {
+        for _ in 0..THREADS {
+            scope.spawn(|| {
+                for _ in 0..100 {
+                    assert!(GUARD.with(|it| it.add(7, 1)).is_ok());
+                }
+            });
+        }
+    });
+    assert_eq!(GUARD.with(|it| it.get(7)), Some(100 * THREADS));
+}
+
+fn main() -> Result<(), OutOfMemory> {
+    against_btree()?;
+    side_by_side()?;
+    in_a_static();
+    println!(
+        "{CALLS} calls by one thread, {} by {THREADS}",
+        THREADS * EACH
+    );
+    Ok(())
+}
