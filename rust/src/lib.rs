@@ -44,9 +44,11 @@
 //!
 //! # Threads
 //!
-//! A map can move to another thread. Threads can't share it by `&`, since the library takes a map as its own during each
-//! call, reads included. So it isn't `Sync`, and a `RwLock` or an `Arc` alone doesn't help. Put it into a `Mutex`, or freeze
-//! it: then [`Readers`] hands out readers, which look up side by side.
+//! Threads share a [`SharedMap`], each by a [`Guard`] of its own, under one lock of the library.
+//!
+//! A [`Map`] can move to another thread. Threads can't share it by `&`, since the library takes a map as its own during
+//! each call, reads included. So it isn't `Sync`, and a `RwLock` or an `Arc` alone doesn't help. Put it into a `Mutex`, or
+//! freeze it: then [`Readers`] hands out readers, which look up side by side.
 //!
 //! ```
 //! # use proved_congee::{Map, OutOfMemory};
