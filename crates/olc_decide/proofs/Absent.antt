@@ -1,12 +1,14 @@
 -- WHAT A CALL DOES if its key is absent: it changes nothing, has to write, or asks its closure.
-use Rattle.std.proofs.Common.{◌≡◌, ℕ, ◌+◌, ◌-◌, ◌*◌, ◌<◌, ◌≤◌, Bool, true, false, List, length, Option, Some, None, inl, inr, refl, sym, subst, ap, ◌∙◌, arith}
+use Rattle.std.proofs.Common.{◌≡◌, ℕ, ◌+◌, ◌-◌, ◌*◌, ◌<◌, ◌≤◌, Bool, true, false, List, length, Option, Some, None, IsSome, inl, inr, refl, sym, subst, ap, ◌∙◌, arith}
 use Rattle.node_table.specs.Key.{Begins}
 use Rattle.node_table.specs.declared.child.Child.{Child}
+use Rattle.node_table.specs.declared.child.Child.TheVariants.{Payload, Node as below_at}
 use Rattle.spec_olc.specs.Calls.{Outline, IsPoint, key_of, outline_of, stored}
 use Rattle.spec_olc.specs.Content.{IsCurrent}
 use Rattle.spec_olc.specs.Kinds.{report_of}
 use Rattle.spec_olc.specs.Local.{payload_in, seen_payload}
 use Rattle.spec_olc.specs.Meaning.{meant_reply}
+use Rattle.spec_olc.specs.Reading.{KeyEnds}
 use Rattle.spec_olc.specs.State.{State}
 use Rattle.spec_olc.specs.declared.types.Asking.{Asking}
 use Rattle.spec_olc.specs.declared.types.Asking.TheVariants.{Fresh}
@@ -30,6 +32,7 @@ use Rattle.olc_state.specs.declared.tail.Small.TheVariants.{Entry, Leaf}
 use Rattle.olc_state.specs.declared.tail.Tail.TheVariants.{Upgrade, UpgradeAbove}
 use Rattle.olc_state.specs.inner.Effects.{HasClosure, IsChange, IsLeft, IsOrInsert}
 use Rattle.olc_state.specs.inner.Facts.{Facts}
+use Rattle.olc_state.specs.inner.Shown.{flight}
 use Rattle.olc_state.specs.inner.Tables.{OnPath, IsPlaced}
 use Rattle.olc_state.specs.inner.TailFacts.{IsLarge, IsSmall, LargeCase, LargeWork, SmallCase, SmallWork, WritesAtKey, found, path_to, stands_at, stores}
 use Rattle.olc_state.specs.inner.Tails.{large_work, small_work}
@@ -39,7 +42,7 @@ use Rattle.olc_state.specs.inner.World.{PlacedNode, NodeMap}
 use Rattle.olc_state.proofs.Options.{none_some, some_same}
 use Rattle.olc_state.proofs.Records.{at}
 use Rattle.olc_state.proofs.Replies.{change_stored}
-use Rattle.olc_descend.proofs.Checks.{above_absent, above_none, above_now, absent_now, absent_there, asking, asking_waits_for, asks_at, asks_inserts, ends_left, goes, inserts_asks, keeps_old, keeps_question, sees_none}
+use Rattle.olc_descend.proofs.Checks.{above_absent, above_none, above_now, above_read, absent_now, absent_there, asking, asking_waits_for, asks_at, asks_inserts, ends_left, goes, has_read, inserts_asks, keeps_old, keeps_question, sees_none, way_ends_above, way_ends_here}
 use Rattle.olc_descend.proofs.Courses.{descends}
 use Rattle.olc_descend.proofs.Events.{test_false}
 use Rattle.olc_descend.proofs.Spots.{above_known, here_known, step_down}
@@ -99,23 +102,24 @@ module _ {M : Type 0} (same : M → M → Bool) where
   entered_by op asking fresh h = absurd (leaves_stores (sym h))
 
   -- a call that changes the content to `value` stores `value`
-  pub writes_by : (Granted : Type 0) (task : Task M) (at_key value : Option M) (opened : IsOpen task) → IsChange same opened.op task.asking at_key value → (MaySee Granted same task → seen_payload task.last ≡ at_key)
+  pub writes_by : (Granted : Type 0) (task : Task M) (at_key value : Option M) (opened : IsOpen task) → IsChange same opened.op task.asking at_key value → (MaySee Granted same task → seen_payload task.last ≡ at_key) → IsSome task.last
       → (w : WritesAtKey Granted same task at_key) × (w.value ≡ value)
-  writes_by Granted task at_key value opened change seen = (
+  writes_by Granted task at_key value opened change seen read = (
     record {
       opened = opened;
       value = value;
       stores = ap (λ (z : Option (Op M)). stored z task.asking) opened.op_is ∙ change_stored same opened.op task.asking at_key value change;
       change = change;
+      read = read;
       seen = seen;
     },
     refl,
   )
 
-  pub writes_new : (Granted : Type 0) (task : Task M) → IsFreshly task → IsAbsence task.outline Stores → seen_payload task.last ≡ None → WritesAtKey Granted same task None
-  writes_new Granted task fresh h seen =
+  pub writes_new : (Granted : Type 0) (task : Task M) → IsFreshly task → IsAbsence task.outline Stores → seen_payload task.last ≡ None → IsSome task.last → WritesAtKey Granted same task None
+  writes_new Granted task fresh h seen read =
       let entered = entered_by fresh.opened.op task.asking fresh.fresh (subst (λ (z : Outline). IsAbsence z Stores) (sym fresh.opened.outline) h) in
-      (writes_by Granted task None (Some entered.0) fresh.opened entered.1 (λ sees. seen)).0
+      (writes_by Granted task None (Some entered.0) fresh.opened entered.1 (λ sees. seen) read).0
 
 module _ {M : Type 0} where
   pub stands_none : (large : Large) (a : PlacedNode M) (k : List ℕ) → found a k ≡ None → stands_at large a k ≡ None
@@ -148,7 +152,7 @@ module _ {M : Type 0} (Granted : Type 0) (same : M → M → Bool) (t : NodeMap 
   goes_small path a here word facts small work =
       let fresh : IsFreshly task = facts.at.0 in
       goes Granted same t root pin task env placed path a here word (Check path) (Tail (Upgrade path small)) refl refl refl refl tt refl fresh (here_known path) (inl refl) (λ z w h. h)
-      (record { small = facts.small; at = (fresh.opened, facts.at.1, all_here t path.here a here (SmallWork Granted same small task) work) }) (λ z h. inr (inl h)) (λ z h. h) (λ served. omega (arith, small_short small))
+      (record { small = facts.small; at = (fresh.opened, facts.at.1, all_here t path.here a here (SmallWork Granted same small task) work, (_, work.writes)) }) (λ z h. inr (inl h)) (λ z h. h) (λ served. omega (arith, small_short small))
 
   pub goes_large : (pair : NodePair) (a : PlacedNode M) → t pair.here.slot ≡ Some a → a.word ≡ pair.here.word → Facts Granted same t root pin (at (Check (path_to pair)) task) → (large : Large) → LargeWork Granted same large task a
       → IsRead Granted same t root pin (at (Check (path_to pair)) task) env (at (Tail (UpgradeAbove pair large)) task) (report_of kind.Check (Some pair.here.slot) 0 true) Going
@@ -161,6 +165,7 @@ module _ {M : Type 0} (Granted : Type 0) (same : M → M → Bool) (t : NodeMap 
         at = (
           record {
             opened = fresh.opened;
+            writing = (_, work.writes);
             over = record { way = on.above.1; apart = on.apart pair.above refl };
             here = on.here;
             work = all_here t pair.here a here (LargeWork Granted same large task) work;
@@ -175,6 +180,12 @@ module _ {M : Type 0} (Granted : Type 0) (same : M → M → Bool) (t : NodeMap 
 module _ {M : Type 0} (Granted : Type 0) (same : M → M → Bool) (t : NodeMap M) (root pin : ℕ) (task : Task M) (env : Env M) (placed : IsPlaced t root) (point : IsPoint task.outline) where
   module _ (path : Path) (a : PlacedNode M) (here : t path.here.slot ≡ Some a) (word : a.word ≡ path.here.word) (facts : Facts Granted same t root pin (at (Check path) task))
       (none : found a (key_bytes task) ≡ None) where
+    read_here : IsSome task.last
+    read_here = has_read Granted same t root pin task env placed path a here word facts point
+
+    ends_here : (s : State M) → ShowsNodes t root s → KeyEnds s (flight pin (at (Check path) task))
+    ends_here s shows = way_ends_here Granted same t root pin task env placed path a here word facts point (λ slot there. none_some (below_at slot) (sym none ∙ there)) s
+
     seen_none : seen_payload task.last ≡ None
     seen_none = sees_none Granted same t root pin task env placed path a here word facts point none
 
@@ -185,7 +196,7 @@ module _ {M : Type 0} (Granted : Type 0) (same : M → M → Bool) (t : NodeMap 
         → IsRead Granted same t root pin (at (Check path) task) env (at Finish (closed progress.Decided task)) (report_of kind.Check (Some path.here.slot) 0 true) (Decided (reply_absent task.outline))
     leaves_here leaves =
         let fresh : IsFreshly task = facts.at.0 in
-        ends_left Granted same t root pin task env placed path a here word (Check path) refl refl tt facts.small (here_known path) (inl refl) (λ p. omega arith) None (λ sees. seen_none)
+        ends_left Granted same t root pin task env placed path a here word (Check path) refl refl tt facts.small (here_known path) (inl refl) (λ p. omega arith) read_here ends_here None (λ sees. seen_none)
         (absent_there Granted same t root pin task env placed path a here word facts point none) fresh (reply_absent task.outline)
         (left_absent same fresh.opened.op task.outline fresh.opened.outline point leaves)
 
@@ -193,9 +204,9 @@ module _ {M : Type 0} (Granted : Type 0) (same : M → M → Bool) (t : NodeMap 
         → IsRead Granted same t root pin (at (Check path) task) env (at (Tail (Upgrade path small)) task) (report_of kind.Check (Some path.here.slot) 0 true) Going
     small_here small is stores =
         let fresh : IsFreshly task = facts.at.0 in
-        let w : WritesAtKey Granted same task None = writes_new same Granted task fresh stores seen_none in
+        let w : WritesAtKey Granted same task None = writes_new same Granted task fresh stores seen_none read_here in
         goes_small Granted same t root pin task env placed path a here word facts small
-        (record { writes = subst (λ (z : Option (Child M)). WritesAtKey Granted same task (payload_in z)) (sym none) w; is = is })
+        (record { writes = subst (λ (z : Option (Child M)). WritesAtKey Granted same task (payload_in z)) (sym none) w; is = is; differs = λ old new there e. absurd (none_some (Payload old) (sym none ∙ there)) })
 
     small_asks : (small : Small) → IsSmall small a (key_bytes task) → IsAbsence task.outline Asks → (old : Option M) → old ≡ seen_payload task.last
         → IsRead Granted same t root pin (at (Check path) task) env (at (Answer (case.Small path small)) (asking task old)) (report_of kind.Check (Some path.here.slot) 0 true) (Ask old)
@@ -207,12 +218,12 @@ module _ {M : Type 0} (Granted : Type 0) (same : M → M → Bool) (t : NodeMap 
         (record {
           small = facts.small;
           at = (
-            asking_waits_for Granted same task old fresh inserts old_is seen_none,
+            asking_waits_for Granted same task old fresh read_here inserts old_is seen_none,
             facts.at.1,
             all_here t path.here a here (SmallCase Granted same small (asking task old)) (none, is),
           );
         })
-        (λ z h. inr (inl h)) (λ served. omega (arith, small_short small)) (none_current old (old_is ∙ seen_none))
+        (λ z h. inr (inl h)) (λ served. omega (arith, small_short small)) (none_current old (old_is ∙ seen_none)) read_here ends_here
 
   module _ (pair : NodePair) (a : PlacedNode M) (here : t pair.here.slot ≡ Some a) (word : a.word ≡ pair.here.word) (facts : Facts Granted same t root pin (at (Check (path_to pair)) task))
       (none : found a (key_bytes task) ≡ None) where
@@ -220,7 +231,7 @@ module _ {M : Type 0} (Granted : Type 0) (same : M → M → Bool) (t : NodeMap 
         → IsRead Granted same t root pin (at (Check (path_to pair)) task) env (at (Tail (UpgradeAbove pair large)) task) (report_of kind.Check (Some pair.here.slot) 0 true) Going
     large_here large is stores =
         let fresh : IsFreshly task = facts.at.0 in
-        let w : WritesAtKey Granted same task None = writes_new same Granted task fresh stores (seen_none (path_to pair) a here word facts none) in
+        let w : WritesAtKey Granted same task None = writes_new same Granted task fresh stores (seen_none (path_to pair) a here word facts none) (read_here (path_to pair) a here word facts none) in
         goes_large Granted same t root pin task env placed pair a here word facts large (work_of_large Granted same large task a (stands_none large a (key_bytes task) none) is w)
 
     large_asks : (large : Large) → IsLarge large a (key_bytes task) → IsAbsence task.outline Asks → (old : Option M) → old ≡ seen_payload task.last
@@ -234,7 +245,7 @@ module _ {M : Type 0} (Granted : Type 0) (same : M → M → Bool) (t : NodeMap 
         (record {
           small = facts.small;
           at = (
-            asking_waits_for Granted same task old fresh inserts old_is (seen_none (path_to pair) a here word facts none),
+            asking_waits_for Granted same task old fresh (read_here (path_to pair) a here word facts none) inserts old_is (seen_none (path_to pair) a here word facts none),
             record { way = on.above.1; apart = on.apart pair.above refl },
             on.here,
             all_here t pair.here a here (LargeCase Granted same large (asking task old)) (stands_none large a (key_bytes task) none, is),
@@ -242,7 +253,7 @@ module _ {M : Type 0} (Granted : Type 0) (same : M → M → Bool) (t : NodeMap 
             on.above.2,
           );
         })
-        (λ z h. inr (inl h)) (λ served. rw here (large_falls large a (key_bytes task) (on.way a here) is)) (none_current (path_to pair) a here word facts none old (old_is ∙ seen_none (path_to pair) a here word facts none))
+        (λ z h. inr (inl h)) (λ served. rw here (large_falls large a (key_bytes task) (on.way a here) is)) (none_current (path_to pair) a here word facts none old (old_is ∙ seen_none (path_to pair) a here word facts none)) (read_here (path_to pair) a here word facts none) (ends_here (path_to pair) a here word facts none)
 
   -- what an entry needs there
   module _ (a : PlacedNode M) (none : found a (key_bytes task) ≡ None) where
@@ -286,6 +297,12 @@ module _ {M : Type 0} (Granted : Type 0) (same : M → M → Bool) (t : NodeMap 
     none_above : seen_payload task.last ≡ None
     none_above = above_none Granted same t root pin task env placed path a here word below facts
 
+    read_above : IsSome task.last
+    read_above = above_read Granted same t root pin task env placed path a here word below facts
+
+    ends_above : (s : State M) → ShowsNodes t root s → KeyEnds s (flight pin (at (CheckAbove path below false) task))
+    ends_above = way_ends_above Granted same t root pin task env placed path a here word below facts
+
     leaves_key : (b : PlacedNode M) → t below.slot ≡ Some b → Begins b.node.prefix (key_bytes task) → ⊥
     leaves_key b h begins = test_false false refl ((facts.at.5 b h).1 begins)
 
@@ -293,7 +310,7 @@ module _ {M : Type 0} (Granted : Type 0) (same : M → M → Bool) (t : NodeMap 
         → IsRead Granted same t root pin (at (CheckAbove path below false) task) env (at Finish (closed progress.Decided task)) (report_of kind.Check (Some path.here.slot) 0 true) (Decided (reply_absent task.outline))
     leaves_above leaves =
         let fresh : IsFreshly task = facts.at.0 in
-        ends_left Granted same t root pin task env placed path a here word (CheckAbove path below false) refl refl tt facts.small (above_known path below facts.at.6) (inr (inl refl)) (λ p. omega arith) None (λ sees. none_above)
+        ends_left Granted same t root pin task env placed path a here word (CheckAbove path below false) refl refl tt facts.small (above_known path below facts.at.6) (inr (inl refl)) (λ p. omega arith) read_above ends_above None (λ sees. none_above)
         (above_absent Granted same t root pin task env placed path a here word below facts) fresh (reply_absent task.outline)
         (left_absent same fresh.opened.op task.outline fresh.opened.outline point leaves)
 
@@ -302,13 +319,14 @@ module _ {M : Type 0} (Granted : Type 0) (same : M → M → Bool) (t : NodeMap 
     stores_above stores =
         let fresh : IsFreshly task = facts.at.0 in
         let on : OnPath t root pin (key_bytes task) path = facts.at.1 in
-        let w : WritesAtKey Granted same task None = writes_new same Granted task fresh stores none_above in
+        let w : WritesAtKey Granted same task None = writes_new same Granted task fresh stores none_above read_above in
         goes Granted same t root pin task env placed path a here word (CheckAbove path below false) (Tail (UpgradeAbove (record { above = path.here; here = below }) Split)) refl refl refl refl tt refl fresh (above_known path below facts.at.6) (inr (inl refl)) (step_down path below)
         (record {
           small = facts.small;
           at = (
             record {
               opened = fresh.opened;
+              writing = (_, w);
               over = record { way = on.way; apart = λ e. facts.at.6 (sym e) };
               here = facts.at.4;
               work = λ b h e. record { writes = w; is = leaves_key b h; may = tt };
@@ -331,7 +349,7 @@ module _ {M : Type 0} (Granted : Type 0) (same : M → M → Bool) (t : NodeMap 
         (record {
           small = facts.small;
           at = (
-            asking_waits_for Granted same task None fresh inserts (sym none_above) none_above,
+            asking_waits_for Granted same task None fresh read_above inserts (sym none_above) none_above,
             record { way = on.way; apart = λ e. facts.at.6 (sym e) },
             facts.at.4,
             (λ b h e. (refl, leaves_key b h)),
@@ -340,4 +358,4 @@ module _ {M : Type 0} (Granted : Type 0) (same : M → M → Bool) (t : NodeMap 
           );
         })
         (λ z h. elim h [ inl e ↦ inr (inl (inl e)) | inr more ↦ elim more [ inl e ↦ inr (inl (inr (inl e))) | inr never ↦ absurd never ] ])
-        (λ served. omega (arith, descends t root placed pin (key_bytes task) path on below.slot facts.at.2 a here word)) (above_now Granted same t root pin task env placed path a here word below facts)
+        (λ served. omega (arith, descends t root placed pin (key_bytes task) path on below.slot facts.at.2 a here word)) (above_now Granted same t root pin task env placed path a here word below facts) read_above ends_above

@@ -1,5 +1,5 @@
 -- WHAT A CALL DOES once its closure has answered: it has to write, or the answer is the current value already.
-use Rattle.std.proofs.Common.{◌≡◌, ◌≢◌, ℕ, ◌+◌, ◌<◌, Bool, true, false, [], ◌∷◌, Option, Some, None, inl, inr, refl, sym, subst, ap, ◌∙◌, arith}
+use Rattle.std.proofs.Common.{◌≡◌, ◌≢◌, ℕ, ◌+◌, ◌<◌, Bool, true, false, [], ◌∷◌, Option, Some, None, IsSome, inl, inr, refl, sym, subst, ap, ◌∙◌, arith}
 use Rattle.std.proofs.lemmas.Bool.{eq-eqb}
 use Rattle.spec_map.specs.Map.{Pairs, lookup}
 use Rattle.node_table.specs.declared.child.Child.{Child}
@@ -7,8 +7,9 @@ use Rattle.node_table.specs.declared.child.Child.TheVariants.{Payload}
 use Rattle.spec_olc.specs.Calls.{Outline, key_of, or_else, outline_of}
 use Rattle.spec_olc.specs.Content.{IsContent}
 use Rattle.spec_olc.specs.Kinds.{DoesAs, SharesAnswer, report_of}
-use Rattle.spec_olc.specs.Local.{payload_in, seen_payload}
+use Rattle.spec_olc.specs.Local.{payload_in, seen_child, seen_payload}
 use Rattle.spec_olc.specs.Meaning.{asking_of, in_some}
+use Rattle.spec_olc.specs.Reading.{KeyEnds}
 use Rattle.spec_olc.specs.State.{State, CallState, with_call}
 use Rattle.spec_olc.specs.declared.types.Asking.{Asking}
 use Rattle.spec_olc.specs.declared.types.Asking.TheVariants.{Fresh, Wants, Given}
@@ -37,21 +38,22 @@ use Rattle.olc_state.specs.inner.Shown.{cleaning_at, cursor_at, flight, given_at
 use Rattle.olc_state.specs.inner.Tables.{IsIn, IsPlaced, OnPath, While}
 use Rattle.olc_state.specs.inner.TailFacts.{CaseFacts, IsConfirmed, IsPresent, LargeCase, SmallCase, WaitsForAnswer, WaitsFor, WritesAtKey, found, path_to}
 use Rattle.olc_state.specs.inner.Tails.{case_slots, case_spots, case_work, pair_spots}
-use Rattle.olc_state.specs.inner.Tasks.{IsOpen, closed, key_bytes, restarted}
+use Rattle.olc_state.specs.inner.Tasks.{IsOpen, MaySee, closed, key_bytes, restarted}
 use Rattle.olc_state.specs.inner.Turns.{IsRead, MayFollow, ShowsNodes, cleanup_work, work_of}
 use Rattle.olc_state.specs.inner.World.{PlacedNode, NodeMap}
 use Rattle.olc_state.proofs.Contents.{kept_there}
 use Rattle.olc_state.proofs.Options.{none_some}
 use Rattle.olc_state.proofs.Records.{IsPlain, at, plain_cleaning, plain_cursor, plain_given, plain_reach}
 use Rattle.olc_state.proofs.Ways.{known_linked, present_here}
-use Rattle.olc_descend.proofs.Checks.{ends_changed, restarts}
+use Rattle.olc_descend.proofs.Checks.{closure_shares, ends_changed, restarts}
 use Rattle.olc_descend.proofs.Courses.{holding_as, still_current}
-use Rattle.olc_descend.proofs.Events.{Within}
+use Rattle.olc_descend.proofs.Events.{Within, ends_at_none}
 use Rattle.olc_descend.proofs.Spots.{here_known, put_known}
 use Rattle.olc_decide.specs.declared.presence.Judged.{Judged}
 use Rattle.olc_decide.specs.declared.presence.Judged.TheVariants.{Other, Same, Stores, Removes}
 use Rattle.olc_decide.specs.inner.Judged.{IsAfterAnswer, IsJudgedAnswer, removing, stage_for, value_of}
 use Rattle.olc_decide.proofs.Absent.{work_of_large, writes_by}
+use Rattle.olc_decide.proofs.Present.{payload_same, value_same}
 
 -- WHAT AN ANSWER STORES, by the kind of its call
 wants_same : {M : Type 0} (x y : Option M) → (let a : Asking M = Wants x in a ≡ Wants y) → x ≡ y
@@ -109,6 +111,11 @@ module _ {M : Type 0} where
   confirm_given Granted same task a c =
       let o = c.writes.opened in
       change_asks same o.op task.asking c.value c.writes.value (subst (λ (z : Outline). HasClosure z) (sym o.outline) c.closure) c.writes.change
+
+-- what is there
+some_is : {M : Type 0} (x : Option M) → IsSome x → (v : M) × (x ≡ Some v)
+some_is None h = cc
+some_is (Some v) h = (v, refl)
 
 -- one of the two words of a pair
 here_within : (pair : NodePair) → Within ((pair.here.slot, pair.here.word) ∷ []) (pair_spots pair)
@@ -183,7 +190,7 @@ module _ {M : Type 0} (Granted : Type 0) (same : M → M → Bool) (t : NodeMap 
         let closure : HasClosure (outline_of o.op) = subst (λ (z : Outline). HasClosure z) (sym o.outline) waits.closure in
         let change = subst (λ (z : Option M). IsChange same o.op (Given z answer) (Some v) (value_of (Some o.op) answer)) (sym (asked_seen waits ∙ seen)) (change_answered same o.op v answer closure) in
         writes_by same Granted (answered task old answer returns) (Some v) (value_of task.op answer) (given_open waits)
-        (subst (λ (z : Option (Op M)). IsChange same o.op (Given old answer) (Some v) (value_of z answer)) (sym o.op_is) change) (λ sees. seen)
+        (subst (λ (z : Option (Op M)). IsChange same o.op (Given old answer) (Some v) (value_of z answer)) (sym o.op_is) change) (λ sees. seen) waits.read
 
     absent_writes : WaitsFor Granted same task → WritesAtKey Granted same (answered task old answer returns) None
     unfolding given_open
@@ -191,7 +198,7 @@ module _ {M : Type 0} (Granted : Type 0) (same : M → M → Bool) (t : NodeMap 
         let o = waits.waits.opened in
         let inserts : IsOrInsert (outline_of o.op) = subst (λ (z : Outline). IsOrInsert z) (sym o.outline) waits.inserts in
         let change = subst (λ (z : Option M). IsChange same o.op (Given z answer) None (value_of (Some o.op) answer)) (sym (asked_seen waits.waits ∙ waits.none)) (change_inserts same o.op answer inserts) in
-        (writes_by same Granted (answered task old answer returns) None (value_of (Some o.op) answer) (given_open waits.waits) change (λ sees. waits.none)).0
+        (writes_by same Granted (answered task old answer returns) None (value_of (Some o.op) answer) (given_open waits.waits) change (λ sees. waits.none) waits.waits.read).0
 
     -- THE KEY IS PRESENT
     module _ (pair : NodePair) (only : Bool) (facts : Facts Granted same t root pin (at (Answer (case.Present pair only)) task)) where
@@ -203,6 +210,10 @@ module _ {M : Type 0} (Granted : Type 0) (same : M → M → Bool) (t : NodeMap 
 
       present_while : While t pair.here (IsPresent Granted same only task)
       present_while = facts.at.2
+
+      -- it writes, whatever the current value is by then
+      writing : (at_key : Option M) × WritesAtKey Granted same (answered task old answer returns) at_key
+      writing = let seen = some_is (seen_payload task.last) facts.at.3 in (Some seen.0, (present_writes waits_here seen.0 seen.1).0)
 
       writes_here : (b : PlacedNode M) → IsPresent Granted same only task b → (w : WritesAtKey Granted same (answered task old answer returns) (payload_in (found b (key_bytes task)))) × (w.value ≡ value_of task.op answer)
       writes_here b p =
@@ -226,8 +237,9 @@ module _ {M : Type 0} (Granted : Type 0) (same : M → M → Bool) (t : NodeMap 
           })
           (λ z h. elim h [ inl e ↦ inl e | inr never ↦ absurd never ]) (λ z h. h) (omega arith)
 
-      puts : IsRead Granted same t root pin (at (Answer (case.Present pair only)) task) env (at (Tail (Upgrade (path_to pair) Entry)) (answered task old answer returns)) (report_of kind.Answer None 0 true) Going
-      puts =
+      puts : ((new v : M) → value_of task.op answer ≡ Some new → task.asking ≡ Wants (Some v) → same new v ≡ false)
+          → IsRead Granted same t root pin (at (Answer (case.Present pair only)) task) env (at (Tail (Upgrade (path_to pair) Entry)) (answered task old answer returns)) (report_of kind.Answer None 0 true) Going
+      puts differs =
           hears (case.Present pair only) (Tail (Upgrade (path_to pair) Entry)) refl refl refl waits_here (λ z w h. h)
           (record {
             small = facts.small;
@@ -236,7 +248,15 @@ module _ {M : Type 0} (Granted : Type 0) (same : M → M → Bool) (t : NodeMap 
               on_here,
               λ b h e.
                   let p = present_while b h e in
-                  record { writes = (writes_here b p).0; is = (p.full, λ none. absurd (none_some (Payload p.value) (sym none ∙ p.at_key))) },
+                  let w = writes_here b p in
+                  record {
+                    writes = w.0;
+                    is = (p.full, λ none. absurd (none_some (Payload p.value) (sym none ∙ p.at_key)));
+                    differs = λ was new there stored.
+                        subst (λ (z : M). same new z ≡ false) (payload_same p.value was (sym p.at_key ∙ there))
+                        (differs new p.value (sym w.1 ∙ (sym w.0.stores ∙ stored)) (waits_here.wants ∙ ap (λ (z : Option M). Wants z) p.seen));
+                  },
+              writing,
             );
           })
           (λ z h. h) (λ z h. h) (omega arith)
@@ -251,6 +271,7 @@ module _ {M : Type 0} (Granted : Type 0) (same : M → M → Bool) (t : NodeMap 
             at = (
               record {
                 opened = given_open waits_here;
+                writing = writing;
                 over = record { way = on_here.above.1; apart = on_here.apart pair.above refl };
                 here = on_here.here;
                 work = λ b h e.
@@ -267,12 +288,12 @@ module _ {M : Type 0} (Granted : Type 0) (same : M → M → Bool) (t : NodeMap 
     removes : (pair : NodePair) (only : Bool) → Facts Granted same t root pin (at (Answer (case.Present pair only)) task) → value_of task.op answer ≡ None
         → IsRead Granted same t root pin (at (Answer (case.Present pair only)) task) env (at (Tail (removing pair only)) (answered task old answer returns)) (report_of kind.Answer None 0 true) Going
     removes pair true facts none = takes_out pair true facts refl none
-    removes pair false facts none = puts pair false facts
+    removes pair false facts none = puts pair false facts (λ new v e asked. absurd (none_some new (sym none ∙ e)))
 
-    says_present : (pair : NodePair) (only : Bool) (j : Judged) → IsJudgedAnswer task.op task.asking answer j → Facts Granted same t root pin (at (Answer (case.Present pair only)) task)
+    says_present : (pair : NodePair) (only : Bool) (j : Judged) → IsJudgedAnswer same task.op task.asking answer j → Facts Granted same t root pin (at (Answer (case.Present pair only)) task)
         → IsRead Granted same t root pin (at (Answer (case.Present pair only)) task) env (at (stage_for pair only j) (answered task old answer returns)) (report_of kind.Answer None 0 true) Going
     says_present pair only Same h facts = confirms pair only facts h.0 h.1 h.2
-    says_present pair only Stores h facts = puts pair only facts
+    says_present pair only Stores h facts = puts pair only facts (λ new v e asked. subst (λ (z : M). same z v ≡ false) (value_same h.0 new (sym h.1 ∙ e)) (h.2 v asked))
     says_present pair only Removes h facts = removes pair only facts h
     says_present pair only Other h facts = absurd h
 
@@ -290,7 +311,8 @@ module _ {M : Type 0} (Granted : Type 0) (same : M → M → Bool) (t : NodeMap 
             facts.at.1,
             λ b h e.
                 let f = while b h e in
-                record { writes = subst (λ (z : Option (Child M)). WritesAtKey Granted same (answered task old answer returns) (payload_in z)) (sym f.0) (absent_writes waits); is = f.1 },
+                record { writes = subst (λ (z : Option (Child M)). WritesAtKey Granted same (answered task old answer returns) (payload_in z)) (sym f.0) (absent_writes waits); is = f.1; differs = λ was new there stored. absurd (none_some (Payload was) (sym f.0 ∙ there)) },
+            (None, absent_writes waits),
           );
         })
         (λ z h. h) (λ z h. h) (omega arith)
@@ -306,6 +328,7 @@ module _ {M : Type 0} (Granted : Type 0) (same : M → M → Bool) (t : NodeMap 
           at = (
             record {
               opened = given_open waits.waits;
+              writing = (None, absent_writes waits);
               over = facts.at.1;
               here = facts.at.2;
               work = λ b h e. let f = while b h e in work_of_large Granted same large (answered task old answer returns) b f.0 f.1 (absent_writes waits);
@@ -317,7 +340,7 @@ module _ {M : Type 0} (Granted : Type 0) (same : M → M → Bool) (t : NodeMap 
         (λ z h. h) (λ z h. h) (omega arith)
 
     -- WHAT COMES AFTER IT
-    pub answer_taken : (c : Case) (next : Stage) → IsAfterAnswer task c answer next → Facts Granted same t root pin (at (Answer c) task)
+    pub answer_taken : (c : Case) (next : Stage) → IsAfterAnswer same task c answer next → Facts Granted same t root pin (at (Answer c) task)
         → IsRead Granted same t root pin (at (Answer c) task) env (at next (answered task old answer returns)) (report_of kind.Answer None 0 true) Going
     answer_taken (case.Present pair only) next h facts =
         subst (λ (z : Stage). IsRead Granted same t root pin (at (Answer (case.Present pair only)) task) env (at z (answered task old answer returns)) (report_of kind.Answer None 0 true) Going) (sym h.2)
@@ -351,13 +374,19 @@ module _ {M : Type 0} (Granted : Type 0) (same : M → M → Bool) (t : NodeMap 
       stays : IsChange same confirmed.writes.opened.op task.asking (Some confirmed.value) (Some confirmed.value)
       stays = subst (λ (z : Option M). IsChange same confirmed.writes.opened.op task.asking (Some confirmed.value) z) confirmed.stays confirmed.writes.change
 
+      -- its last Read gave a payload
+      ends_here : (s : State M) → ShowsNodes t root s → KeyEnds s (flight pin (at (Confirm spot) task))
+      ends_here s shows =
+          let sees : MaySee Granted same task = λ shares. absurd (closure_shares task.outline confirmed.closure shares) in
+          ends_at_none s (flight pin (at (Confirm spot) task)) _ (seen_child task.last) (λ slot e. none_some confirmed.value (ap (λ z. payload_in z) (sym e) ∙ confirmed.writes.seen sees))
+
       pub confirm_ends : (old answer : Option M) → task.asking ≡ Given old answer
           → IsRead Granted same t root pin (at (Confirm spot) task) env (at Finish (closed progress.Decided task)) (report_of kind.Check (Some spot.slot) 0 true) (Decided (reply_with task.outline old task.returns))
       confirm_ends old answer given =
           let asked : (answer : Option M) × (task.asking ≡ Given (Some confirmed.value) answer) = confirm_given Granted same task a confirmed in
           let e : old ≡ Some confirmed.value = given_same old (Some confirmed.value) answer asked.0 (sym given ∙ asked.1) in
           subst (λ (z : Option M). IsRead Granted same t root pin (at (Confirm spot) task) env (at Finish (closed progress.Decided task)) (report_of kind.Check (Some spot.slot) 0 true) (Decided (reply_with task.outline z task.returns))) (sym e)
-          (ends_changed Granted same t root pin task env placed (record { above = None; here = spot }) a here word (Confirm spot) refl refl tt facts.small spot_known (inl refl) (λ p. omega arith) (Some confirmed.value) confirmed.writes.seen there
+          (ends_changed Granted same t root pin task env placed (record { above = None; here = spot }) a here word (Confirm spot) refl refl tt facts.small spot_known (inl refl) (λ p. omega arith) confirmed.writes.read ends_here (Some confirmed.value) confirmed.writes.seen there
           confirmed.writes.opened stays)
 
 -- THE SAME WITH PAYLOADS REPLACED BY THEIR MEANINGS

@@ -1,5 +1,5 @@
 -- What a call does with the current value of its key, with payloads replaced by their meanings.
-use Rattle.std.proofs.Common.{◌≡◌, Option, Some, refl}
+use Rattle.std.proofs.Common.{◌≡◌, Bool, Option, Some, refl}
 use Rattle.spec_olc.specs.Meaning.{in_some, op_of}
 use Rattle.spec_olc.specs.declared.types.Asking.{Asking}
 use Rattle.spec_olc.specs.declared.types.Op.{Op}
@@ -8,10 +8,10 @@ use Rattle.olc_decide.specs.declared.presence.Judged.{Judged}
 use Rattle.olc_decide.specs.declared.presence.Judged.TheVariants.{Other, Same, Stores, Removes}
 use Rattle.olc_decide.specs.inner.Judged.{IsAgainst, IsJudgedAnswer, otherwise_of, value_of}
 
-module _ {M : Type 0} where
-  pub answered_by : (op : Option (Op M)) (asking : Asking M) (answer : Option M) (v : M) → value_of op answer ≡ Some v → (j : Judged) → IsAgainst asking v j → IsJudgedAnswer op asking answer j
+module _ {M : Type 0} (same : M → M → Bool) where
+  pub answered_by : (op : Option (Op M)) (asking : Asking M) (answer : Option M) (v : M) → value_of op answer ≡ Some v → (j : Judged) → IsAgainst same asking v j → IsJudgedAnswer same op asking answer j
   answered_by op asking answer v e Same h = (v, h, e)
-  answered_by op asking answer v e Stores h = (v, e)
+  answered_by op asking answer v e Stores h = (v, e, h)
   answered_by op asking answer v e Other h = absurd h
   answered_by op asking answer v e Removes h = absurd h
 

@@ -1,12 +1,14 @@
 -- WHAT A CALL DOES if its key is present: it is decided, has to write, or asks its closure.
-use Rattle.std.proofs.Common.{◌≡◌, ℕ, Bool, true, false, IsTrue, length, Option, Some, None, Err, inl, inr, refl, sym, subst, ap, ◌∙◌, arith}
+use Rattle.std.proofs.Common.{◌≡◌, ℕ, Bool, true, false, IsTrue, length, Option, Some, None, IsSome, Err, inl, inr, refl, sym, subst, ap, ◌∙◌, arith}
 use Rattle.node_table.specs.declared.child.Child.{Child}
-use Rattle.node_table.specs.declared.child.Child.TheVariants.{Payload}
+use Rattle.node_table.specs.declared.child.Child.TheVariants.{Payload, Node as below_at}
 use Rattle.spec_olc.specs.Calls.{Outline, IsPoint, key_of, outline_of}
 use Rattle.spec_olc.specs.Content.{IsCurrent}
 use Rattle.spec_olc.specs.Kinds.{report_of}
 use Rattle.spec_olc.specs.Local.{SharesNone, payload_in, seen_payload}
 use Rattle.spec_olc.specs.Meaning.{in_some, op_of}
+use Rattle.spec_olc.specs.Reading.{KeyEnds}
+use Rattle.spec_olc.specs.State.{State}
 use Rattle.spec_olc.specs.declared.types.Asking.{Asking}
 use Rattle.spec_olc.specs.declared.types.Asking.TheVariants.{Fresh}
 use Rattle.spec_olc.specs.declared.types.Env.{Env}
@@ -26,20 +28,30 @@ use Rattle.olc_state.specs.declared.tail.Small.TheVariants.{Entry}
 use Rattle.olc_state.specs.declared.tail.Tail.TheVariants.{Upgrade, UpgradeAbove}
 use Rattle.olc_state.specs.inner.Effects.{HasClosure, IsChange, IsLeft, reply_with}
 use Rattle.olc_state.specs.inner.Facts.{Facts}
+use Rattle.olc_state.specs.inner.Shown.{flight}
 use Rattle.olc_state.specs.inner.Tables.{IsPlaced, OnPath}
 use Rattle.olc_state.specs.inner.TailFacts.{IsLarge, IsPresent, IsSmall, WritesAtKey, found, path_to}
 use Rattle.olc_state.specs.inner.Tasks.{IsFreshly, MaySee, closed, key_bytes}
-use Rattle.olc_state.specs.inner.Turns.{IsRead}
+use Rattle.olc_state.specs.inner.Turns.{IsRead, ShowsNodes}
 use Rattle.olc_state.specs.inner.World.{PlacedNode, NodeMap}
 use Rattle.olc_state.proofs.Options.{none_some}
 use Rattle.olc_state.proofs.Records.{at}
-use Rattle.olc_descend.proofs.Checks.{asking, asking_waits, asks_at, asks_present, closure_shares, ends_changed, ends_left, keeps_old, keeps_question, keeps_spare, present_now, present_there, sees_found}
+use Rattle.olc_descend.proofs.Checks.{asking, asking_waits, asks_at, asks_present, closure_shares, ends_changed, ends_left, has_read, keeps_old, keeps_question, keeps_spare, present_now, present_there, sees_found, way_ends_here}
 use Rattle.olc_descend.proofs.Spots.{here_known}
 use Rattle.olc_decide.specs.declared.presence.Judged.{Judged}
 use Rattle.olc_decide.specs.declared.presence.Judged.TheVariants.{Other, Same, Stores, Removes}
 use Rattle.olc_decide.specs.inner.Judged.{IsExchange, IsGet, IsInsert, IsJudged, IsRemove, handed, removing}
 use Rattle.olc_decide.specs.inner.Met.{IsPresentAt}
 use Rattle.olc_decide.proofs.Absent.{all_here, goes_large, goes_small, writes_by}
+
+pub value_same : {M : Type 0} (v w : M) → Some v ≡ Some w → v ≡ w
+value_same v w e = cc
+
+pub payload_same : {M : Type 0} (v w : M) → (let c : Child M = Payload v in Some c ≡ Some (Payload w)) → v ≡ w
+payload_same v w e = cc
+
+payload_node : {M : Type 0} (v : M) (slot : ℕ) → (let c : Child M = Payload v in Some c ≡ Some (below_at slot)) → ⊥
+payload_node v slot e = cc
 
 -- these calls see payloads
 get_shares : (o : Outline) → IsGet o → SharesNone o None → ⊥
@@ -77,9 +89,12 @@ module _ {M : Type 0} (same : M → M → Bool) where
   removed_by (Remove k) asking fresh h v = (fresh, refl)
   removed_by op asking fresh h v = absurd h
 
-  inserted_by : (op : Op M) (asking : Asking M) → asking ≡ Fresh → IsInsert (outline_of op) → (v : M) → (x : M) × IsChange same op asking (Some v) (Some x)
-  inserted_by (Insert k x) asking fresh h v = (x, (fresh, refl))
-  inserted_by op asking fresh h v = absurd h
+  inserted_by : (op : Op M) (asking : Asking M) → asking ≡ Fresh → IsInsert (outline_of op) → (v : M) → (j : Judged) → (j ≡ Same → ⊥) → IsJudged same (Some op) (Some (Payload v)) j → (x : M) × IsChange same op asking (Some v) (Some x) × (same x v ≡ false)
+  inserted_by (Insert k x) asking fresh h v Stores not told = (x, (fresh, refl), told)
+  inserted_by (Insert k x) asking fresh h v Same not told = absurd (not refl)
+  inserted_by (Insert k x) asking fresh h v Other not told = absurd told
+  inserted_by (Insert k x) asking fresh h v Removes not told = absurd told
+  inserted_by op asking fresh h v j not told = absurd h
 
   -- an Insert whose payload is the current value already
   kept_by : (op : Op M) (asking : Asking M) → asking ≡ Fresh → IsInsert (outline_of op) → (v : M) → IsJudged same (Some op) (Some (Payload v)) Same → IsChange same op asking (Some v) (Some v) × (handed (Some op) ≡ Some v)
@@ -90,13 +105,13 @@ module _ {M : Type 0} (same : M → M → Bool) where
   abbrev IsExchanging : Op M → Asking M → M → Judged → Type 0
   IsExchanging op asking v Other = IsLeft same op (Some v) (Exchanged (Err (Some v)))
   IsExchanging op asking v Same = IsChange same op asking (Some v) (Some v)
-  IsExchanging op asking v Stores = (x : M) × IsChange same op asking (Some v) (Some x)
+  IsExchanging op asking v Stores = (x : M) × IsChange same op asking (Some v) (Some x) × (same x v ≡ false)
   IsExchanging op asking v Removes = IsChange same op asking (Some v) None
 
   exchanged_to : (k : ℕ) (old : M) (new : Option M) (asking : Asking M) → asking ≡ Fresh → (v : M) (j : Judged) → IsJudged same (Some (CompareExchange k old new)) (Some (Payload v)) j → IsExchanging (CompareExchange k old new) asking v j
   exchanged_to k old new asking fresh v Other h = (h, refl)
   exchanged_to k old new asking fresh v Same h = (fresh, h.0, sym h.1)
-  exchanged_to k old new asking fresh v Stores h = (h.1.0, (fresh, h.0, sym h.1.1))
+  exchanged_to k old new asking fresh v Stores h = (h.1.0, (fresh, h.0, sym h.1.1), h.1.2)
   exchanged_to k old new asking fresh v Removes h = (fresh, h.0, sym h.1)
 
   exchanged_by : (op : Op M) (asking : Asking M) → asking ≡ Fresh → IsExchange (outline_of op) → (v : M) (j : Judged) → IsJudged same (Some op) (Some (Payload v)) j → IsExchanging op asking v j
@@ -116,6 +131,12 @@ module _ {M : Type 0} (Granted : Type 0) (same : M → M → Bool) (t : NodeMap 
   there_here = present.0.1
 
   module _ (point : IsPoint task.outline) where
+    read_here : IsSome task.last
+    read_here = has_read Granted same t root pin task env placed (path_to pair) a here word facts point
+
+    ends_here : (s : State M) → ShowsNodes t root s → KeyEnds s (flight pin (at (Check (path_to pair)) task))
+    ends_here s shows = way_ends_here Granted same t root pin task env placed (path_to pair) a here word facts point (λ slot there. payload_node current slot (sym there_here ∙ there)) s
+
     seen_here : MaySee Granted same task → seen_payload task.last ≡ Some current
     seen_here sees = sees_found Granted same t root pin task env placed (path_to pair) a here word facts point sees ∙ ap payload_in there_here
 
@@ -126,14 +147,18 @@ module _ {M : Type 0} (Granted : Type 0) (same : M → M → Bool) (t : NodeMap 
     writes_here value change =
         writes_by same Granted task (payload_in (found a (key_bytes task))) value fresh_here.opened
         (subst (λ (z : Option (Child M)). IsChange same fresh_here.opened.op task.asking (payload_in z) value) (sym there_here) change)
-        (λ sees. sees_found Granted same t root pin task env placed (path_to pair) a here word facts point sees)
+        (λ sees. sees_found Granted same t root pin task env placed (path_to pair) a here word facts point sees) read_here
 
     -- it replaces the current payload, or removes it
-    goes_entry : WritesAtKey Granted same task (payload_in (found a (key_bytes task)))
+    goes_entry : (w : WritesAtKey Granted same task (payload_in (found a (key_bytes task)))) → ((new : M) → w.value ≡ Some new → same new current ≡ false)
         → IsRead Granted same t root pin (at (Check (path_to pair)) task) env (at (Tail (Upgrade (path_to pair) Entry)) task) (report_of kind.Check (Some pair.here.slot) 0 true) Going
-    goes_entry w =
+    goes_entry w other =
         let is : IsSmall Entry a (key_bytes task) = (present.1, λ none. absurd (none_some (Payload current) (sym none ∙ there_here))) in
-        goes_small Granted same t root pin task env placed (path_to pair) a here word facts Entry (record { writes = w; is = is })
+        goes_small Granted same t root pin task env placed (path_to pair) a here word facts Entry (record {
+          writes = w;
+          is = is;
+          differs = λ old new there stored. subst (λ (z : M). same new z ≡ false) (payload_same current old (sym there_here ∙ there)) (other new (sym w.stores ∙ stored));
+        })
 
     -- the only one of its leaf goes with the leaf
     goes_detach : (w : WritesAtKey Granted same task (payload_in (found a (key_bytes task)))) → w.value ≡ None → length a.node.children ≡ 1
@@ -146,7 +171,7 @@ module _ {M : Type 0} (Granted : Type 0) (same : M → M → Bool) (t : NodeMap 
     goes_removing : (one : Bool) → (IsTrue one → length a.node.children ≡ 1) → (w : WritesAtKey Granted same task (payload_in (found a (key_bytes task)))) → w.value ≡ None
         → IsRead Granted same t root pin (at (Check (path_to pair)) task) env (at (Tail (removing pair one)) task) (report_of kind.Check (Some pair.here.slot) 0 true) Going
     goes_removing true alone w none = goes_detach w none (alone refl)
-    goes_removing false alone w none = goes_entry w
+    goes_removing false alone w none = goes_entry w (λ new e. absurd (none_some new (sym none ∙ e)))
 
     removes : IsChange same fresh_here.opened.op task.asking (Some current) None
         → IsRead Granted same t root pin (at (Check (path_to pair)) task) env (at (Tail (removing pair only)) task) (report_of kind.Check (Some pair.here.slot) 0 true) Going
@@ -155,13 +180,13 @@ module _ {M : Type 0} (Granted : Type 0) (same : M → M → Bool) (t : NodeMap 
     ends_as_left : (reply : Reply M) → IsLeft same fresh_here.opened.op (Some current) reply
         → IsRead Granted same t root pin (at (Check (path_to pair)) task) env (at Finish (closed progress.Decided task)) (report_of kind.Check (Some pair.here.slot) 0 true) (Decided reply)
     ends_as_left reply left =
-        ends_left Granted same t root pin task env placed (path_to pair) a here word (Check (path_to pair)) refl refl tt facts.small (here_known (path_to pair)) (inl refl) (λ p. omega arith) (Some current) seen_here
+        ends_left Granted same t root pin task env placed (path_to pair) a here word (Check (path_to pair)) refl refl tt facts.small (here_known (path_to pair)) (inl refl) (λ p. omega arith) read_here ends_here (Some current) seen_here
         (present_there Granted same t root pin task env placed (path_to pair) a here word facts point current there_here) fresh_here reply left
 
     ends_as_changed : IsChange same fresh_here.opened.op task.asking (Some current) (Some current)
         → IsRead Granted same t root pin (at (Check (path_to pair)) task) env (at Finish (closed progress.Decided task)) (report_of kind.Check (Some pair.here.slot) 0 true) (Decided (reply_with task.outline (Some current) task.returns))
     ends_as_changed change =
-        ends_changed Granted same t root pin task env placed (path_to pair) a here word (Check (path_to pair)) refl refl tt facts.small (here_known (path_to pair)) (inl refl) (λ p. omega arith) (Some current) seen_here
+        ends_changed Granted same t root pin task env placed (path_to pair) a here word (Check (path_to pair)) refl refl tt facts.small (here_known (path_to pair)) (inl refl) (λ p. omega arith) read_here ends_here (Some current) seen_here
         (present_there Granted same t root pin task env placed (path_to pair) a here word facts point current there_here) fresh_here.opened change
 
   -- a Get
@@ -195,21 +220,25 @@ module _ {M : Type 0} (Granted : Type 0) (same : M → M → Bool) (t : NodeMap 
       (record {
         small = facts.small;
         at = (
-          asking_waits Granted same task task.spare fresh_here closure spare,
+          asking_waits Granted same task task.spare fresh_here (read_here point) closure spare,
           on,
           all_here t pair.here a here (IsPresent Granted same only (asking task task.spare)) (record { full = present.1; value = current; at_key = there_here; seen = seen; alone = present.2.0 }),
+          subst (λ (z : Option M). IsSome z) (sym seen) refl,
         );
       })
       (λ z h. inr (inl h)) (λ served. omega arith)
-      (λ s shows. subst (λ (v : Option M). IsCurrent s (key_of task.outline) v) (sym (spare ∙ seen)) (present_now Granted same t root pin task env placed (path_to pair) a here word facts point current there_here s shows)))
+      (λ s shows. subst (λ (v : Option M). IsCurrent s (key_of task.outline) v) (sym (spare ∙ seen)) (present_now Granted same t root pin task env placed (path_to pair) a here word facts point current there_here s shows)) (read_here point) (ends_here point))
 
   -- an Insert
   module _ (insert : IsInsert task.outline) where
-    pub insert_stores : IsRead Granted same t root pin (at (Check (path_to pair)) task) env (at (Tail (Upgrade (path_to pair) Entry)) task) (report_of kind.Check (Some pair.here.slot) 0 true) Going
-    insert_stores =
+    pub insert_stores : (child : Option (Child M)) → found a (key_bytes task) ≡ child → (j : Judged) → (j ≡ Same → ⊥) → IsJudged same task.op child j → IsRead Granted same t root pin (at (Check (path_to pair)) task) env (at (Tail (Upgrade (path_to pair) Entry)) task) (report_of kind.Check (Some pair.here.slot) 0 true) Going
+    insert_stores child is j not judged =
         let point = point_by IsInsert (λ a b n h. h) task.outline insert in
-        let change = inserted_by same fresh_here.opened.op task.asking fresh_here.fresh (subst (λ (o : Outline). IsInsert o) (sym fresh_here.opened.outline) insert) current in
-        goes_entry point (writes_here point (Some change.0) change.1).0
+        let told : IsJudged same (Some fresh_here.opened.op) (Some (Payload current)) j =
+        subst (λ (z : Option (Op M)). IsJudged same z (Some (Payload current)) j) fresh_here.opened.op_is (subst (λ (z : Option (Child M)). IsJudged same task.op z j) (sym is ∙ there_here) judged) in
+        let change = inserted_by same fresh_here.opened.op task.asking fresh_here.fresh (subst (λ (o : Outline). IsInsert o) (sym fresh_here.opened.outline) insert) current j not told in
+        let w = writes_here point (Some change.0) change.1 in
+        goes_entry point w.0 (λ new e. subst (λ (z : M). same z current ≡ false) (value_same change.0 new (sym w.1 ∙ e)) change.2)
 
     pub insert_same : (child : Option (Child M)) → found a (key_bytes task) ≡ child → IsJudged same task.op child Same
         → IsRead Granted same t root pin (at (Check (path_to pair)) task) env (at Finish (closed progress.Decided task)) (report_of kind.Check (Some pair.here.slot) 0 true) (Decided (reply_with task.outline (handed task.op) task.returns))
@@ -248,7 +277,8 @@ module _ {M : Type 0} (Granted : Type 0) (same : M → M → Bool) (t : NodeMap 
     exchange_stores judged =
         let point = point_by IsExchange (λ a b n h. h) task.outline exchange in
         let change = exchange_says Stores judged in
-        goes_entry point (writes_here point (Some change.0) change.1).0
+        let w = writes_here point (Some change.0) change.1 in
+        goes_entry point w.0 (λ new e. subst (λ (z : M). same z current ≡ false) (value_same change.0 new (sym w.1 ∙ e)) change.2)
 
     pub exchange_removes : IsJudged same task.op child Removes
         → IsRead Granted same t root pin (at (Check (path_to pair)) task) env (at (Tail (removing pair only)) task) (report_of kind.Check (Some pair.here.slot) 0 true) Going

@@ -2,7 +2,7 @@
 //!
 //! Tested in `tools/dev/try-schedules`.
 
-ghost use Rattle.std.specs.Prelude.{◌≡◌, ◌≢◌, ◌↔◌, IsTrue};
+ghost use Rattle.std.specs.Prelude.{◌≢◌, ◌↔◌, IsTrue};
 ghost use Rattle.olc_state.specs.inner.Tables.{IsPlaced};
 ghost use Rattle.olc_state.specs.inner.Meant.{meant_table};
 ghost use Rattle.olc_state.specs.inner.Scans.{IsAtEnd};
@@ -31,10 +31,6 @@ pub fn is_at_end(stage: &Stage) -> bool
         Stage::Finish => true,
         Stage::Scan(_, scan) => match scan {
             Scan::Finish => true,
-            _ => false,
-        },
-        Stage::Seek(_, seek) => match seek {
-            Seek::Finish => true,
             _ => false,
         },
         _ => false,

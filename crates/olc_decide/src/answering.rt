@@ -98,7 +98,7 @@ fn given<P: Drop>(
 
 // What comes after an answer.
 fn after_answer<P: HasMeaning>(task: &Task<P>, case: Case, answer: &Option<P>) -> Stage
-    ensures { IsAfterAnswer (meant_task P.meaning task.now) case (in_some P.meaning answer.now)
+    ensures { IsAfterAnswer P.same_meaning (meant_task P.meaning task.now) case (in_some P.meaning answer.now)
         result }
 {
     let Case::Present(pair, only) = case else {
@@ -113,7 +113,7 @@ fn after_answer<P: HasMeaning>(task: &Task<P>, case: Case, answer: &Option<P>) -
 
 // What a call does with the payload that its closure was asked with.
 fn judge<P: HasMeaning>(task: &Task<P>, answer: &Option<P>) -> Judged
-    ensures { IsJudgedAnswer (in_some (op_of P.meaning) task.now.op)
+    ensures { IsJudgedAnswer P.same_meaning (in_some (op_of P.meaning) task.now.op)
         (asking_of P.meaning task.now.asking) (in_some P.meaning answer.now) result }
 {
     match answer {
@@ -137,7 +137,7 @@ fn otherwise<P>(op: &Option<Op<P>>) -> Option<&P>
 
 // Whether a value is what the closure was asked with.
 fn against<P: HasMeaning>(asking: &Asking<P>, value: &P) -> Judged
-    ensures { IsAgainst (asking_of P.meaning asking.now) (P.meaning value.now) result }
+    ensures { IsAgainst P.same_meaning (asking_of P.meaning asking.now) (P.meaning value.now) result }
 {
     match asking {
         Asking::Wants(Some(old)) => {

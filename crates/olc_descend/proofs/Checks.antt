@@ -1,7 +1,8 @@
 -- The call after a Check.
-use Rattle.std.proofs.Common.{◌≡◌, ◌≢◌, ℕ, ◌<◌, ◌^◌, Bool, true, false, [], Option, Some, None, ◌⊎◌, inl, inr, refl, sym, subst, ap, ◌∙◌, arith}
+use Rattle.std.proofs.Common.{◌≡◌, ◌≢◌, ℕ, ◌<◌, ◌^◌, Bool, true, false, [], Option, Some, None, IsSome, ◌⊎◌, inl, inr, refl, sym, subst, ap, ◌∙◌, arith}
+use Rattle.spec_map.proofs.MapLaws.{lookup-put_same}
 use Rattle.spec_map.specs.Map.{Pairs, lookup}
-use Rattle.node_table.specs.Key.{next_byte}
+use Rattle.node_table.specs.Key.{Begins, next_byte}
 use Rattle.node_table.specs.TableNode.{TableNode}
 use Rattle.node_table.specs.declared.child.Child.{Child}
 use Rattle.node_table.specs.declared.child.Child.TheVariants.{Payload, Node as below_at}
@@ -9,8 +10,8 @@ use Rattle.spec_olc.specs.Calls.{Outline, IsPoint, bytes_of, key_of}
 use Rattle.spec_olc.specs.Content.{IsContent, IsCurrent}
 use Rattle.spec_olc.specs.Deciding.{AppliesCall}
 use Rattle.spec_olc.specs.Kinds.{DoesAs, report_of}
-use Rattle.spec_olc.specs.Local.{AsksWith, SharesNone, payload_in, seen_payload}
-use Rattle.spec_olc.specs.Reading.{IsSeenOf, child_for}
+use Rattle.spec_olc.specs.Local.{AsksWith, SharesNone, payload_in, seen_child, seen_payload}
+use Rattle.spec_olc.specs.Reading.{EndsAt, IsSeenOf, KeyEnds, child_for}
 use Rattle.spec_olc.specs.State.{State, CallState, back, settled, with_call}
 use Rattle.spec_olc.specs.declared.types.Asking.TheVariants.{Wants}
 use Rattle.spec_olc.specs.declared.types.Env.{Env}
@@ -27,9 +28,9 @@ use Rattle.olc_state.specs.declared.stage.Stage.TheVariants.{TakeRoot, Read, Che
 use Rattle.olc_state.specs.declared.stage.Task.{Task}
 use Rattle.olc_state.specs.declared.tail.Case.{Case}
 use Rattle.olc_state.specs.inner.Effects.{HasClosure, IsChange, IsLeft, IsOrInsert, reply_with}
-use Rattle.olc_state.specs.inner.Tables.{IsPlaced, IsIn, LedTo, OnPath}
+use Rattle.olc_state.specs.inner.Tables.{IsPlaced, IsIn, Known, LedTo, OnPath, TestOf}
 use Rattle.olc_state.specs.inner.TailFacts.{WaitsForAnswer, WaitsFor, found}
-use Rattle.olc_state.specs.inner.Tails.{case_slots, case_spots, case_work}
+use Rattle.olc_state.specs.inner.Tails.{case_slots, case_spots, case_work, path_spots}
 use Rattle.olc_state.specs.inner.Tasks.{IsFreshly, IsOpen, Agrees, Saw, SawNode, MaySee, closed, key_bytes, restarted}
 use Rattle.olc_state.specs.inner.Facts.{Facts, named_at}
 use Rattle.olc_state.specs.inner.Shown.{cleaning_at, cursor_at, flight, given_at, held_at, made_at, reach_at, spots_of}
@@ -39,11 +40,11 @@ use Rattle.olc_state.proofs.Contents.{current_there, kept_now, none_now}
 use Rattle.olc_state.proofs.Options.{none_some, some_same}
 use Rattle.olc_state.proofs.Reaching.{one, seen_at}
 use Rattle.olc_state.proofs.Ways.{check_absent, check_present, check_below, check_mismatch}
-use Rattle.olc_state.proofs.Unlike.{decided_open}
+use Rattle.olc_state.proofs.Unlike.{decided_open, false_true}
 use Rattle.olc_state.proofs.Records.{IsPlain, at, plain_cleaning, plain_cursor, plain_given, plain_reach}
 use Rattle.olc_state.proofs.Replies.{returned_wants}
 use Rattle.olc_descend.proofs.Courses.{forgets, holding_as, plain_as, still_current, below_other, below_not_root, descends}
-use Rattle.olc_descend.proofs.Events.{Within, check_ok, check_fails, failed_open, looks_on}
+use Rattle.olc_descend.proofs.Events.{Within, check_ok, check_fails, ends_at_none, failed_open, looks_on}
 use Rattle.olc_descend.proofs.Spots.{here_known, above_known, step_down}
 use Rattle.olc_descend.proofs.Takes.{restarted_fresh}
 use Rattle.olc_descend.proofs.Unchanged.{Tells, left_tells, left_leads, same_tells, same_leads}
@@ -136,7 +137,7 @@ module _ {M : Type 0} (Granted : Type 0) (same : M → M → Bool) (t : NodeMap 
           (plain_cursor stage plain (key_of task.outline) ∙ sym (plain_cursor next plain_next (key_of task.outline))) (plain_reach stage plain (key_of task.outline) ∙ sym (plain_reach next plain_next (key_of task.outline)))
           (plain_given stage plain ∙ sym (plain_given next plain_next)) (plain_cleaning stage plain ∙ sym (plain_cleaning next plain_next)) (held ∙ sym held_next) (made ∙ sym made_next))
           (check_ok Granted same s id (flight pin (at stage task)) env (inl fresh.opened.undecided) path.here.slot path.here.word (one a) (seen_at t root s shows path.here.slot a here) known
-          (flight pin (at stage task)) (spots_of next) Going word (looks_on s task.outline (flight pin (at stage task)) (plain_cursor stage plain (key_of task.outline) ∙ sym (plain_reach stage plain (key_of task.outline)))) within);
+          (flight pin (at stage task)) (spots_of next) Going word (looks_on s (flight pin (at stage task)) task.outline _ fresh.opened.point) within);
       carries = λ s shows m content. refl;
     }
 
@@ -180,8 +181,9 @@ module _ {M : Type 0} (Granted : Type 0) (same : M → M → Bool) (t : NodeMap 
         → Within (case_spots case) (spots_of stage) → AsksWith task.outline (seen_payload task.last) old → Facts Granted same t root pin (at (Answer case) (asking task old))
         → ((slot : ℕ) → IsIn slot (case_slots case) → (slot ≡ root) ⊎ (IsIn slot (named_at stage) ⊎ MayFollow t stage task.last slot))
         → (IsPoint task.outline → case_work case < work t task.progress stage) → ((s : State M) → ShowsNodes t root s → IsCurrent s (key_of task.outline) old)
+        → IsSome task.last → ((s : State M) → ShowsNodes t root s → KeyEnds s (flight pin (at stage task)))
         → IsRead Granted same t root pin (at stage task) env (at (Answer case) (asking task old)) (report_of kind.Check (Some path.here.slot) 0 true) (Ask old)
-    asks_at stage case old held made plain fresh known named within asks facts names falls current = record {
+    asks_at stage case old held made plain fresh known named within asks facts names falls current read way_ends = record {
       facts = facts;
       held = refl;
       made = refl;
@@ -198,13 +200,13 @@ module _ {M : Type 0} (Granted : Type 0) (same : M → M → Bool) (t : NodeMap 
           (plain_as stage (key_of task.outline) (record (flight pin (at stage task)) { remembered = case_spots case; asking = Wants old }) [] [] plain refl (inr refl) refl refl held made)
           (check_ok Granted same s id (flight pin (at stage task)) env (inl fresh.opened.undecided) path.here.slot path.here.word (one a) (seen_at t root s shows path.here.slot a here) known
           (record (flight pin (at stage task)) { asking = Wants old }) (case_spots case) (Ask old) word
-          (record { undecided = fresh.opened.undecided; fresh = fresh.fresh; is = asks }, current s shows, refl) within);
+          (record { undecided = fresh.opened.undecided; read = read; fresh = fresh.fresh; is = asks }, current s shows, refl, way_ends s shows) within);
       carries = λ s shows m content. refl;
     }
 
     -- THE CALL IS DECIDED with a reply that leaves the content unchanged
     module _ (stage : Stage) (held : held_at stage ≡ []) (made : made_at stage ≡ []) (plain : IsPlain stage) (small : key_of task.outline < 2 ^ 64) (known : lookup (spots_of stage) path.here.slot ≡ Some path.here.word) (named : IsIn path.here.slot (named_at stage))
-        (more : IsPoint task.outline → 1 < work_of t (at stage task)) where
+        (more : IsPoint task.outline → 1 < work_of t (at stage task)) (read : IsSome task.last) (way_ends : (s : State M) → ShowsNodes t root s → KeyEnds s (flight pin (at stage task))) where
       pub ends : (reply : Reply M) → Tells Granted same (flight pin (at stage task)) reply
           → ((s : State M) → ShowsNodes t root s → (m : Pairs M) → IsContent s m → AppliesCall same m m (flight pin (at stage task)) reply)
           → IsRead Granted same t root pin (at stage task) env (at Finish (closed progress.Decided task)) (report_of kind.Check (Some path.here.slot) 0 true) (Decided reply)
@@ -217,7 +219,7 @@ module _ {M : Type 0} (Granted : Type 0) (same : M → M → Bool) (t : NodeMap 
             subst (λ (z : CallState M). DoesAs Granted same s (with_call s id z) id (flight pin (at stage task)) env (report_of kind.Check (Some path.here.slot) 0 true) (Decided reply) kind.Check)
             (plain_as stage (key_of task.outline) (record (settled progress.Decided (flight pin (at stage task))) { remembered = [] }) [] [] plain refl (inr refl) refl refl held made)
             (check_ok Granted same s id (flight pin (at stage task)) env (inl settled_so.0.undecided) path.here.slot path.here.word (one a) (seen_at t root s shows path.here.slot a here) known
-            (settled progress.Decided (flight pin (at stage task))) [] (Decided reply) word (settled_so.0, settled_so.1, refl) (λ z w h. absurd (none_some w h)));
+            (settled progress.Decided (flight pin (at stage task))) [] (Decided reply) word (settled_so.0, settled_so.1, refl, way_ends s shows) (λ z w h. absurd (none_some w h)));
         carries = λ s shows m content. leads s shows m content;
       }
 
@@ -228,15 +230,15 @@ module _ {M : Type 0} (Granted : Type 0) (same : M → M → Bool) (t : NodeMap 
         pub ends_left : (fresh : IsFreshly task) (reply : Reply M) → IsLeft same fresh.opened.op at_key reply
             → IsRead Granted same t root pin (at stage task) env (at Finish (closed progress.Decided task)) (report_of kind.Check (Some path.here.slot) 0 true) (Decided reply)
         ends_left fresh reply left =
-            ends reply (left_tells Granted same pin stage plain task fresh.opened at_key reply fresh.fresh left seen)
-            (λ s shows m content. left_leads Granted same pin stage plain task fresh.opened at_key reply fresh.fresh left m (there s shows m content))
+            ends reply (left_tells Granted same pin stage plain task fresh.opened at_key read reply fresh.fresh left seen)
+            (λ s shows m content. left_leads Granted same pin stage plain task fresh.opened at_key read reply fresh.fresh left m (there s shows m content))
 
         -- what it would store is the current value already
         pub ends_changed : (opened : IsOpen task) → IsChange same opened.op task.asking at_key at_key
             → IsRead Granted same t root pin (at stage task) env (at Finish (closed progress.Decided task)) (report_of kind.Check (Some path.here.slot) 0 true) (Decided (reply_with task.outline at_key task.returns))
         ends_changed opened change =
-            ends (reply_with task.outline at_key task.returns) (same_tells Granted same pin stage plain task opened at_key change seen)
-            (λ s shows m content. same_leads Granted same pin stage plain task opened at_key change m content.map (there s shows m content))
+            ends (reply_with task.outline at_key task.returns) (same_tells Granted same pin stage plain task opened at_key read change seen)
+            (λ s shows m content. same_leads Granted same pin stage plain task opened at_key read change m content.map (there s shows m content))
 
     -- WHAT A POINT CALL HAS SEEN at a node on its key's path
     module _ (facts : Facts Granted same t root pin (at (Check path) task)) (point : IsPoint task.outline) where
@@ -262,6 +264,15 @@ module _ {M : Type 0} (Granted : Type 0) (same : M → M → Bool) (t : NodeMap 
       sees_none there =
           ap seen_payload saw_here.is
           ∙ ap payload_in (subst (λ (c : Option (Child M)). IsSeenOf (MaySee Granted same task) c saw_here.seen.child) (child_here ∙ there) agrees_here.reading.child)
+
+      -- the key's way ends unless there is a node
+      pub way_ends_here : ((slot : ℕ) → found a (key_bytes task) ≡ Some (below_at slot) → ⊥) → (s : State M) → KeyEnds s (flight pin (at (Check path) task))
+      way_ends_here none s =
+          ends_at_none s (flight pin (at (Check path) task)) _ (seen_child task.last)
+          (λ slot is. none slot (sym child_here ∙ agrees_here.below slot (ap (λ z. seen_child z) (sym saw_here.is) ∙ is)))
+
+      pub has_read : IsSome task.last
+      has_read = subst (λ (z : Option (Seen M)). IsSome z) (sym saw_here.is) refl
 
       -- a payload is seen by the calls that see payloads
       pub sees_found : MaySee Granted same task → seen_payload task.last ≡ payload_in (found a (key_bytes task))
@@ -299,6 +310,19 @@ module _ {M : Type 0} (Granted : Type 0) (same : M → M → Bool) (t : NodeMap 
       pub above_none : seen_payload task.last ≡ None
       above_none = let saw_node : SawNode task.last below.slot = facts.at.3 in ap seen_payload saw_node.is ∙ ap payload_in saw_node.child
 
+      -- its way ends at that node
+      pub above_read : IsSome task.last
+      above_read = let saw_node : SawNode task.last below.slot = facts.at.3 in subst (λ (z : Option (Seen M)). IsSome z) (sym saw_node.is) refl
+
+      pub way_ends_above : (s : State M) → ShowsNodes t root s → KeyEnds s (flight pin (at (CheckAbove path below false) task))
+      way_ends_above s shows =
+          let f = facts.at in
+          let saw_node : SawNode task.last below.slot = f.3 in
+          let kn : Known t pin below = f.4 in
+          let test : TestOf t below.slot (key_bytes task) false = f.5 in
+          subst (λ (c : Option (Child M)). EndsAt s (flight pin (at (CheckAbove path below false) task)) (λ b. Begins b.prefix (key_bytes task) → ⊥) c) (sym (ap (λ z. seen_child z) saw_node.is ∙ saw_node.child))
+          (record { slot = below.slot; node = one kn.node; word = below.word; here = seen_at t root s shows below.slot kn.node kn.here; word_is = lookup-put_same (path_spots path) below.slot below.word }, refl, (λ begins. false_true ((test kn.node kn.here).1 begins)))
+
       pub above_now : (s : State M) → ShowsNodes t root s → IsCurrent s (key_of task.outline) None
       above_now s shows =
           let f = facts.at in
@@ -308,14 +332,14 @@ module _ {M : Type 0} (Granted : Type 0) (same : M → M → Bool) (t : NodeMap 
       above_absent s shows m content = current_there s m content (key_of task.outline) None (above_now s shows)
 
 -- WHAT A CALL KNOWS that asks its closure
-module _ {M : Type 0} (Granted : Type 0) (same : M → M → Bool) (task : Task M) (old : Option M) (fresh : IsFreshly task) where
+module _ {M : Type 0} (Granted : Type 0) (same : M → M → Bool) (task : Task M) (old : Option M) (fresh : IsFreshly task) (read : IsSome task.last) where
   pub asking_open : IsOpen (asking task old)
   asking_open =
       let o = fresh.opened in
       record { undecided = o.undecided; op = o.op; op_is = o.op_is; outline = o.outline; point = o.point; returned = returned_wants o.op task.asking old task.returns o.returned }
 
   pub asking_waits : HasClosure task.outline → old ≡ seen_payload task.last → WaitsForAnswer Granted same (asking task old)
-  asking_waits closure is = record { opened = asking_open; closure = closure; wants = ap (λ (z : Option M). Wants z) is }
+  asking_waits closure is = record { opened = asking_open; closure = closure; wants = ap (λ (z : Option M). Wants z) is; read = read }
 
   pub asking_waits_for : IsOrInsert task.outline → old ≡ seen_payload task.last → seen_payload task.last ≡ None → WaitsFor Granted same (asking task old)
   asking_waits_for inserts is none = record { waits = asking_waits (inserts_asks task.outline inserts) is; inserts = inserts; none = none }

@@ -9,7 +9,7 @@ use Rattle.olc_state.specs.declared.stage.Stage.TheVariants.{TakeBelow}
 use Rattle.spec_olc.specs.Calls.{IsPoint}
 use Rattle.spec_olc.specs.Kinds.{report_of}
 use Rattle.spec_olc.specs.Lists.{is_in}
-use Rattle.spec_olc.specs.State.{CallState}
+use Rattle.spec_olc.specs.State.{CallState, Cleaning}
 use Rattle.spec_olc.specs.declared.types.Env.{Env}
 use Rattle.spec_olc.specs.declared.types.Kind.{Kind}
 use Rattle.spec_olc.specs.declared.types.Outcome.{Outcome}
@@ -31,13 +31,13 @@ neither word locked obsolete =
     let o : word % 2 ≢ 1 = obsolete in omega arith
 
 -- a call with this cursor, reach and count, this cleanup, these locked nodes and these private nodes
-pub holding_as : {M : Type 0} (call : CallState M) (cursor reach given : ℕ) (cleaning : Option ℕ) (held made : List ℕ) → call.cursor ≡ cursor → call.reach ≡ reach → call.given ≡ given → call.cleaning ≡ cleaning → call.held ≡ held → call.made ≡ made
+pub holding_as : {M : Type 0} (call : CallState M) (cursor reach given : ℕ) (cleaning : Option Cleaning) (held made : List ℕ) → call.cursor ≡ cursor → call.reach ≡ reach → call.given ≡ given → call.cleaning ≡ cleaning → call.held ≡ held → call.made ≡ made
     → call ≡ record call { cursor = cursor; reach = reach; given = given; cleaning = cleaning; held = held; made = made }
 holding_as call cursor reach given cleaning held made c r g l h m =
     ap (λ (x : ℕ). record call { cursor = x }) c
     ∙ (ap (λ (x : ℕ). record call { cursor = cursor; reach = x }) r
     ∙ (ap (λ (x : ℕ). record call { cursor = cursor; reach = reach; given = x }) g
-    ∙ (ap (λ (x : Option ℕ). record call { cursor = cursor; reach = reach; given = given; cleaning = x }) l
+    ∙ (ap (λ (x : Option Cleaning). record call { cursor = cursor; reach = reach; given = given; cleaning = x }) l
     ∙ (ap (λ (x : List ℕ). record call { cursor = cursor; reach = reach; given = given; cleaning = cleaning; held = x }) h
     ∙ ap (λ (x : List ℕ). record call { cursor = cursor; reach = reach; given = given; cleaning = cleaning; held = held; made = x }) m))))
 

@@ -1,13 +1,15 @@
 -- That the events that write no node are events of their kinds.
-use Rattle.std.proofs.Common.{◌≡◌, ◌≢◌, ℕ, Bool, true, false, IsTrue, if◌then◌else◌, ◌↔◌, List, [], Some, inl, refl, subst, ap, arith}
+use Rattle.std.proofs.Common.{◌≡◌, ◌≢◌, ℕ, Bool, true, false, IsTrue, if◌then◌else◌, ◌↔◌, List, [], Option, Some, None, inl, inr, refl, subst, ap}
 use Rattle.spec_map.proofs.MapLaws.{lookup-put_same}
 use Rattle.spec_map.specs.Map.{lookup, put}
-use Rattle.node_table.specs.declared.child.Child.TheVariants.{Payload}
-use Rattle.spec_olc.specs.Calls.{Outline}
-use Rattle.spec_olc.specs.Kinds.{NextIs, DoesAs, CheckOutcome, IsAtWork, Remembered, failed, report_of, stopped}
+use Rattle.node_table.specs.TableNode.{TableNode}
+use Rattle.node_table.specs.declared.child.Child.{Child}
+use Rattle.node_table.specs.declared.child.Child.TheVariants.{Payload, Node as below_at}
+use Rattle.spec_olc.specs.Calls.{IsPoint, Outline}
+use Rattle.spec_olc.specs.Kinds.{NextIs, DoesAs, CheckOutcome, IsAtWork, failed, report_of}
 use Rattle.spec_olc.specs.Local.{SharesNone, SeesPayloads}
-use Rattle.spec_olc.specs.Reading.{IsReading, LooksOn, child_for}
-use Rattle.spec_olc.specs.State.{State, VersionedNode, CallState, with_call, back, settled}
+use Rattle.spec_olc.specs.Reading.{EndsAt, HasNothing, IsReading, LooksOn, Remembered, child_for}
+use Rattle.spec_olc.specs.State.{State, VersionedNode, CallState, with_call, back, settled, stopped}
 use Rattle.spec_olc.specs.declared.types.Env.{Env}
 use Rattle.spec_olc.specs.declared.types.Kind.TheVariants as kind
 use Rattle.spec_olc.specs.declared.types.Op.TheVariants.{Range}
@@ -81,11 +83,11 @@ module _ {M : Type 0} (Granted : Type 0) (same : M → M → Bool) (s : State M)
       subst (λ (n : CallState M). Does n (report_of kind.Take (Some slot) a.word false) Going) is (taken_so slot a false here anew first (not_by locked))
 
   module _ (slot word : ℕ) (a : VersionedNode M) (here : lookup s.nodes slot ≡ Some a) (known : lookup call.remembered slot ≡ Some word) where
-    abbrev knows : {new : State M} {report : Report} {out : Outcome M} → Remembered Granted same s new id call env report out
+    abbrev pub knows : Remembered s call
     knows = record { slot = slot; node = a; word = word; here = here; word_is = known }
 
     -- a Check that passes, after which the call may have forgotten some of its words
-    pub check_ok : (planned : CallState M) (remembered : List (ℕ × ℕ)) (out : Outcome M) → a.word ≡ word → CheckOutcome Granted same s call planned out → Within remembered planned.remembered
+    pub check_ok : (planned : CallState M) (remembered : List (ℕ × ℕ)) (out : Outcome M) → a.word ≡ word → CheckOutcome Granted same s call knows planned out → Within remembered planned.remembered
         → Does (record planned { remembered = remembered }) (report_of kind.Check (Some slot) 0 true) out
     check_ok planned remembered out at_key finds within = (
       work,
@@ -118,15 +120,19 @@ module _ {M : Type 0} (Granted : Type 0) (same : M → M → Bool) (s : State M)
       },
     )
 
--- a Check that decides nothing leaves a call as it was, and the cursor of a range too
-module _ {M : Type 0} (s : State M) where
-  pub looks_on : (outline : Outline) (call : CallState M) → call.cursor ≡ call.reach → LooksOn outline s call call
-  looks_on (Range a b n) call e = record {
-    cursor = call.cursor;
-    reach = call.reach;
-    onward = omega arith;
-    order = omega arith;
-    passed = λ key value low high at_key. absurd (omega (arith, low, high));
-    next_is = inl refl;
-  }
-  looks_on outline call e = refl
+module _ {M : Type 0} (s : State M) (call : CallState M) where
+  -- a Check that decides nothing leaves a point call as it was
+  pub looks_on : (outline : Outline) (here : Remembered s call) → IsPoint outline → LooksOn outline s call here call
+  looks_on (Range a b n) here point = absurd point
+  looks_on outline here point = inl refl
+
+  -- nor does one that finds nothing more to clean up
+  pub looks_off : (outline : Outline) (here : Remembered s call) → IsPoint outline → HasNothing s call here.node.node → LooksOn outline s call here (stopped call)
+  looks_off (Range a b n) here point nothing = absurd point
+  looks_off outline here point nothing = inr (refl, nothing)
+
+  -- a way ends where no node was seen
+  pub ends_at_none : (IsOff : TableNode M → Type 0) (child : Option (Child M)) → ((slot : ℕ) → child ≡ Some (below_at slot) → ⊥) → EndsAt s call IsOff child
+  ends_at_none IsOff None none = tt
+  ends_at_none IsOff (Some (Payload v)) none = tt
+  ends_at_none IsOff (Some (below_at slot)) none = absurd (none slot refl)

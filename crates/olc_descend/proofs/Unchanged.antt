@@ -1,5 +1,5 @@
 -- A CALL THAT LEAVES THE CONTENT UNCHANGED: its reply by what it has seen is its reply by the whole map.
-use Rattle.std.proofs.Common.{◌≡◌, ℕ, ◌+◌, ◌^◌, Bool, List, Option, Some, None, inl, inr, sym, subst, ◌∙◌, arith}
+use Rattle.std.proofs.Common.{◌≡◌, ℕ, ◌+◌, ◌^◌, Bool, List, Option, Some, None, IsSome, inl, inr, sym, subst, ◌∙◌, arith}
 use Rattle.std.proofs.lemmas.Bool.Decides.{eqb_tells}
 use Rattle.spec_map.proofs.MapLaws.{Rises-put, lookup-put_same, lookup-put_other, same_from_lookups, without-absent}
 use Rattle.spec_map.specs.Map.{Pairs, IsMap, Rises, lookup, put, with_answer}
@@ -7,7 +7,7 @@ use Rattle.spec_map.specs.Legal.{reply_of}
 use Rattle.spec_olc.specs.Calls.{Outline, key_of, map_call, map_reply, map_asked, asked_of}
 use Rattle.spec_olc.specs.Deciding.{AppliesCall}
 use Rattle.spec_olc.specs.Local.{IsLocal, LeavesAll, SeesPayloads, SharesNone, only_at, seen_map, seen_payload}
-use Rattle.spec_olc.specs.State.{CallState}
+use Rattle.spec_olc.specs.State.{CallState, Cleaning}
 use Rattle.spec_olc.specs.declared.types.Asking.TheVariants.{Fresh}
 use Rattle.spec_olc.specs.declared.types.Reply.{Reply}
 use Rattle.olc_state.specs.declared.stage.Stage.{Stage}
@@ -45,7 +45,7 @@ abbrev pub Tells : {M : Type 0} → Type 0 → (M → M → Bool) → CallState 
 Tells Granted same call reply = (local : IsLocal Granted same call reply) × LeavesAll Granted same call local.op
 
 -- a call without a reply, beside the current value of its key
-module _ {M : Type 0} (Granted : Type 0) (same : M → M → Bool) (pin : ℕ) (stage : Stage) (plain : IsPlain stage) (task : Task M) (opened : IsOpen task) (at_key : Option M) where
+module _ {M : Type 0} (Granted : Type 0) (same : M → M → Bool) (pin : ℕ) (stage : Stage) (plain : IsPlain stage) (task : Task M) (opened : IsOpen task) (at_key : Option M) (read : IsSome task.last) where
   key_same : key_of opened.op ≡ key_of task.outline
   key_same = key_is opened.op task.outline opened.outline
 
@@ -59,7 +59,7 @@ module _ {M : Type 0} (Granted : Type 0) (same : M → M → Bool) (pin : ℕ) (
 
   -- it sees what its kind sees
   may_see : SeesPayloads Granted same (flight pin (at stage task)) → MaySee Granted same task
-  may_see sees = subst (λ (c : Option ℕ). SharesNone task.outline c → Granted) (plain_cleaning stage plain) sees
+  may_see sees = subst (λ (c : Option Cleaning). SharesNone task.outline c → Granted) (plain_cleaning stage plain) sees
 
   -- IT CHANGES NOTHING
   module _ (reply : Reply M) (fresh : task.asking ≡ Fresh) (left : IsLeft same opened.op at_key reply) where
@@ -69,6 +69,7 @@ module _ {M : Type 0} (Granted : Type 0) (same : M → M → Bool) (pin : ℕ) (
         op = opened.op;
         op_is = opened.op_is;
         undecided = opened.undecided;
+        read = read;
         point = left_point same opened.op at_key reply left;
         asked = λ sees. left_asked same (seen_map (flight pin (at stage task))) opened.op task.asking at_key reply fresh left (seen_alone (seen (may_see sees)));
         reply = λ sees. left_replied same (seen_map (flight pin (at stage task))) opened.op task.asking at_key reply fresh left (seen_alone (seen (may_see sees)));
@@ -99,6 +100,7 @@ module _ {M : Type 0} (Granted : Type 0) (same : M → M → Bool) (pin : ℕ) (
         op = opened.op;
         op_is = opened.op_is;
         undecided = opened.undecided;
+        read = read;
         point = change_point same opened.op task.asking at_key at_key change;
         asked = λ sees. change_asked same (seen_map (flight pin (at stage task))) opened.op task.asking at_key at_key change (seen_alone (seen (may_see sees)));
         reply = λ sees. same_reply (seen_map (flight pin (at stage task))) (seen_alone (seen (may_see sees)));

@@ -4,18 +4,17 @@ use Rattle.spec_olc.specs.Calls.{key_of, outline_of}
 use Rattle.spec_olc.specs.Kinds.{MayEnd, begun}
 use Rattle.spec_olc.specs.declared.types.Op.{Op}
 use Rattle.spec_olc.specs.declared.types.Op.TheVariants.{Range}
-use Rattle.olc_state.specs.declared.cleanup.Seek.TheVariants as seek
 use Rattle.olc_state.specs.declared.scan.Scan.TheVariants as scan
 use Rattle.olc_state.specs.declared.stage.Record.{Record}
 use Rattle.olc_state.specs.declared.stage.Stage.{Stage}
-use Rattle.olc_state.specs.declared.stage.Stage.TheVariants.{Tail, Scan, Finish, Seek, Tidy}
+use Rattle.olc_state.specs.declared.stage.Stage.TheVariants.{Tail, Scan, Finish, Tidy}
 use Rattle.olc_state.specs.declared.stage.Task.{Task}
 use Rattle.olc_state.specs.inner.Facts.{FactsAt}
 use Rattle.olc_state.specs.inner.Scans.{BeginsAt, IsAtEnd}
 use Rattle.olc_state.specs.inner.Shown.{flight, held_at, made_at}
 use Rattle.olc_state.specs.inner.World.{NodeMap}
 use Rattle.olc_state.proofs.Replies.{returned_first}
-use Rattle.olc_state.proofs.Unlike.{refused_open, decided_open}
+use Rattle.olc_state.proofs.Unlike.{refused_open}
 use Rattle.olc_machine.specs.inner.Inside.{begun_task}
 
 -- a call that begins holds no node, and neither does one at its end
@@ -56,10 +55,9 @@ module _ {M : Type 0} where
 
     -- a call at its end may end, by what it knows
     pub end_may : (task : Task M) (at : Stage) → IsAtEnd at → FactsAt Granted same t root pin task at → MayEnd (flight pin (record { stage = at; task = task }))
-    end_may task Finish is f = inl f
+    end_may task Finish is f = inl (f, refl)
     end_may task (Scan course scan.Finish) is f = elim f [
-      | inl refused ↦ inl (λ e. refused_open (sym refused ∙ e))
+      | inl refused ↦ inl ((λ e. refused_open (sym refused ∙ e)), refl)
       | inr all ↦ inr all.1
     ]
-    end_may task (Seek c seek.Finish) is f = inl (λ e. decided_open (sym f.decided ∙ e))
     end_may task at is f = absurd is

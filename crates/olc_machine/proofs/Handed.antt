@@ -143,7 +143,7 @@ module _ {P M : Type 0} (meaning : P → M) (w w' : World P) (id : ℕ) where
 module _ {M : Type 0} (Granted : Type 0) (same : M → M → Bool) where
   module _ (old new : State M) (id : ℕ) (call : CallState M) (env : Env M) (report : Report) (out : Outcome M) (e : out ≡ Unknown) where
     check_known : (ok : Bool) → report.ok ≡ ok → DoesAs Granted same old new id call env report out kind.Check → ⊥
-    check_known true is h = subst (λ (o : Outcome M). CheckOutcome Granted same old call h.1.planned o) e (h.1.passes is)
+    check_known true is h = subst (λ (o : Outcome M). CheckOutcome Granted same old call h.1.knows h.1.planned o) e (h.1.passes is)
     check_known false is h = going_unknown (sym (h.1.fails is).0 ∙ e)
 
     reads_known : (node : TableNode M) (whole : Bool) → ReadOutcome Granted same old new id call env report out node whole Unknown → ⊥

@@ -94,13 +94,12 @@ module _ {M : Type 0} (Granted : Type 0) (same : M → M → Bool) where
     opened_at (stage.Seek c (seek.Check path)) f = absurd (cleaning f.0.cleans)
     opened_at (stage.Seek c (seek.TakeBelow path slot)) f = absurd (cleaning f.0.cleans)
     opened_at (stage.Seek c (seek.CheckAbove path spot fits)) f = absurd (cleaning f.0.cleans)
-    opened_at (stage.Seek c seek.Finish) f = absurd (cleaning f)
     opened_at (stage.Tidy c (tidy.UpgradeAbove pair)) f = absurd (cleaning f.0)
     opened_at (stage.Tidy c (tidy.UpgradeBelow pair)) f = absurd (cleaning f.0)
     opened_at (stage.Tidy c (tidy.TakeAway pair)) f = absurd (cleaning f.0.cleans)
     opened_at (stage.Tidy c (tidy.MakeSmaller pair)) f = absurd (cleaning f.0.cleans)
     opened_at (stage.Tidy c (tidy.PutSmaller pair copy)) f = absurd (cleaning f.0.cleans)
-    opened_at (stage.Tidy c (tidy.UnlockBelow pair)) f = absurd (cleaning f.0)
+    opened_at (stage.Tidy c (tidy.UnlockBelow pair)) f = absurd (cleaning f.0.cleans)
     opened_at stage.Finish f = absurd (f going)
 
   module _ (w : World M) (sound : IsSoundWorld Granted same w) (id : ℕ) (call : CallState M) (going : call.progress ≡ Open) where

@@ -3,7 +3,7 @@ use Rattle.std.proofs.Common.{◌≡◌, ◌≢◌, ℕ, false, ◌+◌, ◌-◌
 use Rattle.std.proofs.lemmas.Bool.Decides.{eqb_tells}
 use Rattle.spec_map.proofs.MapLaws.{lookup-without_same, lookup-without_other}
 use Rattle.spec_map.specs.Map.{Pairs, lookup, without}
-use Rattle.spec_olc.specs.Alone.{CountsDown, EndsWithin, AllEndAlone, from_any_event, from_its_start, may_remove}
+use Rattle.spec_olc.specs.Alone.{CountsDown, EndsWithin, AllEndAlone, may_remove}
 use Rattle.spec_olc.specs.Alone.{IsUncontended as AreAlone}
 use Rattle.spec_olc.specs.Calls.{Outline, IsPoint}
 use Rattle.spec_olc.specs.Kinds.{IsReclaim}
@@ -60,6 +60,13 @@ use Rattle.olc_replay.specs.inner.Played.{Plays, Move, transitions_of, AreMoves}
 use Rattle.olc_replay.proofs.Flying.{in_flight, flies, no_call}
 use Rattle.olc_replay.proofs.Playing.{sound_next}
 
+-- the bounds of a call from any event on, and from its Start on
+abbrev from_any_event : Outline → ℕ
+from_any_event op = if may_remove op then 200 else 80
+
+abbrev from_its_start : Outline → ℕ
+from_its_start op = if may_remove op then 120 else 40
+
 -- few events are left to a tail
 few_small : (small : Small) → 1 + small_work small ≤ 40
 few_small Entry = omega arith
@@ -102,7 +109,6 @@ some_seek c (seek.Read path) depth = omega arith
 some_seek c (seek.Check path) depth = omega arith
 some_seek c (seek.TakeBelow path slot) depth = omega arith
 some_seek c (seek.CheckAbove path spot fits) depth = omega arith
-some_seek c seek.Finish depth = omega arith
 
 some_tidy : (c : Cleanup) (at : AnyTidy) → 0 < tidy_work c at
 some_tidy c (tidy.UpgradeAbove pair) = omega arith
@@ -156,7 +162,6 @@ few_seek c (seek.Read path) depth short = let more = few_more c.length c.again s
 few_seek c (seek.Check path) depth short = let more = few_more c.length c.again short in omega (arith, short, more)
 few_seek c (seek.TakeBelow path slot) depth short = let more = few_more c.length c.again short in omega (arith, short, more)
 few_seek c (seek.CheckAbove path spot fits) depth short = let more = few_more c.length c.again short in omega (arith, short, more)
-few_seek c seek.Finish depth short = omega arith
 
 few_tidy : (c : Cleanup) (at : AnyTidy) → c.length ≤ 7 → tidy_work c at ≤ 160
 few_tidy c (tidy.UpgradeAbove pair) short = let more = few_more c.length c.again short in omega (arith, more)
@@ -171,7 +176,6 @@ seek_cleans t root pin task c (seek.Read path) f = f.cleans
 seek_cleans t root pin task c (seek.Check path) f = f.0.cleans
 seek_cleans t root pin task c (seek.TakeBelow path slot) f = f.0.cleans
 seek_cleans t root pin task c (seek.CheckAbove path spot fits) f = f.0.cleans
-seek_cleans t root pin task c seek.Finish f = f
 
 tidy_cleans : (t : NodeMap ℕ) (pin : ℕ) (task : Task ℕ) (c : Cleanup) (at : AnyTidy) → TidyFacts t pin task c at → CleansUp task c
 tidy_cleans t pin task c (tidy.UpgradeAbove pair) f = f.0
@@ -179,7 +183,7 @@ tidy_cleans t pin task c (tidy.UpgradeBelow pair) f = f.0
 tidy_cleans t pin task c (tidy.TakeAway pair) f = f.0.cleans
 tidy_cleans t pin task c (tidy.MakeSmaller pair) f = f.0.cleans
 tidy_cleans t pin task c (tidy.PutSmaller pair copy) f = f.0.cleans
-tidy_cleans t pin task c (tidy.UnlockBelow pair) f = f.0
+tidy_cleans t pin task c (tidy.UnlockBelow pair) f = f.0.cleans
 
 -- an Unlock after which no cleanup follows
 few_free : (progress : Progress) → unlock_work progress None ≤ 40

@@ -10,9 +10,9 @@ use Rattle.spec_olc.specs.Content.{IsContent, IsCurrent, IsStoredAt}
 use Rattle.spec_olc.specs.Kinds.{NextIs, CheckOutcome, ReadOutcome, AnswerOutcome, DoesAs, begun, refusal, refused, failed, not_locked, unlocked}
 use Rattle.spec_olc.specs.Lists.{off}
 use Rattle.spec_olc.specs.Orderly.{Course, TurnsBy}
-use Rattle.spec_olc.specs.Reading.{GoesOn, LooksOn, MayGive}
+use Rattle.spec_olc.specs.Reading.{GoesOn, LooksOn, MayGive, Remembered}
 use Rattle.spec_olc.specs.Runs.{Transition, Happens, IsHistory, IsMachineRun, fresh, same_number, decided_at, decided_by, decided_in, events_in, lines_in}
-use Rattle.spec_olc.specs.State.{State, CallState}
+use Rattle.spec_olc.specs.State.{State, CallState, Cleaning}
 use Rattle.spec_olc.specs.declared.trace.Decision.{Decision}
 use Rattle.spec_olc.specs.declared.trace.Line.{Line}
 use Rattle.spec_olc.specs.declared.trace.Line.TheVariants.{Done as Made, Skipped}
@@ -193,9 +193,9 @@ goes_quiet : (call next planned : CallState ℕ) → Quiet call.asking next.aski
 goes_quiet call next planned quiet (inl e) = subst (λ (f : CallState ℕ). Quiet call.asking f.asking) (sym e) quiet
 goes_quiet call next planned quiet (inr e) = inr (ap (λ (f : CallState ℕ). f.asking) e)
 
-looks_quiet : (outline : Outline) (s : State ℕ) (call planned : CallState ℕ) → LooksOn outline s call planned → Quiet call.asking planned.asking
-looks_quiet (Range a b n) s call planned h = goes_quiet call (record call { cursor = h.cursor; reach = h.reach }) planned (inl refl) h.next_is
-looks_quiet outline s call planned h = inl (ap (λ (f : CallState ℕ). f.asking) h)
+looks_quiet : (outline : Outline) (s : State ℕ) (call : CallState ℕ) (here : Remembered s call) (planned : CallState ℕ) → LooksOn outline s call here planned → Quiet call.asking planned.asking
+looks_quiet (Range a b n) s call here planned h = goes_quiet call (record call { cursor = h.cursor; reach = h.reach }) planned (inl refl) h.next_is
+looks_quiet outline s call here planned h = elim h [ inl on ↦ inl (ap (λ (f : CallState ℕ). f.asking) on) | inr over ↦ inl (ap (λ (f : CallState ℕ). f.asking) over.0) ]
 
 failed_fresh : (p : Progress) (call : CallState ℕ) → (failed p call).asking ≡ Fresh
 failed_fresh progress.Open call = refl
@@ -208,7 +208,7 @@ not_locked_quiet progress.Open (slot ∷ held) call = inl refl
 not_locked_quiet progress.Decided held call = inr refl
 not_locked_quiet progress.Refused held call = inr refl
 
-unlocked_quiet : (p : Progress) (cleaning : Option ℕ) (held : List ℕ) (call : CallState ℕ) → Quiet call.asking (unlocked p cleaning held call).asking
+unlocked_quiet : (p : Progress) (cleaning : Option Cleaning) (held : List ℕ) (call : CallState ℕ) → Quiet call.asking (unlocked p cleaning held call).asking
 unlocked_quiet progress.Open cleaning held call = inr refl
 unlocked_quiet progress.Decided None held call = inl refl
 unlocked_quiet progress.Refused None held call = inl refl
@@ -237,16 +237,16 @@ module _ (old new : State ℕ) (id : ℕ) (call : CallState ℕ) (env : Env ℕ)
   freshly : (k : Kind) (o : Outcome ℕ) (base : State ℕ) (planned : CallState ℕ) → Plans base planned → planned.asking ≡ Fresh → HeardBy (after_step k env.answer o p) (lookup new.calls id)
   freshly k o base planned b e = planned_heard (after_step k env.answer o p) base planned b (fresh_in (after_step k env.answer o p) planned.asking e)
 
-  found_heard : (o : Outcome ℕ) (planned : CallState ℕ) → Plans old planned → CheckOutcome (Unit {0}) same_number old call planned o → HeardBy (after_step kind.Check env.answer o p) (lookup new.calls id)
-  found_heard Going planned b h = quietly kind.Check refl Going refl old planned b (looks_quiet call.outline old call planned h)
-  found_heard (Ask asked) planned b h = planned_heard (after_step kind.Check env.answer (Ask asked) p) old planned b (inr (ap (λ (f : CallState ℕ). f.asking) h.2))
-  found_heard (Pair key value) planned b h =
+  found_heard : (o : Outcome ℕ) (here : Remembered old call) (planned : CallState ℕ) → Plans old planned → CheckOutcome (Unit {0}) same_number old call here planned o → HeardBy (after_step kind.Check env.answer o p) (lookup new.calls id)
+  found_heard Going here planned b h = quietly kind.Check refl Going refl old planned b (looks_quiet call.outline old call here planned h)
+  found_heard (Ask asked) here planned b h = planned_heard (after_step kind.Check env.answer (Ask asked) p) old planned b (inr (ap (λ (f : CallState ℕ). f.asking) h.2))
+  found_heard (Pair key value) here planned b h =
       planned_heard (after_step kind.Check env.answer (Pair key value) p) old planned b
       (quiet_heard p.asking call.asking planned.asking was (goes_quiet call (record call { cursor = key + 1; reach = key + 1; given = call.given + 1 }) planned (inl refl) h.next_is))
-  found_heard (Decided reply) planned b h = freshly kind.Check (Decided reply) old planned b (ap (λ (f : CallState ℕ). f.asking) h.2)
-  found_heard Refused planned b h = absurd h
-  found_heard Done planned b h = absurd h
-  found_heard Unknown planned b h = absurd h
+  found_heard (Decided reply) here planned b h = freshly kind.Check (Decided reply) old planned b (ap (λ (f : CallState ℕ). f.asking) h.2)
+  found_heard Refused here planned b h = absurd h
+  found_heard Done here planned b h = absurd h
+  found_heard Unknown here planned b h = absurd h
 
   saw_heard : (node : TableNode ℕ) (whole : Bool) (o : Outcome ℕ) → ReadOutcome (Unit {0}) same_number old new id call env report out node whole o → HeardBy (after_step kind.Read env.answer o p) (lookup new.calls id)
   saw_heard node true Going d = quietly kind.Read refl Going refl old _ d.2 (inl refl)
@@ -280,7 +280,7 @@ module _ (old new : State ℕ) (id : ℕ) (call : CallState ℕ) (env : Env ℕ)
       taken false = inr (failed_fresh call.progress call)
   step_heard map kind.Check d =
       by_ok report.ok
-      (λ good. found_heard out d.1.planned d.1.becomes (d.1.passes good))
+      (λ good. found_heard out d.1.knows d.1.planned d.1.becomes (d.1.passes good))
       (λ bad. freshly kind.Check out old d.1.planned d.1.becomes (ap (λ (f : CallState ℕ). f.asking) (d.1.fails bad).1 ∙ failed_fresh call.progress call))
   step_heard map kind.Read d = saw_heard d.1.knows.node.node d.1.whole out d.1.sees
   step_heard map kind.Upgrade d =

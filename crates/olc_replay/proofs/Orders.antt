@@ -8,9 +8,9 @@ use Rattle.spec_olc.specs.Kinds.{NextIs, CheckOutcome, ReadOutcome, AnswerOutcom
 use Rattle.spec_olc.specs.Lists.{off}
 use Rattle.spec_olc.specs.Local.{IsLocal}
 use Rattle.spec_olc.specs.Orderly.{Course, TurnsBy}
-use Rattle.spec_olc.specs.Reading.{GoesOn, HasAll, LooksOn}
+use Rattle.spec_olc.specs.Reading.{GoesOn, HasAll, LooksOn, Remembered}
 use Rattle.spec_olc.specs.Runs.{same_number}
-use Rattle.spec_olc.specs.State.{State, CallState, back, settled}
+use Rattle.spec_olc.specs.State.{State, CallState, back, settled, Cleaning, stopped}
 use Rattle.spec_olc.specs.declared.types.Env.{Env}
 use Rattle.spec_olc.specs.declared.types.Kind.{Kind}
 use Rattle.spec_olc.specs.declared.types.Kind.TheVariants as kind
@@ -59,9 +59,9 @@ goes_on call next planned l g =
       | inr e ↦ lasts_by call (back next) planned e (record { outline = l.outline; op = l.op; progress = l.progress })
     ]
 
-looks_on : (outline : Outline) (s : State ℕ) (call planned : CallState ℕ) → LooksOn outline s call planned → Lasts call planned
-looks_on (Range a b n) s call planned h = goes_on call (record call { cursor = h.cursor; reach = h.reach }) planned (record { outline = refl; op = refl; progress = refl }) h.next_is
-looks_on outline s call planned h = lasts_by call call planned h (lasts call)
+looks_on : (outline : Outline) (s : State ℕ) (call : CallState ℕ) (here : Remembered s call) (planned : CallState ℕ) → LooksOn outline s call here planned → Lasts call planned
+looks_on (Range a b n) s call here planned h = goes_on call (record call { cursor = h.cursor; reach = h.reach }) planned (record { outline = refl; op = refl; progress = refl }) h.next_is
+looks_on outline s call here planned h = elim h [ inl on ↦ lasts_by call call planned on (lasts call) | inr over ↦ lasts_by call (stopped call) planned over.0 (record { outline = refl; op = refl; progress = refl }) ]
 
 failed_lasts : (p : Progress) (call : CallState ℕ) → Lasts call (failed p call)
 failed_lasts progress.Open call = record { outline = refl; op = refl; progress = refl }
@@ -74,7 +74,7 @@ not_locked_lasts progress.Open (slot ∷ held) call = lasts call
 not_locked_lasts progress.Decided held call = record { outline = refl; op = refl; progress = refl }
 not_locked_lasts progress.Refused held call = record { outline = refl; op = refl; progress = refl }
 
-unlocked_lasts : (p : Progress) (cleaning : Option ℕ) (held : List ℕ) (call : CallState ℕ) → Lasts call (unlocked p cleaning held call)
+unlocked_lasts : (p : Progress) (cleaning : Option Cleaning) (held : List ℕ) (call : CallState ℕ) → Lasts call (unlocked p cleaning held call)
 unlocked_lasts progress.Open cleaning held call = record { outline = refl; op = refl; progress = refl }
 unlocked_lasts progress.Decided None held call = lasts call
 unlocked_lasts progress.Refused None held call = lasts call
@@ -136,18 +136,18 @@ module _ (old new : State ℕ) (id : ℕ) (call : CallState ℕ) (env : Env ℕ)
         matched progress.Decided base (settled progress.Decided planned) b (bare (settled progress.Decided planned) outline refl) refl,
       )
 
-  found : (o : Outcome ℕ) (planned : CallState ℕ) → Ends old planned → CheckOutcome (Unit {0}) same_number old call planned o → Result o
-  found Going planned b h = going Going refl old planned b (looks_on call.outline old call planned h)
-  found (Ask asked) planned b h =
+  found : (o : Outcome ℕ) (here : Remembered old call) (planned : CallState ℕ) → Ends old planned → CheckOutcome (Unit {0}) same_number old call here planned o → Result o
+  found Going here planned b h = going Going refl old planned b (looks_on call.outline old call here planned h)
+  found (Ask asked) here planned b h =
       let l : Lasts call planned = lasts_by call _ planned h.2 (record { outline = refl; op = refl; progress = refl }) in
       (Some (op, call.progress), refl, matched call.progress old planned b (still planned l) (sym l.progress))
-  found (Pair key value) planned b h =
+  found (Pair key value) here planned b h =
       let l : Lasts call planned = goes_on call (record call { cursor = key + 1; reach = key + 1; given = call.given + 1 }) planned (record { outline = refl; op = refl; progress = refl }) h.next_is in
       (Some (op, call.progress), refl, matched call.progress old planned b (still planned l) (sym l.progress))
-  found (Decided reply) planned b h = decides reply h.0 old call (subst (λ (f : CallState ℕ). Ends old f) h.2 b) refl
-  found Refused planned b h = absurd h
-  found Done planned b h = absurd h
-  found Unknown planned b h = absurd h
+  found (Decided reply) here planned b h = decides reply h.0 old call (subst (λ (f : CallState ℕ). Ends old f) h.2 b) refl
+  found Refused here planned b h = absurd h
+  found Done here planned b h = absurd h
+  found Unknown here planned b h = absurd h
 
   saw : (node : TableNode ℕ) (whole : Bool) (o : Outcome ℕ) → ReadOutcome (Unit {0}) same_number old new id call env report out node whole o → Result o
   saw node true Going d = going Going refl old _ d.2 (record { outline = refl; op = refl; progress = refl })
@@ -165,7 +165,7 @@ module _ (old new : State ℕ) (id : ℕ) (call : CallState ℕ) (env : Env ℕ)
   made_none progress.Decided is o e base b = going o e base _ b (record { outline = refl; op = refl; progress = refl })
   made_none progress.Refused is o e base b = going o e base _ b (record { outline = refl; op = refl; progress = refl })
 
-  wrote : (left : Option ℕ) (o : Outcome ℕ) → WriteOutcome (Unit {0}) same_number call o → (base : State ℕ) → Ends base (settled progress.Decided (record call { made = []; cleaning = left })) → Result o
+  wrote : (left : Option Cleaning) (o : Outcome ℕ) → WriteOutcome (Unit {0}) same_number call o → (base : State ℕ) → Ends base (settled progress.Decided (record call { made = []; cleaning = left })) → Result o
   wrote left Going h base b = (Some (op, call.progress), refl, matched call.progress base (settled progress.Decided (record call { made = []; cleaning = left })) b (bare _ refl refl) h)
   wrote left (Decided reply) h base b = decides reply h base (record call { made = []; cleaning = left }) b refl
   wrote left o h base b = absurd h
@@ -173,7 +173,7 @@ module _ (old new : State ℕ) (id : ℕ) (call : CallState ℕ) (env : Env ℕ)
   finished : (p : Progress) → p ≡ call.progress → MayEnd call → TurnsBy Done (Some (op, p)) None
   finished progress.Open is may =
       elim may [
-        | inl ended ↦ absurd (ended (sym is))
+        | inl ended ↦ absurd (ended.0 (sym is))
         | inr all ↦ (no_end op call.reach call.given (subst (λ (l : Outline). HasAll l call.reach call.given) of.outline all), refl)
       ]
   finished progress.Decided is may = refl
@@ -188,7 +188,7 @@ module _ (old new : State ℕ) (id : ℕ) (call : CallState ℕ) (env : Env ℕ)
       taken false = failed_lasts call.progress call
   step_turns map kind.Check d =
       by_ok report.ok
-      (λ good. found out d.1.planned d.1.becomes (d.1.passes good))
+      (λ good. found out d.1.knows d.1.planned d.1.becomes (d.1.passes good))
       (λ bad. going out (d.1.fails bad).0 old d.1.planned d.1.becomes (lasts_by call (failed call.progress call) d.1.planned (d.1.fails bad).1 (failed_lasts call.progress call)))
   step_turns map kind.Read d = saw d.1.knows.node.node d.1.whole out d.1.sees
   step_turns map kind.Upgrade d =

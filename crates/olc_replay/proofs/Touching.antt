@@ -143,7 +143,6 @@ module _ (t : NodeMap ℕ) (pin : ℕ) where
       elim h [ inl e ↦ subst (λ (z : ℕ). IsThere t pin z) e f.2 | inr more ↦ path_there t root pin (key_bytes task) path slot f.0.on more ]
   seek_there root task c (seek.CheckAbove path spot fits) slot f h =
       elim h [ inl e ↦ known_there t root pin (key_bytes task) spot slot f.2 e | inr more ↦ path_there t root pin (key_bytes task) path slot f.0.on more ]
-  seek_there root task c seek.Finish slot f h = absurd h
 
   tidy_there : (task : Task ℕ) (c : Cleanup) (at : AnyTidy) (slot : ℕ) → TidyFacts t pin task c at → IsIn slot (named_tidying at) → IsThere t pin slot
   tidy_there task c (tidy.UpgradeAbove pair) slot f h = two_there pair slot (still_there pair.here f.4) (still_there pair.above f.2) h
@@ -151,7 +150,7 @@ module _ (t : NodeMap ℕ) (pin : ℕ) where
   tidy_there task c (tidy.TakeAway pair) slot f h = both_there (key_bytes task) pair slot f.0.held h
   tidy_there task c (tidy.MakeSmaller pair) slot f h = both_there (key_bytes task) pair slot f.0.held h
   tidy_there task c (tidy.PutSmaller pair copy) slot f h = both_there (key_bytes task) pair slot f.0.held h
-  tidy_there task c (tidy.UnlockBelow pair) slot f h = two_there pair slot (held_there pair.here f.2) (held_there pair.above f.1) h
+  tidy_there task c (tidy.UnlockBelow pair) slot f h = both_there (key_bytes task) pair slot f.0.held h
 
   -- a node that a range is at, and one that it goes to
   two_spots : (one other : Spot) (slot : ℕ) → Known t pin one → IsThere t pin other.slot → IsIn slot (other.slot ∷ one.slot ∷ []) → IsThere t pin slot

@@ -1,5 +1,5 @@
 -- THE RULES OF A RANGE hold at a Check that passes, where the call looks from its reach on at the node that it checks.
-use Rattle.std.proofs.Common.{◌≡◌, ℕ, ◌<◌, ◌≤◌, ◌^◌, max, [], ◌∷◌, ◌++◌, Some, None, arith}
+use Rattle.std.proofs.Common.{◌≡◌, ℕ, ◌<◌, ◌≤◌, ◌^◌, max, [], ◌∷◌, ◌++◌, Some, None, refl, arith}
 use Rattle.node_table.specs.Key.{low, high}
 use Rattle.node_table.specs.declared.child.Child.TheVariants.{Payload, Node as below_at}
 use Rattle.spec_olc.specs.Content.{IsStoredAt}
@@ -8,9 +8,9 @@ use Rattle.spec_olc.specs.State.{State}
 use Rattle.olc_state.specs.inner.Tables.{IsLinked, IsPlaced}
 use Rattle.olc_state.specs.inner.Turns.{ShowsNodes}
 use Rattle.olc_state.specs.inner.World.{PlacedNode, NodeMap}
-use Rattle.olc_state.proofs.Reaching.{keeps_stands, stands_keeps}
+use Rattle.olc_state.proofs.Reaching.{linked_reaches, one, seen_at, stands_keeps}
 use Rattle.olc_scan.specs.inner.Passed.{PassesNone, IsFirstChild}
-use Rattle.olc_scan.proofs.Passing.{passes_all, first_stands, first_low, first_small, first_before, first_from_cursor, passes_down, passes_over}
+use Rattle.olc_scan.proofs.Passing.{passes_all, first_low, first_before, first_from_cursor, passes_down, passes_over}
 
 -- a payload that is found is at the reach or above
 pub pair_after : {M : Type 0} (t : NodeMap M) (root slot : ℕ) (a : PlacedNode M) (c : ℕ) (placed : IsPlaced t root) (linked : IsLinked t slot a) (small : c < 2 ^ 64) (under : c < high a.node.prefix)
@@ -31,10 +31,16 @@ module _ {M : Type 0} (t : NodeMap M) (root : ℕ) (s : State M) (placed : IsPla
 
   -- the first child is a payload: its key is stored, and none before it
   module _ (y : ℕ) (u : M) (first : IsFirstChild (bound_at c a.node.prefix) a.node.children y (Payload u)) where
-    pub pair_stands : IsStoredAt s (low (a.node.prefix ++ y ∷ [])) u
-    pair_stands =
-        keeps_stands t root s placed shows (low (a.node.prefix ++ y ∷ [])) u
-        (first_small t root slot a c placed linked small under y u first) (first_stands t root slot a c placed linked small under y u first)
+    pub pair_stands : (h : IsStoredAt s (low (a.node.prefix ++ y ∷ [])) u) × (h.slot ≡ slot)
+    pair_stands = (
+      record {
+        slot = slot;
+        byte = y;
+        payload = record { above = one a; reaches = linked_reaches t root s placed shows slot a linked; here = seen_at t root s shows slot a linked.here; entry = first.here };
+        key_is = refl;
+      },
+      refl,
+    )
 
     pub none_before : NoneIsStored s reach (low (a.node.prefix ++ y ∷ []))
     none_before = none_stands (low (a.node.prefix ++ y ∷ [])) (first_before t root slot a c placed linked small under y u first)

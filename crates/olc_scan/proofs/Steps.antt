@@ -1,12 +1,13 @@
 -- A range after an event, and that the event is one of its kind.
-use Rattle.std.proofs.Common.{◌≡◌, ◌≢◌, ℕ, ◌+◌, ◌<◌, ◌≤◌, ◌^◌, max, Bool, true, false, List, [], ◌∷◌, Option, Some, None, ◌⊎◌, inl, inr, refl, sym, subst, ap, ◌∙◌, arith}
+use Rattle.std.proofs.Common.{◌≡◌, ◌≢◌, ℕ, ◌+◌, ◌<◌, ◌≤◌, ◌^◌, max, Bool, true, false, List, [], ◌∷◌, Option, Some, None, IsSome, ◌⊎◌, inl, inr, refl, sym, subst, ap, ◌∙◌, arith}
 use Rattle.spec_map.specs.Map.{lookup, put}
 use Rattle.spec_map.proofs.MapLaws.{lookup-put_same, lookup-put_other}
 use Rattle.node_table.specs.Key.{low, high}
 use Rattle.spec_olc.specs.Calls.{Outline}
 use Rattle.spec_olc.specs.Kinds.{DoesAs, report_of}
 use Rattle.spec_olc.specs.Content.{IsStoredAt}
-use Rattle.spec_olc.specs.Reading.{Gives, GoesOn, HasAll, LooksOn, MayGive, MovesOn, NoneIsStored}
+use Rattle.spec_olc.specs.Local.{seen_child, seen_payload}
+use Rattle.spec_olc.specs.Reading.{ComesTo, Gives, GoesOn, HasAll, LooksOn, MayGive, MovesOn, NoneIsStored, Remembered}
 use Rattle.spec_olc.specs.State.{CallState, State, back, with_call}
 use Rattle.spec_olc.specs.declared.types.Asking.{Asking}
 use Rattle.spec_olc.specs.declared.types.Env.{Env}
@@ -159,6 +160,7 @@ module _ {M : Type 0} (Granted : Type 0) (same : M → M → Bool) (t : NodeMap 
           record { node = a; here = here; safe = subst (λ (z : PlacedNode M). IsSafe pin z.lifetime) same_node there.safe; free = free; word = omega arith },
           goes,
           f.4,
+          f.5,
         );
         outline = refl;
         touches = λ z e. inr (inl (some_same slot z e));
@@ -197,34 +199,42 @@ module _ {M : Type 0} (Granted : Type 0) (same : M → M → Bool) (t : NodeMap 
 
     -- that passes
     module _ (word : a.word ≡ spot.word) where
-      looks : (s : State M) (planned : CallState M) → MovesOn s (now scan) planned → LooksOn task.outline s (now scan) planned
-      looks s planned m = subst (λ (o : Outline). LooksOn o s (now scan) planned) (sym at.ranging.outline) m
+      -- the node that was checked
+      abbrev pub checked : (s : State M) → ShowsNodes t root s → Remembered s (now scan)
+      checked s shows = record { slot = spot.slot; node = one a; word = spot.word; here = seen_at t root s shows spot.slot a here; word_is = known }
+
+      -- how far the last Read leads
+      abbrev pub Leads : ℕ → ℕ → Type 0
+      Leads cursor reach = IsSome task.last × ((s : State M) (shows : ShowsNodes t root s) → ComesTo s (now scan) (checked s shows) (seen_child task.last) cursor reach)
+
+      looks : (s : State M) (shows : ShowsNodes t root s) (planned : CallState M) → MovesOn s (now scan) (checked s shows) planned → LooksOn task.outline s (now scan) (checked s shows) planned
+      looks s shows planned m = subst (λ (o : Outline). LooksOn o s (now scan) (checked s shows) planned) (sym at.ranging.outline) m
 
       Passed : ℕ → Type 0
       Passed from = (s : State M) → ShowsNodes t root s → NoneIsStored s course.reach from
 
       -- the range goes on from here
-      moves_on : (cursor reach : ℕ) (next : Scan) → course.cursor ≤ cursor → cursor ≤ reach → ((s : State M) → ShowsNodes t root s → NoneIsStored s course.reach reach) → Within (spots_on next) (spots_on scan)
+      moves_on : (cursor reach : ℕ) (next : Scan) → Leads cursor reach → course.cursor ≤ cursor → cursor ≤ reach → ((s : State M) → ShowsNodes t root s → NoneIsStored s course.reach reach) → Within (spots_on next) (spots_on scan)
           → (s : State M) (id : ℕ) → ShowsNodes t root s → DoesAs Granted same s (with_call s id (flight_on pin task (record { cursor = cursor; reach = reach; given = course.given }) next)) id (now scan) env (report_of kind.Check (Some spot.slot) 0 true) Going kind.Check
-      moves_on cursor reach next onward order none within s id shows =
+      moves_on cursor reach next leads onward order none within s id shows =
           let planned : CallState M = record (now scan) { cursor = cursor; reach = reach } in
           check_ok Granted same s id (now scan) env (inl at.ranging.undecided) spot.slot spot.word (one a) (seen_at t root s shows spot.slot a here) known planned (spots_on next) Going word
-          (looks s planned (record { cursor = cursor; reach = reach; onward = onward; order = order; passed = none s shows; next_is = inl refl })) within
+          (looks s shows planned (record { cursor = cursor; reach = reach; read = leads.0; comes = leads.1 s shows; onward = onward; order = order; passed = none s shows; next_is = inl refl })) within
 
       -- or from the root
-      moves_back : (cursor : ℕ) → course.cursor ≤ cursor → ((s : State M) → ShowsNodes t root s → NoneIsStored s course.reach cursor)
+      moves_back : (cursor : ℕ) → Leads cursor cursor → course.cursor ≤ cursor → ((s : State M) → ShowsNodes t root s → NoneIsStored s course.reach cursor)
           → (s : State M) (id : ℕ) → ShowsNodes t root s → DoesAs Granted same s (with_call s id (flight_on pin (restarted task) (moved_to course cursor) TakeRoot)) id (now scan) env (report_of kind.Check (Some spot.slot) 0 true) Going kind.Check
-      moves_back cursor onward none s id shows =
+      moves_back cursor leads onward none s id shows =
           let planned : CallState M = back (record (now scan) { cursor = cursor; reach = cursor }) in
           check_ok Granted same s id (now scan) env (inl at.ranging.undecided) spot.slot spot.word (one a) (seen_at t root s shows spot.slot a here) known planned [] Going word
-          (looks s planned (record { cursor = cursor; reach = cursor; onward = onward; order = omega arith; passed = none s shows; next_is = inr refl })) (λ z w h. absurd (none_some w h))
+          (looks s shows planned (record { cursor = cursor; reach = cursor; read = leads.0; comes = leads.1 s shows; onward = onward; order = omega arith; passed = none s shows; next_is = inr refl })) (λ z w h. absurd (none_some w h))
 
       -- it goes on here
-      pub goes_on : (cursor reach : ℕ) (next : Scan) → course.cursor ≤ cursor → cursor ≤ reach → ((s : State M) → ShowsNodes t root s → NoneIsStored s course.reach reach) → Within (spots_on next) (spots_on scan)
+      pub goes_on : (cursor reach : ℕ) (next : Scan) → Leads cursor reach → course.cursor ≤ cursor → cursor ≤ reach → ((s : State M) → ShowsNodes t root s → NoneIsStored s course.reach reach) → Within (spots_on next) (spots_on scan)
           → ScanFacts t root pin task (record { cursor = cursor; reach = reach; given = course.given }) next → ((slot : ℕ) → IsIn slot (named_on next) → (slot ≡ root) ⊎ (IsIn slot (named_on scan) ⊎ MayFollowScan t scan task.last slot))
           → ((slot : ℕ) → MayFollowScan t next task.last slot → ⊥)
           → IsScanned Granted same t root pin task course scan env task (record { cursor = cursor; reach = reach; given = course.given }) next (report_of kind.Check (Some spot.slot) 0 true) Going
-      goes_on cursor reach next onward order none within facts names reads = record {
+      goes_on cursor reach next leads onward order none within facts names reads = record {
         facts = facts;
         outline = refl;
         touches = touched;
@@ -232,13 +242,13 @@ module _ {M : Type 0} (Granted : Type 0) (same : M → M → Bool) (t : NodeMap 
         reads = λ z h. absurd (reads z h);
         keeps = λ z w h. inl (within z w h);
         leaves = λ m. refl;
-        does = moves_on cursor reach next onward order none within;
+        does = moves_on cursor reach next leads onward order none within;
       }
 
       -- it ends, having passed all keys below this one
-      pub ends_at : (cursor reach : ℕ) → course.cursor ≤ cursor → cursor ≤ reach → ((s : State M) → ShowsNodes t root s → NoneIsStored s course.reach reach) → HasAll task.outline reach course.given
+      pub ends_at : (cursor reach : ℕ) → Leads cursor reach → course.cursor ≤ cursor → cursor ≤ reach → ((s : State M) → ShowsNodes t root s → NoneIsStored s course.reach reach) → HasAll task.outline reach course.given
           → IsScanned Granted same t root pin task course scan env task (record { cursor = cursor; reach = reach; given = course.given }) Finish (report_of kind.Check (Some spot.slot) 0 true) Going
-      ends_at cursor reach onward order none all = record {
+      ends_at cursor reach leads onward order none all = record {
         facts = inr (at.ranging.undecided, all, (Range at.ranging.start at.ranging.end at.ranging.limit, at.ranging.op, sym at.ranging.outline));
         outline = refl;
         touches = touched;
@@ -246,13 +256,13 @@ module _ {M : Type 0} (Granted : Type 0) (same : M → M → Bool) (t : NodeMap 
         reads = λ z h. absurd h;
         keeps = λ z w h. absurd (none_some w h);
         leaves = λ m. refl;
-        does = moves_on cursor reach Finish onward order none (none_within (spots_on scan));
+        does = moves_on cursor reach Finish leads onward order none (none_within (spots_on scan));
       }
 
       -- it restarts at the root, at this key
-      pub begins_at : (cursor : ℕ) → course.cursor ≤ cursor → cursor < 2 ^ 64 → ((s : State M) → ShowsNodes t root s → NoneIsStored s course.reach cursor)
+      pub begins_at : (cursor : ℕ) → Leads cursor cursor → course.cursor ≤ cursor → cursor < 2 ^ 64 → ((s : State M) → ShowsNodes t root s → NoneIsStored s course.reach cursor)
           → IsScanned Granted same t root pin task course scan env (restarted task) (moved_to course cursor) TakeRoot (report_of kind.Check (Some spot.slot) 0 true) Going
-      begins_at cursor onward small none = record {
+      begins_at cursor leads onward small none = record {
         facts = (
           record {
             start = at.ranging.start;
@@ -275,13 +285,13 @@ module _ {M : Type 0} (Granted : Type 0) (same : M → M → Bool) (t : NodeMap 
         reads = λ z h. absurd h;
         keeps = λ z w h. absurd (none_some w h);
         leaves = λ m. refl;
-        does = moves_back cursor onward none;
+        does = moves_back cursor leads onward none;
       }
 
       -- IT RETURNS A PAIR that is stored now
-      module _ (key : ℕ) (value : M) (from : course.reach ≤ key) (small : key + 1 < 2 ^ 64) (may : MayGive task.outline course.given key) (at_key : (s : State M) → ShowsNodes t root s → IsStoredAt s key value) (none : (s : State M) → ShowsNodes t root s → NoneIsStored s course.reach key) where
-        gives : (s : State M) → ShowsNodes t root s → (planned : CallState M) → GoesOn (record (now scan) { cursor = key + 1; reach = key + 1; given = course.given + 1 }) planned → Gives s (now scan) planned key value
-        gives s shows planned on = record { from = from; may = may; at_key = at_key s shows; passed = none s shows; next_is = on }
+      module _ (key : ℕ) (value : M) (from : course.reach ≤ key) (small : key + 1 < 2 ^ 64) (may : MayGive task.outline course.given key) (at_key : (s : State M) → ShowsNodes t root s → (h : IsStoredAt s key value) × (h.slot ≡ spot.slot)) (saw : seen_payload task.last ≡ Some value) (none : (s : State M) → ShowsNodes t root s → NoneIsStored s course.reach key) where
+        gives : (s : State M) (shows : ShowsNodes t root s) (planned : CallState M) → GoesOn (record (now scan) { cursor = key + 1; reach = key + 1; given = course.given + 1 }) planned → Gives s (now scan) (checked s shows) planned key value
+        gives s shows planned on = record { saw = saw; from = from; may = may; at_key = (at_key s shows).0; at_node = (at_key s shows).1; passed = none s shows; next_is = on }
 
         room : course.given < at.ranging.limit
         room = let h : (key < at.ranging.end) × (course.given < at.ranging.limit) = subst (λ (o : Outline). MayGive o course.given key) at.ranging.outline may in h.1

@@ -1,11 +1,13 @@
 -- The call after a Read on the way down of a cleanup.
-use Rattle.std.proofs.Common.{◌≡◌, ◌≢◌, ℕ, Bool, true, List, length, Option, Some, None, inl, inr, refl, sym, subst, ap, ◌∙◌, arith}
+use Rattle.std.proofs.Common.{◌≡◌, ◌≢◌, ℕ, ◌<◌, ◌≤◌, ◌⊎◌, Bool, true, List, length, Option, Some, None, inl, inr, refl, sym, subst, ap, ◌∙◌, arith}
+use Rattle.node_table.specs.Key.{next_byte}
 use Rattle.node_table.specs.TableNode.{TableNode}
 use Rattle.node_table.specs.declared.child.Child.{Child}
 use Rattle.node_table.specs.declared.child.Child.TheVariants.{Payload, Node as below_at}
-use Rattle.spec_olc.specs.Calls.{key_of}
+use Rattle.spec_olc.specs.Calls.{bytes_of, key_of}
 use Rattle.spec_olc.specs.Kinds.{report_of}
 use Rattle.spec_olc.specs.Local.{SeesPayloads}
+use Rattle.spec_olc.specs.Meaning.{child_of, in_some}
 use Rattle.spec_olc.specs.Reading.{IsSeenOf}
 use Rattle.spec_olc.specs.declared.types.Env.{Env}
 use Rattle.spec_olc.specs.declared.types.Kind.TheVariants as kind
@@ -19,21 +21,25 @@ use Rattle.olc_state.specs.declared.stage.Stage.TheVariants as stage
 use Rattle.olc_state.specs.declared.stage.Task.{Task}
 use Rattle.olc_state.specs.inner.CleanupFacts.{IsSeeking}
 use Rattle.olc_state.specs.inner.Facts.{Facts}
+use Rattle.olc_state.specs.inner.Meant.{meant_node}
 use Rattle.olc_state.specs.inner.Shown.{flight}
 use Rattle.olc_state.specs.inner.Tables.{IsPlaced}
 use Rattle.olc_state.specs.inner.TailFacts.{found}
 use Rattle.olc_state.specs.inner.Tasks.{key_bytes, CleansUp}
 use Rattle.olc_state.specs.inner.Turns.{IsCourse, IsRead}
 use Rattle.olc_state.specs.inner.World.{NodeMap, PlacedNode}
-use Rattle.olc_state.proofs.Options.{some_same}
+use Rattle.olc_state.proofs.Options.{none_some, some_same}
+use Rattle.olc_state.proofs.Ways.{payload_below, slots_same}
 use Rattle.olc_state.proofs.Reaching.{one, seen_at}
 use Rattle.olc_state.proofs.Records.{at}
 use Rattle.olc_descend.specs.inner.Looked.{HasPayload, IsFull}
 use Rattle.olc_descend.proofs.Checks.{child_point}
 use Rattle.olc_descend.proofs.Courses.{still_current}
+use Rattle.olc_descend.proofs.Looks.{child_means}
 use Rattle.olc_descend.proofs.Events.{read_torn, read_whole}
 use Rattle.olc_descend.proofs.Spots.{here_known}
-use Rattle.olc_seek.specs.inner.Sought.{IsSought, under}
+use Rattle.olc_seek.specs.declared.checking.Found.TheVariants.{Nothing}
+use Rattle.olc_seek.specs.inner.Sought.{IsFound, IsSought, under}
 
 module _ {M : Type 0} where
   exact_seen : (Q : Type 0) (c seen : Option (Child M)) → seen ≡ c → IsSeenOf Q c seen
@@ -74,7 +80,7 @@ module _ {M : Type 0} (Granted : Type 0) (same : M → M → Bool) (t : NodeMap 
   seeks_on seen =
       let f = facts.at in
       record {
-        cleans = record { decided = f.cleans.decided; op = f.cleans.op; fresh = f.cleans.fresh; point = f.cleans.point; removes = f.cleans.removes; short = f.cleans.short };
+        cleans = record { decided = f.cleans.decided; op = f.cleans.op; fresh = f.cleans.fresh; point = f.cleans.point; removes = f.cleans.removes; below_root = f.cleans.below_root; short = f.cleans.short };
         on = f.on;
         within = f.within;
       }
@@ -132,3 +138,17 @@ module _ {M : Type 0} (Granted : Type 0) (same : M → M → Bool) (t : NodeMap 
             (record { child = subst (λ (x : Option (Child M)). IsSeenOf (SeesPayloads Granted same call) x seen.child) (sym (child_point task.outline cleans.point (key_of task.outline) a.node)) shown; count = sought.count; full = sought.full });
         carries = λ s shows m content. refl;
       }
+
+-- that there is no node to clean up, with payloads replaced by their meanings
+module _ {P M : Type 0} (meaning : P → M) (a : TableNode P) where
+  node_means : (c : Option (Child P)) (slot : ℕ) → in_some (child_of meaning) c ≡ Some (below_at slot) → c ≡ Some (below_at slot)
+  node_means None slot e = absurd (none_some (below_at slot) e)
+  node_means (Some (Payload v)) slot e = absurd (payload_below (meaning v) slot (sym e))
+  node_means (Some (below_at s)) slot e = ap (λ (z : ℕ). Some (below_at z)) (slots_same s slot e)
+
+  pub nothing_means : (key other depth : ℕ) (path : Path) → key ≡ other → IsFound a (bytes_of key) depth path Nothing
+      → ((depth ≤ length a.prefix) × (path.above ≡ None)) ⊎ ((length a.prefix < depth) × ((slot : ℕ) → under (meant_node meaning a) (bytes_of other) ≢ Some (below_at slot)))
+  nothing_means key other depth path same nothing = elim nothing [
+    | inl top ↦ inl top
+    | inr none ↦ inr (none.0, (λ slot e. none.1 slot (node_means (under a (bytes_of key)) slot (sym (child_means meaning a (next_byte a.prefix (bytes_of key))) ∙ subst (λ (k : ℕ). under (meant_node meaning a) (bytes_of k) ≡ Some (below_at slot)) (sym same) e))))
+  ]

@@ -2,7 +2,6 @@
 //!
 //! Tested in `tools/dev/try-schedules`.
 
-ghost use Rattle.std.specs.Prelude.{◌≡◌};
 ghost use Rattle.spec_olc.specs.Calls.{bytes_of};
 ghost use Rattle.spec_olc.specs.declared.types.Env.{Env};
 ghost use Rattle.olc_state.specs.inner.Meant.{meant_table};
@@ -57,7 +56,7 @@ pub(crate) fn check<P: HasMeaning>(
     match find(&node.node, task.outline.key(), cleanup.length, path) {
         Found::Here(pair) => going(Stage::Tidy(cleanup, Tidy::UpgradeAbove(pair)), report),
         Found::Below(slot) => going(Stage::Seek(cleanup, Seek::TakeBelow(path, slot)), report),
-        Found::Nothing => going(Stage::Seek(cleanup, Seek::Finish), report),
+        Found::Nothing => going(Stage::Finish, report),
     }
 }
 
@@ -108,6 +107,6 @@ pub(crate) fn check_above<P: HasMeaning>(
         let next = Seek::Read(Path { above, here: below });
         going(Stage::Seek(cleanup, next), report)
     } else {
-        going(Stage::Seek(cleanup, Seek::Finish), report)
+        going(Stage::Finish, report)
     }
 }

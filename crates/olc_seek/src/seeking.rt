@@ -2,7 +2,7 @@
 //!
 //! Tested in `tools/dev/try-schedules`.
 
-ghost use Rattle.std.specs.Prelude.{◌≡◌, ◌≢◌};
+ghost use Rattle.std.specs.Prelude.{◌≡◌};
 ghost use Rattle.spec_olc.specs.declared.types.Env.{Env};
 ghost use Rattle.olc_state.specs.inner.Meant.{meant_table};
 ghost use Rattle.olc_state.specs.inner.Tables.{IsPlaced};
@@ -31,7 +31,6 @@ pub fn seek<P: HasMeaning>(
     requires placed { IsPlaced (meant_table P.meaning store.now) store.now.root }
     requires facts { KnowsMeant P.always_shared P.same_meaning P.meaning store.now pin
         (record { stage = Stage.Seek cleanup seek; task = task.old }) }
-    requires goes { seek ≢ Seek.Finish }
     ensures { (env : Env P) → env.torn ≡ torn
         → ReadsOnly P.always_shared P.same_meaning P.meaning store.now pin
         (record { stage = Stage.Seek cleanup seek; task = task.old }) env
@@ -45,6 +44,5 @@ pub fn seek<P: HasMeaning>(
         Seek::CheckAbove(path, below, fits) => {
             check_above(store, pin, task, cleanup, path, below, fits)
         }
-        Seek::Finish => unreachable!(),
     }
 }

@@ -114,7 +114,7 @@ module _ {M : Type 0} (t : NodeMap M) where
   tidy_holds pin task c (tidy.TakeAway pair) slot f h = both_stand pair _ slot f.0.held h
   tidy_holds pin task c (tidy.MakeSmaller pair) slot f h = both_stand pair _ slot f.0.held h
   tidy_holds pin task c (tidy.PutSmaller pair copy) slot f h = both_stand pair _ slot f.0.held h
-  tidy_holds pin task c (tidy.UnlockBelow pair) slot f h = two_of StandsLocked pair.here.slot pair.above.slot slot (held_stands pair.here f.2) (held_stands pair.above f.1) h
+  tidy_holds pin task c (tidy.UnlockBelow pair) slot f h = both_stand pair _ slot f.0.held h
 
   tidy_made : (pin : ℕ) (task : Task M) (c : Cleanup) (x : Tidy) (slot : ℕ) → TidyFacts t pin task c x → IsTrue (is_in slot (made_tidying x)) → StandsPrivate slot
   tidy_made pin task c (tidy.PutSmaller pair copy) slot f h = one_of StandsPrivate copy slot (made_stands copy _ f.1) h

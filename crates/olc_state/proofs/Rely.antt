@@ -23,7 +23,7 @@ use Rattle.olc_state.specs.declared.cleanup.Seek.{Seek}
 use Rattle.olc_state.specs.declared.cleanup.Seek.TheVariants as seek
 use Rattle.olc_state.specs.declared.cleanup.Tidy.{Tidy}
 use Rattle.olc_state.specs.declared.cleanup.Tidy.TheVariants as tidy
-use Rattle.olc_state.specs.inner.CleanupFacts.{CleansAt, IsSeeking, IsWithin, SeekFacts, TidyFacts, smaller_of}
+use Rattle.olc_state.specs.inner.CleanupFacts.{CleansAt, HasDepth, IsNearer, IsSeeking, IsWithin, LeadsTo, SeekFacts, TidyFacts, smaller_of}
 use Rattle.olc_state.specs.inner.CleanupStages.{held_tidying, made_tidying}
 use Rattle.olc_state.specs.inner.Scans.{GoesTo, IsAtNode, LeadsFirst, LooksAt, SawFirst, ScanFacts}
 use Rattle.olc_state.specs.declared.scan.RangeProgress.{RangeProgress}
@@ -138,6 +138,7 @@ module _ {M : Type 0} (t t' : NodeMap M) (Mine : ℕ → Type 0) (pin : ℕ) (g 
     there_lasts slot f.2,
     f.3,
     f.4,
+    f.5,
   )
   scan_lasts root task course (scan.CheckAbove spot below from) f = (
     is_at_lasts task course spot f.0,
@@ -145,12 +146,22 @@ module _ {M : Type 0} (t t' : NodeMap M) (Mine : ℕ → Type 0) (pin : ℕ) (g 
     known_lasts below f.2,
     goes_lasts below course.cursor from f.2 f.3,
     f.4,
+    f.5,
   )
   scan_lasts root task course scan.Finish f = f
 
   -- what a call that cleans up knows on its way down
   within_lasts : (spot : Spot) (k : List ℕ) (most : ℕ) → Known t pin spot → IsWithin t spot.slot k most → IsWithin t' spot.slot k most
   within_lasts spot k most kn f b bt = first_lasts spot (λ p. Begins p k × (length p ≤ most)) kn f b bt
+
+  depth_lasts : (spot : Spot) (k : List ℕ) (depth : ℕ) → Known t pin spot → HasDepth t spot.slot k depth → HasDepth t' spot.slot k depth
+  depth_lasts spot k depth kn f b bt = first_lasts spot (λ p. Begins p k × (length p ≡ depth)) kn f b bt
+
+  nearer_lasts : (spot : Spot) (depth : ℕ) → Known t pin spot → IsNearer t spot.slot depth → IsNearer t' spot.slot depth
+  nearer_lasts spot depth kn f b bt = first_lasts spot (λ p. length p < depth) kn f b bt
+
+  leads_to_lasts : (spot : Spot) (k : List ℕ) (most : ℕ) (fits : Bool) → Known t pin spot → LeadsTo t spot.slot k most fits → LeadsTo t' spot.slot k most fits
+  leads_to_lasts spot k most fits kn f b bt = first_lasts spot (λ p. IsTrue fits ↔ (Begins p k × (length p ≤ most))) kn f b bt
 
   seeking_lasts : (root : ℕ) (task : Task M) (c : Cleanup) (path : Path) → IsSeeking t root pin task c path → IsSeeking t' root pin task c path
   seeking_lasts root task c path f = record {
@@ -176,15 +187,18 @@ module _ {M : Type 0} (t t' : NodeMap M) (Mine : ℕ → Type 0) (pin : ℕ) (g 
     there_lasts slot f.2,
     f.3,
     f.4,
+    f.5,
+    nearer_lasts path.here c.length f.0.on.here f.6,
   )
   seek_lasts Granted root task c (seek.CheckAbove path spot fits) f = (
     seeking_lasts root task c path f.0,
     led_lasts path.here (key_bytes task) spot.slot f.0.on.here f.1,
     known_lasts spot f.2,
-    (λ good. within_lasts spot (key_bytes task) c.length f.2 (f.3 good)),
+    leads_to_lasts spot (key_bytes task) c.length fits f.2 f.3,
     f.4,
+    f.5,
+    nearer_lasts path.here c.length f.0.on.here f.6,
   )
-  seek_lasts Granted root task c seek.Finish f = f
 
   -- an event of another call leaves what this one holds as it is
   stays : (slot : ℕ) (a : PlacedNode M) → t slot ≡ Some a → IsSafe pin a.lifetime → (IsFree a.word → ⊥) → (Mine slot → ⊥) → t' slot ≡ Some a
@@ -289,27 +303,23 @@ module _ {M : Type 0} (t t' : NodeMap M) (Mine : ℕ → Type 0) (pin : ℕ) (g 
       known_lasts pair.above f.2,
       led_lasts pair.above (key_bytes task) pair.here.slot f.2 f.3,
       known_lasts pair.here f.4,
-      within_lasts pair.here (key_bytes task) c.length f.4 f.5,
+      depth_lasts pair.here (key_bytes task) c.length f.4 f.5,
     )
     tidy_lasts task c (tidy.UpgradeBelow pair) held made f = (
       f.0,
       above_lasts pair (key_bytes task) (held_there pair.above f.2.0) f.1,
       (held_lasts pair.above f.2.0 (held pair.above.slot (first_in pair.above.slot [])), f.2.1),
       known_lasts pair.here f.3,
-      within_lasts pair.here (key_bytes task) c.length f.3 f.4,
+      depth_lasts pair.here (key_bytes task) c.length f.3 f.4,
     )
     tidy_lasts task c (tidy.TakeAway pair) held made f = (cleans_at_lasts task c pair held f.0, f.1)
     tidy_lasts task c (tidy.MakeSmaller pair) held made f = (cleans_at_lasts task c pair held f.0, f.1)
     tidy_lasts task c (tidy.PutSmaller pair copy) held made f = (
       cleans_at_lasts task c pair held f.0,
       made_lasts copy (smaller_of f.0.held.here.node.node) (made copy (first_in copy [])) f.1,
+      f.2,
     )
-    tidy_lasts task c (tidy.UnlockBelow pair) held made f = (
-      f.0,
-      held_lasts pair.above f.1 (held pair.above.slot (next_in pair.here.slot pair.above.slot (pair.above.slot ∷ []) (first_in pair.above.slot []))),
-      held_lasts pair.here f.2 (held pair.here.slot (first_in pair.here.slot (pair.above.slot ∷ []))),
-      f.3,
-    )
+    tidy_lasts task c (tidy.UnlockBelow pair) held made f = (cleans_at_lasts task c pair held f.0, f.1)
 
   module _ (Granted : Type 0) (same : M → M → Bool) where
     -- what agrees with a node, by the node alone
@@ -363,6 +373,7 @@ module _ {M : Type 0} (t t' : NodeMap M) (Mine : ℕ → Type 0) (pin : ℕ) (g 
     small_same small task a b e h = record {
       writes = subst (λ (c : Option (Child M)). WritesAtKey Granted same task (payload_in c)) (same_found a b (key_bytes task) e) h.writes;
       is = same_small small a b (key_bytes task) e h.is;
+      differs = λ old new there. h.differs old new (same_found a b (key_bytes task) e ∙ there);
     }
 
     large_same : (large : Large) (task : Task M) (a b : PlacedNode M) → b.node ≡ a.node → LargeWork Granted same large task a → LargeWork Granted same large task b
@@ -401,6 +412,7 @@ module _ {M : Type 0} (t t' : NodeMap M) (Mine : ℕ → Type 0) (pin : ℕ) (g 
       f.0,
       path_lasts root (key_bytes task) (path_to pair) f.1,
       node_lasts pair.here (IsPresent Granted same only task) (present_same only task) f.1.here f.2,
+      f.3,
     )
     case_lasts root task (case.Small path small) f = (
       f.0,
@@ -419,6 +431,7 @@ module _ {M : Type 0} (t t' : NodeMap M) (Mine : ℕ → Type 0) (pin : ℕ) (g 
     below_lasts : (task : Task M) (pair : NodePair) (large : Large) → IsThere t pin pair.above.slot → Below Granted same t pin task pair large → Below Granted same t' pin task pair large
     below_lasts task pair large there f = record {
       opened = f.opened;
+      writing = f.writing;
       over = above_lasts pair (key_bytes task) there f.over;
       here = known_lasts pair.here f.here;
       work = large_lasts pair.here large task f.here f.work;
@@ -444,7 +457,7 @@ module _ {M : Type 0} (t t' : NodeMap M) (Mine : ℕ → Type 0) (pin : ℕ) (g 
       tail_lasts : (root : ℕ) (task : Task M) (tail : Tail) → ((s : ℕ) → IsTrue (is_in s (held_in tail)) → Mine s → ⊥) → ((s : ℕ) → IsTrue (is_in s (made_in tail)) → Mine s → ⊥)
           → TailFacts Granted same t root pin task tail → TailFacts Granted same t' root pin task tail
       tail_lasts root task (Upgrade path small) held made f =
-          (f.0, path_lasts root (key_bytes task) path f.1, small_lasts path.here small task f.1.here f.2)
+          (f.0, path_lasts root (key_bytes task) path f.1, small_lasts path.here small task f.1.here f.2, f.3)
       tail_lasts root task (Write spot) held made f = at_node_lasts task spot Entry (held spot.slot (first_in spot.slot [])) f
       tail_lasts root task (MakeLeaf spot) held made f = at_node_lasts task spot Leaf (held spot.slot (first_in spot.slot [])) f
       tail_lasts root task (Link spot leaf) held made f = (

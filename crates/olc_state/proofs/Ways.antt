@@ -61,7 +61,7 @@ module _ {P : Type 0} where
   pub slots_same : (s r : ℕ) → let c : Child P = below_at s in let d : Child P = below_at r in Some c ≡ Some d → s ≡ r
   slots_same s r e = cc
 
-  payload_below : (v : P) (r : ℕ) → let c : Child P = below_at r in Some c ≡ Some (Payload v) → ⊥
+  pub payload_below : (v : P) (r : ℕ) → let c : Child P = below_at r in Some c ≡ Some (Payload v) → ⊥
   payload_below v r e = cc
 
   module _ (t : NodeMap P) (root : ℕ) (k : List ℕ) (placed : IsPlaced t root) where

@@ -38,8 +38,6 @@ pub enum Seek {
     /// The node that was taken, and whether it leads on: its prefix begins the key and isn't longer than the one that
     /// is looked for.
     CheckAbove(Path, Spot, bool),
-    /// The node isn't there any more.
-    Finish,
 }
 
 /// The next event at the node and its parent. Where the node of a `Spot` is held, the word is the one before the

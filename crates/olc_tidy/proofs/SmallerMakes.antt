@@ -9,7 +9,7 @@ use Rattle.node_table.proofs.KindLaws.{length-mapped}
 use Rattle.spec_olc.specs.Kinds.{refusal, refused, report_of}
 use Rattle.spec_olc.specs.Meaning.{child_of, env_of}
 use Rattle.spec_olc.specs.State.{State}
-use Rattle.spec_olc.specs.Writing.{HeldNode, IsNewNode}
+use Rattle.spec_olc.specs.Writing.{HeldNode, IsCopy, IsNewNode}
 use Rattle.spec_olc.specs.declared.types.Env.{Env}
 use Rattle.spec_olc.specs.declared.types.Kind.TheVariants as kind
 use Rattle.spec_olc.specs.declared.types.Outcome.TheVariants.{Going}
@@ -61,12 +61,14 @@ module _ {M : Type 0} (cleanup : Cleanup) (pair : NodePair) where
       → Begins held.node.node.prefix (key_bytes task) → Rises 0 256 held.node.node.children → length held.node.node.children ≤ few_in held.node.node.form
       → ((byte : ℕ) (c : Child M) → lookup held.node.node.children byte ≡ Some c → MayHave held.node.node.prefix c)
       → IsNewNode s (flight pin (at (making cleanup pair) task)) (smaller_of held.node.node)
-  smaller_new s pin task held way rises few kinds = record {
-    way = way;
-    ascending = rises;
-    fits = fits_few held.node.node.form (length held.node.node.children) few;
-    entries = λ byte c h. (kinds byte c h, inr (inl (record { from = held; prefix_is = refl; entry = h })));
-  }
+  smaller_new s pin task held way rises few kinds =
+      let copy : IsCopy s (flight pin (at (making cleanup pair) task)) (smaller_of held.node.node) = record { from = held; prefix_is = refl; form_is = refl } in record {
+        way = way;
+        ascending = rises;
+        fits = fits_few held.node.node.form (length held.node.node.children) few;
+        form_is = inr copy;
+        entries = λ byte c h. (kinds byte c h, inr (inl (copy, h)));
+      }
 
   -- what the call knows after its Make
   pub smaller_made : (t t' : NodeMap M) (pin slot : ℕ) (task : Task M) (a : TableNode M) → t slot ≡ None → t' slot ≡ Some (made_node a) → ((o : ℕ) → o ≢ slot → t' o ≡ t o)
@@ -82,6 +84,7 @@ module _ {M : Type 0} (cleanup : Cleanup) (pair : NodePair) where
           reaches = facts.0.reaches;
         },
         record { node = made_node a; here = here; lifetime = refl; word = refl; is = is },
+        facts.1,
       )
 
   -- a call that has its reply stops to clean up
@@ -116,7 +119,7 @@ module _ {P A M : Type 0} (meaning : P → M) (charge : A → Option ℕ) (Grant
         move = granted Granted same t t' old.store.root pin (counts_in meaning charge old) (counts_in meaning charge new) job (env_of meaning env) (making cleanup pair) kept.placed (inr (cleans.decided, refl)) (cleans.point, inr refl)
             (Tidy cleanup (PutSmaller pair slot)) slot (meant_node meaning adds.node) (made_of t t' slot (meant_node meaning adds.node) adds.adds.empty adds.adds.here adds.adds.others)
             adds.adds.rest.count adds.adds.rest.entries adds.adds.charged
-            (record { holds = cons_none pair.here.slot (pair.above.slot ∷ []); held = refl; named = refl; remembered = refl }) refl refl (λ z h. h) (omega arith)
+            (record { holds = cons_none pair.here.slot (pair.above.slot ∷ []); held = refl; named = refl; remembered = refl }) refl refl (λ z h. h) (omega arith) (omega arith)
             (λ s shows. subst (λ (a : TableNode M). IsNewNode s (flight pin (at (making cleanup pair) job)) a) (sym is)
             (smaller_new cleanup pair s pin job (record { slot = pair.here.slot; node = one x; mine = first_in pair.here.slot (pair.above.slot ∷ []); here = seen_at t old.store.root s shows pair.here.slot x held.linked.here })
             facts.at.0.reaches.0 (kept.placed.ordered pair.here.slot x held.linked) facts.at.1 (placed_kinds t old.store.root pair.here.slot x kept.placed held.linked)))

@@ -1,5 +1,5 @@
 -- THE WRITES OF A CLEANUP over the stock of nodes that the code changes, and what is due at a node there.
-use Rattle.std.proofs.Common.{◌≡◌, ◌≢◌, ℕ, ◌≤◌, Bool, true, List, [], ◌∷◌, Option, Some, None, IsSome, inl, inr, refl, sym, subst, ap, ◌∙◌}
+use Rattle.std.proofs.Common.{◌≡◌, ◌≢◌, ℕ, ◌<◌, ◌≤◌, Bool, true, List, [], ◌∷◌, Option, Some, None, IsSome, inl, inr, refl, sym, subst, ap, ◌∙◌}
 use Rattle.node_base.specs.Form.{few_in}
 use Rattle.node_table.proofs.KindLaws.{length-mapped}
 use Rattle.node_table.specs.TableNode.{TableNode}
@@ -43,7 +43,7 @@ module _ {P M : Type 0} (meaning : P → M) where
   due_meant : (n : TableNode P) (pair : NodePair) (x : TidyStep) → IsDueAs n pair x → IsDueAs (meant_node meaning n) pair x
   due_meant n pair (tidy.TakeAway p) h = (h.0, ap (mapped (child_of meaning)) h.1)
   due_meant n pair (tidy.MakeSmaller p) h = (h.0, subst (λ z. z ≤ few_in n.form) (sym (length-mapped (child_of meaning) n.children)) h.1)
-  due_meant n pair (tidy.UnlockBelow p) h = h
+  due_meant n pair (tidy.UnlockBelow p) h = (h.0, subst (λ z. few_in n.form < z) (sym (length-mapped (child_of meaning) n.children)) h.1)
   due_meant n pair x h = absurd h
 
   pub due_here : {word : ℕ} {life : NodeLifetime} (n : TableNode P) (pair : NodePair) (x : TidyStep) (a : PlacedNode M) → IsDueAs n pair x → Some a ≡ Some (record { word = word; node = meant_node meaning n; lifetime = life }) → IsDueAs a.node pair x
@@ -186,13 +186,13 @@ module _ {P A M : Type 0} (meaning : P → M) (charge : A → Option ℕ) (Grant
             let after : Stock P A = record new { store = s3 } in
             let placed : IsPlaced t' old.store.root =
             put_placed Granted same t t' old.store.root pin (meant_task meaning task) pair kept.placed facts.small (counts_in meaning charge old) (counts_in meaning charge after) (env_of meaning env)
-            (ap (λ z. z.count) lives) (ap charge budget) entries c facts.at.0 copy facts.at.1 (fits a held.above.linked.here) above gone linked others in
+            (ap (λ z. z.count) lives) (ap charge budget) entries c facts.at.0 copy facts.at.1 facts.at.2 (fits a held.above.linked.here) above gone linked others in
             record {
               kept = still_kept meaning charge old after (p ∷ q ∷ copy ∷ []) kept others
                   (detached_still meaning t t' p q a (answered a (byte_at a k) (Some (below_at copy))) b (record b { lifetime = is_detached }) (copy ∷ []) held.above.linked above held.here.linked gone copy_private linked)
                   (subst (λ z. IsPlaced t' z) (sym root) placed) lives sizes budget;
               move = put_moves Granted same t t' old.store.root pin (meant_task meaning task) pair kept.placed facts.small (counts_in meaning charge old) (counts_in meaning charge after) (env_of meaning env)
-                  (ap (λ z. z.count) lives) (ap charge budget) entries c facts.at.0 copy facts.at.1 (fits a held.above.linked.here) above gone linked others;
+                  (ap (λ z. z.count) lives) (ap charge budget) entries c facts.at.0 copy facts.at.1 facts.at.2 (fits a held.above.linked.here) above gone linked others;
               root = root;
               seats = ap (λ z. z.seats) lives;
             }

@@ -1,18 +1,18 @@
 -- THE WRITES OF A CLEANUP at the held parent, over the table: the empty node is taken out, or the smaller copy takes
 -- its node's place. No pair changes.
 use Rattle.std.proofs.Common.{◌≡◌, ◌≢◌, ℕ, ◌+◌, ◌^◌, ◌<◌, ◌≤◌, Bool, true, false, IsTrue, List, [], ◌∷◌, length, Option, Some, None, inl, inr, refl, sym, subst, ap, ◌∙◌, arith}
-use Rattle.node_base.specs.Form.{Fits}
+use Rattle.node_base.specs.Form.{Fits, few_in}
 use Rattle.spec_map.specs.Map.{lookup, put}
 use Rattle.node_table.specs.TableNode.{MayHave, TableNode}
 use Rattle.node_table.specs.declared.child.Child.{Child}
 use Rattle.node_table.specs.declared.child.Child.TheVariants.{Node as below_at}
 use Rattle.spec_olc.specs.Calls.{key_of, stored}
-use Rattle.spec_olc.specs.Due.{IsLeft}
+use Rattle.spec_olc.specs.Due.{IsDue, IsLeft}
 use Rattle.spec_olc.specs.Kinds.{DoesAs, report_of}
 use Rattle.spec_olc.specs.Lists.{is_in}
-use Rattle.spec_olc.specs.State.{State, CallState, settled}
+use Rattle.spec_olc.specs.State.{State, CallState, Cleaning, settled}
 use Rattle.spec_olc.specs.State as state
-use Rattle.spec_olc.specs.Writing.{HeldNode, IsOwn, TakesOut, changed, emptied, entry_below, linked}
+use Rattle.spec_olc.specs.Writing.{HeldNode, IsChanged, IsOwn, TakesOut, changed, emptied, entry_below, linked}
 use Rattle.spec_olc.specs.declared.types.Asking.{Asking}
 use Rattle.spec_olc.specs.declared.types.Asking.TheVariants.{Fresh}
 use Rattle.spec_olc.specs.declared.types.Env.{Env}
@@ -34,14 +34,15 @@ use Rattle.olc_state.specs.inner.Facts.{Holding}
 use Rattle.olc_state.specs.inner.Moves.{IsAfter, IsMove, StoreCounts}
 use Rattle.olc_state.specs.inner.Shown.{flight}
 use Rattle.olc_state.specs.inner.Tables.{IsBelow, IsIn, IsPlaced, byte_at}
-use Rattle.olc_state.specs.inner.TailFacts.{EndsWith, IsPrivateOf}
-use Rattle.olc_state.specs.inner.Tails.{both_slots, length_in, more_work, unlock_work}
+use Rattle.olc_state.specs.inner.TailFacts.{EndsWith, IsPrivateOf, found}
+use Rattle.olc_state.specs.inner.Tails.{both_slots, cleaning_of, left_in, more_work, unlock_work}
 use Rattle.olc_state.specs.inner.Tasks.{CleansUp, key_bytes}
 use Rattle.olc_state.specs.inner.Turns.{IsCourse, ShowsNodes, work_of}
 use Rattle.olc_state.specs.inner.World.{PlacedNode, NodeMap, is_detached}
 use Rattle.olc_state.proofs.Holding.{none_of}
 use Rattle.olc_state.proofs.Members.{first_in, listed, next_in, told}
 use Rattle.olc_state.proofs.Options.{none_some, some_same}
+use Rattle.olc_state.proofs.Unlike.{false_true}
 use Rattle.olc_state.proofs.Reaching.{one, seen_at}
 use Rattle.olc_state.proofs.Records.{at}
 use Rattle.olc_state.proofs.Ways.{longer-begins}
@@ -49,32 +50,22 @@ use Rattle.olc_laws.proofs.Detaching.{TakesOut as IsTakenOut, taken_effect}
 use Rattle.olc_laws.proofs.Effects.{Effect, OthersStay}
 use Rattle.olc_laws.proofs.Shrinking.{ShrinksNode, cleared_same, shrunk_effect, shrunk_same}
 use Rattle.olc_laws.proofs.Writing.{answered}
-use Rattle.olc_write.proofs.Deciding.{held_locked, nodes_written, takes_none}
+use Rattle.olc_write.proofs.Deciding.{changed_node, held_locked, nodes_written, takes_none}
 use Rattle.olc_write.proofs.Detached.{drained, nodes_taken, without_fits}
 use Rattle.olc_write.proofs.Frees.{work_over}
 use Rattle.olc_write.proofs.Growths.{BecomesLinked, IsPrivate, LeadsNow, above_inner, new_free}
 use Rattle.olc_write.proofs.Showing.{Among}
 use Rattle.olc_write.proofs.Moving.{Does, quiet_move}
 use Rattle.olc_write.proofs.Parents.{above_held, others_shown, published_by, shows_above, still_fits}
-use Rattle.olc_write.specs.inner.Leaving.{IsLeftOf}
 use Rattle.olc_tidy.proofs.Upgrades.{decided_over}
 use Rattle.olc_tidy.specs.inner.Tidying.{IsLeftAgain}
 
 module _ {M : Type 0} where
   -- what it leaves to clean up again, as a reader sees it
-  left_of : (p : Progress) (a : TableNode M) (left : Option Cleanup) → p ≡ progress.Decided → IsLeftOf false a left → IsLeft p None a (length_in left)
-  left_of progress.Open a left e h = absurd (decided_over progress.Open e refl)
-  left_of progress.Decided a None e h = tt
-  left_of progress.Refused a None e h = tt
-  left_of progress.Decided a (Some c) e h = (h.0, h.1)
-  left_of progress.Refused a (Some c) e h = (h.0, h.1)
-
-  left_none : (p : Progress) (a : TableNode M) (left : Option Cleanup) → p ≡ progress.Decided → left ≡ None → IsLeft p None a (length_in left)
-  left_none p a left e none = rw (none, e) tt
-
-  by_again : (again : Bool) (p : Progress) (a : TableNode M) (left : Option Cleanup) → p ≡ progress.Decided → IsLeftAgain again a left → IsLeft p None a (length_in left)
-  by_again true p a left e h = left_of p a left e h
-  by_again false p a left e h = left_none p a left e h
+  left_again : (c : Cleanup) (again : Bool) → c.again ≡ again → (a : TableNode M) (left : Option Cleanup) → IsLeftAgain again a left → IsLeft (Some (cleaning_of c)) None a (left_in left)
+  left_again c true is a None h = λ may none. h
+  left_again c true is a (Some d) h = (is, refl, h.0, h.1, ((λ again. absurd (false_true (sym h.2 ∙ again))), (λ none. absurd (none_some (cleaning_of c) (sym none)))))
+  left_again c false is a left h = subst (λ (l : Option Cleanup). IsLeft (Some (cleaning_of c)) None a (left_in l)) (sym h) (λ may none due. false_true (sym is ∙ may))
 
   -- a call that cleans up has nothing that a decided one hasn't
   settled_is : (call : CallState M) → call.op ≡ None → call.asking ≡ Fresh → call.progress ≡ progress.Decided → call ≡ settled progress.Decided call
@@ -90,7 +81,7 @@ module _ {M : Type 0} where
   ends_with Granted same task c cleans again a None short h = decided_over task.progress cleans.decided
   ends_with Granted same task c cleans true a (Some d) short h =
       let same_length : d.length ≡ length a.prefix = h.1 in
-      record { decided = cleans.decided; op = cleans.op; fresh = cleans.fresh; point = cleans.point; removes = cleans.removes; short = omega (arith, same_length, short) }
+      record { decided = cleans.decided; op = cleans.op; fresh = cleans.fresh; point = cleans.point; removes = cleans.removes; below_root = omega (arith, same_length, h.0.below_root); short = omega (arith, same_length, short) }
   ends_with Granted same task c cleans false a (Some d) short h = absurd (none_some d (sym h))
 
   no_nodes : (es : List (ℕ × Child M)) → es ≡ [] → (y x : ℕ) → lookup es y ≡ Some (below_at x) → ⊥
@@ -111,13 +102,15 @@ module _ {M : Type 0} (Granted : Type 0) (same : M → M → Bool) (task : Task 
   writes : (s s' : State M) (id : ℕ) (env : Env M) (next : CallState M) (books books' : StoreCounts) → IsAfter s s' id next books books' → books'.count ≡ books.count → books'.charge ≡ books.charge
       → (held : HeldNode s call) (child : Option (Child M)) (gone : Option (ℕ × state.VersionedNode M))
       → s'.nodes ≡ emptied gone (linked call.made (put s.nodes held.slot (changed call held.node child)))
-      → IsOwn call child → ((d : Child M) → child ≡ Some d → MayHave held.node.node.prefix d) → Fits held.node.node.form (length (changed call held.node child).node.children)
+      → IsOwn call child → IsChanged same (entry_below call held.node) child
+      → (due : HeldNode s call) → entry_below call held.node ≡ Some (below_at due.slot) → length due.node.node.prefix ≡ c.length → IsDue due.node.node
+      → ((d : Child M) → child ≡ Some d → MayHave held.node.node.prefix d) → Fits held.node.node.form (length (changed call held.node child).node.children)
       → TakesOut s call (entry_below call held.node) child gone
-      → (left : Option ℕ) → IsLeft task.progress child (changed call held.node child).node left
+      → (left : Option Cleaning) → IsLeft (Some (cleaning_of c)) child (changed call held.node child).node left
       → next ≡ record (settled progress.Decided (record call { made = []; cleaning = left })) { remembered = next.remembered }
       → Among next.remembered call.remembered
       → DoesAs Granted same s s' id call env (report_of kind.Write (Some held.slot) 0 true) Going kind.Write
-  writes s s' id env next books books' after count charge held child gone nodes own shape fits takes left leaves is within =
+  writes s s' id env next books books' after count charge held child gone nodes own changes due entry deep is_due shape fits takes left leaves is within =
       let count_is : books'.count ≡ s.count = count ∙ sym (ap (λ (b : StoreCounts). b.count) after.was) in
       let charge_is : books'.charge ≡ s.charge = charge ∙ sym (ap (λ (b : StoreCounts). b.charge) after.was) in (
         inr (cleans.decided, refl),
@@ -128,6 +121,8 @@ module _ {M : Type 0} (Granted : Type 0) (same : M → M → Bool) (task : Task 
           entries = books'.entries;
           is = refl;
           own = own;
+          changes = changes;
+          cleans = λ d cleaning. (due, entry, deep ∙ ap (λ (z : Cleaning). z.depth) (some_same (cleaning_of c) d cleaning), is_due);
           shape = shape;
           fits = fits;
           takes_out = takes;
@@ -178,8 +173,12 @@ module _ {M : Type 0} (Granted : Type 0) (same : M → M → Bool) (t t' : NodeM
       let same_node : below.node ≡ b = some_same below.node b (sym below.linked.here ∙ cleans_at.held.here.linked.here) in
       let longer : length a.node.prefix < length below.node.node.prefix = longer-begins a.node.prefix below.node.node.prefix (byte_at a k) below.begins in
       let is : length below.node.node.prefix ≡ length b.node.prefix = ap (λ (z : PlacedNode M). length z.node.prefix) same_node in
-      let most : length b.node.prefix ≤ c.length = cleans_at.reaches.1 in
+      let most : length b.node.prefix ≡ c.length = cleans_at.reaches.1 in
       omega (arith, longer, is, most)
+
+  -- the node is due if it has few children
+  due_by : length b.node.children ≤ few_in b.node.form → IsDue b.node
+  due_by few = let most : length b.node.prefix ≡ c.length = cleans_at.reaches.1 in record { below_root = omega (arith, most, cleans_at.cleans.below_root); few = few }
 
   -- THE EMPTY NODE IS TAKEN OUT
   module _ (empty : b.node.children ≡ []) (fits : Fits a.node.form (length a.node.children)) (above : t' p ≡ Some (answered a (byte_at a k) None)) (gone : t' q ≡ Some (record b { lifetime = is_detached })) (others : OthersStay t t' (p ∷ q ∷ [])) where
@@ -219,10 +218,12 @@ module _ {M : Type 0} (Granted : Type 0) (same : M → M → Bool) (t t' : NodeM
         writes Granted same task c cleans_at.cleans pin (tidy.TakeAway pair) s s' id env (flight pin (at (Tail (Obsolete pair left)) task)) books books' after count charge
         (above_seen (tidy.TakeAway pair) (next_in q p (p ∷ []) (first_in p [])) s shows) None (Some (q, one b))
         (nodes_taken t t' root s s' p q (answered a (byte_at a k) None) b shows shows' map map' above cleans_at.held.here.linked.lifetime out_here others)
-        (none_stored task.op task.asking cleans_at.cleans.op) (λ d e. absurd (none_some d e))
+        (none_stored task.op task.asking cleans_at.cleans.op) (subst (λ (z : Option (Child M)). IsChanged same z None) (sym cleans_at.held.leads) tt)
+        here cleans_at.held.leads cleans_at.reaches.1 (due_by (subst (λ (es : List (ℕ × Child M)). length es ≤ few_in b.node.form) (sym empty) (omega arith)))
+        (λ d e. absurd (none_some d e))
         (without_fits a (byte_at a k) (below_at q) (placed.ordered p a cleans_at.held.above.linked) cleans_at.held.leads fits)
         (subst (λ (z : Option (Child M)). TakesOut s was z None (Some (q, one b))) (sym cleans_at.held.leads) (here, refl, refl))
-        (length_in left) (by_again c.again task.progress _ left cleans_at.cleans.decided leaves)
+        (left_in left) (left_again c c.again refl _ left leaves)
         (settled_is (flight pin (at (Tail (Obsolete pair left)) task)) cleans_at.cleans.op cleans_at.cleans.fresh cleans_at.cleans.decided) (λ slot word h. absurd (none_some word h))
 
     pub away_moves : (left : Option Cleanup) → IsLeftAgain c.again (answered a (byte_at a k) None).node left
@@ -252,7 +253,7 @@ module _ {M : Type 0} (Granted : Type 0) (same : M → M → Bool) (t t' : NodeM
         (away_does left leaves) (λ m. refl)
 
   -- THE SMALLER COPY TAKES ITS PLACE
-  module _ (copy : ℕ) (made : IsPrivateOf t copy (smaller_of b.node)) (fits : Fits a.node.form (length a.node.children)) (above : LeadsNow t' p a k copy) (gone : t' q ≡ Some (record b { lifetime = is_detached }))
+  module _ (copy : ℕ) (made : IsPrivateOf t copy (smaller_of b.node)) (few : length b.node.children ≤ few_in b.node.form) (fits : Fits a.node.form (length a.node.children)) (above : LeadsNow t' p a k copy) (gone : t' q ≡ Some (record b { lifetime = is_detached }))
       (linked_now : (s : ℕ) → IsIn s (copy ∷ []) → BecomesLinked t t' s) (others : OthersStay t t' (p ∷ q ∷ copy ∷ [])) where
     shrinks : ShrinksNode t t' p q copy (key_of task.outline) a b made.node
     shrinks = record {
@@ -292,9 +293,11 @@ module _ {M : Type 0} (Granted : Type 0) (same : M → M → Bool) (t t' : NodeM
         (above_seen (tidy.PutSmaller pair copy) (next_in q p (p ∷ []) (first_in p [])) s shows) (Some (below_at copy)) None
         (nodes_written t t' root s s' (copy ∷ []) p (one (answered a (byte_at a k) (Some (below_at copy)))) shows shows' map map'
         (shows_above t t' task pair copy (copy ∷ []) cleans_at.held above (published_by t t' (copy ∷ []) private_copy linked_now) (others_shown t t' task pair (copy ∷ []) cleans_at.held gone others)))
-        (first_in copy []) (λ d e. subst (λ (z : Child M). MayHave a.node.prefix z) (some_same (below_at copy) d e) (above_inner t root task pair placed cleans_at.held))
+        (first_in copy []) (changed_node same (found a k) copy)
+        (record { slot = q; node = one b; mine = first_in q (p ∷ []); here = seen_at t root s shows q b cleans_at.held.here.linked.here }) cleans_at.held.leads cleans_at.reaches.1 (due_by few)
+        (λ d e. subst (λ (z : Child M). MayHave a.node.prefix z) (some_same (below_at copy) d e) (above_inner t root task pair placed cleans_at.held))
         (still_fits t root task pair placed copy cleans_at.held fits) (takes_none s was (entry_below was (one a)) (below_at copy))
-        None refl
+        None (λ may none. absurd (none_some (below_at copy) (sym none)))
         (settled_is (flight pin (at (Tail (Obsolete pair None)) task)) cleans_at.cleans.op cleans_at.cleans.fresh cleans_at.cleans.decided) (λ slot word h. absurd (none_some word h))
 
     pub put_moves : IsMove Granted same t t' root pin books books' (at (Tidy c (tidy.PutSmaller pair copy)) task) env (at (Tail (Obsolete pair None)) task) (report_of kind.Write (Some p) 0 true) Going

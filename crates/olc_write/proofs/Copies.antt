@@ -21,7 +21,7 @@ use Rattle.spec_olc.specs.Meaning.{child_of}
 use Rattle.olc_state.specs.inner.Meant.{meant_node}
 use Rattle.olc_write.specs.inner.Makings.{IsBetween}
 use Rattle.spec_olc.specs.State.{CallState, State}
-use Rattle.spec_olc.specs.Writing.{HeldNode, IsCopied, IsMoved, IsNewNode, IsOwn}
+use Rattle.spec_olc.specs.Writing.{HeldNode, IsCopy, IsMoved, IsNewNode, IsOwn, byte_below}
 use Rattle.olc_state.specs.declared.stage.Task.{Task}
 use Rattle.olc_state.specs.declared.tail.NodePair.{NodePair}
 use Rattle.olc_state.specs.declared.tail.Tail as tails
@@ -48,6 +48,10 @@ byte-small [] h i = omega arith
 byte-small (b ∷ p) h zero = h.0
 byte-small (b ∷ p) h (suc i) = byte-small p h.1 i
 
+-- an entry of a new node
+abbrev IsEntryOf : {M : Type 0} (s : State M) (call : CallState M) → TableNode M → ℕ → Child M → Type 0
+IsEntryOf {M} s call a byte c = MayHave a.prefix c × (((byte ≡ byte_below call a.prefix) × IsOwn call (Some c)) ⊎ (((x : IsCopy s call a) × (lookup x.from.node.node.children byte ≡ Some c)) ⊎ IsMoved s call a.prefix byte c))
+
 module _ {M : Type 0} (s : State M) (pin : ℕ) (task : Task M) where
   -- the leaf
   pub leaf_new : (tail : tails.Tail) (v : M) → stores task ≡ Some v → IsNewNode s (flight pin (at tail task)) (leaf_of (key_bytes task) v)
@@ -58,9 +62,10 @@ module _ {M : Type 0} (s : State M) (pin : ℕ) (task : Task M) where
         way = way;
         ascending = (omega arith, key_byte prefix (key_of task.outline) way (omega arith), tt);
         fits = omega arith;
+        form_is = inl (refl, (λ alone. refl));
         entries = λ byte child h.
             let one = only-one (next_byte prefix (key_bytes task)) byte (Payload v) child h in
-            subst (λ (c : Child M). MayHave prefix c × (((byte ≡ next_byte prefix (key_bytes task)) × IsOwn (flight pin (at tail task)) (Some c)) ⊎ (IsCopied s (flight pin (at tail task)) prefix byte c ⊎ IsMoved s (flight pin (at tail task)) prefix byte c)))
+            subst (λ (c : Child M). IsEntryOf s (flight pin (at tail task)) (leaf_of (key_bytes task) v) byte c)
             (sym one.1) (refl, inl (one.0, stored));
       }
 
@@ -95,18 +100,20 @@ module _ {M : Type 0} (s : State M) (pin : ℕ) (task : Task M) where
       let call : CallState M = flight pin (at (MakeMiddle pair leaf) task) in
       let none : lookup old n ≡ None = rw (ne_eqb b n fork.apart) refl in
       let count : length (put old n (below_at leaf)) ≡ 2 = length-put_new 0 256 old n (below_at leaf) rises none in
+      let made : TableNode M = record { form = N4; prefix = prefix; children = put old n (below_at leaf) } in
       record {
         way = fork.right;
         ascending = Rises-put 0 256 old n (below_at leaf) rises (omega arith) mine;
         fits = omega (arith, count);
+        form_is = inl (refl, (λ alone. omega (arith, count, alone)));
         entries = λ byte child h. elim (put-entry old n byte (below_at leaf) child h) [
           | inl e ↦
-              subst (λ (c : Child M). MayHave prefix c × (((byte ≡ n) × IsOwn call (Some c)) ⊎ (IsCopied s call prefix byte c ⊎ IsMoved s call prefix byte c)))
+              subst (λ (c : Child M). IsEntryOf s call made byte c)
               (sym e.1) (omega (arith, shorter, short), inl (e.0, rw (eq-eqb leaf leaf refl) refl))
           | inr e ↦
               let one = only-one b byte (below_at held.slot) child e.1 in
               let begins : Begins (prefix ++ byte ∷ []) p = subst (λ (z : ℕ). Begins (prefix ++ z ∷ []) p) (sym one.0) (begins_on prefix p fork.left shorter) in
-              subst (λ (c : Child M). MayHave prefix c × (((byte ≡ n) × IsOwn call (Some c)) ⊎ (IsCopied s call prefix byte c ⊎ IsMoved s call prefix byte c)))
+              subst (λ (c : Child M). IsEntryOf s call made byte c)
               (sym one.1) (omega (arith, shorter, short), inr (inr (record { moved = held; is = refl; begins = begins })))
         ];
       }
@@ -137,14 +144,17 @@ module _ {M : Type 0} (s : State M) (pin : ℕ) (task : Task M) where
       let mine : n < 256 = key_byte p (key_of task.outline) way short in
       let call : CallState M = flight pin (at (Grow pair leaf) task) in
       let count : length (put es n child) ≡ length es + 1 = length-put_new 0 256 es n child rises none in
+      let made : TableNode M = record { form = next_form held.node.node.form; prefix = p; children = put es n child } in
+      let copy : IsCopy s call made = record { from = held; prefix_is = refl; form_is = refl } in
       record {
         way = way;
         ascending = Rises-put 0 256 es n child rises (omega arith) mine;
         fits = subst (λ (z : ℕ). Fits (next_form held.node.node.form) z) (sym count) (fits_next held.node.node.form (length es) fits full);
+        form_is = inr copy;
         entries = λ byte c h. elim (put-entry es n byte child c h) [
           | inl e ↦
-              subst (λ (z : Child M). MayHave p z × (((byte ≡ n) × IsOwn call (Some z)) ⊎ (IsCopied s call p byte z ⊎ IsMoved s call p byte z))) (sym e.1) (may, inl (e.0, own))
-          | inr e ↦ (kinds byte c e.1, inr (inl (record { from = held; prefix_is = refl; entry = e.1 })))
+              subst (λ (z : Child M). IsEntryOf s call made byte z) (sym e.1) (may, inl (e.0, own))
+          | inr e ↦ (kinds byte c e.1, inr (inl (copy, e.1)))
         ];
       }
 

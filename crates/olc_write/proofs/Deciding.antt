@@ -15,20 +15,22 @@ use Rattle.spec_olc.specs.Deciding.{AppliesCall}
 use Rattle.spec_olc.specs.Due.{IsLeft}
 use Rattle.spec_olc.specs.Kinds.{DoesAs, report_of}
 use Rattle.spec_olc.specs.Lists.{is_in}
-use Rattle.spec_olc.specs.Local.{IsLocal, SeesPayloads, SharesNone, seen_map, seen_payload}
-use Rattle.spec_olc.specs.State.{State, CallState, settled}
+use Rattle.spec_olc.specs.Local.{IsLocal, MayChange, MayLock, SeesPayloads, SharesNone, seen_map, seen_payload}
+use Rattle.spec_olc.specs.State.{State, CallState, Cleaning, settled}
 use Rattle.spec_olc.specs.State as state
-use Rattle.spec_olc.specs.Writing.{IsOwn, HeldNode, TakesOut, changed, emptied, entry_below, linked}
+use Rattle.spec_olc.specs.Writing.{IsChanged, IsOwn, HeldNode, TakesOut, changed, emptied, entry_below, linked}
 use Rattle.spec_olc.specs.declared.types.Env.{Env}
+use Rattle.spec_olc.specs.declared.types.Asking.{Asking}
+use Rattle.spec_olc.specs.declared.types.Op.{Op}
+use Rattle.spec_olc.specs.declared.types.Op.TheVariants.{Get, Insert, Remove, ComputeIfPresent, ComputeOrInsert, CompareExchange, Range}
 use Rattle.spec_olc.specs.declared.types.Kind.TheVariants as kind
 use Rattle.spec_olc.specs.declared.types.Outcome.TheVariants.{Decided}
-use Rattle.spec_olc.specs.declared.types.Progress.{Progress}
 use Rattle.spec_olc.specs.declared.types.Progress.TheVariants as progress
 use Rattle.spec_olc.specs.declared.types.Reply.{Reply}
 use Rattle.spec_olc.specs.declared.types.Outcome.{Outcome}
 use Rattle.olc_state.specs.declared.stage.Task.{Task}
 use Rattle.olc_state.specs.declared.tail.Tail as tails
-use Rattle.olc_state.specs.inner.Effects.{reply_with}
+use Rattle.olc_state.specs.inner.Effects.{IsChange, reply_with}
 use Rattle.olc_state.specs.inner.Moves.{StoreCounts, IsAfter, IsOutcome}
 use Rattle.olc_state.specs.inner.Shown.{flight, shown}
 use Rattle.olc_state.specs.inner.Tables.{IsIn, IsPlaced, Keeps}
@@ -148,6 +150,25 @@ module _ {M : Type 0} where
   takes_none s call (Some (Payload v)) c = refl
   takes_none s call (Some (below_at slot)) c = refl
 
+-- a call that changes the current value is of a kind that may
+change_may : {M : Type 0} (Granted : Type 0) (same : M → M → Bool) (op : Op M) (asking : Asking M) (at_key value : Option M) → IsChange same op asking at_key value → MayChange Granted same op at_key
+change_may Granted same (Get k) asking at_key value change = absurd change
+change_may Granted same (Insert k v) asking at_key value change = tt
+change_may Granted same (Remove k) asking None value change = absurd change
+change_may Granted same (Remove k) asking (Some old) value change = refl
+change_may Granted same (ComputeIfPresent k) asking None value change = absurd change
+change_may Granted same (ComputeIfPresent k) asking (Some old) value change = refl
+change_may Granted same (ComputeOrInsert k v) asking at_key value change = tt
+change_may Granted same (CompareExchange k old new) asking None value change = absurd change
+change_may Granted same (CompareExchange k old new) asking (Some current) value change = change.1
+change_may Granted same (Range a b n) asking at_key value change = absurd change
+
+-- where a node comes, the entry is another one
+pub changed_node : {M : Type 0} (same : M → M → Bool) (was : Option (Child M)) (slot : ℕ) → IsChanged same was (Some (below_at slot))
+changed_node same None slot = tt
+changed_node same (Some (Payload v)) slot = tt
+changed_node same (Some (below_at s)) slot = tt
+
 -- THE COURSE of a write to a node of its tail: the call names no other then, and remembers no word
 pub write_course : {M : Type 0} (t t' : NodeMap M) (root : ℕ) (task : Task M) (env : Env M) (tail next : tails.Tail) (slot : ℕ) (out : Outcome M)
     → IsIn slot (named_in tail) → named_in next ≡ named_in tail → spots_in next ≡ [] → work_of t' (at (Tail next) (with_reply task)) < work_of t (at (Tail tail) task)
@@ -182,7 +203,7 @@ module _ {M : Type 0} (Granted : Type 0) (same : M → M → Bool) (task : Task 
       (change_replied same m w.opened.op task.asking at_key w.value task.returns w.change w.opened.returned (seen_stands m there))
 
   last_seen : SeesPayloads Granted same writing_call → lookup (seen_map writing_call) (key_of task.outline) ≡ at_key
-  last_seen sees = alone_there (key_of task.outline) (seen_payload task.last) ∙ w.seen (subst (λ (c : Option ℕ). SharesNone task.outline c → Granted) quiet sees)
+  last_seen sees = alone_there (key_of task.outline) (seen_payload task.last) ∙ w.seen (subst (λ (c : Option Cleaning). SharesNone task.outline c → Granted) quiet sees)
 
   -- the reply is what the map's call replies with this current value
   pub replies : IsLocal Granted same writing_call writing_reply
@@ -190,10 +211,16 @@ module _ {M : Type 0} (Granted : Type 0) (same : M → M → Bool) (task : Task 
     op = w.opened.op;
     op_is = w.opened.op_is;
     undecided = w.opened.undecided;
+    read = w.read;
     point = change_point same w.opened.op task.asking at_key w.value w.change;
     asked = λ sees. change_asked same (seen_map writing_call) w.opened.op task.asking at_key w.value w.change (seen_stands (seen_map writing_call) (last_seen sees));
     reply = λ sees. replied (seen_map writing_call) (last_seen sees);
   }
+
+  -- so it may lock what it writes to
+  pub may_lock : MayLock Granted same writing_call
+  unfolding replies
+  may_lock = inr (writing_reply, replies, (λ sees. subst (λ (x : Option M). MayChange Granted same w.opened.op x) (sym (w.seen (subst (λ (c : Option Cleaning). SharesNone task.outline c → Granted) quiet sees))) (change_may Granted same w.opened.op task.asking at_key w.value w.change)))
 
   -- the key has the value that the call stores, or none
   pub leads : (m : Pairs M) → lookup m (key_of task.outline) ≡ at_key → AppliesCall same m (with_answer m (key_of task.outline) w.value) writing_call writing_reply
@@ -221,13 +248,13 @@ module _ {M : Type 0} (Granted : Type 0) (same : M → M → Bool) (task : Task 
   pub writes_answer : (s s' : State M) (id : ℕ) (env : Env M) (next : CallState M) (books books' : StoreCounts) → IsAfter s s' id next books books' → books'.count ≡ books.count → books'.charge ≡ books.charge
       → (held : HeldNode s writing_call) (child : Option (Child M)) (gone : Option (ℕ × state.VersionedNode M))
       → s'.nodes ≡ emptied gone (linked writing_call.made (put s.nodes held.slot (changed writing_call held.node child)))
-      → IsOwn writing_call child → ((c : Child M) → child ≡ Some c → MayHave held.node.node.prefix c) → Fits held.node.node.form (length (changed writing_call held.node child).node.children)
+      → IsOwn writing_call child → IsChanged same (entry_below writing_call held.node) child → ((c : Child M) → child ≡ Some c → MayHave held.node.node.prefix c) → Fits held.node.node.form (length (changed writing_call held.node child).node.children)
       → TakesOut s writing_call (entry_below writing_call held.node) child gone
-      → (left : Option ℕ) → IsLeft progress.Open child (changed writing_call held.node child).node left
+      → (left : Option Cleaning) → IsLeft None child (changed writing_call held.node child).node left
       → next ≡ record (settled progress.Decided (record writing_call { made = []; cleaning = left })) { remembered = next.remembered }
       → Among next.remembered writing_call.remembered
       → DoesAs Granted same s s' id writing_call env (report_of kind.Write (Some held.slot) 0 true) (Decided writing_reply) kind.Write
-  writes_answer s s' id env next books books' after count charge held child gone nodes own shape fits takes left leaves is within =
+  writes_answer s s' id env next books books' after count charge held child gone nodes own changes shape fits takes left leaves is within =
       let count_is : books'.count ≡ s.count = count ∙ sym (ap (λ (b : StoreCounts). b.count) after.was) in
       let charge_is : books'.charge ≡ s.charge = charge ∙ sym (ap (λ (b : StoreCounts). b.charge) after.was) in (
         inl w.opened.undecided,
@@ -238,11 +265,13 @@ module _ {M : Type 0} (Granted : Type 0) (same : M → M → Bool) (task : Task 
           entries = books'.entries;
           is = refl;
           own = own;
+          changes = changes;
+          cleans = λ c cleaning. absurd (none_some c (sym quiet ∙ cleaning));
           shape = shape;
           fits = fits;
           takes_out = takes;
           left = left;
-          leaves = subst (λ (p : Progress). IsLeft p child (changed writing_call held.node child).node left) (sym w.opened.undecided) leaves;
+          leaves = subst (λ (was : Option Cleaning). IsLeft was child (changed writing_call held.node child).node left) (sym quiet) leaves;
           reports = replies;
           becomes = record {
             next = next;
@@ -257,10 +286,10 @@ module _ {M : Type 0} (Granted : Type 0) (same : M → M → Bool) (task : Task 
   pub writes_child : (s s' : State M) (id : ℕ) (env : Env M) (next : CallState M) (books books' : StoreCounts) → IsAfter s s' id next books books' → books'.count ≡ books.count → books'.charge ≡ books.charge
       → (held : HeldNode s writing_call) (c : Child M)
       → s'.nodes ≡ linked writing_call.made (put s.nodes held.slot (changed writing_call held.node (Some c)))
-      → IsOwn writing_call (Some c) → MayHave held.node.node.prefix c → Fits held.node.node.form (length (changed writing_call held.node (Some c)).node.children)
+      → IsOwn writing_call (Some c) → IsChanged same (entry_below writing_call held.node) (Some c) → MayHave held.node.node.prefix c → Fits held.node.node.form (length (changed writing_call held.node (Some c)).node.children)
       → next ≡ record (settled progress.Decided (record writing_call { made = []; cleaning = None })) { remembered = next.remembered }
       → Among next.remembered writing_call.remembered
       → DoesAs Granted same s s' id writing_call env (report_of kind.Write (Some held.slot) 0 true) (Decided writing_reply) kind.Write
-  writes_child s s' id env next books books' after count charge held c nodes own shape fits is within =
-      writes_answer s s' id env next books books' after count charge held (Some c) None nodes own (λ d e. subst (λ (z : Child M). MayHave held.node.node.prefix z) (some_same c d e) shape) fits
-      (takes_none s writing_call (entry_below writing_call held.node) c) None refl is within
+  writes_child s s' id env next books books' after count charge held c nodes own changes shape fits is within =
+      writes_answer s s' id env next books books' after count charge held (Some c) None nodes own changes (λ d e. subst (λ (z : Child M). MayHave held.node.node.prefix z) (some_same c d e) shape) fits
+      (takes_none s writing_call (entry_below writing_call held.node) c) None (λ may none. absurd (none_some c (sym none))) is within

@@ -12,7 +12,7 @@ use Rattle.spec_olc.specs.Kinds.{DoesAs, report_of}
 use Rattle.spec_olc.specs.Local.{payload_in}
 use Rattle.spec_olc.specs.State.{State, CallState}
 use Rattle.spec_olc.specs.State as state
-use Rattle.spec_olc.specs.Writing.{HeldNode, TakesOut, emptied, linked, with_children}
+use Rattle.spec_olc.specs.Writing.{HeldNode, IsChanged, TakesOut, emptied, linked, with_children}
 use Rattle.spec_olc.specs.declared.types.Env.{Env}
 use Rattle.spec_olc.specs.declared.types.Kind.TheVariants as kind
 use Rattle.spec_olc.specs.declared.types.Outcome.TheVariants.{Decided}
@@ -27,7 +27,7 @@ use Rattle.olc_state.specs.inner.Moves.{StoreCounts, IsAfter, IsMove}
 use Rattle.olc_state.specs.inner.Shown.{flight}
 use Rattle.olc_state.specs.inner.Tables.{IsPlaced, Keeps, byte_at}
 use Rattle.olc_state.specs.inner.TailFacts.{AtPair, found}
-use Rattle.olc_state.specs.inner.Tails.{both_slots, length_in, unlock_work}
+use Rattle.olc_state.specs.inner.Tails.{both_slots, left_in, unlock_work}
 use Rattle.olc_state.specs.inner.Tasks.{key_bytes}
 use Rattle.olc_state.specs.inner.Turns.{ShowsNodes, cleanup_work}
 use Rattle.olc_state.specs.inner.World.{PlacedNode, NodeMap, entry, is_linked, is_detached}
@@ -181,10 +181,10 @@ module _ {M : Type 0} (Granted : Type 0) (same : M → M → Bool) (t t' : NodeM
         writes_answer Granted same task (Detach pair) refl pin at_key own.work.writes s s' id env (flight pin (at (Tail (Obsolete pair left)) (with_reply task))) books books' after count charge
         mine None (Some (q, one b))
         (nodes_taken t t' root s s' p q above_after b shows shows' map map' above own.held.here.linked.lifetime gone others)
-        (own.work.writes.stores ∙ own.work.may) (λ c e. absurd (none_some c e))
+        (own.work.writes.stores ∙ own.work.may) (subst (λ (z : Option (Child M)). IsChanged same z None) (sym own.held.leads) tt) (λ c e. absurd (none_some c e))
         (without_fits a (byte_at a k) (below_at q) (placed.ordered p a own.held.above.linked) own.held.leads fits)
         (subst (λ (z : Option (Child M)). TakesOut s call z None (Some (q, one b))) (sym own.held.leads) (leaf, refl, refl))
-        (length_in left) (is_left true above_after.node left leaves) refl (λ slot word h. absurd (none_some word h))
+        (left_in left) (is_left above_after.node left leaves) refl (λ slot word h. absurd (none_some word h))
 
     -- THE EVENT
     pub taken_moves : (left : Option Cleanup) → IsLeftOf true above_after.node left → IsMove Granted same t t' root pin books books' (at (Tail (Detach pair)) task) env (at (Tail (Obsolete pair left)) (with_reply task)) (report_of kind.Write (Some p) 0 true)

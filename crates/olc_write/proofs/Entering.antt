@@ -1,6 +1,6 @@
 -- WRITE INTO A LEAF: the held leaf has the call's payload under the key's byte, a new one or in another's place, or has
 -- none there any more.
-use Rattle.std.proofs.Common.{◌≡◌, ◌≢◌, ℕ, ◌≤◌, Bool, true, List, [], ◌∷◌, length, Option, Some, None, IsSome, inl, inr, refl, sym, subst, ap, ◌∙◌, arith, ◌<◌}
+use Rattle.std.proofs.Common.{◌≡◌, ◌≢◌, ℕ, ◌≤◌, Bool, true, false, List, [], ◌∷◌, length, Option, Some, None, IsSome, inl, inr, refl, sym, subst, ap, ◌∙◌, arith, ◌<◌}
 use Rattle.node_base.specs.Form.{Fits, Within, limit}
 use Rattle.spec_map.specs.Map.{Rises, with_answer, without}
 use Rattle.spec_map.proofs.ByteMapLaws.{length-without_present}
@@ -13,7 +13,7 @@ use Rattle.spec_olc.specs.Calls.{key_of, stored}
 use Rattle.spec_olc.specs.Kinds.{report_of}
 use Rattle.spec_olc.specs.Local.{payload_in}
 use Rattle.spec_olc.specs.State.{CallState, State}
-use Rattle.spec_olc.specs.Writing.{IsOwn, TakesOut}
+use Rattle.spec_olc.specs.Writing.{IsChanged, IsOwn, TakesOut}
 use Rattle.spec_olc.specs.declared.types.Env.{Env}
 use Rattle.spec_olc.specs.declared.types.Kind.TheVariants as kind
 use Rattle.spec_olc.specs.declared.types.Outcome.TheVariants.{Decided}
@@ -34,13 +34,14 @@ use Rattle.olc_state.proofs.Reaching.{one, seen_at}
 use Rattle.olc_state.proofs.Ways.{absent_here, present_here, longer-begins}
 use Rattle.olc_state.proofs.Unlike.{decided_open}
 use Rattle.olc_state.proofs.Records.{at}
+use Rattle.olc_state.proofs.Replies.{change_enters}
 use Rattle.olc_state.proofs.Members.{listed, told}
 use Rattle.olc_laws.proofs.Effects.{Effect, beside_one}
 use Rattle.olc_laws.proofs.Entries.{WritesPayload, entry_effect, entry_puts, entry_takes, payload}
 use Rattle.olc_laws.proofs.Writing.{answered}
 use Rattle.olc_write.proofs.Deciding.{AnswersPair, StandsAt, becomes_of, entries_after, held_locked, nodes_written, put_fits, takes_none, with_reply, write_course, writes_answer}
 use Rattle.olc_state.specs.declared.cleanup.Cleanup.{Cleanup}
-use Rattle.olc_state.specs.inner.Tails.{length_in, unlock_work}
+use Rattle.olc_state.specs.inner.Tails.{left_in, unlock_work}
 use Rattle.olc_state.specs.inner.Turns.{cleanup_work, work_of}
 use Rattle.spec_olc.specs.declared.types.Progress.TheVariants as progress
 use Rattle.olc_write.specs.inner.Leaving.{IsLeftBy}
@@ -98,6 +99,15 @@ module _ {M : Type 0} where
   takes_payload s call (Some (Payload v)) None leaf = refl
   takes_payload s call (Some (below_at c)) None leaf = absurd (leaf c refl)
   takes_payload s call was (Some v) leaf = takes_none s call was (Payload v)
+
+  -- the entry is another one than before
+  is_changed : (same : M → M → Bool) (was : Option (Child M)) (value : Option M) → (was ≡ None → value ≡ None → ⊥) → ((old new : M) → was ≡ Some (Payload old) → value ≡ Some new → same new old ≡ false) → IsChanged same was (payload value)
+  is_changed same None None some other = some refl refl
+  is_changed same None (Some v) some other = tt
+  is_changed same (Some (Payload u)) None some other = tt
+  is_changed same (Some (Payload u)) (Some v) some other = other u v refl refl
+  is_changed same (Some (below_at c)) None some other = tt
+  is_changed same (Some (below_at c)) (Some v) some other = tt
 
 -- If `Granted` holds, a share is always granted. `same` compares two payloads.
 module _ {M : Type 0} (Granted : Type 0) (same : M → M → Bool) (t t' : NodeMap M) (root pin : ℕ) (task : Task M) (env : Env M) (spot : Spot) (placed : IsPlaced t root)
@@ -177,6 +187,7 @@ module _ {M : Type 0} (Granted : Type 0) (same : M → M → Bool) (t t' : NodeM
           value = w.value;
           stores = w.stores;
           change = subst (λ (z : Option M). IsChange same w.opened.op task.asking z w.value) (sym stands_is) w.change;
+          read = w.read;
           seen = λ sees. w.seen sees ∙ sym stands_is;
         } in
         let effect : Effect t t' root (Holding (Tail (Write spot))) (λ p. p ≤ books.count) (spot.slot ∷ []) (spot.slot ∷ []) =
@@ -208,10 +219,14 @@ module _ {M : Type 0} (Granted : Type 0) (same : M → M → Bool) (t t' : NodeM
                 published = λ o e. absurd (told o [] e);
                 others = λ o far e. ap shown (others o far);
               }))
-              (own_payload (flight pin (at (Tail (Write spot)) task)) w.value w.stores) (payload_shaped a.node.prefix w.value facts.at.work.is.0)
+              (own_payload (flight pin (at (Tail (Write spot)) task)) w.value w.stores)
+              (is_changed same (found a (key_bytes task)) w.value
+              (λ none gone. let enters = change_enters same w.opened.op task.asking w.value (subst (λ (z : Option M). IsChange same w.opened.op task.asking z w.value) (ap (λ z. payload_in z) none) w.change) in none_some enters.0 (sym gone ∙ enters.1))
+              (λ old new there stored. facts.at.work.differs old new there (w.stores ∙ stored)))
+              (payload_shaped a.node.prefix w.value facts.at.work.is.0)
               (payload_fits a (byte_at a (key_bytes task)) w.value (placed.ordered spot.slot a facts.at.held.linked) fits facts.at.work.is.1)
               (takes_payload s (flight pin (at (Tail (Write spot)) task)) (found a (key_bytes task)) w.value (no_node_below t root placed spot.slot a facts.at.held.linked facts.at.work.is.0 (byte_at a (key_bytes task))))
-              (length_in left) (is_left_by w.value leaf_after.node left leaves)
+              (left_in left) (is_left_by w.value leaf_after.node left leaves)
               refl (λ slot word h. absurd (none_some word h));
           carries = λ s s' shows shows' m content.
               becomes_of Granted same task (Write spot) refl pin at_key writes t t' root books books' placed effect.placed facts.small there (entry_answers t t' spot.slot leaf_key a w.value entry_written root placed) entries

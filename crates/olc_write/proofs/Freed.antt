@@ -20,10 +20,11 @@ use Rattle.olc_state.specs.inner.Moves.{StoreCounts, IsMove}
 use Rattle.olc_state.specs.inner.Shown.{flight}
 use Rattle.olc_state.specs.inner.Tables.{IsPlaced}
 use Rattle.olc_state.specs.inner.TailFacts.{EndsWith, IsHeld, IsOver, UnlocksWith}
-use Rattle.olc_state.specs.inner.Tails.{more_work, unlock_work}
+use Rattle.olc_state.specs.inner.Tails.{cleaning_of, more_work, unlock_work}
 use Rattle.olc_state.specs.inner.Tasks.{CleansUp, IsOpen, restarted}
 use Rattle.olc_state.specs.inner.World.{NodeMap, is_retired}
 use Rattle.olc_state.proofs.Holding.{first_or, locked_now, none_of}
+use Rattle.olc_state.proofs.Options.{none_some}
 use Rattle.olc_state.proofs.Records.{at}
 use Rattle.olc_state.proofs.Replies.{returned_fresh}
 use Rattle.olc_state.proofs.Members.{first_in, next_in}
@@ -63,7 +64,7 @@ module _ {M : Type 0} (Granted : Type 0) (same : M → M → Bool) (t : NodeMap 
     unlock_restarts opened =
         let more : 40 ≡ unlock_work task.progress None = sym (work_open task.progress opened.undecided) in
         unlocks Granted same t root pin books task env placed facts.small (tail_at (Unlock spot None)) spot.slot facts.at.0.node facts.at.0.linked.here (first_in spot.slot []) (inl refl)
-        t' (frees spot facts.at.0 after others) (at TakeRoot (restarted task)) (restarts_is opened)
+        t' (frees spot facts.at.0 after others) (λ c cleans. absurd (none_some c cleans)) (at TakeRoot (restarted task)) (restarts_is opened)
         (record { small = facts.small; at = (record { opened = record { undecided = opened.undecided; op = opened.op; op_is = opened.op_is; outline = opened.outline; point = opened.point; returned = returned_fresh opened.op task.asking task.returns opened.returned }; fresh = refl }, refl) })
         refl refl (λ s h. absurd (none_back s h)) (alone_held TakeRoot spot None) (λ s h. absurd h) (λ s h. h) (omega (arith, more))
 
@@ -76,25 +77,25 @@ module _ {M : Type 0} (Granted : Type 0) (same : M → M → Bool) (t : NodeMap 
     unlock_ends over =
         let more : 2 ≡ unlock_work task.progress None = sym (work_over task.progress over) in
         unlocks Granted same t root pin books task env placed facts.small (tail_at (Unlock spot None)) spot.slot facts.at.0.node facts.at.0.linked.here (first_in spot.slot []) (inl refl)
-        t' (frees spot facts.at.0 after others) (at Finish task) (ends_is over)
+        t' (frees spot facts.at.0 after others) (λ c cleans. absurd (none_some c cleans)) (at Finish task) (ends_is over)
         (record { small = facts.small; at = over })
         refl refl (λ s h. absurd (none_kept s h)) (alone_held Finish spot None) (λ s h. absurd h) (λ s h. h) (omega (arith, more))
 
   -- THE LAST NODE before a cleanup
   module _ (spot : Spot) (c : Cleanup) (facts : Facts Granted same t root pin (at (tail_at (Unlock spot (Some c))) task)) (after : t' spot.slot ≡ Some (record facts.at.0.node { word = facts.at.0.node.word + 2 })) (others : (o : ℕ) → o ≢ spot.slot → t' o ≡ t o) where
-    cleans_is : flight pin (at (Seek c seek.TakeRoot) (restarted task)) ≡ record (unlocked task.progress (Some c.length) (off spot.slot (spot.slot ∷ [])) (record (flight pin (at (tail_at (Unlock spot (Some c))) task)) { held = off spot.slot (spot.slot ∷ []) })) { remembered = [] }
+    cleans_is : flight pin (at (Seek c seek.TakeRoot) (restarted task)) ≡ record (unlocked task.progress (Some (cleaning_of c)) (off spot.slot (spot.slot ∷ [])) (record (flight pin (at (tail_at (Unlock spot (Some c))) task)) { held = off spot.slot (spot.slot ∷ []) })) { remembered = [] }
     cleans_is =
         ap (λ (z : List ℕ). record (flight pin (at (Seek c seek.TakeRoot) (restarted task))) { held = z }) (sym (off_one spot.slot))
         ∙ ap (λ (z : CallState M). record z { remembered = [] })
-        (sym (unlocked_decided task.progress c.length (off spot.slot (spot.slot ∷ [])) (record (flight pin (at (tail_at (Unlock spot (Some c))) task)) { held = off spot.slot (spot.slot ∷ []) }) facts.at.1.decided (off_one spot.slot)))
+        (sym (unlocked_decided task.progress (cleaning_of c) (off spot.slot (spot.slot ∷ [])) (record (flight pin (at (tail_at (Unlock spot (Some c))) task)) { held = off spot.slot (spot.slot ∷ []) }) facts.at.1.decided (off_one spot.slot)))
 
     pub unlock_cleans : IsMove Granted same t t' root pin books books (at (tail_at (Unlock spot (Some c))) task) env (at (Seek c seek.TakeRoot) (restarted task)) (report_of kind.Unlock (Some spot.slot) 0 true) Going
     unlock_cleans =
         let cleans : CleansUp task c = facts.at.1 in
         let more : unlock_work task.progress (Some c) ≡ 4 * c.length + 11 + more_work c = work_decided task.progress c cleans.decided in
         unlocks Granted same t root pin books task env placed facts.small (tail_at (Unlock spot (Some c))) spot.slot facts.at.0.node facts.at.0.linked.here (first_in spot.slot []) (inl refl)
-        t' (frees spot facts.at.0 after others) (at (Seek c seek.TakeRoot) (restarted task)) cleans_is
-        (record { small = facts.small; at = (record { decided = cleans.decided; op = cleans.op; fresh = refl; point = cleans.point; removes = cleans.removes; short = cleans.short }, refl) })
+        t' (frees spot facts.at.0 after others) (λ d cleaning more. absurd (more (off_one spot.slot))) (at (Seek c seek.TakeRoot) (restarted task)) cleans_is
+        (record { small = facts.small; at = (record { decided = cleans.decided; op = cleans.op; fresh = refl; point = cleans.point; removes = cleans.removes; below_root = cleans.below_root; short = cleans.short }, refl) })
         refl refl (λ s h. elim h [ inl x ↦ none_of s x | inr x ↦ none_of s x ]) (alone_held (Seek c seek.TakeRoot) spot (Some c)) (λ s h. absurd h) (λ s h. h) (omega (arith, more))
 
   -- THE NODE, while the parent is held
@@ -109,7 +110,7 @@ module _ {M : Type 0} (Granted : Type 0) (same : M → M → Bool) (t : NodeMap 
     below_unlocks =
         let rest : unlock_work task.progress None ≡ 2 = work_over task.progress facts.at.0 in
         unlocks Granted same t root pin books task env placed facts.small (tail_at (UnlockBelow pair)) pair.here.slot facts.at.2.node facts.at.2.linked.here (first_in pair.here.slot (pair.above.slot ∷ [])) (inl refl)
-        t' (frees pair.here facts.at.2 after others) (at (tail_at (Unlock pair.above None)) task) below_is
+        t' (frees pair.here facts.at.2 after others) (λ c cleans. absurd (none_some c cleans)) (at (tail_at (Unlock pair.above None)) task) below_is
         (record { small = facts.small; at = (held_still pair.here pair.above others facts.at.3 facts.at.1, inr facts.at.0) })
         refl refl (λ s h. inl (both_held pair None s h))
         (λ s h ne. elim h [ inl x ↦ above_held pair None s x ne | inr x ↦ none_of s x ])

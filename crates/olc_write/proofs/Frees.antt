@@ -1,11 +1,12 @@
 -- A HELD NODE IS LET GO: it is unlocked, or, where it is no longer in the tree, marked obsolete.
-use Rattle.std.proofs.Common.{◌≡◌, ◌≢◌, ℕ, ◌+◌, ◌*◌, ◌^◌, ◌<◌, ◌≤◌, Bool, true, IsTrue, List, [], ◌∷◌, Some, None, inl, inr, refl, sym, subst, ap, ◌∙◌, arith}
+use Rattle.std.proofs.Common.{◌≡◌, ◌≢◌, ℕ, ◌+◌, ◌*◌, ◌^◌, ◌<◌, ◌≤◌, Bool, true, IsTrue, List, [], ◌∷◌, length, Some, None, inl, inr, refl, sym, subst, ap, ◌∙◌, arith}
 use Rattle.std.proofs.lemmas.Bool.{eq-eqb, ne_eqb, lt-ltb, le-ltb, cases_lt}
 use Rattle.spec_map.specs.Map.{lookup, put}
 use Rattle.spec_olc.specs.Calls.{key_of}
+use Rattle.spec_olc.specs.Due.{IsDue}
 use Rattle.spec_olc.specs.Kinds.{report_of, unlocked}
 use Rattle.spec_olc.specs.Lists.{is_in, off}
-use Rattle.spec_olc.specs.State.{CallState, back, retire}
+use Rattle.spec_olc.specs.State.{CallState, Cleaning, back, retire}
 use Rattle.spec_olc.specs.declared.types.Env.{Env}
 use Rattle.spec_olc.specs.declared.types.Kind.{Kind}
 use Rattle.spec_olc.specs.declared.types.Kind.TheVariants as kind
@@ -52,8 +53,8 @@ unlocked_over progress.Decided held call e = refl
 unlocked_over progress.Refused held call e = refl
 
 -- one that has to clean up goes back once it holds no node
-pub unlocked_decided : {M : Type 0} (p : Progress) (length_is : ℕ) (held : List ℕ) (call : CallState M) → p ≡ progress.Decided → held ≡ [] → unlocked p (Some length_is) held call ≡ back call
-unlocked_decided p length_is held call e none = rw (e, none) refl
+pub unlocked_decided : {M : Type 0} (p : Progress) (c : Cleaning) (held : List ℕ) (call : CallState M) → p ≡ progress.Decided → held ≡ [] → unlocked p (Some c) held call ≡ back call
+unlocked_decided p c held call e none = rw (e, none) refl
 
 pub work_open : (p : Progress) → p ≡ progress.Open → unlock_work p None ≡ 40
 work_open p e = rw e refl
@@ -110,13 +111,14 @@ module _ {M : Type 0} (Granted : Type 0) (same : M → M → Bool) (t : NodeMap 
         does (λ m. refl)
 
   -- IT IS UNLOCKED
-  module _ (t' : NodeMap M) (u : Unlocks t t' slot a) (next : Record M) (becomes : flight pin next ≡ record (unlocked task.progress (cleaning_at stage) (off slot (held_at stage)) (record (flight pin (at stage task)) { held = off slot (held_at stage) })) { remembered = [] })
+  module _ (t' : NodeMap M) (u : Unlocks t t' slot a) (finds : (c : Cleaning) → cleaning_at stage ≡ Some c → off slot (held_at stage) ≢ [] → (length a.node.prefix ≡ c.depth) × (IsDue a.node → ⊥)) (next : Record M) (becomes : flight pin next ≡ record (unlocked task.progress (cleaning_at stage) (off slot (held_at stage)) (record (flight pin (at stage task)) { held = off slot (held_at stage) })) { remembered = [] })
       (facts : Facts Granted same t' root pin next) (forgotten : spots_of next.stage ≡ []) (outline : next.task.outline ≡ task.outline)
       (fewer : (s : ℕ) → Holding next.stage s → Holding stage s) (more : (s : ℕ) → Holding stage s → s ≢ slot → Holding next.stage s)
       (names : (s : ℕ) → IsIn s (named_at next.stage) → IsIn s (named_at stage)) (follows : (s : ℕ) → MayFollow t' next.stage next.task.last s → ⊥) (less : work_of t' next < work_of t (at stage task)) where
     unlocked_does : Does Granted same t t' root pin books books (at stage task) env next (report_of kind.Unlock (Some slot) 0 true) Going
     unlocked_does s s' id shows shows' map map' after = record {
       held = record { slot = slot; node = one a; mine = mine; here = seen_at t root s shows slot a here };
+      finds = finds;
       reports = (refl, refl);
       becomes = record {
         next = flight pin next;

@@ -1,7 +1,8 @@
 -- WHAT A WRITE LEAVES TO CLEAN UP, and how many events that may take.
-use Rattle.std.proofs.Common.{◌≡◌, ◌≤◌, Bool, true, false, is_some, length, Option, Some, None, IsTrue, refl, sym, subst, ap, ◌∙◌, arith}
+use Rattle.std.proofs.Common.{◌≡◌, ◌≤◌, Bool, true, false, is_some, length, Option, Some, None, IsTrue, refl, sym, subst, ◌∙◌, arith}
 use Rattle.node_base.specs.Form.{few_in}
 use Rattle.node_table.specs.TableNode.{TableNode}
+use Rattle.node_table.specs.declared.child.Child.TheVariants.{Payload}
 use Rattle.spec_olc.specs.Alone.{may_remove}
 use Rattle.spec_olc.specs.Calls.{Outline, or_else, outline_of}
 use Rattle.spec_olc.specs.Due.{IsLeft}
@@ -15,7 +16,7 @@ use Rattle.olc_state.specs.declared.stage.Task.{Task}
 use Rattle.olc_state.specs.inner.Effects.{IsChange}
 use Rattle.olc_state.specs.inner.Meant.{meant_node}
 use Rattle.olc_state.specs.inner.TailFacts.{EndsWith, WritesAtKey}
-use Rattle.olc_state.specs.inner.Tails.{length_in, unlock_work}
+use Rattle.olc_state.specs.inner.Tails.{left_in, unlock_work}
 use Rattle.olc_state.specs.inner.Tasks.{IsOpen, closed}
 use Rattle.olc_state.specs.inner.Turns.{cleanup_work}
 use Rattle.olc_state.proofs.Options.{none_some}
@@ -26,13 +27,13 @@ use Rattle.node_table.proofs.KindLaws.{length-mapped}
 
 module _ {M : Type 0} where
   -- what a reader sees of it
-  pub is_left : (again : Bool) (a : TableNode M) (left : Option Cleanup) → IsLeftOf again a left → IsLeft progress.Open None a (length_in left)
-  is_left again a None h = h
-  is_left again a (Some c) h = (h.0, h.1)
+  pub is_left : (a : TableNode M) (left : Option Cleanup) → IsLeftOf true a left → IsLeft None None a (left_in left)
+  is_left a None h = λ may none. h
+  is_left a (Some c) h = (refl, refl, h.0, h.1, ((λ again. refl), (λ none. h.2)))
 
-  pub is_left_by : (value : Option M) (a : TableNode M) (left : Option Cleanup) → IsLeftBy value a left → IsLeft progress.Open (payload value) a (length_in left)
-  is_left_by None a left h = is_left true a left h
-  is_left_by (Some v) a left h = ap length_in h
+  pub is_left_by : (value : Option M) (a : TableNode M) (left : Option Cleanup) → IsLeftBy value a left → IsLeft None (payload value) a (left_in left)
+  is_left_by None a left h = is_left a left h
+  is_left_by (Some v) a left h = subst (λ (l : Option Cleanup). IsLeft None (payload (Some v)) a (left_in l)) (sym h) (λ may none. absurd (none_some (Payload v) (sym none)))
 
   -- what the code leaves by whether it stores a value
   pub leaves_by : {P : Type 0} (meaning : P → M) (a : TableNode M) (left : Option Cleanup) (value : Option P) (stores : Bool) → stores ≡ is_some value → (IsTrue stores → left ≡ None) → (stores ≡ false → IsLeftOf true a left)
@@ -62,7 +63,7 @@ module _ {M : Type 0} where
   ends_with Granted same task opened a None may short h = decided_open
   ends_with Granted same task opened a (Some c) may short h =
       let same_length : c.length ≡ length a.prefix = h.1 in
-      record { decided = refl; op = refl; fresh = refl; point = opened.point; removes = may; short = omega (arith, same_length, short) }
+      record { decided = refl; op = refl; fresh = refl; point = opened.point; removes = may; below_root = omega (arith, same_length, h.0.below_root); short = omega (arith, same_length, short) }
 
   -- A CALL THAT REMOVES ITS KEY is of a kind that may
   or_else_some : (answer : Option M) (v : M) → None ≡ or_else answer v → ⊥

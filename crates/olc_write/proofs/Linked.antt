@@ -36,7 +36,7 @@ use Rattle.olc_state.proofs.Members.{listed, told}
 use Rattle.olc_laws.proofs.Effects.{Effect, beside_two}
 use Rattle.olc_laws.proofs.Linking.{Links, link_effect, link_puts}
 use Rattle.olc_laws.proofs.Writing.{IsLeafFor, Publishes, answered, published_new}
-use Rattle.olc_write.proofs.Deciding.{AnswersPair, becomes_of, held_locked, nodes_written, put_fits, with_reply, write_course, writes_child}
+use Rattle.olc_write.proofs.Deciding.{AnswersPair, becomes_of, changed_node, held_locked, nodes_written, put_fits, with_reply, write_course, writes_child}
 
 not_both : {b : Bool} → b ≡ false → b ≡ true → ⊥
 not_both e f = cc
@@ -140,6 +140,7 @@ module _ {M : Type 0} (Granted : Type 0) (same : M → M → Bool) (t t' : NodeM
           value = w.value;
           stores = w.stores;
           change = subst (λ (z : Option M). IsChange same w.opened.op task.asking z w.value) (ap payload_in empty) w.change;
+          read = w.read;
           seen = λ sees. w.seen sees ∙ ap payload_in empty;
         } in
         let effect : Effect t t' root (Holding (Tail (Link spot leaf))) (λ p. p ≤ books.count) (spot.slot ∷ leaf ∷ []) (spot.slot ∷ []) =
@@ -176,7 +177,7 @@ module _ {M : Type 0} (Granted : Type 0) (same : M → M → Bool) (t t' : NodeM
                 ];
                 others = λ o far off. ap shown (others o far (λ e. not_both off (listed o (leaf ∷ []) (inl (sym e)))));
               }))
-              (listed leaf (leaf ∷ []) (inl refl)) facts.at.0.work.is.0
+              (listed leaf (leaf ∷ []) (inl refl)) (changed_node same (found a (key_bytes task)) leaf) facts.at.0.work.is.0
               (put_fits a (byte_at a (key_bytes task)) (below_at leaf) (placed.ordered spot.slot a facts.at.0.held.linked) fits (λ e. facts.at.0.work.is.2))
               refl (λ slot word h. absurd (none_some word h));
           carries = λ s s' shows shows' m content.

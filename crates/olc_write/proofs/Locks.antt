@@ -3,7 +3,8 @@ use Rattle.std.proofs.Common.{◌≡◌, ◌≢◌, ℕ, ◌+◌, ◌^◌, ◌<�
 use Rattle.spec_map.specs.Map.{lookup, put}
 use Rattle.spec_olc.specs.Calls.{IsPoint, key_of}
 use Rattle.spec_olc.specs.Kinds.{IsAtWork, not_locked, report_of}
-use Rattle.spec_olc.specs.State.{CallState, back}
+use Rattle.spec_olc.specs.Local.{MayLock}
+use Rattle.spec_olc.specs.State.{CallState, Cleaning, back}
 use Rattle.spec_olc.specs.declared.types.Env.{Env}
 use Rattle.spec_olc.specs.declared.types.Kind.TheVariants as kind
 use Rattle.spec_olc.specs.declared.types.Outcome.TheVariants.{Going}
@@ -55,7 +56,7 @@ none_at_root : (s : ℕ) → Holding TakeRoot s → ⊥
 none_at_root s h = elim h [ inl x ↦ none_of s x | inr x ↦ none_of s x ]
 
 module _ {M : Type 0} (Granted : Type 0) (same : M → M → Bool) (t : NodeMap M) (root pin : ℕ) (books : StoreCounts) (task : Task M) (env : Env M) (placed : IsPlaced t root) (stage : Stage)
-    (work : IsAtWork (flight pin (at stage task))) (point : IsPoint task.outline) (slot word : ℕ) (a : PlacedNode M) (here : t slot ≡ Some a) (known : lookup (spots_of stage) slot ≡ Some word)
+    (work : IsAtWork (flight pin (at stage task))) (point : IsPoint task.outline) (locking : MayLock Granted same (flight pin (at stage task))) (slot word : ℕ) (a : PlacedNode M) (here : t slot ≡ Some a) (known : lookup (spots_of stage) slot ≡ Some word)
     (named : IsIn slot (named_at stage)) (made : made_at stage ≡ []) where
   touches : (s : ℕ) → Some slot ≡ Some s → IsIn s (named_at stage)
   touches s e = subst (λ x. IsIn x (named_at stage)) (some_same slot s e) named
@@ -70,6 +71,7 @@ module _ {M : Type 0} (Granted : Type 0) (same : M → M → Bool) (t : NodeMap 
       work,
       record {
         point = point;
+        may = locking;
         knows = record { slot = slot; node = one a; word = word; here = seen_at t root s shows slot a here; word_is = known };
         reports = (refl, refl);
         ok = ((λ e. (may, whole)), (λ e. refl));
@@ -124,6 +126,7 @@ module _ {M : Type 0} (Granted : Type 0) (same : M → M → Bool) (t : NodeMap 
         work,
         record {
           point = point;
+          may = locking;
           knows = record { slot = slot; node = one a; word = word; here = seen_at t root s shows slot a here; word_is = known };
           reports = (refl, refl);
           ok = ((λ e. absurd (false_true e)), (λ h. absurd (undone h)));
@@ -157,19 +160,19 @@ module _ {M : Type 0} (Granted : Type 0) (same : M → M → Bool) (t : NodeMap 
 
 -- A CALL WITHOUT A REPLY whose upgrade fails
 module _ {M : Type 0} (Granted : Type 0) (same : M → M → Bool) (t : NodeMap M) (root pin : ℕ) (books : StoreCounts) (task : Task M) (env : Env M) (placed : IsPlaced t root)
-    (small : key_of task.outline < 2 ^ 64) (opened : IsOpen task) (tail : Tail) (slot word : ℕ) (a : PlacedNode M) (here : t slot ≡ Some a) (known : lookup (spots_in tail) slot ≡ Some word)
+    (small : key_of task.outline < 2 ^ 64) (opened : IsOpen task) (tail : Tail) (locking : MayLock Granted same (flight pin (at (tail_at tail) task))) (slot word : ℕ) (a : PlacedNode M) (here : t slot ≡ Some a) (known : lookup (spots_in tail) slot ≡ Some word)
     (named : IsIn slot (named_in tail)) (made : made_in tail ≡ []) (quiet : cleaning_in tail ≡ None) (free : IsFree word) (cannot : MayUpgrade a.word word → env.fail ≡ false → ⊥) where
   -- goes back to the root if it holds nothing
   back_is : held_in tail ≡ [] → flight pin (at TakeRoot (restarted task)) ≡ record (not_locked task.progress (held_in tail) (flight pin (at (tail_at tail) task))) { remembered = [] }
   back_is none =
-      ap (λ (z : Option ℕ). record (flight pin (at TakeRoot (restarted task))) { cleaning = z }) (sym quiet)
+      ap (λ (z : Option Cleaning). record (flight pin (at TakeRoot (restarted task))) { cleaning = z }) (sym quiet)
       ∙ (ap (λ (z : List ℕ). record (flight pin (at TakeRoot (restarted task))) { cleaning = cleaning_in tail; held = z }) (sym none)
       ∙ (ap (λ (z : List ℕ). record (flight pin (at TakeRoot (restarted task))) { cleaning = cleaning_in tail; held = held_in tail; made = z }) (sym made)
       ∙ ap (λ (z : CallState M). record z { remembered = [] }) (sym (goes_back task.progress (held_in tail) (flight pin (at (tail_at tail) task)) opened.undecided none))))
 
   pub fails_back : held_in tail ≡ [] → IsMove Granted same t t root pin books books (at (tail_at tail) task) env (at TakeRoot (restarted task)) (report_of kind.Upgrade (Some slot) 0 false) Going
   fails_back none =
-      fails Granted same t root pin books task env placed (tail_at tail) (inl opened.undecided) opened.point slot word a here known named made free cannot
+      fails Granted same t root pin books task env placed (tail_at tail) (inl opened.undecided) opened.point locking slot word a here known named made free cannot
       (at TakeRoot (restarted task)) (back_is none) refl
       (record { small = small; at = (record { opened = record { undecided = opened.undecided; op = opened.op; op_is = opened.op_is; outline = opened.outline; point = opened.point; returned = returned_fresh opened.op task.asking task.returns opened.returned }; fresh = refl }, refl) })
       refl (λ s h. absurd (none_at_root s h))
@@ -179,7 +182,7 @@ module _ {M : Type 0} (Granted : Type 0) (same : M → M → Bool) (t : NodeMap 
   -- and unlocks the parent if it holds that
   stay_is : (above : Spot) → held_in tail ≡ above.slot ∷ [] → flight pin (at (tail_at (Unlock above None)) task) ≡ record (not_locked task.progress (held_in tail) (flight pin (at (tail_at tail) task))) { remembered = [] }
   stay_is above one_held =
-      ap (λ (z : Option ℕ). record (flight pin (at (tail_at (Unlock above None)) task)) { cleaning = z }) (sym quiet)
+      ap (λ (z : Option Cleaning). record (flight pin (at (tail_at (Unlock above None)) task)) { cleaning = z }) (sym quiet)
       ∙ (ap (λ (z : List ℕ). record (flight pin (at (tail_at (Unlock above None)) task)) { cleaning = cleaning_in tail; held = z }) (sym one_held)
       ∙ (ap (λ (z : List ℕ). record (flight pin (at (tail_at (Unlock above None)) task)) { cleaning = cleaning_in tail; held = held_in tail; made = z }) (sym made)
       ∙ ap (λ (z : CallState M). record z { remembered = [] }) (sym (stays_held task.progress (held_in tail) above.slot [] (flight pin (at (tail_at tail) task)) opened.undecided one_held))))
@@ -187,7 +190,7 @@ module _ {M : Type 0} (Granted : Type 0) (same : M → M → Bool) (t : NodeMap 
   pub fails_held : (above : Spot) → held_in tail ≡ above.slot ∷ [] → IsIn above.slot (named_in tail) → IsHeld t above → 0 < tail_work task.progress tail
       → IsMove Granted same t t root pin books books (at (tail_at tail) task) env (at (tail_at (Unlock above None)) task) (report_of kind.Upgrade (Some slot) 0 false) Going
   fails_held above one_held there is some =
-      fails Granted same t root pin books task env placed (tail_at tail) (inl opened.undecided) opened.point slot word a here known named made free cannot
+      fails Granted same t root pin books task env placed (tail_at tail) (inl opened.undecided) opened.point locking slot word a here known named made free cannot
       (at (tail_at (Unlock above None)) task) (stay_is above one_held) refl
       (record { small = small; at = (is, inl opened) })
       refl

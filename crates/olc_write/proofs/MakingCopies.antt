@@ -13,7 +13,7 @@ use Rattle.node_table.proofs.KindLaws.{length-mapped, lookup-mapped_some, mapped
 use Rattle.spec_olc.specs.Kinds.{report_of}
 use Rattle.spec_olc.specs.Lists.{is_in}
 use Rattle.spec_olc.specs.Meaning.{child_of}
-use Rattle.olc_state.specs.inner.Tails.{held_in}
+use Rattle.olc_state.specs.inner.Tails.{held_in, one_more}
 use Rattle.spec_olc.specs.State.{State}
 use Rattle.spec_olc.specs.Writing.{HeldNode, IsNewNode, IsOwn}
 use Rattle.spec_olc.specs.declared.types.Env.{Env}
@@ -44,6 +44,10 @@ use Rattle.olc_write.proofs.MakingEvents.{granted_moves}
 use Rattle.olc_write.proofs.MakingNodes.{at}
 use Rattle.olc_write.proofs.MakingFacts.{Enters, copy_enters, copy_made, middle_made}
 use Rattle.olc_write.proofs.MakingTurns.{built_is}
+
+few_more : (leaf : Option ℕ) → length (one_more leaf) ≤ 1
+few_more None = omega arith
+few_more (Some leaf) = omega arith
 
 module _ {M : Type 0} where
   -- each child of a linked node is of its kind
@@ -142,7 +146,7 @@ module _ {P A M : Type 0} (meaning : P → M) (charge : A → Option ℕ) (Grant
         subst (λ (z : TableNode M). Fits z.form (length z.children)) (sym is_node) (subst (λ (c : ℕ). Fits n.form c) (sym (length-mapped (child_of meaning) n.children)) grown.fits) in
         granted_moves meaning charge Granted same old new kept pin task env (Grow pair leaf) (Replace pair slot leaf) facts.small work.writes.opened.undecided enters
         (record { holds = cons_none pair.here.slot (pair.above.slot ∷ []); held = refl; named = refl; remembered = refl }) refl refl
-        slot (meant_node meaning adds.node) adds.adds refl (omega arith)
+        slot (meant_node meaning adds.node) adds.adds refl (omega arith) (few_more leaf)
         (λ s shows. subst (λ (a : TableNode M). IsNewNode s (flight pin (at (Grow pair leaf) job)) a) (sym is)
         (copy_new s pin job pair leaf (held_node s old.store.root t shows (Grow pair leaf) pair.here.slot x held.linked (first_in pair.here.slot (pair.above.slot ∷ []))) child
         grow.way (kept.placed.ordered pair.here.slot x held.linked) short fits grow.full grow.none (placed_kinds t old.store.root pair.here.slot x kept.placed held.linked)
@@ -163,7 +167,7 @@ module _ {P A M : Type 0} (meaning : P → M) (charge : A → Option ℕ) (Grant
         let fork : IsFork p x.node.prefix k = subst (λ (z : TableNode M). IsFork p z.prefix k) (sym is_node) between.fork in
         granted_moves meaning charge Granted same old new kept pin task env (MakeMiddle pair leaf) (Insert pair slot leaf) facts.small work.writes.opened.undecided (record { point = work.writes.opened.point; value = facts.at.1.value; stores = facts.at.1.stores })
         (record { holds = cons_none pair.here.slot (pair.above.slot ∷ []); held = refl; named = refl; remembered = refl }) refl refl
-        slot (meant_node meaning adds.node) adds.adds refl (omega arith)
+        slot (meant_node meaning adds.node) adds.adds refl (omega arith) (omega arith)
         (λ s shows. subst (λ (a : TableNode M). IsNewNode s (flight pin (at (MakeMiddle pair leaf) job)) a) (sym is)
         (middle_new s pin job pair leaf p (held_node s old.store.root t shows (MakeMiddle pair leaf) pair.here.slot x held.linked (first_in pair.here.slot (pair.above.slot ∷ []))) fork
         (kept.placed.bytes pair.here.slot x held.linked) (kept.placed.short pair.here.slot x held.linked)))

@@ -1,6 +1,6 @@
 -- MAKE: a private node is added, or is refused, and then what the call has made is freed. Each is an event of its call,
 -- whichever comes next.
-use Rattle.std.proofs.Common.{◌≡◌, ◌≢◌, ℕ, ◌+◌, ◌<◌, Bool, true, IsTrue, List, [], ◌∷◌, Option, Some, None, ◌⊎◌, inl, inr, refl, sym, subst, ap, ◌∙◌, arith}
+use Rattle.std.proofs.Common.{◌≡◌, ◌≢◌, ℕ, ◌+◌, ◌<◌, ◌≤◌, Bool, true, IsTrue, List, [], ◌∷◌, length, Option, Some, None, ◌⊎◌, inl, inr, refl, sym, subst, ap, ◌∙◌, arith}
 use Rattle.std.proofs.lemmas.Bool.{eq-eqb, ne_eqb}
 use Rattle.std.proofs.lemmas.Bool.Decides.{eqb_tells}
 use Rattle.node_base.specs.Form.{stated_size}
@@ -103,9 +103,9 @@ module _ {M : Type 0} (Granted : Type 0) (same : M → M → Bool) (t t' : NodeM
       → books'.count ≡ books.count → books'.entries ≡ books.entries → books'.charge ≡ add_charge books.charge (stated_size a.form)
       → Follows stage next → made_at next ≡ slot ∷ made_at stage → flight pin (at next task) ≡ record (flight pin (at stage task)) { made = slot ∷ made_at stage; remembered = spots_of next }
       → ((z : ℕ) → MayFollow t' next task.last z → ⊥) → work_of t' (at next task) < work_of t (at stage task)
-      → ((s : State M) → ShowsNodes t root s → IsNewNode s (flight pin (at stage task)) a) → Facts Granted same t' root pin (at next task)
+      → length (made_at stage) ≤ 1 → ((s : State M) → ShowsNodes t root s → IsNewNode s (flight pin (at stage task)) a) → Facts Granted same t' root pin (at next task)
       → IsMove Granted same t t' root pin books books' (at stage task) env (at next task) (report_of kind.Make (Some slot) 0 true) Going
-  granted next slot a makes count entries charge follows made alike reads less new facts =
+  granted next slot a makes count entries charge follows made alike reads less few new facts =
       let Mine : ℕ → Type 0 = Holding stage in
       let effect : Effect t t' root Mine (λ p. Unit {0}) (slot ∷ []) (slot ∷ []) = made_effect makes root Mine (λ p. Unit {0}) placed in
       let others : (o : ℕ) → o ≢ slot → t' o ≡ t o = λ o ne. makes.others o (λ h. elim h [ inl e ↦ ne (sym e) | inr never ↦ never ]) in
@@ -150,6 +150,7 @@ module _ {M : Type 0} (Granted : Type 0) (same : M → M → Bool) (t t' : NodeM
                 free = shows.nodes slot ∙ ap shown makes.empty;
                 reports = (refl, refl);
                 holds = follows.holds;
+                few = few;
                 allowed = new s shows;
                 becomes = record {
                   next = flight pin (at next task);

@@ -40,7 +40,7 @@ module _ {P A M : Type 0} (meaning : P → M) (charge : A → Option ℕ) (Grant
       let is : meant_node meaning adds.node ≡ leaf_of (key_bytes (meant_task meaning task)) own.value = built_is (λ n. IsLeafForTask meaning task n) built adds.node leaf adds.is own.value own.stores in
       granted_moves meaning charge Granted same old new kept pin task env (MakeLeaf spot) (Link spot slot) facts.small facts.at.work.writes.opened.undecided own
       (record { holds = cons_none spot.slot []; held = refl; named = refl; remembered = refl }) refl refl
-      slot (meant_node meaning adds.node) adds.adds refl (omega arith)
+      slot (meant_node meaning adds.node) adds.adds refl (omega arith) (omega arith)
       (λ s shows. subst (λ (a : TableNode M). IsNewNode s (flight pin (at (MakeLeaf spot) (meant_task meaning task))) a) (sym is) (leaf_new s pin (meant_task meaning task) (MakeLeaf spot) own.value own.stores))
       (leaf_made (table_in meaning charge old) (table_in meaning charge new) Granted same (meant_task meaning task) slot (meant_node meaning adds.node) adds.adds.empty adds.adds.here adds.adds.others spot facts.at own is)
 
@@ -65,7 +65,7 @@ module _ {P A M : Type 0} (meaning : P → M) (charge : A → Option ℕ) (Grant
       let is : meant_node meaning adds.node ≡ leaf_of (key_bytes (meant_task meaning task)) own.value = built_is (λ n. IsLeafForTask meaning task n) built adds.node leaf adds.is own.value own.stores in
       granted_moves meaning charge Granted same old new kept pin task env (MakeLeafBelow pair GrowInner) (Grow pair (Some slot)) facts.small work.writes.opened.undecided own
       (record { holds = cons_none pair.here.slot (pair.above.slot ∷ []); held = refl; named = refl; remembered = refl }) refl refl
-      slot (meant_node meaning adds.node) adds.adds refl (omega arith)
+      slot (meant_node meaning adds.node) adds.adds refl (omega arith) (omega arith)
       (λ s shows. subst (λ (a : TableNode M). IsNewNode s (flight pin (at (MakeLeafBelow pair GrowInner) (meant_task meaning task))) a) (sym is) (leaf_new s pin (meant_task meaning task) (MakeLeafBelow pair GrowInner) own.value own.stores))
       (leaf_made_below (table_in meaning charge old) (table_in meaning charge new) Granted same (meant_task meaning task) slot (meant_node meaning adds.node) adds.adds.empty adds.adds.here adds.adds.others pair GrowInner facts.at.0 own is)
   leaf_moves_below pair Split slot built facts leaf adds =
@@ -74,7 +74,7 @@ module _ {P A M : Type 0} (meaning : P → M) (charge : A → Option ℕ) (Grant
       let is : meant_node meaning adds.node ≡ leaf_of (key_bytes (meant_task meaning task)) own.value = built_is (λ n. IsLeafForTask meaning task n) built adds.node leaf adds.is own.value own.stores in
       granted_moves meaning charge Granted same old new kept pin task env (MakeLeafBelow pair Split) (MakeMiddle pair slot) facts.small work.writes.opened.undecided own
       (record { holds = cons_none pair.here.slot (pair.above.slot ∷ []); held = refl; named = refl; remembered = refl }) refl refl
-      slot (meant_node meaning adds.node) adds.adds refl (omega arith)
+      slot (meant_node meaning adds.node) adds.adds refl (omega arith) (omega arith)
       (λ s shows. subst (λ (a : TableNode M). IsNewNode s (flight pin (at (MakeLeafBelow pair Split) (meant_task meaning task))) a) (sym is) (leaf_new s pin (meant_task meaning task) (MakeLeafBelow pair Split) own.value own.stores))
       (leaf_made_below (table_in meaning charge old) (table_in meaning charge new) Granted same (meant_task meaning task) slot (meant_node meaning adds.node) adds.adds.empty adds.adds.here adds.adds.others pair Split facts.at.0 own is)
 

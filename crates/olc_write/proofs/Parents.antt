@@ -25,7 +25,7 @@ use Rattle.olc_state.specs.inner.Facts.{Holding}
 use Rattle.olc_state.specs.inner.Moves.{StoreCounts, IsAfter, IsMove}
 use Rattle.olc_state.specs.inner.Shown.{flight, shown, held_at, made_at}
 use Rattle.olc_state.specs.inner.Tables.{IsIn, IsLinked, IsPlaced, NeedsHolder, byte_at}
-use Rattle.olc_state.specs.inner.TailFacts.{IsHeld, AreHeld, AtPair, HasLeaf, HasCopy, HasMiddle, WritesAtKey, is_for}
+use Rattle.olc_state.specs.inner.TailFacts.{IsHeld, AreHeld, AtPair, HasLeaf, HasCopy, HasMiddle, WritesAtKey, found, is_for}
 use Rattle.olc_state.specs.inner.Tails.{both_slots, one_more, cleaning_in}
 use Rattle.olc_state.specs.inner.Tasks.{key_bytes}
 use Rattle.olc_state.specs.inner.Turns.{ShowsNodes}
@@ -41,7 +41,7 @@ use Rattle.olc_laws.proofs.Growing.{grown_leaf_effect, grown_leaf_puts, grown_in
 use Rattle.olc_laws.proofs.Pairs.{PutsPair}
 use Rattle.olc_laws.proofs.Splitting.{split_effect, split_puts}
 use Rattle.olc_laws.proofs.Writing.{answered}
-use Rattle.olc_write.proofs.Deciding.{AnswersPair, ShowsWrite, StandsAt, becomes_of, entries_after, nodes_written, with_reply, write_course, writes_child}
+use Rattle.olc_write.proofs.Deciding.{AnswersPair, ShowsWrite, StandsAt, becomes_of, changed_node, entries_after, nodes_written, with_reply, write_course, writes_child}
 use Rattle.olc_write.proofs.Growths.{BecomesLinked, LeadsNow, IsPrivate, copy_private, middle_private, above_inner, grows_leaf, grows_inner, splits, copied_absent, split_absent}
 
 pub not_in : (b : Bool) → b ≡ false → IsTrue b → ⊥
@@ -175,7 +175,7 @@ module _ {M : Type 0} (Granted : Type 0) (same : M → M → Bool) (t t' : NodeM
       (record { slot = p; node = one held.above.node; mine = mine; here = seen_at t root s shows p held.above.node held.above.linked.here })
       (below_at new)
       (nodes_written t t' root s s' (made_at (Tail tail)) p (one (answered held.above.node (byte_at held.above.node k) (Some (below_at new)))) shows shows' map map' written)
-      own (above_inner t root task pair placed held) (still_fits t root task pair placed new held fits) is
+      own (changed_node same (found held.above.node k) new) (above_inner t root task pair placed held) (still_fits t root task pair placed new held fits) is
       (λ slot word e. absurd (none_some word (subst (λ (z : List (ℕ × ℕ)). lookup z slot ≡ Some word) no_spots e)))
 
   both_in : (s : ℕ) → IsIn s (p ∷ q ∷ []) → IsIn s (both_slots pair)

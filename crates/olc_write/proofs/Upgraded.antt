@@ -35,6 +35,7 @@ use Rattle.olc_state.proofs.Ways.{known_linked}
 use Rattle.olc_state.proofs.Records.{at}
 use Rattle.olc_laws.proofs.Effects.{beside_one}
 use Rattle.olc_laws.proofs.Words.{Upgrades}
+use Rattle.olc_write.proofs.Deciding.{may_lock}
 use Rattle.olc_write.proofs.Locks.{fails_back, fails_held, locks}
 use Rattle.olc_write.proofs.Showing.{Among, among_last, among_none}
 
@@ -199,9 +200,9 @@ module _ {M : Type 0} (Granted : Type 0) (same : M → M → Bool) (t : NodeMap 
         let now : AtNode Granted same t' task path.here small = record {
           way = on_way t' path.here a here f.1.here may after others f.1.way;
           held = is_held t' path.here a here f.1.here may after others;
-          work = record { writes = work.writes; is = small_is small a (key_bytes task) (a.word + 2) work.is };
+          work = record { writes = work.writes; is = small_is small a (key_bytes task) (a.word + 2) work.is; differs = work.differs };
         } in
-        locks Granted same t root pin books task env placed (tail_at (Upgrade path small)) (inl f.0.undecided) f.0.point path.here.slot path.here.word a here known_here (inl refl) refl
+        locks Granted same t root pin books task env placed (tail_at (Upgrade path small)) (inl f.0.undecided) f.0.point (may_lock Granted same task (Upgrade path small) refl pin f.3.0 f.3.1) path.here.slot path.here.word a here known_here (inl refl) refl
         t' (upgrades t' path.here a here f.1.here may after others) may whole (tail_at (small_next small path.here)) (record { small = facts.small; at = small_facts Granted same t' root pin task small path.here now })
         (small_alike pin task small path) (small_held small path.here) (small_made small path.here)
         (subst (λ z. Among z (path_spots path)) (sym (small_spots small path.here)) (among_none (path_spots path)))
@@ -213,7 +214,7 @@ module _ {M : Type 0} (Granted : Type 0) (same : M → M → Bool) (t : NodeMap 
         → IsMove Granted same t t root pin books books (at (tail_at (Upgrade path small)) task) env (at TakeRoot (restarted task)) (report_of kind.Upgrade (Some path.here.slot) 0 false) Going
     upgrade_fails cannot =
         let f = facts.at in
-        fails_back Granted same t root pin books task env placed facts.small f.0 (Upgrade path small) path.here.slot path.here.word a here known_here (inl refl) refl refl
+        fails_back Granted same t root pin books task env placed facts.small f.0 (Upgrade path small) (may_lock Granted same task (Upgrade path small) refl pin f.3.0 f.3.1) path.here.slot path.here.word a here known_here (inl refl) refl refl
         f.1.here.free cannot refl
 
   -- THE PARENT
@@ -229,12 +230,13 @@ module _ {M : Type 0} (Granted : Type 0) (same : M → M → Bool) (t : NodeMap 
         let f = facts.at in
         let below : Below Granted same t pin task pair large = f.0 in
         let far : pair.here.slot ≢ pair.above.slot = λ e. below.over.apart (sym e) in
-        locks Granted same t root pin books task env placed (tail_at (UpgradeAbove pair large)) (inl below.opened.undecided) below.opened.point pair.above.slot pair.above.word a here above_known (inr (inl refl)) refl
+        locks Granted same t root pin books task env placed (tail_at (UpgradeAbove pair large)) (inl below.opened.undecided) below.opened.point (may_lock Granted same task (UpgradeAbove pair large) refl pin below.writing.0 below.writing.1) pair.above.slot pair.above.word a here above_known (inr (inl refl)) refl
         t' (upgrades t' pair.above a here f.1 may after others) may whole (tail_at (UpgradeBelow pair large)) (record {
           small = facts.small;
           at = (
             record {
               opened = below.opened;
+              writing = below.writing;
               over = record { way = on_way t' pair.above a here f.1 may after others below.over.way; apart = below.over.apart };
               here = known_still t' pair.above a here f.1 may after others pair.here far below.here;
               work = while_still t' pair.above a here f.1 may after others pair.here far (LargeWork Granted same large task) below.work;
@@ -253,7 +255,7 @@ module _ {M : Type 0} (Granted : Type 0) (same : M → M → Bool) (t : NodeMap 
         → IsMove Granted same t t root pin books books (at (tail_at (UpgradeAbove pair large)) task) env (at TakeRoot (restarted task)) (report_of kind.Upgrade (Some pair.above.slot) 0 false) Going
     above_fails cannot =
         let f = facts.at in
-        fails_back Granted same t root pin books task env placed facts.small f.0.opened (UpgradeAbove pair large) pair.above.slot pair.above.word a here above_known (inr (inl refl)) refl refl
+        fails_back Granted same t root pin books task env placed facts.small f.0.opened (UpgradeAbove pair large) (may_lock Granted same task (UpgradeAbove pair large) refl pin f.0.writing.0 f.0.writing.1) pair.above.slot pair.above.word a here above_known (inr (inl refl)) refl refl
         f.1.free cannot refl
 
   -- THE NODE BELOW A HELD PARENT
@@ -276,7 +278,7 @@ module _ {M : Type 0} (Granted : Type 0) (same : M → M → Bool) (t : NodeMap 
           };
           work = large_work Granted same task large a (a.word + 2) work;
         } in
-        locks Granted same t root pin books task env placed (tail_at (UpgradeBelow pair large)) (inl below.opened.undecided) below.opened.point pair.here.slot pair.here.word a here below_known (inl refl) refl
+        locks Granted same t root pin books task env placed (tail_at (UpgradeBelow pair large)) (inl below.opened.undecided) below.opened.point (may_lock Granted same task (UpgradeBelow pair large) refl pin below.writing.0 below.writing.1) pair.here.slot pair.here.word a here below_known (inl refl) refl
         t' (upgrades t' pair.here a here below.here may after others) may whole (tail_at (large_next large pair)) (record { small = facts.small; at = large_facts Granted same t' root pin task large pair now })
         (large_alike pin task large pair) (large_held large pair) (large_made large pair)
         (subst (λ z. Among z ((pair.here.slot, pair.here.word) ∷ [])) (sym (large_spots large pair)) (among_none ((pair.here.slot, pair.here.word) ∷ [])))
@@ -288,5 +290,5 @@ module _ {M : Type 0} (Granted : Type 0) (same : M → M → Bool) (t : NodeMap 
         → IsMove Granted same t t root pin books books (at (tail_at (UpgradeBelow pair large)) task) env (at (tail_at (Unlock pair.above None)) task) (report_of kind.Upgrade (Some pair.here.slot) 0 false) Going
     below_fails cannot =
         let f = facts.at in
-        fails_held Granted same t root pin books task env placed facts.small f.0.opened (UpgradeBelow pair large) pair.here.slot pair.here.word a here below_known (inl refl) refl refl
+        fails_held Granted same t root pin books task env placed facts.small f.0.opened (UpgradeBelow pair large) (may_lock Granted same task (UpgradeBelow pair large) refl pin f.0.writing.0 f.0.writing.1) pair.here.slot pair.here.word a here below_known (inl refl) refl refl
         f.0.here.free cannot pair.above refl (inr (inl refl)) f.1 (omega arith)

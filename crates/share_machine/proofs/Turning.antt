@@ -11,8 +11,8 @@ use Rattle.spec_olc.specs.Deciding.{ContentAfter, IsContentStep, AppliesCall}
 use Rattle.spec_olc.specs.Kinds.{NextIs, CheckOutcome, ReadOutcome, AnswerOutcome, WriteOutcome, DoesAs, IsStep, failed, refusal, refused, not_locked, unlocked}
 use Rattle.spec_olc.specs.Lists.{is_in, off}
 use Rattle.spec_olc.specs.Local.{IsLocal}
-use Rattle.spec_olc.specs.Reading.{GoesOn, HasAll, LooksOn, MayGive}
-use Rattle.spec_olc.specs.State.{State, CallState, settled}
+use Rattle.spec_olc.specs.Reading.{GoesOn, HasAll, LooksOn, MayGive, Remembered}
+use Rattle.spec_olc.specs.State.{State, CallState, settled, Cleaning}
 use Rattle.spec_olc.specs.declared.types.Asking.{Asking}
 use Rattle.spec_olc.specs.declared.types.Asking.TheVariants.{Fresh, Wants, Given}
 use Rattle.spec_olc.specs.declared.types.Env.{Env}
@@ -149,16 +149,17 @@ module _ {M : Type 0} where
   after_not_locked progress.Open (slot ∷ held) call = (record { outline = refl; op = refl; progress = refl }, inr refl)
   after_not_locked _ held call = (record { outline = refl; op = refl; progress = refl }, inl refl)
 
-  after_unlocked : (p : Progress) (cleaning : Option ℕ) (held left : List ℕ) (call : CallState M)
+  after_unlocked : (p : Progress) (cleaning : Option Cleaning) (held left : List ℕ) (call : CallState M)
       → Lasts call (unlocked p cleaning held (record call { held = left })) × Quiet call (unlocked p cleaning held (record call { held = left }))
   after_unlocked progress.Open cleaning held left call = (record { outline = refl; op = refl; progress = refl }, inl refl)
   after_unlocked _ None held left call = (record { outline = refl; op = refl; progress = refl }, inr refl)
   after_unlocked _ (Some length_is) [] left call = (record { outline = refl; op = refl; progress = refl }, inl refl)
   after_unlocked _ (Some length_is) (slot ∷ held) left call = (record { outline = refl; op = refl; progress = refl }, inr refl)
 
-  looked_on : (outline : Outline) (s : State M) (call planned : CallState M) → LooksOn outline s call planned → Lasts call planned × Quiet call planned
-  looked_on (Range a b n) s call planned h = went_on call (record call { cursor = h.cursor; reach = h.reach }) planned (record { outline = refl; op = refl; progress = refl }) refl h.next_is
-  looked_on outline s call planned h = (subst (λ (f : CallState M). Lasts call f) (sym h) (record { outline = refl; op = refl; progress = refl }), inr (ap (λ (f : CallState M). f.asking) h))
+  looked_on : (outline : Outline) (s : State M) (call : CallState M) (here : Remembered s call) (planned : CallState M) → LooksOn outline s call here planned → Lasts call planned × Quiet call planned
+  looked_on (Range a b n) s call here planned h = went_on call (record call { cursor = h.cursor; reach = h.reach }) planned (record { outline = refl; op = refl; progress = refl }) refl h.next_is
+  looked_on outline s call here planned (inl h) = (subst (λ (f : CallState M). Lasts call f) (sym h) (record { outline = refl; op = refl; progress = refl }), inr (ap (λ (f : CallState M). f.asking) h))
+  looked_on outline s call here planned (inr h) = (subst (λ (f : CallState M). Lasts call f) (sym h.0) (record { outline = refl; op = refl; progress = refl }), inr (ap (λ (f : CallState M). f.asking) h.0))
 
   module _ (Granted : Type 0) (same : M → M → Bool) (old new : State M) (id : ℕ) (call : CallState M) (env : Env M) (report : Report) (out : Outcome M) where
     abbrev Ends : State M → CallState M → Type 0
@@ -205,21 +206,21 @@ module _ {M : Type 0} where
         (subst (λ (u : Outline). Turns (stage_of call) env.answer report.kind (Some (Settled u)) (Decided reply)) (sym outline)
         (subst (λ (p : CallStage M). Turns p env.answer report.kind (Some (Settled call.outline)) (Decided reply)) (λ i. staged call.outline (sym local.op_is i) (sym local.undecided i) call.asking) refl))
 
-    found : Calm → (o : Outcome M) (planned : CallState M) → Ends old planned → CheckOutcome Granted same old call planned o → Result o
-    found calm Going planned b h = let l = looked_on call.outline old call planned h in going Going refl calm old planned b l.0 l.1
-    found calm (Ask asked) planned b h =
+    found : Calm → (o : Outcome M) (here : Remembered old call) (planned : CallState M) → Ends old planned → CheckOutcome Granted same old call here planned o → Result o
+    found calm Going here planned b h = let l = looked_on call.outline old call here planned h in going Going refl calm old planned b l.0 l.1
+    found calm (Ask asked) here planned b h =
         by_plan (Ask asked) old planned b
         (subst (λ (f : CallState M). Turns (stage_of call) env.answer report.kind (Some (stage_of f)) (Ask asked)) (sym h.2)
         (asks call.outline call.op call.progress call.asking asked env.answer report.kind h.0.undecided))
-    found calm (Pair key value) planned b h =
+    found calm (Pair key value) here planned b h =
         let l = went_on call (record call { cursor = key + 1; reach = key + 1; given = call.given + 1 }) planned (record { outline = refl; op = refl; progress = refl }) refl h.next_is in
         by_plan (Pair key value) old planned b
         (subst (λ (p : CallStage M). Turns (stage_of call) env.answer report.kind (Some p) (Pair key value)) (sym (as_lasting planned l.0))
         (pairs call.outline call.op call.progress call.asking planned.asking key value env.answer report.kind (no_pair call.outline call.given key h.may)))
-    found calm (Decided reply) planned b h = decides reply h.0 old call (subst (λ (f : CallState M). Ends old f) h.2 b) refl
-    found calm Refused planned b h = absurd h
-    found calm Done planned b h = absurd h
-    found calm Unknown planned b h = absurd h
+    found calm (Decided reply) here planned b h = decides reply h.0 old call (subst (λ (f : CallState M). Ends old f) h.2 b) refl
+    found calm Refused here planned b h = absurd h
+    found calm Done here planned b h = absurd h
+    found calm Unknown here planned b h = absurd h
 
     saw : Calm → (node : TableNode M) (whole : Bool) (o : Outcome M) → ReadOutcome Granted same old new id call env report out node whole o → Result o
     saw calm node true Going d = going Going refl calm old _ d.2 (record { outline = refl; op = refl; progress = refl }) (inr refl)
@@ -240,7 +241,7 @@ module _ {M : Type 0} where
     made_none calm progress.Decided is o e base b = going o e calm base _ b (record { outline = refl; op = refl; progress = refl }) (inr refl)
     made_none calm progress.Refused is o e base b = going o e calm base _ b (record { outline = refl; op = refl; progress = refl }) (inr refl)
 
-    wrote : (left : Option ℕ) (o : Outcome M) → WriteOutcome Granted same call o → (base : State M) → Ends base (settled progress.Decided (record call { made = []; cleaning = left })) → Result o
+    wrote : (left : Option Cleaning) (o : Outcome M) → WriteOutcome Granted same call o → (base : State M) → Ends base (settled progress.Decided (record call { made = []; cleaning = left })) → Result o
     wrote left Going h base b =
         by_plan Going base (settled progress.Decided (record call { made = []; cleaning = left })) b (writes call.outline call.op call.progress call.asking env.answer report.kind h)
     wrote left (Decided reply) h base b = decides reply h base (record call { made = []; cleaning = left }) b refl
@@ -267,7 +268,7 @@ module _ {M : Type 0} where
     step_turns map kind.Check is d =
         let calm = calm_by kind.Check is (λ e. cc) in
         by_ok report.ok
-        (λ good. found calm out d.1.planned d.1.becomes (d.1.passes good))
+        (λ good. found calm out d.1.knows d.1.planned d.1.becomes (d.1.passes good))
         (λ bad.
         let f = d.1.fails bad in
         let l = after_failed call.progress call in
@@ -290,7 +291,7 @@ module _ {M : Type 0} where
     step_turns map kind.Finish is d =
         subst (λ (o : Outcome M). Result o) (sym d.reports.1)
         (subst (λ (f : Option (CallState M)). Turns (stage_of call) env.answer report.kind (place_of true f) Done) (sym (ap (λ (s : State M). lookup s.calls id) d.after ∙ lookup-without_same 0 (2 ^ 64) old.calls id map))
-        (ends call.outline call.op call.progress call.asking call.reach call.given env.answer report.kind d.may))
+        (ends call.outline call.op call.progress call.asking call.reach call.given env.answer report.kind (elim d.may [ inl over ↦ inl over.0 | inr all ↦ inr all ])))
     step_turns map kind.Reclaim is d = absurd d
 
   -- the content after a call is decided

@@ -9,8 +9,8 @@ use Rattle.spec_olc.specs.Calls.{IsPoint, Outline}
 use Rattle.spec_olc.specs.Due.{IsDue, IsLeft}
 use Rattle.spec_olc.specs.Kinds.{AnswerOutcome, CheckOutcome, DoesAs, IsStep, NextIs, ReadOutcome, WriteOutcome, Writes, failed, not_locked, refusal, refused, unlocked}
 use Rattle.spec_olc.specs.Lists.{off}
-use Rattle.spec_olc.specs.Reading.{GoesOn, LooksOn, MayGive}
-use Rattle.spec_olc.specs.State.{CallState, State, back}
+use Rattle.spec_olc.specs.Reading.{GoesOn, LooksOn, MayGive, Remembered}
+use Rattle.spec_olc.specs.State.{CallState, Cleaning, State, back, stopped}
 use Rattle.spec_olc.specs.Writing.{changed}
 use Rattle.spec_olc.specs.declared.types.Env.{Env}
 use Rattle.spec_olc.specs.declared.types.Kind.TheVariants as kind
@@ -44,7 +44,7 @@ module _ {M : Type 0} where
   not_locked_keeps progress.Decided held call = inr refl
   not_locked_keeps progress.Refused held call = inr refl
 
-  unlocked_keeps : (p : Progress) (cleaning : Option ℕ) (held : List ℕ) (call : CallState M) → Keeps call (unlocked p cleaning held call)
+  unlocked_keeps : (p : Progress) (cleaning : Option Cleaning) (held : List ℕ) (call : CallState M) → Keeps call (unlocked p cleaning held call)
   unlocked_keeps progress.Open cleaning held call = inl refl
   unlocked_keeps progress.Decided None held call = inl refl
   unlocked_keeps progress.Refused None held call = inl refl
@@ -62,22 +62,23 @@ module _ {M : Type 0} where
   goes_keeps call next planned same (inl e) = same_cleaning call next planned (inl same) e
   goes_keeps call next planned same (inr e) = same_cleaning call (back next) planned (inl same) e
 
-  looks_keeps : (outline : Outline) (s : State M) (call planned : CallState M) → LooksOn outline s call planned → Keeps call planned
-  looks_keeps (Range a b n) s call planned h = goes_keeps call (record call { cursor = h.cursor; reach = h.reach }) planned refl h.next_is
-  looks_keeps outline s call planned h = same_cleaning call call planned (inl refl) h
+  looks_keeps : (outline : Outline) (s : State M) (call : CallState M) (a : Remembered s call) (planned : CallState M) → LooksOn outline s call a planned → Keeps call planned
+  looks_keeps (Range start end n) s call a planned h = goes_keeps call (record call { cursor = h.cursor; reach = h.reach }) planned refl h.next_is
+  looks_keeps outline s call a planned (inl h) = same_cleaning call call planned (inl refl) h
+  looks_keeps outline s call a planned (inr h) = same_cleaning call (stopped call) planned (inr refl) h.0
 
   module _ (Granted : Type 0) (same : M → M → Bool) (old new : State M) (id : ℕ) (call next : CallState M) (env : Env M) (report : Report) (there : lookup new.calls id ≡ Some next) where
     kept : (out : Outcome M) (base : State M) (planned : CallState M) → NextIs Granted same old new id call env report out base planned → Keeps call planned → Keeps call next
     kept out base planned b k =
         let is : next.cleaning ≡ planned.cleaning = ap (λ (f : CallState M). f.cleaning) (sym (call_after base new id b.next next b.after there)) ∙ ap (λ (f : CallState M). f.cleaning) b.is in
-        subst (λ (c : Option ℕ). (c ≡ call.cleaning) ⊎ (c ≡ None)) (sym is) k
+        subst (λ (c : Option Cleaning). (c ≡ call.cleaning) ⊎ (c ≡ None)) (sym is) k
 
-    found_keeps : (out : Outcome M) (planned : CallState M) → NextIs Granted same old new id call env report out old planned → CheckOutcome Granted same old call planned out → Keeps call next
-    found_keeps Going planned b h = kept Going old planned b (looks_keeps call.outline old call planned h)
-    found_keeps (Ask asked) planned b h = kept (Ask asked) old planned b (same_cleaning call _ planned (inl refl) h.2)
-    found_keeps (Pair key value) planned b h = kept (Pair key value) old planned b (goes_keeps call (record call { cursor = key + 1; reach = key + 1; given = call.given + 1 }) planned refl h.next_is)
-    found_keeps (Decided reply) planned b h = kept (Decided reply) old planned b (same_cleaning call _ planned (inl refl) h.2)
-    found_keeps out planned b h = absurd h
+    found_keeps : (out : Outcome M) (a : Remembered old call) (planned : CallState M) → NextIs Granted same old new id call env report out old planned → CheckOutcome Granted same old call a planned out → Keeps call next
+    found_keeps Going a planned b h = kept Going old planned b (looks_keeps call.outline old call a planned h)
+    found_keeps (Ask asked) a planned b h = kept (Ask asked) old planned b (same_cleaning call _ planned (inl refl) h.2)
+    found_keeps (Pair key value) a planned b h = kept (Pair key value) old planned b (goes_keeps call (record call { cursor = key + 1; reach = key + 1; given = call.given + 1 }) planned refl h.next_is)
+    found_keeps (Decided reply) a planned b h = kept (Decided reply) old planned b (same_cleaning call _ planned (inl refl) h.2)
+    found_keeps out a planned b h = absurd h
 
     saw_keeps : (out : Outcome M) (node : TableNode M) (whole : Bool) (o : Outcome M) → ReadOutcome Granted same old new id call env report out node whole o → Keeps call next
     saw_keeps out node true Going d = kept out old _ d.2 (inl refl)
@@ -99,7 +100,7 @@ module _ {M : Type 0} where
         taken false = failed_keeps call.progress call
     does_keep out kind.Check more other d =
         by_ok report.ok
-        (λ good. found_keeps out d.1.planned d.1.becomes (d.1.passes good))
+        (λ good. found_keeps out d.1.knows d.1.planned d.1.becomes (d.1.passes good))
         (λ bad. kept out old d.1.planned d.1.becomes (same_cleaning call (failed call.progress call) d.1.planned (failed_keeps call.progress call) (d.1.fails bad).1))
     does_keep out kind.Read more other d = saw_keeps out d.1.knows.node.node d.1.whole out d.1.sees
     does_keep out kind.Upgrade more other d =
@@ -122,16 +123,15 @@ module _ {M : Type 0} where
         subst (λ (f : CallState M). Keeps f next) is (does_keep Granted same old new id step.call next env report there out report.kind more other step.event)
 
     -- what a Write leaves
-    left_due : (p : Progress) (child : Option (Child M)) (a : TableNode M) (left : Option ℕ) (length_is : ℕ) → IsLeft p child a left → left ≡ Some length_is → (child ≡ None) × IsDue a × (length_is ≡ length a.prefix)
-    left_due p (Some child) a left length_is h e = absurd (none_some length_is (sym h ∙ e))
-    left_due p None a None length_is h e = absurd (none_some length_is e)
-    left_due p None a (Some l) length_is h e = (refl, h.0, sym (some_is l length_is e) ∙ h.1)
+    left_due : (was : Option Cleaning) (child : Option (Child M)) (a : TableNode M) (left : Option Cleaning) (c : Cleaning) → IsLeft was child a left → left ≡ Some c → (child ≡ None) × IsDue a × (c.depth ≡ length a.prefix)
+    left_due was child a None c h e = absurd (none_some c e)
+    left_due was child a (Some l) c h e = subst (λ (x : Cleaning). (child ≡ None) × IsDue a × (x.depth ≡ length a.prefix)) (some_is l c e) (h.1, h.2, h.3)
 
-    pub due_node : (length_is : ℕ) (w : Writes Granted same old new id call env report out) → lookup new.calls id ≡ Some next → next.cleaning ≡ Some length_is
-        → (w.child ≡ None) × IsDue (changed call w.held.node w.child).node × (length_is ≡ length w.held.node.node.prefix)
-    due_node length_is w there cleans =
+    pub due_node : (c : Cleaning) (w : Writes Granted same old new id call env report out) → lookup new.calls id ≡ Some next → next.cleaning ≡ Some c
+        → (w.child ≡ None) × IsDue (changed call w.held.node w.child).node × (c.depth ≡ length w.held.node.node.prefix)
+    due_node c w there cleans =
         let is : next.cleaning ≡ w.left = ap (λ (f : CallState M). f.cleaning) (sym (call_after _ new id w.becomes.next next w.becomes.after there)) ∙ ap (λ (f : CallState M). f.cleaning) w.becomes.is in
-        left_due call.progress w.child (changed call w.held.node w.child).node w.left length_is w.leaves (sym is ∙ cleans)
+        left_due call.cleaning w.child (changed call w.held.node w.child).node w.left c w.leaves (sym is ∙ cleans)
 
   module _ (Granted : Type 0) (same : M → M → Bool) (old new : State M) (id : ℕ) (call : CallState M) (env : Env M) (report : Report) (decided : call.progress ≡ progress.Decided) where
     abbrev Silent : Outcome M → Type 0
@@ -144,12 +144,12 @@ module _ {M : Type 0} where
     no_range (Range a b n) given key point may = absurd point
     no_range outline given key point may = absurd may
 
-    found_silent : (out : Outcome M) (planned : CallState M) → IsPoint call.outline → CheckOutcome Granted same old call planned out → Silent out
-    found_silent Going planned point h = inl refl
-    found_silent (Ask asked) planned point h = never h.0.undecided
-    found_silent (Pair key value) planned point h = no_range call.outline call.given key point h.may
-    found_silent (Decided reply) planned point h = never h.0.undecided
-    found_silent out planned point h = absurd h
+    found_silent : (out : Outcome M) (a : Remembered old call) (planned : CallState M) → IsPoint call.outline → CheckOutcome Granted same old call a planned out → Silent out
+    found_silent Going a planned point h = inl refl
+    found_silent (Ask asked) a planned point h = never h.0.undecided
+    found_silent (Pair key value) a planned point h = no_range call.outline call.given key point h.may
+    found_silent (Decided reply) a planned point h = never h.0.undecided
+    found_silent out a planned point h = absurd h
 
     saw_silent : (out : Outcome M) (node : TableNode M) (whole : Bool) (o : Outcome M) → ReadOutcome Granted same old new id call env report out node whole o → Silent o
     saw_silent out node true Going d = inl refl
@@ -172,7 +172,7 @@ module _ {M : Type 0} where
     does_silently out kind.Take point d = inl d.1.reports.1
     does_silently out kind.Check point d =
         by_ok report.ok
-        (λ good. found_silent out d.1.planned point (d.1.passes good))
+        (λ good. found_silent out d.1.knows d.1.planned point (d.1.passes good))
         (λ bad. inl (d.1.fails bad).0)
     does_silently out kind.Read point d = saw_silent out d.1.knows.node.node d.1.whole out d.1.sees
     does_silently out kind.Upgrade point d = inl d.1.reports.1

@@ -18,3 +18,4 @@ pub mod ScanBreaks
 pub mod Untouched
 pub mod Refusing
 pub mod Cleaning
+pub mod Owed

@@ -7,8 +7,8 @@ use Rattle.spec_olc.specs.Calls.{Outline, IsPoint}
 use Rattle.spec_olc.specs.Content.{Reaches, at_root, by_child, IsStoredAt}
 use Rattle.spec_olc.specs.Kinds.{NextIs, DoesAs, CheckOutcome, AnswerOutcome, IsAtWork, MayEnd, ReadOutcome, WriteOutcome, failed, not_locked, refusal, refused, unlocked}
 use Rattle.spec_olc.specs.Local.{AsksWith}
-use Rattle.spec_olc.specs.Reading.{HasAll, LooksOn, MayGive, MovesOn, NoneIsStored}
-use Rattle.spec_olc.specs.State.{CallState, State, back, settled, with_call}
+use Rattle.spec_olc.specs.Reading.{HasAll, LooksOn, MayGive, MovesOn, NoneIsStored, Remembered}
+use Rattle.spec_olc.specs.State.{CallState, Cleaning, State, back, settled, with_call}
 use Rattle.spec_olc.specs.declared.types.Env.{Env}
 use Rattle.spec_olc.specs.declared.types.Kind.TheVariants as kind
 use Rattle.spec_olc.specs.declared.types.Kind.{Kind}
@@ -116,7 +116,7 @@ module _ {M : Type 0} where
           | inr is ↦ let e : progress.Decided ≡ progress.Refused = sym is.0 ∙ dropped in cc
         ]
 
-    unlocked_dropped : (p : Progress) (cleaning : Option ℕ) (held : List ℕ) (f : CallState M) → (unlocked p cleaning held f).progress ≡ f.progress
+    unlocked_dropped : (p : Progress) (cleaning : Option Cleaning) (held : List ℕ) (f : CallState M) → (unlocked p cleaning held f).progress ≡ f.progress
     unlocked_dropped progress.Open cleaning held f = refl
     unlocked_dropped _ None held f = refl
     unlocked_dropped _ (Some length_is) [] f = refl
@@ -202,8 +202,8 @@ module _ {M : Type 0} where
       unpassed next low high is none =
           subst (λ (s : State M). NoneIsStored s low high) (sym is) (λ key value from to at_key. none key value from to (stands_still old id next key value at_key))
 
-      range_looks : (planned : CallState M) (after : After old planned) → MovesOn old call planned → Result Going
-      range_looks planned after m =
+      range_looks : (here : Remembered old call) (planned : CallState M) (after : After old planned) → MovesOn old call here planned → Result Going
+      range_looks here planned after m =
           let none : NoneIsStored new call.reach m.reach = unpassed after.next call.reach m.reach after.after m.passed in
           let on : CallState M = record call { cursor = m.cursor; reach = m.reach } in
           elim m.next_is [
@@ -225,8 +225,8 @@ module _ {M : Type 0} where
       may_give : (o : Outline) (count key : ℕ) → o ≡ Range a b n → MayGive o count key → (key < b) × (count < n)
       may_give o count key e may = subst (λ (x : Outline). MayGive x count key) e may
 
-      looks_range : (o : Outline) (planned : CallState M) → o ≡ Range a b n → LooksOn o old call planned → MovesOn old call planned
-      looks_range o planned e h = subst (λ (x : Outline). LooksOn x old call planned) e h
+      looks_range : (o : Outline) (here : Remembered old call) (planned : CallState M) → o ≡ Range a b n → LooksOn o old call here planned → MovesOn old call here planned
+      looks_range o here planned e h = subst (λ (x : Outline). LooksOn x old call here planned) e h
 
       asks_range : (o : Outline) (seen asked : Option M) → o ≡ Range a b n → AsksWith o seen asked → ⊥
       asks_range o seen asked e h = subst (λ (x : Outline). AsksWith x seen asked) e h
@@ -234,10 +234,10 @@ module _ {M : Type 0} where
       no_point : (o : Op M) → o ≡ Range a b n → IsPoint o → ⊥
       no_point o e point = subst (λ (x : Op M). IsPoint x) e point
 
-      found : (o : Outcome M) (planned : CallState M) → After old planned → CheckOutcome Granted same old call planned o → Result o
-      found Going planned after h = range_looks planned after (looks_range call.outline planned walking.outline h)
-      found (Ask asked) planned after h = absurd (asks_range call.outline _ asked walking.outline h.0.is)
-      found (Pair key value) planned after h =
+      found : (o : Outcome M) (here : Remembered old call) (planned : CallState M) → After old planned → CheckOutcome Granted same old call here planned o → Result o
+      found Going here planned after h = range_looks here planned after (looks_range call.outline here planned walking.outline h)
+      found (Ask asked) here planned after h = absurd (asks_range call.outline _ asked walking.outline h.0.is)
+      found (Pair key value) here planned after h =
           let may : (key < b) × (call.given < n) = may_give call.outline call.given key walking.outline h.may in
           let none : NoneIsStored new call.reach key = unpassed after.next call.reach key after.after h.passed in
           let now : IsStoredAt new key value = subst (λ (s : State M). IsStoredAt s key value) (sym after.after) (still_stands old id after.next key value h.at_key) in
@@ -252,10 +252,10 @@ module _ {M : Type 0} where
                 (record { outline = walking.outline; op = walking.op; undecided = walking.undecided; order = omega arith; most = omega (arith, may.1) })
                 (record { from = h.from; below = may.0; room = may.1; at_key = now; passed = none; cursor = refl; reach = refl; one_more = refl })
           ]
-      found (Decided reply) planned after h = absurd (no_point h.0.op (walking.op h.0.op h.0.op_is) h.0.point)
-      found Refused planned after h = absurd h
-      found Done planned after h = absurd h
-      found Unknown planned after h = absurd h
+      found (Decided reply) here planned after h = absurd (no_point h.0.op (walking.op h.0.op h.0.op_is) h.0.point)
+      found Refused here planned after h = absurd h
+      found Done here planned after h = absurd h
+      found Unknown here planned after h = absurd h
 
       saw : (node : TableNode M) (whole : Bool) (o : Outcome M) → ReadOutcome Granted same old new id call env report out node whole o → Result o
       saw node true Going d = stays Going refl old _ d.2 (record { outline = refl; op = refl; progress_is = refl; cursor = refl; reach = omega arith; order = walking.order; as_many = refl })
@@ -295,7 +295,7 @@ module _ {M : Type 0} where
       ends : MayEnd call → (b ≤ call.reach) ⊎ (call.given ≡ n)
       ends may =
           elim may [
-            | inl over ↦ absurd (over walking.undecided)
+            | inl over ↦ absurd (over.0 walking.undecided)
             | inr all ↦ subst (λ (o : Outline). HasAll o call.reach call.given) walking.outline all
           ]
 
@@ -303,7 +303,7 @@ module _ {M : Type 0} where
       walks_on kind.Start d = absurd d
       walks_on kind.Take d = subst (λ (o : Outcome M). Result o) (sym d.1.reports.1) (took report.ok d.1.slot d.1.node.word d.1.becomes)
       walks_on kind.Check d =
-          by_ok report.ok (λ good. found out d.1.planned d.1.becomes (d.1.passes good))
+          by_ok report.ok (λ good. found out d.1.knows d.1.planned d.1.becomes (d.1.passes good))
           (λ bad. let f = d.1.fails bad in stays out f.0 old (back call) (subst (λ (p : CallState M). After old p) (f.1 ∙ fails_back) d.1.becomes) restarts)
       walks_on kind.Read d = saw d.1.knows.node.node d.1.whole out d.1.sees
       walks_on kind.Upgrade d =

@@ -22,7 +22,7 @@ module _ {M : Type 0} (Granted : Type 0) (same : M → M → Bool) (old new : St
   not_done e = let is : outcome.Refused ≡ outcome.Done = sym refused ∙ e in cc
 
   checked : (ok : Bool) (c : Checks Granted same old new id call env report out) → report.ok ≡ ok → ⊥
-  checked true c e = subst (λ (o : Outcome M). CheckOutcome Granted same old call c.planned o) refused (c.passes (subst (λ (z : Bool). IsTrue z) (sym e) refl))
+  checked true c e = subst (λ (o : Outcome M). CheckOutcome Granted same old call c.knows c.planned o) refused (c.passes (subst (λ (z : Bool). IsTrue z) (sym e) refl))
   checked false c e = not_going (c.fails e).0
 
   shared : (node : TableNode M) (whole : Bool) → ReadOutcome Granted same old new id call env report out node whole outcome.Refused → ⊥

@@ -7,7 +7,7 @@ use Rattle.spec_olc.specs.Calls.{Outline}
 use Rattle.spec_olc.specs.Content.{IsStoredAt}
 use Rattle.spec_olc.specs.Kinds.{Answers, NextIs, Checks, DoesAs, CheckOutcome, AnswerOutcome, ReadOutcome, SharesAnswer, refusal, refused}
 use Rattle.spec_olc.specs.Local.{LeavesAll}
-use Rattle.spec_olc.specs.Reading.{LooksOn, MovesOn}
+use Rattle.spec_olc.specs.Reading.{LooksOn, MovesOn, Remembered}
 use Rattle.spec_olc.specs.State.{State, CallState}
 use Rattle.spec_olc.specs.declared.types.Asking.TheVariants.{Fresh}
 use Rattle.spec_olc.specs.declared.types.Env.{Env}
@@ -113,11 +113,11 @@ module _ {M : Type 0} where
 
     pub leaves_all : (c : Checks Granted same old new id call env report out) → IsTrue report.ok → (reply : Reply M) → out ≡ Decided reply → (op : Op M) → call.op ≡ Some op → LeavesAll Granted same call op
     leaves_all c ok reply e op is =
-        let f : CheckOutcome Granted same old call c.planned (Decided reply) = subst (λ (o : Outcome M). CheckOutcome Granted same old call c.planned o) e (c.passes ok) in
+        let f : CheckOutcome Granted same old call c.knows c.planned (Decided reply) = subst (λ (o : Outcome M). CheckOutcome Granted same old call c.knows c.planned o) e (c.passes ok) in
         subst (λ (o : Op M). LeavesAll Granted same call o) (some_is f.0.op op (sym f.0.op_is ∙ is)) f.1
 
-    moved : (planned : CallState M) → MovesOn old call planned → (key : ℕ) (value : M) → call.reach ≤ key → key < planned.reach → IsStoredAt old key value → ⊥
-    moved planned m key value low high at_key =
+    moved : (a : Remembered old call) (planned : CallState M) → MovesOn old call a planned → (key : ℕ) (value : M) → call.reach ≤ key → key < planned.reach → IsStoredAt old key value → ⊥
+    moved a planned m key value low high at_key =
         elim m.next_is [
           | inl e ↦ m.passed key value low (subst (λ (f : CallState M). key < f.reach) e high) at_key
           | inr e ↦ let below : key < m.cursor = subst (λ (f : CallState M). key < f.reach) e high in m.passed key value low (omega (arith, below, m.order)) at_key
@@ -126,4 +126,4 @@ module _ {M : Type 0} where
     pub reach_passes_nothing : (a b n : ℕ) → call.outline ≡ Range a b n → (c : Checks Granted same old new id call env report out) → IsTrue report.ok → out ≡ Going
         → (key : ℕ) (value : M) → call.reach ≤ key → key < c.planned.reach → IsStoredAt old key value → ⊥
     reach_passes_nothing a b n range c ok e =
-        moved c.planned (subst (λ (o : Outline). LooksOn o old call c.planned) range (subst (λ (o : Outcome M). CheckOutcome Granted same old call c.planned o) e (c.passes ok)))
+        moved c.knows c.planned (subst (λ (o : Outline). LooksOn o old call c.knows c.planned) range (subst (λ (o : Outcome M). CheckOutcome Granted same old call c.knows c.planned o) e (c.passes ok)))

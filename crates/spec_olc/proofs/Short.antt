@@ -82,7 +82,7 @@ module _ {M : Type 0} (Granted : Type 0) (same : M → M → Bool) (root id key 
         knows = record { slot = root; node = bare_root; word = 0; here = ap (λ (t : State M). lookup t.nodes root) is ∙ here; word_is = lookup-put_same [] root 0 };
         is = refl;
         ok = ((λ t. refl), (λ t. refl));
-        passes = λ t. (record { op = Get key; op_is = refl; undecided = refl; point = tt; asked = λ g. refl; reply = λ g. refl }, (λ g. refl), refl);
+        passes = λ t. (record { op = Get key; op_is = refl; undecided = refl; read = refl; point = tt; asked = λ g. refl; reply = λ g. refl }, (λ g. refl), refl, tt);
         fails = λ e. absurd (no_absurd (sym_of e));
         becomes = record { next = decided; is = refl; remembered = λ p w e. e; after = refl };
       },
@@ -96,7 +96,7 @@ module _ {M : Type 0} (Granted : Type 0) (same : M → M → Bool) (root id key 
   ends s at = record {
     call = decided;
     in_flight = at;
-    event = record { reports = (refl, refl); may = inl (λ e. open_decided e); held = refl; made = refl; after = refl };
+    event = record { reports = (refl, refl); may = inl ((λ e. open_decided e), refl); held = refl; made = refl; after = refl };
   }
     where
       open_decided : progress.Decided ≡ progress.Open → ⊥

@@ -7,7 +7,7 @@ use Rattle.node_table.specs.TableNode.{TableNode}
 use Rattle.spec_olc.specs.declared.types.Outcome.TheVariants as outcome
 use Rattle.spec_olc.specs.Kinds.{NextIs, ReadOutcome, AnswerOutcome, Takes, Retires, Unlocks, DoesAs, failed, unlocked}
 use Rattle.spec_olc.specs.Lists.{is_in, off}
-use Rattle.spec_olc.specs.State.{State, CallState, with_call}
+use Rattle.spec_olc.specs.State.{State, CallState, Cleaning, with_call}
 use Rattle.spec_olc.specs.declared.types.Env.{Env}
 use Rattle.spec_olc.specs.declared.types.Kind.TheVariants as kind
 use Rattle.spec_olc.specs.declared.types.Kind.{Kind}
@@ -82,7 +82,7 @@ module _ {M : Type 0} where
           | inr far ↦ rw (far.0, far.0) (is_off slot xs)
         ]
 
-    unlocked_held : (p : Progress) (cleaning : Option ℕ) (held : List ℕ) (f : CallState M) → (unlocked p cleaning held f).held ≡ f.held
+    unlocked_held : (p : Progress) (cleaning : Option Cleaning) (held : List ℕ) (f : CallState M) → (unlocked p cleaning held f).held ≡ f.held
     unlocked_held progress.Open cleaning held f = refl
     unlocked_held _ None held f = refl
     unlocked_held _ (Some length_is) [] f = refl

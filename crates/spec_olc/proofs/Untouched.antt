@@ -5,7 +5,7 @@ use Rattle.node_table.specs.TableNode.{TableNode}
 use Rattle.spec_olc.specs.Calls.{IsPoint, Outline}
 use Rattle.spec_olc.specs.Kinds.{NextIs, Checks, DoesAs, CheckOutcome, AnswerOutcome, IsStep, ReadOutcome, failed}
 use Rattle.spec_olc.specs.Lists.{is_in}
-use Rattle.spec_olc.specs.Reading.{GoesOn, LooksOn}
+use Rattle.spec_olc.specs.Reading.{GoesOn, LooksOn, Remembered}
 use Rattle.spec_olc.specs.State.{CallState, LeavesNodes, State}
 use Rattle.spec_olc.specs.declared.types.Env.{Env}
 use Rattle.spec_olc.specs.declared.types.Kind.TheVariants as kind
@@ -29,18 +29,18 @@ module _ {M : Type 0} where
   goes_held : (call next : CallState M) → GoesOn call next → next.held ≡ call.held
   goes_held call next h = elim h [ inl on ↦ ap (λ (f : CallState M). f.held) on | inr over ↦ ap (λ (f : CallState M). f.held) over ]
 
-  looks_held : (o : Outline) (s : State M) (call next : CallState M) → LooksOn o s call next → next.held ≡ call.held
-  looks_held (Range a b n) s call next h = goes_held (record call { cursor = h.cursor; reach = h.reach }) next h.next_is
-  looks_held o s call next h = ap (λ (f : CallState M). f.held) h
+  looks_held : (o : Outline) (s : State M) (call : CallState M) (a : Remembered s call) (next : CallState M) → LooksOn o s call a next → next.held ≡ call.held
+  looks_held (Range start end n) s call a next h = goes_held (record call { cursor = h.cursor; reach = h.reach }) next h.next_is
+  looks_held o s call a next h = elim h [ inl on ↦ ap (λ (f : CallState M). f.held) on | inr over ↦ ap (λ (f : CallState M). f.held) over.0 ]
 
   module _ (Granted : Type 0) (same : M → M → Bool) (old new : State M) (id : ℕ) (call : CallState M) (env : Env M) (report : Report) (out : Outcome M)
       (range : IsPoint call.outline → ⊥) (none : call.held ≡ []) where
-    finds_held : (next : CallState M) (o : Outcome M) → CheckOutcome Granted same old call next o → next.held ≡ call.held
-    finds_held next outcome.Going h = looks_held call.outline old call next h
-    finds_held next (outcome.Ask asked) h = ap (λ (f : CallState M). f.held) h.2
-    finds_held next (outcome.Pair key value) h = goes_held (record call { cursor = key + 1; reach = key + 1; given = call.given + 1 }) next h.next_is
-    finds_held next (outcome.Decided reply) h = ap (λ (f : CallState M). f.held) h.2
-    finds_held next _ h = absurd h
+    finds_held : (a : Remembered old call) (next : CallState M) (o : Outcome M) → CheckOutcome Granted same old call a next o → next.held ≡ call.held
+    finds_held a next outcome.Going h = looks_held call.outline old call a next h
+    finds_held a next (outcome.Ask asked) h = ap (λ (f : CallState M). f.held) h.2
+    finds_held a next (outcome.Pair key value) h = goes_held (record call { cursor = key + 1; reach = key + 1; given = call.given + 1 }) next h.next_is
+    finds_held a next (outcome.Decided reply) h = ap (λ (f : CallState M). f.held) h.2
+    finds_held a next _ h = absurd h
 
     -- the nodes are unchanged, and a range that goes on holds none
     abbrev pub Leaves : Type 0
@@ -59,7 +59,7 @@ module _ {M : Type 0} where
     taken_held false slot word = (failed_keeps call.progress call).0
 
     checked_held : (ok : Bool) (c : Checks Granted same old new id call env report out) → report.ok ≡ ok → c.planned.held ≡ call.held
-    checked_held true c e = finds_held c.planned out (c.passes (subst (λ (z : Bool). IsTrue z) (sym e) refl))
+    checked_held true c e = finds_held c.knows c.planned out (c.passes (subst (λ (z : Bool). IsTrue z) (sym e) refl))
     checked_held false c e = ap (λ (f : CallState M). f.held) (c.fails e).1 ∙ (failed_keeps call.progress call).0
 
     reads : (node : TableNode M) (whole : Bool) (o : Outcome M) → ReadOutcome Granted same old new id call env report out node whole o → Leaves

@@ -20,13 +20,6 @@ may_remove (ComputeIfPresent k) = true
 may_remove (CompareExchange k old new) = true
 may_remove _ = false
 
--- the bound from the call's Start on, which counts as one, and from any event on
-abbrev pub from_its_start : Outline → ℕ
-from_its_start op = if may_remove op then 120 else 40
-
-abbrev pub from_any_event : Outline → ℕ
-from_any_event op = if may_remove op then 200 else 80
-
 -- no other call holds a node, and no node has the last version
 pub record IsUncontended (s : State ℕ) (id : ℕ) : Type 0 where
   pub others : (other : ℕ) (call : CallState ℕ) → lookup s.calls other ≡ Some call → other ≢ id
@@ -35,9 +28,8 @@ pub record IsUncontended (s : State ℕ) (id : ℕ) : Type 0 where
       → version a.word ≢ last_version
 
 -- One event, when the call has `left` events of its own, this one included. The claim ends at a
--- step of another call, at an Upgrade that the schedule makes fail, at a refusal, and at a step in
--- a state that isn't `IsUncontended`. A Start of another number, a Reclaim and a skipped event
--- neither count nor end it.
+-- step of another call, an Upgrade made to fail, a refusal, and a step in a state that isn't
+-- `IsUncontended`. A Start of another number, a Reclaim and a skipped event don't count.
 abbrev pub CountsDown : ℕ → State ℕ → Event ℕ → Line → ℕ → (ℕ → Type 0) → Type 0
 CountsDown id now (Step i env) (Made report out seen) left rest =
     i ≡ id → (report.kind ≡ kind.Upgrade → env.fail ≡ false) → out ≢ Refused
@@ -51,11 +43,12 @@ EndsWithin id (x ∷ xs) now left =
     CountsDown id now x.event x.line left (λ n. EndsWithin id xs x.after n)
 
 -- Each point call in flight ends within 80 of its own events from here on, and each one that starts
--- here within 40; within 200 and 120 if it may remove its key.
+-- here within 40, its Start included; within 200 and 120 if it may remove its key.
 abbrev pub AllEndAlone : State ℕ → List Transition → Type 0
 AllEndAlone now [] = Unit {0}
 AllEndAlone now (x ∷ xs) = ((id : ℕ) (call : CallState ℕ) → IsPoint call.outline
-    → (lookup now.calls id ≡ Some call → EndsWithin id (x ∷ xs) now (from_any_event call.outline))
+    → (lookup now.calls id ≡ Some call
+    → EndsWithin id (x ∷ xs) now (if may_remove call.outline then 200 else 80))
     × (lookup now.calls id ≡ None → lookup x.after.calls id ≡ Some call
-    → EndsWithin id xs x.after (from_its_start call.outline - 1)))
+    → EndsWithin id xs x.after ((if may_remove call.outline then 120 else 40) - 1)))
     × AllEndAlone x.after xs

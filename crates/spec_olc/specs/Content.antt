@@ -21,8 +21,7 @@ module _ {M : Type 0} where
     pub here : lookup s.nodes slot ≡ Some above
     pub entry : lookup above.node.children byte ≡ Some child
 
-  -- the value is stored at the key: it is a payload of a reachable node, and the key is the node's
-  -- prefix followed by the payload's byte
+  -- the value is stored at the key: a payload of a reachable node; its prefix and byte are the key
   pub record IsStoredAt (s : State M) (key : ℕ) (value : M) : Type 0 where
     pub slot : ℕ
     pub byte : ℕ

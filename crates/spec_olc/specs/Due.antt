@@ -1,21 +1,22 @@
 -- WHAT A REMOVAL LEAVES TO CLEAN UP: a node other than the root that has few children is due.
-use Rattle.std.specs.Prelude.{◌≡◌, ℕ, ◌<◌, ◌≤◌, length, Option, Some, None}
+use Rattle.std.specs.Prelude.{◌≡◌, ◌<◌, ◌≤◌, Bool, true, IsTrue, ◌↔◌, length, Option, Some, None}
 use Rattle.node_base.specs.Form.{few_in}
 use Rattle.node_table.specs.TableNode.{TableNode}
 use Rattle.node_table.specs.declared.child.Child.{Child}
-use Rattle.spec_olc.specs.declared.types.Progress.{Progress}
-use Rattle.spec_olc.specs.declared.types.Progress.TheVariants as progress
+use Rattle.spec_olc.specs.State.{Cleaning}
+
+abbrev pub may_follow : Option Cleaning → Bool
+may_follow None = true
+may_follow (Some c) = c.again
 
 module _ {M : Type 0} where
   pub record IsDue (a : TableNode M) : Type 0 where
     pub below_root : 0 < length a.prefix
     pub few : length a.children ≤ few_in a.form
 
-  -- For the prefix of which length a call cleans up after a Write that has put this child, or none,
-  -- into a node, which is now `a`: that of a node that has lost a child and is due. After the Write
-  -- that decides the call it does; after one by which it cleans up it may.
-  abbrev pub IsLeft : Progress → Option (Child M) → TableNode M → Option ℕ → Type 0
-  IsLeft progress (Some child) a left = left ≡ None
-  IsLeft progress None a (Some length_is) = IsDue a × (length_is ≡ length a.prefix)
-  IsLeft progress.Open None a None = IsDue a → ⊥
-  IsLeft _ None a None = Unit {0}
+  -- THE CLEANUP THAT FOLLOWS a Write that has put this child, or none, into a node, now `a`.
+  -- The Write decides the call, or is one of a cleanup. After a last cleanup none follows.
+  abbrev pub IsLeft : Option Cleaning → Option (Child M) → TableNode M → Option Cleaning → Type 0
+  IsLeft was child a None = IsTrue (may_follow was) → child ≡ None → IsDue a → ⊥
+  IsLeft was child a (Some c) = IsTrue (may_follow was) × (child ≡ None) × IsDue a
+      × (c.depth ≡ length a.prefix) × (IsTrue c.again ↔ (was ≡ None))

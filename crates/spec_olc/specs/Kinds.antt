@@ -1,22 +1,22 @@
 -- THE KINDS OF EVENTS: how each changes the state of the machine, and what it reports.
-use Rattle.std.specs.Prelude.{◌≡◌, ◌≢◌, ℕ, ◌+◌, Bool, true, false, IsTrue, ◌↔◌, List, [], ◌∷◌, length, Option, Some, None, IsSome, if◌then◌else◌, ◌⊎◌, ◌<◌}
+use Rattle.std.specs.Prelude.{◌≡◌, ◌≢◌, ℕ, ◌+◌, Bool, true, false, IsTrue, ◌↔◌, List, [], ◌∷◌, length, Option, Some, None, IsSome, if◌then◌else◌, ◌⊎◌, ◌<◌, ◌≤◌}
 use Rattle.node_table.specs.Charge.{add_charge}
 use Rattle.node_base.specs.Form.{Fits, stated_size}
 use Rattle.spec_map.specs.Map.{lookup, put, without}
 use Rattle.node_table.specs.TableNode.{TableNode, MayHave}
 use Rattle.node_table.specs.declared.child.Child.{Child}
-use Rattle.node_table.specs.declared.child.Child.TheVariants.{Payload}
+use Rattle.node_table.specs.declared.child.Child.TheVariants.{Payload, Node as node_at}
 use Rattle.spec_olc.specs.Calls.{IsPoint, Outline, key_of, outline_of, stored}
 use Rattle.spec_olc.specs.Content.{IsCurrent}
-use Rattle.spec_olc.specs.Due.{IsLeft}
+use Rattle.spec_olc.specs.Due.{IsDue, IsLeft}
 use Rattle.spec_olc.specs.Lists.{off, without_all}
-use Rattle.spec_olc.specs.Local.{SharesNone, SeesPayloads, IsLocal, LeavesAll, IsQuestion}
+use Rattle.spec_olc.specs.Local.{SharesNone, SeesPayloads, IsLocal, LeavesAll, MayLock, IsQuestion}
 use Rattle.spec_olc.specs.Retirement.{stamp_at, count_after}
 use Rattle.spec_olc.specs.Lock.{IsFree, MayUpgrade}
-use Rattle.spec_olc.specs.Reading.{child_for, IsReading, HasAll, Gives, LooksOn}
-use Rattle.spec_olc.specs.State.{State, VersionedNode, CallState, retired, unlinked, retire, with_node, with_call, back, settled}
+use Rattle.spec_olc.specs.Reading.{child_for, IsReading, Remembered, KeyEnds, HasAll, Gives, LooksOn}
+use Rattle.spec_olc.specs.State.{State, VersionedNode, CallState, Cleaning, retired, unlinked, retire, with_node, with_call, back, settled, stopped}
 use Rattle.spec_olc.specs.WellFormed.{sizes_of}
-use Rattle.spec_olc.specs.Writing.{IsOwn, HeldNode, IsNewNode, changed, entry_below, TakesOut, written}
+use Rattle.spec_olc.specs.Writing.{IsOwn, HeldNode, IsNewNode, IsChanged, changed, entry_below, TakesOut, written}
 use Rattle.spec_olc.specs.declared.types.Asking.TheVariants.{Fresh, Wants, Given}
 use Rattle.spec_olc.specs.declared.types.Env.{Env}
 use Rattle.spec_olc.specs.declared.types.Kind.TheVariants as kind
@@ -61,30 +61,24 @@ module _ {M : Type 0} where
   MayMake call = IsPoint call.outline
       × (IsSome (stored call.op call.asking) ⊎ IsSome call.cleaning)
 
-  -- the call cleans up no more
-  abbrev pub stopped : CallState M → CallState M
-  stopped call = record call { cleaning = None }
-
   -- A FAILED TAKE OR CHECK: a call goes back to the root; one that cleans up stops that
   abbrev pub failed : Progress → CallState M → CallState M
   failed progress.Open call = back call
   failed _ call = stopped (back call)
 
-  -- after a failed Upgrade a call without a reply goes back to the root at once only if it holds no
-  -- node; one that cleans up stops that
+  -- after a failed Upgrade: a call without a reply stays as it is while it holds a node
   abbrev pub not_locked : Progress → List ℕ → CallState M → CallState M
   not_locked progress.Open [] call = back call
   not_locked progress.Open (slot ∷ held) call = call
   not_locked _ held call = stopped (back call)
 
-  -- after an Unlock, with these nodes still held: a call without a reply goes back to the root; so
-  -- does one that has to clean up, once it holds no node; one that still holds another has found
-  -- nothing to clean up
-  abbrev pub unlocked : Progress → Option ℕ → List ℕ → CallState M → CallState M
+  -- after an Unlock, with these nodes still held: a call without a reply goes back to the root, and
+  -- so does one before it cleans up; a cleanup that still holds another node stops
+  abbrev pub unlocked : Progress → Option Cleaning → List ℕ → CallState M → CallState M
   unlocked progress.Open cleaning held call = back call
   unlocked _ None held call = call
-  unlocked _ (Some length_is) [] call = back call
-  unlocked _ (Some length_is) (slot ∷ held) call = stopped call
+  unlocked _ (Some c) [] call = back call
+  unlocked _ (Some c) (slot ∷ held) call = stopped call
 
   -- A REFUSAL: a call without a reply only ends; one that cleans up stops that
   abbrev pub refusal : Progress → Outcome M
@@ -102,22 +96,25 @@ module _ {M : Type 0} where
     pub sizes : sizes_of old.nodes ≡ sizes_of nodes + size
     pub charged : old.charge ≡ add_charge charge size
 
-  -- a point call has its reply or was refused; a range has all its pairs or was refused
+  -- a point call has its reply or was refused, and cleans up no more; a range has all its pairs
   abbrev pub MayEnd : CallState M → Type 0
-  MayEnd call = (call.progress ≢ progress.Open) ⊎ HasAll call.outline call.reach call.given
+  MayEnd call = ((call.progress ≢ progress.Open) × (call.cleaning ≡ None))
+      ⊎ HasAll call.outline call.reach call.given
 
 -- If `Granted` holds, no share of a payload is refused; `same` is the test that compares values.
 module _ {M : Type 0} (Granted : Type 0) (same : M → M → Bool) where
-  -- the outcome of a Check that passes, and the call after it
-  abbrev pub CheckOutcome : State M → CallState M → CallState M → Outcome M → Type 0
-  CheckOutcome s call next Going = LooksOn call.outline s call next
-  CheckOutcome s call next (Ask old) = IsQuestion call old × IsCurrent s (key_of call.outline) old
-      × (next ≡ record call { asking = Wants old })
-  CheckOutcome s call next (Pair key value) = Gives s call next key value
-  CheckOutcome s call next (Decided reply) = (local : IsLocal Granted same call reply)
-      × LeavesAll Granted same call local.op
-      × (next ≡ settled progress.Decided call)
-  CheckOutcome s call next _ = ⊥
+  -- the outcome of a Check of a node that passes, and the call after it
+  abbrev pub CheckOutcome : (s : State M) (call : CallState M) → Remembered s call → CallState M
+      → Outcome M → Type 0
+  CheckOutcome s call a next Going = LooksOn call.outline s call a next
+  CheckOutcome s call a next (Ask old) = IsQuestion call old
+      × IsCurrent s (key_of call.outline) old
+      × (next ≡ record call { asking = Wants old }) × KeyEnds s call
+  CheckOutcome s call a next (Pair key value) = Gives s call a next key value
+  CheckOutcome s call a next (Decided reply) = (local : IsLocal Granted same call reply)
+      × LeavesAll Granted same call local.op × (next ≡ settled progress.Decided call)
+      × KeyEnds s call
+  CheckOutcome s call a next _ = ⊥
 
   -- the outcome of a Write: the reply, unless the call has it already
   abbrev pub WriteOutcome : CallState M → Outcome M → Type 0
@@ -140,26 +137,14 @@ module _ {M : Type 0} (Granted : Type 0) (same : M → M → Bool) where
     abbrev pub HasReport : Report → Outcome M → Type 0
     HasReport reported said = (report ≡ reported) × (out ≡ said)
 
-    -- a node of which the call remembers a word
-    pub record Remembered : Type 0 where
-      pub slot : ℕ
-      pub node : VersionedNode M
-      pub word : ℕ
-      pub here : lookup old.nodes slot ≡ Some node
-      pub word_is : lookup call.remembered slot ≡ Some word
-
     -- a share of a payload was refused: the call only ends
     pub record IsUnshared : Type 0 where
       pub granted : Granted → ⊥
       pub undecided : call.progress ≡ progress.Open
       pub becomes : NextIs old (settled progress.Refused call)
 
-    abbrev pub remembering : ℕ → ℕ → CallState M
-    remembering slot word = record call { remembered = put call.remembered slot word }
-
-    -- TAKE: reports the node's word, and is ok exactly if the word is free. Then the call remembers
-    -- it, else it has failed. At the root the call has seen and asked nothing, and a call that
-    -- remembers no word takes the root.
+    -- TAKE: reports the node's word, and is ok exactly if that is free; the call then remembers it.
+    -- At the root it has seen and asked nothing. A call that remembers no word takes the root.
     pub record Takes : Type 0 where
       pub slot : ℕ
       pub node : VersionedNode M
@@ -168,18 +153,18 @@ module _ {M : Type 0} (Granted : Type 0) (same : M → M → Bool) where
       pub first : call.remembered ≡ [] → slot ≡ old.root
       pub reports : HasReport (report_of kind.Take (Some slot) node.word report.ok) Going
       pub ok : IsTrue report.ok ↔ IsFree node.word
-      pub becomes : NextIs old
-          (if report.ok then remembering slot node.word else failed call.progress call)
+      pub becomes : NextIs old (if report.ok
+          then record call { remembered = put call.remembered slot node.word }
+          else failed call.progress call)
       pub remembers : IsTrue report.ok → lookup becomes.next.remembered slot ≡ Some node.word
 
-    -- CHECK of any node that the call remembers: ok exactly if its word is the remembered one. If
-    -- not, the call has failed, and the outcome is Going.
+    -- CHECK of a node that the call remembers: ok exactly if its word is the remembered one
     pub record Checks : Type 0 where
-      pub knows : Remembered
+      pub knows : Remembered old call
       pub planned : CallState M
       pub is : report ≡ report_of kind.Check (Some knows.slot) 0 report.ok
       pub ok : IsTrue report.ok ↔ (knows.node.word ≡ knows.word)
-      pub passes : IsTrue report.ok → CheckOutcome old call planned out
+      pub passes : IsTrue report.ok → CheckOutcome old call knows planned out
       pub fails : report.ok ≡ false → (out ≡ Going) × (planned ≡ failed call.progress call)
       pub becomes : NextIs old planned
 
@@ -195,34 +180,34 @@ module _ {M : Type 0} (Granted : Type 0) (same : M → M → Bool) where
     ReadOutcome node false Going = NextIs old (record call { seen = Some env.torn })
     ReadOutcome node whole _ = ⊥
 
-    -- READ: what the node contains, if its word is the remembered one; else the read is torn, and
-    -- reports what the event supplies
+    -- READ: what the node contains, or what the event supplies if its word isn't the remembered one
     pub record Reads : Type 0 where
-      pub knows : Remembered
+      pub knows : Remembered old call
       pub whole : Bool
       pub is : report ≡ report_of kind.Read (Some knows.slot) 0 true
       pub whole_is : IsTrue whole ↔ (knows.node.word ≡ knows.word)
       pub sees : ReadOutcome knows.node.node whole out
 
-    -- UPGRADE, of a point call only: ok exactly if the word is the remembered one and may be
-    -- upgraded, and the event doesn't make it fail. Then it adds 2 to the word, which locks the
-    -- node.
+    -- UPGRADE, of a point call that writes or cleans up: ok exactly if the word is the remembered
+    -- one, may be upgraded, and the event lets it. Then it adds 2 to the word: the node is locked.
     pub record Upgrades : Type 0 where
       pub point : IsPoint call.outline
-      pub knows : Remembered
+      pub may : MayLock Granted same call
+      pub knows : Remembered old call
       pub reports : HasReport (report_of kind.Upgrade (Some knows.slot) 0 report.ok) Going
       pub ok : IsTrue report.ok ↔ (MayUpgrade knows.node.word knows.word × (env.fail ≡ false))
       pub locks : IsTrue report.ok → NextIs (with_word old knows.slot knows.node 2)
           (record call { held = knows.slot ∷ call.held })
       pub fails : report.ok ≡ false → NextIs old (not_locked call.progress call.held call)
 
-    -- MAKE that is granted: a private node in a slot that was free, its size charged
+    -- MAKE that is granted: a first or second private node in a free slot, its size charged
     pub record Makes : Type 0 where
       pub slot : ℕ
       pub made : TableNode M
       pub free : lookup old.nodes slot ≡ None
       pub reports : HasReport (report_of kind.Make (Some slot) 0 true) Going
       pub holds : call.held ≢ []
+      pub few : length call.made ≤ 1
       pub allowed : IsNewNode old call made
       pub becomes : NextIs (with_made old slot made) (record call { made = slot ∷ call.made })
 
@@ -236,9 +221,8 @@ module _ {M : Type 0} (Granted : Type 0) (same : M → M → Bool) where
           (record old { nodes = without_all old.nodes call.made; charge = charge })
           (refused call.progress (record call { made = [] }))
 
-    -- WRITE: changes one entry of one held node, under the key's byte, if the node has room for it.
-    -- It publishes the nodes that the call has made, and empties the node that it takes out, if
-    -- there is one. A node that it leaves due is left to clean up.
+    -- WRITE: changes an entry of a held node, under the key's byte, if it has room. In a cleanup
+    -- that is the due node. It publishes what the call has made, and empties what it takes out.
     pub record Writes : Type 0 where
       pub held : HeldNode old call
       pub child : Option (Child M)
@@ -246,26 +230,31 @@ module _ {M : Type 0} (Granted : Type 0) (same : M → M → Bool) where
       pub entries : ℕ
       pub is : report ≡ report_of kind.Write (Some held.slot) 0 true
       pub own : IsOwn call child
+      pub changes : IsChanged same (entry_below call held.node) child
+      pub cleans : (c : Cleaning) → call.cleaning ≡ Some c → (due : HeldNode old call)
+          × (entry_below call held.node ≡ Some (node_at due.slot))
+          × (length due.node.node.prefix ≡ c.depth) × IsDue due.node.node
       pub shape : (c : Child M) → child ≡ Some c → MayHave held.node.node.prefix c
       pub fits : Fits held.node.node.form (length (changed call held.node child).node.children)
       pub takes_out : TakesOut old call (entry_below call held.node) child gone
-      pub left : Option ℕ
-      pub leaves : IsLeft call.progress child (changed call held.node child).node left
+      pub left : Option Cleaning
+      pub leaves : IsLeft call.cleaning child (changed call held.node child).node left
       pub reports : WriteOutcome call out
       pub becomes : NextIs (record (written old call held child gone) { entries = entries })
           (settled progress.Decided (record call { made = []; cleaning = left }))
 
-    -- OBSOLETE: adds 1 to the word of a held node, and retires it, stamped with the count of
-    -- retirements
+    -- OBSOLETE: adds 1 to a held node's word, and retires it, stamped with the count of retirements
     pub record Retires : Type 0 where
       pub held : HeldNode old call
       pub reports : HasReport (report_of kind.Obsolete (Some held.slot) 0 true) Going
       pub becomes : NextIs (with_retired old held.slot held.node)
           (record call { held = off held.slot call.held })
 
-    -- UNLOCK: adds 2 to the word of a held node
+    -- UNLOCK: adds 2 to the word of a held node. If a cleanup holds another, the node wasn't due
     pub record Unlocks : Type 0 where
       pub held : HeldNode old call
+      pub finds : (c : Cleaning) → call.cleaning ≡ Some c → off held.slot call.held ≢ []
+          → (length held.node.node.prefix ≡ c.depth) × (IsDue held.node.node → ⊥)
       pub reports : HasReport (report_of kind.Unlock (Some held.slot) 0 true) Going
       pub becomes : NextIs (with_word old held.slot held.node 2)
           (unlocked call.progress call.cleaning (off held.slot call.held)
@@ -337,8 +326,7 @@ module _ {M : Type 0} where
     pub free : lookup old.calls id ≡ None
     pub after : new ≡ with_call old id (begun op old.count)
 
-  -- A slot may be reclaimed if its node was retired with a stamp, and each call in flight has
-  -- started since.
+  -- A slot may be reclaimed if its node has a stamp, and each call in flight has started since.
   pub record MayReclaim (s : State M) (slot : ℕ) : Type 0 where
     pub node : VersionedNode M
     pub stamp : ℕ

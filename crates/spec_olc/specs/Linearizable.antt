@@ -1,8 +1,7 @@
 -- LINEARIZABLE: each point call that is decided takes effect at one event between its Start and its
 -- Finish, its LINEARIZATION POINT, and these calls in the order of their points are a legal run of
 -- one ordered map. (A call that is refused has no effect; ranges are in `Scans`.) Stated by the
--- schedule and its trace alone: the events, the line of each, the decided calls and the content at
--- the end. No node, lock or slot is mentioned. `Made` is `Line::Done`: the event was done.
+-- schedule and its trace alone, without nodes, locks or slots. `Made` is `Line::Done`.
 use Rattle.std.specs.Prelude.{◌≡◌, ◌≢◌, ℕ, ◌==◌, List, [], ◌∷◌, Option, Some, None, if◌then◌else◌}
 use Rattle.spec_map.specs.Map.{Pairs, lookup}
 use Rattle.spec_olc.specs.Calls.{IsPoint, key_of}
@@ -23,9 +22,8 @@ use Rattle.spec_olc.specs.declared.types.Progress.{Progress}
 use Rattle.spec_olc.specs.declared.types.Progress.TheVariants as progress
 use Rattle.spec_olc.specs.declared.types.Reply.{Reply}
 
--- A PENDING CALL, as the trace so far shows it: the call as its Start has it; whether it is open,
--- decided or refused; the last question to its closure since its Start, and the answer to it, if
--- it has one.
+-- A PENDING CALL, as the trace so far shows it: the call as its Start has it; whether it is open;
+-- the last question to its closure since its Start, and the answer, if it has one.
 pub record PendingCall : Type 0 where
   pub op : Op ℕ
   pub progress : Progress
@@ -58,10 +56,9 @@ after_step kind answer Refused call = Some (record call { progress = progress.Re
 after_step kind answer Done call = None
 after_step kind answer out call = Some (record call { asking = answered kind answer call.asking })
 
--- WHAT A STEP MAY REPORT where the map is m: that its call is decided or refused, only while it is
--- open, so once at most; that it asks its closure, only while it is open, and with the key's current
--- value; that it is done, if it is a point call, only after that. A range is never decided, and only
--- a range gives pairs, which are the map's.
+-- WHAT A STEP MAY REPORT where the map is m: a reply or a refusal only while its call is open, so
+-- once at most; a question only while it is open, and with the key's current value; its end, of a
+-- point call, only after that. Only a range gives pairs, which are the map's, and it is never decided.
 abbrev pub MayReport : Pairs ℕ → PendingCall → Outcome ℕ → Type 0
 MayReport m call (Ask old) = (call.progress ≡ progress.Open) × (old ≡ lookup m (key_of call.op))
 MayReport m call (Pair key value) = (IsPoint call.op → ⊥) × (lookup m key ≡ Some value)
@@ -84,9 +81,8 @@ pub record IsDecisionOf (id : ℕ) (call : PendingCall) (reply : Reply ℕ) (d :
   pub asked : IsLast d.asked call.asking
   pub replied : d.reply ≡ reply
 
--- A step that reports a reply is a linearization point: its decision is the first of those that
--- remain, and then there are the later ones; the map m allows it, and becomes n by it. Any other step
--- decides nothing and leaves the map.
+-- A step that reports a reply is a linearization point: its decision is the next one, which the map
+-- m allows, and by which it becomes n. Any other step decides nothing and leaves the map.
 abbrev pub Decides : ℕ → PendingCall → Outcome ℕ → List Decision → List Decision
     → Pairs ℕ → Pairs ℕ → Type 0
 Decides id call (Decided reply) decided later m n =
@@ -94,9 +90,8 @@ Decides id call (Decided reply) decided later m n =
 Decides id call out decided later m n = (decided ≡ later) × (n ≡ m)
 
 -- THE LINEARIZATION POINTS of a trace, from where these calls are pending and the map is m to its
--- end, where the map is `last`: a call starts where none is pending under its number, only a pending
--- call has steps, and the decisions are those of the linearization points, in their order. Any event
--- may be skipped; which are is in `Runs`.
+-- end, where it is `last`: a call starts where none is pending under its number, only a pending
+-- call has steps, and the decisions are those of the points in order. Any event may be skipped.
 abbrev pub Linearizes : (ℕ → Option PendingCall) → Pairs ℕ
     → List (Event ℕ) → List Line → List Decision → Pairs ℕ → Type 0
 Linearizes calls m [] [] [] last = last ≡ m
@@ -114,7 +109,6 @@ Linearizes calls m (event ∷ events) (Skipped ∷ lines) decided last =
     Linearizes calls m events lines decided last
 Linearizes calls m _ _ _ last = ⊥
 
--- A LINEARIZABLE TRACE: its decisions are those of its linearization points, and lead from the empty
--- map to the content.
+-- A LINEARIZABLE TRACE: its decisions are those of its points, from the empty map to the content.
 abbrev pub IsLinearizable : List (Event ℕ) → List Line → List Decision → Pairs ℕ → Type 0
 IsLinearizable events lines decided content = Linearizes none_pending [] events lines decided content

@@ -18,7 +18,7 @@ IsFree word = word % 4 ≡ 0
 abbrev pub last_version : ℕ
 last_version = 2 ^ 62 - 1
 
--- The word is the one that was remembered, and may be locked: a node at the last version is never written again.
+-- The word is the remembered one, and may be locked: a node at the last version is never written.
 pub record MayUpgrade (word remembered : ℕ) : Type 0 where
   pub same : word ≡ remembered
   pub free : IsFree word

@@ -1,6 +1,5 @@
--- THE THEOREM ON REPLAYS: the trace is linearizable. And how it comes about: by a run of the
--- protocol from the root alone, in which there is no use after free, each point call is
--- obstruction-free while no other call holds a node, and each range is a scan.
+-- THE THEOREM ON REPLAYS: the trace is linearizable, and comes of a run of the protocol from the
+-- root alone, without use after free, whose point calls are obstruction-free and whose ranges are scans.
 use Rattle.std.specs.Prelude.{◌≡◌, ℕ, List, [], Option}
 use Rattle.spec_map.specs.Map.{Pairs}
 use Rattle.spec_olc.specs.Alone.{AllEndAlone}
@@ -12,8 +11,7 @@ use Rattle.spec_olc.specs.declared.trace.Decision.{Decision}
 use Rattle.spec_olc.specs.declared.trace.Line.{Line}
 use Rattle.spec_olc.specs.declared.types.Event.{Event}
 
--- A RUN OF THE PROTOCOL, from the root alone to a machine with this content, that has these events,
--- lines and decisions
+-- A RUN OF THE PROTOCOL from the root alone, with these events, lines, decisions and content
 pub record IsProtocolRun (events : List (Event ℕ)) (lines : List Line) (decided : List Decision)
     (content : Pairs ℕ) : Type 0 where
   pub root : ℕ

@@ -30,8 +30,7 @@ abbrev pub same_number : ℕ → ℕ → Bool
 same_number x y = x == y
 
 module _ {M : Type 0} where
-  -- ENABLED: a Start of a number that isn't in flight, a Step of one that is, a Reclaim of a slot
-  -- that may be reclaimed
+  -- ENABLED: a Start of a free number, a Step of one in flight, a Reclaim of a slot that may be
   abbrev pub IsEnabled : State M → Event M → Type 0
   IsEnabled s (Start id op) = lookup s.calls id ≡ None
   IsEnabled s (Step id env) = IsSome (lookup s.calls id)

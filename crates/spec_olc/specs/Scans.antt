@@ -1,6 +1,5 @@
 -- EACH RANGE: a pair that it gives is stored at that time, and a key that is present throughout is
--- given. Stated by the outcomes of its events and the content after each, not by the state of the
--- call.
+-- given. Stated by the outcomes of its events and the content after each.
 use Rattle.std.specs.Prelude.{◌≡◌, ℕ, ◌<◌, ◌≤◌, ◌==◌, List, [], ◌∷◌, ◌++◌, length, Option, Some, None, IsSome, ◌⊎◌, if◌then◌else◌}
 use Rattle.spec_map.specs.Map.{Pairs, lookup, between, Rises}
 use Rattle.spec_olc.specs.Runs.{Transition}

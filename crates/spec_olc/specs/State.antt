@@ -1,6 +1,5 @@
--- THE STATE of a machine, as the definitions and theorems see it: its nodes by their slots, and its
--- calls in flight by their numbers.
-use Rattle.std.specs.Prelude.{◌≡◌, ℕ, ◌+◌, List, [], Option, None}
+-- THE STATE of a machine: its nodes by their slots, and its calls in flight by their numbers.
+use Rattle.std.specs.Prelude.{◌≡◌, ℕ, ◌+◌, Bool, List, [], Option, None}
 use Rattle.spec_map.specs.Map.{put}
 use Rattle.node_table.specs.TableNode.{TableNode}
 use Rattle.spec_olc.specs.Calls.{Outline}
@@ -23,6 +22,11 @@ pub record VersionedNode (M : Type 0) : Type 0 where
   pub lifetime : Lifetime
   pub node : TableNode M
 
+-- a cleanup: how long the prefix of its node is, and whether another cleanup may follow it
+pub record Cleaning : Type 0 where
+  pub depth : ℕ
+  pub again : Bool
+
 -- a call in flight
 pub record CallState (M : Type 0) : Type 0 where
   -- its kind and keys
@@ -37,10 +41,9 @@ pub record CallState (M : Type 0) : Type 0 where
   pub reach : ℕ
   -- how many pairs a range has given
   pub given : ℕ
-  -- after a removal: the length of the prefix of the node for which it has to clean up, or does
-  pub cleaning : Option ℕ
-  -- since it last went back to the root: the words that it remembers, by slot, what its last Read
-  -- reported, and how far it is with its closure
+  -- after a removal: the cleanup that it has to make, or makes
+  pub cleaning : Option Cleaning
+  -- since it was last at the root: words by slot, what its last Read reported, its closure
   pub remembered : List (ℕ × ℕ)
   pub seen : Option (Seen M)
   pub asking : Asking M
@@ -97,3 +100,7 @@ module _ {M : Type 0} where
   -- A call that has its reply, or is refused, keeps no payload: they are moved out or dropped.
   abbrev pub settled : Progress → CallState M → CallState M
   settled progress call = record call { op = None; asking = Fresh; progress = progress }
+
+  -- the call cleans up no more
+  abbrev pub stopped : CallState M → CallState M
+  stopped call = record call { cleaning = None }

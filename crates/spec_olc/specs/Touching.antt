@@ -1,5 +1,5 @@
--- NO USE AFTER FREE: a slot that an event reports to touch is the root's, or was named to its call by
--- a Read or a Make of its own and has been in use ever since.
+-- NO USE AFTER FREE: a slot that an event touches is the root's, or was named to its call by a Read
+-- or a Make of its own and has been in use ever since.
 use Rattle.std.specs.Prelude.{◌≡◌, ◌≢◌, ℕ, List, [], ◌∷◌, Option, Some, None, IsSome, ◌⊎◌}
 use Rattle.spec_map.specs.Map.{lookup}
 use Rattle.node_table.specs.declared.child.Child.TheVariants.{Node}
@@ -12,8 +12,7 @@ use Rattle.spec_olc.specs.declared.types.Kind.TheVariants as kind
 use Rattle.spec_olc.specs.declared.types.Kind.{Kind}
 use Rattle.spec_olc.specs.declared.types.Seen.{Seen}
 
--- an event names this slot: a Read the child that it reports (a torn one what the schedule makes
--- up), a Make the slot that it fills
+-- an event names this slot: a Read, also a torn one, the child that it reports, a Make its own
 abbrev pub Names : Kind → Option ℕ → Option (Seen ℕ) → ℕ → Type 0
 Names kind.Read at seen slot = (s : Seen ℕ) × (seen ≡ Some s) × (s.child ≡ Some (Node slot))
 Names kind.Make at seen slot = at ≡ Some slot

@@ -1,6 +1,8 @@
 -- What a call may make and write: what it stores, what it has made, and copies of what it holds.
-use Rattle.std.specs.Prelude.{◌≡◌, ℕ, List, [], ◌∷◌, ◌++◌, length, map, Option, Some, None, IsTrue, if◌then◌else◌, ◌⊎◌}
-use Rattle.node_base.specs.Form.{Fits}
+use Rattle.std.specs.Prelude.{◌≡◌, ℕ, Bool, false, List, [], ◌∷◌, ◌++◌, length, map, Option, Some, None, IsTrue, if◌then◌else◌, ◌⊎◌}
+use Rattle.node_base.specs.Form.{Fits, next_form, smaller_form}
+use Rattle.node_base.specs.declared.base_node.NodeType.{NodeType}
+use Rattle.node_base.specs.declared.base_node.NodeType.TheVariants.{N4}
 use Rattle.node_table.specs.Key.{Begins, next_byte}
 use Rattle.spec_map.specs.Map.{lookup, put, with_answer, Rises}
 use Rattle.node_table.specs.TableNode.{TableNode, MayHave}
@@ -8,7 +10,12 @@ use Rattle.node_table.specs.declared.child.Child.{Child}
 use Rattle.node_table.specs.declared.child.Child.TheVariants.{Payload, Node as node}
 use Rattle.spec_olc.specs.Calls.{bytes_of, stored}
 use Rattle.spec_olc.specs.Lists.{is_in}
-use Rattle.spec_olc.specs.State.{CallState, VersionedNode, State, publish}
+use Rattle.spec_olc.specs.State.{CallState, Cleaning, VersionedNode, State, publish}
+
+-- the form of a copy: the next larger one, or in a cleanup the next smaller one
+abbrev pub copy_form : Option Cleaning → NodeType → NodeType
+copy_form None form = next_form form
+copy_form (Some c) form = smaller_form form
 
 module _ {M : Type 0} where
   -- the byte of the call's key that follows a prefix
@@ -28,12 +35,10 @@ module _ {M : Type 0} where
     pub mine : IsTrue (is_in slot call.held)
     pub here : lookup s.nodes slot ≡ Some node
 
-  -- an entry of a held node with the same prefix
-  pub record IsCopied (s : State M) (call : CallState M) (prefix : List ℕ) (byte : ℕ)
-      (child : Child M) : Type 0 where
+  pub record IsCopy (s : State M) (call : CallState M) (a : TableNode M) : Type 0 where
     pub from : HeldNode s call
-    pub prefix_is : from.node.node.prefix ≡ prefix
-    pub entry : lookup from.node.node.children byte ≡ Some child
+    pub prefix_is : from.node.node.prefix ≡ a.prefix
+    pub form_is : a.form ≡ copy_form call.cleaning from.node.node.form
 
   -- a held node itself, which moves below a new one
   pub record IsMoved (s : State M) (call : CallState M) (prefix : List ℕ) (byte : ℕ)
@@ -42,15 +47,21 @@ module _ {M : Type 0} where
     pub is : child ≡ node moved.slot
     pub begins : Begins (prefix ++ byte ∷ []) moved.node.node.prefix
 
+  -- any other new node is a Node4, and a leaf if it has one child
+  abbrev pub IsFirst : TableNode M → Type 0
+  IsFirst a = (a.form ≡ N4) × (length a.children ≡ 1 → length a.prefix ≡ 7)
+
   -- A NEW NODE of a call: its prefix begins the call's key; each entry is its own, copied or moved
   pub record IsNewNode (s : State M) (call : CallState M) (a : TableNode M) : Type 0 where
     pub way : Begins a.prefix (bytes_of call.cursor)
     pub ascending : Rises 0 256 a.children
     pub fits : Fits a.form (length a.children)
+    pub form_is : IsFirst a ⊎ IsCopy s call a
     pub entries : (byte : ℕ) (child : Child M) → lookup a.children byte ≡ Some child
         → MayHave a.prefix child
         × (((byte ≡ byte_below call a.prefix) × IsOwn call (Some child))
-        ⊎ (IsCopied s call a.prefix byte child ⊎ IsMoved s call a.prefix byte child))
+        ⊎ (((c : IsCopy s call a) × (lookup c.from.node.node.children byte ≡ Some child))
+        ⊎ IsMoved s call a.prefix byte child))
 
   abbrev pub with_children : VersionedNode M → List (ℕ × Child M) → VersionedNode M
   with_children a children = record a { node = record a.node { children = children } }
@@ -86,3 +97,9 @@ module _ {M : Type 0} where
   written s call held child gone = record s {
     nodes = emptied gone (linked call.made (put s.nodes held.slot (changed call held.node child)));
   }
+
+  -- an entry is entered, removed, or replaced by one that isn't the same
+  abbrev pub IsChanged : (M → M → Bool) → Option (Child M) → Option (Child M) → Type 0
+  IsChanged same None None = ⊥
+  IsChanged same (Some (Payload old)) (Some (Payload new)) = same new old ≡ false
+  IsChanged same was child = Unit {0}

@@ -4,7 +4,10 @@
 
 ghost use Rattle.std.specs.Prelude.{◌≡◌, ◌≢◌, ℕ, ◌+◌, ◌⊎◌, Bool, true, false, List, [], ◌∷◌, Option, Some, None, IsTrue, IsSome, length, ◌<◌, ◌≤◌};
 ghost use Rattle.spec_map.specs.Map.{Pairs, lookup};
-ghost use Rattle.spec_olc.specs.Calls.{IsPoint};
+ghost use Rattle.node_base.specs.Form.{next_form, smaller_form};
+ghost use Rattle.node_base.specs.declared.base_node.NodeType.TheVariants.{N4};
+ghost use Rattle.node_table.specs.Key.{Begins};
+ghost use Rattle.spec_olc.specs.Calls.{IsPoint, bytes_of};
 ghost use Rattle.spec_olc.specs.Content.{IsContent, IsStoredAt};
 ghost use Rattle.spec_olc.specs.Deciding.{IsContentStep};
 ghost use Rattle.spec_olc.specs.Due.{IsDue};
@@ -16,15 +19,16 @@ ghost use Rattle.spec_olc.specs.Scans.{IsScan, Reported, given};
 ghost use Rattle.spec_olc.specs.Seats.{IsSeating};
 ghost use Rattle.spec_olc.specs.declared.types.Event.{Event};
 ghost use Rattle.spec_olc.specs.declared.trace.Line.{Line};
-ghost use Rattle.spec_olc.specs.Kinds.{report_of, IsStart, IsStep, MayMake, Takes, Checks, Answers, SharesAnswer, Upgrades, Writes, Unlocks, Retires};
+ghost use Rattle.spec_olc.specs.Kinds.{report_of, IsStart, IsStep, MayMake, Takes, Checks, Answers, SharesAnswer, Upgrades, Makes, Writes, Unlocks, Retires, Finishes};
 ghost use Rattle.spec_olc.specs.Lasting.{AfterEach, AllStayObsolete, IsHeldOnce};
 ghost use Rattle.spec_olc.specs.Lists.{is_in};
-ghost use Rattle.spec_olc.specs.Local.{LeavesAll};
+ghost use Rattle.spec_olc.specs.Local.{LeavesAll, SharesNone, seen_child, seen_payload};
 ghost use Rattle.spec_olc.specs.Lock.{IsFree, IsObsolete};
+ghost use Rattle.spec_olc.specs.Reading.{Remembered};
 ghost use Rattle.spec_olc.specs.Runs.{Transition, IsHistory, fresh, same_number};
 ghost use Rattle.node_table.specs.TableNode.{TableNode};
-ghost use Rattle.spec_olc.specs.Writing.{IsNewNode, changed, entry_below, with_children};
-ghost use Rattle.spec_olc.specs.State.{LeavesNodes, publish, State, CallState, VersionedNode, not_yet, published};
+ghost use Rattle.spec_olc.specs.Writing.{HeldNode, IsNewNode, changed, entry_below, with_children};
+ghost use Rattle.spec_olc.specs.State.{LeavesNodes, publish, State, CallState, Cleaning, VersionedNode, not_yet, published};
 ghost use Rattle.spec_olc.specs.Touching.{IsLive};
 ghost use Rattle.spec_olc.specs.WellFormed.{IsWellFormed};
 ghost use Rattle.spec_olc.specs.declared.trace.Decision.{Decision};
@@ -430,11 +434,11 @@ pub fn only_a_write_begins_a_cleanup<P: HasMeaning>()
 /// What a Write leaves to clean up is a node from which it has taken a child, and which has few left.
 pub fn a_cleanup_is_for_a_due_node<P: HasMeaning>()
     ensures { (old new : State P.Meaning) (id : ℕ) (call next : CallState P.Meaning)
-        (env : Env P.Meaning) (report : Report) (out : Outcome P.Meaning) (length_is : ℕ)
+        (env : Env P.Meaning) (report : Report) (out : Outcome P.Meaning) (c : Cleaning)
         → (w : Writes P.always_shared P.same_meaning old new id call env report out)
-        → lookup new.calls id ≡ Some next → next.cleaning ≡ Some length_is
+        → lookup new.calls id ≡ Some next → next.cleaning ≡ Some c
         → (w.child ≡ None) × IsDue (changed call w.held.node w.child).node
-        × (length_is ≡ length w.held.node.node.prefix) }
+        × (c.depth ≡ length w.held.node.node.prefix) }
 {}
 
 /// A point call that has its reply decides nothing, asks nothing and isn't refused, so neither does one that cleans up.
@@ -445,4 +449,120 @@ pub fn a_cleanup_decides_nothing<P: HasMeaning>()
         → call.progress ≡ Progress.Decided
         → IsStep P.always_shared P.same_meaning old new id env report out
         → (out ≡ Outcome.Going) ⊎ (out ≡ Outcome.Done) }
+{}
+
+/// A point call ends only once nothing is left to clean up.
+pub fn no_end_before_the_cleanup<P: HasMeaning>()
+    ensures { (old new : State P.Meaning) (id : ℕ) (call : CallState P.Meaning)
+        (env : Env P.Meaning) (report : Report) (out : Outcome P.Meaning)
+        → IsPoint call.outline → IsSome call.cleaning
+        → Finishes P.always_shared P.same_meaning old new id call env report out → ⊥ }
+{}
+
+/// The Write that decides a call leaves a due node to clean up. So does that of a first cleanup, and this one is the
+/// last: a third Write of a call leaves none.
+pub fn a_third_write_leaves_no_cleanup<P: HasMeaning>()
+    ensures first { (old new : State P.Meaning) (id : ℕ) (call : CallState P.Meaning)
+        (env : Env P.Meaning) (report : Report) (out : Outcome P.Meaning)
+        → (w : Writes P.always_shared P.same_meaning old new id call env report out)
+        → call.cleaning ≡ None → w.child ≡ None
+        → IsDue (changed call w.held.node w.child).node
+        → (c : Cleaning) × (w.left ≡ Some c) × IsTrue c.again }
+    ensures second { (old new : State P.Meaning) (id : ℕ) (call : CallState P.Meaning)
+        (env : Env P.Meaning) (report : Report) (out : Outcome P.Meaning) (b : Cleaning)
+        → (w : Writes P.always_shared P.same_meaning old new id call env report out)
+        → call.cleaning ≡ Some b → IsTrue b.again → w.child ≡ None
+        → IsDue (changed call w.held.node w.child).node
+        → (c : Cleaning) × (w.left ≡ Some c) × (c.again ≡ false) }
+    ensures third { (old new : State P.Meaning) (id : ℕ) (call : CallState P.Meaning)
+        (env : Env P.Meaning) (report : Report) (out : Outcome P.Meaning) (b : Cleaning)
+        → (w : Writes P.always_shared P.same_meaning old new id call env report out)
+        → call.cleaning ≡ Some b → b.again ≡ false → w.left ≡ None }
+{}
+
+/// A call that is decided or asks its closure has read. If its last Read gave a node, a Check decides the call only
+/// where it remembers a word of that node, and the node's prefix doesn't begin the key.
+pub fn a_reply_needs_a_read<P: HasMeaning>()
+    ensures decided { (old new : State P.Meaning) (id : ℕ) (call : CallState P.Meaning)
+        (env : Env P.Meaning) (report : Report) (reply : Reply P.Meaning)
+        → lookup old.calls id ≡ Some call
+        → IsStep P.always_shared P.same_meaning old new id env report (Outcome.Decided reply)
+        → IsSome call.seen }
+    ensures asked { (old new : State P.Meaning) (id : ℕ) (call : CallState P.Meaning)
+        (env : Env P.Meaning) (report : Report) (question : Option P.Meaning)
+        → lookup old.calls id ≡ Some call
+        → IsStep P.always_shared P.same_meaning old new id env report (Outcome.Ask question)
+        → IsSome call.seen }
+    ensures ends { (old new : State P.Meaning) (id : ℕ) (call : CallState P.Meaning)
+        (env : Env P.Meaning) (report : Report) (out : Outcome P.Meaning) (reply : Reply P.Meaning)
+        (slot : ℕ) → Checks P.always_shared P.same_meaning old new id call env report out
+        → IsTrue report.ok → out ≡ Outcome.Decided reply
+        → seen_child call.seen ≡ Some (Child.Node slot)
+        → (b : Remembered old call) × (b.slot ≡ slot)
+        × (Begins b.node.node.prefix (bytes_of call.cursor) → ⊥) }
+{}
+
+/// A Get locks nothing, nor does an exchange whose key has another value, nor a range.
+pub fn what_changes_nothing_locks_nothing<P: HasMeaning>()
+    ensures get { (old new : State P.Meaning) (id : ℕ) (call : CallState P.Meaning)
+        (env : Env P.Meaning) (report : Report) (out : Outcome P.Meaning) (key : ℕ)
+        → call.op ≡ Some (Op.Get key) → call.cleaning ≡ None
+        → (SharesNone call.outline call.cleaning → ⊥)
+        → Upgrades P.always_shared P.same_meaning old new id call env report out → ⊥ }
+    ensures exchange { (old new : State P.Meaning) (id : ℕ) (call : CallState P.Meaning)
+        (env : Env P.Meaning) (report : Report) (out : Outcome P.Meaning) (key : ℕ)
+        (expected current : P.Meaning) (value : Option P.Meaning)
+        → call.op ≡ Some (Op.CompareExchange key expected value) → call.cleaning ≡ None
+        → (SharesNone call.outline call.cleaning → ⊥)
+        → seen_payload call.seen ≡ Some current → P.same_meaning current expected ≡ false
+        → Upgrades P.always_shared P.same_meaning old new id call env report out → ⊥ }
+    ensures range { (old new : State P.Meaning) (id : ℕ) (call : CallState P.Meaning)
+        (env : Env P.Meaning) (report : Report) (out : Outcome P.Meaning)
+        → Upgrades P.always_shared P.same_meaning old new id call env report out
+        → IsPoint call.outline }
+{}
+
+/// A Write changes its entry: it doesn't remove what isn't there, and stores no value that is the same.
+pub fn a_write_changes_its_entry<P: HasMeaning>()
+    ensures none { (old new : State P.Meaning) (id : ℕ) (call : CallState P.Meaning)
+        (env : Env P.Meaning) (report : Report) (out : Outcome P.Meaning)
+        → (w : Writes P.always_shared P.same_meaning old new id call env report out)
+        → entry_below call w.held.node ≡ None → w.child ≡ None → ⊥ }
+    ensures same { (old new : State P.Meaning) (id : ℕ) (call : CallState P.Meaning)
+        (env : Env P.Meaning) (report : Report) (out : Outcome P.Meaning) (u v : P.Meaning)
+        → (w : Writes P.always_shared P.same_meaning old new id call env report out)
+        → entry_below call w.held.node ≡ Some (Child.Payload u)
+        → w.child ≡ Some (Child.Payload v) → P.same_meaning v u ≡ false }
+{}
+
+/// A node that is made is a `Node4`, or a copy of a held node: of the next larger form, or in a cleanup of the next
+/// smaller one. A call makes at most two.
+pub fn a_made_node_has_its_form<P: HasMeaning>()
+    ensures larger { (old new : State P.Meaning) (id : ℕ) (call : CallState P.Meaning)
+        (env : Env P.Meaning) (report : Report) (out : Outcome P.Meaning)
+        → (m : Makes P.always_shared P.same_meaning old new id call env report out)
+        → call.cleaning ≡ None → m.made.form ≢ N4
+        → (h : HeldNode old call) × (h.node.node.prefix ≡ m.made.prefix)
+        × (m.made.form ≡ next_form h.node.node.form) }
+    ensures smaller { (old new : State P.Meaning) (id : ℕ) (call : CallState P.Meaning)
+        (env : Env P.Meaning) (report : Report) (out : Outcome P.Meaning) (c : Cleaning)
+        → (m : Makes P.always_shared P.same_meaning old new id call env report out)
+        → call.cleaning ≡ Some c → m.made.form ≢ N4
+        → (h : HeldNode old call) × (h.node.node.prefix ≡ m.made.prefix)
+        × (m.made.form ≡ smaller_form h.node.node.form) }
+    ensures few { (old new : State P.Meaning) (id : ℕ) (call : CallState P.Meaning)
+        (env : Env P.Meaning) (report : Report) (out : Outcome P.Meaning)
+        → Makes P.always_shared P.same_meaning old new id call env report out
+        → length call.made ≤ 1 }
+{}
+
+/// The pair that a range gives is what its last Read gave, and is stored in the node that is checked.
+pub fn a_range_gives_what_it_read<P: HasMeaning>()
+    ensures { (old new : State P.Meaning) (id : ℕ) (call : CallState P.Meaning)
+        (env : Env P.Meaning) (report : Report) (out : Outcome P.Meaning) (key : ℕ)
+        (value : P.Meaning)
+        → (c : Checks P.always_shared P.same_meaning old new id call env report out)
+        → IsTrue report.ok → out ≡ Outcome.Pair key value
+        → (seen_payload call.seen ≡ Some value)
+        × ((s : IsStoredAt old key value) × (s.slot ≡ c.knows.slot)) }
 {}

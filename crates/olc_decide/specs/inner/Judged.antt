@@ -66,10 +66,12 @@ module _ {M : Type 0} where
   value_of op None = otherwise_of op
   value_of op (Some answer) = Some answer
 
+-- `same` is the test by which values are compared.
+module _ {M : Type 0} (same : M → M → Bool) where
   -- whether this is what a closure was asked with
   abbrev pub IsAgainst : Asking M → M → Judged → Type 0
   IsAgainst asking v Same = asking ≡ Wants (Some v)
-  IsAgainst asking v Stores = Unit {0}
+  IsAgainst asking v Stores = (old : M) → asking ≡ Wants (Some old) → same v old ≡ false
   IsAgainst asking v j = ⊥
 
   -- what a call does with the value that its closure was asked with
@@ -77,6 +79,7 @@ module _ {M : Type 0} where
   IsJudgedAnswer op asking answer Same =
       (old : M) × (asking ≡ Wants (Some old)) × (value_of op answer ≡ Some old)
   IsJudgedAnswer op asking answer Stores = (v : M) × (value_of op answer ≡ Some v)
+      × ((old : M) → asking ≡ Wants (Some old) → same v old ≡ false)
   IsJudgedAnswer op asking answer Removes = value_of op answer ≡ None
   IsJudgedAnswer op asking answer Other = ⊥
 
@@ -85,19 +88,17 @@ module _ {M : Type 0} where
       (j : Judged) × IsJudgedAnswer task.op task.asking answer j × (stage ≡ stage_for pair only j)
   IsAfterAnswer task c answer stage = stage ≡ Tail (tail_for c)
 
--- `same` is the test by which values are compared.
-module _ {M : Type 0} (same : M → M → Bool) where
   -- what a CompareExchange does with the current value of its key
   abbrev pub IsJudgedExchange : M → Option M → M → Judged → Type 0
   IsJudgedExchange old new current Other = same current old ≡ false
   IsJudgedExchange old new current Same = IsTrue (same current old) × (new ≡ Some current)
   IsJudgedExchange old new current Stores =
-      IsTrue (same current old) × ((v : M) × (new ≡ Some v))
+      IsTrue (same current old) × ((v : M) × (new ≡ Some v) × (same v current ≡ false))
   IsJudgedExchange old new current Removes = IsTrue (same current old) × (new ≡ None)
 
   abbrev pub IsHandedOver : M → M → Judged → Type 0
   IsHandedOver v current Same = v ≡ current
-  IsHandedOver v current Stores = Unit {0}
+  IsHandedOver v current Stores = same v current ≡ false
   IsHandedOver v current j = ⊥
 
   -- what an Insert or a CompareExchange does with it

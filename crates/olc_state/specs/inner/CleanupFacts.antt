@@ -1,5 +1,5 @@
 -- WHAT A CALL KNOWS before each event of a cleanup.
-use Rattle.std.specs.Prelude.{◌≡◌, ◌≢◌, ℕ, ◌≤◌, IsTrue, List, [], length, Some, None}
+use Rattle.std.specs.Prelude.{Bool, ◌≡◌, ◌≢◌, ℕ, ◌<◌, ◌≤◌, IsTrue, ◌↔◌, List, [], length, Some, None}
 use Rattle.node_base.specs.Form.{few_in, smaller_form}
 use Rattle.node_table.specs.Key.{Begins}
 use Rattle.node_table.specs.TableNode.{TableNode}
@@ -15,7 +15,7 @@ use Rattle.olc_state.specs.declared.stage.Task.{Task}
 use Rattle.olc_state.specs.declared.tail.NodePair.{NodePair}
 use Rattle.olc_state.specs.inner.Tables.{IsThere, Known, LedTo, OnPath, While}
 use Rattle.olc_state.specs.inner.TailFacts.{AreHeld, IsAbove, IsHeld, IsPrivateOf, LeadsBelow, found}
-use Rattle.olc_state.specs.inner.Tasks.{CleansUp, key_bytes}
+use Rattle.olc_state.specs.inner.Tasks.{CleansUp, SawNode, key_bytes}
 use Rattle.olc_state.specs.inner.World.{PlacedNode, NodeMap}
 
 module _ {M : Type 0} where
@@ -25,6 +25,21 @@ module _ {M : Type 0} where
 
   abbrev pub IsWithin : NodeMap M → ℕ → List ℕ → ℕ → Type 0
   IsWithin t slot k most = (a : PlacedNode M) → t slot ≡ Some a → ReachesTo k most a.node
+
+  -- the node is there
+  abbrev pub IsAtDepth : List ℕ → ℕ → TableNode M → Type 0
+  IsAtDepth k depth a = Begins a.prefix k × (length a.prefix ≡ depth)
+
+  abbrev pub HasDepth : NodeMap M → ℕ → List ℕ → ℕ → Type 0
+  HasDepth t slot k depth = (a : PlacedNode M) → t slot ≡ Some a → IsAtDepth k depth a.node
+
+  -- the node isn't as deep
+  abbrev pub IsNearer : NodeMap M → ℕ → ℕ → Type 0
+  IsNearer t slot depth = (a : PlacedNode M) → t slot ≡ Some a → length a.node.prefix < depth
+
+  -- a test of whether it reaches there
+  abbrev pub LeadsTo : NodeMap M → ℕ → List ℕ → ℕ → Bool → Type 0
+  LeadsTo t slot k most fits = (a : PlacedNode M) → t slot ≡ Some a → IsTrue fits ↔ ReachesTo k most a.node
 
   -- its last Read reported the child under the key's byte; a payload, if each share is granted
   pub record SawBelow (Granted : Type 0) (t : NodeMap M) (path : Path) (task : Task M) : Type 0 where
@@ -46,11 +61,12 @@ module _ {M : Type 0} where
   SeekFacts Granted t root pin task c (seek.TakeBelow path slot) = IsSeeking t root pin task c path
       × LedTo t path.here (key_bytes task) slot × IsThere t pin slot
       × (slot ≢ root) × (slot ≢ path.here.slot)
+      × SawNode task.last slot × IsNearer t path.here.slot c.length
   SeekFacts Granted t root pin task c (seek.CheckAbove path spot fits) = IsSeeking t root pin task c path
       × LedTo t path.here (key_bytes task) spot.slot × Known t pin spot
-      × (IsTrue fits → IsWithin t spot.slot (key_bytes task) c.length)
+      × LeadsTo t spot.slot (key_bytes task) c.length fits
       × (spot.slot ≢ path.here.slot)
-  SeekFacts Granted t root pin task c seek.Finish = CleansUp task c
+      × SawNode task.last spot.slot × IsNearer t path.here.slot c.length
 
   -- the copy of a node that takes its place
   abbrev pub smaller_of : TableNode M → TableNode M
@@ -60,20 +76,21 @@ module _ {M : Type 0} where
   pub record CleansAt (t : NodeMap M) (task : Task M) (c : Cleanup) (pair : NodePair) : Type 0 where
     pub cleans : CleansUp task c
     pub held : AreHeld t pair (key_bytes task)
-    pub reaches : ReachesTo (key_bytes task) c.length held.here.node.node
+    pub reaches : IsAtDepth (key_bytes task) c.length held.here.node.node
 
   abbrev pub TidyFacts : NodeMap M → ℕ → Task M → Cleanup → Tidy → Type 0
   TidyFacts t pin task c (tidy.UpgradeAbove pair) = CleansUp task c × IsAbove t pair (key_bytes task)
       × Known t pin pair.above × LedTo t pair.above (key_bytes task) pair.here.slot
-      × Known t pin pair.here × IsWithin t pair.here.slot (key_bytes task) c.length
+      × Known t pin pair.here × HasDepth t pair.here.slot (key_bytes task) c.length
   TidyFacts t pin task c (tidy.UpgradeBelow pair) = CleansUp task c × IsAbove t pair (key_bytes task)
       × ((above : IsHeld t pair.above) × LeadsBelow above.node (key_bytes task) pair.here.slot)
-      × Known t pin pair.here × IsWithin t pair.here.slot (key_bytes task) c.length
+      × Known t pin pair.here × HasDepth t pair.here.slot (key_bytes task) c.length
   TidyFacts t pin task c (tidy.TakeAway pair) =
       (at : CleansAt t task c pair) × (at.held.here.node.node.children ≡ [])
   TidyFacts t pin task c (tidy.MakeSmaller pair) = (at : CleansAt t task c pair)
       × (length at.held.here.node.node.children ≤ few_in at.held.here.node.node.form)
   TidyFacts t pin task c (tidy.PutSmaller pair copy) =
       (at : CleansAt t task c pair) × IsPrivateOf t copy (smaller_of at.held.here.node.node)
-  TidyFacts t pin task c (tidy.UnlockBelow pair) = CleansUp task c
-      × IsHeld t pair.above × IsHeld t pair.here × (pair.above.slot ≢ pair.here.slot)
+      × (length at.held.here.node.node.children ≤ few_in at.held.here.node.node.form)
+  TidyFacts t pin task c (tidy.UnlockBelow pair) = (at : CleansAt t task c pair)
+      × (few_in at.held.here.node.node.form < length at.held.here.node.node.children)

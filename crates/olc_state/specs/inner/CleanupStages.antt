@@ -16,7 +16,6 @@ named_seeking (seek.Read path) = path_slots path
 named_seeking (seek.Check path) = path_slots path
 named_seeking (seek.TakeBelow path slot) = slot ∷ path_slots path
 named_seeking (seek.CheckAbove path spot fits) = spot.slot ∷ path_slots path
-named_seeking seek.Finish = []
 
 abbrev pub named_tidying : Tidy → List ℕ
 named_tidying (tidy.UpgradeAbove pair) = both_slots pair
@@ -33,7 +32,6 @@ spots_seeking (seek.Read path) = path_spots path
 spots_seeking (seek.Check path) = path_spots path
 spots_seeking (seek.TakeBelow path slot) = path_spots path
 spots_seeking (seek.CheckAbove path spot fits) = put (path_spots path) spot.slot spot.word
-spots_seeking seek.Finish = []
 
 abbrev pub spots_tidying : Tidy → List (ℕ × ℕ)
 spots_tidying (tidy.UpgradeAbove pair) = pair_spots pair
@@ -62,7 +60,6 @@ seek_work c (seek.Read path) depth = 4 * (c.length - depth) + 9 + more_work c
 seek_work c (seek.Check path) depth = 4 * (c.length - depth) + 8 + more_work c
 seek_work c (seek.TakeBelow path slot) depth = 4 * (c.length - depth) + 7 + more_work c
 seek_work c (seek.CheckAbove path spot fits) depth = 4 * (c.length - depth) + 6 + more_work c
-seek_work c seek.Finish depth = 1
 
 abbrev pub tidy_work : Cleanup → Tidy → ℕ
 tidy_work c (tidy.UpgradeAbove pair) = 7 + more_work c

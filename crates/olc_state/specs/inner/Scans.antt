@@ -10,7 +10,6 @@ use Rattle.spec_olc.specs.declared.types.Op.{Op}
 use Rattle.spec_olc.specs.declared.types.Op.TheVariants.{Range}
 use Rattle.spec_olc.specs.declared.types.Progress.TheVariants as progress
 use Rattle.spec_olc.specs.declared.types.Seen.{Seen}
-use Rattle.olc_state.specs.declared.cleanup.Seek.TheVariants as seek
 use Rattle.olc_state.specs.declared.scan.RangeProgress.{RangeProgress}
 use Rattle.olc_state.specs.declared.scan.Scan.{Scan}
 use Rattle.olc_state.specs.declared.scan.Scan.TheVariants.{TakeRoot, Read, Check, TakeBelow, CheckAbove, Finish}
@@ -19,6 +18,7 @@ use Rattle.olc_state.specs.declared.stage.Stage.{Stage}
 use Rattle.olc_state.specs.declared.stage.Stage.TheVariants as stage
 use Rattle.olc_state.specs.declared.stage.Task.{Task}
 use Rattle.olc_state.specs.inner.Tables.{IsThere, Known, While}
+use Rattle.olc_state.specs.inner.Tasks.{SawNode}
 use Rattle.olc_state.specs.inner.World.{PlacedNode, NodeMap}
 
 -- WHERE A CALL BEGINS: at the root, or, if it is a range that has no pair to return, at its end
@@ -34,7 +34,6 @@ BeginsAt _ at = at ≡ stage.TakeRoot
 abbrev pub IsAtEnd : Stage → Type 0
 IsAtEnd stage.Finish = Unit {0}
 IsAtEnd (stage.Scan course Finish) = Unit {0}
-IsAtEnd (stage.Seek c seek.Finish) = Unit {0}
 IsAtEnd _ = ⊥
 
 module _ {M : Type 0} where
@@ -100,8 +99,9 @@ module _ {M : Type 0} where
       IsAtNode t pin task course spot × SawFirst t task course spot
   ScanFacts t root pin task course (TakeBelow spot slot) = IsAtNode t pin task course spot
       × LeadsFirst t spot course.cursor slot × IsThere t pin slot × (slot ≢ root)
-      × (slot ≢ spot.slot)
+      × (slot ≢ spot.slot) × SawNode task.last slot
   ScanFacts t root pin task course (CheckAbove spot below from) = IsAtNode t pin task course spot
       × LeadsFirst t spot course.cursor below.slot × Known t pin below
       × GoesTo t below.slot course.cursor from × (below.slot ≢ spot.slot)
+      × SawNode task.last below.slot
   ScanFacts t root pin task course Finish = IsDone task course

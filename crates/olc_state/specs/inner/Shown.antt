@@ -3,7 +3,7 @@ use Rattle.std.specs.Prelude.{ℕ, ◌+◌, ◌^◌, List, [], ◌∷◌, Option
 use Rattle.spec_map.specs.Map.{put, with_answer}
 use Rattle.spec_olc.specs.Calls.{key_of}
 use Rattle.spec_olc.specs.Lists.{off}
-use Rattle.spec_olc.specs.State.{State, CallState, Lifetime, not_yet, published, retired}
+use Rattle.spec_olc.specs.State.{State, CallState, Cleaning, Lifetime, not_yet, published, retired}
 use Rattle.spec_olc.specs.State as state
 use Rattle.olc_words.specs.Epoch.{PinsView, entry_at, pin_of}
 use Rattle.olc_words.specs.declared.epoch.Life.{Life}
@@ -14,7 +14,7 @@ use Rattle.olc_state.specs.declared.stage.Stage.TheVariants.{TakeRoot, Read, Che
 use Rattle.olc_state.specs.declared.stage.Stored.{Stored}
 use Rattle.olc_state.specs.inner.CleanupStages.{held_tidying, made_tidying, spots_seeking, spots_tidying}
 use Rattle.olc_state.specs.inner.ScanSpots.{spots_on}
-use Rattle.olc_state.specs.inner.Tails.{path_spots, case_spots, cleaning_in, spots_in, held_in, made_in}
+use Rattle.olc_state.specs.inner.Tails.{path_spots, case_spots, cleaning_in, cleaning_of, spots_in, held_in, made_in}
 use Rattle.olc_state.specs.inner.World.{World, NodeLifetime, is_private, is_linked, is_detached, is_retired, PlacedNode, placed_node}
 
 abbrev pub lifetime : NodeLifetime → Lifetime
@@ -52,11 +52,11 @@ abbrev pub given_at : Stage → ℕ
 given_at (Scan course scan) = course.given
 given_at stage = 0
 
--- the length of the prefix for which it cleans up
-abbrev pub cleaning_at : Stage → Option ℕ
+-- the cleanup that it has to make, or makes
+abbrev pub cleaning_at : Stage → Option Cleaning
 cleaning_at (Tail tail) = cleaning_in tail
-cleaning_at (Seek c seek) = Some c.length
-cleaning_at (Tidy c tidy) = Some c.length
+cleaning_at (Seek c seek) = Some (cleaning_of c)
+cleaning_at (Tidy c tidy) = Some (cleaning_of c)
 cleaning_at stage = None
 
 -- the nodes that it holds, and its private ones

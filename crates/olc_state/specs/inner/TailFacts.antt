@@ -1,6 +1,6 @@
 -- WHAT A CALL KNOWS before each event of a tail: what it has seen of the node until that is locked, what the node
 -- contains once it is, and what its private nodes contain.
-use Rattle.std.specs.Prelude.{Bool, IsTrue, ◌≡◌, ◌≢◌, ℕ, ◌+◌, ◌<◌, List, [], ◌∷◌, length, take, Option, Some, None, ◌⊎◌}
+use Rattle.std.specs.Prelude.{Bool, false, IsTrue, ◌≡◌, ◌≢◌, ℕ, ◌+◌, ◌<◌, List, [], ◌∷◌, length, take, Option, Some, None, IsSome, ◌⊎◌}
 use Rattle.node_base.specs.Form.{Fits, next_form}
 use Rattle.node_base.specs.declared.base_node.NodeType.TheVariants.{N4}
 use Rattle.spec_map.specs.Map.{put}
@@ -191,12 +191,19 @@ module _ {M : Type 0} (Granted : Type 0) (same : M → M → Bool) where
     pub value : Option M
     pub stores : stores task ≡ value
     pub change : IsChange same opened.op task.asking at_key value
+    pub read : IsSome task.last
     pub seen : MaySee Granted same task → seen_payload task.last ≡ at_key
+
+  -- the same, whatever the current value is
+  abbrev pub Writing : Task M → Type 0
+  Writing task = (at_key : Option M) × WritesAtKey task at_key
 
   -- what is to be done at a node, or at its parent
   pub record SmallWork (small : Small) (task : Task M) (a : PlacedNode M) : Type 0 where
     pub writes : WritesAtKey task (payload_in (found a (key_bytes task)))
     pub is : IsSmall small a (key_bytes task)
+    pub differs : (old new : M) → found a (key_bytes task) ≡ Some (Payload old)
+        → stores task ≡ Some new → same new old ≡ false
 
   pub record LargeWork (large : Large) (task : Task M) (a : PlacedNode M) : Type 0 where
     pub writes : WritesAtKey task (stands_at large a (key_bytes task))
@@ -208,6 +215,7 @@ module _ {M : Type 0} (Granted : Type 0) (same : M → M → Bool) where
     pub opened : IsOpen task
     pub closure : HasClosure task.outline
     pub wants : task.asking ≡ Wants (seen_payload task.last)
+    pub read : IsSome task.last
 
   -- the same, if the key is absent
   pub record WaitsFor (task : Task M) : Type 0 where
@@ -242,7 +250,7 @@ module _ {M : Type 0} (Granted : Type 0) (same : M → M → Bool) where
   abbrev pub CaseFacts : NodeMap M → ℕ → ℕ → Task M → Case → Type 0
   CaseFacts t root pin task (case.Present pair only) = WaitsForAnswer task
       × OnPath t root pin (key_bytes task) (path_to pair)
-      × While t pair.here (IsPresent only task)
+      × While t pair.here (IsPresent only task) × IsSome (seen_payload task.last)
   CaseFacts t root pin task (case.Small path small) = WaitsFor task
       × OnPath t root pin (key_bytes task) path × While t path.here (SmallCase small task)
   CaseFacts t root pin task (case.Large pair large) = WaitsFor task
@@ -254,6 +262,7 @@ module _ {M : Type 0} (Granted : Type 0) (same : M → M → Bool) where
   pub record Below (t : NodeMap M) (pin : ℕ) (task : Task M) (pair : NodePair) (large : Large)
       : Type 0 where
     pub opened : IsOpen task
+    pub writing : Writing task
     pub over : IsAbove t pair (key_bytes task)
     pub here : Known t pin pair.here
     pub work : While t pair.here (LargeWork large task)
@@ -285,6 +294,7 @@ module _ {M : Type 0} (Granted : Type 0) (same : M → M → Bool) where
   abbrev pub TailFacts : NodeMap M → ℕ → ℕ → Task M → Tail → Type 0
   TailFacts t root pin task (Upgrade path small) = IsOpen task
       × OnPath t root pin (key_bytes task) path × While t path.here (SmallWork small task)
+      × Writing task
   TailFacts t root pin task (Write spot) = AtNode t task spot Entry
   TailFacts t root pin task (MakeLeaf spot) = AtNode t task spot Leaf
   TailFacts t root pin task (Link spot leaf) = AtNode t task spot Leaf × HasLeaf t task leaf

@@ -2,6 +2,7 @@
 -- events it has left.
 use Rattle.std.specs.Prelude.{ℕ, ◌+◌, ◌*◌, List, [], ◌∷◌, Option, Some, None, if◌then◌else◌}
 use Rattle.spec_map.specs.Map.{put}
+use Rattle.spec_olc.specs.State.{Cleaning}
 use Rattle.spec_olc.specs.declared.types.Progress.{Progress}
 use Rattle.spec_olc.specs.declared.types.Progress.TheVariants.{Open}
 use Rattle.olc_state.specs.declared.cleanup.Cleanup.{Cleanup}
@@ -114,14 +115,17 @@ spots_in (tail.Detach pair) = []
 spots_in (Obsolete pair left) = []
 spots_in (UnlockBelow pair) = []
 
--- the length of the prefix for which a call has to clean up after its tail
-abbrev pub length_in : Option Cleanup → Option ℕ
-length_in None = None
-length_in (Some c) = Some c.length
+-- the cleanup that a call has to make after its tail
+abbrev pub cleaning_of : Cleanup → Cleaning
+cleaning_of c = record { depth = c.length; again = c.again }
 
-abbrev pub cleaning_in : Tail → Option ℕ
-cleaning_in (Unlock spot left) = length_in left
-cleaning_in (Obsolete pair left) = length_in left
+abbrev pub left_in : Option Cleanup → Option Cleaning
+left_in None = None
+left_in (Some c) = Some (cleaning_of c)
+
+abbrev pub cleaning_in : Tail → Option Cleaning
+cleaning_in (Unlock spot left) = left_in left
+cleaning_in (Obsolete pair left) = left_in left
 cleaning_in tail = None
 
 -- what a call remembers that waits for its closure's answer

@@ -1,5 +1,5 @@
 -- THE TASK of a call: what it has seen, and whether it still has its payloads.
-use Rattle.std.specs.Prelude.{Bool, IsTrue, ◌≡◌, ◌≤◌, ℕ, List, Option, Some, None}
+use Rattle.std.specs.Prelude.{Bool, IsTrue, ◌≡◌, ◌<◌, ◌≤◌, ℕ, List, Option, Some, None}
 use Rattle.node_table.specs.declared.child.Child.TheVariants.{Node as below_at}
 use Rattle.spec_olc.specs.Alone.{may_remove}
 use Rattle.spec_olc.specs.Calls.{IsPoint, bytes_of, key_of, outline_of}
@@ -48,6 +48,7 @@ module _ {M : Type 0} where
     pub fresh : task.asking ≡ Fresh
     pub point : IsPoint task.outline
     pub removes : IsTrue (may_remove task.outline)
+    pub below_root : 0 < c.length
     pub short : c.length ≤ 7
 
   -- what is left of a call that has its reply, or was refused

@@ -54,7 +54,7 @@ module _ {M : Type 0} where
   seek_depth t (seek.Check path) = depth_in (t path.here.slot)
   seek_depth t (seek.TakeBelow path slot) = depth_in (t path.here.slot)
   seek_depth t (seek.CheckAbove path spot fits) = depth_in (t path.here.slot)
-  seek_depth t seek = 0
+  seek_depth t seek.TakeRoot = 0
 
   -- how many events of its own a call at this stage has left at most if it runs alone, without those
   -- of a cleanup that it may have to begin

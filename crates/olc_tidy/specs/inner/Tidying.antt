@@ -1,5 +1,5 @@
 -- A CLEANUP AT ITS NODE: what the call knows before an event, and what the event does.
-use Rattle.std.specs.Prelude.{◌≡◌, ℕ, ◌≤◌, Bool, true, false, [], length, Option, None, if◌then◌else◌, ◌==◌}
+use Rattle.std.specs.Prelude.{◌≡◌, ℕ, ◌<◌, ◌≤◌, Bool, true, false, [], length, Option, None, if◌then◌else◌, ◌==◌}
 use Rattle.node_base.specs.Form.{few_in, form_place, next_form}
 use Rattle.node_base.specs.declared.base_node.NodeType.{NodeType}
 use Rattle.node_table.specs.TableNode.{TableNode}
@@ -30,7 +30,7 @@ module _ {M : Type 0} where
   abbrev pub IsDueAs : TableNode M → NodePair → Tidy → Type 0
   IsDueAs a pair (tidy.TakeAway p) = (p ≡ pair) × (a.children ≡ [])
   IsDueAs a pair (tidy.MakeSmaller p) = (p ≡ pair) × (length a.children ≤ few_in a.form)
-  IsDueAs a pair (tidy.UnlockBelow p) = p ≡ pair
+  IsDueAs a pair (tidy.UnlockBelow p) = (p ≡ pair) × (few_in a.form < length a.children)
   IsDueAs a pair _ = ⊥
 
   -- the cleanup, which none follows, for the parent of a node that was taken out, if there may be one

@@ -20,8 +20,10 @@ returns-in-Same g c =
 pub returns-in_default : goal.returns-in_default
 returns-in_default g c =
     let at = c.requires.at in
+    let child = in_some (child_of g.P.HasMeaning.meaning) (seen c.child_at.result) in
+    let there = found_means g.P.HasMeaning.meaning c.node_at.result.now.node c.args.task.now.outline c.key.result (seen c.child_at.result) c.child_at.ensures c.key.ensures in
     record {
       reads = λ env.
           rw (c.going.ensures, c.report-report.ensures, c.path_to.ensures)
-          (insert_stores g.P.Payload.always_shared g.P.HasMeaning.same_meaning _ c.args.store.now.root c.args.pin _ (env_of g.P.HasMeaning.meaning env) at.placed c.args.pair _ c.node_at.ensures (at.word _ c.node_at.ensures) at.facts c.args.only (at.present _ c.node_at.ensures) c.requires.insert);
+          (insert_stores g.P.Payload.always_shared g.P.HasMeaning.same_meaning _ c.args.store.now.root c.args.pin _ (env_of g.P.HasMeaning.meaning env) at.placed c.args.pair _ c.node_at.ensures (at.word _ c.node_at.ensures) at.facts c.args.only (at.present _ c.node_at.ensures) c.requires.insert child there c.judge.result c.in_default.not-Same c.judge.ensures);
     }

@@ -36,7 +36,7 @@ returns-in-None g c = λ env.
     let n = c.node_at-node.result.now.node in
     none_comes g.P.Payload.always_shared g.P.HasMeaning.same_meaning g.P.HasMeaning.meaning _ c.args.store.now.root c.args.pin c.args.task.now c.args.course _ c.requires.placed c.args.here n _ _ c.node_at-node.ensures (c.has_word.ensures.0 (search rules)) c.requires.facts.0
     c.in-None.ensures.none c.last_key.result (with_prefix (λ p. c.last_key.result + 1 ≡ high (p ++ 255 ∷ [])) c.prefix-prefix.result.now c.base.result.now.prefix n.prefix c.prefix-prefix.ensures.bytes c.base.ensures.prefix c.last_key.ensures) (after_scan c.past.new.task c.past.result)
-    (subst (λ (r : Report). IsPast c.args.task.now c.args.course c.last_key.result r (after_scan c.past.new.task c.past.result)) c.report-report-2.ensures c.past.ensures)
+    (subst (λ (r : Report). IsPast c.args.task.now c.args.course c.last_key.result r (after_scan c.past.new.task c.past.result)) c.report-report-2.ensures c.past.ensures) c.requires.facts.1
 
 pub returns-in-Some-default-Payload : goal.returns-in-Some-default-Payload
 returns-in-Some-default-Payload g c = λ env.

@@ -19,13 +19,13 @@ returns-in-Some g c = λ env.
     let f = c.requires.facts in
     rw (c.on.ensures, c.report-report-2.ensures)
     (deeper g.P.Payload.always_shared g.P.HasMeaning.same_meaning g.P.HasMeaning.meaning _ c.args.store.now.root c.args.pin c.args.task.now c.args.course _ c.requires.placed c.args.here c.node_at-node.result.now.node _ _ c.node_at-node.ensures (c.has_word.ensures.0 (search rules)) f.0
-    c.args.below f.1 f.2 f.4 c.args.from f.3 c.in-Some.reach c.in-Some.is)
+    c.args.below f.1 f.2 f.4 c.args.from f.3 f.5 c.in-Some.reach c.in-Some.is)
 
 pub unreachable-requires : goal.unreachable-requires
 unreachable-requires g c =
     let f = c.requires.facts in
     never_none g.P.Payload.always_shared g.P.HasMeaning.same_meaning g.P.HasMeaning.meaning _ c.args.store.now.root c.args.pin c.args.task.now c.args.course (no_env g.P.HasMeaning.Meaning) c.requires.placed c.args.here c.node_at-node.result.now.node _ _ c.node_at-node.ensures (c.has_word.ensures.0 (search rules)) f.0
-    c.args.below f.1 f.2 f.4 c.args.from f.3 c.in_default-first_at.ensures.none
+    c.args.below f.1 f.2 f.4 c.args.from f.3 f.5 c.in_default-first_at.ensures.none
 
 pub returns : goal.returns
 returns g c = λ env.
@@ -33,5 +33,5 @@ returns g c = λ env.
     let n = c.node_at-node.result.now.node in
     let byte = c.in-Some-first_at.byte in
     over_comes g.P.Payload.always_shared g.P.HasMeaning.same_meaning g.P.HasMeaning.meaning _ c.args.store.now.root c.args.pin c.args.task.now c.args.course _ c.requires.placed c.args.here n _ _ c.node_at-node.ensures (c.has_word.ensures.0 (search rules)) f.0
-    c.args.below f.1 f.2 f.4 c.args.from f.3 c.in_default.is byte _ _ c.in-Some-first_at.ensures.some c.last_key.result (with_prefix (λ p. c.last_key.result + 1 ≡ high (p ++ byte ∷ [])) c.prefix.result.now c.base.result.now.prefix n.prefix c.prefix.ensures.bytes c.base.ensures.prefix c.last_key.ensures) (after_scan c.past.new.task c.past.result)
+    c.args.below f.1 f.2 f.4 c.args.from f.3 f.5 c.in_default.is byte _ _ c.in-Some-first_at.ensures.some c.last_key.result (with_prefix (λ p. c.last_key.result + 1 ≡ high (p ++ byte ∷ [])) c.prefix.result.now c.base.result.now.prefix n.prefix c.prefix.ensures.bytes c.base.ensures.prefix c.last_key.ensures) (after_scan c.past.new.task c.past.result)
     (subst (λ (r : Report). IsPast c.args.task.now c.args.course c.last_key.result r (after_scan c.past.new.task c.past.result)) c.report-report-2.ensures c.past.ensures)

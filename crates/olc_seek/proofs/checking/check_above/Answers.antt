@@ -20,5 +20,6 @@ returns-then-fits g c = λ env.
 
 pub returns-else-fits : goal.returns-else-fits
 returns-else-fits g c = λ env.
-    rw (c.going-else-fits.ensures, c.report-report-2.ensures)
-    (above_nowhere g.P.Payload.always_shared g.P.HasMeaning.same_meaning _ c.args.store.now.root c.args.pin _ c.args.cleanup _ c.requires.placed c.args.path _ c.node_at.ensures (c.has_word.ensures.0 c.if-not-has_word.false) c.args.below c.args.fits c.requires.facts)
+    rw (c.going-else-fits.ensures, c.report-report-2.ensures, c.if-fits.false)
+    (above_nowhere g.P.Payload.always_shared g.P.HasMeaning.same_meaning _ c.args.store.now.root c.args.pin _ c.args.cleanup _ c.requires.placed c.args.path _ c.node_at.ensures (c.has_word.ensures.0 c.if-not-has_word.false) c.args.below
+    (subst (λ (fits : Bool). KnowsMeant g.P.Payload.always_shared g.P.HasMeaning.same_meaning g.P.HasMeaning.meaning c.args.store.now c.args.pin (record { stage = Seek c.args.cleanup (CheckAbove c.args.path c.args.below fits); task = c.args.task.now })) c.if-fits.false c.requires.facts))

@@ -10,7 +10,7 @@ pub returns-then-is_free : goal.returns-then-is_free
 returns-then-is_free g c = λ env.
     let test = subst (λ (k : ℕ). IsTrue c.leads_on-fits.result ↔ ReachesTo (bytes_of k) c.args.cleanup.length c.node_at-node.result.now.node) c.key.ensures c.leads_on-fits.ensures in
     rw (c.going.ensures, c.report-report.ensures, c.number.ensures, c.number-then-is_free.ensures)
-    (below_ok g.P.Payload.always_shared g.P.HasMeaning.same_meaning _ c.args.store.now.root c.args.pin _ c.args.cleanup _ c.requires.placed c.args.path c.args.slot _ c.leads_on-fits.result c.requires.facts c.node_at-node.ensures (c.is_free.ensures.0 c.if-is_free.true) test.0)
+    (below_ok g.P.Payload.always_shared g.P.HasMeaning.same_meaning _ c.args.store.now.root c.args.pin _ c.args.cleanup _ c.requires.placed c.args.path c.args.slot _ c.leads_on-fits.result c.requires.facts c.node_at-node.ensures (c.is_free.ensures.0 c.if-is_free.true) test)
 
 pub returns-else-is_free : goal.returns-else-is_free
 returns-else-is_free g c = λ env.

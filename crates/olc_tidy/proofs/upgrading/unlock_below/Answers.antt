@@ -4,7 +4,7 @@ use Rattle.olc_tidy.proofs.upgrading.unlock_below.Goals as goal
 
 pub returns : goal.returns
 returns g c =
-    let held = c.requires.facts.at.2 in
+    let held = c.requires.facts.at.0.held.here in
     let sets = c.unlock_node.ensures.sets held.node held.linked.here in
     record {
       moves = λ env.
