@@ -20,7 +20,8 @@ use share_calls::state::Missed;
 pub extern "C" fn congee_c_shared_first(handle: &mut Handle, pair: &mut Pair) -> i32
     ensures code { (result ≡ pos 0) ⊎ (result ≡ pos 1) ⊎ (result ≡ busy) }
     ensures present { result ≡ pos 1 → MadeCall same_number handle.old.held.guard
-        (returned (nearest first) (found (Some (pair.new.key, pair.new.value)))) handle.new.held.guard }
+        (returned (nearest first) (found (Some (pair.new.key, pair.new.value))))
+        handle.new.held.guard }
     ensures absent { result ≡ pos 0 → MadeCall same_number handle.old.held.guard
         (returned (nearest first) (found None)) handle.new.held.guard }
     ensures missed { result ≡ busy → handle.new.held ≡ handle.old.held }
@@ -36,7 +37,8 @@ pub extern "C" fn congee_c_shared_first(handle: &mut Handle, pair: &mut Pair) ->
 pub extern "C" fn congee_c_shared_last(handle: &mut Handle, pair: &mut Pair) -> i32
     ensures code { (result ≡ pos 0) ⊎ (result ≡ pos 1) ⊎ (result ≡ busy) }
     ensures present { result ≡ pos 1 → MadeCall same_number handle.old.held.guard
-        (returned (nearest last) (found (Some (pair.new.key, pair.new.value)))) handle.new.held.guard }
+        (returned (nearest last) (found (Some (pair.new.key, pair.new.value))))
+        handle.new.held.guard }
     ensures absent { result ≡ pos 0 → MadeCall same_number handle.old.held.guard
         (returned (nearest last) (found None)) handle.new.held.guard }
     ensures missed { result ≡ busy → handle.new.held ≡ handle.old.held }
@@ -52,7 +54,8 @@ pub extern "C" fn congee_c_shared_last(handle: &mut Handle, pair: &mut Pair) -> 
 pub extern "C" fn congee_c_shared_floor(handle: &mut Handle, key: u64, pair: &mut Pair) -> i32
     ensures code { (result ≡ pos 0) ⊎ (result ≡ pos 1) ⊎ (result ≡ busy) }
     ensures present { result ≡ pos 1 → MadeCall same_number handle.old.held.guard
-        (returned (nearest (floor key)) (found (Some (pair.new.key, pair.new.value)))) handle.new.held.guard }
+        (returned (nearest (floor key)) (found (Some (pair.new.key, pair.new.value))))
+        handle.new.held.guard }
     ensures absent { result ≡ pos 0 → MadeCall same_number handle.old.held.guard
         (returned (nearest (floor key)) (found None)) handle.new.held.guard }
     ensures missed { result ≡ busy → handle.new.held ≡ handle.old.held }
@@ -68,7 +71,8 @@ pub extern "C" fn congee_c_shared_floor(handle: &mut Handle, key: u64, pair: &mu
 pub extern "C" fn congee_c_shared_ceiling(handle: &mut Handle, key: u64, pair: &mut Pair) -> i32
     ensures code { (result ≡ pos 0) ⊎ (result ≡ pos 1) ⊎ (result ≡ busy) }
     ensures present { result ≡ pos 1 → MadeCall same_number handle.old.held.guard
-        (returned (nearest (ceiling key)) (found (Some (pair.new.key, pair.new.value)))) handle.new.held.guard }
+        (returned (nearest (ceiling key)) (found (Some (pair.new.key, pair.new.value))))
+        handle.new.held.guard }
     ensures absent { result ≡ pos 0 → MadeCall same_number handle.old.held.guard
         (returned (nearest (ceiling key)) (found None)) handle.new.held.guard }
     ensures missed { result ≡ busy → handle.new.held ≡ handle.old.held }
@@ -84,7 +88,8 @@ pub extern "C" fn congee_c_shared_ceiling(handle: &mut Handle, key: u64, pair: &
 pub extern "C" fn congee_c_shared_below(handle: &mut Handle, key: u64, pair: &mut Pair) -> i32
     ensures code { (result ≡ pos 0) ⊎ (result ≡ pos 1) ⊎ (result ≡ busy) }
     ensures present { result ≡ pos 1 → MadeCall same_number handle.old.held.guard
-        (returned (nearest (below key)) (found (Some (pair.new.key, pair.new.value)))) handle.new.held.guard }
+        (returned (nearest (below key)) (found (Some (pair.new.key, pair.new.value))))
+        handle.new.held.guard }
     ensures absent { result ≡ pos 0 → MadeCall same_number handle.old.held.guard
         (returned (nearest (below key)) (found None)) handle.new.held.guard }
     ensures missed { result ≡ busy → handle.new.held ≡ handle.old.held }
@@ -100,7 +105,8 @@ pub extern "C" fn congee_c_shared_below(handle: &mut Handle, key: u64, pair: &mu
 pub extern "C" fn congee_c_shared_above(handle: &mut Handle, key: u64, pair: &mut Pair) -> i32
     ensures code { (result ≡ pos 0) ⊎ (result ≡ pos 1) ⊎ (result ≡ busy) }
     ensures present { result ≡ pos 1 → MadeCall same_number handle.old.held.guard
-        (returned (nearest (above key)) (found (Some (pair.new.key, pair.new.value)))) handle.new.held.guard }
+        (returned (nearest (above key)) (found (Some (pair.new.key, pair.new.value))))
+        handle.new.held.guard }
     ensures absent { result ≡ pos 0 → MadeCall same_number handle.old.held.guard
         (returned (nearest (above key)) (found None)) handle.new.held.guard }
     ensures missed { result ≡ busy → handle.new.held ≡ handle.old.held }

@@ -89,7 +89,8 @@ impl Work<u64, (), State, ()> for Exchange {
     ghost use Rattle.spec_map.specs.Call.{compare_exchange, exchanged};
     ghost use Rattle.share_calls.specs.Made.{returned};
 
-    ghost made = { λ w _. returned (compare_exchange w.key w.expected w.desired) (exchanged w.result) ∷ [] };
+    ghost made = { λ w _.
+        returned (compare_exchange w.key w.expected w.desired) (exchanged w.result) ∷ [] };
 
     ghost does = { λ old _ _ new _. (new.key ≡ old.key) × (new.expected ≡ old.expected)
         × (new.desired ≡ old.desired) × IfOk new.result (λ stored. stored ≡ old.desired) };

@@ -61,7 +61,8 @@ impl<E: RangeEntry> Work<u64, (), State, E> for RangeInclusive {
 
     ghost does = { λ old before value new after. (new.start ≡ old.start) × (new.last ≡ old.last)
         × (new.room ≡ old.room)
-        × AreWritten E.entry (between value.map.pairs new.start (new.last + 1)) before new.written after };
+        × AreWritten E.entry (between value.map.pairs new.start (new.last + 1))
+        before new.written after };
 
     fn work(&mut self, value: &mut State, buffer: &mut [E]) {
         self.written = value.map.range_inclusive_of(self.start, self.last, buffer);
@@ -85,7 +86,8 @@ impl<E: RangeEntry> Work<u64, (), State, E> for RangeDescending {
         (between value.map.pairs w.start (w.last + 1)) };
 
     ghost does = { λ old before value new after. (new.start ≡ old.start) × (new.last ≡ old.last)
-        × AreWritten E.entry (reverse (between value.map.pairs old.start (old.last + 1))) before new.written after };
+        × AreWritten E.entry (reverse (between value.map.pairs old.start (old.last + 1)))
+        before new.written after };
 
     fn work(&mut self, value: &mut State, buffer: &mut [E]) {
         self.written = value.map.range_descending_of(self.start, self.last, buffer);
@@ -102,9 +104,11 @@ impl Guard {
         buffer: &mut [E],
     ) -> Result<usize, Missed>
         ensures made { IfOk result (λ written. (pairs : Pairs ℕ)
-            × MadeCall same_number self.old (returned (range start end (length buffer.old)) (ranged pairs)) self.new
+            × MadeCall same_number self.old
+            (returned (range start end (length buffer.old)) (ranged pairs)) self.new
             × (written ≡ length pairs)
-            × (buffer.new ≡ map (λ pair. E.entry pair.0 pair.1) pairs ++ drop (length pairs) buffer.old)) }
+            × (buffer.new ≡ map (λ pair. E.entry pair.0 pair.1) pairs
+            ++ drop (length pairs) buffer.old)) }
         ensures missed { OnErr result ((self.new ≡ self.old) × (buffer.new ≡ buffer.old)) }
         ensures free { result ≢ Err Missed.Oom }
     {
@@ -128,9 +132,11 @@ impl Guard {
         buffer: &mut [E],
     ) -> Result<usize, Missed>
         ensures made { IfOk result (λ written. (pairs : Pairs ℕ)
-            × MadeCall same_number self.old (returned (range start (last + 1) (length buffer.old)) (ranged pairs)) self.new
+            × MadeCall same_number self.old
+            (returned (range start (last + 1) (length buffer.old)) (ranged pairs)) self.new
             × (written ≡ length pairs)
-            × (buffer.new ≡ map (λ pair. E.entry pair.0 pair.1) pairs ++ drop (length pairs) buffer.old)) }
+            × (buffer.new ≡ map (λ pair. E.entry pair.0 pair.1) pairs
+            ++ drop (length pairs) buffer.old)) }
         ensures missed { OnErr result ((self.new ≡ self.old) × (buffer.new ≡ buffer.old)) }
         ensures free { result ≢ Err Missed.Oom }
     {
@@ -157,7 +163,8 @@ impl Guard {
         ensures made { IfOk result (λ written. (total : ℕ) × (pairs : Pairs ℕ)
             × MadeCalls same_number self.old (listing start (last + 1) total pairs) self.new
             × (written ≡ min (length buffer.old) (length pairs))
-            × (buffer.new ≡ take written (map (λ pair. E.entry pair.0 pair.1) (reverse pairs)) ++ drop written buffer.old)) }
+            × (buffer.new ≡ take written (map (λ pair. E.entry pair.0 pair.1) (reverse pairs))
+            ++ drop written buffer.old)) }
         ensures missed { OnErr result ((self.new ≡ self.old) × (buffer.new ≡ buffer.old)) }
         ensures free { result ≢ Err Missed.Oom }
     {

@@ -127,7 +127,8 @@ impl Guard {
     /// moment, whose pairs were counted then.
     pub fn charged(&mut self) -> Result<u128, Missed>
         ensures made { IfOk result (λ bytes. (tree : TreeView ℕ BudgetView)
-            × MadeCall same_number self.old (returned count_call (counted (length tree.pairs))) self.new
+            × MadeCall same_number self.old
+            (returned count_call (counted (length tree.pairs))) self.new
             × IsChargeOf tree bytes) }
         ensures missed { OnErr result (self.new ≡ self.old) }
         ensures free { result ≢ Err Missed.Oom }
