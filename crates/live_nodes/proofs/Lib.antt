@@ -1,0 +1,4 @@
+pub mod Faces
+pub mod Frames
+pub mod Rooms
+pub mod Steps

@@ -1,0 +1,120 @@
+//! All nodes of one book, with their words in memory: the root's, and segments that come in while others read.
+ghost use Rattle.std.specs.Prelude.{◌≡◌, ℕ, ◌+◌, ◌<◌, ◌≤◌, ◌^◌, [], ◌∷◌, length, replicate, None, IfOk, IfSome, IfNone, OnErr};
+ghost use Rattle.word_book.specs.Book.{Book, book_coded, name};
+ghost use Rattle.word_segments.specs.Segments.{AreWords};
+ghost use Rattle.live_nodes.specs.Nodes.{node_at};
+ghost use Rattle.live_nodes.specs.Seats.{seat_view, place, no_room};
+ghost use Rattle.live_nodes.specs.Acts.{Admits};
+ghost use Rattle.live_nodes.specs.Plays.{given};
+
+use crate::law::{Law, NodeLaw, Seat, View, Word};
+use crate::plays::Idle;
+use crate::room;
+use std::alloc::{AllocError, Global};
+use std::marker::Model;
+use word_book::seat::Pens;
+use word_segments::place::before_of;
+use word_segments::segments::{Segments, made};
+
+/// The words of all nodes. `door` lets threads enter.
+#[derive(Drop)]
+pub struct Heap<V, L: NodeLaw<V>> {
+    trunk: Vec<Word<V, L>>,
+    segments: Segments<View<V, L>, Law<L>>,
+    door: Seat<V, L>,
+}
+
+impl<V, L: NodeLaw<V>> Model for Heap<V, L> {
+    ghost Value = { Book };
+
+    ghost coded = { book_coded };
+
+    ghost view = { λ h. h.door.book };
+
+    ghost invariant = { λ h. (length h.trunk.items ≡ L.root + 2) × AreWords 0 h.door.book h.trunk.items
+        × (h.segments ≡ record { base = L.root + 2; book = h.door.book }) };
+}
+
+// The first words of a book.
+fn trunk_of<V, L: NodeLaw<V>>(
+    alloc: Global,
+    count: usize,
+    pens: Pens,
+) -> Result<Vec<Word<V, L>>, AllocError>
+    requires { (pens.left ≡ count) × (pens.next ≡ 0) }
+    ensures { IfOk result (λ words. (length words.items ≡ count) × AreWords 0 pens.book words.items) }
+{
+    let mut pens = pens;
+    let mut words = Vec::with_capacity(alloc, count)?;
+    let mut i = 0;
+    while i < count {
+        words.push_reserved(Word::of(&mut pens));
+        i += 1;
+    }
+    Ok(words)
+}
+
+impl<V, L: NodeLaw<V>> Heap<V, L> {
+    /// The root alone, whose content is all 0.
+    pub fn new(alloc: Global, root: usize) -> Result<Heap<V, L>, AllocError>
+        requires root { (root ≡ L.root) × (root < 2 ^ 32) }
+        requires law { L.holds (node_at 1 0 (replicate root 0) None ∷ []) (L.first ∷ []) }
+    {
+        let (door, pens) = room::open::<V, L>(root);
+        let trunk = trunk_of::<V, L>(alloc, root + 2, pens)?;
+        let segments = Segments::new(alloc, root as u64 + 2, &trunk[0])?;
+        Ok(Heap {
+            trunk,
+            segments,
+            door,
+        })
+    }
+
+    /// One more seat. It knows the root's place.
+    pub fn enter(&self) -> Seat<V, L>
+        requires { Admits L.holds L.first }
+        ensures book { result.book ≡ self.now }
+        ensures view { result.view ≡ seat_view L.first (place 0 1 L.root ∷ []) [] [] no_room }
+    {
+        room::enter(&self.door)
+    }
+
+    /// The word with a key. `None` where its segment isn't there yet, or never will be. The root's words are always there.
+    pub fn word(&self, key: u64) -> Option<&Word<V, L>>
+        ensures word { IfSome result (λ word. word.now ≡ name key self.now) }
+        ensures none { IfNone result (L.root + 2 ≤ key) }
+    {
+        let first = self.trunk.len() as u64;
+        if key < first {
+            return Some(&self.trunk[key as usize]);
+        }
+        self.segments.get(key)
+    }
+
+    /// One more segment, which is the seat's room from then on: the key of its first word. `None` where another thread is
+    /// just making one.
+    pub fn grow(&self, alloc: Global, seat: &mut Seat<V, L>) -> Result<Option<u64>, AllocError>
+        requires { seat.old.book ≡ self.now }
+        ensures seat { (seat.new.book ≡ seat.old.book) × (seat.new.id ≡ seat.old.id) }
+        ensures room { IfOk result (λ grown. IfSome grown (λ key. (n : ℕ)
+            × (1024 ≤ n) × (key < 2 ^ 62) × (seat.new.view ≡ given seat.old.view key n))) }
+        ensures lost { IfOk result (λ grown. IfNone grown (seat.new.view ≡ seat.old.view)) }
+        ensures refused { OnErr result (seat.new.view ≡ seat.old.view) }
+    {
+        let first = self.trunk.len() as u64;
+        let count = &self.trunk[0];
+        let number = count.load::<Idle>(seat);
+        if number >= 1 << 44 || first >= 1 << 33 {
+            return Err(AllocError);
+        }
+        let Some(words) = self.segments.reserve(alloc, number)? else {
+            return Ok(None);
+        };
+        let (grown, pens) = room::grow(count, number, seat);
+        if !grown {
+            return Ok(None);
+        }
+        drop(self.segments.set(number, made(number, words, pens)));
+        Ok(Some(first + before_of(number)))
+    }
+}

@@ -1,0 +1,21 @@
+//! Nodes that threads lock one by one and read without a lock, in the words of a book.
+//!
+//! A node is a range of words: its version word, and then its content. A caller above states a law of all nodes and of
+//! what its own seats know, and shows that each step keeps it. That takes no lock and no pin: who remembers an older
+//! version word finds another one, and a node's words never leave the book.
+//!
+//! A seat knows of nodes
+//!
+//! - where some lie, for good
+//! - words that it took, with what it has read since. That is current while the word is there
+//! - nodes that it holds, with what it has written there
+//! - its *room*: words for new nodes, which no other seat writes
+//!
+//! Tested in `test_live_nodes`.
+#![tactic(auto)]
+
+pub mod heap;
+pub mod law;
+pub mod node;
+pub mod plays;
+pub mod room;

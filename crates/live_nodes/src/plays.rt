@@ -1,0 +1,108 @@
+//! What the steps tell, and what a caller picks of it.
+ghost use Rattle.live_nodes.specs.Plays.{Takes, Sees, Idles, Checks, Locks, Writes, Frees, Keeps, Puts, Makes, Grows};
+
+use crate::law::{NodeLaw, View};
+use std::marker::PhantomData;
+use word_book::word::Play;
+
+/// What a caller learns at a check: of its view before, the node, its word, what was read of it, where other nodes lie, and
+/// its view after.
+pub trait Lesson<V> {
+    ghost use Rattle.std.specs.Prelude.{ℕ, List};
+    ghost use Rattle.live_nodes.specs.Seats.{Place};
+
+    ghost told: { V → ℕ → ℕ → List (ℕ × ℕ) → List Place → V → Type 0 };
+}
+
+/// What a caller learns as it locks a node or frees it: of its view before, the node, its content, and its view after.
+pub trait Change<V> {
+    ghost use Rattle.std.specs.Prelude.{ℕ};
+    ghost use Rattle.live_nodes.specs.Nodes.{Content};
+
+    ghost told: { V → ℕ → Content → V → Type 0 };
+}
+
+/// What a caller learns as it makes a node: of its view before, the node's place, its content, its number, and its view
+/// after.
+pub trait Birth<V> {
+    ghost use Rattle.std.specs.Prelude.{ℕ};
+    ghost use Rattle.live_nodes.specs.Nodes.{Content};
+
+    ghost told: { V → ℕ → Content → ℕ → V → Type 0 };
+}
+
+pub struct Take;
+
+impl<V, L: NodeLaw<V>> Play<View<V, L>> for Take {
+    ghost then = { Takes };
+}
+
+pub struct See;
+
+impl<V, L: NodeLaw<V>> Play<View<V, L>> for See {
+    ghost then = { Sees };
+}
+
+pub struct Idle;
+
+impl<V, L: NodeLaw<V>> Play<View<V, L>> for Idle {
+    ghost then = { Idles };
+}
+
+pub struct Check<M> {
+    of: PhantomData<M>,
+}
+
+impl<V, L: NodeLaw<V>, M: Lesson<V>> Play<View<V, L>> for Check<M> {
+    ghost then = { Checks M.told };
+}
+
+pub struct Lock<M> {
+    of: PhantomData<M>,
+}
+
+impl<V, L: NodeLaw<V>, M: Change<V>> Play<View<V, L>> for Lock<M> {
+    ghost then = { Locks M.told };
+}
+
+pub struct Write;
+
+impl<V, L: NodeLaw<V>> Play<View<V, L>> for Write {
+    ghost then = { Writes };
+}
+
+pub struct Free<M> {
+    of: PhantomData<M>,
+}
+
+impl<V, L: NodeLaw<V>, M: Change<V>> Play<View<V, L>> for Free<M> {
+    ghost then = { Frees M.told };
+}
+
+pub struct Keep<M> {
+    of: PhantomData<M>,
+}
+
+impl<V, L: NodeLaw<V>, M: Change<V>> Play<View<V, L>> for Keep<M> {
+    ghost then = { Keeps M.told };
+}
+
+pub struct Put;
+
+impl<V, L: NodeLaw<V>> Play<View<V, L>> for Put {
+    ghost then = { Puts };
+}
+
+pub struct Make<M> {
+    of: PhantomData<M>,
+}
+
+impl<V, L: NodeLaw<V>, M: Birth<V>> Play<View<V, L>> for Make<M> {
+    ghost then = { Makes M.told };
+}
+
+pub struct Grow;
+
+impl<V, L: NodeLaw<V>> Play<View<V, L>> for Grow {
+    ghost then = { Grows L.root };
+}

@@ -1,0 +1,179 @@
+//! The directory.
+ghost use Rattle.std.specs.Prelude.{◌≡◌, ℕ, ◌+◌, ◌-◌, ◌<◌, ◌≤◌, ◌^◌, [], ◌∷◌, length, IfOk, IfErr, IfSome};
+ghost use Rattle.boxcar.specs.Table.{span, first, others, Tagged};
+ghost use Rattle.word_book.specs.Book.{name};
+ghost use Rattle.word_segments.specs.Segments.{size, Directed, directed_coded, first_key, AreWords, IsSegment, numbers, directed_by};
+
+use crate::place::{SHELVES, locate, shelve, size_of, span_of};
+use boxcar::slot::{OnceSlot, SlotRule};
+use boxcar::tag::{Names, Tag};
+use std::alloc::{AllocError, Global};
+use std::marker::Model;
+use word_book::seat::{Pens, Rule};
+use word_book::word::Word;
+
+// One past the last place of a word.
+const LIMIT: u64 = 1 << 60;
+
+/// What is in a slot of a shelf, by the segment's number and the directory's numbers.
+pub struct InOrder;
+
+impl<V, P: Rule<V>> SlotRule<Vec<Word<V, P>>> for InOrder {
+    ghost holds = { λ t s. IsSegment (directed_by (others t)) (first t) s.items };
+}
+
+/// What is in a slot of a directory, by the shelf's number.
+pub struct OfShelves;
+
+impl<V, P: Rule<V>> SlotRule<Vec<OnceSlot<Vec<Word<V, P>>, InOrder>>> for OfShelves {
+    ghost holds = { λ t s. Tagged (others t) (span (first t) - 32) (span (first t)) s.items };
+}
+
+// The first key, and a word of the book.
+struct Origin<'a, V, P: Rule<V>> {
+    base: u64,
+    word: &'a Word<V, P>,
+}
+
+struct OfOrigin;
+
+impl<'a, V, P: Rule<V>> Names<Origin<'a, V, P>> for OfOrigin {
+    ghost numbers = { λ o. numbers record { base = o.base; book = o.word.now.book } };
+}
+
+// A number before those of a tag.
+struct Numbered<'a> {
+    number: usize,
+    tag: &'a Tag,
+}
+
+struct OfNumbered;
+
+impl<'a> Names<Numbered<'a>> for OfNumbered {
+    ghost numbers = { λ n. n.number ∷ n.tag.now.numbers };
+}
+
+fn with_number(number: usize, tag: &Tag) -> Tag
+    ensures { result.numbers ≡ number ∷ tag.now.numbers }
+{
+    let numbered = Numbered { number, tag };
+    let tag = Tag::of::<Numbered<'_>, OfNumbered>(&numbered);
+    let Numbered { number: _, tag: _ } = numbered;
+    tag
+}
+
+/// The segments of a book, by number. The key of the first one's first word is fixed when it is made.
+#[derive(Drop)]
+pub struct Segments<V, P: Rule<V>> {
+    shelves: Vec<OnceSlot<Vec<OnceSlot<Vec<Word<V, P>>, InOrder>>, OfShelves>>,
+    base: u64,
+    tag: Tag,
+}
+
+impl<V, P: Rule<V>> Model for Segments<V, P> {
+    ghost Value = { Directed };
+
+    ghost coded = { directed_coded };
+
+    ghost view = { λ s. directed_by s.tag.numbers };
+
+    ghost invariant = { λ s. Tagged s.tag.numbers 0 40 s.shelves.items × (first s.tag.numbers ≡ s.base) };
+}
+
+/// The words of a segment, in memory that is there.
+pub fn made<V, P: Rule<V>>(number: u64, words: Vec<Word<V, P>>, pens: Pens) -> Vec<Word<V, P>>
+    requires room { (words.items ≡ []) × (size number ≤ words.cap) }
+    requires rights { pens.left ≡ size number }
+    ensures count { length result.items ≡ size number }
+    ensures words { AreWords pens.next pens.book result.items }
+{
+    let mut words = words;
+    let mut pens = pens;
+    let count = size_of(number);
+    let mut i = 0usize;
+    while i < count {
+        words.push_reserved(Word::of(&mut pens));
+        i += 1;
+    }
+    words
+}
+
+impl<V, P: Rule<V>> Segments<V, P> {
+    /// No segments yet. The first one's first word will have the key `base`, in the book of this word.
+    pub fn new(alloc: Global, base: u64, word: &Word<V, P>) -> Result<Segments<V, P>, AllocError>
+        ensures { IfOk result (λ s. s ≡ record { base = base; book = word.now.book }) }
+    {
+        let origin = Origin { base, word };
+        let tag = Tag::of::<Origin<'_, V, P>, OfOrigin>(&origin);
+        let Origin { base: _, word: _ } = origin;
+        let shelves = row(alloc, &tag, 0, SHELVES)?;
+        Ok(Segments { shelves, base, tag })
+    }
+
+    /// The word with a key, if its segment is in the directory.
+    pub fn get(&self, key: u64) -> Option<&Word<V, P>>
+        requires { self.now.base ≤ key }
+        ensures { IfSome result (λ word. word.now ≡ name key self.now.book) }
+    {
+        let place = key - self.base;
+        if place >= LIMIT {
+            return None;
+        }
+        let (number, offset) = locate(place);
+        let (shelf, slot) = shelve(number);
+        let slots = self.shelves[shelf].get()?;
+        let segment = slots[slot].get()?;
+        Some(&segment[offset as usize])
+    }
+
+    /// Memory for a segment, which then has a shelf. `None` where another thread is just making that.
+    pub fn reserve(&self, alloc: Global, number: u64) -> Result<Option<Vec<Word<V, P>>>, AllocError>
+        requires { number < 2 ^ 44 }
+        ensures { IfOk result (λ got. IfSome got (λ words. (words.items ≡ []) × (size number ≤ words.cap))) }
+    {
+        let (shelf, _) = shelve(number);
+        if self.shelves[shelf].get().is_none() {
+            let span = span_of(shelf);
+            drop(self.shelves[shelf].set(row(alloc, &self.tag, span - 32, span)?));
+        }
+        if self.shelves[shelf].get().is_none() {
+            return Ok(None);
+        }
+        Ok(Some(Vec::with_capacity(alloc, size_of(number))?))
+    }
+
+    /// Puts a segment into the directory. It comes back where another is there, or where it has no shelf.
+    pub fn set(&self, number: u64, words: Vec<Word<V, P>>) -> Result<(), Vec<Word<V, P>>>
+        requires number { number < 2 ^ 44 }
+        requires segment { IsSegment self.now number words.items }
+        ensures { IfErr result (λ back. back.items ≡ words.items) }
+    {
+        let (shelf, slot) = shelve(number);
+        let Some(slots) = self.shelves[shelf].get() else {
+            return Err(words);
+        };
+        match slots[slot].set(words) {
+            Ok(_) => Ok(()),
+            Err(words) => Err(words),
+        }
+    }
+}
+
+// Empty slots, tagged by the numbers from one on.
+fn row<T: Drop, Q: SlotRule<T>>(
+    alloc: Global,
+    tag: &Tag,
+    from: usize,
+    count: usize,
+) -> Result<Vec<OnceSlot<T, Q>>, AllocError>
+    requires { from + count < 2 ^ 64 }
+    ensures { IfOk result (λ v. Tagged tag.now.numbers from count v.items) }
+{
+    let mut slots = Vec::with_capacity(alloc, count)?;
+    let mut j = 0;
+    while j < count {
+        slots.push_reserved(OnceSlot::new(&with_number(from + j, tag)));
+        j += 1;
+    }
+    Ok(slots)
+}
