@@ -1,0 +1,119 @@
+//! The rule of the sharded lock, and how its steps change what a seat knows.
+
+use crate::view::View;
+use atomic_table::{Join, Play, Split, TableRule};
+use std::marker::{Brand, PhantomData};
+
+/// What is in the slot of a shard: it contains the part of a map of values T whose keys are of the shard.
+pub trait Sharded<T> {
+    ghost use Rattle.std.specs.Prelude.{ℕ, Bool};
+    ghost use Rattle.spec_map.specs.Map.{Pairs};
+
+    ghost same: { T → T → Bool };
+
+    // What it contains.
+    ghost content: { Self → Pairs T → Type 0 };
+
+    // The shard of a key.
+    ghost shard: { ℕ → ℕ };
+
+    // How many shards there are.
+    ghost count: { ℕ };
+}
+
+/// The rule of the lock.
+pub struct Law<T, S> {
+    of: PhantomData<(T, S)>,
+}
+
+impl<T, S: Sharded<T>> TableRule<Option<S>, View<T, S>, ()> for Law<T, S> {
+    ghost use Rattle.share_shards.specs.inner.Rule.{ShardRule};
+    ghost use Rattle.share_shards.specs.inner.SeatView.{Blank};
+
+    ghost holds = { λ _. ShardRule S.same S.content S.shard S.count };
+
+    ghost first = { λ _. Blank };
+}
+
+/// A try: the lock of a shard was won, or nothing changed.
+pub struct Try;
+
+impl<T, S: Sharded<T>> Play<Option<S>, View<T, S>> for Try {
+    ghost use Rattle.share_shards.specs.inner.Steps.{Tries};
+
+    ghost then = { Tries S.same S.content };
+}
+
+/// What a hold has done: the operations that were made in it, in order.
+pub trait Done<T> {
+    ghost use Rattle.std.specs.Prelude.{ℕ, List};
+    ghost use Rattle.spec_map.specs.Call.{Operation};
+
+    ghost operations: { List (Operation ℕ T T) };
+}
+
+impl<T> Done<T> for Brand {
+    ghost use Rattle.std.specs.Prelude.{[]};
+
+    ghost operations = { [] };
+}
+
+/// The lock of a shard is released after a hold.
+pub struct Release<D> {
+    of: PhantomData<D>,
+}
+
+impl<T, S: Sharded<T>, D: Done<T>> Play<Option<S>, View<T, S>> for Release<D> {
+    ghost use Rattle.share_shards.specs.inner.Steps.{Releases};
+
+    ghost then = { Releases S.same D.operations };
+}
+
+/// A blank seat gets a caller of its own.
+pub struct Enter;
+
+impl<T, S> Play<Option<S>, View<T, S>> for Enter {
+    ghost use Rattle.share_shards.specs.inner.Steps.{Enters};
+
+    ghost then = { Enters };
+}
+
+/// Two callers at one seat see the whole history.
+pub struct Meet;
+
+impl<T, S: Sharded<T>> Play<Option<S>, View<T, S>> for Meet {
+    ghost use Rattle.share_shards.specs.inner.Steps.{Meets};
+
+    ghost then = { Meets S.same };
+}
+
+/// A seat makes a blank one.
+pub struct Cut;
+
+impl<T, S> Split<View<T, S>> for Cut {
+    ghost use Rattle.share_shards.specs.inner.SeatView.{Blank};
+
+    ghost left = { λ v. v };
+
+    ghost right = { λ v. Blank };
+}
+
+/// Two callers at one seat, and back.
+pub struct Pair;
+
+impl<T, S> Join<View<T, S>> for Pair {
+    ghost use Rattle.share_shards.specs.inner.SeatView.{Blank};
+    ghost use Rattle.share_shards.specs.inner.Steps.{both_of};
+
+    ghost both = { both_of };
+
+    ghost spent = { Blank };
+}
+
+impl<T, S> Split<View<T, S>> for Pair {
+    ghost use Rattle.share_shards.specs.inner.Steps.{first_of, second_of};
+
+    ghost left = { first_of };
+
+    ghost right = { second_of };
+}
