@@ -6,7 +6,7 @@ CALLS = ("new", "get", "overwrite")
 THREADS = (1, 2, 4)
 # The forms of the plots, by their names in the tables.
 FORMS = {
-    "`congee::locked`": "locked", "`congee::shared`": "shared", "the owned map in the same mutex, by hand": "hand",
+    "`congee::locked`": "locked", "`congee::shared`": "shared", "the owned map in a mutex, by hand": "hand",
     "Rust: `Mutex<BTreeMap>`": "btree", "Rust: the crate `congee`": "crate",
 }
 
