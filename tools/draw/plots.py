@@ -30,8 +30,7 @@ FORMS = {
 OWNED = {"this map": "own", "congee 0.4.1": "crate", "BTreeMap": "tree"}
 THREADS = {
     "shared": ("congee::shared", "second"), "locked": ("congee::locked", "own"),
-    "btree": ("Mutex<BTreeMap>", "tree"), "hand": ("the owned map in a mutex", "hand"),
-    "crate": ("the crate congee", "crate"),
+    "hand": ("the owned map in a mutex", "hand"),
 }
 CALLS = {"new": "a new key", "get": "get", "overwrite": "overwrite"}
 

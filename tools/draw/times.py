@@ -7,7 +7,6 @@ THREADS = (1, 2, 4)
 # The forms of the plots, by their names in the tables.
 FORMS = {
     "`congee::locked`": "locked", "`congee::shared`": "shared", "the owned map in a mutex, by hand": "hand",
-    "Rust: `Mutex<BTreeMap>`": "btree", "Rust: the crate `congee`": "crate",
 }
 
 
