@@ -3,7 +3,7 @@ use Rattle.std.proofs.Common.{◌≡◌, ℕ, ◌+◌, ◌≤◌, List, [], ◌�
 use Rattle.spec_map.specs.Map.{Pairs, Rises}
 use Rattle.node_table.specs.Key.{low}
 use Rattle.node_table.specs.Table.{NodeInfo, pairs_of, nodes_of, AreChildren}
-use Rattle.node_table.specs.declared.child.Child.{Child}
+use Rattle.node_table.specs.TableNode.{Child}
 use Rattle.node_table.specs.declared.child.Child.TheVariants.{Payload, Node}
 
 module _ {P : Type 0} where

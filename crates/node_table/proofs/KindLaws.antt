@@ -6,7 +6,7 @@ use Rattle.spec_map.proofs.RangeLaws.{between-next}
 use Rattle.node_base.specs.Form.{Fits}
 use Rattle.node_table.specs.inner.Kinds.{mapped, node_of}
 use Rattle.node_base.specs.declared.base_node.NodeType.{NodeType}
-use Rattle.node_table.specs.declared.child.Child.{Child}
+use Rattle.node_table.specs.declared.child.Child.{Child as ChildOf}
 
 module _ {C D : Type 0} (f : C → D) where
   pub length-mapped : (es : List (ℕ × C)) → length (mapped f es) ≡ length es
@@ -90,13 +90,13 @@ module _ {C D : Type 0} (f : C → D) where
   pub fits_here : (a : NodeType) (es : List (ℕ × C)) (k : ℕ) → Fits a (length (mapped f es) + k) → Fits a (length es + k)
   fits_here a es k h = subst (λ l. Fits a (l + k)) (length-mapped es) h
 
--- a node whose children are made into payloads or slots
-module _ {C P : Type 0} (f : C → Child P) where
-  pub put_into : (a b : NodeType) (p q : List ℕ) (es ds : List (ℕ × C)) (k : ℕ) (c : C) → b ≡ a → q ≡ p → ds ≡ put es k c
+-- a node whose children are made of others
+module _ {D P C : Type 0} (f : D → ChildOf P C) where
+  pub put_into : (a b : NodeType) (p q : List ℕ) (es ds : List (ℕ × D)) (k : ℕ) (c : D) → b ≡ a → q ≡ p → ds ≡ put es k c
       → node_of f b q ds ≡ record (node_of f a p es) { children = put (mapped f es) k (f c) }
   put_into a b p q es ds k c x y z = rw (x, y, z) (ap (λ l. record (node_of f a p es) { children = l }) (put-mapped f es k c))
 
-  pub taken_from : (a b : NodeType) (p q : List ℕ) (es ds : List (ℕ × C)) (k : ℕ) → b ≡ a → q ≡ p → ds ≡ without es k
+  pub taken_from : (a b : NodeType) (p q : List ℕ) (es ds : List (ℕ × D)) (k : ℕ) → b ≡ a → q ≡ p → ds ≡ without es k
       → node_of f b q ds ≡ record (node_of f a p es) { children = without (mapped f es) k }
   taken_from a b p q es ds k x y z = rw (x, y, z) (ap (λ l. record (node_of f a p es) { children = l }) (without-mapped f es k))
 

@@ -6,8 +6,7 @@ use Rattle.spec_map.specs.Map.{lookup, put, Rises}
 use Rattle.node_table.specs.Key.{Begins}
 use Rattle.node_table.specs.Table.{NodeTable, NodeInfo, node_at, node_info, nodes_under, nodes_of, nodes_at, IsChild, AreChildren, IsTree}
 use Rattle.node_table.specs.Shape.{Replaces, AreUnder, AllBegin}
-use Rattle.node_table.specs.TableNode.{TableNode}
-use Rattle.node_table.specs.declared.child.Child.{Child}
+use Rattle.node_table.specs.TableNode.{TableNode, Child}
 use Rattle.node_table.specs.declared.child.Child.TheVariants.{Payload, Node}
 use Rattle.spec_map.proofs.MapLaws.{lookup-below}
 use Rattle.node_table.proofs.DownLaws.{Begins-trans, KeepsBelow, KeepsOthers, keeps_longer, keeps_sibling}

@@ -4,8 +4,7 @@ use Rattle.std.proofs.lemmas.List.{take-append-drop}
 use Rattle.spec_map.specs.Map.{put, Rises}
 use Rattle.node_table.specs.Key.{AreBytes}
 use Rattle.node_table.specs.Table.{IsSound}
-use Rattle.node_table.specs.TableNode.{TableNode}
-use Rattle.node_table.specs.declared.child.Child.{Child}
+use Rattle.node_table.specs.TableNode.{TableNode, Child}
 use Rattle.spec_map.proofs.MapLaws.{Rises-put}
 use Rattle.node_table.proofs.KeyLaws.{AreBytes-append_left}
 

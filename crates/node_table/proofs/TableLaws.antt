@@ -8,9 +8,8 @@ use Rattle.spec_map.proofs.JoinLaws.{lookup-above}
 use Rattle.node_table.proofs.KeyLaws.{room-positive, low-begins, high-begins, off_prefix, goes_on, key_number_at}
 use Rattle.node_table.proofs.ChildrenLaws as laws
 use Rattle.node_table.specs.Table.{IsSound}
-use Rattle.node_table.specs.TableNode.{TableNode}
+use Rattle.node_table.specs.TableNode.{TableNode, Child}
 use Rattle.node_table.specs.Table.{NodeTable, node_at, pairs_under, pairs_of, pairs_at, IsChild, AreChildren, IsTree, IsSubtree}
-use Rattle.node_table.specs.declared.child.Child.{Child}
 use Rattle.node_table.specs.declared.child.Child.TheVariants.{Payload, Node}
 
 module _ {P : Type 0} (s : NodeTable P) where

@@ -6,9 +6,8 @@ use Rattle.spec_map.specs.Map.{lookup, put}
 use Rattle.node_table.specs.Key.{low, high, Begins}
 use Rattle.node_table.proofs.ChildrenLaws as laws
 use Rattle.node_table.specs.Table.{IsSound}
-use Rattle.node_table.specs.TableNode.{TableNode}
+use Rattle.node_table.specs.TableNode.{TableNode, Child}
 use Rattle.node_table.specs.Table.{NodeTable, node_at, pairs_of, pairs_at, IsChild, AreChildren, IsTree}
-use Rattle.node_table.specs.declared.child.Child.{Child}
 use Rattle.node_table.proofs.TableLaws.{under, tree_rises, all_rise, same_pairs}
 use Rattle.node_table.proofs.DownLaws.{KeepsBelow, Kept, Same, kept_each, frame}
 use Rattle.node_table.proofs.EachLaws.{each}

@@ -1,4 +1,5 @@
-//! A node of one form as a node of a tree in one table: its children are slots or payloads.
+//! A node of one form as a node of a tree in one table: its children are payloads, or what an inner node has in their
+//! places.
 //!
 //! Tested in `congee_nodes`.
 
@@ -10,16 +11,16 @@ ghost use Rattle.spec_map.specs.Near.{below_of};
 ghost use Rattle.node_base.specs.Form.{Fits};
 ghost use Rattle.node_base.specs.Rest.{rest};
 ghost use Rattle.node_table.specs.Children.{children_left, MayYield};
-ghost use Rattle.node_table.specs.inner.Kinds.{inner_node, leaf_node, slots, payloads, with_child, without_child};
-ghost use Rattle.node_table.specs.Meeting.{IsMet};
-ghost use Rattle.node_table.specs.TableNode.{MayHave, TableNode, seen, looked_at};
+ghost use Rattle.node_table.specs.inner.Kinds.{inner_node, leaf_node, places, payloads, with_child, without_child};
+ghost use Rattle.node_table.specs.Meeting.{IsMet, met_at};
+ghost use Rattle.node_table.specs.TableNode.{MayHave, TableNodeOf, looked_at_ref};
 
 use crate::child::{Child, ChildIter, ChildRef, Meeting};
 use node_base::base_node::BaseNode;
 use node_base::head::Head;
 use node_base::iter::{Node16Iter, NodeIter};
 
-/// The head of an inner node of one form: its children are slots.
+/// The head of an inner node of one form: its row has what is in its children's places.
 #[derive(Drop)]
 pub struct InnerHead<H> {
     pub head: H,
@@ -32,13 +33,13 @@ pub struct Leaf<H> {
 }
 
 /// What a node does with its children, whichever kind they are of. Its row is beside its head.
-pub trait InTable<P>: Sized {
+pub trait InTable<P, C>: Sized {
     ghost use Rattle.std.specs.Prelude.{ℕ, List};
-    ghost use Rattle.node_table.specs.TableNode.{TableNode};
+    ghost use Rattle.node_table.specs.TableNode.{TableNodeOf};
 
     type Row;
 
-    ghost node: { Self → Self.Row → TableNode P };
+    ghost node: { Self → Self.Row → TableNodeOf P C };
 
     /// The row is that of this head, and the prefix is as long as the kind requires.
     ghost IsOfKind: { Self → Self.Row → Type 0 };
@@ -53,29 +54,38 @@ pub trait InTable<P>: Sized {
         ensures ascending { Rises 0 256 (node self.now row.now).children };
 
     /// What a key meets here, whose bytes are those of the word, most significant first.
-    fn meet(&self, row: &Self::Row, key: &[u8; 8], word: u64) -> Meeting
+    fn meet<'a>(&'a self, row: &'a Self::Row, key: &[u8; 8], word: u64) -> Meeting<&'a C>
         requires kind { IsOfKind self.now row.now }
         requires word { to_be_bytes w64 word ≡ key.now }
-        ensures { IsMet key.now (node self.now row.now) result };
+        ensures { IsMet key.now (node self.now row.now) (met_at result) };
 
     /// What is under a byte, or `None`.
-    fn get_child<'a>(&'a self, row: &'a Self::Row, byte: u8) -> Option<ChildRef<'a, P>>
+    fn get_child<'a>(&'a self, row: &'a Self::Row, byte: u8) -> Option<ChildRef<'a, P, &'a C>>
         requires { IsOfKind self.now row.now }
-        ensures { seen result ≡ lookup (node self.now row.now).children byte };
+        ensures { option_map looked_at_ref result ≡ lookup (node self.now row.now).children byte };
 
     /// The first child whose byte isn't below `start`, and its byte.
-    fn first_from<'a>(&'a self, row: &'a Self::Row, start: u8) -> Option<(u8, ChildRef<'a, P>)>
+    fn first_from<'a>(
+        &'a self,
+        row: &'a Self::Row,
+        start: u8,
+    ) -> Option<(u8, ChildRef<'a, P, &'a C>)>
         requires { IsOfKind self.now row.now }
         ensures none { IfNone result (between (node self.now row.now).children start 256 ≡ []) }
         ensures some { IfSome result (λ found. between (node self.now row.now).children start 256
-            ≡ (found.0, looked_at found.1) ∷ between (node self.now row.now).children (found.0 + 1) 256) }
+            ≡ (found.0, looked_at_ref found.1)
+            ∷ between (node self.now row.now).children (found.0 + 1) 256) }
         ensures order { IfSome result (λ found. start ≤ found.0) };
 
     /// The last child whose byte is below `to`, and its byte.
-    fn last_below<'a>(&'a self, row: &'a Self::Row, to: usize) -> Option<(u8, ChildRef<'a, P>)>
+    fn last_below<'a>(
+        &'a self,
+        row: &'a Self::Row,
+        to: usize,
+    ) -> Option<(u8, ChildRef<'a, P, &'a C>)>
         requires within { to ≤ 256 }
         requires kind { IsOfKind self.now row.now }
-        ensures { option_map (λ found. (found.0, looked_at found.1)) result
+        ensures { option_map (λ found. (found.0, looked_at_ref found.1)) result
             ≡ below_of (node self.now row.now).children to };
 
     /// The children with `from <= byte < to`, ascending.
@@ -84,14 +94,14 @@ pub trait InTable<P>: Sized {
         row: &'a Self::Row,
         from: usize,
         to: usize,
-    ) -> ChildIter<'a, P>
+    ) -> ChildIter<'a, P, C>
         requires within { to ≤ 256 }
         requires kind { IsOfKind self.now row.now }
         ensures children { children_left result ≡ between (node self.now row.now).children from to }
         ensures kind { MayYield (node self.now row.now).prefix result };
 
     /// Adds a child of the node's kind under a byte that has none, in a node that is not full.
-    fn insert(&mut self, row: &mut Self::Row, byte: u8, child: Child<P>)
+    fn insert(&mut self, row: &mut Self::Row, byte: u8, child: Child<P, C>)
         requires absent { lookup (node self.old row.old).children byte ≡ None }
         requires room { Fits (node self.old row.old).form (length (node self.old row.old).children + 1) }
         requires kind { IsOfKind self.old row.old }
@@ -105,8 +115,8 @@ pub trait InTable<P>: Sized {
         &mut self,
         row: &mut Self::Row,
         byte: u8,
-        child: Child<P>,
-    ) -> Result<Child<P>, Child<P>>
+        child: Child<P, C>,
+    ) -> Result<Child<P, C>, Child<P, C>>
         requires kind { IsOfKind self.old row.old }
         requires may { MayHave (node self.old row.old).prefix child }
         ensures kind { IsOfKind self.new row.new }
@@ -117,7 +127,7 @@ pub trait InTable<P>: Sized {
         ensures same { OnErr result (node self.new row.new ≡ node self.old row.old) };
 
     /// Takes out the child under a byte, if there is one, and returns it.
-    fn take(&mut self, row: &mut Self::Row, byte: u8) -> Option<Child<P>>
+    fn take(&mut self, row: &mut Self::Row, byte: u8) -> Option<Child<P, C>>
         requires { IsOfKind self.old row.old }
         ensures kind { IsOfKind self.new row.new }
         ensures before { result ≡ lookup (node self.old row.old).children byte }
@@ -144,7 +154,7 @@ fn children_of<'a, C, H: Head<C>>(
     head.get_children(row, from as u8, (to - 1) as u8)
 }
 
-impl<P, H: Head<usize>> InTable<P> for InnerHead<H> {
+impl<P, C, H: Head<C>> InTable<P, C> for InnerHead<H> {
     ghost use Rattle.std.specs.Prelude.{◌<◌, length};
     ghost use Rattle.node_table.specs.inner.Kinds.{inner_node};
 
@@ -158,49 +168,62 @@ impl<P, H: Head<usize>> InTable<P> for InnerHead<H> {
         self.head.base(row)
     }
 
-    fn meet(&self, row: &H::Row, key: &[u8; 8], word: u64) -> Meeting {
+    fn meet<'a>(&'a self, row: &'a H::Row, key: &[u8; 8], word: u64) -> Meeting<&'a C> {
         let base = self.head.base(row);
         if !base.begins(word) {
             return Meeting::Other;
         }
         match self.head.get_child(row, key[base.prefix().len()]) {
-            Some(slot) => Meeting::Node(*slot),
+            Some(child) => Meeting::Node(child),
             None => Meeting::Nothing,
         }
     }
 
-    fn get_child<'a>(&'a self, row: &'a H::Row, byte: u8) -> Option<ChildRef<'a, P>> {
+    fn get_child<'a>(&'a self, row: &'a H::Row, byte: u8) -> Option<ChildRef<'a, P, &'a C>> {
         match self.head.get_child(row, byte) {
-            Some(slot) => Some(ChildRef::Node(*slot)),
+            Some(child) => Some(ChildRef::Node(child)),
             None => None,
         }
     }
 
-    fn first_from<'a>(&'a self, row: &'a H::Row, start: u8) -> Option<(u8, ChildRef<'a, P>)> {
+    fn first_from<'a>(
+        &'a self,
+        row: &'a H::Row,
+        start: u8,
+    ) -> Option<(u8, ChildRef<'a, P, &'a C>)> {
         match self.head.get_children(row, start, 255).next() {
-            Some((byte, slot)) => Some((byte, ChildRef::Node(*slot))),
+            Some((byte, child)) => Some((byte, ChildRef::Node(child))),
             None => None,
         }
     }
 
-    fn last_below<'a>(&'a self, row: &'a H::Row, to: usize) -> Option<(u8, ChildRef<'a, P>)> {
+    fn last_below<'a>(
+        &'a self,
+        row: &'a H::Row,
+        to: usize,
+    ) -> Option<(u8, ChildRef<'a, P, &'a C>)> {
         let Some(byte) = self.head.last_byte(row, to) else {
             return None;
         };
         match self.head.get_child(row, byte) {
-            Some(slot) => Some((byte, ChildRef::Node(*slot))),
+            Some(child) => Some((byte, ChildRef::Node(child))),
             None => unreachable!(),
         }
     }
 
-    fn children_between<'a>(&'a self, row: &'a H::Row, from: usize, to: usize) -> ChildIter<'a, P> {
+    fn children_between<'a>(
+        &'a self,
+        row: &'a H::Row,
+        from: usize,
+        to: usize,
+    ) -> ChildIter<'a, P, C> {
         ChildIter::Nodes(children_of(&self.head, row, from, to))
     }
 
-    fn insert(&mut self, row: &mut H::Row, byte: u8, child: Child<P>)
-        requires absent { lookup (slots {P = P} (H.children self.old.head row.old)) byte ≡ None }
+    fn insert(&mut self, row: &mut H::Row, byte: u8, child: Child<P, C>)
+        requires absent { lookup (places {P = P} (H.children self.old.head row.old)) byte ≡ None }
         requires room { Fits (H.form self.old.head)
-            (length (slots {P = P} (H.children self.old.head row.old)) + 1) }
+            (length (places {P = P} (H.children self.old.head row.old)) + 1) }
         requires kind { H.IsNode self.old.head row.old × (length (H.prefix self.old.head) < 7) }
         requires may { MayHave (H.prefix self.old.head) child }
         ensures kind { H.IsNode self.new.head row.new × (length (H.prefix self.new.head) < 7) }
@@ -209,7 +232,7 @@ impl<P, H: Head<usize>> InTable<P> for InnerHead<H> {
             (H.prefix self.old.head) (H.children self.old.head row.old)) byte child }
     {
         match child {
-            Child::Node(slot) => self.head.insert(row, byte, slot),
+            Child::Node(place) => self.head.insert(row, byte, place),
             Child::Payload(_) => unreachable!(),
         }
     }
@@ -218,25 +241,25 @@ impl<P, H: Head<usize>> InTable<P> for InnerHead<H> {
         &mut self,
         row: &mut H::Row,
         byte: u8,
-        child: Child<P>,
-    ) -> Result<Child<P>, Child<P>>
+        child: Child<P, C>,
+    ) -> Result<Child<P, C>, Child<P, C>>
         requires kind { H.IsNode self.old.head row.old × (length (H.prefix self.old.head) < 7) }
         requires may { MayHave (H.prefix self.old.head) child }
         ensures kind { H.IsNode self.new.head row.new × (length (H.prefix self.new.head) < 7) }
         ensures before { IfOk result (λ c.
-            lookup (slots {P = P} (H.children self.old.head row.old)) byte ≡ Some c) }
+            lookup (places {P = P} (H.children self.old.head row.old)) byte ≡ Some c) }
         ensures after { OnOk result (inner_node {P = P} (H.form self.new.head)
             (H.prefix self.new.head) (H.children self.new.head row.new) ≡ with_child (inner_node
             (H.form self.old.head) (H.prefix self.old.head) (H.children self.old.head row.old)) byte child) }
         ensures absent { OnErr result
-            (lookup (slots {P = P} (H.children self.old.head row.old)) byte ≡ None) }
+            (lookup (places {P = P} (H.children self.old.head row.old)) byte ≡ None) }
         ensures back { IfErr result (λ c. c ≡ child) }
         ensures same { OnErr result (inner_node {P = P} (H.form self.new.head)
             (H.prefix self.new.head) (H.children self.new.head row.new) ≡ inner_node
             (H.form self.old.head) (H.prefix self.old.head) (H.children self.old.head row.old)) }
     {
         match child {
-            Child::Node(slot) => match self.head.exchange(row, byte, slot) {
+            Child::Node(place) => match self.head.exchange(row, byte, place) {
                 Ok(before) => Ok(Child::Node(before)),
                 Err(back) => Err(Child::Node(back)),
             },
@@ -244,15 +267,15 @@ impl<P, H: Head<usize>> InTable<P> for InnerHead<H> {
         }
     }
 
-    fn take(&mut self, row: &mut H::Row, byte: u8) -> Option<Child<P>> {
+    fn take(&mut self, row: &mut H::Row, byte: u8) -> Option<Child<P, C>> {
         match self.head.take(row, byte) {
-            Some(slot) => Some(Child::Node(slot)),
+            Some(place) => Some(Child::Node(place)),
             None => None,
         }
     }
 }
 
-impl<P, H: Head<P>> InTable<P> for Leaf<H> {
+impl<P, C, H: Head<P>> InTable<P, C> for Leaf<H> {
     ghost use Rattle.std.specs.Prelude.{◌≡◌, length};
     ghost use Rattle.node_table.specs.inner.Kinds.{leaf_node};
 
@@ -266,7 +289,7 @@ impl<P, H: Head<P>> InTable<P> for Leaf<H> {
         self.head.base(row)
     }
 
-    fn meet(&self, row: &H::Row, _key: &[u8; 8], word: u64) -> Meeting {
+    fn meet<'a>(&'a self, row: &'a H::Row, _key: &[u8; 8], word: u64) -> Meeting<&'a C> {
         if self.head.base(row).begins(word) {
             Meeting::Leaf
         } else {
@@ -274,21 +297,29 @@ impl<P, H: Head<P>> InTable<P> for Leaf<H> {
         }
     }
 
-    fn get_child<'a>(&'a self, row: &'a H::Row, byte: u8) -> Option<ChildRef<'a, P>> {
+    fn get_child<'a>(&'a self, row: &'a H::Row, byte: u8) -> Option<ChildRef<'a, P, &'a C>> {
         match self.head.get_child(row, byte) {
             Some(payload) => Some(ChildRef::Payload(payload)),
             None => None,
         }
     }
 
-    fn first_from<'a>(&'a self, row: &'a H::Row, start: u8) -> Option<(u8, ChildRef<'a, P>)> {
+    fn first_from<'a>(
+        &'a self,
+        row: &'a H::Row,
+        start: u8,
+    ) -> Option<(u8, ChildRef<'a, P, &'a C>)> {
         match self.head.get_children(row, start, 255).next() {
             Some((byte, payload)) => Some((byte, ChildRef::Payload(payload))),
             None => None,
         }
     }
 
-    fn last_below<'a>(&'a self, row: &'a H::Row, to: usize) -> Option<(u8, ChildRef<'a, P>)> {
+    fn last_below<'a>(
+        &'a self,
+        row: &'a H::Row,
+        to: usize,
+    ) -> Option<(u8, ChildRef<'a, P, &'a C>)> {
         let Some(byte) = self.head.last_byte(row, to) else {
             return None;
         };
@@ -298,18 +329,23 @@ impl<P, H: Head<P>> InTable<P> for Leaf<H> {
         }
     }
 
-    fn children_between<'a>(&'a self, row: &'a H::Row, from: usize, to: usize) -> ChildIter<'a, P> {
+    fn children_between<'a>(
+        &'a self,
+        row: &'a H::Row,
+        from: usize,
+        to: usize,
+    ) -> ChildIter<'a, P, C> {
         ChildIter::Payloads(children_of(&self.head, row, from, to))
     }
 
-    fn insert(&mut self, row: &mut H::Row, byte: u8, child: Child<P>)
-        requires absent { lookup (payloads (H.children self.old.head row.old)) byte ≡ None }
+    fn insert(&mut self, row: &mut H::Row, byte: u8, child: Child<P, C>)
+        requires absent { lookup (payloads {C = C} (H.children self.old.head row.old)) byte ≡ None }
         requires room { Fits (H.form self.old.head)
-            (length (payloads (H.children self.old.head row.old)) + 1) }
+            (length (payloads {C = C} (H.children self.old.head row.old)) + 1) }
         requires kind { H.IsNode self.old.head row.old × (length (H.prefix self.old.head) ≡ 7) }
         requires may { MayHave (H.prefix self.old.head) child }
         ensures kind { H.IsNode self.new.head row.new × (length (H.prefix self.new.head) ≡ 7) }
-        ensures after { leaf_node (H.form self.new.head) (H.prefix self.new.head)
+        ensures after { leaf_node {C = C} (H.form self.new.head) (H.prefix self.new.head)
             (H.children self.new.head row.new) ≡ with_child (leaf_node (H.form self.old.head)
             (H.prefix self.old.head) (H.children self.old.head row.old)) byte child }
     {
@@ -323,21 +359,22 @@ impl<P, H: Head<P>> InTable<P> for Leaf<H> {
         &mut self,
         row: &mut H::Row,
         byte: u8,
-        child: Child<P>,
-    ) -> Result<Child<P>, Child<P>>
+        child: Child<P, C>,
+    ) -> Result<Child<P, C>, Child<P, C>>
         requires kind { H.IsNode self.old.head row.old × (length (H.prefix self.old.head) ≡ 7) }
         requires may { MayHave (H.prefix self.old.head) child }
         ensures kind { H.IsNode self.new.head row.new × (length (H.prefix self.new.head) ≡ 7) }
         ensures before { IfOk result (λ c.
-            lookup (payloads (H.children self.old.head row.old)) byte ≡ Some c) }
-        ensures after { OnOk result (leaf_node (H.form self.new.head) (H.prefix self.new.head)
-            (H.children self.new.head row.new) ≡ with_child (leaf_node (H.form self.old.head)
-            (H.prefix self.old.head) (H.children self.old.head row.old)) byte child) }
-        ensures absent { OnErr result (lookup (payloads (H.children self.old.head row.old)) byte ≡ None) }
+            lookup (payloads {C = C} (H.children self.old.head row.old)) byte ≡ Some c) }
+        ensures after { OnOk result (leaf_node {C = C} (H.form self.new.head)
+            (H.prefix self.new.head) (H.children self.new.head row.new) ≡ with_child (leaf_node
+            (H.form self.old.head) (H.prefix self.old.head) (H.children self.old.head row.old)) byte child) }
+        ensures absent { OnErr result
+            (lookup (payloads {C = C} (H.children self.old.head row.old)) byte ≡ None) }
         ensures back { IfErr result (λ c. c ≡ child) }
-        ensures same { OnErr result (leaf_node (H.form self.new.head) (H.prefix self.new.head)
-            (H.children self.new.head row.new) ≡ leaf_node (H.form self.old.head)
-            (H.prefix self.old.head) (H.children self.old.head row.old)) }
+        ensures same { OnErr result (leaf_node {C = C} (H.form self.new.head)
+            (H.prefix self.new.head) (H.children self.new.head row.new) ≡ leaf_node
+            (H.form self.old.head) (H.prefix self.old.head) (H.children self.old.head row.old)) }
     {
         match child {
             Child::Payload(payload) => match self.head.exchange(row, byte, payload) {
@@ -348,7 +385,7 @@ impl<P, H: Head<P>> InTable<P> for Leaf<H> {
         }
     }
 
-    fn take(&mut self, row: &mut H::Row, byte: u8) -> Option<Child<P>> {
+    fn take(&mut self, row: &mut H::Row, byte: u8) -> Option<Child<P, C>> {
         match self.head.take(row, byte) {
             Some(payload) => Some(Child::Payload(payload)),
             None => None,

@@ -1,4 +1,5 @@
-//! A node of a tree in one table: a leaf, whose children are payloads, or an inner node, whose children are slots.
+//! A node of a tree in one table: a leaf, whose children are payloads, or an inner node, which has a slot, or another
+//! value, in the place of each child.
 //!
 //! Tested in `congee_nodes`.
 
@@ -10,8 +11,8 @@ ghost use Rattle.spec_map.specs.Near.{below_of};
 ghost use Rattle.node_base.specs.Form.{Fits, few_in, next_form, smaller_form};
 ghost use Rattle.node_base.specs.Rest.{rest};
 ghost use Rattle.node_table.specs.Children.{children_left, MayYield};
-ghost use Rattle.node_table.specs.Meeting.{IsMet};
-ghost use Rattle.node_table.specs.TableNode.{MayHave, seen, looked_at};
+ghost use Rattle.node_table.specs.Meeting.{IsMet, met_at};
+ghost use Rattle.node_table.specs.TableNode.{MayHave, seen, looked_at, looked_at_ref};
 
 use crate::child::{Child, ChildIter, ChildRef, Meeting};
 use crate::kinds::{InTable, InnerHead, Leaf};
@@ -28,41 +29,43 @@ use std::alloc::Global;
 use std::marker::Model;
 
 /// A node of a tree in one table. Below seven bytes it is a leaf, whose children are payloads, and below fewer an inner
-/// node, whose children are the slots of other nodes. So no child takes more than a payload or a slot does.
+/// node, which has a `C` in the place of each child: by default the slot of another node. So no child takes more than a
+/// payload or a `C` does.
 #[derive(Drop)]
-pub struct TreeNode<P> {
-    kind: NodeKind<P>,
+pub struct TreeNode<P, C = usize> {
+    kind: NodeKind<P, C>,
 }
 
 // One tag for kind and form, so that a node is read after one jump. The head of a small node fills the bytes between
-// the tag and its row; a larger node is the head itself. So no arm takes more than 56 bytes, for payloads of 8 bytes.
+// the tag and its row; a larger node is the head itself. So no arm takes more than 56 bytes, where payloads and places
+// have 8 bytes.
 #[derive(Drop)]
-enum NodeKind<P> {
-    Inner4(InnerHead<Head4>, Few<usize>),
-    Inner16(InnerHead<Head16>, Vec<usize>),
-    Inner48(InnerHead<Whole<Node48<usize>>>, Own),
-    Inner256(InnerHead<Whole<Node256<usize>>>, Own),
+enum NodeKind<P, C> {
+    Inner4(InnerHead<Head4>, Few<C>),
+    Inner16(InnerHead<Head16>, Vec<C>),
+    Inner48(InnerHead<Whole<Node48<C>>>, Own),
+    Inner256(InnerHead<Whole<Node256<C>>>, Own),
     Leaf4(Leaf<Head4>, Few<P>),
     Leaf16(Leaf<Head16>, Vec<P>),
     Leaf48(Leaf<Whole<Node48<P>>>, Own),
     Leaf256(Leaf<Whole<Node256<P>>>, Own),
 }
 
-impl<P> Model for TreeNode<P> {
-    ghost use Rattle.node_table.specs.TableNode.{TableNode};
-    ghost use Rattle.node_table.specs.inner.Codes.{table_node_code};
+impl<P, C> Model for TreeNode<P, C> {
+    ghost use Rattle.node_table.specs.TableNode.{TableNodeOf};
+    ghost use Rattle.node_table.specs.inner.Codes.{table_node_of_code};
     ghost use Rattle.node_table.specs.inner.Kinds.{table_node, IsOfKind};
 
-    ghost Value = { TableNode P };
+    ghost Value = { TableNodeOf P C };
 
-    ghost coded = { table_node_code P.code };
+    ghost coded = { table_node_of_code P.code C.code };
 
     ghost view = { λ n. table_node n.kind };
 
     ghost invariant = { λ n. IsOfKind n.kind };
 }
 
-impl<P: Drop> TreeNode<P> {
+impl<P: Drop, C: Drop> TreeNode<P, C> {
     ghost use Rattle.node_base.specs.declared.base_node.NodeType.TheVariants.{N4, N256};
 
     /// The root of an empty tree, which has room for a child under each byte; a refusal only for lack of memory.
@@ -111,14 +114,14 @@ impl<P: Drop> TreeNode<P> {
         ensures ascending { Rises 0 256 self.now.children }
     {
         match &self.kind {
-            NodeKind::Inner4(node, row) => InTable::<P>::base(node, row),
-            NodeKind::Inner16(node, row) => InTable::<P>::base(node, row),
-            NodeKind::Inner48(node, row) => InTable::<P>::base(node, row),
-            NodeKind::Inner256(node, row) => InTable::<P>::base(node, row),
-            NodeKind::Leaf4(node, row) => InTable::<P>::base(node, row),
-            NodeKind::Leaf16(node, row) => InTable::<P>::base(node, row),
-            NodeKind::Leaf48(node, row) => InTable::<P>::base(node, row),
-            NodeKind::Leaf256(node, row) => InTable::<P>::base(node, row),
+            NodeKind::Inner4(node, row) => InTable::<P, C>::base(node, row),
+            NodeKind::Inner16(node, row) => InTable::<P, C>::base(node, row),
+            NodeKind::Inner48(node, row) => InTable::<P, C>::base(node, row),
+            NodeKind::Inner256(node, row) => InTable::<P, C>::base(node, row),
+            NodeKind::Leaf4(node, row) => InTable::<P, C>::base(node, row),
+            NodeKind::Leaf16(node, row) => InTable::<P, C>::base(node, row),
+            NodeKind::Leaf48(node, row) => InTable::<P, C>::base(node, row),
+            NodeKind::Leaf256(node, row) => InTable::<P, C>::base(node, row),
         }
     }
 
@@ -172,27 +175,27 @@ impl<P: Drop> TreeNode<P> {
     /// that a descent needs of a node.
     // (inline, as a call would return its answer through memory at each node of a path)
     #[inline(always)]
-    pub fn meet(&self, key: &[u8; 8], word: u64) -> Meeting
+    pub fn meet_ref(&self, key: &[u8; 8], word: u64) -> Meeting<&C>
         requires { to_be_bytes w64 word ≡ key.now }
-        ensures { IsMet key.now self.now result }
+        ensures { IsMet key.now self.now (met_at result) }
     {
         match &self.kind {
-            NodeKind::Inner4(node, row) => InTable::<P>::meet(node, row, key, word),
-            NodeKind::Inner16(node, row) => InTable::<P>::meet(node, row, key, word),
-            NodeKind::Inner48(node, row) => InTable::<P>::meet(node, row, key, word),
-            NodeKind::Inner256(node, row) => InTable::<P>::meet(node, row, key, word),
-            NodeKind::Leaf4(node, row) => InTable::<P>::meet(node, row, key, word),
-            NodeKind::Leaf16(node, row) => InTable::<P>::meet(node, row, key, word),
-            NodeKind::Leaf48(node, row) => InTable::<P>::meet(node, row, key, word),
-            NodeKind::Leaf256(node, row) => InTable::<P>::meet(node, row, key, word),
+            NodeKind::Inner4(node, row) => InTable::<P, C>::meet(node, row, key, word),
+            NodeKind::Inner16(node, row) => InTable::<P, C>::meet(node, row, key, word),
+            NodeKind::Inner48(node, row) => InTable::<P, C>::meet(node, row, key, word),
+            NodeKind::Inner256(node, row) => InTable::<P, C>::meet(node, row, key, word),
+            NodeKind::Leaf4(node, row) => InTable::<P, C>::meet(node, row, key, word),
+            NodeKind::Leaf16(node, row) => InTable::<P, C>::meet(node, row, key, word),
+            NodeKind::Leaf48(node, row) => InTable::<P, C>::meet(node, row, key, word),
+            NodeKind::Leaf256(node, row) => InTable::<P, C>::meet(node, row, key, word),
         }
     }
 
     /// What is under a byte, or `None`.
     // (inline, as `meet`: the end of each look-up)
     #[inline(always)]
-    pub fn get_child(&self, byte: u8) -> Option<ChildRef<'_, P>>
-        ensures { seen result ≡ lookup self.now.children byte }
+    pub fn get_child_ref(&self, byte: u8) -> Option<ChildRef<'_, P, &C>>
+        ensures { option_map looked_at_ref result ≡ lookup self.now.children byte }
     {
         match &self.kind {
             NodeKind::Inner4(node, row) => node.get_child(row, byte),
@@ -210,10 +213,10 @@ impl<P: Drop> TreeNode<P> {
     ///
     /// So a scan of all children takes constant work a child in each form: the bytes of a small node are searched at
     /// once, the index of a `Node48` is passed once in the whole scan, and the mask of a `Node256` 64 bytes a step.
-    pub fn first_from(&self, from: usize) -> Option<(u8, ChildRef<'_, P>)>
+    pub fn first_ref_from(&self, from: usize) -> Option<(u8, ChildRef<'_, P, &C>)>
         ensures none { IfNone result (between self.now.children from 256 ≡ []) }
         ensures some { IfSome result (λ found. between self.now.children from 256
-            ≡ (found.0, looked_at found.1) ∷ between self.now.children (found.0 + 1) 256) }
+            ≡ (found.0, looked_at_ref found.1) ∷ between self.now.children (found.0 + 1) 256) }
         ensures order { IfSome result (λ found. from ≤ found.0) }
     {
         if from > 255 {
@@ -236,9 +239,9 @@ impl<P: Drop> TreeNode<P> {
     ///
     /// The bytes of a small node are searched at once, the index of a `Node48` is passed downward, and the mask of a
     /// `Node256` 64 bytes a step.
-    pub fn last_below(&self, to: usize) -> Option<(u8, ChildRef<'_, P>)>
+    pub fn last_ref_below(&self, to: usize) -> Option<(u8, ChildRef<'_, P, &C>)>
         requires { to ≤ 256 }
-        ensures { option_map (λ found. (found.0, looked_at found.1)) result
+        ensures { option_map (λ found. (found.0, looked_at_ref found.1)) result
             ≡ below_of self.now.children to }
     {
         match &self.kind {
@@ -254,7 +257,7 @@ impl<P: Drop> TreeNode<P> {
     }
 
     /// The children with `from <= byte < to`, ascending. It keeps its place in the node, which is searched once.
-    pub fn children_between(&self, from: usize, to: usize) -> ChildIter<'_, P>
+    pub fn children_between(&self, from: usize, to: usize) -> ChildIter<'_, P, C>
         requires { to ≤ 256 }
         ensures children { children_left result ≡ between self.now.children from to }
         ensures kind { MayYield self.now.prefix result }
@@ -272,7 +275,7 @@ impl<P: Drop> TreeNode<P> {
     }
 
     /// Adds a child of the node's kind under a byte that has none, in a node that is not full.
-    pub fn insert(&mut self, byte: u8, child: Child<P>)
+    pub fn insert(&mut self, byte: u8, child: Child<P, C>)
         requires absent { lookup self.old.children byte ≡ None }
         requires room { Fits self.old.form (length self.old.children + 1) }
         requires kind { MayHave self.old.prefix child }
@@ -294,7 +297,7 @@ impl<P: Drop> TreeNode<P> {
     /// `Err` returns the new child. The node is searched once, and nothing in it moves.
     // (inline, as `meet`: the end of each insertion at a key that is present)
     #[inline(always)]
-    pub fn exchange(&mut self, byte: u8, child: Child<P>) -> Result<Child<P>, Child<P>>
+    pub fn exchange(&mut self, byte: u8, child: Child<P, C>) -> Result<Child<P, C>, Child<P, C>>
         requires { MayHave self.old.prefix child }
         ensures before { IfOk result (λ c. lookup self.old.children byte ≡ Some c) }
         ensures after { OnOk result
@@ -316,7 +319,7 @@ impl<P: Drop> TreeNode<P> {
     }
 
     /// Puts another child of the node's kind in the place of one, which it returns.
-    pub fn change(&mut self, byte: u8, child: Child<P>) -> Child<P>
+    pub fn change(&mut self, byte: u8, child: Child<P, C>) -> Child<P, C>
         requires present { IsSome (lookup self.old.children byte) }
         requires kind { MayHave self.old.prefix child }
         ensures before { lookup self.old.children byte ≡ Some result }
@@ -329,7 +332,7 @@ impl<P: Drop> TreeNode<P> {
     }
 
     /// Takes out the child under a byte, if there is one, and returns it. The node is searched once.
-    pub fn take(&mut self, byte: u8) -> Option<Child<P>>
+    pub fn take(&mut self, byte: u8) -> Option<Child<P, C>>
         ensures before { result ≡ lookup self.old.children byte }
         ensures after { self.new ≡ record self.old { children = without self.old.children byte } }
     {
@@ -346,7 +349,7 @@ impl<P: Drop> TreeNode<P> {
     }
 
     /// Takes out the child under a byte, and returns it.
-    pub fn remove(&mut self, byte: u8) -> Child<P>
+    pub fn remove(&mut self, byte: u8) -> Child<P, C>
         requires { IsSome (lookup self.old.children byte) }
         ensures before { lookup self.old.children byte ≡ Some result }
         ensures after { self.new ≡ record self.old { children = without self.old.children byte } }
@@ -462,5 +465,53 @@ impl<P: Drop> TreeNode<P> {
         };
         self.kind = shrunk;
         Ok(())
+    }
+}
+
+// (inline, as the calls that these are over)
+impl<P: Drop> TreeNode<P> {
+    /// What a key meets here, as `meet_ref`.
+    #[inline(always)]
+    pub fn meet(&self, key: &[u8; 8], word: u64) -> Meeting
+        requires { to_be_bytes w64 word ≡ key.now }
+        ensures { IsMet key.now self.now result }
+    {
+        self.meet_ref(key, word).copied()
+    }
+
+    /// What is under a byte, or `None`.
+    #[inline(always)]
+    pub fn get_child(&self, byte: u8) -> Option<ChildRef<'_, P>>
+        ensures { seen result ≡ lookup self.now.children byte }
+    {
+        match self.get_child_ref(byte) {
+            Some(child) => Some(child.copied()),
+            None => None,
+        }
+    }
+
+    /// The first child whose byte isn't below `from`, and its byte, as `first_ref_from`; `None` from 256 on.
+    pub fn first_from(&self, from: usize) -> Option<(u8, ChildRef<'_, P>)>
+        ensures none { IfNone result (between self.now.children from 256 ≡ []) }
+        ensures some { IfSome result (λ found. between self.now.children from 256
+            ≡ (found.0, looked_at found.1) ∷ between self.now.children (found.0 + 1) 256) }
+        ensures order { IfSome result (λ found. from ≤ found.0) }
+    {
+        match self.first_ref_from(from) {
+            Some((byte, child)) => Some((byte, child.copied())),
+            None => None,
+        }
+    }
+
+    /// The last child whose byte is below `to`, and its byte, as `last_ref_below`; `None` at 0.
+    pub fn last_below(&self, to: usize) -> Option<(u8, ChildRef<'_, P>)>
+        requires { to ≤ 256 }
+        ensures { option_map (λ found. (found.0, looked_at found.1)) result
+            ≡ below_of self.now.children to }
+    {
+        match self.last_ref_below(to) {
+            Some((byte, child)) => Some((byte, child.copied())),
+            None => None,
+        }
     }
 }

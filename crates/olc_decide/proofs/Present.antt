@@ -1,6 +1,6 @@
 -- WHAT A CALL DOES if its key is present: it is decided, has to write, or asks its closure.
 use Rattle.std.proofs.Common.{◌≡◌, ℕ, Bool, true, false, IsTrue, length, Option, Some, None, IsSome, Err, inl, inr, refl, sym, subst, ap, ◌∙◌, arith}
-use Rattle.node_table.specs.declared.child.Child.{Child}
+use Rattle.node_table.specs.TableNode.{Child}
 use Rattle.node_table.specs.declared.child.Child.TheVariants.{Payload, Node as below_at}
 use Rattle.spec_olc.specs.Calls.{Outline, IsPoint, key_of, outline_of}
 use Rattle.spec_olc.specs.Content.{IsCurrent}

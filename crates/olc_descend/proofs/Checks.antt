@@ -3,8 +3,7 @@ use Rattle.std.proofs.Common.{◌≡◌, ◌≢◌, ℕ, ◌<◌, ◌^◌, Bool,
 use Rattle.spec_map.proofs.MapLaws.{lookup-put_same}
 use Rattle.spec_map.specs.Map.{Pairs, lookup}
 use Rattle.node_table.specs.Key.{Begins, next_byte}
-use Rattle.node_table.specs.TableNode.{TableNode}
-use Rattle.node_table.specs.declared.child.Child.{Child}
+use Rattle.node_table.specs.TableNode.{TableNode, Child}
 use Rattle.node_table.specs.declared.child.Child.TheVariants.{Payload, Node as below_at}
 use Rattle.spec_olc.specs.Calls.{Outline, IsPoint, bytes_of, key_of}
 use Rattle.spec_olc.specs.Content.{IsContent, IsCurrent}

@@ -1,7 +1,7 @@
 -- HOW THE MAP CHANGES: no pair changes, or that of one key.
 use Rattle.std.proofs.Common.{◌≡◌, ◌≢◌, ℕ, ◌^◌, ◌<◌, List, length, ◌↔◌, inl, inr, sym, subst, ◌∙◌}
 use Rattle.node_table.specs.Key.{Begins, next_byte}
-use Rattle.node_table.specs.declared.child.Child.{Child}
+use Rattle.node_table.specs.TableNode.{Child}
 use Rattle.node_table.specs.declared.child.Child.TheVariants.{Payload, Node as below_at}
 use Rattle.spec_olc.specs.Calls.{bytes_of}
 use Rattle.olc_state.specs.inner.World.{NodeMap}

@@ -6,8 +6,7 @@ use Rattle.std.proofs.lemmas.Bool.Decides.{eqb_tells}
 use Rattle.spec_map.specs.Map.{lookup, put, Rises}
 use Rattle.spec_map.proofs.MapLaws.{lookup-put_same, lookup-put_other, Rises-put}
 use Rattle.node_table.specs.Key.{Begins, AreBytes, next_byte}
-use Rattle.node_table.specs.TableNode.{TableNode}
-use Rattle.node_table.specs.declared.child.Child.{Child}
+use Rattle.node_table.specs.TableNode.{TableNode, Child}
 use Rattle.node_table.specs.declared.child.Child.TheVariants.{Payload, Node as below_at}
 use Rattle.node_table.proofs.BeginLaws.{after}
 use Rattle.node_table.proofs.KeyLaws.{AreBytes-append_left}

@@ -8,8 +8,7 @@ use Rattle.spec_map.specs.Map.{Pairs, lookup, Rises}
 use Rattle.spec_map.proofs.MapLaws.{same_from_lookups}
 use Rattle.node_table.specs.Charge.{add_charge, Covers}
 use Rattle.node_table.specs.Key.{AreBytes}
-use Rattle.node_table.specs.TableNode.{TableNode}
-use Rattle.node_table.specs.declared.child.Child.{Child}
+use Rattle.node_table.specs.TableNode.{TableNode, Child}
 use Rattle.node_table.specs.declared.child.Child.TheVariants.{Payload, Node as below_at}
 use Rattle.spec_olc.specs.Content.{IsStoredAt, IsContent}
 use Rattle.spec_olc.specs.Runs.{bare_root, fresh}

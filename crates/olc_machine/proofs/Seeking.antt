@@ -8,9 +8,8 @@ use Rattle.std.proofs.lemmas.List.Elements.{filter-append}
 use Rattle.std.proofs.lemmas.Bool.{lt-ltb, le-leb}
 use Rattle.spec_map.specs.Map.{Pairs, between}
 use Rattle.node_table.specs.Key.{low}
-use Rattle.node_table.specs.TableNode.{TableNode, looked_at}
+use Rattle.node_table.specs.TableNode.{TableNode, Child, looked_at}
 use Rattle.node_table.specs.Table.{NodeTable, node_at, pairs_under, pairs_of, pairs_at, IsTree, IsSubtree}
-use Rattle.node_table.specs.declared.child.Child.{Child}
 use Rattle.node_table.specs.declared.child.Child.TheVariants.{Payload, Node}
 use Rattle.node_table.specs.declared.child.ChildRef.{ChildRef}
 use Rattle.node_table.specs.declared.child.ChildRef.TheVariants as borrowed
@@ -107,7 +106,7 @@ module _ {P M : Type 0} (meaning : P → M) (slots : List (Option (Stored P))) (
   pub least_is : (first : ℕ) (p : List ℕ) → first ≡ from_be_bytes w64 (p ++ replicate (8 - length p) 0) → p ≡ n.node.prefix → first ≡ low n.node.prefix
   least_is first p is same = is ∙ first_is nodes slot (meant_node meaning n.node) at_key node_there p same
 
-  module _ (from byte : ℕ) (child : ChildRef P) (next : between n.node.children from 256 ≡ (byte, looked_at child) ∷ between n.node.children (byte + 1) 256) where
+  module _ (from byte : ℕ) (child : ChildRef P ℕ) (next : between n.node.children from 256 ≡ (byte, looked_at child) ∷ between n.node.children (byte + 1) 256) where
     next_is : (c : Child P) → looked_at child ≡ c → between (meant_node meaning n.node).children from 256 ≡ (byte, child_of meaning c) ∷ between (meant_node meaning n.node).children (byte + 1) 256
     next_is c is = child_next meaning slots n.node from byte c (subst (λ (x : Child P). between n.node.children from 256 ≡ (byte, x) ∷ between n.node.children (byte + 1) 256) is next)
 
@@ -158,7 +157,7 @@ module _ {P M : Type 0} (meaning : P → M) (slots : List (Option (Stored P))) (
     pub keys_begin : (old : List K) → KeysLeft key nodes less slot (meant_node meaning n.node) 0 old old
     keys_begin old = keys_start key nodes less slot (meant_node meaning n.node) tree node_there old
 
-    module _ (from byte : ℕ) (child : ChildRef P) (next : between n.node.children from 256 ≡ (byte, looked_at child) ∷ between n.node.children (byte + 1) 256) (old mid new : List K) (left : KeysLeft key nodes less slot (meant_node meaning n.node) from old mid) where
+    module _ (from byte : ℕ) (child : ChildRef P ℕ) (next : between n.node.children from 256 ≡ (byte, looked_at child) ∷ between n.node.children (byte + 1) 256) (old mid new : List K) (left : KeysLeft key nodes less slot (meant_node meaning n.node) from old mid) where
       pub key_added : (payload : Bor P) (first : ℕ) → child ≡ borrowed.Payload payload → first ≡ low n.node.prefix → new ≡ mid ++ key (first + byte) ∷ [] → KeysLeft key nodes less slot (meant_node meaning n.node) (byte + 1) old new
       key_added payload first is least new_is =
           subst (λ (x : List K). KeysLeft key nodes less slot (meant_node meaning n.node) (byte + 1) old x) (sym new_is)

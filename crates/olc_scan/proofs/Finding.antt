@@ -2,7 +2,7 @@
 use Rattle.std.proofs.Common.{◌≡◌, ◌≢◌, ℕ, ◌+◌, ◌-◌, ◌<◌, ◌≤◌, ◌^◌, min, max, Bool, true, [], ◌∷◌, ◌++◌, length, Option, Some, None, IsSome, inl, inr, refl, sym, subst, ap, ◌∙◌, arith}
 use Rattle.std.proofs.lemmas.Bool.{cases_lt}
 use Rattle.node_table.specs.Key.{high, low}
-use Rattle.node_table.specs.declared.child.Child.{Child}
+use Rattle.node_table.specs.TableNode.{Child}
 use Rattle.node_table.specs.declared.child.Child.TheVariants.{Payload, Node as below_at}
 use Rattle.node_table.proofs.KeyLaws.{byte_order, room-positive}
 use Rattle.spec_olc.specs.Calls.{Outline}

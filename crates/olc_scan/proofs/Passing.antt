@@ -3,7 +3,7 @@ use Rattle.std.proofs.Common.{◌≡◌, ℕ, suc, ◌+◌, ◌<◌, ◌≤◌, 
 use Rattle.std.proofs.lemmas.Bool.{lt-ltb, le-ltb, eq-eqb, ne_eqb, cases_order, cases_eq, cases_lt}
 use Rattle.spec_map.specs.Map.{lookup, Rises}
 use Rattle.node_table.specs.Key.{Begins, AreBytes, begins, IsFirstDifference, low, high, key_number, next_byte}
-use Rattle.node_table.specs.declared.child.Child.{Child}
+use Rattle.node_table.specs.TableNode.{Child}
 use Rattle.node_table.specs.declared.child.Child.TheVariants.{Payload, Node as below_at}
 use Rattle.spec_map.proofs.MapLaws.{lookup-below}
 use Rattle.node_table.proofs.BeginLaws.{begins_append}

@@ -5,8 +5,7 @@
 ghost use Rattle.std.specs.Prelude.{◌≡◌, ◌↔◌, ℕ, ◌+◌, ◌<◌, ◌≤◌, ◌^◌, max, List, IsTrue, [], ◌∷◌, ◌++◌, Some, None, IsSome, IfSome, IfNone, length};
 ghost use Rattle.spec_map.specs.Map.{between};
 ghost use Rattle.node_table.specs.Key.{high, low, next_byte};
-ghost use Rattle.node_table.specs.TableNode.{looked_at, seen};
-ghost use Rattle.node_table.specs.declared.child.Child.{Child};
+ghost use Rattle.node_table.specs.TableNode.{Child, looked_at, seen};
 ghost use Rattle.spec_olc.specs.Calls.{bytes_of};
 ghost use Rattle.spec_olc.specs.declared.types.Env.{Env};
 ghost use Rattle.olc_scan.specs.inner.Ranges.{IsLooked, IsPaired, IsPast, KnowsScan, ScansOn, after_scan, first_in, looked};

@@ -3,8 +3,7 @@ use Rattle.std.proofs.Common.{◌≡◌, ℕ, ◌+◌, ◌<◌, ◌≤◌, max, 
 use Rattle.node_base.specs.Form.{Fits}
 use Rattle.spec_map.specs.Map.{lookup}
 use Rattle.node_table.specs.Key.{Begins, high, low, next_byte}
-use Rattle.node_table.specs.TableNode.{TableNode}
-use Rattle.node_table.specs.declared.child.Child.{Child}
+use Rattle.node_table.specs.TableNode.{TableNode, Child}
 use Rattle.node_table.specs.declared.child.Child.TheVariants.{Payload, Node as below_at}
 use Rattle.spec_olc.specs.Lock.{IsFree}
 use Rattle.spec_olc.specs.Calls.{key_of}

@@ -6,8 +6,7 @@ use Rattle.slab.specs.Slab.{get, with_value, Updates}
 use Rattle.node_base.specs.Form.{Fits, stated_size}
 use Rattle.spec_map.specs.Map.{lookup, put, without}
 use Rattle.node_table.proofs.KindLaws.{length-mapped, lookup-mapped_none, put-mapped, without-mapped}
-use Rattle.node_table.specs.TableNode.{TableNode, seen}
-use Rattle.node_table.specs.declared.child.Child.{Child}
+use Rattle.node_table.specs.TableNode.{TableNode, Child, seen}
 use Rattle.node_table.specs.declared.child.ChildRef.{ChildRef}
 use Rattle.spec_olc.specs.Meaning.{child_of, in_some}
 use Rattle.olc_words.specs.Epoch.{ChangesLife, admitted, entry_at, life_of}
@@ -134,7 +133,7 @@ module _ {P M : Type 0} (meaning : P → M) (store : Store P) (slot : ℕ) (n : 
       subst (λ k. Fits n.node.form (k + 1)) (length-mapped (child_of meaning) n.node.children) (here (lookup-mapped_none (child_of meaning) n.node.children byte absent))
 
 -- nothing was seen there
-pub seen_nothing : {P : Type 0} (r : Option (ChildRef P)) → false ≡ is_some r → seen r ≡ None
+pub seen_nothing : {P : Type 0} (r : Option (ChildRef P ℕ)) → false ≡ is_some r → seen r ≡ None
 seen_nothing None e = refl
 seen_nothing (Some x) e = absurd (cc)
 

@@ -5,10 +5,9 @@ use Rattle.spec_map.specs.Map.{Pairs, lookup, between}
 use Rattle.spec_map.proofs.MapLaws.{lookup-between_inside}
 use Rattle.spec_map.proofs.RangeLaws.{between-all}
 use Rattle.node_table.specs.Key.{low}
-use Rattle.node_table.specs.TableNode.{TableNode}
+use Rattle.node_table.specs.TableNode.{TableNode, Child}
 use Rattle.node_table.specs.Table.{NodeTable, node_at, pairs_in, pairs_under, pairs_of, pairs_at, IsChild, IsTree, IsSubtree}
 use Rattle.node_table.specs.inner.Kinds.{mapped}
-use Rattle.node_table.specs.declared.child.Child.{Child}
 use Rattle.node_table.specs.declared.child.Child.TheVariants.{Payload, Node}
 use Rattle.node_table.proofs.KindLaws.{between-mapped}
 use Rattle.node_table.proofs.TableLaws.{open_subtree, IsChild-found}

@@ -2,7 +2,7 @@
 use Rattle.std.proofs.Common.{◌≡◌, ℕ, zero, suc, ◌+◌, ◌<◌, ◌≤◌, Bool, true, false, List, [], ◌∷◌, ◌++◌, length, get_or, Some, None, ◌⊎◌, inl, inr, sym, ap, refl, ◌∙◌, subst, arith, length-append, append_assoc}
 use Rattle.node_table.specs.Key.{Begins}
 use Rattle.node_table.proofs.BeginLaws.{after, begins_by}
-use Rattle.node_table.specs.declared.child.Child.{Child}
+use Rattle.node_table.specs.TableNode.{Child}
 use Rattle.node_table.specs.declared.child.Child.TheVariants.{Payload, Node as below_at}
 use Rattle.spec_olc.specs.Lock.{IsFree}
 use Rattle.olc_state.specs.inner.World.{PlacedNode, NodeMap, NodeLifetime, entry}

@@ -3,8 +3,7 @@ use Rattle.std.proofs.Common.{◌≡◌, ◌≢◌, ℕ, ◌≤◌, Bool, true, 
 use Rattle.node_base.specs.Form.{few_in}
 use Rattle.spec_map.specs.Map.{Rises, lookup}
 use Rattle.node_table.specs.Key.{Begins}
-use Rattle.node_table.specs.TableNode.{MayHave, TableNode}
-use Rattle.node_table.specs.declared.child.Child.{Child}
+use Rattle.node_table.specs.TableNode.{MayHave, TableNode, Child}
 use Rattle.node_table.proofs.KindLaws.{length-mapped}
 use Rattle.spec_olc.specs.Kinds.{refusal, refused, report_of}
 use Rattle.spec_olc.specs.Meaning.{child_of, env_of}

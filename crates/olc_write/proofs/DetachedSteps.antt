@@ -1,7 +1,7 @@
 -- A LEAF IS TAKEN OUT of a stock of nodes: its parent's child and its own payload are taken, and it is detached.
 use Rattle.std.proofs.Common.{◌≡◌, ◌≢◌, ℕ, ◌-◌, ◌≤◌, Bool, true, List, [], ◌∷◌, Option, Some, IsSome, inl, inr, refl, sym, subst, ap, ◌∙◌}
 use Rattle.spec_map.specs.Map.{without}
-use Rattle.node_table.specs.declared.child.Child.{Child}
+use Rattle.node_table.specs.TableNode.{Child}
 use Rattle.node_table.specs.declared.child.Child.TheVariants.{Payload}
 use Rattle.spec_olc.specs.Calls.{bytes_of, key_of}
 use Rattle.spec_olc.specs.Kinds.{report_of}

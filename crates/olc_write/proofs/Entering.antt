@@ -6,8 +6,7 @@ use Rattle.spec_map.specs.Map.{Rises, with_answer, without}
 use Rattle.spec_map.proofs.ByteMapLaws.{length-without_present}
 use Rattle.spec_map.proofs.MapLaws.{without-absent}
 use Rattle.node_table.specs.Key.{Begins}
-use Rattle.node_table.specs.TableNode.{MayHave}
-use Rattle.node_table.specs.declared.child.Child.{Child}
+use Rattle.node_table.specs.TableNode.{Child, MayHave}
 use Rattle.node_table.specs.declared.child.Child.TheVariants.{Payload, Node as below_at}
 use Rattle.spec_olc.specs.Calls.{key_of, stored}
 use Rattle.spec_olc.specs.Kinds.{report_of}

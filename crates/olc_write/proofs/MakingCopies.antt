@@ -6,8 +6,7 @@ use Rattle.node_base.specs.Form.{Fits, next_form}
 use Rattle.node_base.specs.declared.base_node.NodeType.TheVariants.{N4}
 use Rattle.spec_map.specs.Map.{lookup, put}
 use Rattle.node_table.specs.Key.{Begins, next_byte}
-use Rattle.node_table.specs.TableNode.{MayHave, TableNode}
-use Rattle.node_table.specs.declared.child.Child.{Child}
+use Rattle.node_table.specs.TableNode.{MayHave, TableNode, Child}
 use Rattle.node_table.specs.declared.child.Child.TheVariants.{Payload, Node as below_at}
 use Rattle.node_table.proofs.KindLaws.{length-mapped, lookup-mapped_some, mapped-absent}
 use Rattle.spec_olc.specs.Kinds.{report_of}

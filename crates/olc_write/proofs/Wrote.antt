@@ -2,7 +2,7 @@
 use Rattle.std.proofs.Common.{◌≡◌, ◌≢◌, ℕ, ◌+◌, ◌≤◌, Bool, true, IsTrue, is_some, length, Option, Some, None, IsSome, refl, sym, subst, ap, ◌∙◌}
 use Rattle.node_base.specs.Form.{Fits}
 use Rattle.spec_map.specs.Map.{put}
-use Rattle.node_table.specs.declared.child.Child.{Child}
+use Rattle.node_table.specs.TableNode.{Child}
 use Rattle.node_table.specs.declared.child.Child.TheVariants.{Payload, Node as below_at}
 use Rattle.node_table.proofs.KindLaws.{length-mapped}
 use Rattle.spec_olc.specs.Calls.{answer_in, asked_of, key_of, stored}

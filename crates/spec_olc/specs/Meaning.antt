@@ -1,7 +1,7 @@
 -- The state of a machine, with each payload replaced by its meaning.
 use Rattle.std.specs.Prelude.{Option, Some, None, Result, Ok, Err}
 use Rattle.node_table.specs.inner.Kinds.{mapped}
-use Rattle.node_table.specs.declared.child.Child.{Child}
+use Rattle.node_table.specs.TableNode.{Child}
 use Rattle.node_table.specs.declared.child.Child.TheVariants.{Payload, Node as node}
 use Rattle.spec_olc.specs.State.{State, VersionedNode, CallState}
 use Rattle.spec_olc.specs.declared.types.Asking.{Asking}

@@ -3,8 +3,7 @@ use Rattle.std.specs.Prelude.{◌≡◌, ℕ, ◌+◌, ◌-◌, ◌^◌, ◌<◌
 use Rattle.node_base.specs.Form.{Fits}
 use Rattle.node_table.specs.Key.{Begins, next_byte, low, high}
 use Rattle.spec_map.specs.Map.{lookup}
-use Rattle.node_table.specs.TableNode.{TableNode}
-use Rattle.node_table.specs.declared.child.Child.{Child}
+use Rattle.node_table.specs.TableNode.{TableNode, Child}
 use Rattle.node_table.specs.declared.child.Child.TheVariants.{Payload, Node as below}
 use Rattle.spec_olc.specs.Calls.{Outline, bytes_of}
 use Rattle.spec_olc.specs.Content.{IsStoredAt}

@@ -5,8 +5,7 @@ use Rattle.node_base.specs.declared.base_node.NodeType.{NodeType}
 use Rattle.node_base.specs.declared.base_node.NodeType.TheVariants.{N4}
 use Rattle.node_table.specs.Key.{Begins, next_byte}
 use Rattle.spec_map.specs.Map.{lookup, put, with_answer, Rises}
-use Rattle.node_table.specs.TableNode.{TableNode, MayHave}
-use Rattle.node_table.specs.declared.child.Child.{Child}
+use Rattle.node_table.specs.TableNode.{TableNode, Child, MayHave}
 use Rattle.node_table.specs.declared.child.Child.TheVariants.{Payload, Node as node}
 use Rattle.spec_olc.specs.Calls.{bytes_of, stored}
 use Rattle.spec_olc.specs.Lists.{is_in}

@@ -8,9 +8,8 @@ use Rattle.spec_map.specs.Map.{Pairs, lookup, between, Rises}
 use Rattle.spec_map.specs.Near.{first_of, last_of}
 use Rattle.spec_map.proofs.NearLaws.{first_at, last_at, no_first, no_last}
 use Rattle.node_table.specs.Key.{AreBytes, Begins, low, key_number, next_byte}
-use Rattle.node_table.specs.TableNode.{TableNode, looked_at}
+use Rattle.node_table.specs.TableNode.{TableNode, Child, looked_at}
 use Rattle.node_table.specs.Table.{NodeTable, NodeInfo, node_at, node_info, pairs_under, pairs_of, pairs_at, nodes_under, nodes_of, nodes_at, IsSound, AreChildren, IsTree}
-use Rattle.node_table.specs.declared.child.Child.{Child}
 use Rattle.node_table.specs.declared.child.Child.TheVariants.{Payload, Node}
 use Rattle.node_table.specs.declared.child.ChildRef.{ChildRef}
 use Rattle.spec_map.proofs.RangeLaws.{between-all}
@@ -100,7 +99,7 @@ module _ {P : Type 0} (es : List (ℕ × Child P)) (h : Rises 0 256 es) where
   all_there : between es 0 256 ≡ es
   all_there = between-all 0 256 0 256 es h (omega arith) (omega arith)
 
-  pub first_seen : (o : Option (ℕ × ChildRef P)) → IfNone o (between es 0 256 ≡ []) → IfSome o (λ found. between es 0 256 ≡ (found.0, looked_at found.1) ∷ between es (found.0 + 1) 256)
+  pub first_seen : (o : Option (ℕ × ChildRef P ℕ)) → IfNone o (between es 0 256 ≡ []) → IfSome o (λ found. between es 0 256 ≡ (found.0, looked_at found.1) ∷ between es (found.0 + 1) 256)
       → option_map (λ found. (found.0, looked_at found.1)) o ≡ first_of es
   first_seen None none some = ap (λ t. first_of t) (sym none ∙ all_there)
   first_seen (Some found) none some = ap (λ t. first_of t) (sym some ∙ all_there)

@@ -3,10 +3,9 @@ use Rattle.std.proofs.Common.{◌≡◌, ℕ, zero, suc, ◌-◌, ◌<◌, List,
 use Rattle.std.proofs.lemmas.Bool.{lt-ltb, le-ltb, cases_order}
 use Rattle.node_base.specs.declared.base_node.NodeType.TheVariants.{N256}
 use Rattle.node_table.specs.Key.{Begins, next_byte}
-use Rattle.node_table.specs.TableNode.{TableNode}
+use Rattle.node_table.specs.TableNode.{TableNode, Child}
 use Rattle.node_table.specs.Table.{NodeTable, NodeInfo, node_info, pairs_of, pairs_at, nodes_of, nodes_at, AreChildren, IsTree}
 use Rattle.node_table.specs.Shape.{Replaces, FillsLeaf, AddsLeaf, SplitsNode, with_one_more, new_leaf, in_order}
-use Rattle.node_table.specs.declared.child.Child.{Child}
 use Rattle.node_table.specs.declared.child.Child.TheVariants.{Payload, Node}
 use Rattle.node_table.proofs.BeginLaws.{after}
 use Rattle.tree_path.specs.Charge.{charge_of}

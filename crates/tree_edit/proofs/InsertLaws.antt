@@ -10,13 +10,12 @@ use Rattle.spec_map.proofs.MapLaws.{Rises-put}
 use Rattle.node_table.proofs.ChildrenLaws as laws
 use Rattle.node_table.proofs.SoundLaws.{AreBytes-take, sound_from, sound-put}
 use Rattle.node_table.specs.Table.{IsSound}
-use Rattle.node_table.specs.TableNode.{TableNode}
+use Rattle.node_table.specs.TableNode.{TableNode, Child}
 use Rattle.node_table.specs.Table.{NodeTable, node_at, pairs_at, IsTree, IsChild}
 use Rattle.node_table.specs.Key.{next_byte}
 use Rattle.tree_path.specs.inner.Descent.{PathTo, EndsAt, Differs, Absent, Present, EndPlace}
 use Rattle.tree_path.specs.inner.Root.{depth}
 use Rattle.tree_edit.specs.inner.Writes.{SameElsewhere, WritesChild, IsLeafOf, IsStoredFor, Adds, Splits}
-use Rattle.node_table.specs.declared.child.Child.{Child}
 use Rattle.node_table.specs.declared.child.Child.TheVariants.{Payload, Node}
 use Rattle.node_table.proofs.TableLaws.{under, IsChild-found}
 use Rattle.node_table.proofs.DownLaws.{KeepsOthers}

@@ -3,10 +3,9 @@ use Rattle.std.proofs.Common.{◌≡◌, ◌≢◌, ℕ, suc, ◌+◌, ◌<◌, 
 use Rattle.std.proofs.lemmas.Bool.{eq-eqb, ne_eqb, cases_order, cases_eq}
 use Rattle.spec_map.specs.Map.{lookup, without, Rises}
 use Rattle.node_table.specs.Key.{low, high, Begins}
-use Rattle.node_table.specs.TableNode.{TableNode}
+use Rattle.node_table.specs.TableNode.{TableNode, Child}
 use Rattle.node_table.specs.Table.{NodeTable, NodeInfo, node_at, node_info, pairs_of, pairs_at, nodes_under, nodes_of, nodes_at, AreChildren, IsTree}
 use Rattle.node_table.specs.Shape.{AreUnder}
-use Rattle.node_table.specs.declared.child.Child.{Child}
 use Rattle.node_table.specs.declared.child.Child.TheVariants.{Payload, Node}
 use Rattle.node_table.proofs.BeginLaws.{after, begins_append}
 use Rattle.spec_map.proofs.MapLaws.{lookup-below, lookup-without_same}

@@ -4,10 +4,9 @@ use Rattle.std.proofs.lemmas.Bool.{cases_eq}
 use Rattle.node_table.specs.Key.{IsFirstDifference}
 use Rattle.node_table.specs.Shape.{grown_form}
 use Rattle.node_table.specs.Table.{NodeTable, node_at}
-use Rattle.node_table.specs.TableNode.{TableNode}
+use Rattle.node_table.specs.TableNode.{TableNode, Child}
 use Rattle.node_base.specs.declared.base_node.NodeType.{NodeType}
 use Rattle.node_base.specs.declared.base_node.NodeType.TheVariants.{N256}
-use Rattle.node_table.specs.declared.child.Child.{Child}
 use Rattle.node_table.proofs.WriteLaws.{KeepsSlots}
 use Rattle.tree_path.specs.inner.Descent.{FindsEnd, EndsAt, Differs, EndPlace}
 use Rattle.tree_path.specs.inner.Root.{HasRoot}

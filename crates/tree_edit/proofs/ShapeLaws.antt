@@ -10,8 +10,7 @@ use Rattle.node_table.specs.Table.{NodeTable, NodeInfo, node_at, node_info, node
 use Rattle.node_table.specs.Shape.{Replaces, FillsLeaf, AddsLeaf, SplitsNode, with_one_more, grown_form, new_leaf, in_order}
 use Rattle.node_base.specs.declared.base_node.NodeType.{NodeType}
 use Rattle.node_base.specs.declared.base_node.NodeType.TheVariants.{N4}
-use Rattle.node_table.specs.TableNode.{TableNode}
-use Rattle.node_table.specs.declared.child.Child.{Child}
+use Rattle.node_table.specs.TableNode.{TableNode, Child}
 use Rattle.node_table.specs.declared.child.Child.TheVariants.{Payload, Node}
 use Rattle.spec_map.proofs.ByteMapLaws.{length-put_new, length-put_some}
 use Rattle.node_table.proofs.KeyLaws.{goes_on, Begins-at_difference_left, Begins-at_difference_right, length-common}

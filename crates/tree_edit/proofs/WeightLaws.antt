@@ -9,7 +9,7 @@ use Rattle.tree_edit.specs.Reduce.{LosesKey}
 use Rattle.node_table.specs.Table.{NodeTable, NodeInfo, nodes_of, nodes_at, AreChildren, IsTree}
 use Rattle.node_base.specs.declared.base_node.NodeType.{NodeType}
 use Rattle.node_base.specs.declared.base_node.NodeType.TheVariants.{N4, N16, N48, N256}
-use Rattle.node_table.specs.declared.child.Child.{Child}
+use Rattle.node_table.specs.TableNode.{Child}
 use Rattle.node_table.specs.declared.child.Child.TheVariants.{Payload, Node}
 use Rattle.spec_map.proofs.ByteMapLaws.{length-from_Rises}
 use Rattle.node_table.proofs.NodesLaws.{below}

@@ -9,9 +9,8 @@ use Rattle.spec_map.proofs.LocalLaws.{IsLocal}
 use Rattle.node_table.proofs.ChildrenLaws as laws
 use Rattle.node_table.proofs.SoundLaws.{sound_from}
 use Rattle.node_table.specs.Table.{IsSound}
-use Rattle.node_table.specs.TableNode.{TableNode}
+use Rattle.node_table.specs.TableNode.{TableNode, Child}
 use Rattle.node_table.specs.Table.{AreChildren}
-use Rattle.node_table.specs.declared.child.Child.{Child}
 
 module _ {V : Type 0} where
   without-append_left : (b c : ℕ) (xs ys : List (ℕ × V)) (k : ℕ) → Rises b c ys → k < b → without (xs ++ ys) k ≡ without xs k ++ ys

@@ -4,7 +4,7 @@ use Rattle.std.proofs.lemmas.Bool.{eq-eqb, ne_eqb, cases_eq, cases_Bool}
 use Rattle.spec_map.specs.Map.{lookup, Rises}
 use Rattle.node_table.specs.Key.{Begins, AreBytes, IsFirstDifference}
 use Rattle.node_table.specs.Table.{NodeTable, NodeInfo, nodes_under, nodes_of, nodes_at, IsChild, AreChildren, IsTree}
-use Rattle.node_table.specs.declared.child.Child.{Child}
+use Rattle.node_table.specs.TableNode.{Child}
 use Rattle.node_table.specs.declared.child.Child.TheVariants.{Payload, Node}
 use Rattle.spec_map.proofs.MapLaws.{lookup-below}
 use Rattle.node_table.proofs.KeyLaws.{goes_on, length-common}

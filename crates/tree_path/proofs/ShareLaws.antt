@@ -7,7 +7,7 @@ use Rattle.spec_map.specs.Map.{Pairs, lookup, between, Rises}
 use Rattle.spec_map.specs.Refusal.{leaf_pairs}
 use Rattle.node_table.specs.Key.{low, high, least, room, key_number, AreBytes}
 use Rattle.node_table.specs.Table.{NodeTable, pairs_of, pairs_at, AreChildren, IsTree}
-use Rattle.node_table.specs.declared.child.Child.{Child}
+use Rattle.node_table.specs.TableNode.{Child}
 use Rattle.node_table.specs.declared.child.Child.TheVariants.{Payload, Node}
 use Rattle.spec_map.proofs.MapLaws.{lookup-below}
 use Rattle.spec_map.proofs.RangeLaws.{between-above}

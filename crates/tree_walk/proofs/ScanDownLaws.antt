@@ -8,9 +8,8 @@ use Rattle.spec_map.specs.Near.{below_of}
 use Rattle.spec_map.proofs.RangeLaws.{between-split}
 use Rattle.spec_map.proofs.NearLaws.{no_last, none_between, none-between, absent_between, stored_between, greatest_between}
 use Rattle.node_table.specs.Key.{low}
-use Rattle.node_table.specs.TableNode.{TableNode}
+use Rattle.node_table.specs.TableNode.{TableNode, Child}
 use Rattle.node_table.specs.Table.{NodeTable, node_at, pairs_of, pairs_at, IsChild, IsTree, IsSubtree}
-use Rattle.node_table.specs.declared.child.Child.{Child}
 use Rattle.node_table.specs.declared.child.Child.TheVariants.{Payload, Node}
 use Rattle.node_table.proofs.NodesLaws.{none_below_seven}
 use Rattle.tree_walk.specs.inner.Scan.{IsWindow, HasSubtree, FillsBuffer, AddsEntries, entries_down}

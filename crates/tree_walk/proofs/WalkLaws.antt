@@ -4,9 +4,8 @@ use Rattle.std.proofs.lemmas.List.{map-append, length-map}
 use Rattle.std.proofs.lemmas.Bool.{eq-eqb}
 use Rattle.spec_map.specs.Map.{Pairs, lookup, without, between, Rises}
 use Rattle.node_table.specs.Key.{low}
-use Rattle.node_table.specs.TableNode.{TableNode}
+use Rattle.node_table.specs.TableNode.{TableNode, Child}
 use Rattle.node_table.specs.Table.{NodeTable, node_at, pairs_under, pairs_of, pairs_at, IsTree, IsSubtree}
-use Rattle.node_table.specs.declared.child.Child.{Child}
 use Rattle.node_table.specs.declared.child.Child.TheVariants.{Payload, Node}
 use Rattle.spec_map.proofs.RangeLaws.{between-all}
 use Rattle.node_table.proofs.KeyLaws.{least-bound, room-positive, AreBytes-append}

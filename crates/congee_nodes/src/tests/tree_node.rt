@@ -4,7 +4,7 @@ ghost use Rattle.std.specs.Prelude.{◌≡◌, [], ◌∷◌};
 ghost use Rattle.node_base.specs.declared.base_node.NodeType.TheVariants.{N4};
 
 use crate::base_node::NodeType;
-use crate::child::{Child, ChildRef};
+use crate::child::{Child, ChildRef, Meeting};
 use crate::error::OOMError;
 use crate::tree_node::TreeNode;
 use std::alloc::Global;
@@ -136,6 +136,34 @@ fn changes_a_slot(rt: &impl Abort, node: &mut TreeNode<u64>)
 fn inner_nodes_have_slots(rt: HostRuntime) -> Result<(), Fail> {
     let mut node = TreeNode::<u64>::inner(rt.alloc(), &[1])?;
     changes_a_slot(&rt, &mut node);
+    Ok(())
+}
+
+// Puts one pair in the place of another, looks at it by each call that borrows, and takes it out.
+fn changes_a_pair(rt: &impl Abort, node: &mut TreeNode<u64, (u8, u64)>)
+    requires { node.old ≡ record { form = N4; prefix = 1 ∷ []; children = [] } }
+{
+    node.insert(9, Child::Node((5, 50)));
+    assert!(rt; matches!(node.change(9, Child::Node((6, 60))), Child::Node((5, 50))));
+    assert!(rt; matches!(node.get_child_ref(9), Some(ChildRef::Node((6, 60)))));
+    assert!(rt; matches!(node.first_ref_from(0), Some((9, ChildRef::Node((6, 60))))));
+    assert!(rt; matches!(node.last_ref_below(256), Some((9, ChildRef::Node((6, 60))))));
+    assert!(rt; node.last_ref_below(9).is_none());
+    let key = [1, 9, 0, 0, 0, 0, 0, 0];
+    assert!(rt;
+        matches!(
+            node.meet_ref(&key, u64::from_be_bytes(key)),
+            Meeting::Node((6, 60))
+        )
+    );
+    assert!(rt; matches!(node.remove(9), Child::Node((6, 60))));
+    assert!(rt; node.get_child_ref(9).is_none());
+}
+
+#[test]
+fn inner_nodes_may_have_others_than_slots(rt: HostRuntime) -> Result<(), Fail> {
+    let mut node = TreeNode::<u64, (u8, u64)>::inner(rt.alloc(), &[1])?;
+    changes_a_pair(&rt, &mut node);
     Ok(())
 }
 

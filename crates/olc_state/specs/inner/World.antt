@@ -1,8 +1,7 @@
 -- The machine's inside: the nodes in their slots, the records of the calls in flight, the pins.
 use Rattle.std.specs.Prelude.{ℕ, List, Option, Some, None, slice_index_or}
 use Rattle.spec_map.specs.Map.{lookup}
-use Rattle.node_table.specs.TableNode.{TableNode}
-use Rattle.node_table.specs.declared.child.Child.{Child}
+use Rattle.node_table.specs.TableNode.{TableNode, Child}
 use Rattle.olc_words.specs.Epoch.{PinsView, entry_at}
 use Rattle.olc_words.specs.declared.epoch.Life.{Life}
 use Rattle.olc_words.specs.declared.epoch.Life.TheVariants.{InUse, Retired}

@@ -6,8 +6,7 @@ use Rattle.node_base.specs.declared.base_node.NodeType.TheVariants.{N4, N16, N48
 use Rattle.spec_map.specs.Map.{Rises, between, lookup, put}
 use Rattle.node_table.specs.Charge.{add_charge}
 use Rattle.node_table.specs.Key.{next_byte}
-use Rattle.node_table.specs.TableNode.{MayHave, TableNode}
-use Rattle.node_table.specs.declared.child.Child.{Child}
+use Rattle.node_table.specs.TableNode.{MayHave, TableNode, Child}
 use Rattle.node_table.specs.declared.child.Child.TheVariants.{Payload, Node as below_at}
 use Rattle.spec_olc.specs.Calls.{bytes_of, key_of}
 use Rattle.spec_olc.specs.Meaning.{child_of}

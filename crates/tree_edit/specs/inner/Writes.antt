@@ -6,14 +6,13 @@ use Rattle.node_table.specs.Shape.{grown_form}
 use Rattle.node_base.specs.declared.base_node.NodeType.TheVariants.{N4}
 use Rattle.spec_map.specs.Refusal.{IsFullOrAbsent}
 use Rattle.node_table.specs.Key.{IsFirstDifference}
-use Rattle.node_table.specs.TableNode.{TableNode, MayHave}
+use Rattle.node_table.specs.TableNode.{TableNode, Child, MayHave}
 use Rattle.node_table.specs.Table.{NodeTable, node_at}
 use Rattle.tree_path.specs.inner.Descent.{Halts, IsOfOneKind}
 use Rattle.tree_path.specs.declared.descent.Stop.{Stop}
 use Rattle.tree_path.specs.declared.descent.Stop.TheVariants.{Differs, Absent, Leaf}
 use Rattle.tree_path.specs.inner.Supply.{with_form, CountsGrown}
 use Rattle.tree_path.specs.declared.supply.FormCounts.{FormCounts}
-use Rattle.node_table.specs.declared.child.Child.{Child}
 use Rattle.node_table.specs.declared.child.Child.TheVariants.{Payload, Node}
 
 module _ {P : Type 0} where

@@ -2,9 +2,8 @@
 use Rattle.std.specs.Prelude.{◌≡◌, ℕ, zero, suc, ◌+◌, ◌-◌, ◌<◌, ◌≤◌, List, [], ◌∷◌, ◌++◌, length, slice_index, Some, None}
 use Rattle.spec_map.specs.Map.{lookup}
 use Rattle.node_table.specs.Key.{Begins, IsFirstDifference, next_byte}
-use Rattle.node_table.specs.TableNode.{TableNode, MayHave}
+use Rattle.node_table.specs.TableNode.{TableNode, Child, MayHave}
 use Rattle.node_table.specs.Table.{NodeTable, node_at, IsTree}
-use Rattle.node_table.specs.declared.child.Child.{Child}
 use Rattle.node_table.specs.declared.child.Child.TheVariants.{Payload, Node}
 use Rattle.tree_path.specs.declared.descent.Step.{Step}
 use Rattle.tree_path.specs.declared.descent.Step.TheVariants.{Down, Here}

@@ -1,4 +1,4 @@
-use Rattle.std.proofs.Common.{Some, None, refl, sym, ap, ◌∙◌, subst}
+use Rattle.std.proofs.Common.{ℕ, Some, None, refl, sym, ap, ◌∙◌, subst}
 use Rattle.spec_map.specs.Map.{lookup}
 use Rattle.node_table.specs.Key.{next_byte}
 use Rattle.node_table.specs.TableNode.{seen}
@@ -19,7 +19,7 @@ unreachable-requires g c =
     leaf_above g.P.Payload.always_shared g.P.HasMeaning.same_meaning _ c.args.store.now.root c.args.pin _ c.requires.placed c.args.path known.node known.here (c.requires.at_key known.node known.here) c.requires.facts
     (g.P.HasMeaning.meaning c.in-Some-Payload.field-0-0.now)
     (under g.P.HasMeaning.meaning n known.node same (key_bytes c.args.task.now) (Some (Payload c.in-Some-Payload.field-0-0.now))
-    (ap (λ z. lookup n.children (next_byte n.prefix (bytes_of z))) (sym c.key.ensures) ∙ (sym c.in-Some-Payload.ensures ∙ ap (λ (r : ChildRef g.row.P.Denot). seen (Some r)) c.in-Some-Payload.field-0-is)))
+    (ap (λ z. lookup n.children (next_byte n.prefix (bytes_of z))) (sym c.key.ensures) ∙ (sym c.in-Some-Payload.ensures ∙ ap (λ (r : ChildRef g.row.P.Denot ℕ). seen (Some r)) c.in-Some-Payload.field-0-is)))
     c.in_default.is
 
 pub returns-in-Some-Node : goal.returns-in-Some-Node
@@ -27,7 +27,7 @@ returns-in-Some-Node g c = λ a here.
     let n = c.node_at-stored.result.now.node in
     let same = node_there g.P.HasMeaning.meaning c.args.store.now c.args.path.here.slot c.node_at-stored.result.now a c.node_at-stored.ensures here in
     under g.P.HasMeaning.meaning n a same (key_bytes c.args.task.now) (Some (below_at c.in-Some-Node.slot))
-    (ap (λ z. lookup n.children (next_byte n.prefix (bytes_of z))) (sym c.key.ensures) ∙ (sym c.in-Some-Node.ensures ∙ ap (λ (r : ChildRef g.row.P.Denot). seen (Some r)) c.in-Some-Node.field-0-is))
+    (ap (λ z. lookup n.children (next_byte n.prefix (bytes_of z))) (sym c.key.ensures) ∙ (sym c.in-Some-Node.ensures ∙ ap (λ (r : ChildRef g.row.P.Denot ℕ). seen (Some r)) c.in-Some-Node.field-0-is))
 
 pub returns-in-Some : goal.returns-in-Some
 returns-in-Some g c = λ a here.
@@ -36,7 +36,7 @@ returns-in-Some g c = λ a here.
     let v = g.P.HasMeaning.meaning c.in-Some-Payload.field-0-0.now in
     let there =
     under g.P.HasMeaning.meaning n a same (key_bytes c.args.task.now) (Some (Payload c.in-Some-Payload.field-0-0.now))
-    (ap (λ z. lookup n.children (next_byte n.prefix (bytes_of z))) (sym c.key.ensures) ∙ (sym c.in-Some-Payload.ensures ∙ ap (λ (r : ChildRef g.row.P.Denot). seen (Some r)) c.in-Some-Payload.field-0-is)) in
+    (ap (λ z. lookup n.children (next_byte n.prefix (bytes_of z))) (sym c.key.ensures) ∙ (sym c.in-Some-Payload.ensures ∙ ap (λ (r : ChildRef g.row.P.Denot ℕ). seen (Some r)) c.in-Some-Payload.field-0-is)) in
     let full =
     full_here g.P.Payload.always_shared g.P.HasMeaning.same_meaning _ c.args.store.now.root c.args.pin _ c.requires.placed c.args.path a here (c.requires.at_key a here) c.requires.facts v there in
     let count = c.value_count.ensures ∙ (c.base.ensures.count ∙ sym (count_same g.P.HasMeaning.meaning n a same (key_bytes c.args.task.now))) in

@@ -5,4 +5,4 @@ use Rattle.node_table.proofs.KindLaws.{between-mapped}
 use Rattle.node_table.proofs.kinds.InnerHeadInTable.children_between.Goals as goal
 
 pub returns-clause-children : goal.returns-clause-children
-returns-clause-children g c = ap (mapped (λ slot. Node slot)) c.children_of.ensures ∙ sym (between-mapped (λ slot. Node slot) (g.H.Head.children c.args.self.now.head c.args.row.now) c.args.from c.args.to)
+returns-clause-children g c = ap (mapped (λ child. Node child)) c.children_of.ensures ∙ sym (between-mapped (λ child. Node child) (g.H.Head.children c.args.self.now.head c.args.row.now) c.args.from c.args.to)

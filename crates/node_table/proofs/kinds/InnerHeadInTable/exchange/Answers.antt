@@ -3,12 +3,12 @@ use Rattle.node_table.proofs.KindLaws.{lookup-mapped_none, lookup-mapped_some, p
 use Rattle.node_table.proofs.kinds.InnerHeadInTable.exchange.Goals as goal
 
 pub returns-in-Ok-clause-before : goal.returns-in-Ok-clause-before
-returns-in-Ok-clause-before g c = lookup-mapped_some (λ slot. Node slot) (g.H.Head.children c.args.self.now.head c.args.row.now) c.args.byte c.in-Ok.before c.in-Ok.ensures.before
+returns-in-Ok-clause-before g c = lookup-mapped_some (λ child. Node child) (g.H.Head.children c.args.self.now.head c.args.row.now) c.args.byte c.in-Ok.before c.in-Ok.ensures.before
 
 pub returns-in-Ok-clause-after : goal.returns-in-Ok-clause-after
 returns-in-Ok-clause-after g c =
     rw c.in-Node.is
-    (put_into {P = g.row.P.Denot} (λ slot. Node slot) _ _ _ _ (g.H.Head.children c.args.self.now.head c.args.row.now) _ c.args.byte c.in-Node.slot c.in-Ok.ensures.form c.in-Ok.ensures.prefix c.in-Ok.ensures.children)
+    (put_into {P = g.row.P.Denot} {C = g.row.C.Denot} (λ child. Node child) _ _ _ _ (g.H.Head.children c.args.self.now.head c.args.row.now) _ c.args.byte c.in-Node.place c.in-Ok.ensures.form c.in-Ok.ensures.prefix c.in-Ok.ensures.children)
 
 pub returns-in-Err-clause-absent : goal.returns-in-Err-clause-absent
-returns-in-Err-clause-absent g c = lookup-mapped_none (λ slot. Node slot) (g.H.Head.children c.args.self.now.head c.args.row.now) c.args.byte c.in-Err.ensures.absent
+returns-in-Err-clause-absent g c = lookup-mapped_none (λ child. Node child) (g.H.Head.children c.args.self.now.head c.args.row.now) c.args.byte c.in-Err.ensures.absent

@@ -3,12 +3,12 @@ use Rattle.node_table.proofs.KindLaws.{mapped-absent, fits_here, put_into}
 use Rattle.node_table.proofs.kinds.InnerHeadInTable.insert.Goals as goal
 
 pub insert-requires-clause-absent : goal.insert-requires-clause-absent
-insert-requires-clause-absent g c = mapped-absent (λ slot. Node slot) (g.H.Head.children c.args.self.now.head c.args.row.now) c.args.byte c.requires.absent
+insert-requires-clause-absent g c = mapped-absent (λ child. Node child) (g.H.Head.children c.args.self.now.head c.args.row.now) c.args.byte c.requires.absent
 
 pub insert-requires-clause-room : goal.insert-requires-clause-room
-insert-requires-clause-room g c = fits_here (λ slot. Node slot) _ (g.H.Head.children c.args.self.now.head c.args.row.now) 1 c.requires.room
+insert-requires-clause-room g c = fits_here (λ child. Node child) _ (g.H.Head.children c.args.self.now.head c.args.row.now) 1 c.requires.room
 
 pub returns-clause-after : goal.returns-clause-after
 returns-clause-after g c =
     rw c.in-Node.is
-    (put_into {P = g.row.P.Denot} (λ slot. Node slot) _ _ _ _ (g.H.Head.children c.args.self.now.head c.args.row.now) _ c.args.byte c.in-Node.slot c.insert.ensures.form c.insert.ensures.prefix c.insert.ensures.children)
+    (put_into {P = g.row.P.Denot} {C = g.row.C.Denot} (λ child. Node child) _ _ _ _ (g.H.Head.children c.args.self.now.head c.args.row.now) _ c.args.byte c.in-Node.place c.insert.ensures.form c.insert.ensures.prefix c.insert.ensures.children)

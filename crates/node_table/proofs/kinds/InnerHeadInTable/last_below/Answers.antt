@@ -6,7 +6,7 @@ use Rattle.std.proofs.lemmas.Bool.{false≢true}
 use Rattle.node_table.proofs.kinds.InnerHeadInTable.last_below.Goals as goal
 
 pub returns-in_default : goal.returns-in_default
-returns-in_default g c = last-none (λ slot. Node slot) (g.H.Head.children c.args.self.now.head c.args.row.now) c.args.to c.in_default.ensures
+returns-in_default g c = last-none (λ child. Node child) (g.H.Head.children c.args.self.now.head c.args.row.now) c.args.to c.in_default.ensures
 
 pub unreachable-requires : goal.unreachable-requires
 unreachable-requires g c =
@@ -14,4 +14,4 @@ unreachable-requires g c =
     false≢true (ap is_some c.in-None.ensures.found ∙ some)
 
 pub returns : goal.returns
-returns g c = last-found (λ slot. Node slot) (g.H.Head.children c.args.self.now.head c.args.row.now) c.args.to _ _ c.in-Some-get_child.ensures.ascending c.in-Some.ensures c.in-Some-get_child.ensures.found
+returns g c = last-found (λ child. Node child) (g.H.Head.children c.args.self.now.head c.args.row.now) c.args.to _ _ c.in-Some-get_child.ensures.ascending c.in-Some.ensures c.in-Some-get_child.ensures.found

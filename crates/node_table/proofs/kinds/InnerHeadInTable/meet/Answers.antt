@@ -1,7 +1,7 @@
 use Rattle.std.proofs.Common.{◌≡◌, ◌∙◌, Some, None, sym, subst}
 use Rattle.spec_map.specs.Map.{lookup}
 use Rattle.node_table.specs.Key.{next_byte}
-use Rattle.node_table.specs.inner.Kinds.{slots}
+use Rattle.node_table.specs.inner.Kinds.{places}
 use Rattle.node_table.specs.declared.child.Child.TheVariants.{Node}
 use Rattle.node_table.proofs.BeginLaws.{begun, parted}
 use Rattle.node_table.proofs.KindLaws.{lookup-mapped_some, lookup-mapped_none}
@@ -16,7 +16,7 @@ returns-in-Some g c =
     let same : c.prefix.result.now ≡ g.H.Head.prefix c.args.self.now.head = c.prefix.ensures.bytes ∙ c.base-base.ensures.prefix in (
       begun _ _ _ _ c.begins.ensures c.base-base.ensures.prefix c.requires.word c.if-not-begins.false,
       c.requires.kind.1,
-      subst (λ q. lookup (slots {P = g.row.P.Denot} es) (next_byte q c.args.key.now) ≡ Some (Node c.in-Some.slot.now)) same (lookup-mapped_some (λ slot. Node slot) es _ _ (sym c.in-Some.ensures.found)),
+      subst (λ q. lookup (places {P = g.row.P.Denot} {C = g.row.C.Denot} es) (next_byte q c.args.key.now) ≡ Some (Node c.in-Some.child.now)) same (lookup-mapped_some (λ child. Node child) es _ _ (sym c.in-Some.ensures.found)),
     )
 
 pub returns-in-None : goal.returns-in-None
@@ -25,5 +25,5 @@ returns-in-None g c =
     let same : c.prefix.result.now ≡ g.H.Head.prefix c.args.self.now.head = c.prefix.ensures.bytes ∙ c.base-base.ensures.prefix in (
       begun _ _ _ _ c.begins.ensures c.base-base.ensures.prefix c.requires.word c.if-not-begins.false,
       c.requires.kind.1,
-      subst (λ q. lookup (slots {P = g.row.P.Denot} es) (next_byte q c.args.key.now) ≡ None) same (lookup-mapped_none (λ slot. Node slot) es _ (sym c.in-None.ensures.found)),
+      subst (λ q. lookup (places {P = g.row.P.Denot} {C = g.row.C.Denot} es) (next_byte q c.args.key.now) ≡ None) same (lookup-mapped_none (λ child. Node child) es _ (sym c.in-None.ensures.found)),
     )

@@ -4,13 +4,13 @@ use Rattle.node_table.proofs.KindLaws.{lookup-mapped_none, lookup-mapped_some, t
 use Rattle.node_table.proofs.kinds.InnerHeadInTable.take.Goals as goal
 
 pub returns-in-Some-clause-before : goal.returns-in-Some-clause-before
-returns-in-Some-clause-before g c = sym (lookup-mapped_some (λ slot. Node slot) (g.H.Head.children c.args.self.now.head c.args.row.now) c.args.byte c.in-Some.slot (sym c.in-Some.ensures.before))
+returns-in-Some-clause-before g c = sym (lookup-mapped_some (λ child. Node child) (g.H.Head.children c.args.self.now.head c.args.row.now) c.args.byte c.in-Some.place (sym c.in-Some.ensures.before))
 
 pub returns-in-Some-clause-after : goal.returns-in-Some-clause-after
-returns-in-Some-clause-after g c = taken_from (λ slot. Node slot) _ _ _ _ (g.H.Head.children c.args.self.now.head c.args.row.now) _ c.args.byte c.in-Some.ensures.form c.in-Some.ensures.prefix c.in-Some.ensures.children
+returns-in-Some-clause-after g c = taken_from (λ child. Node child) _ _ _ _ (g.H.Head.children c.args.self.now.head c.args.row.now) _ c.args.byte c.in-Some.ensures.form c.in-Some.ensures.prefix c.in-Some.ensures.children
 
 pub returns-in-None-clause-before : goal.returns-in-None-clause-before
-returns-in-None-clause-before g c = sym (lookup-mapped_none (λ slot. Node slot) (g.H.Head.children c.args.self.now.head c.args.row.now) c.args.byte (sym c.in-None.ensures.before))
+returns-in-None-clause-before g c = sym (lookup-mapped_none (λ child. Node child) (g.H.Head.children c.args.self.now.head c.args.row.now) c.args.byte (sym c.in-None.ensures.before))
 
 pub returns-in-None-clause-after : goal.returns-in-None-clause-after
-returns-in-None-clause-after g c = taken_from (λ slot. Node slot) _ _ _ _ (g.H.Head.children c.args.self.now.head c.args.row.now) _ c.args.byte c.in-None.ensures.form c.in-None.ensures.prefix c.in-None.ensures.children
+returns-in-None-clause-after g c = taken_from (λ child. Node child) _ _ _ _ (g.H.Head.children c.args.self.now.head c.args.row.now) _ c.args.byte c.in-None.ensures.form c.in-None.ensures.prefix c.in-None.ensures.children

@@ -11,4 +11,4 @@ insert-requires-clause-room g c = fits_here (λ v. Payload v) _ (g.H.Head.childr
 pub returns-clause-after : goal.returns-clause-after
 returns-clause-after g c =
     rw c.in-Payload.is
-    (put_into {P = g.row.P.Denot} (λ v. Payload v) _ _ _ _ (g.H.Head.children c.args.self.now.head c.args.row.now) _ c.args.byte c.in-Payload.payload c.insert.ensures.form c.insert.ensures.prefix c.insert.ensures.children)
+    (put_into {P = g.row.P.Denot} {C = g.row.C.Denot} (λ v. Payload v) _ _ _ _ (g.H.Head.children c.args.self.now.head c.args.row.now) _ c.args.byte c.in-Payload.payload c.insert.ensures.form c.insert.ensures.prefix c.insert.ensures.children)
