@@ -13,8 +13,8 @@ use crate::room;
 use std::alloc::{AllocError, Global};
 use std::marker::Model;
 use word_book::seat::Pens;
-use word_segments::place::before_of;
-use word_segments::segments::{Segments, made};
+use word_segments::place::{before_of, size_of};
+use word_segments::segments::{Segments, filled};
 
 /// The words of all nodes. `door` lets threads enter.
 #[derive(Drop)]
@@ -35,25 +35,6 @@ impl<V, L: NodeLaw<V>> Model for Heap<V, L> {
         × (h.segments ≡ record { base = L.root + 2; book = h.door.book }) };
 }
 
-// The first words of a book.
-fn trunk_of<V, L: NodeLaw<V>>(
-    alloc: Global,
-    count: usize,
-    pens: Pens,
-) -> Result<Vec<Word<V, L>>, AllocError>
-    requires { (pens.left ≡ count) × (pens.next ≡ 0) }
-    ensures { IfOk result (λ words. (length words.items ≡ count) × AreWords 0 pens.book words.items) }
-{
-    let mut pens = pens;
-    let mut words = Vec::with_capacity(alloc, count)?;
-    let mut i = 0;
-    while i < count {
-        words.push_reserved(Word::of(&mut pens));
-        i += 1;
-    }
-    Ok(words)
-}
-
 impl<V, L: NodeLaw<V>> Heap<V, L> {
     /// The root alone, whose content is all 0.
     pub fn new(alloc: Global, root: usize) -> Result<Heap<V, L>, AllocError>
@@ -61,7 +42,7 @@ impl<V, L: NodeLaw<V>> Heap<V, L> {
         requires law { L.holds (node_at 1 0 (replicate root 0) None ∷ []) (L.first ∷ []) }
     {
         let (door, pens) = room::open::<V, L>(root);
-        let trunk = trunk_of::<V, L>(alloc, root + 2, pens)?;
+        let trunk = filled(Vec::with_capacity(alloc, root + 2)?, root + 2, pens);
         let segments = Segments::new(alloc, root as u64 + 2, &trunk[0])?;
         Ok(Heap {
             trunk,
@@ -114,7 +95,8 @@ impl<V, L: NodeLaw<V>> Heap<V, L> {
         if !grown {
             return Ok(None);
         }
-        drop(self.segments.set(number, made(number, words, pens)));
+        let segment = filled(words, size_of(number), pens);
+        drop(self.segments.set(number, segment));
         Ok(Some(first + before_of(number)))
     }
 }

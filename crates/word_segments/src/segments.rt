@@ -80,16 +80,15 @@ impl<V, P: Rule<V>> Model for Segments<V, P> {
     ghost invariant = { λ s. Tagged s.tag.numbers 0 40 s.shelves.items × (first s.tag.numbers ≡ s.base) };
 }
 
-/// The words of a segment, in memory that is there.
-pub fn made<V, P: Rule<V>>(number: u64, words: Vec<Word<V, P>>, pens: Pens) -> Vec<Word<V, P>>
-    requires room { (words.items ≡ []) × (size number ≤ words.cap) }
-    requires rights { pens.left ≡ size number }
-    ensures count { length result.items ≡ size number }
+/// The next words of a book, as many as the pens may write, in memory that is there.
+pub fn filled<V, P: Rule<V>>(words: Vec<Word<V, P>>, count: usize, pens: Pens) -> Vec<Word<V, P>>
+    requires room { (words.items ≡ []) × (count ≤ words.cap) }
+    requires rights { pens.left ≡ count }
+    ensures count { length result.items ≡ count }
     ensures words { AreWords pens.next pens.book result.items }
 {
     let mut words = words;
     let mut pens = pens;
-    let count = size_of(number);
     let mut i = 0usize;
     while i < count {
         words.push_reserved(Word::of(&mut pens));
