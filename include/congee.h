@@ -376,6 +376,12 @@ static inline uint64_t congee_charged(const struct congee *map) {
     return congee_c_charged(&handle);
 }
 
+/* The limit in bytes that the map was made with, UINT64_MAX for none, in constant time. No more is charged. */
+static inline uint64_t congee_limit(const struct congee *map) {
+    struct congee_const_handle handle = {map};
+    return congee_c_limit(&handle);
+}
+
 /* -- Readers on several threads -- */
 
 /* Freezes a map: from here on nobody changes it, and threads may look keys up at once, each by a reader of its own.

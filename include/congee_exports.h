@@ -75,6 +75,7 @@ uint64_t congee_c_remove_range_inclusive(struct congee_handle *handle, uint64_t 
 bool congee_c_is_empty(struct congee_const_handle *handle);
 uint64_t congee_c_count(struct congee_const_handle *handle);
 uint64_t congee_c_charged(struct congee_const_handle *handle);
+uint64_t congee_c_limit(struct congee_const_handle *handle);
 int32_t congee_c_freeze(struct congee_handle handle, struct congee_frozen_handle *out, struct congee_handle *back);
 int32_t congee_c_thaw(struct congee_frozen_handle frozen, struct congee_handle *out,
                       struct congee_frozen_handle *back);

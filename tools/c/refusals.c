@@ -157,7 +157,7 @@ static int insert_with_limit(uint64_t limit) {
         return -2;
     }
     int code = congee_insert(map, 1, 42, NULL);
-    need(congee_count(map) == (code == 0) && congee_charged(map) <= limit, "the limit holds");
+    need(congee_count(map) == (code == 0) && congee_charged(map) <= limit && congee_limit(map) == limit, "the limit holds");
     congee_free(map);
     return code;
 }

@@ -11,7 +11,7 @@
 //! Tested in `tools/c-library`.
 #![tactic(auto)]
 
-ghost use Rattle.std.specs.Prelude.{◌≡◌, ◌≢◌, ℕ, pos, ◌⊎◌, ◌↔◌, ◌++◌, [], Some, None, IfSome, IsSome, IsTrue, length, min, map, take, drop};
+ghost use Rattle.std.specs.Prelude.{◌≡◌, ◌≢◌, ℕ, pos, ◌⊎◌, ◌≤◌, ◌↔◌, ◌++◌, [], Some, None, IfSome, IsSome, IsTrue, length, min, map, take, drop};
 ghost use Rattle.spec_map.specs.Map.{lookup, put, without, between};
 ghost use Rattle.spec_map.specs.Refusal.{NeedsNode};
 ghost use Rattle.node_stats.specs.LevelCounts.{capped};
@@ -20,6 +20,7 @@ ghost use Rattle.tree_edit.specs.TreeCalls.{IsNew};
 ghost use Rattle.tree_edit.specs.Tree.{ChargesForNodes, StoresSame};
 ghost use Rattle.congee_c.specs.Answer.{is_there, put_if_there, oom};
 ghost use Rattle.congee_c.specs.Limit.{limit_of, limit_charge};
+ghost use Rattle.node_table.specs.Charge.{budget_charge};
 
 mod bulk;
 mod compute;
@@ -231,6 +232,17 @@ pub extern "C" fn congee_c_charged(handle: &mut Handle) -> u64
     ensures place { handle.new.ptr ≡ handle.old.ptr }
 {
     narrowed(handle.as_mut().map.charged())
+}
+
+/// The limit in bytes that the map was made with: no more is charged. Takes constant time.
+#[unsafe(no_mangle)]
+pub extern "C" fn congee_c_limit(handle: &mut Handle) -> u64
+    ensures limit { result ≡ (budget_charge handle.old.held.map.budget).limit }
+    ensures within { charge_of handle.old.held.map.nodes ≤ result }
+    ensures same { handle.new.held ≡ handle.old.held }
+    ensures place { handle.new.ptr ≡ handle.old.ptr }
+{
+    handle.as_mut().map.allocator().limit()
 }
 
 // 1 with the value written to the place, or 0.

@@ -7,6 +7,8 @@ ghost use Rattle.std.specs.Prelude.{◌≡◌, ◌+◌, ◌<◌, ◌^◌, ◌↔
 ghost use Rattle.std.specs.Fn.{TakesAt};
 ghost use Rattle.std.specs.Option.{ForSome};
 ghost use Rattle.std.specs.Int.{from_be_bytes, w64};
+ghost use Rattle.node_table.specs.Charge.{Covers};
+ghost use Rattle.tree_path.specs.Charge.{charge_of};
 ghost use Rattle.tree_edit.specs.TreeCalls.{IsNew, IsChargeOf, Removes, Inserts, ComputesOrInserts, ComputesIfPresent, ReadsPath};
 ghost use Rattle.tree_edit.specs.Closure.{TakesOption};
 ghost use Rattle.spec_map.specs.Map.{IsMap};
@@ -146,6 +148,14 @@ impl<P: Payload, A: Allocator> RawCongee<P, A> {
         ensures { result ≡ length self.now.pairs }
     {
         self.tree.value_count()
+    }
+
+    /// The allocator, which is charged for each node of the tree.
+    pub fn allocator(&self) -> &A
+        ensures budget { result.now ≡ self.now.budget }
+        ensures charged { Covers (A.charge self.now.budget) (charge_of self.now.nodes) }
+    {
+        self.tree.allocator()
     }
 
     /// The sum of the stated sizes of the tree's nodes, which its budget is charged for. No node but the root is empty,

@@ -6,6 +6,8 @@ ghost use Rattle.std.specs.Prelude.{◌≡◌, [], IfOk, IsTrue, ◌↔◌, map 
 ghost use Rattle.std.specs.Fn.{TakesAt};
 ghost use Rattle.std.specs.Option.{ForSome};
 ghost use Rattle.spec_map.specs.Map.{lookup, IsMap};
+ghost use Rattle.node_table.specs.Charge.{Covers};
+ghost use Rattle.tree_path.specs.Charge.{charge_of};
 ghost use Rattle.tree_edit.specs.TreeCalls.{IsNew, IsChargeOf, Removes, Inserts, ComputesIfPresent};
 ghost use Rattle.tree_edit.specs.Tree.{root_alone};
 
@@ -83,6 +85,14 @@ impl<K: Word, P: Payload, A: Allocator> PayloadCongee<K, P, A> {
         ensures { IsTrue result ↔ (self.now.pairs ≡ []) }
     {
         self.tree.is_empty()
+    }
+
+    /// The allocator, which is charged for each node of the map's tree.
+    pub fn allocator(&self) -> &A
+        ensures budget { result.now ≡ self.now.budget }
+        ensures charged { Covers (A.charge self.now.budget) (charge_of self.now.nodes) }
+    {
+        self.tree.allocator()
     }
 
     /// The sum of the stated sizes of the nodes of the map's tree, which its allocator is charged for. No node but the

@@ -8,6 +8,8 @@ ghost use Rattle.std.specs.Option.{option_map};
 ghost use Rattle.spec_map.specs.Map.{lookup, put, without, with_answer, between, IsMap};
 ghost use Rattle.congee_tree.specs.Stats.{AreStatsOf};
 ghost use Rattle.spec_map.specs.Refusal.{NeedsNode};
+ghost use Rattle.node_table.specs.Charge.{Covers};
+ghost use Rattle.tree_path.specs.Charge.{charge_of};
 ghost use Rattle.tree_edit.specs.TreeCalls.{IsNew, IsChargeOf};
 ghost use Rattle.tree_edit.specs.Tree.{ChargesForNodes, StoresSame};
 
@@ -134,6 +136,14 @@ impl<K: Word, V: Word, A: Allocator, D: Drainer<K, V>> Congee<K, V, A, D> {
         ensures { result ≡ length self.now.pairs }
     {
         self.tree.value_count()
+    }
+
+    /// The allocator, which is charged for each node of the map's tree.
+    pub fn allocator(&self) -> &A
+        ensures budget { result.now ≡ self.now.budget }
+        ensures charged { Covers (A.charge self.now.budget) (charge_of self.now.nodes) }
+    {
+        self.tree.allocator()
     }
 
     /// The sum of the stated sizes of the nodes of the map's tree, which its allocator is charged for. No node but the

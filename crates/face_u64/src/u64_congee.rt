@@ -7,6 +7,8 @@ ghost use Rattle.std.specs.Int.{to_be_bytes, w64};
 ghost use Rattle.std.specs.Option.{option_map};
 ghost use Rattle.spec_map.specs.Map.{lookup, put, without, between, IsMap};
 ghost use Rattle.spec_map.specs.Refusal.{NeedsNode};
+ghost use Rattle.node_table.specs.Charge.{Covers};
+ghost use Rattle.tree_path.specs.Charge.{charge_of};
 ghost use Rattle.tree_edit.specs.TreeCalls.{IsNew, IsChargeOf};
 ghost use Rattle.tree_edit.specs.Tree.{root_alone, ChargesForNodes, StoresSame};
 
@@ -97,6 +99,14 @@ impl<V: Word, A: Allocator> U64Congee<V, A> {
         ensures charge { ChargesForNodes A.charge self.old self.new }
     {
         self.map.remove(&key)
+    }
+
+    /// The allocator, which is charged for each node of the map's tree.
+    pub fn allocator(&self) -> &A
+        ensures budget { result.now ≡ self.now.budget }
+        ensures charged { Covers (A.charge self.now.budget) (charge_of self.now.nodes) }
+    {
+        self.map.allocator()
     }
 
     /// The sum of the stated sizes of the nodes of the map's tree, which its allocator is charged for. No node but the

@@ -3,7 +3,7 @@
 //! Tested in `congee_nodes`.
 
 ghost use Rattle.std.specs.Prelude.{◌≡◌, ℕ, ◌+◌, ◌≤◌, ◌↔◌, Option, Some, None, IsOk, OnOk, OnErr};
-ghost use Rattle.node_table.specs.Charge.{add_charge, Covers};
+ghost use Rattle.node_table.specs.Charge.{Charge, add_charge, budget_charge, Covers};
 ghost use Rattle.node_base.specs.Form.{stated_size};
 
 use node_base::base_node::NodeSize;
@@ -12,8 +12,8 @@ use std::marker::Model;
 
 /// Charges and uncharges the sizes of nodes. It hands out no memory.
 pub trait Allocator: Drop {
-    /// The bytes that are charged and not yet uncharged, or none if no count is kept.
-    ghost charge: { Self → Option ℕ };
+    /// The bytes that are charged and not yet uncharged, and how many may be, or none if no count is kept.
+    ghost charge: { Self → Option Charge };
 
     /// Charges a node. A refusal changes nothing.
     fn allocate(&mut self, size: NodeSize) -> Result<(), OOMError>
@@ -79,15 +79,22 @@ impl Budget {
     {
         self.left
     }
+
+    /// How many bytes can be charged in all.
+    pub fn limit(&self) -> u64
+        ensures { result ≡ (budget_charge self.now).limit }
+    {
+        self.left + self.charged
+    }
 }
 
 impl Allocator for Budget {
-    ghost charge = { λ b. Some b.charged };
+    ghost charge = { λ b. Some (budget_charge b) };
 
     /// Refused exactly where fewer bytes are left than the size has.
     fn allocate(&mut self, size: NodeSize) -> Result<(), OOMError>
         ensures ok { OnOk result
-            (Some self.new.charged ≡ add_charge (Some self.old.charged) (stated_size size)) }
+            (Some (budget_charge self.new) ≡ add_charge (Some (budget_charge self.old)) (stated_size size)) }
         ensures err { OnErr result (self.new ≡ self.old) }
         ensures granted { IsOk result ↔ (stated_size size ≤ self.old.left) }
         ensures left { OnOk result (self.new.left + stated_size size ≡ self.old.left) }
@@ -102,8 +109,9 @@ impl Allocator for Budget {
     }
 
     fn deallocate(&mut self, size: NodeSize)
-        requires { Covers (Some self.old.charged) (stated_size size) }
-        ensures charge { Some self.old.charged ≡ add_charge (Some self.new.charged) (stated_size size) }
+        requires { Covers (Some (budget_charge self.old)) (stated_size size) }
+        ensures charge { Some (budget_charge self.old)
+            ≡ add_charge (Some (budget_charge self.new)) (stated_size size) }
         ensures left { self.new.left ≡ self.old.left + stated_size size }
     {
         let bytes = size.bytes();

@@ -2,6 +2,7 @@
 use Rattle.std.proofs.Common.{◌≡◌, ℕ, ◌<◌, ◌^◌, Bool, true, false, List, Option, Some, None, IsSome, IsTrue, is_some, inl, inr, refl, sym, subst, ap, ◌∙◌}
 use Rattle.std.proofs.lemmas.Bool.{false≢true}
 use Rattle.std.specs.BTreeMap.{BTreeMap}
+use Rattle.node_table.specs.Charge.{Charge}
 use Rattle.spec_olc.specs.Meaning.{env_of, in_some, outcome_of}
 use Rattle.spec_olc.specs.declared.types.Env.{Env}
 use Rattle.spec_olc.specs.declared.types.Outcome.{Outcome}
@@ -27,7 +28,7 @@ pub none_left : {X : Type 0} (x : Option X) → false ≡ is_some x → x ≡ No
 none_left None e = refl
 none_left (Some v) e = absurd (false≢true e)
 
-module _ {P A M : Type 0} (meaning : P → M) (charge : A → Option ℕ) (Granted : Type 0) (same : M → M → Bool) (stock : Stock P A) (calls : BTreeMap ℕ (Option (Record P)))
+module _ {P A M : Type 0} (meaning : P → M) (charge : A → Option Charge) (Granted : Type 0) (same : M → M → Bool) (stock : Stock P A) (calls : BTreeMap ℕ (Option (Record P)))
     (sound : IsSoundWorld Granted same (meant_world meaning (inside charge (record { stock = stock; calls = calls })))) (id : ℕ) (small : id < 2 ^ 64) (pin : ℕ) (pinned : pin_of stock.store.pins id ≡ Some pin)
     (place : Option (Record P)) (at : Some place ≡ entry_at calls.entries id) where
   -- the place has the number's record

@@ -8,7 +8,7 @@ use Rattle.node_base.specs.Form.{stated_size}
 use Rattle.node_base.specs.declared.base_node.NodeType.{NodeType}
 use Rattle.spec_map.specs.Map.{Pairs, without}
 use Rattle.spec_map.proofs.JoinLaws.{lookup-above}
-use Rattle.node_table.specs.Charge.{Covers, add_charge}
+use Rattle.node_table.specs.Charge.{Charge, Covers, add_charge}
 use Rattle.spec_olc.specs.Content.{IsContent}
 use Rattle.spec_olc.specs.Kinds.{IsReclaim, MayReclaim, report_of}
 use Rattle.spec_olc.specs.Meaning.{meant}
@@ -235,9 +235,9 @@ pub record IsGone {M : Type 0} (w w' : World M) (slot size : ℕ) : Type 0 where
   pub sizes : stored_sizes w.slots ≡ stored_sizes w'.slots + size
   pub charged : w.charge ≡ add_charge w'.charge size
 
-covers_left : (before after : Option ℕ) (all left size : ℕ) → before ≡ add_charge after size → all ≡ left + size → Covers before all → Covers after left
+covers_left : (before after : Option Charge) (all left size : ℕ) → before ≡ add_charge after size → all ≡ left + size → Covers before all → Covers after left
 covers_left before None all left size e sizes c = tt
-covers_left before (Some n) all left size e sizes c = let more : all ≤ n + size = subst (λ (x : Option ℕ). Covers x all) e c in omega (arith, more, sizes)
+covers_left before (Some n) all left size e sizes c = let more : all ≤ n.bytes + size = subst (λ (x : Option Charge). Covers x all) e c in omega (arith, more, sizes)
 
 module _ {M : Type 0} (Granted : Type 0) (same : M → M → Bool) (w w' : World M) (sound : IsSoundWorld Granted same w) (slot : ℕ) (may : epoch.IsReclaimable w.pins slot)
     (at : RetiredAt (table_of w) slot may.stamp) (is : IsGone w w' slot (stated_size at.node.node.form)) where
@@ -326,12 +326,12 @@ module _ {M : Type 0} (Granted : Type 0) (same : M → M → Bool) (w w' : World
     carries = freed_content;
   }
 
-covers_part : (charge : Option ℕ) (all left size : ℕ) → Covers charge all → all ≡ left + size → Covers charge size
+covers_part : (charge : Option Charge) (all left size : ℕ) → Covers charge all → all ≡ left + size → Covers charge size
 covers_part None all left size c e = tt
 covers_part (Some n) all left size c e = omega (arith, c, e)
 
 -- THE INSIDE after a slot was reclaimed
-module _ {P A M : Type 0} (meaning : P → M) (charge : A → Option ℕ) (Granted : Type 0) (same : M → M → Bool) (stock : Stock P A) (calls : BTreeMap ℕ (Option (Record P)))
+module _ {P A M : Type 0} (meaning : P → M) (charge : A → Option Charge) (Granted : Type 0) (same : M → M → Bool) (stock : Stock P A) (calls : BTreeMap ℕ (Option (Record P)))
     (sound : IsSoundWorld Granted same (meant_world meaning (inside charge (record { stock = stock; calls = calls })))) (slot : ℕ)
     (may : MayReclaim (state_of (meant_world meaning (inside charge (record { stock = stock; calls = calls })))) slot) where
   abbrev before : World M

@@ -6,7 +6,7 @@ use Rattle.node_base.specs.Form.{stated_size}
 use Rattle.node_base.specs.declared.base_node.NodeType.TheVariants.{N256}
 use Rattle.spec_map.specs.Map.{Pairs, lookup, Rises}
 use Rattle.spec_map.proofs.MapLaws.{same_from_lookups}
-use Rattle.node_table.specs.Charge.{add_charge, Covers}
+use Rattle.node_table.specs.Charge.{Charge, add_charge, Covers}
 use Rattle.node_table.specs.Key.{AreBytes}
 use Rattle.node_table.specs.TableNode.{TableNode, Child}
 use Rattle.node_table.specs.declared.child.Child.TheVariants.{Payload, Node as below_at}
@@ -38,7 +38,7 @@ not_odd : let n : ℕ = 0 in n ≡ 1 → ⊥
 not_odd e = absurd (omega arith)
 
 -- what is charged after a size was added covers that size
-covers_added : (before : Option ℕ) (size : ℕ) → Covers (add_charge before size) size
+covers_added : (before : Option Charge) (size : ℕ) → Covers (add_charge before size) size
 covers_added None size = tt
 covers_added (Some n) size = omega arith
 
@@ -121,12 +121,12 @@ module _ {X : Type 0} where
         | inr far ↦ let is = rw far.0 at h in absurd (none_some a is)
       ]
 
-  none_stands : (root : ℕ) (charge : Option ℕ) (key : ℕ) (v : X) → IsStoredAt (fresh root charge) key v → ⊥
+  none_stands : (root : ℕ) (charge : Option Charge) (key : ℕ) (v : X) → IsStoredAt (fresh root charge) key v → ⊥
   none_stands root charge key v h =
       let e = h.payload in
       none_some (Payload v) (subst (λ (a : state.VersionedNode X). lookup a.node.children h.byte ≡ Some (Payload v)) (only_bare root h.slot e.above e.here) e.entry)
 
-  none_counted : (root : ℕ) (charge : Option ℕ) (m : Pairs X) → IsContent (fresh root charge) m → 0 ≡ length m
+  none_counted : (root : ℕ) (charge : Option Charge) (m : Pairs X) → IsContent (fresh root charge) m → 0 ≡ length m
   none_counted root charge [] c = refl
   none_counted root charge (e ∷ m) c = absurd (none_stands root charge e.0 e.1 ((c.pairs e.0 e.1).0 (first_is e m)))
 
@@ -136,7 +136,7 @@ none_in_flight lives = record { seats = []; slots = lives; count = 0 }
 abbrev pub alone : {X : Type 0} → List (Option (Stored X)) → List (ℕ × Life) → ℕ → Option ℕ → World X
 alone slots lives root charge = record { slots = slots; root = root; pins = none_in_flight lives; calls = []; entries = 0; charge = charge }
 
-pub alone_is : {X : Type 0} (slots : List (Option (Stored X))) (root : ℕ) (pins : PinsView) (calls : List (ℕ × Option (Record X))) (charge stated : Option ℕ)
+pub alone_is : {X : Type 0} (slots : List (Option (Stored X))) (root : ℕ) (pins : PinsView) (calls : List (ℕ × Option (Record X))) (charge stated : Option Charge)
     → pins.seats ≡ [] → pins.count ≡ 0 → calls ≡ [] → charge ≡ stated
     → record { slots = slots; root = root; pins = pins; calls = calls; entries = 0; charge = charge } ≡ alone slots pins.slots root stated
 alone_is {X} slots root pins calls charge stated seats count none same =
@@ -159,7 +159,7 @@ module _ {X : Type 0} (slots : List (Option (Stored X))) (lives : List (ℕ × L
   off_top : (o : ℕ) → o ≢ root → placed_node (entry_at lives o) (slice_index_or slots o None) ≡ None
   off_top o off = ap (placed_node (entry_at lives o)) (others o off)
 
-  root_lookup : (charge : Option ℕ) (s : ℕ) → lookup (state_of (alone slots lives root charge)).nodes s ≡ lookup ((root, bare_root) ∷ []) s
+  root_lookup : (charge : Option Charge) (s : ℕ) → lookup (state_of (alone slots lives root charge)).nodes s ≡ lookup ((root, bare_root) ∷ []) s
   root_lookup charge s =
       elim (eqb_tells root s) [
         | inl at ↦ rw at.0 (shown_node (alone slots lives root charge) s ∙ ap shown (subst (λ z. placed_node (entry_at lives z) (slice_index_or slots z None) ≡ Some top) at.1 at_top))
@@ -167,7 +167,7 @@ module _ {X : Type 0} (slots : List (Option (Stored X))) (lives : List (ℕ × L
       ]
 
   -- it is fresh
-  pub root_fresh : (charge : Option ℕ) → state_of (alone slots lives root charge) ≡ fresh root charge
+  pub root_fresh : (charge : Option Charge) → state_of (alone slots lives root charge) ≡ fresh root charge
   root_fresh charge =
       let w : World X = alone slots lives root charge in
       ap (λ ns. record (fresh root charge) { nodes = ns })

@@ -4,7 +4,7 @@ use Rattle.std.specs.BTreeMap.{BTreeMap}
 use Rattle.node_base.specs.Form.{stated_size}
 use Rattle.spec_map.specs.Map.{Pairs, lookup}
 use Rattle.spec_map.proofs.ByteMapLaws.{length-from_Rises}
-use Rattle.node_table.specs.Charge.{Covers}
+use Rattle.node_table.specs.Charge.{Charge, Covers}
 use Rattle.spec_olc.specs.Content.{IsContent}
 use Rattle.spec_olc.specs.Meaning.{env_of, in_some, outcome_of}
 use Rattle.spec_olc.specs.declared.types.Env.{Env}
@@ -45,7 +45,7 @@ some_there : {X : Type 0} (x : Option X) → x ≢ None → (a : X) × (x ≡ So
 some_there None h = absurd (h refl)
 some_there (Some a) h = (a, refl)
 
-module _ {P A M : Type 0} (meaning : P → M) (charge : A → Option ℕ) (Granted : Type 0) (same : M → M → Bool) (stock : Stock P A) (calls : BTreeMap ℕ (Option (Record P)))
+module _ {P A M : Type 0} (meaning : P → M) (charge : A → Option Charge) (Granted : Type 0) (same : M → M → Bool) (stock : Stock P A) (calls : BTreeMap ℕ (Option (Record P)))
     (sound : IsSoundWorld Granted same (meant_world meaning (inside charge (record { stock = stock; calls = calls })))) where
   abbrev before : World M
   before = meant_world meaning (inside charge (record { stock = stock; calls = calls }))

@@ -1,6 +1,7 @@
 -- That a run is linearizable, by its trace alone: what the trace shows of a pending call is what is in flight.
 use Rattle.std.proofs.Common.{◌≡◌, ◌≢◌, ℕ, ◌+◌, ◌^◌, Bool, true, false, List, [], ◌∷◌, ◌++◌, Option, Some, None, if◌then◌else◌, inl, inr, ◌⊎◌, refl, sym, subst, ap, ◌∙◌}
 use Rattle.std.proofs.lemmas.Bool.Decides.{eqb_tells}
+use Rattle.node_table.specs.Charge.{Charge}
 use Rattle.spec_map.proofs.MapLaws.{lookup-put_same, lookup-put_other, lookup-without_same}
 use Rattle.spec_map.specs.Map.{Pairs, IsMap, lookup, put}
 use Rattle.node_table.specs.TableNode.{TableNode}
@@ -460,5 +461,5 @@ linear_on old m (x ∷ xs) n calls map content run fit =
     (λ later fits. linear_on x.after x.content xs n later run.0.well_formed.calls run.0.content run.1 fits)
 
 -- In a run from the root alone each decision is made at a linearization point.
-pub linearizes : (root : ℕ) (charge : Option ℕ) (xs : List Transition) (n : Pairs ℕ) → IsMachineRun (fresh root charge) [] xs n → IsLinearizable (events_in xs) (lines_in xs) (decided_in (fresh root charge) xs) n
+pub linearizes : (root : ℕ) (charge : Option Charge) (xs : List Transition) (n : Pairs ℕ) → IsMachineRun (fresh root charge) [] xs n → IsLinearizable (events_in xs) (lines_in xs) (decided_in (fresh root charge) xs) n
 linearizes root charge xs n run = linear_on (fresh root charge) [] xs n none_pending tt (fresh_content root charge) run (λ id. (tt, tt))

@@ -1,5 +1,6 @@
 -- From the events that were made one by one to the theorem on the whole run.
 use Rattle.std.proofs.Common.{◌≡◌, ℕ, ◌^◌, ◌<◌, List, [], Option, None, refl, sym, subst, ap, ◌∙◌}
+use Rattle.node_table.specs.Charge.{Charge}
 use Rattle.spec_map.specs.Map.{Pairs, lookup}
 use Rattle.spec_olc.proofs.Scanning.{all_scan}
 use Rattle.spec_olc.specs.Alone.{AllEndAlone}
@@ -23,7 +24,7 @@ use Rattle.olc_replay.proofs.Standing.{content_once, fresh_content}
 use Rattle.olc_replay.proofs.Touching.{all_touch}
 
 -- a fresh machine has no content, and no event was made so far
-pub so_far_fresh : (first : World ℕ) (root : ℕ) (charge : Option ℕ) (events : List (Event ℕ)) (lines : List Line) (decided : List Decision) → state_of first ≡ fresh root charge
+pub so_far_fresh : (first : World ℕ) (root : ℕ) (charge : Option Charge) (events : List (Event ℕ)) (lines : List Line) (decided : List Decision) → state_of first ≡ fresh root charge
     → events ≡ [] → lines ≡ [] → decided ≡ [] → SoFar first events lines decided first
 so_far_fresh first root charge events lines decided is no_event no_line no_decision = record {
   moves = [];
@@ -36,7 +37,7 @@ so_far_fresh first root charge events lines decided is no_event no_line no_decis
 }
 
 -- THE THEOREM ON RUNS: what was made one by one from a fresh machine on is a replay.
-pub replayed : (first last : World ℕ) (root : ℕ) (charge : Option ℕ) (events : List (Event ℕ)) (lines : List Line) (decided : List Decision) (content : Pairs ℕ)
+pub replayed : (first last : World ℕ) (root : ℕ) (charge : Option Charge) (events : List (Event ℕ)) (lines : List Line) (decided : List Decision) (content : Pairs ℕ)
     → state_of first ≡ fresh root charge → IsSoundWorld (Unit {0}) same_number first → SoFar first events lines decided last → IsContent (state_of last) content → IsReplayed events lines decided content
 replayed first last root charge events lines decided content is sound so_far at_key =
     let entries : List Transition = transitions_of so_far.moves in

@@ -2,6 +2,7 @@
 use Rattle.std.proofs.Common.{◌≡◌, ℕ, ◌^◌, [], Option, Some, None, inl, inr, refl, sym, subst, ◌∙◌}
 use Rattle.std.proofs.lemmas.Bool.Decides.{eqb_tells}
 use Rattle.std.proofs.lemmas.Bool.{ne_eqb, eq-eqb}
+use Rattle.node_table.specs.Charge.{Charge}
 use Rattle.spec_map.proofs.MapLaws.{same_from_lookups}
 use Rattle.spec_map.specs.Map.{Pairs, lookup}
 use Rattle.node_table.specs.declared.child.Child.TheVariants.{Payload}
@@ -21,7 +22,7 @@ module _ {M : Type 0} where
       same_from_lookups 0 (2 ^ 64) 0 (2 ^ 64) m n c.map d.map
       (λ k. same_option (lookup m k) (lookup n k) (λ v e. (d.pairs k v).1 ((c.pairs k v).0 e)) (λ v e. (c.pairs k v).1 ((d.pairs k v).0 e)))
 
-  none_here : (root slot : ℕ) (a : VersionedNode M) (byte : ℕ) (charge : Option ℕ) → lookup (State.nodes (fresh root charge)) slot ≡ Some a → lookup a.node.children byte ≡ None
+  none_here : (root slot : ℕ) (a : VersionedNode M) (byte : ℕ) (charge : Option Charge) → lookup (State.nodes (fresh root charge)) slot ≡ Some a → lookup a.node.children byte ≡ None
   none_here root slot a byte charge here =
       elim (eqb_tells root slot) [
         | inl at ↦
@@ -33,7 +34,7 @@ module _ {M : Type 0} where
             absurd (none_some a (sym none ∙ here))
       ]
 
-  pub fresh_content : (root : ℕ) (charge : Option ℕ) → IsContent (fresh {M = M} root charge) []
+  pub fresh_content : (root : ℕ) (charge : Option Charge) → IsContent (fresh {M = M} root charge) []
   fresh_content root charge = record {
     map = tt;
     pairs = λ key value. (

@@ -2,6 +2,7 @@
 use Rattle.std.proofs.Common.{◌≡◌, ◌≢◌, ℕ, zero, suc, ◌+◌, ◌<◌, ◌≤◌, ◌^◌, Bool, true, false, List, [], ◌∷◌, length, map, Option, Some, None, if◌then◌else◌, ◌==◌, ◌||◌, inl, inr, refl, ap, sym, subst, ◌∙◌, arith, slice_index_or}
 use Rattle.std.proofs.lemmas.Bool.{lt-ltb, le-ltb, eq-eqb, ne_eqb, cases_eq, cases_lt, cases_order}
 use Rattle.std.proofs.lemmas.Bool.Decides.{eqb_tells}
+use Rattle.node_table.specs.Charge.{Charge}
 use Rattle.spec_map.specs.Map.{lookup, put, without, with_answer, Rises, IsMap}
 use Rattle.spec_map.proofs.JoinLaws.{lookup-above}
 use Rattle.spec_map.proofs.MapLaws.{Rises-wider, Rises-put, Rises-without, lookup-put_same, lookup-put_other, lookup-without_same, lookup-without_other, same_from_lookups}
@@ -22,7 +23,7 @@ use Rattle.olc_state.specs.inner.Turns.{ShowsNodes}
 use Rattle.olc_state.specs.inner.World.{World, placed_node, table_of, record_in, record_of}
 use Rattle.olc_state.proofs.Entries.{entry-first, entry-next, answer_same, answer_other, Rises-answer, entry-mapped, answer-mapped, slot-mapped}
 
-pub state_is : {X : Type 0} (s : State X) (nodes : List (ℕ × state.VersionedNode X)) (root count : ℕ) (calls : List (ℕ × CallState X)) (seats : List ℕ) (entries : ℕ) (charge : Option ℕ)
+pub state_is : {X : Type 0} (s : State X) (nodes : List (ℕ × state.VersionedNode X)) (root count : ℕ) (calls : List (ℕ × CallState X)) (seats : List ℕ) (entries : ℕ) (charge : Option Charge)
     → s.nodes ≡ nodes → s.root ≡ root → s.count ≡ count → s.calls ≡ calls → s.seats ≡ seats → s.entries ≡ entries → s.charge ≡ charge
     → s ≡ record { nodes = nodes; root = root; count = count; calls = calls; seats = seats; entries = entries; charge = charge }
 state_is s nodes root count calls seats entries charge a b c d e f g = rw (← a, ← b, ← c, ← d, ← e, ← f, ← g) refl

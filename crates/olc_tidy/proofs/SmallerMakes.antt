@@ -1,5 +1,6 @@
 -- THE MAKE OF A CLEANUP, granted and refused: the smaller copy is private, and both nodes are still held.
 use Rattle.std.proofs.Common.{◌≡◌, ◌≢◌, ℕ, ◌≤◌, Bool, true, [], ◌∷◌, length, Option, Some, None, IfSome, inl, inr, refl, sym, subst, ap, ◌∙◌, arith}
+use Rattle.node_table.specs.Charge.{Charge}
 use Rattle.node_base.specs.Form.{few_in}
 use Rattle.spec_map.specs.Map.{Rises, lookup}
 use Rattle.node_table.specs.Key.{Begins}
@@ -92,7 +93,7 @@ module _ {M : Type 0} (cleanup : Cleanup) (pair : NodePair) where
   stops pin task decided =
       subst (λ (p : Progress). flight pin (at (Tail (UnlockBelow pair)) task) ≡ record (refused p (record (flight pin (at (making cleanup pair) task)) { made = [] })) { remembered = [] }) (sym decided) refl
 
-module _ {P A M : Type 0} (meaning : P → M) (charge : A → Option ℕ) (Granted : Type 0) (same : M → M → Bool) (old new : Stock P A) (pin : ℕ) (task : Task P) (env : Env P) (kept : IsStoreSound meaning charge old) (cleanup : Cleanup) (pair : NodePair)
+module _ {P A M : Type 0} (meaning : P → M) (charge : A → Option Charge) (Granted : Type 0) (same : M → M → Bool) (old new : Stock P A) (pin : ℕ) (task : Task P) (env : Env P) (kept : IsStoreSound meaning charge old) (cleanup : Cleanup) (pair : NodePair)
     (facts : StockKnows meaning charge Granted same old pin (record { stage = making cleanup pair; task = task })) where
   abbrev t : NodeMap M
   t = table_in meaning charge old

@@ -1,5 +1,6 @@
 -- THE WRITES OF A CLEANUP over the stock of nodes that the code changes, and what is due at a node there.
 use Rattle.std.proofs.Common.{◌≡◌, ◌≢◌, ℕ, ◌<◌, ◌≤◌, Bool, true, List, [], ◌∷◌, Option, Some, None, IsSome, inl, inr, refl, sym, subst, ap, ◌∙◌}
+use Rattle.node_table.specs.Charge.{Charge}
 use Rattle.node_base.specs.Form.{few_in}
 use Rattle.node_table.proofs.KindLaws.{length-mapped}
 use Rattle.node_table.specs.TableNode.{TableNode}
@@ -50,7 +51,7 @@ module _ {P M : Type 0} (meaning : P → M) where
   due_here {word = word} {life = life} n pair x a h there =
       subst (λ (z : PlacedNode M). IsDueAs z.node pair x) (sym (some_same a (record { word = word; node = meant_node meaning n; lifetime = life }) there)) (due_meant n pair x h)
 
-module _ {P A M : Type 0} (meaning : P → M) (charge : A → Option ℕ) (Granted : Type 0) (same : M → M → Bool) (old : Stock P A) (pin : ℕ) (task : Task P) (c : Cleanup) (pair : NodePair) (kept : IsStoreSound meaning charge old) where
+module _ {P A M : Type 0} (meaning : P → M) (charge : A → Option Charge) (Granted : Type 0) (same : M → M → Bool) (old : Stock P A) (pin : ℕ) (task : Task P) (c : Cleanup) (pair : NodePair) (kept : IsStoreSound meaning charge old) where
   abbrev p : ℕ
   p = pair.above.slot
 

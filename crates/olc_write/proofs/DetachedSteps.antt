@@ -1,5 +1,6 @@
 -- A LEAF IS TAKEN OUT of a stock of nodes: its parent's child and its own payload are taken, and it is detached.
 use Rattle.std.proofs.Common.{◌≡◌, ◌≢◌, ℕ, ◌-◌, ◌≤◌, Bool, true, List, [], ◌∷◌, Option, Some, IsSome, inl, inr, refl, sym, subst, ap, ◌∙◌}
+use Rattle.node_table.specs.Charge.{Charge}
 use Rattle.spec_map.specs.Map.{without}
 use Rattle.node_table.specs.TableNode.{Child}
 use Rattle.node_table.specs.declared.child.Child.TheVariants.{Payload}
@@ -79,7 +80,7 @@ module _ {P M : Type 0} (meaning : P → M) where
     root_left = third_sets.root ∙ (second_sets.root ∙ first_sets.root)
 
 -- WHAT THE FUNCTIONS OF THE STORE REQUIRE
-module _ {P A M : Type 0} (meaning : P → M) (charge : A → Option ℕ) (Granted : Type 0) (same : M → M → Bool) (old : Stock P A) (pin : ℕ) (task : Task P) (pair : NodePair) (kept : IsStoreSound meaning charge old)
+module _ {P A M : Type 0} (meaning : P → M) (charge : A → Option Charge) (Granted : Type 0) (same : M → M → Bool) (old : Stock P A) (pin : ℕ) (task : Task P) (pair : NodePair) (kept : IsStoreSound meaning charge old)
     (facts : StockKnows meaning charge Granted same old pin (record { stage = Tail (Detach pair); task = task })) where
   abbrev k : List ℕ
   k = bytes_of (key_of task.outline)

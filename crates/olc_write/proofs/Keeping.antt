@@ -1,7 +1,7 @@
 -- A STOCK IN WHICH NO NODE IS ADDED OR FREED: its nodes stay admitted and charged.
 use Rattle.std.proofs.Common.{◌≡◌, ℕ, Option, Some, inl, inr, sym, subst, ap, ◌∙◌}
 use Rattle.std.proofs.lemmas.Bool.Decides.{eqb_tells}
-use Rattle.node_table.specs.Charge.{Covers}
+use Rattle.node_table.specs.Charge.{Charge, Covers}
 use Rattle.olc_words.specs.Epoch.{PinsView, entry_at}
 use Rattle.olc_words.specs.declared.epoch.Life.{Life}
 use Rattle.olc_state.specs.declared.stock.Stock.{Stock}
@@ -59,7 +59,7 @@ module _ {P M : Type 0} (meaning : P → M) where
     count = sets.count;
   }
 
-  pub kept_by : {A : Type 0} (charge : A → Option ℕ) (old new : Stock P A) → IsStoreSound meaning charge old → StoreKeeps old.store new.store → new.budget ≡ old.budget
+  pub kept_by : {A : Type 0} (charge : A → Option Charge) (old new : Stock P A) → IsStoreSound meaning charge old → StoreKeeps old.store new.store → new.budget ≡ old.budget
       → IsPlaced (table_in meaning charge new) old.store.root → IsStoreSound meaning charge new
   kept_by {A} charge old new kept keeps budget placed = record {
     placed = subst (λ z. IsPlaced (table_in meaning charge new) z) (sym keeps.root) placed;

@@ -2,6 +2,7 @@
 -- makes.
 use Rattle.std.proofs.Common.{◌≡◌, ◌≢◌, ℕ, ◌+◌, ◌<◌, ◌≤◌, Bool, IsTrue, true, ◌↔◌, List, [], ◌∷◌, length, Option, Some, None, IfSome, refl, sym, subst, ap, ◌∙◌, arith}
 use Rattle.std.proofs.lemmas.Bool.{eq-eqb}
+use Rattle.node_table.specs.Charge.{Charge}
 use Rattle.node_base.specs.Form.{Fits, next_form}
 use Rattle.node_base.specs.declared.base_node.NodeType.TheVariants.{N4}
 use Rattle.spec_map.specs.Map.{lookup, put}
@@ -96,7 +97,7 @@ module _ {P M : Type 0} (meaning : P → M) (n : TableNode P) (t : NodeMap M) (r
   pub kind_here : (leaf : Option ℕ) → (length x.node.prefix ≡ 7) ↔ (leaf ≡ None) → (length n.prefix ≡ 7) ↔ (leaf ≡ None)
   kind_here leaf k = subst (λ (z : TableNode M). (length z.prefix ≡ 7) ↔ (leaf ≡ None)) node_same k
 
-module _ {P A M : Type 0} (meaning : P → M) (charge : A → Option ℕ) (Granted : Type 0) (same : M → M → Bool) (old new : Stock P A) (pin : ℕ) (task : Task P) (env : Env P) (kept : IsStoreSound meaning charge old) where
+module _ {P A M : Type 0} (meaning : P → M) (charge : A → Option Charge) (Granted : Type 0) (same : M → M → Bool) (old new : Stock P A) (pin : ℕ) (task : Task P) (env : Env P) (kept : IsStoreSound meaning charge old) where
   -- what the copy has under the key's byte
   own_child_of : (t : NodeMap M) (leaf : Option ℕ) (child : Child P) (value : M) → stores (meant_task meaning task) ≡ Some value → IsOwnOf meaning task leaf child → HasOwnLeaf t (meant_task meaning task) leaf
       → HasOwn t (meant_task meaning task) leaf (child_of meaning child)

@@ -1,5 +1,6 @@
 -- A Make as the code makes it, granted and refused.
 use Rattle.std.proofs.Common.{◌≡◌, ℕ, ◌<◌, ◌≤◌, ◌^◌, Bool, true, List, [], ◌∷◌, length, Option, Some, None, inl, refl, sym, subst, ap, ◌∙◌, arith}
+use Rattle.node_table.specs.Charge.{Charge}
 use Rattle.node_table.specs.TableNode.{TableNode}
 use Rattle.spec_olc.specs.Calls.{key_of}
 use Rattle.spec_olc.specs.Kinds.{refusal, refused, report_of}
@@ -38,7 +39,7 @@ module _ {M : Type 0} where
   gone_planned : (call : CallState M) → call.progress ≡ progress.Open → refused call.progress call ≡ settled progress.Refused call
   gone_planned call undecided = ap (λ (p : Progress). refused p call) undecided
 
-module _ {P A M : Type 0} (meaning : P → M) (charge : A → Option ℕ) (Granted : Type 0) (same : M → M → Bool) (old new : Stock P A) (kept : IsStoreSound meaning charge old) (pin : ℕ) (task : Task P) (env : Env P) (tail next : tails.Tail)
+module _ {P A M : Type 0} (meaning : P → M) (charge : A → Option Charge) (Granted : Type 0) (same : M → M → Bool) (old new : Stock P A) (kept : IsStoreSound meaning charge old) (pin : ℕ) (task : Task P) (env : Env P) (tail next : tails.Tail)
     (small : key_of task.outline < 2 ^ 64) (undecided : task.progress ≡ progress.Open) (own : Enters (meant_task meaning task)) (follows : Follows (Tail tail) (Tail next)) (quiet : cleaning_in tail ≡ None) (still : cleaning_in next ≡ None) where
   pub granted_moves : (slot : ℕ) (a : TableNode M) → AddsPrivate meaning charge old new slot a → made_in next ≡ slot ∷ made_in tail → tail_work task.progress next < tail_work task.progress tail → length (made_in tail) ≤ 1
       → ((s : State M) → ShowsNodes (table_in meaning charge old) old.store.root s → IsNewNode s (flight pin (at tail (meant_task meaning task))) a)

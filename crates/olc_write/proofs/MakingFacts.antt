@@ -1,5 +1,6 @@
 -- What a call knows after a Make, and after one that is refused.
 use Rattle.std.proofs.Common.{Bool, IsSome, ◌≡◌, ◌≢◌, ℕ, List, Option, Some, None, refl, sym, subst, ap, ◌∙◌}
+use Rattle.node_table.specs.Charge.{Charge}
 use Rattle.node_table.specs.TableNode.{TableNode, Child}
 use Rattle.spec_olc.specs.Calls.{IsPoint}
 use Rattle.spec_olc.specs.Local.{payload_in}
@@ -55,7 +56,7 @@ module _ {M : Type 0} (t t' : NodeMap M) where
   there_still slot s a empty others here = others s (λ e. none_some a (sym empty ∙ subst (λ (z : ℕ). t z ≡ Some a) e here))
 
   -- a linked node isn't freed
-  pub linked_still : (made : Option ℕ) (charge charge' : Option ℕ) (s : ℕ) (a : PlacedNode M) → IsGivenUp t t' made charge charge' → IsLinked t s a → t' s ≡ t s
+  pub linked_still : (made : Option ℕ) (charge charge' : Option Charge) (s : ℕ) (a : PlacedNode M) → IsGivenUp t t' made charge charge' → IsLinked t s a → t' s ≡ t s
   linked_still None charge charge' s a up here = up.nodes s
   linked_still (Some slot) charge charge' s a up linked =
       up.others s (λ e.
@@ -145,7 +146,7 @@ module _ {M : Type 0} (t t' : NodeMap M) where
     )
 
   -- WHAT WAS MADE IS FREED: the held nodes stay
-  module _ (Granted : Type 0) (same : M → M → Bool) (task : Task M) (made charge charge' : Option ℕ) (up : IsGivenUp t t' made charge charge') where
+  module _ (Granted : Type 0) (same : M → M → Bool) (task : Task M) (made : Option ℕ) (charge charge' : Option Charge) (up : IsGivenUp t t' made charge charge') where
     pub over : IsOver Granted same (gone task)
     over e = refused_open e
 

@@ -5,7 +5,7 @@ use Rattle.std.proofs.lemmas.Bool.{eq-eqb, ne_eqb}
 use Rattle.std.proofs.lemmas.Bool.Decides.{eqb_tells}
 use Rattle.node_base.specs.Form.{stated_size}
 use Rattle.spec_map.specs.Map.{Pairs, lookup, put, IsMap}
-use Rattle.node_table.specs.Charge.{add_charge}
+use Rattle.node_table.specs.Charge.{Charge, add_charge}
 use Rattle.node_table.specs.TableNode.{TableNode}
 use Rattle.spec_olc.specs.Deciding.{ContentAfter}
 use Rattle.spec_olc.specs.Kinds.{IsAtWork, MayMake, report_of, refusal, refused}
@@ -71,7 +71,7 @@ pub record Follows (stage next : Stage) : Type 0 where
 
 module _ {M : Type 0} where
   -- a state after an event that leaves the count and the number of pairs
-  after_with : (s s' : State M) (id : ℕ) (next : CallState M) (books books' : StoreCounts) (nodes : List (ℕ × state.VersionedNode M)) (charge : Option ℕ) → IsAfter s s' id next books books'
+  after_with : (s s' : State M) (id : ℕ) (next : CallState M) (books books' : StoreCounts) (nodes : List (ℕ × state.VersionedNode M)) (charge : Option Charge) → IsAfter s s' id next books books'
       → s'.nodes ≡ nodes → books'.count ≡ books.count → books'.entries ≡ books.entries → books'.charge ≡ charge
       → s' ≡ with_call (record s { nodes = nodes; charge = charge }) id next
   after_with s s' id next books books' nodes charge after here count entries charged =
@@ -178,9 +178,9 @@ module _ {M : Type 0} (Granted : Type 0) (same : M → M → Bool) (t t' : NodeM
     pub sizes : (s : State M) → ShowsNodes t root s → sizes_of s.nodes ≡ sizes_of (without_all s.nodes (one_more made)) + size
     pub charged : books.charge ≡ add_charge books'.charge size
 
-  no_charge : (charge : Option ℕ) → charge ≡ add_charge charge 0
+  no_charge : (charge : Option Charge) → charge ≡ add_charge charge 0
   no_charge None = refl
-  no_charge (Some n) = ap Some (omega arith)
+  no_charge (Some c) = ap (λ (n : ℕ). Some (record { bytes = n; limit = c.limit })) (omega arith)
 
   leaves : (made : Option ℕ) → made_at stage ≡ one_more made → IsGivenUp t t' made books.charge books'.charge → Leaves made
   leaves None is up =

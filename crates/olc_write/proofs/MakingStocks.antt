@@ -3,7 +3,7 @@ use Rattle.std.proofs.Common.{◌≡◌, ◌≢◌, ℕ, ◌+◌, ◌^◌, ◌<�
 use Rattle.std.proofs.lemmas.Bool.Decides.{eqb_tells}
 use Rattle.node_base.specs.Form.{stated_size}
 use Rattle.node_base.specs.declared.base_node.NodeType.{NodeType}
-use Rattle.node_table.specs.Charge.{Covers, add_charge}
+use Rattle.node_table.specs.Charge.{Charge, Covers, add_charge}
 use Rattle.node_table.specs.TableNode.{TableNode}
 use Rattle.olc_state.specs.declared.stock.Stock.{Stock}
 use Rattle.olc_state.specs.inner.Facts.{AllAdmitted, stored_sizes}
@@ -15,11 +15,11 @@ use Rattle.olc_laws.proofs.Effects.{beside_one}
 use Rattle.olc_laws.proofs.Making.{GivesBack, Makes, given_back_effect, made_effect}
 use Rattle.olc_write.specs.inner.Makings.{AddsPrivate, GivesUp, IsPrivate, SameRest}
 
-covers_more : (charge : Option ℕ) (size more : ℕ) → Covers charge size → Covers (add_charge charge more) (size + more)
+covers_more : (charge : Option Charge) (size more : ℕ) → Covers charge size → Covers (add_charge charge more) (size + more)
 covers_more None size more c = tt
 covers_more (Some n) size more c = omega (arith, c)
 
-covers_less : (charge : Option ℕ) (size more : ℕ) → Covers (add_charge charge more) (size + more) → Covers charge size
+covers_less : (charge : Option Charge) (size more : ℕ) → Covers (add_charge charge more) (size + more) → Covers charge size
 covers_less None size more c = tt
 covers_less (Some n) size more c = omega (arith, c)
 
@@ -53,7 +53,7 @@ module _ {M : Type 0} (t t' : NodeMap M) where
         | inr far ↦ narrow s (λ none. there (others s far.1 ∙ none))
       ]
 
-module _ {P A M : Type 0} (meaning : P → M) (charge : A → Option ℕ) (old new : Stock P A) (kept : IsStoreSound meaning charge old) where
+module _ {P A M : Type 0} (meaning : P → M) (charge : A → Option Charge) (old new : Stock P A) (kept : IsStoreSound meaning charge old) where
   pub added : (slot : ℕ) (a : TableNode M) → slot < 2 ^ 64 → table_in meaning charge old slot ≡ None → SetsNode meaning old.store new.store slot (Some (made_node a))
       → stored_sizes new.store.nodes.slots ≡ stored_sizes old.store.nodes.slots + stated_size a.form → AllAdmitted (table_in meaning charge new) new.store.pins.slots
       → charge new.budget ≡ add_charge (charge old.budget) (stated_size a.form) → new.entries ≡ old.entries → AddsPrivate meaning charge old new slot a
@@ -89,7 +89,7 @@ module _ {P A M : Type 0} (meaning : P → M) (charge : A → Option ℕ) (old n
         admitted = admitted;
         narrow = narrow_less (table_in meaning charge old) (table_in meaning charge new) slot kept.narrow sets.here sets.others;
         covered = covers_less (charge new.budget) (stored_sizes new.store.nodes.slots) (stated_size form)
-            (subst (λ (c : Option ℕ). Covers c (stored_sizes new.store.nodes.slots + stated_size form)) charged
+            (subst (λ (c : Option Charge). Covers c (stored_sizes new.store.nodes.slots + stated_size form)) charged
             (subst (λ (n : ℕ). Covers (charge old.budget) n) sizes kept.covered));
       };
       root = sets.root;
@@ -108,7 +108,7 @@ module _ {P A M : Type 0} (meaning : P → M) (charge : A → Option ℕ) (old n
   }
 
 -- no node is added, and then what was made is freed
-module _ {P A M : Type 0} (meaning : P → M) (charge : A → Option ℕ) (old mid new : Stock P A) where
+module _ {P A M : Type 0} (meaning : P → M) (charge : A → Option Charge) (old mid new : Stock P A) where
   rest_on : SameRest meaning charge old mid → SameRest meaning charge mid new → SameRest meaning charge old new
   rest_on a b = record { kept = b.kept; root = b.root ∙ a.root; seats = b.seats ∙ a.seats; count = b.count ∙ a.count; entries = b.entries ∙ a.entries }
 

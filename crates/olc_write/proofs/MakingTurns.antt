@@ -1,5 +1,6 @@
 -- The four Makes, each granted and refused, from what their call knows and from what was built.
 use Rattle.std.proofs.Common.{◌≡◌, ℕ, Bool, true, [], ◌∷◌, Option, Some, None, IfSome, inr, refl, sym, subst, arith}
+use Rattle.node_table.specs.Charge.{Charge}
 use Rattle.node_table.specs.TableNode.{TableNode}
 use Rattle.spec_olc.specs.Kinds.{report_of}
 use Rattle.spec_olc.specs.Writing.{IsNewNode}
@@ -31,7 +32,7 @@ pub built_is : {X : Type 0} (Q : X → Type 0) (built : Option X) (x : X) → If
 built_is Q None x h e = absurd (none_some x e)
 built_is Q (Some y) x h e = subst Q (some_same y x e) h
 
-module _ {P A M : Type 0} (meaning : P → M) (charge : A → Option ℕ) (Granted : Type 0) (same : M → M → Bool) (old new : Stock P A) (pin : ℕ) (task : Task P) (env : Env P) (kept : IsStoreSound meaning charge old) where
+module _ {P A M : Type 0} (meaning : P → M) (charge : A → Option Charge) (Granted : Type 0) (same : M → M → Bool) (old new : Stock P A) (pin : ℕ) (task : Task P) (env : Env P) (kept : IsStoreSound meaning charge old) where
   -- A LEAF FOR THE HELD INNER NODE
   pub leaf_moves : (spot : Spot) (slot : ℕ) (built : Option (TableNode P)) → StockKnows meaning charge Granted same old pin (at (MakeLeaf spot) task) → IfSome built (λ n. IsLeafForTask meaning task n) → AddsBuilt meaning charge old new slot built
       → StockMoves meaning charge Granted same old new pin (at (MakeLeaf spot) task) env (at (Link spot slot) task) (report_of kind.Make (Some slot) 0 true) Going

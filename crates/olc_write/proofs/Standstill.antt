@@ -7,7 +7,7 @@ use Rattle.olc_state.specs.inner.Facts.{IsAdmitted, AllAdmitted, stored_sizes}
 use Rattle.olc_state.specs.inner.Stocks.{IsStoreSound, SlotsFitU64, table_in}
 use Rattle.olc_state.specs.inner.Tables.{IsIn, IsPlaced}
 use Rattle.olc_state.specs.inner.World.{PlacedNode, NodeMap, is_retired}
-use Rattle.node_table.specs.Charge.{Covers}
+use Rattle.node_table.specs.Charge.{Charge, Covers}
 use Rattle.olc_state.proofs.Options.{none_some}
 use Rattle.olc_laws.proofs.Effects.{OthersStay, in_or}
 
@@ -42,7 +42,7 @@ module _ {M : Type 0} where
           | inr out ↦ before s (λ e. some (others s out ∙ e))
         ]
 
-module _ {P A M : Type 0} (meaning : P → M) (charge : A → Option ℕ) where
+module _ {P A M : Type 0} (meaning : P → M) (charge : A → Option Charge) where
   -- where pins, sizes and the budget stay
   pub still_kept : (old new : Stock P A) (written : List ℕ) → IsStoreSound meaning charge old → OthersStay (table_in meaning charge old) (table_in meaning charge new) written
       → ((s : ℕ) → IsIn s written → StandsStill (table_in meaning charge old) (table_in meaning charge new) s)

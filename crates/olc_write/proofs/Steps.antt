@@ -1,6 +1,7 @@
 -- A WRITE AT THE PARENT in a stock of nodes: the call's new nodes are linked, the parent has one of them as a child,
 -- and the node that a copy replaces is detached.
 use Rattle.std.proofs.Common.{◌≡◌, ◌≢◌, ℕ, ◌+◌, ◌≤◌, ◌<◌, Bool, true, List, [], ◌∷◌, length, Option, Some, None, inl, inr, sym, subst, ap, ◌∙◌}
+use Rattle.node_table.specs.Charge.{Charge}
 use Rattle.node_base.specs.Form.{Fits}
 use Rattle.spec_map.specs.Map.{lookup, put}
 use Rattle.node_table.specs.declared.child.Child.TheVariants.{Node as below_at}
@@ -162,7 +163,7 @@ abbrev pub IsThereInside : {M : Type 0} → NodeMap M → ℕ → Type 0
 IsThereInside {M} t s = (a : PlacedNode M) × (t s ≡ Some a) × (length a.node.prefix ≤ 7)
 
 -- WHAT THE FUNCTIONS OF THE STORE REQUIRE
-module _ {P A M : Type 0} (meaning : P → M) (charge : A → Option ℕ) (Granted : Type 0) (same : M → M → Bool) (old : Stock P A) (pin : ℕ) (task : Task P) (pair : NodePair) (kept : IsStoreSound meaning charge old) where
+module _ {P A M : Type 0} (meaning : P → M) (charge : A → Option Charge) (Granted : Type 0) (same : M → M → Bool) (old : Stock P A) (pin : ℕ) (task : Task P) (pair : NodePair) (kept : IsStoreSound meaning charge old) where
   abbrev before : NodeMap M
   before = table_in meaning charge old
 
@@ -217,7 +218,7 @@ module _ {P A M : Type 0} (meaning : P → M) (charge : A → Option ℕ) (Grant
     middle_may s1 byte others is = put_may s1 (middle ∷ leaf ∷ []) byte facts.at.0.held middles_private others is
 
 -- THE EVENTS: nothing but the store's nodes and the number of pairs changes
-module _ {P A M : Type 0} (meaning : P → M) (charge : A → Option ℕ) (Granted : Type 0) (same : M → M → Bool) (old new : Stock P A) (pin : ℕ) (task : Task P) (pair : NodePair) (env : Env P) (kept : IsStoreSound meaning charge old)
+module _ {P A M : Type 0} (meaning : P → M) (charge : A → Option Charge) (Granted : Type 0) (same : M → M → Bool) (old new : Stock P A) (pin : ℕ) (task : Task P) (pair : NodePair) (env : Env P) (kept : IsStoreSound meaning charge old)
     (budget : new.budget ≡ old.budget) (lives : new.store.pins ≡ old.store.pins) (sizes : stored_sizes new.store.nodes.slots ≡ stored_sizes old.store.nodes.slots) (entries : new.entries ≡ old.entries + 1)
     (fits : FitsIn meaning old.store pair.above.slot) where
   abbrev p : ℕ

@@ -1,7 +1,7 @@
 -- AN EVENT as the code makes it: the stock after it is sound, and its tables and counts are those of the event.
 use Rattle.std.proofs.Common.{◌≡◌, ◌≢◌, ℕ, ◌+◌, Bool, [], Option, Some, inl, inr, refl, sym, subst, ap, ◌∙◌}
 use Rattle.std.proofs.lemmas.Bool.Decides.{eqb_tells}
-use Rattle.node_table.specs.Charge.{Covers}
+use Rattle.node_table.specs.Charge.{Charge, Covers}
 use Rattle.spec_olc.specs.Meaning.{env_of, outcome_of}
 use Rattle.spec_olc.specs.declared.types.Env.{Env}
 use Rattle.spec_olc.specs.declared.types.Outcome.{Outcome}
@@ -33,7 +33,7 @@ use Rattle.olc_write.proofs.Keeping.{StoreKeeps, kept_by, sets_keeps}
 pub live_linked : {M : Type 0} (a : PlacedNode M) → a.lifetime ≡ is_linked → (stamp : Option ℕ) → a.lifetime ≡ is_retired stamp → ⊥
 live_linked a is stamp e = linked_retired stamp (sym is ∙ e)
 
-module _ {P A M : Type 0} (meaning : P → M) (charge : A → Option ℕ) (Granted : Type 0) (same : M → M → Bool) (old : Stock P A) (store : Store P) (pin : ℕ) (call : Record P) (env : Env P) (next : Record P) (report : Report) (out : Outcome P)
+module _ {P A M : Type 0} (meaning : P → M) (charge : A → Option Charge) (Granted : Type 0) (same : M → M → Bool) (old : Stock P A) (store : Store P) (pin : ℕ) (call : Record P) (env : Env P) (next : Record P) (report : Report) (out : Outcome P)
     (kept : IsStoreSound meaning charge old) where
   -- the event between these tables, with these counts after it
   abbrev pub MovesTo : StoreCounts → Type 0

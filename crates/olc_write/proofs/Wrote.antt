@@ -1,5 +1,6 @@
 -- The events that decide a call at its node, over the stock of nodes that the code changes.
 use Rattle.std.proofs.Common.{◌≡◌, ◌≢◌, ℕ, ◌+◌, ◌≤◌, Bool, true, IsTrue, is_some, length, Option, Some, None, IsSome, refl, sym, subst, ap, ◌∙◌}
+use Rattle.node_table.specs.Charge.{Charge}
 use Rattle.node_base.specs.Form.{Fits}
 use Rattle.spec_map.specs.Map.{put}
 use Rattle.node_table.specs.TableNode.{Child}
@@ -100,7 +101,7 @@ some_stands same op asking value None change none = let enters = change_enters s
 some_stands same op asking value (Some c) change none = refl
 
 -- If `Granted` holds, a share is always granted. `same` compares two payloads.
-module _ {P A M : Type 0} (meaning : P → M) (charge : A → Option ℕ) (Granted : Type 0) (same : M → M → Bool) (old : Stock P A) (pin : ℕ) (task : Task P) (spot : Spot)
+module _ {P A M : Type 0} (meaning : P → M) (charge : A → Option Charge) (Granted : Type 0) (same : M → M → Bool) (old : Stock P A) (pin : ℕ) (task : Task P) (spot : Spot)
     (kept : IsStoreSound meaning charge old) (facts : StockKnows meaning charge Granted same old pin (record { stage = Tail (Write spot); task = task })) where
   -- the held leaf
   abbrev pub leaf_at : PlacedNode M
@@ -168,7 +169,7 @@ module _ {P A M : Type 0} (meaning : P → M) (charge : A → Option ℕ) (Grant
         seats = sets.seats;
       }
 
-module _ {P A M : Type 0} (meaning : P → M) (charge : A → Option ℕ) (Granted : Type 0) (same : M → M → Bool) (old : Stock P A) (pin : ℕ) (task : Task P) (spot : Spot) (leaf : ℕ)
+module _ {P A M : Type 0} (meaning : P → M) (charge : A → Option Charge) (Granted : Type 0) (same : M → M → Bool) (old : Stock P A) (pin : ℕ) (task : Task P) (spot : Spot) (leaf : ℕ)
     (kept : IsStoreSound meaning charge old) (facts : StockKnows meaning charge Granted same old pin (record { stage = Tail (Link spot leaf); task = task })) where
   -- the held inner node, and the leaf that was made
   abbrev pub inner_at : PlacedNode M

@@ -1,5 +1,6 @@
 -- The shortest call: a Get on a fresh machine, which finds no value.
 use Rattle.std.proofs.Common.{◌≡◌, ℕ, Bool, true, false, [], Option, Some, None, refl, ap, ◌∙◌, inl, inr}
+use Rattle.node_table.specs.Charge.{Charge}
 use Rattle.spec_map.proofs.MapLaws.{lookup-put_same}
 use Rattle.spec_map.specs.Map.{lookup, put, without}
 use Rattle.spec_olc.specs.Kinds.{IsStart, IsStep, begun, report_of}
@@ -16,7 +17,7 @@ use Rattle.std.proofs.lemmas.Bool.Decides.{eqb_tells}
 no_absurd : false ≡ true → ⊥
 no_absurd e = cc
 
-module _ {M : Type 0} (Granted : Type 0) (same : M → M → Bool) (root id key : ℕ) (charge : Option ℕ) (env : Env M) where
+module _ {M : Type 0} (Granted : Type 0) (same : M → M → Bool) (root id key : ℕ) (charge : Option Charge) (env : Env M) where
   here : lookup (State.nodes (fresh {M = M} root charge)) root ≡ Some bare_root
   here = elim (eqb_tells root root) [ inl at ↦ rw at.0 refl | inr far ↦ absurd (far.1 refl) ]
 

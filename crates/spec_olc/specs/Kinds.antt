@@ -1,6 +1,6 @@
 -- THE KINDS OF EVENTS: how each changes the state of the machine, and what it reports.
 use Rattle.std.specs.Prelude.{◌≡◌, ◌≢◌, ℕ, ◌+◌, Bool, true, false, IsTrue, ◌↔◌, List, [], ◌∷◌, length, Option, Some, None, IsSome, if◌then◌else◌, ◌⊎◌, ◌<◌, ◌≤◌}
-use Rattle.node_table.specs.Charge.{add_charge}
+use Rattle.node_table.specs.Charge.{Charge, add_charge}
 use Rattle.node_base.specs.Form.{Fits, stated_size}
 use Rattle.spec_map.specs.Map.{lookup, put, without}
 use Rattle.node_table.specs.TableNode.{TableNode, Child, MayHave}
@@ -90,7 +90,7 @@ module _ {M : Type 0} where
 
   -- only these nodes are left, and the sizes of the others are uncharged
   pub record FreesNodes (old : State M) (nodes : List (ℕ × VersionedNode M))
-      (charge : Option ℕ) : Type 0 where
+      (charge : Option Charge) : Type 0 where
     pub size : ℕ
     pub sizes : sizes_of old.nodes ≡ sizes_of nodes + size
     pub charged : old.charge ≡ add_charge charge size
@@ -212,7 +212,7 @@ module _ {M : Type 0} (Granted : Type 0) (same : M → M → Bool) where
 
     -- MAKE that is refused: the call's private nodes are freed, and their sizes uncharged
     pub record MakesNone : Type 0 where
-      pub charge : Option ℕ
+      pub charge : Option Charge
       pub reports : HasReport (report_of kind.Make None 0 true) (refusal call.progress)
       pub holds : call.held ≢ []
       pub frees : FreesNodes old (without_all old.nodes call.made) charge
@@ -336,7 +336,7 @@ module _ {M : Type 0} where
 
   -- RECLAIM: the slot is freed, and the size of its node uncharged
   pub record IsReclaim (old new : State M) (slot : ℕ) (report : Report) : Type 0 where
-    pub charge : Option ℕ
+    pub charge : Option Charge
     pub may : MayReclaim old slot
     pub is : report ≡ report_of kind.Reclaim (Some slot) 0 true
     pub frees : FreesNodes old (without old.nodes slot) charge

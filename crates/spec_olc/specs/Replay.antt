@@ -1,6 +1,7 @@
 -- THE THEOREM ON REPLAYS: the trace is linearizable, and comes of a run of the protocol from the
 -- root alone, without use after free, whose point calls are obstruction-free and whose ranges are scans.
 use Rattle.std.specs.Prelude.{◌≡◌, ℕ, List, [], Option}
+use Rattle.node_table.specs.Charge.{Charge}
 use Rattle.spec_map.specs.Map.{Pairs}
 use Rattle.spec_olc.specs.Alone.{AllEndAlone}
 use Rattle.spec_olc.specs.Linearizable.{IsLinearizable}
@@ -15,7 +16,7 @@ use Rattle.spec_olc.specs.declared.types.Event.{Event}
 pub record IsProtocolRun (events : List (Event ℕ)) (lines : List Line) (decided : List Decision)
     (content : Pairs ℕ) : Type 0 where
   pub root : ℕ
-  pub charge : Option ℕ
+  pub charge : Option Charge
   pub entries : List Transition
   pub steps : IsMachineRun (fresh root charge) [] entries content
   pub events_are : events_in entries ≡ events

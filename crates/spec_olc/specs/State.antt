@@ -1,5 +1,6 @@
 -- THE STATE of a machine: its nodes by their slots, and its calls in flight by their numbers.
 use Rattle.std.specs.Prelude.{◌≡◌, ℕ, ◌+◌, Bool, List, [], Option, None}
+use Rattle.node_table.specs.Charge.{Charge}
 use Rattle.spec_map.specs.Map.{put}
 use Rattle.node_table.specs.TableNode.{TableNode}
 use Rattle.spec_olc.specs.Calls.{Outline}
@@ -68,7 +69,7 @@ pub record State (M : Type 0) : Type 0 where
   -- how many pairs are stored
   pub entries : ℕ
   -- the bytes that are charged, if they are counted
-  pub charge : Option ℕ
+  pub charge : Option Charge
 
 module _ {M : Type 0} where
   -- a node that is made, one that is linked, and one that is retired with this stamp

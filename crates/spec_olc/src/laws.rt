@@ -3,6 +3,7 @@
 //! Each law is the contract of a function with no body.
 
 ghost use Rattle.std.specs.Prelude.{◌≡◌, ◌≢◌, ℕ, ◌+◌, ◌⊎◌, Bool, true, false, List, [], ◌∷◌, Option, Some, None, IsTrue, IsSome, length, ◌<◌, ◌≤◌};
+ghost use Rattle.node_table.specs.Charge.{Charge};
 ghost use Rattle.spec_map.specs.Map.{Pairs, lookup};
 ghost use Rattle.node_base.specs.Form.{next_form, smaller_form};
 ghost use Rattle.node_base.specs.declared.base_node.NodeType.TheVariants.{N4};
@@ -191,15 +192,15 @@ pub fn obsolete_stays<P: HasMeaning>()
 
 /// A fresh machine has no seats, and its content is empty.
 pub fn fresh_is_empty<P: HasMeaning>()
-    ensures seats { (root : ℕ) (charge : Option ℕ) (s : State P.Meaning)
+    ensures seats { (root : ℕ) (charge : Option Charge) (s : State P.Meaning)
         → s ≡ fresh root charge → s.seats ≡ [] }
-    ensures content { (root : ℕ) (charge : Option ℕ) → (s : State P.Meaning)
+    ensures content { (root : ℕ) (charge : Option Charge) → (s : State P.Meaning)
         → s ≡ fresh root charge → IsContent s [] }
 {}
 
 /// The definitions can be satisfied: a Get on a fresh machine has these five events.
 pub fn a_get_of_a_fresh_machine<P: HasMeaning>()
-    ensures { (root id key : ℕ) (charge : Option ℕ) (env : Env P.Meaning)
+    ensures { (root id key : ℕ) (charge : Option Charge) (env : Env P.Meaning)
         → (a b c d e : State P.Meaning)
         × IsStart (fresh root charge) a id (Op.Get key) (report_of Kind.Start None 0 true)
         × IsStep P.always_shared P.same_meaning a b id env (report_of Kind.Take

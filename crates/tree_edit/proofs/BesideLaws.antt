@@ -3,6 +3,7 @@
 use Rattle.std.proofs.Common.{◌≡◌, ◌≢◌, ℕ, zero, suc, ◌+◌, ◌<◌, List, [], ◌∷◌, ◌++◌, length, take, fold, get_or, Option, Some, None, refl, ap, sym, subst, ◌∙◌}
 use Rattle.std.proofs.lemmas.List.Sums.{fold_more}
 use Rattle.std.specs.Int.{from_be_bytes, w64}
+use Rattle.node_table.specs.Charge.{Charge}
 use Rattle.node_table.proofs.BeginLaws.{begins_append}
 use Rattle.node_table.proofs.DownLaws.{Begins-trans, one_byte}
 use Rattle.node_table.proofs.KeyLaws.{goes_on}
@@ -148,7 +149,7 @@ module _ {P : Type 0} (s t : NodeTable P) (root leaf : ℕ) (n : TableNode P) (h
       }
 
 -- what each end of an insertion leaves
-module _ {P A : Type 0} (charge : A → Option ℕ) (s : NodeTable P) (root : ℕ) (old : SupplyView A) (count : ℕ) (i : IsWhole s root old.forms count) (key : List ℕ) (bytes : AreBytes key) (full : length key ≡ 8) (spot : PathEnd) (ends : SeeksTo s root key spot) where
+module _ {P A : Type 0} (charge : A → Option Charge) (s : NodeTable P) (root : ℕ) (old : SupplyView A) (count : ℕ) (i : IsWhole s root old.forms count) (key : List ℕ) (bytes : AreBytes key) (full : length key ≡ 8) (spot : PathEnd) (ends : SeeksTo s root key spot) where
   abbrev number : ℕ
   number = from_be_bytes w64 key
 

@@ -2,6 +2,7 @@
 use Rattle.std.proofs.Common.{Bor, Ok, Err, ◌≡◌, ℕ, zero, suc, ◌+◌, ◌-◌, ◌<◌, ◌≤◌, List, [], ◌∷◌, length, get_or, Option, Some, None, Bool, false, refl, sym, subst, arith}
 use Rattle.std.specs.Int.{from_be_bytes, to_be_bytes, w64}
 use Rattle.std.proofs.lemmas.Nat.{be_bytes_8}
+use Rattle.node_table.specs.Charge.{Charge}
 use Rattle.spec_map.specs.Map.{lookup, put, IsMap}
 use Rattle.spec_map.specs.Refusal.{NeedsNode}
 use Rattle.spec_map.proofs.MapLaws.{without-absent}
@@ -30,7 +31,7 @@ use Rattle.tree_edit.proofs.WeightLaws.{size_counted}
 use Rattle.tree_edit.proofs.WholeLaws.{IsInsertion}
 
 -- a charge that changes with the counted sizes changes with those of the nodes
-pub moves_alike : {A : Type 0} (charge : A → Option ℕ) (old new : SupplyView A) (ns ms : List NodeInfo) → IsCounted old.forms ns → IsCounted new.forms ms → Alike charge old new
+pub moves_alike : {A : Type 0} (charge : A → Option Charge) (old new : SupplyView A) (ns ms : List NodeInfo) → IsCounted old.forms ns → IsCounted new.forms ms → Alike charge old new
     → MovesAlike (charge old.budget) (charge_of ns) (charge new.budget) (charge_of ms)
 moves_alike charge old new ns ms h k alike = rw (← size_counted old.forms ns h, ← size_counted new.forms ms k) alike
 
@@ -39,7 +40,7 @@ byte_at [] bytes i = omega arith
 byte_at (b ∷ key) bytes zero = bytes.0
 byte_at (b ∷ key) bytes (suc i) = byte_at key bytes.1 i
 
-module _ {P A : Type 0} (charge : A → Option ℕ) (s : NodeTable P) (root : ℕ) (old : SupplyView A) (count : ℕ) (i : IsWhole s root old.forms count) (w : TreeView P A)
+module _ {P A : Type 0} (charge : A → Option Charge) (s : NodeTable P) (root : ℕ) (old : SupplyView A) (count : ℕ) (i : IsWhole s root old.forms count) (w : TreeView P A)
     (seen : ◌≡◌ {A = TreeView P A} (record { pairs = pairs_at s depth root; nodes = nodes_at s depth [] root; budget = old.budget }) w) where
   -- what a contract sees of the tree after the call
   abbrev pub after : NodeTable P → SupplyView A → TreeView P A

@@ -4,6 +4,7 @@ use Rattle.std.specs.Int.{from_be_bytes, to_be_bytes}
 use Rattle.std.proofs.lemmas.Bool.{eq-eqb, ne_eqb, cases_eq}
 use Rattle.std.proofs.lemmas.Grind.{get_or-set_at}
 use Rattle.std.proofs.lemmas.Nat.{be_bytes_8, from_be_bytes-to_be_bytes_8}
+use Rattle.node_table.specs.Charge.{Charge}
 use Rattle.spec_map.specs.Map.{Pairs, lookup, between, Rises}
 use Rattle.spec_map.specs.Near.{first_of, last_of}
 use Rattle.spec_map.proofs.NearLaws.{first_at, last_at, no_first, no_last}
@@ -328,7 +329,7 @@ key_bytes : (n : ℕ) → AreBytes (to_be_bytes w64 n)
 key_bytes n = (omega arith, (omega arith, (omega arith, (omega arith, (omega arith, (omega arith, (omega arith, (omega arith, tt))))))))
 
 -- the removal of the pair at the side, as contracts see it
-module _ {P A : Type 0} (charge : A → Option ℕ) (s : NodeTable P) (root : ℕ) (old : SupplyView A) (count : ℕ) (i : IsWhole s root old.forms count) (w : TreeView P A)
+module _ {P A : Type 0} (charge : A → Option Charge) (s : NodeTable P) (root : ℕ) (old : SupplyView A) (count : ℕ) (i : IsWhole s root old.forms count) (w : TreeView P A)
     (seen : ◌≡◌ {A = TreeView P A} (record { pairs = pairs_at s depth root; nodes = nodes_at s depth [] root; budget = old.budget }) w)
     (side : Side) (key : ℕ) (is : Some key ≡ option_map (λ e. e.0) (at_side side (pairs_at s depth root)))
     (spot : PathEnd) (ends : SeeksTo s root (to_be_bytes w64 key) spot) (trail : List ℕ) (on : IsTrail s root (to_be_bytes w64 key) trail (spot.above + 1)) where

@@ -1,6 +1,6 @@
 -- The tree of one node without children.
 use Rattle.std.proofs.Common.{◌≡◌, ℕ, suc, [], ◌∷◌, Option, Some, None, refl, ap, sym, subst, ◌∙◌, arith}
-use Rattle.node_table.specs.Charge.{add_charge}
+use Rattle.node_table.specs.Charge.{Charge, add_charge}
 use Rattle.tree_path.specs.Charge.{charge_of}
 use Rattle.tree_path.specs.inner.Supply.{with_form, no_forms, size_of, IsCounted, SupplyView, Alike}
 use Rattle.tree_path.specs.declared.supply.FormCounts.{FormCounts}
@@ -60,7 +60,7 @@ module _ {P : Type 0} (t : NodeTable P) (root : ℕ) (n : TableNode P) (there : 
   pub root_counted : (forms : FormCounts) → forms ≡ with_form N256 no_forms → IsCounted forms (nodes_at t depth [] root)
   root_counted forms one_is f = rw (root_nodes t root n there node_is, one_is) (omega arith)
 
-  pub root_charge : {A : Type 0} (charge : A → Option ℕ) (budget : A) (old new : SupplyView A) → old ≡ record { budget = budget; forms = no_forms } → new.forms ≡ with_form N256 old.forms → Alike charge old new
+  pub root_charge : {A : Type 0} (charge : A → Option Charge) (budget : A) (old new : SupplyView A) → old ≡ record { budget = budget; forms = no_forms } → new.forms ≡ with_form N256 old.forms → Alike charge old new
       → charge new.budget ≡ add_charge (charge budget) (charge_of (nodes_at t depth [] root))
   root_charge charge budget old new is one_is alike =
       let sizes : size_of new.forms ≡ 2104 = rw (one_is, is) refl in
@@ -70,6 +70,6 @@ module _ {P : Type 0} (t : NodeTable P) (root : ℕ) (n : TableNode P) (there : 
       let moved : add_charge (charge budget) 2104 ≡ add_charge (charge new.budget) 0 = rw (sizes, none, was) at alike in
       rw whole (sym (moved ∙ nothing (charge new.budget)))
     where
-      nothing : (c : Option ℕ) → add_charge c 0 ≡ c
+      nothing : (c : Option Charge) → add_charge c 0 ≡ c
       nothing None = refl
-      nothing (Some k) = ap (λ x. Some x) (omega arith)
+      nothing (Some c) = ap (λ (n : ℕ). Some (record { bytes = n; limit = c.limit })) (omega arith)

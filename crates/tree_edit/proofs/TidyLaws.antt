@@ -1,5 +1,6 @@
 -- A removal goes up a key's path, step by step: what its loop keeps.
 use Rattle.std.proofs.Common.{◌≡◌, ◌≢◌, ℕ, zero, suc, ◌+◌, ◌<◌, List, [], ◌∷◌, ◌++◌, length, get_or, Option, Some, None, IsSome, ◌⊎◌, Bool, false, refl, ap, sym, subst, ◌∙◌, arith, inl, inr, length-append}
+use Rattle.node_table.specs.Charge.{Charge}
 use Rattle.node_base.specs.Form.{smaller_form}
 use Rattle.node_base.specs.declared.base_node.NodeType.{NodeType}
 use Rattle.spec_map.specs.Map.{lookup}
@@ -28,18 +29,25 @@ use Rattle.tree_edit.proofs.LostLaws.{lost}
 use Rattle.tree_edit.proofs.RiseLaws.{longer_than, rises, above_stays, removed}
 use Rattle.tree_edit.specs.inner.Rise.{with_all, ThinsAt, Risen, HasRisen, IsWholeBefore, IsRemoval}
 
-pub moves_trans : (a b c : Option ℕ) (x y z : ℕ) → MovesAlike a x b y → MovesAlike b y c z → MovesAlike a x c z
+bytes_in : Option Charge → ℕ
+bytes_in None = 0
+bytes_in (Some c) = c.bytes
+
+limit_in : Option Charge → ℕ
+limit_in None = 0
+limit_in (Some c) = c.limit
+
+pub moves_trans : (a b c : Option Charge) (x y z : ℕ) → MovesAlike a x b y → MovesAlike b y c z → MovesAlike a x c z
 moves_trans None None None x y z p q = refl
-moves_trans None None (Some c) x y z p q = absurd (let q' : ◌≡◌ {A = Option ℕ} None (Some (c + y)) = q in cc)
-moves_trans None (Some b) c x y z p q = absurd (let p' : ◌≡◌ {A = Option ℕ} None (Some (b + x)) = p in cc)
-moves_trans (Some a) None c x y z p q = absurd (let p' : ◌≡◌ {A = Option ℕ} (Some (a + y)) None = p in cc)
-moves_trans (Some a) (Some b) None x y z p q = absurd (let q' : ◌≡◌ {A = Option ℕ} (Some (b + z)) None = q in cc)
+moves_trans None None (Some c) x y z p q = absurd (let q' : ◌≡◌ {A = Option Charge} None (add_charge (Some c) y) = q in cc)
+moves_trans None (Some b) c x y z p q = absurd (let p' : ◌≡◌ {A = Option Charge} None (add_charge (Some b) x) = p in cc)
+moves_trans (Some a) None c x y z p q = absurd (let p' : ◌≡◌ {A = Option Charge} (add_charge (Some a) y) None = p in cc)
+moves_trans (Some a) (Some b) None x y z p q = absurd (let q' : ◌≡◌ {A = Option Charge} (add_charge (Some b) z) None = q in cc)
 moves_trans (Some a) (Some b) (Some c) x y z p q =
-    let p' : ◌≡◌ {A = Option ℕ} (Some (a + y)) (Some (b + x)) = p in
-    let q' : ◌≡◌ {A = Option ℕ} (Some (b + z)) (Some (c + y)) = q in
-    let p'' : a + y ≡ b + x = cc in
-    let q'' : b + z ≡ c + y = cc in
-    ap (λ n. Some n) (omega (arith, p'', q''))
+    let p' : a.bytes + y ≡ b.bytes + x = ap bytes_in p in
+    let q' : b.bytes + z ≡ c.bytes + y = ap bytes_in q in
+    let same : a.limit ≡ c.limit = ap limit_in p ∙ ap limit_in q in
+    rw same (ap (λ (n : ℕ). Some (record { bytes = n; limit = c.limit })) (omega (arith, p', q')))
 
 count_all : (f : NodeType) (nodes : List NodeInfo) (c : FormCounts) → count f (with_all nodes c) ≡ count f c + total (one f) nodes
 count_all f [] c = omega arith

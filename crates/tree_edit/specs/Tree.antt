@@ -2,6 +2,7 @@
 use Rattle.std.specs.Prelude.{◌≡◌, ℕ, List, [], ◌∷◌, Option, refl}
 use Rattle.std.specs.Int.{from_be_bytes, w64}
 use Rattle.std.specs.Coded.{Coded, code_by, coded×, coded_list, coded_ℕ}
+use Rattle.node_table.specs.Charge.{Charge}
 use Rattle.node_table.specs.inner.Codes.{form_code}
 use Rattle.spec_map.specs.Map.{Pairs, lookup}
 use Rattle.node_table.specs.Table.{NodeInfo}
@@ -48,6 +49,6 @@ module _ {P A : Type 0} where
   StoresSame old new = (new.pairs ≡ old.pairs) × (new.nodes ≡ old.nodes)
 
   -- the charge, where it is counted, changes by as much as the sizes of the nodes do
-  abbrev pub ChargesForNodes : (A → Option ℕ) → TreeView P A → TreeView P A → Type 0
+  abbrev pub ChargesForNodes : (A → Option Charge) → TreeView P A → TreeView P A → Type 0
   ChargesForNodes charge old new =
       MovesAlike (charge old.budget) (charge_of old.nodes) (charge new.budget) (charge_of new.nodes)

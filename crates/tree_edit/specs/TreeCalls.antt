@@ -5,7 +5,7 @@ use Rattle.std.specs.Int.{to_be_bytes, w64}
 use Rattle.std.specs.Option.{ForSome}
 use Rattle.spec_map.specs.Map.{lookup, put, without, with_answer}
 use Rattle.spec_map.specs.Refusal.{NeedsNode}
-use Rattle.node_table.specs.Charge.{add_charge}
+use Rattle.node_table.specs.Charge.{Charge, add_charge}
 use Rattle.node_table.specs.Shape.{Reshapes}
 use Rattle.node_table.specs.Table.{NodeInfo}
 use Rattle.tree_path.specs.Charge.{charge_of}
@@ -16,7 +16,7 @@ use Rattle.tree_edit.specs.Tree.{TreeView, root_alone, ChargesForNodes, StoresSa
 use denote.Ref.{Bor}
 
 -- A NEW TREE, whose budget was this one before the root was charged to it
-pub record IsNew {P A : Type 0} (charge : A → Option ℕ) (budget : A) (new : TreeView P A) : Type 0 where
+pub record IsNew {P A : Type 0} (charge : A → Option Charge) (budget : A) (new : TreeView P A) : Type 0 where
   pub pairs : new.pairs ≡ []
   pub nodes : new.nodes ≡ root_alone
   pub charged : charge new.budget ≡ add_charge (charge budget) (charge_of new.nodes)
@@ -28,7 +28,7 @@ pub record IsChargeOf {P A : Type 0} (tree : TreeView P A) (bytes : ℕ) : Type 
   pub bare : tree.pairs ≡ [] → bytes ≡ 2104
 
 -- a call at this key of this tree, whose budget has such a charge; `before` is the key's previous payload in each
-module _ {P A : Type 0} (charge : A → Option ℕ) (old : TreeView P A) (key : ℕ) where
+module _ {P A : Type 0} (charge : A → Option Charge) (old : TreeView P A) (key : ℕ) where
   -- A REMOVAL, which never fails
   pub record Removes (result : Option P) (new : TreeView P A) : Type 0 where
     pub before : result ≡ lookup old.pairs key

@@ -13,6 +13,8 @@
 ghost use Rattle.std.specs.Prelude.{◌≡◌, length, IfOk, option_copied};
 ghost use Rattle.tree_path.specs.inner.Root.{HasTree, tree_pairs, tree_nodes};
 ghost use Rattle.tree_edit.specs.TreeCalls.{IsNew, IsChargeOf, ReadsPath};
+ghost use Rattle.tree_path.specs.Charge.{charge_of};
+ghost use Rattle.node_table.specs.Charge.{Covers};
 ghost use Rattle.tree_edit.specs.Tree.{payload_at};
 
 use node_table::allocator::Allocator;
@@ -95,6 +97,14 @@ impl<P: Drop, A: Allocator> Tree<P, A> {
         ensures { IsChargeOf self.now result }
     {
         self.supply.bytes()
+    }
+
+    /// The budget, which is charged for all nodes.
+    pub fn allocator(&self) -> &A
+        ensures budget { result.now ≡ self.now.budget }
+        ensures charged { Covers (A.charge self.now.budget) (charge_of self.now.nodes) }
+    {
+        self.supply.budget()
     }
 
     /// The machine's memory, from which the nodes are taken.

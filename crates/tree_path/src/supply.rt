@@ -109,6 +109,14 @@ impl<A: Allocator> Supply<A> {
         self.alloc
     }
 
+    /// The budget, which is charged for all nodes.
+    pub fn budget(&self) -> &A
+        ensures budget { result.now ≡ self.now.budget }
+        ensures charged { Covers (A.charge self.now.budget) (size_of self.now.forms) }
+    {
+        &self.budget
+    }
+
     /// The sum of the sizes that are charged.
     pub fn bytes(&self) -> u128
         ensures { result ≡ size_of self.now.forms }

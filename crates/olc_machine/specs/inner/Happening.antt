@@ -1,5 +1,6 @@
 -- One event of a call: it writes, or only reads.
 use Rattle.std.specs.Prelude.{◌≡◌, ℕ, Bool, [], Option, Some, ◌⊎◌}
+use Rattle.node_table.specs.Charge.{Charge}
 use Rattle.spec_olc.specs.Meaning.{env_of, in_some, outcome_of}
 use Rattle.spec_olc.specs.declared.types.Env.{Env}
 use Rattle.spec_olc.specs.declared.types.Outcome.{Outcome}
@@ -11,7 +12,7 @@ use Rattle.olc_state.specs.inner.Shown.{held_at}
 use Rattle.olc_state.specs.inner.Stocks.{StockMoves, table_in}
 use Rattle.olc_state.specs.inner.Turns.{IsAdvance}
 
-module _ {P A M : Type 0} (meaning : P → M) (charge : A → Option ℕ) (Granted : Type 0) (same : M → M → Bool) where
+module _ {P A M : Type 0} (meaning : P → M) (charge : A → Option Charge) (Granted : Type 0) (same : M → M → Bool) where
   -- an event that writes, after which its call goes on
   pub record HasWritten (old new : Stock P A) (pin : ℕ) (call : Record P) (env : Env P)
       (after : Option (Record P)) (report : Report) (out : Outcome P) : Type 0 where

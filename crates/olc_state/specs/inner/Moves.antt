@@ -2,6 +2,7 @@
 -- content, and what it does to what a reader sees. Each kind of events is proved to be of this form,
 -- and a machine stays sound by it.
 use Rattle.std.specs.Prelude.{◌≡◌, ℕ, ◌≤◌, Bool, length, Option, None, ◌⊎◌}
+use Rattle.node_table.specs.Charge.{Charge}
 use Rattle.spec_map.specs.Map.{Pairs, IsMap, put}
 use Rattle.spec_olc.specs.Content.{IsContent}
 use Rattle.spec_olc.specs.Deciding.{ContentAfter}
@@ -21,7 +22,7 @@ use Rattle.olc_state.specs.inner.World.{PlacedNode, NodeMap}
 -- how many nodes were retired, what is charged, and how many pairs are stored
 pub record StoreCounts : Type 0 where
   pub count : ℕ
-  pub charge : Option ℕ
+  pub charge : Option Charge
   pub entries : ℕ
 
 module _ {M : Type 0} where

@@ -1,7 +1,7 @@
 -- AN EVENT OF A CALL as the code makes it: what it may rely on, and what it makes of the stock of
 -- nodes.
 use Rattle.std.specs.Prelude.{◌≡◌, ◌≢◌, ℕ, ◌^◌, ◌<◌, ◌≤◌, Bool, Option, None}
-use Rattle.node_table.specs.Charge.{Covers}
+use Rattle.node_table.specs.Charge.{Charge, Covers}
 use Rattle.spec_olc.specs.Calls.{bytes_of}
 use Rattle.spec_olc.specs.Meaning.{env_of, outcome_of}
 use Rattle.spec_olc.specs.declared.types.Env.{Env}
@@ -22,7 +22,7 @@ use Rattle.olc_state.specs.inner.World.{NodeMap}
 abbrev pub SlotsFitU64 : {M : Type 0} → NodeMap M → Type 0
 SlotsFitU64 {M} t = (s : ℕ) → t s ≢ None → s < 2 ^ 64
 
-module _ {P A M : Type 0} (meaning : P → M) (charge : A → Option ℕ) where
+module _ {P A M : Type 0} (meaning : P → M) (charge : A → Option Charge) where
   abbrev pub table_in : Stock P A → NodeMap M
   table_in stock = meant_table meaning stock.store
 

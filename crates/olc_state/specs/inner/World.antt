@@ -1,5 +1,6 @@
 -- The machine's inside: the nodes in their slots, the records of the calls in flight, the pins.
 use Rattle.std.specs.Prelude.{ℕ, List, Option, Some, None, slice_index_or}
+use Rattle.node_table.specs.Charge.{Charge}
 use Rattle.spec_map.specs.Map.{lookup}
 use Rattle.node_table.specs.TableNode.{TableNode, Child}
 use Rattle.olc_words.specs.Epoch.{PinsView, entry_at}
@@ -18,7 +19,7 @@ pub record World (P : Type 0) : Type 0 where
   pub pins : PinsView
   pub calls : List (ℕ × Option (Record P))
   pub entries : ℕ
-  pub charge : Option ℕ
+  pub charge : Option Charge
 
 -- where a node is in its life: made and not linked, in the tree, taken out of it, or obsolete with
 -- the stamp of its retirement

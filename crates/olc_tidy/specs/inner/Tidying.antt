@@ -1,5 +1,6 @@
 -- A CLEANUP AT ITS NODE: what the call knows before an event, and what the event does.
 use Rattle.std.specs.Prelude.{◌≡◌, ℕ, ◌<◌, ◌≤◌, Bool, true, false, [], length, Option, None, if◌then◌else◌, ◌==◌}
+use Rattle.node_table.specs.Charge.{Charge}
 use Rattle.node_base.specs.Form.{few_in, form_place, next_form}
 use Rattle.node_base.specs.declared.base_node.NodeType.{NodeType}
 use Rattle.node_table.specs.TableNode.{TableNode}
@@ -17,7 +18,7 @@ use Rattle.olc_state.specs.declared.tail.NodePair.{NodePair}
 use Rattle.olc_state.specs.inner.Stocks.{StockKnows, StockMoves}
 use Rattle.olc_write.specs.inner.Leaving.{IsLeftOf}
 
-module _ {P A M : Type 0} (meaning : P → M) (charge : A → Option ℕ) where
+module _ {P A M : Type 0} (meaning : P → M) (charge : A → Option Charge) where
   abbrev pub KnowsTidy : (Granted : Type 0) (same : M → M → Bool) → Stock P A → ℕ → Task P → Cleanup → Tidy → Type 0
   KnowsTidy Granted same stock pin task c x = StockKnows meaning charge Granted same stock pin (record { stage = stage.Tidy c x; task = task })
 

@@ -4,7 +4,7 @@ use Rattle.node_base.specs.Form.{Fits, next_form, stated_size}
 use Rattle.node_base.specs.declared.base_node.NodeType.{NodeType}
 use Rattle.node_base.specs.declared.base_node.NodeType.TheVariants.{N4, N16, N48, N256}
 use Rattle.spec_map.specs.Map.{Rises, between, lookup, put}
-use Rattle.node_table.specs.Charge.{add_charge}
+use Rattle.node_table.specs.Charge.{Charge, add_charge}
 use Rattle.node_table.specs.Key.{next_byte}
 use Rattle.node_table.specs.TableNode.{MayHave, TableNode, Child}
 use Rattle.node_table.specs.declared.child.Child.TheVariants.{Payload, Node as below_at}
@@ -31,7 +31,7 @@ module _ {M : Type 0} where
   gone task = closed progress.Refused task
 
   -- a private node is freed, and its size uncharged
-  pub record LosesPrivate (t t' : NodeMap M) (slot : ℕ) (charge charge' : Option ℕ) : Type 0 where
+  pub record LosesPrivate (t t' : NodeMap M) (slot : ℕ) (charge charge' : Option Charge) : Type 0 where
     pub node : PlacedNode M
     pub here : t slot ≡ Some node
     pub private : node.lifetime ≡ is_private
@@ -39,7 +39,7 @@ module _ {M : Type 0} where
     pub others : (o : ℕ) → o ≢ slot → t' o ≡ t o
     pub charged : charge ≡ add_charge charge' (stated_size node.node.form)
 
-  pub record TableStays (t t' : NodeMap M) (charge charge' : Option ℕ) : Type 0 where
+  pub record TableStays (t t' : NodeMap M) (charge charge' : Option Charge) : Type 0 where
     pub nodes : (o : ℕ) → t' o ≡ t o
     pub charged : charge' ≡ charge
 
@@ -48,7 +48,7 @@ module _ {M : Type 0} where
   IsGivenUp t t' None charge charge' = TableStays t t' charge charge'
   IsGivenUp t t' (Some slot) charge charge' = LosesPrivate t t' slot charge charge'
 
-module _ {P A M : Type 0} (meaning : P → M) (charge : A → Option ℕ) where
+module _ {P A M : Type 0} (meaning : P → M) (charge : A → Option Charge) where
   -- what no Make changes
   pub record SameRest (old new : Stock P A) : Type 0 where
     pub kept : IsStoreSound meaning charge new

@@ -1,5 +1,6 @@
 -- Insertions of many pairs, each of which may begin at the leaf of the one before.
 use Rattle.std.specs.Prelude.{◌≡◌, ℕ, List, Option}
+use Rattle.node_table.specs.Charge.{Charge}
 use Rattle.node_table.specs.Table.{NodeTable}
 use Rattle.spec_map.specs.Map.{put}
 use Rattle.spec_map.specs.Refusal.{NeedsNode}
@@ -15,7 +16,7 @@ pub record IsReached {P : Type 0} (s : NodeTable P) (root : ℕ) (last : PathEnd
   pub leads : LeadsTo s root key last.above last.slot last.parent
 
 -- what an insertion of a key by its number does to the parts of a tree, of which s and old were two
-module _ {P A : Type 0} (charge : A → Option ℕ) (s : NodeTable P) (old : SupplyView A) (root key : ℕ) where
+module _ {P A : Type 0} (charge : A → Option Charge) (s : NodeTable P) (old : SupplyView A) (root key : ℕ) where
   -- the pair is in the tree, and the node that is remembered is reached in it
   pub record Puts (v : P) (last : PathEnd) (t : NodeTable P) (new : SupplyView A) (count : ℕ) : Type 0 where
     pub whole : IsWhole t root new.forms count

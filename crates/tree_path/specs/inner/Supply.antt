@@ -1,6 +1,7 @@
 -- What the nodes of a tree are taken from: a budget, and the count of the nodes that it is charged for.
 use Rattle.std.specs.Prelude.{◌≡◌, ℕ, ◌+◌, ◌*◌, ◌<◌, ◌^◌, List, length, Option, Some, refl}
 use Rattle.std.specs.Coded.{Coded, code_by, coded×, coded_ℕ}
+use Rattle.node_table.specs.Charge.{Charge}
 use Rattle.node_table.specs.Shape.{grown_form}
 use Rattle.node_table.specs.Table.{NodeTable, NodeInfo, node_at}
 use Rattle.node_table.specs.TableNode.{TableNode}
@@ -60,7 +61,7 @@ supply_code {A} a =
     (λ p. record { budget = p.0; forms = p.1 })
     (λ _. refl)
 
-module _ {A : Type 0} (charge : A → Option ℕ) where
+module _ {A : Type 0} (charge : A → Option Charge) where
   -- the charge changes by as much as the counted sizes do
   abbrev pub Alike : SupplyView A → SupplyView A → Type 0
   Alike old new =
