@@ -5,7 +5,7 @@
 #![tactic(auto)]
 
 pub use congee_owned::{
-    Allocator, Budget, Congee, CongeeArc, DefaultAllocator, Drainer, FnDrain, InsertManyError,
+    Allocator, Budget, Congee, CongeeArc, DefaultAllocator, Drainer, FnDrain, InsertManyError, Iter,
     LevelStats, Levels, NoDrain, NodeSize, NodeStats, OOMError, Payload, PayloadCongee, U64Congee,
     Word,
 };

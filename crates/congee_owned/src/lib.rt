@@ -6,6 +6,7 @@
 pub use face_payloads::congee_arc::{CongeeArc, PayloadCongee};
 pub use face_typed::many::InsertManyError;
 pub use face_typed::typed_congee::Congee;
+pub use face_typed::typed_congee::iter::Iter;
 pub use face_u64::u64_congee::U64Congee;
 pub use node_base::base_node::NodeSize;
 pub use node_stats::NodeStats;

@@ -1,3 +1,4 @@
 pub mod BulkLaws
 pub mod EmptyLaws
+pub mod PageLaws
 pub mod Places

@@ -1,7 +1,7 @@
 -- Calls that change many pairs at once.
 use Rattle.std.specs.Prelude.{◌≡◌, ℕ, ◌+◌, Bool, ◌&&◌, not, List, [], ◌∷◌, Option, Some, None, if◌then◌else◌, nat_lt, nat_le, filter, fold}
 use Rattle.std.specs.Fn.{Mut, Called}
-use Rattle.spec_map.specs.Map.{Pairs, put}
+use Rattle.spec_map.specs.Map.{Pairs, put, between}
 use denote.Ref.{Bor}
 
 -- the pairs with keys below low, or from high on: those that aren't between the two
@@ -16,6 +16,11 @@ put_all key value m pairs = fold (λ es pair. put es (key pair.0) (value pair.1)
 abbrev pub next_of : Option ℕ → ℕ
 next_of None = 0
 next_of (Some k) = k + 1
+
+-- the pairs between a least and a greatest key, or none
+abbrev pub unread_pairs : {V : Type 0} → Pairs V → Option (ℕ × ℕ) → Pairs V
+unread_pairs es None = []
+unread_pairs es (Some keys) = between es keys.0 (keys.1 + 1)
 
 -- A closure's steps at the items of a list, in their order, each once: it answers which items stay. Those are `kept`.
 module _ {F E : Type 0} (step : F → E → Bool → F → Type 0) where

@@ -6,6 +6,7 @@
 pub mod bulk;
 pub mod by_number;
 pub mod into_pairs;
+pub mod iter;
 mod near;
 mod ranges;
 pub mod sorted_pairs;

@@ -14,6 +14,7 @@ ghost use Rattle.tree_edit.specs.TreeCalls.{IsNew, IsChargeOf};
 ghost use Rattle.tree_edit.specs.Tree.{ChargesForNodes, StoresSame};
 
 mod bulk;
+pub mod iter;
 mod near;
 
 use congee_tree::by_number;

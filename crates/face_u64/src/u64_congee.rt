@@ -13,6 +13,7 @@ ghost use Rattle.tree_edit.specs.TreeCalls.{IsNew, IsChargeOf};
 ghost use Rattle.tree_edit.specs.Tree.{root_alone, ChargesForNodes, StoresSame};
 
 mod bulk;
+mod iter;
 mod near;
 
 use face_typed::typed_congee::Congee;

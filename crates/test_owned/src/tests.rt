@@ -6,6 +6,7 @@ mod bulk;
 mod counted;
 mod faces;
 mod hostile;
+mod iterators;
 mod leaks;
 mod neighbours;
 mod rows;

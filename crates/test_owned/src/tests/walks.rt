@@ -1,9 +1,11 @@
 //! Drains and drainers.
 
 use super::asserts::{assert_pairs, assert_test};
+use super::counted::Tally;
 use congee_owned::{Congee, DefaultAllocator, Drainer, FnDrain, NoDrain, OOMError};
 use std::alloc::Global;
 use std::cell::RefCell;
+use std::sync::atomic::{AtomicU64, Ordering};
 use std::test::Fail;
 
 /// Records the pairs that it is called with.
@@ -54,6 +56,92 @@ fn called_at_drop(alloc: Global) -> Result<Vec<(u64, u64)>, OOMError> {
 fn drainer_is_called_at_the_drop(rt: HostRuntime) -> Result<(), Fail> {
     let wanted = [(1, 10), (2, 20), (u64::MAX, 30)];
     assert_pairs(&rt, 0, &called_at_drop(rt.alloc())?, &wanted);
+    Ok(())
+}
+
+/// A call that takes a pair out of the map, or writes over one.
+#[derive(Clone, Copy)]
+enum Change {
+    Overwrite,
+    Remove,
+    Compute,
+    Exchange,
+    PopFirst,
+    PopLast,
+    RemoveRange,
+    RemoveRangeInclusive,
+    ExtractRange,
+    Retain,
+    Clear,
+}
+
+// How many pairs of three each leaves.
+const CHANGES: [(Change, u64); 11] = [
+    (Change::Overwrite, 3),
+    (Change::Remove, 2),
+    (Change::Compute, 2),
+    (Change::Exchange, 2),
+    (Change::PopFirst, 2),
+    (Change::PopLast, 2),
+    (Change::RemoveRange, 2),
+    (Change::RemoveRangeInclusive, 1),
+    (Change::ExtractRange, 1),
+    (Change::Retain, 2),
+    (Change::Clear, 0),
+];
+
+type TalliedMap<'a> = Congee<u64, u64, DefaultAllocator, Tally<'a>>;
+
+fn make(map: &mut TalliedMap<'_>, change: Change) {
+    match change {
+        Change::Overwrite => drop(map.insert(2, 21)),
+        Change::Remove => drop(map.remove(&2)),
+        Change::Compute => drop(map.compute_if_present(&2, &mut |_value: u64| None)),
+        Change::Exchange => drop(map.compare_exchange(&2, &20, None)),
+        Change::PopFirst => drop(map.pop_first()),
+        Change::PopLast => drop(map.pop_last()),
+        Change::RemoveRange => drop(map.remove_range(&2, &3)),
+        Change::RemoveRangeInclusive => drop(map.remove_range_inclusive(&1, &2)),
+        Change::ExtractRange => map.extract_range(&1, &3, &mut |_key: u64, _value: u64| {}),
+        Change::Retain => map.retain(&mut |key: u64, _value: u64| key != 2),
+        Change::Clear => map.clear(),
+    }
+}
+
+// How many pairs the drainer is called with: by a change, and by the drop after it.
+fn called_with(alloc: Global, change: Change) -> Result<(u64, u64), OOMError> {
+    let reported = AtomicU64::new(0);
+    let mut map = Congee::new_with_drainer(
+        alloc,
+        DefaultAllocator {},
+        Tally {
+            reported: &reported,
+        },
+    )?;
+    for key in 1..4u64 {
+        map.insert(key, key.wrapping_mul(10))?;
+    }
+    make(&mut map, change);
+    let before = reported.load(Ordering::Relaxed);
+    drop(map);
+    Ok((before, reported.load(Ordering::Relaxed)))
+}
+
+// The place of the first change that the drainer sees, or whose pairs it isn't called with at the drop.
+fn wrong_change(alloc: Global) -> Result<u64, OOMError> {
+    let mut place = 0u64;
+    for (change, left) in CHANGES {
+        if called_with(alloc, change)? != (0, left) {
+            return Ok(place);
+        }
+        place = place.wrapping_add(1);
+    }
+    Ok(99)
+}
+
+#[test]
+fn drainer_sees_no_change_before_the_drop(rt: HostRuntime) -> Result<(), Fail> {
+    assert!(rt; wrong_change(rt.alloc())? == 99);
     Ok(())
 }
 
