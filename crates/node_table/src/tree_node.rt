@@ -83,15 +83,34 @@ impl<P: Drop, C: Drop> TreeNode<P, C> {
         })
     }
 
+    /// An inner node of the smallest form, without children. It takes no memory.
+    pub fn empty_inner(prefix: &[u8]) -> Self
+        requires { length prefix.now < 7 }
+        ensures { result ≡ record { form = N4; prefix = prefix.now; children = [] } }
+    {
+        let head = Head4::new(prefix);
+        TreeNode {
+            kind: NodeKind::Inner4(InnerHead { head }, Few::Zero),
+        }
+    }
+
+    /// A leaf of the smallest form, without payloads. It takes no memory.
+    pub fn empty_leaf(prefix: &[u8]) -> Self
+        requires { length prefix.now ≡ 7 }
+        ensures { result ≡ record { form = N4; prefix = prefix.now; children = [] } }
+    {
+        let head = Head4::new(prefix);
+        TreeNode {
+            kind: NodeKind::Leaf4(Leaf { head }, Few::Zero),
+        }
+    }
+
     /// An inner node of the smallest form, without children; a refusal only for lack of memory.
     pub fn inner(_alloc: Global, prefix: &[u8]) -> Result<Self, OOMError>
         requires { length prefix.now < 7 }
         ensures { IfOk result (λ n. n ≡ record { form = N4; prefix = prefix.now; children = [] }) }
     {
-        let head = Head4::new(prefix);
-        Ok(TreeNode {
-            kind: NodeKind::Inner4(InnerHead { head }, Few::Zero),
-        })
+        Ok(TreeNode::empty_inner(prefix))
     }
 
     /// A leaf of the smallest form, without payloads; a refusal only for lack of memory.
@@ -99,10 +118,7 @@ impl<P: Drop, C: Drop> TreeNode<P, C> {
         requires { length prefix.now ≡ 7 }
         ensures { IfOk result (λ n. n ≡ record { form = N4; prefix = prefix.now; children = [] }) }
     {
-        let head = Head4::new(prefix);
-        Ok(TreeNode {
-            kind: NodeKind::Leaf4(Leaf { head }, Few::Zero),
-        })
+        Ok(TreeNode::empty_leaf(prefix))
     }
 
     /// What all forms have.

@@ -111,7 +111,7 @@ fn finds_last_payloads(alloc: Global, leaf: &mut TreeNode<u64>) -> Result<bool, 
 
 #[test]
 fn last_payload_in_each_form(rt: HostRuntime) -> Result<(), Fail> {
-    let mut leaf = TreeNode::leaf(rt.alloc(), &[1, 2, 3, 4, 5, 6, 7])?;
+    let mut leaf = TreeNode::empty_leaf(&[1, 2, 3, 4, 5, 6, 7]);
     let is_right = finds_last_payloads(rt.alloc(), &mut leaf)?;
     assert!(rt; is_right);
     Ok(())
@@ -162,7 +162,7 @@ fn changes_a_pair(rt: &impl Abort, node: &mut TreeNode<u64, (u8, u64)>)
 
 #[test]
 fn inner_nodes_may_have_others_than_slots(rt: HostRuntime) -> Result<(), Fail> {
-    let mut node = TreeNode::<u64, (u8, u64)>::inner(rt.alloc(), &[1])?;
+    let mut node = TreeNode::<u64, (u8, u64)>::empty_inner(&[1]);
     changes_a_pair(&rt, &mut node);
     Ok(())
 }

@@ -1,6 +1,6 @@
 use Rattle.std.proofs.Common.{rules, ◌≡◌, length, refl}
 use Rattle.node_forms.proofs.SortedLaws.{sorted_empty}
-use Rattle.node_table.proofs.tree_node.TreeNode.leaf.Goals as goal
+use Rattle.node_table.proofs.tree_node.TreeNode.empty_leaf.Goals as goal
 
 pub invariant_of-result : goal.invariant_of-result
 invariant_of-result g c =
