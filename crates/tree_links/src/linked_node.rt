@@ -1,0 +1,84 @@
+//! What a table of links asks of its nodes.
+
+ghost use Rattle.std.specs.Prelude.{◌≡◌, ◌+◌, ◌<◌, ◌≤◌, [], ◌∷◌, length, IsTrue, false, IfOk, IfErr, OnOk, OnErr, IfSome, IfNone, Some, None};
+ghost use Rattle.std.specs.Int.{w64, to_be_bytes};
+ghost use Rattle.spec_map.specs.Map.{lookup, between, Rises};
+ghost use Rattle.node_base.specs.Form.{Fits, next_form};
+ghost use Rattle.node_base.specs.declared.base_node.NodeType.TheVariants.{N4};
+ghost use Rattle.tree_links.specs.LinkNode.{MayLink, seen, looked_at, with_link, without_link, IsMet};
+ghost use Rattle.tree_links.specs.declared.link.Link.TheVariants.{Payload};
+
+use crate::link::{Link, LinkMeeting, LinkRef};
+use node_base::base_node::BaseNode;
+use spec_map::error::OOMError;
+use std::alloc::Global;
+
+/// A node whose children may be pairs. Below seven bytes it is a leaf, whose children are payloads. Below fewer it is
+/// an inner node, whose children are slots and pairs.
+pub trait LinkedNode<P>: Drop + Sized {
+    ghost use Rattle.tree_links.specs.LinkNode.{LinkNode};
+
+    ghost node: { Self → LinkNode P };
+
+    /// A leaf of the smallest form with one payload. Takes no memory.
+    fn leaf_of(prefix: &[u8], byte: u8, payload: P) -> Self
+        requires { length prefix.now ≡ 7 }
+        ensures { node result
+            ≡ record { form = N4; prefix = prefix.now; links = (byte, Payload payload) ∷ [] } };
+
+    /// What all forms have.
+    fn base(&self) -> &BaseNode
+        ensures prefix { result.now.prefix ≡ (node self.now).prefix }
+        ensures count { result.now.count ≡ length (node self.now).links }
+        ensures form { result.now.form ≡ (node self.now).form }
+        ensures within { Fits (node self.now).form (length (node self.now).links) }
+        ensures ascending { Rises 0 256 (node self.now).links };
+
+    /// What a key meets here, whose bytes are those of the word, most significant first.
+    fn meet<'a>(&'a self, key: &[u8; 8], word: u64) -> LinkMeeting<'a, P>
+        requires { to_be_bytes w64 word ≡ key.now }
+        ensures { IsMet key.now (node self.now) result };
+
+    /// What is under a byte, or `None`.
+    fn get_link<'a>(&'a self, byte: u8) -> Option<LinkRef<'a, P>>
+        ensures { seen result ≡ lookup (node self.now).links byte };
+
+    /// The first link whose byte isn't below `from`, and its byte; `None` from 256 on.
+    fn first_from<'a>(&'a self, from: usize) -> Option<(u8, LinkRef<'a, P>)>
+        ensures none { IfNone result (between (node self.now).links from 256 ≡ []) }
+        ensures some { IfSome result (λ found. between (node self.now).links from 256
+            ≡ (found.0, looked_at found.1) ∷ between (node self.now).links (found.0 + 1) 256) }
+        ensures order { IfSome result (λ found. from ≤ found.0) };
+
+    /// Adds a link of the node's kind under a byte that has none, in a node that is not full.
+    fn insert(&mut self, byte: u8, link: Link<P>)
+        requires absent { lookup (node self.old).links byte ≡ None }
+        requires room { Fits (node self.old).form (length (node self.old).links + 1) }
+        requires kind { MayLink (node self.old).prefix link }
+        ensures { node self.new ≡ with_link (node self.old) byte link };
+
+    /// Replaces the link under a byte by another of the node's kind, and returns the previous one. If there is none,
+    /// `Err` returns the new link.
+    fn exchange(&mut self, byte: u8, link: Link<P>) -> Result<Link<P>, Link<P>>
+        requires { MayLink (node self.old).prefix link }
+        ensures before { IfOk result (λ c. lookup (node self.old).links byte ≡ Some c) }
+        ensures after { OnOk result (node self.new ≡ with_link (node self.old) byte link) }
+        ensures absent { OnErr result (lookup (node self.old).links byte ≡ None) }
+        ensures back { IfErr result (λ c. c ≡ link) }
+        ensures same { OnErr result (node self.new ≡ node self.old) };
+
+    /// Takes out the link under a byte, if there is one, and returns it.
+    fn take(&mut self, byte: u8) -> Option<Link<P>>
+        ensures before { result ≡ lookup (node self.old).links byte }
+        ensures after { node self.new ≡ without_link (node self.old) byte };
+
+    /// Becomes the next form with the same prefix and links; the largest stays.
+    ///
+    /// All memory is taken before the first change, and refused only for lack of it.
+    fn grow(&mut self, alloc: Global) -> Result<(), OOMError>
+        ensures ok { OnOk result
+            (node self.new ≡ record (node self.old) { form = next_form (node self.old).form }) }
+        ensures room { OnOk result
+            (Fits (node self.new).form (length (node self.new).links + 1)) }
+        ensures err { OnErr result (node self.new ≡ node self.old) };
+}

@@ -1,0 +1,63 @@
+//! The calls for one pair that is alone in its leaf, in its parent.
+
+ghost use Rattle.std.specs.Prelude.{◌≡◌, ◌+◌, ◌<◌};
+ghost use Rattle.tree_links.specs.PairCalls.{IsOpenFor, GetsLeaf, HasBelow, HasPair, ChangesLeaf, LosesLeaf};
+ghost use Rattle.tree_links.specs.SeenTable.{name_of, name_under};
+
+use crate::bytes::{has_seven, rest_of};
+use crate::link::Link;
+use crate::linked_node::LinkedNode;
+use crate::links::Links;
+use crate::slots::{exchange_at, put_at, take_at};
+
+impl<P: Drop, N: LinkedNode<P>> Links<P, N> {
+    /// Puts a new key's pair under a byte of the inner node in a slot, which has room and nothing there: a leaf that
+    /// takes no slot. Takes no memory.
+    pub fn add_pair(&mut self, slot: usize, byte: u8, key: &[u8; 8], payload: P)
+        requires open { IsOpenFor self.old.table (name_of slot) byte key.now }
+        requires free { 0 < self.old.free }
+        ensures adds { GetsLeaf self.old.table self.new.table (name_of slot) byte
+            (name_under slot byte) key.now payload }
+        ensures free { self.new.free + 1 ≡ self.old.free }
+    {
+        put_at(
+            &mut self.nodes,
+            slot,
+            byte,
+            Link::Pair(rest_of(key), payload),
+        );
+        self.pairs += 1;
+    }
+
+    /// Replaces the payload of a pair under a byte of the node in a slot, and returns the previous one.
+    pub fn change_pair(&mut self, slot: usize, byte: u8, key: &[u8; 8], payload: P) -> P
+        requires { HasPair self.old.table (name_of slot) byte (name_under slot byte) key.now }
+        ensures changes { ChangesLeaf self.old.table self.new.table (name_under slot byte) key.now
+            result payload }
+        ensures free { self.new.free ≡ self.old.free }
+    {
+        let link = Link::Pair(rest_of(key), payload);
+        match exchange_at(&mut self.nodes, slot, byte, link) {
+            Link::Pair(rest, before) => {
+                has_seven(&rest);
+                before
+            }
+            _ => unreachable!(),
+        }
+    }
+
+    /// Takes the pair under a byte of the inner node in a slot out, and with it its leaf. Returns its payload.
+    pub fn take_pair(&mut self, slot: usize, byte: u8) -> P
+        requires { HasBelow self.old.table (name_of slot) byte (name_under slot byte) }
+        ensures loses { LosesLeaf self.old.table self.new.table (name_of slot) byte
+            (name_under slot byte) result }
+        ensures free { self.new.free ≡ self.old.free + 1 }
+    {
+        let link = take_at(&mut self.nodes, slot, byte);
+        self.pairs -= 1;
+        match link {
+            Link::Pair(_, before) => before,
+            _ => unreachable!(),
+        }
+    }
+}

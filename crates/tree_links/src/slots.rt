@@ -1,0 +1,105 @@
+//! What calls do to the links of the node in one slot.
+
+ghost use Rattle.std.specs.Prelude.{◌≡◌, IsSome, OnErr, OnOk};
+ghost use Rattle.slab.specs.Slab.{slab_len};
+ghost use Rattle.tree_links.specs.SeenTable.{link_at, links_of};
+ghost use Rattle.tree_links.specs.inner.Slots.{HasLink, ExchangesLink, LacksLink, PutsLink, IsPresentAt, TakesLink, GrowsAt};
+
+use crate::link::Link;
+use crate::linked_node::LinkedNode;
+use slab::Slab;
+use spec_map::error::OOMError;
+use std::alloc::Global;
+
+/// Replaces the link under a byte of the node in a slot, and returns the previous one. The node is searched once.
+#[inline(always)]
+pub(crate) fn exchange_at<P: Drop, N: LinkedNode<P>>(
+    nodes: &mut Slab<N>,
+    slot: usize,
+    byte: u8,
+    link: Link<P>,
+) -> Link<P>
+    requires { HasLink (links_of N.node nodes.old.slots) slot byte link }
+    ensures exchanges { ExchangesLink (links_of N.node nodes.old.slots)
+        (links_of N.node nodes.new.slots) slot byte result link }
+    ensures len { slab_len nodes.new ≡ slab_len nodes.old }
+    ensures capacity { nodes.new.capacity ≡ nodes.old.capacity }
+    ensures next { nodes.new.vacant_key ≡ nodes.old.vacant_key }
+{
+    let Some(node) = nodes.get_mut(slot) else {
+        unreachable!()
+    };
+    // (for the proof: brings the order of the links into scope)
+    let _ = node.base();
+    match node.exchange(byte, link) {
+        Ok(before) => before,
+        Err(_) => unreachable!(),
+    }
+}
+
+/// Puts a link under a byte of the node in a slot, which has room and nothing there.
+#[inline(always)]
+pub(crate) fn put_at<P: Drop, N: LinkedNode<P>>(
+    nodes: &mut Slab<N>,
+    slot: usize,
+    byte: u8,
+    link: Link<P>,
+)
+    requires { LacksLink (links_of N.node nodes.old.slots) slot byte link }
+    ensures puts { PutsLink (links_of N.node nodes.old.slots)
+        (links_of N.node nodes.new.slots) slot byte link }
+    ensures len { slab_len nodes.new ≡ slab_len nodes.old }
+    ensures capacity { nodes.new.capacity ≡ nodes.old.capacity }
+{
+    let Some(node) = nodes.get_mut(slot) else {
+        unreachable!()
+    };
+    // (for the proof: brings the order of the links into scope)
+    let _ = node.base();
+    node.insert(byte, link);
+}
+
+/// Takes out the link under a byte of the node in a slot, and returns it.
+#[inline(always)]
+pub(crate) fn take_at<P: Drop, N: LinkedNode<P>>(
+    nodes: &mut Slab<N>,
+    slot: usize,
+    byte: u8,
+) -> Link<P>
+    requires { IsPresentAt (links_of N.node nodes.old.slots) slot byte }
+    ensures takes { TakesLink (links_of N.node nodes.old.slots)
+        (links_of N.node nodes.new.slots) slot byte result }
+    ensures len { slab_len nodes.new ≡ slab_len nodes.old }
+    ensures capacity { nodes.new.capacity ≡ nodes.old.capacity }
+{
+    let Some(node) = nodes.get_mut(slot) else {
+        unreachable!()
+    };
+    // (for the proof: brings the order of the links into scope)
+    let _ = node.base();
+    match node.take(byte) {
+        Some(link) => link,
+        None => unreachable!(),
+    }
+}
+
+/// Puts the node in a slot into its next form; the largest stays.
+pub(crate) fn grow_at<P: Drop, N: LinkedNode<P>>(
+    nodes: &mut Slab<N>,
+    slot: usize,
+    alloc: Global,
+) -> Result<(), OOMError>
+    requires { IsSome (link_at (links_of N.node nodes.old.slots) slot) }
+    ensures ok { OnOk result (GrowsAt (links_of N.node nodes.old.slots)
+        (links_of N.node nodes.new.slots) slot) }
+    ensures err { OnErr result
+        (links_of N.node nodes.new.slots ≡ links_of N.node nodes.old.slots) }
+    ensures len { slab_len nodes.new ≡ slab_len nodes.old }
+    ensures capacity { nodes.new.capacity ≡ nodes.old.capacity }
+{
+    let Some(node) = nodes.get_mut(slot) else {
+        unreachable!()
+    };
+    node.grow(alloc)?;
+    Ok(())
+}
