@@ -9,12 +9,12 @@ use Rattle.node_table.specs.Table.{node_at}
 use Rattle.node_table.specs.declared.child.Child.TheVariants as children
 use Rattle.tree_links.specs.LinkNode.{LinkNode}
 use Rattle.tree_links.specs.LinksView.{LinksView}
-use Rattle.tree_links.specs.PairCalls.{IsOpenFor, HasBelow}
+use Rattle.tree_links.specs.PairCalls.{IsOpenFor, HasBelow, HasLeaf}
 use Rattle.tree_links.specs.SeenTable.{LinkTable, bytes, name_of, name_under, link_at, seen_links, seen_node, seen_table}
 use Rattle.tree_links.specs.declared.link.Link.{Link}
-use Rattle.tree_links.specs.declared.link.Link.TheVariants.{Pair}
+use Rattle.tree_links.specs.declared.link.Link.TheVariants.{Slot, Pair}
 use Rattle.tree_links.specs.inner.Slots.{HasLink, LacksLink, IsPresentAt}
-use Rattle.tree_links.proofs.SeenLaws.{slot_at, pair_under, none_under, length-seen, seen_slot}
+use Rattle.tree_links.proofs.SeenLaws.{slot_at, pair_under, slot_under, none_under, length-seen, seen_slot}
 
 module _ {P : Type 0} (t : LinkTable P) (i b : ℕ) (inside : b < bytes) where
   -- the inner node in the slot, and what it has under the byte
@@ -34,6 +34,19 @@ module _ {P : Type 0} (t : LinkTable P) (i b : ℕ) (inside : b < bytes) where
       let n = slot_at t i h.node h.here in
       let p = pair_under i b n.node.links inside (subst (λ (m : TableNode P). lookup m.children b ≡ Some (children.Node (name_under i b))) n.is h.found) in
       record { rest = p.rest; payload = p.payload; below = record { node = n.node; here = n.here; inner = subst (λ (m : TableNode P). length m.prefix < 7) n.is h.inner; found = p.found } }
+
+  pub slot_below : (j : ℕ) → HasBelow (seen_table t) (name_of i) b (name_of j) → Below (Slot j)
+  slot_below j h =
+      let n = slot_at t i h.node h.here in
+      record {
+        node = n.node;
+        here = n.here;
+        inner = subst (λ (m : TableNode P). length m.prefix < 7) n.is h.inner;
+        found = slot_under i b j n.node.links inside (subst (λ (m : TableNode P). lookup m.children b ≡ Some (children.Node (name_of j))) n.is h.found);
+      }
+
+  pub has_slot : (c : Link P) (j : ℕ) → Below c → HasLink t i b (Slot j)
+  has_slot c j x = record { node = x.node; here = x.here; present = rw x.found refl; kind = x.inner }
 
   pub has_pair : (c : Link P) (rest : List ℕ) (v : P) → Below c → HasLink t i b (Pair rest v)
   has_pair c rest v x = record { node = x.node; here = x.here; present = rw x.found refl; kind = x.inner }
@@ -83,3 +96,15 @@ has_node {P} t i h = at (link_at t i) refl
     at : (x : Option (LinkNode P)) → link_at t i ≡ x → IsSome (link_at t i)
     at None e = absurd (let none = seen_slot t i ∙ ap (option_map (λ n. seen_node i n)) e in let clash = rw none at h in cc)
     at (Some n) e = rw e refl
+
+-- it is there still, where another slot changes
+pub below_still : {P : Type 0} (t u : LinkTable P) (i b : ℕ) (inside : b < bytes) (c : Link P) → Below t i b inside c → link_at u i ≡ link_at t i → Below u i b inside c
+below_still t u i b inside c x same = record { node = x.node; here = same ∙ x.here; inner = x.inner; found = x.found }
+
+-- the key of the leaf below has the node's bytes first
+pub below_begins : {P : Type 0} (t : LinkTable P) (i b : ℕ) (inside : b < bytes) (j : ℕ) (h : HasLeaf (seen_table t) (name_of i) b (name_of j)) (n : LinkNode P) → link_at t i ≡ Some n → Begins (n.prefix ++ b ∷ []) h.key
+below_begins {P} t i b inside j h n here =
+    let x = slot_at t i h.below.node h.below.here in
+    let both : Some x.node ≡ Some n = sym x.here ∙ here in
+    let is : x.node ≡ n = cc in
+    subst (λ (m : LinkNode P). Begins (m.prefix ++ b ∷ []) h.key) is (subst (λ (m : TableNode P). Begins (m.prefix ++ b ∷ []) h.key) x.is h.begins)

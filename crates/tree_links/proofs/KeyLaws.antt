@@ -21,6 +21,11 @@ pub rest_of : (p : List ℕ) (b : ℕ) (rest : List ℕ) → drop 1 (key_under p
 rest_of [] b rest = refl
 rest_of (c ∷ p) b rest = refl
 
+-- from its first byte
+pub key_first : (p : List ℕ) (b first : ℕ) (rest : List ℕ) → key_under p b [] ≡ first ∷ [] → key_under p b rest ≡ first ∷ rest
+key_first [] b first rest h = let e : b ≡ first = cc in ap (λ x. x ∷ rest) e
+key_first (c ∷ p) b first rest h = let e : c ≡ first = cc in ap (λ x. x ∷ rest) e
+
 pub eight : (key : List ℕ) → length key ≡ 8 → key ≡ take 7 key ++ get_or key 7 0 ∷ []
 eight key full = split_at key 7 (omega (arith, full)) ∙ ap (λ x. take 7 key ++ get_or key 7 0 ∷ x) (drop_all 8 key (omega (arith, full)))
 

@@ -6,3 +6,5 @@ pub mod FindLaws
 pub mod PairLaws
 pub mod CallLaws
 pub mod NodeLaws
+pub mod LeafLaws
+pub mod MoveLaws

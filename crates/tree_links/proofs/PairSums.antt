@@ -105,6 +105,12 @@ module _ {P : Type 0} where
       let is : pairs_in_node (link_at u i) ≡ pairs_in_links n.links = ap pairs_in_node there in
       omega (arith, was, is, table-changed t u i others)
 
+  pub pairs-less : (t u : LinkTable P) (i : ℕ) (n : LinkNode P) → link_at t i ≡ Some n → link_at u i ≡ None → SameSlots t u i → pairs_in_table u + pairs_in_links n.links ≡ pairs_in_table t
+  pairs-less t u i n here none others =
+      let was : pairs_in_node (link_at t i) ≡ pairs_in_links n.links = ap pairs_in_node here in
+      let is : pairs_in_node (link_at u i) ≡ 0 = ap pairs_in_node none in
+      omega (arith, was, is, table-changed t u i others)
+
   pub pairs-same : (t u : LinkTable P) (i : ℕ) (n m : LinkNode P) → link_at t i ≡ Some n → link_at u i ≡ Some m → m.links ≡ n.links → SameSlots t u i → pairs_in_table u ≡ pairs_in_table t
   pairs-same t u i n m here there same others =
       let was : pairs_in_node (link_at t i) ≡ pairs_in_links n.links = ap pairs_in_node here in

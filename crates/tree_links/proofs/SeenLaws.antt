@@ -35,7 +35,11 @@ pub byte_inside : (b : ℕ) → b < 256 → b < bytes
 unfolding bytes
 byte_inside b less = less
 
--- names of slots aren't those of pairs
+-- different slots have different names, which aren't those of pairs
+pub one_slot : (i j : ℕ) → name_of i ≡ name_of j → i ≡ j
+unfolding bytes
+one_slot i j e = omega arith
+
 pub no_pair : (i j b : ℕ) → b < bytes → name_of j ≡ name_under i b → ⊥
 unfolding bytes
 no_pair i j b less e = omega arith
@@ -137,6 +141,13 @@ module _ {P : Type 0} where
           let is : m ≡ seen_node i n = cc in
           record { node = n; here = e; is = is }
 
+  pub slot_none : (t : LinkTable P) (i : ℕ) → node_at (seen_table t) (name_of i) ≡ None → link_at t i ≡ None
+  slot_none t i h = at (link_at t i) refl
+    where
+      at : (x : Option (LinkNode P)) → link_at t i ≡ x → link_at t i ≡ None
+      at None e = e
+      at (Some n) e = absurd (let clash : ◌≡◌ {A = Option (TableNode P)} None (Some (seen_node i n)) = sym h ∙ (seen_slot t i ∙ ap (option_map (λ n. seen_node i n)) e) in cc)
+
   pub at_slot : (t : LinkTable P) (i : ℕ) (n : LinkNode P) → link_at t i ≡ Some n → node_at (seen_table t) (name_of i) ≡ Some (seen_node i n)
   at_slot t i n h = seen_slot t i ∙ ap (option_map (λ n. seen_node i n)) h
 
@@ -161,6 +172,25 @@ module _ {P : Type 0} where
           absurd (no_pair i j b less same)
       at (Some (Pair rest v)) e = record { rest = rest; payload = v; found = e }
 
+  -- the slot of a node below
+  pub slot_under : (i b j : ℕ) (es : List (ℕ × Link P)) → b < bytes → lookup (seen_links i es) b ≡ Some (children.Node (name_of j)) → lookup es b ≡ Some (Slot j)
+  slot_under i b j es less h = at (lookup es b) refl
+    where
+      seen : (x : Option (Link P)) → lookup es b ≡ x → option_map (λ c. seen_link i b c) x ≡ Some (children.Node (name_of j))
+      seen x e = ap (option_map (λ c. seen_link i b c)) (sym e) ∙ sym (lookup-seen i es b) ∙ h
+
+      at : (x : Option (Link P)) → lookup es b ≡ x → lookup es b ≡ Some (Slot j)
+      at None e = absurd (let clash : ◌≡◌ {A = Option (Child P)} None (Some (children.Node (name_of j))) = seen None e in cc)
+      at (Some (Payload v)) e = absurd (let clash : ◌≡◌ {A = Option (Child P)} (Some (children.Payload v)) (Some (children.Node (name_of j))) = seen (Some (Payload v)) e in cc)
+      at (Some (Slot k)) e =
+          let both : ◌≡◌ {A = Option (Child P)} (Some (children.Node (name_of k))) (Some (children.Node (name_of j))) = seen (Some (Slot k)) e in
+          let same : name_of k ≡ name_of j = cc in
+          e ∙ ap (λ x. Some (Slot x)) (one_slot k j same)
+      at (Some (Pair rest v)) e =
+          let both : ◌≡◌ {A = Option (Child P)} (Some (children.Node (name_under i b))) (Some (children.Node (name_of j))) = seen (Some (Pair rest v)) e in
+          let same : name_of j ≡ name_under i b = cc in
+          absurd (no_pair i j b less same)
+
   -- nothing
   pub none_under : (i b : ℕ) (es : List (ℕ × Link P)) → lookup (seen_links i es) b ≡ None → lookup es b ≡ None
   none_under i b es h = at (lookup es b) refl
@@ -183,6 +213,11 @@ module _ {P : Type 0} where
   seen-without i n b zero far off = absurd (far refl)
   seen-without i n b (suc d) far off = ap (pair_at n.prefix d) (lookup-without_other n.links b d (λ e. off (ap suc e)))
 
+  -- nothing is seen in an empty slot
+  pub nothing_in : (i a : ℕ) (m : TableNode P) → seen_in i None a ≡ Some m → ⊥
+  nothing_in i zero m h = let clash : ◌≡◌ {A = Option (TableNode P)} None (Some m) = h in cc
+  nothing_in i (suc b) m h = let clash : ◌≡◌ {A = Option (TableNode P)} None (Some m) = h in cc
+
   -- a fact of each place is one of each slot and byte
   pub each_place : (t u : LinkTable P) (Off : ℕ → Type 0)
       → ((k a : ℕ) (m : TableNode P) → Off (k * width + a) → seen_in k (link_at t k) a ≡ Some m → seen_in k (link_at u k) a ≡ Some m)
@@ -203,6 +238,23 @@ module _ {P : Type 0} where
           elim (cases_eq k i) [
             | inl same ↦ subst (λ z. seen_in z (link_at u z) a ≡ Some m) (sym same) (here a m (subst (λ z. Off (z * width + a)) same off) (subst (λ z. seen_in z (link_at t z) a ≡ Some m) same seen))
             | inr other ↦ ap (λ x. seen_in k x a) (others k other) ∙ seen
+          ]
+
+  -- where two slots change
+  pub keeps_two : (t u : LinkTable P) (i j : ℕ) (Off : ℕ → Type 0) → ((k : ℕ) → k ≢ i → k ≢ j → link_at u k ≡ link_at t k)
+      → ((a : ℕ) (m : TableNode P) → Off (i * width + a) → seen_in i (link_at t i) a ≡ Some m → seen_in i (link_at u i) a ≡ Some m)
+      → ((a : ℕ) (m : TableNode P) → Off (j * width + a) → seen_in j (link_at t j) a ≡ Some m → seen_in j (link_at u j) a ≡ Some m)
+      → (o : ℕ) (m : TableNode P) → Off o → node_at (seen_table t) o ≡ Some m → node_at (seen_table u) o ≡ Some m
+  keeps_two t u i j Off others here there = each_place t u Off stays
+    where
+      stays : (k a : ℕ) (m : TableNode P) → Off (k * width + a) → seen_in k (link_at t k) a ≡ Some m → seen_in k (link_at u k) a ≡ Some m
+      stays k a m off seen =
+          elim (cases_eq k i) [
+            | inl same ↦ subst (λ z. seen_in z (link_at u z) a ≡ Some m) (sym same) (here a m (subst (λ z. Off (z * width + a)) same off) (subst (λ z. seen_in z (link_at t z) a ≡ Some m) same seen))
+            | inr other ↦ elim (cases_eq k j) [
+              | inl new ↦ subst (λ z. seen_in z (link_at u z) a ≡ Some m) (sym new) (there a m (subst (λ z. Off (z * width + a)) new off) (subst (λ z. seen_in z (link_at t z) a ≡ Some m) new seen))
+              | inr old ↦ ap (λ x. seen_in k x a) (others k other old) ∙ seen
+            ]
           ]
 
   -- where nothing else is seen to change

@@ -1,5 +1,5 @@
 -- A table of links after a write of one node in its slot.
-use Rattle.std.proofs.Common.{◌≡◌, ◌≢◌, ℕ, zero, suc, ◌<◌, List, [], ◌∷◌, length, get_or, slice_set, Option, Some, None, refl, ap, sym, ◌∙◌, arith}
+use Rattle.std.proofs.Common.{◌≡◌, ◌≢◌, ℕ, zero, suc, ◌<◌, List, [], ◌∷◌, length, get_or, slice_set, Option, Some, None, IsSome, refl, ap, sym, ◌∙◌, arith}
 use Rattle.std.proofs.lemmas.List.{get_or-set_same, get_or-set_other}
 use Rattle.std.specs.Option.{option_map}
 use Rattle.spec_map.specs.Map.{lookup, Rises}
@@ -25,6 +25,13 @@ module _ {N P : Type 0} (f : N → LinkNode P) where
   -- the node that a slab has is the one that is seen there
   pub same_node : (s : List (Option N)) (i : ℕ) (n : N) (m : LinkNode P) → get_or s i None ≡ Some n → link_at (links_of f s) i ≡ Some m → m ≡ f n
   same_node s i n m h there = let both : Some m ≡ Some (f n) = sym there ∙ node_there s i n h in cc
+
+  pub value_there : (s : List (Option N)) (i : ℕ) → IsSome (link_at (links_of f s) i) → IsSome (get_or s i None)
+  value_there s i h = at (get_or s i None) refl
+    where
+      at : (x : Option N) → get_or s i None ≡ x → IsSome (get_or s i None)
+      at None e = absurd (let none = none_there s i e in let clash = rw none at h in cc)
+      at (Some n) e = rw e refl
 
   -- there is one
   pub not_none : (s : List (Option N)) (i : ℕ) (m : LinkNode P) → get_or s i None ≡ None → link_at (links_of f s) i ≡ Some m → ⊥

@@ -1,6 +1,7 @@
 pub mod GrowsNode
 pub mod LinkNode
 pub mod LinksView
+pub mod MovesNode
 pub mod PairCalls
 pub mod SeenTable
 pub mod inner

@@ -34,6 +34,15 @@ module _ {P : Type 0} where
     pub inner : length node.prefix < 7
     pub found : lookup node.children byte ≡ Some (Node i)
 
+  -- that is the leaf of one pair, which has these bytes and this one first
+  pub record HasLeaf (s : NodeTable P) (parent byte i : ℕ) : Type 0 where
+    pub below : HasBelow s parent byte i
+    pub key : List ℕ
+    pub payload : P
+    pub full : length key ≡ 8
+    pub begins : Begins (below.node.prefix ++ byte ∷ []) key
+    pub is : node_at s i ≡ Some (leaf_of key payload)
+
   -- that is the leaf of this key's pair alone
   pub record HasPair (s : NodeTable P) (parent byte leaf : ℕ) (key : List ℕ) : Type 0 where
     pub below : HasBelow s parent byte leaf

@@ -14,5 +14,6 @@ pub mod descent;
 pub mod link;
 pub mod linked_node;
 pub mod links;
+pub mod moves;
 pub mod pairs;
 mod slots;

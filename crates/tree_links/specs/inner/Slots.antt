@@ -1,10 +1,11 @@
 -- What is done to the links of the node in one slot.
-use Rattle.std.specs.Prelude.{◌≡◌, ◌≢◌, ℕ, ◌+◌, length, Some, None, IsSome}
+use Rattle.std.specs.Prelude.{◌≡◌, ◌≢◌, ℕ, ◌+◌, [], ◌∷◌, length, Some, None, IsSome}
 use Rattle.spec_map.specs.Map.{lookup, Rises}
 use Rattle.node_base.specs.Form.{Fits, next_form}
 use Rattle.tree_links.specs.LinkNode.{LinkNode, MayLink, with_link, without_link}
 use Rattle.tree_links.specs.SeenTable.{LinkTable, link_at}
 use Rattle.tree_links.specs.declared.link.Link.{Link}
+use Rattle.tree_links.specs.declared.link.Link.TheVariants.{Payload}
 
 module _ {P : Type 0} where
   -- every slot but this one has what it had
@@ -58,6 +59,12 @@ module _ {P : Type 0} where
     pub found : lookup node.links byte ≡ Some before
     pub there : link_at u i ≡ Some (without_link node byte)
     pub others : SameSlots t u i
+
+  -- a leaf with one payload
+  pub record HasOnePayload (n : LinkNode P) : Type 0 where
+    pub byte : ℕ
+    pub payload : P
+    pub is : n.links ≡ (byte, Payload payload) ∷ []
 
   -- the node in the slot is in its next form
   pub record GrowsAt (t u : LinkTable P) (i : ℕ) : Type 0 where
