@@ -3,14 +3,15 @@ use Rattle.std.proofs.Common.{◌≡◌, ℕ, ◌+◌, ◌-◌, ◌<◌, List, [
 use Rattle.std.specs.Option.{option_map}
 use Rattle.spec_map.specs.Map.{lookup}
 use Rattle.node_base.specs.Form.{Fits}
-use Rattle.node_table.specs.Key.{Begins}
+use Rattle.node_table.specs.Key.{Begins, IsFirstDifference}
 use Rattle.node_table.specs.TableNode.{TableNode}
-use Rattle.node_table.specs.Table.{node_at}
+use Rattle.node_table.specs.Table.{NodeTable, node_at}
 use Rattle.node_table.specs.declared.child.Child.TheVariants as children
 use Rattle.tree_links.specs.LinkNode.{LinkNode}
 use Rattle.tree_links.specs.LinksView.{LinksView}
 use Rattle.tree_links.specs.PairCalls.{IsOpenFor, HasBelow, HasLeaf}
 use Rattle.tree_links.specs.SeenTable.{LinkTable, bytes, name_of, name_under, link_at, seen_links, seen_node, seen_table}
+use Rattle.tree_links.specs.SplitsChild.{IsParted}
 use Rattle.tree_links.specs.declared.link.Link.{Link}
 use Rattle.tree_links.specs.declared.link.Link.TheVariants.{Slot, Pair}
 use Rattle.tree_links.specs.inner.Slots.{HasLink, LacksLink, IsPresentAt}
@@ -108,3 +109,10 @@ below_begins {P} t i b inside j h n here =
     let both : Some x.node ≡ Some n = sym x.here ∙ here in
     let is : x.node ≡ n = cc in
     subst (λ (m : LinkNode P). Begins (m.prefix ++ b ∷ []) h.key) is (subst (λ (m : TableNode P). Begins (m.prefix ++ b ∷ []) h.key) x.is h.begins)
+
+-- where the prefix of a node that is seen differs
+pub parted_is : {P : Type 0} (s : NodeTable P) (i : ℕ) (m : TableNode P) (key : List ℕ) (at : ℕ) → node_at s i ≡ Some m → IsParted s i key at → IsFirstDifference m.prefix key at
+parted_is {P} s i m key at here h =
+    let both : Some h.node ≡ Some m = sym h.here ∙ here in
+    let is : h.node ≡ m = cc in
+    subst (λ (n : TableNode P). IsFirstDifference n.prefix key at) is h.differs

@@ -8,3 +8,4 @@ pub mod CallLaws
 pub mod NodeLaws
 pub mod LeafLaws
 pub mod MoveLaws
+pub mod SplitLaws

@@ -117,3 +117,12 @@ module _ {P : Type 0} where
       let is : pairs_in_node (link_at u i) ≡ pairs_in_links m.links = ap pairs_in_node there in
       let alike : pairs_in_links m.links ≡ pairs_in_links n.links = ap pairs_in_links same in
       omega (arith, was, is, alike, table-changed t u i others)
+
+  -- two links
+  pub pairs-two : (a b : ℕ) (c d : Link P) → a ≢ b → pairs_in_links (put ((a, c) ∷ []) b d) ≡ pairs_in_link c + pairs_in_link d
+  pairs-two a b c d apart =
+      elim (cases_order a b) [
+        | inl same ↦ absurd (apart same)
+        | inr (inl less) ↦ rw (lt-ltb a b less) (omega arith)
+        | inr (inr more) ↦ rw (le-ltb a b (omega arith), ne_eqb a b apart) (omega arith)
+      ]

@@ -4,4 +4,5 @@ pub mod LinksView
 pub mod MovesNode
 pub mod PairCalls
 pub mod SeenTable
+pub mod SplitsChild
 pub mod inner

@@ -17,3 +17,4 @@ pub mod links;
 pub mod moves;
 pub mod pairs;
 mod slots;
+pub mod splits;
