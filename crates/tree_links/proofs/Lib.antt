@@ -9,3 +9,4 @@ pub mod NodeLaws
 pub mod LeafLaws
 pub mod MoveLaws
 pub mod SplitLaws
+pub mod TreeLaws

@@ -2,10 +2,11 @@
 //!
 //! The first comes before a leaf's second pair, and the second after a removal that leaves one. Neither takes memory.
 
-ghost use Rattle.std.specs.Prelude.{◌≡◌, [], ◌∷◌};
+ghost use Rattle.std.specs.Prelude.{◌≡◌, ℕ, List, [], ◌∷◌};
 ghost use Rattle.tree_links.specs.MovesNode.{MovesNode};
 ghost use Rattle.tree_links.specs.PairCalls.{HasBelow, HasLeaf};
 ghost use Rattle.tree_links.specs.declared.link.Link.TheVariants.{Payload};
+ghost use Rattle.tree_links.specs.SameTree.{GoesOnAt, SameTree};
 ghost use Rattle.tree_links.specs.SeenTable.{name_of, name_under};
 ghost use Rattle.tree_links.specs.inner.Slots.{HasOnePayload};
 
@@ -38,6 +39,9 @@ impl<P: Drop, N: LinkedNode<P>> Links<P, N> {
         requires { HasBelow self.old.table (name_of slot) byte (name_under slot byte) }
         ensures moves { MovesNode self.old.table self.new.table (name_of slot) byte
             (name_under slot byte) (name_of result) }
+        ensures same { (root : ℕ) (key : List ℕ)
+            → GoesOnAt self.old.table root key (name_of slot) byte
+            → SameTree self.old.table self.new.table root }
         ensures free { self.new.free ≡ self.old.free }
     {
         let first = first_byte(&self.nodes, slot, byte);
@@ -61,6 +65,9 @@ impl<P: Drop, N: LinkedNode<P>> Links<P, N> {
         requires { HasLeaf self.old.table (name_of parent) byte (name_of slot) }
         ensures moves { MovesNode self.old.table self.new.table (name_of parent) byte
             (name_of slot) (name_under parent byte) }
+        ensures same { (root : ℕ) (key : List ℕ)
+            → GoesOnAt self.old.table root key (name_of parent) byte
+            → SameTree self.old.table self.new.table root }
         ensures free { self.new.free ≡ self.old.free }
     {
         let leaf = self.nodes.remove(slot);

@@ -13,6 +13,7 @@ use Rattle.tree_links.proofs.MoveLaws.{hoisted}
 use Rattle.tree_links.proofs.PairSums.{pairs-exchanged, pairs-more}
 use Rattle.tree_links.proofs.SeenLaws.{byte_inside}
 use Rattle.tree_links.proofs.SlotLaws.{none_there, node_there, same_others}
+use Rattle.tree_links.proofs.TreeLaws.{moves_on_path}
 use Rattle.tree_links.proofs.links.Links.hoist.Goals as goal
 
 pub first_byte-first-requires : goal.first_byte-first-requires
@@ -93,3 +94,7 @@ returns-clause-moves g c =
     let others = subst (λ k. SameSlots m u k) is (same_others f c.exchange_at-link.new.nodes.slots c.insert_reserved.new.self.slots c.insert_reserved.result y.updates.others) in
     subst (λ s. MovesNode s (seen_table u) (name_of c.args.slot) c.args.byte (name_under c.args.slot c.args.byte) (name_of j)) (table_is t _ _ _ c.self.view_is)
     (hoisted t m u c.args.slot c.args.byte j c.in-Pair.rest c.in-Pair.payload (byte_inside c.args.byte (omega arith)) x fresh there others)
+
+pub returns-clause-same : goal.returns-clause-same
+returns-clause-same g c = λ root key on.
+    moves_on_path c.args.self.now.table (seen_table (links_of g.N.LinkedNode.node c.insert_reserved.new.self.slots)) root (name_of c.args.slot) c.args.byte (name_under c.args.slot c.args.byte) (name_of c.vacant_key-below.result) key on (returns-clause-moves g c)

@@ -13,6 +13,7 @@ use Rattle.tree_links.proofs.MoveLaws.{lowered}
 use Rattle.tree_links.proofs.PairSums.{pairs-exchanged, pairs-less}
 use Rattle.tree_links.proofs.SeenLaws.{byte_inside}
 use Rattle.tree_links.proofs.SlotLaws.{none_there, node_there, same_others, value_there}
+use Rattle.tree_links.proofs.TreeLaws.{moves_on_path}
 use Rattle.tree_links.proofs.links.Links.lower.Goals as goal
 
 pub remove-leaf-requires : goal.remove-leaf-requires
@@ -97,3 +98,7 @@ returns-clause-moves g c =
     let key = ap (λ r. key_under e'.node.prefix c.args.byte r) c.rest_in_leaf-rest.ensures ∙ key_again e'.node.prefix c.args.byte h.key c.copy_from_slice.new.self c.only_pair-last.result.0 h.full begins first last in
     subst (λ s. MovesNode s (seen_table u) (name_of c.args.parent) c.args.byte (name_of c.args.slot) (name_under c.args.parent c.args.byte)) (table_is t _ _ _ c.self.view_is)
     (lowered t m u c.args.parent c.args.byte c.args.slot c.rest_in_leaf-rest.result c.only_pair-last.result.1 inside h.key (there ∙ ap (λ n. Some n) (is ∙ ap (λ v. leaf_alone h.key v) (sym payload))) none others e' key)
+
+pub returns-clause-same : goal.returns-clause-same
+returns-clause-same g c = λ root key on.
+    moves_on_path c.args.self.now.table (seen_table (links_of g.N.LinkedNode.node c.exchange_at.new.nodes.slots)) root (name_of c.args.parent) c.args.byte (name_of c.args.slot) (name_under c.args.parent c.args.byte) key on (returns-clause-moves g c)
