@@ -8,17 +8,14 @@ use Rattle.spec_map.specs.Legal.{IsLegal, MayAnswer, CallsIfPresent, CallsAlways
 use Rattle.spec_map.specs.Refusal.{never}
 use Rattle.spec_map.proofs.MapLaws.{lookup-put_other, lookup-put_same, lookup-without_other, lookup-without_same, Rises-wider, Rises-put, Rises-without}
 use Rattle.share_rule.specs.History.{Entry, operations_of}
+use Rattle.share_parts.specs.Parts.{Ascends}
 use Rattle.share_parts.specs.Shards.{key_of, IsOnKey, AreOnKeys, part}
-
--- keys that ascend, below some number
-abbrev pub Ascends : {P : Type 0} → Pairs P → Type 0
-Ascends m = (high : ℕ) × Rises 0 high m
 
 module _ {P : Type 0} (same : P → P → Bool) where
   ascends_put : (m : Pairs P) (k : ℕ) (v : P) → Ascends m → Ascends (put m k v)
   ascends_put m k v h = (h.0 + (k + 1), Rises-put 0 (h.0 + (k + 1)) m k v (Rises-wider 0 h.0 0 (h.0 + (k + 1)) m (omega arith) (omega arith) h.1) (omega arith) (omega arith))
 
-  ascends_answer : (m : Pairs P) (k : ℕ) (new : Option P) → Ascends m → Ascends (with_answer m k new)
+  pub ascends_answer : (m : Pairs P) (k : ℕ) (new : Option P) → Ascends m → Ascends (with_answer m k new)
   ascends_answer m k None h = (h.0, Rises-without 0 h.0 m k h.1)
   ascends_answer m k (Some v) h = ascends_put m k v h
 
@@ -31,7 +28,7 @@ module _ {P : Type 0} (same : P → P → Bool) where
   ascends_asking m k (Some (old, new)) h = ascends_answer m k new h
 
   -- the operation was allowed, and of a kind that is on one key
-  ascends_after : (m : Pairs P) (call : Call ℕ P) (asked : ClosureCall P) (answer : Answer ℕ P P) → IsOnKey call → Ascends m → Ascends (after_answer same m call asked answer)
+  pub ascends_after : (m : Pairs P) (call : Call ℕ P) (asked : ClosureCall P) (answer : Answer ℕ P P) → IsOnKey call → Ascends m → Ascends (after_answer same m call asked answer)
   ascends_after m (get k) asked (replied reply) on h = h
   ascends_after m (insert k v) asked (replied reply) on h = ascends_put m k v h
   ascends_after m (remove k) asked (replied reply) on h = (h.0, Rises-without 0 h.0 m k h.1)
@@ -47,7 +44,7 @@ module _ {P : Type 0} (same : P → P → Bool) where
 
   -- two maps with the same value at the call's key allow the same, and agree at the key afterwards
   module _ (m w : Pairs P) where
-    allows_same : (call : Call ℕ P) (asked : ClosureCall P) (answer : Answer ℕ P P) → IsOnKey call → lookup m (key_of call) ≡ lookup w (key_of call) → MayAnswer same never w call asked answer → MayAnswer same never m call asked answer
+    pub allows_same : (call : Call ℕ P) (asked : ClosureCall P) (answer : Answer ℕ P P) → IsOnKey call → lookup m (key_of call) ≡ lookup w (key_of call) → MayAnswer same never w call asked answer → MayAnswer same never m call asked answer
     allows_same (get k) asked (replied reply) on e a = (a.0, a.1 ∙ ap (λ (o : Option P). old_value o) (sym e))
     allows_same (insert k v) asked (replied reply) on e a = (a.0, a.1 ∙ ap (λ (o : Option P). old_value o) (sym e))
     allows_same (remove k) asked (replied reply) on e a = (a.0, a.1 ∙ ap (λ (o : Option P). old_value o) (sym e))
@@ -61,7 +58,7 @@ module _ {P : Type 0} (same : P → P → Bool) where
     allows_same count asked (replied reply) on e a = absurd on
     allows_same call asked refused on e a = a
 
-    answer_at : (k : ℕ) (new : Option P) → Ascends m → Ascends w → lookup (with_answer m k new) k ≡ lookup (with_answer w k new) k
+    pub answer_at : (k : ℕ) (new : Option P) → Ascends m → Ascends w → lookup (with_answer m k new) k ≡ lookup (with_answer w k new) k
     answer_at k None h g = lookup-without_same 0 h.0 m k h.1 ∙ sym (lookup-without_same 0 g.0 w k g.1)
     answer_at k (Some v) h g = lookup-put_same m k v ∙ sym (lookup-put_same w k v)
 
@@ -89,7 +86,7 @@ module _ {P : Type 0} (same : P → P → Bool) where
     at_key count asked (replied reply) on h g e = absurd on
     at_key call asked refused on h g e = e
 
-  other_answer : (m : Pairs P) (k : ℕ) (new : Option P) (j : ℕ) → j ≢ k → lookup (with_answer m k new) j ≡ lookup m j
+  pub other_answer : (m : Pairs P) (k : ℕ) (new : Option P) (j : ℕ) → j ≢ k → lookup (with_answer m k new) j ≡ lookup m j
   other_answer m k None j ne = lookup-without_other m k j ne
   other_answer m k (Some v) j ne = lookup-put_other m k v j ne
 
