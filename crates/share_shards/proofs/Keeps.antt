@@ -1,25 +1,30 @@
 -- Each step of the sharded lock keeps its rule.
 use Rattle.std.proofs.Common.{◌≡◌, ◌≢◌, ℕ, ◌+◌, ◌*◌, ◌<◌, ◌≤◌, Bool, true, false, cond, eqb, zero, suc, ◌⊎◌, List, [], ◌∷◌, ◌++◌, map, All, length, get_or, set, sym, refl, ap, ◌∙◌, subst, inl, inr, ⊎_elim, arith, append_assoc, get_or-set_same, get_or-set_other, length-set, nat_eq, eq-eqb, ne_eqb, append-nil}
-use Rattle.std.proofs.lemmas.List.{set-get_or}
-use Rattle.std.specs.Prelude.{Option, Some}
+use Rattle.std.proofs.lemmas.Bool.{true≢false, false_from_ne_true, eqb-true}
+use Rattle.std.proofs.lemmas.List.{length-map, set-get_or}
+use Rattle.std.specs.Prelude.{Option, None, Some, unwrap_or}
 use mathlib.Core.Logic.{dite}
-use mathlib.Core.Option.{some, some-injective, some-ne-none}
+use mathlib.Core.Option.{none, some, some-injective, some-ne-none}
 use native.Mathlib.Decide.{ℕ_discrete}
 use lib.ListN.{get_elem?}
 use prog.Atomic.{either}
-use Rattle.atomic_table.specs.Table.{State, Me, keeps, takes, gives, stepped, Allows, Splits, Joins, opening}
+use Rattle.atomic_table.specs.Table.{State, Me, Step, step, keeps, takes, gives, stepped, Allows, Splits, Joins, opening}
 use Rattle.atomic_table.proofs.Lists.{at_set, set_here, set_else}
-use Rattle.share_parts.specs.Shards.{AreOnKeys, key_of, part}
-use Rattle.share_parts.proofs.Shards.{one_run}
+use Rattle.share_parts.specs.Parts.{kept, Ascends, AreApart, AreWithin, RunsOnWhole}
+use Rattle.share_parts.proofs.Parts.{ascends_kept, kept-kept, kept-none, part_runs}
 use Rattle.share_rule.specs.History.{Entry, StartsWith, entry, entries_by, entries_of, IsLegalHistory}
+use Rattle.share_rule.specs.inner.Hold.{StepsBy}
 use Rattle.share_rule.specs.inner.Rule.{HasSeen, Owns}
-use Rattle.share_rule.specs.inner.Steps.{Leads, seen_after}
+use Rattle.share_rule.specs.inner.Steps.{seen_after}
+use Rattle.share_rule.proofs.Holds.{history_on}
 use Rattle.share_rule.proofs.Keeps.{entries-append}
-use Rattle.share_shards.specs.inner.SeatView.{ShardView, Blank, Idle, Holding, Paired}
-use Rattle.share_shards.specs.inner.Rule.{Fits, ShardRule}
-use Rattle.share_shards.specs.inner.Steps.{AreOn}
+use Rattle.share_shards.specs.Held.{is_in, keys_at, keys_of, numbers, slots_of}
+use Rattle.share_shards.specs.inner.SeatView.{ShardView, Blank, Caller, Paired}
+use Rattle.share_shards.specs.inner.Rule.{Fits, IsHeld, ShardRule}
+use Rattle.share_shards.specs.inner.Steps.{Tries, Won, MayAppend, Appended}
+use Rattle.share_shards.proofs.Lists.{is_in_here, is_in_next, found_in, value_in, none_in, at_here, at_next, unsome}
 use Rattle.spec_map.specs.Call.{Operation}
-use Rattle.spec_map.specs.Map.{Pairs}
+use Rattle.spec_map.specs.Map.{Pairs, lookup}
 
 module _ {T : Type 0} where
   pub starts_same : (history : List (Entry T)) → StartsWith history history
@@ -42,40 +47,6 @@ module _ {T : Type 0} where
   fit_after c seen history [] f = subst (λ (l : List (Entry T)). HasSeen l c seen) (sym (append-nil history)) f
   fit_after c seen history (x ∷ xs) f = record { begins = starts_same (history ++ entries_by c (x ∷ xs)); own = refl }
 
-  on-append : (xs ys : List (Entry T)) → AreOnKeys xs → AreOnKeys ys → AreOnKeys (xs ++ ys)
-  on-append [] ys p q = q
-  on-append (x ∷ xs) ys p q = (p.0, on-append xs ys p.1 q)
-
-  module _ (shard : ℕ → ℕ) where
-    part-append : (i : ℕ) (xs ys : List (Entry T)) → part shard i (xs ++ ys) ≡ part shard i xs ++ part shard i ys
-    part-append i [] ys = refl
-    part-append i (x ∷ xs) ys =
-        elim (eqb (shard (key_of x.operation.call)) i) as (λ b. cond b (x ∷ part shard i (xs ++ ys)) (part shard i (xs ++ ys)) ≡ cond b (x ∷ part shard i xs) (part shard i xs) ++ part shard i ys)
-        [ true ↦ ap (λ (l : List (Entry T)). x ∷ l) (part-append i xs ys) | false ↦ part-append i xs ys ]
-
-    on_by : (i c : ℕ) (operations : List (Operation ℕ T T)) → AreOn shard i operations → AreOnKeys (entries_by c operations)
-    on_by i c [] h = tt
-    on_by i c (x ∷ xs) h = (h.0, on_by i c xs h.2)
-
-    part_by : (i c : ℕ) (operations : List (Operation ℕ T T)) → AreOn shard i operations → part shard i (entries_by c operations) ≡ entries_by c operations
-    part_by i c [] h = refl
-    part_by i c (x ∷ xs) h =
-        let later : List (Entry T) = part shard i (entries_by c xs) in
-        ap (λ (b : Bool). cond b (entry c x ∷ later) later) (eq-eqb (shard (key_of x.call)) i h.1) ∙ ap (λ (l : List (Entry T)). entry c x ∷ l) (part_by i c xs h.2)
-
-    part_else : (i j c : ℕ) (operations : List (Operation ℕ T T)) → AreOn shard i operations → j ≢ i → part shard j (entries_by c operations) ≡ []
-    part_else i j c [] h ne = refl
-    part_else i j c (x ∷ xs) h ne =
-        let later : List (Entry T) = part shard j (entries_by c xs) in
-        ap (λ (b : Bool). cond b (entry c x ∷ later) later) (ne_eqb (shard (key_of x.call)) j (λ e. ne (sym e ∙ h.1))) ∙ part_else i j c xs h.2 ne
-
-    -- the part of another shard stays
-    part_stays : (i j c : ℕ) (history : List (Entry T)) (operations : List (Operation ℕ T T)) → AreOn shard i operations → j ≢ i → part shard j (history ++ entries_by c operations) ≡ part shard j history
-    part_stays i j c history operations h ne = part-append j history (entries_by c operations) ∙ (ap (λ (l : List (Entry T)). part shard j history ++ l) (part_else i j c operations h ne) ∙ append-nil (part shard j history))
-
-    part_grows : (i c : ℕ) (history : List (Entry T)) (operations : List (Operation ℕ T T)) → AreOn shard i operations → part shard i (history ++ entries_by c operations) ≡ part shard i history ++ entries_by c operations
-    part_grows i c history operations h = part-append i history (entries_by c operations) ∙ ap (λ (l : List (Entry T)). part shard i history ++ l) (part_by i c operations h)
-
 -- one place of a function changes
 abbrev pub with_at : {A : Type 0} → (ℕ → A) → ℕ → A → ℕ → A
 with_at f i a j = cond (nat_eq j i) a (f j)
@@ -85,6 +56,9 @@ with_now f i a = ap (λ (b : Bool). cond b a (f i)) (eq-eqb i i refl)
 
 with_else : {A : Type 0} (f : ℕ → A) (i : ℕ) (a : A) (j : ℕ) → j ≢ i → with_at f i a j ≡ f j
 with_else f i a j ne = ap (λ (b : Bool). cond b a (f j)) (ne_eqb j i ne)
+
+same_shard : (i j : ℕ) → 8 * i ≡ 8 * j → i ≡ j
+same_shard i j e = omega (arith, e)
 
 -- the words of two shards are two
 apart : (i j : ℕ) → j ≢ i → 8 * j ≢ 8 * i
@@ -103,20 +77,16 @@ module _ {T S : Type 0} (same : T → T → Bool) (content : S → Pairs T → T
   abbrev Rule : St → Type 0
   Rule = ShardRule same content shard count
 
-  -- the history is legal as a whole, since its parts are
-  pub legal_whole : (history : List (Entry T)) (value : ℕ → S) → AreOnKeys history → ((i : ℕ) → Leads same content (part shard i history) (value i)) → IsLegalHistory same history
-  legal_whole history value on leads = let run = one_run same shard history [] (λ s. []) (λ i. (leads i).end) on (0, tt) (λ s. (0, tt)) (λ k. refl) (λ i. (leads i).run) in (run.0, run.1)
-
   -- what another seat knows stays so
-  other_fits : (o o' : ℕ → ℕ) (n n' : ℕ) (history history' : List (Entry T)) (h h' : ℕ → ℕ) (x x' : ℕ → S) (ws ws' : List ℕ) (j : ℕ) → StartsWith history' history
+  other_fits : (o o' : ℕ → ℕ) (n n' : ℕ) (history history' : List (Entry T)) (whole whole' : Pairs T) (h h' : ℕ → ℕ) (x x' : ℕ → S) (ws ws' : List ℕ) (j : ℕ) → StartsWith history' history
       → ((c : ℕ) → Owns o n j c → Owns o' n' j c × (entries_of c history' ≡ entries_of c history))
-      → ((i : ℕ) → i < count → get_or ws (8 * i) 0 ≢ 0 → j ≡ h i → (get_or ws' (8 * i) 0 ≢ 0) × (j ≡ h' i) × (part shard i history ≡ part shard i history') × (x i ≡ x' i))
-      → (v : D) → Fits shard count o n history h x ws j v → Fits shard count o' n' history' h' x' ws' j v
-  other_fits o o' n n' history history' h h' x x' ws ws' j more same hold Blank k = tt
-  other_fits o o' n n' history history' h h' x x' ws ws' j more same hold (Idle c s) k = let a = same c k.0 in (a.0, longer_fits history history' c s more a.1 k.1)
-  other_fits o o' n n' history history' h h' x x' ws ws' j more same hold (Holding i c s whole f) k =
-      let a = same c k.0 in let b = hold i k.6 k.5 k.4 in (a.0, longer_fits history history' c s more a.1 k.1, k.2 ∙ b.2, k.3 ∙ b.3, b.1, b.0, k.6)
-  other_fits o o' n n' history history' h h' x x' ws ws' j more same hold (Paired c d s t) k =
+      → ((i : ℕ) (y : S) → IsHeld count h x ws j i y → IsHeld count h' x' ws' j i y)
+      → ((held : List (ℕ × S)) → ((i : ℕ) (y : S) → lookup held i ≡ Some y → IsHeld count h x ws j i y) → kept (keys_of shard (numbers held)) whole ≡ kept (keys_of shard (numbers held)) whole')
+      → (v : D) → Fits shard count o n history whole h x ws j v → Fits shard count o' n' history' whole' h' x' ws' j v
+  other_fits o o' n n' history history' whole whole' h h' x x' ws ws' j more same hold stay Blank k = tt
+  other_fits o o' n n' history history' whole whole' h h' x x' ws ws' j more same hold stay (Caller c s pairs held) k =
+      let a = same c k.0 in (a.0, longer_fits history history' c s more a.1 k.1, k.2 ∙ stay held k.3, λ i y e. hold i y (k.3 i y e))
+  other_fits o o' n n' history history' whole whole' h h' x x' ws ws' j more same hold stay (Paired c d s t) k =
       let a = same c k.0 in let b = same d k.1 in (a.0, b.0, k.2, longer_fits history history' c s more a.1 k.3, longer_fits history history' d t more b.1 k.4)
 
   seats_stay : (K : ℕ → D → Type 0) (vs : List D) (me : ℕ) (w : D) → K me w → ((j : ℕ) (d : D) → j ≢ me → get_elem? vs j ≡ some d → K j d)
@@ -127,131 +97,317 @@ module _ {T S : Type 0} (same : T → T → Bool) (content : S → Pairs T → T
   -- a step that changes no word
   looked : (s : St) (r : Rule s) (o : ℕ → ℕ) (n i id : ℕ) (cs : List (ℕ × Option S)) (w : D)
       → ((j c : ℕ) → j ≢ id → Owns r.owner r.next j c → Owns o n j c)
-      → Fits shard count o n r.history r.holder r.value s.words id w
+      → Fits shard count o n r.history r.whole r.holder r.value s.words id w
       → ((c : ℕ) → n ≤ c → entries_of c r.history ≡ [])
       → Rule (stepped s i (get_or s.words i 0) id cs w keeps)
   looked s r o n i id cs w same mine unborn = let P : List ℕ → Type 0 = λ ws. Rule record { words = ws; homes = s.homes; views = set s.views id w } in
       subst P (sym (set-get_or s.words i 0)) (record {
         history = r.history;
+        whole = r.whole;
         owner = o;
         next = n;
         holder = r.holder;
         value = r.value;
         wide = r.wide;
-        on = r.on;
-        leads = r.leads;
+        many = r.many;
+        run = r.run;
+        ordered = r.ordered;
+        parts = r.parts;
         home = r.home;
-        each_seat = seats_stay (Fits shard count o n r.history r.holder r.value s.words) s.views id w mine
-            (λ j d other e. other_fits r.owner o r.next n r.history r.history r.holder r.holder r.value r.value s.words s.words j (starts_same r.history) (λ c k. (same j c other k, refl))
-            (λ k _ a b. (a, b, refl, refl)) d (r.each_seat j d e));
+        each_seat = seats_stay (Fits shard count o n r.history r.whole r.holder r.value s.words) s.views id w mine
+            (λ j d other e. other_fits r.owner o r.next n r.history r.history r.whole r.whole r.holder r.holder r.value r.value s.words s.words j (starts_same r.history) (λ c k. (same j c other k, refl))
+            (λ i y k. k) (λ held k. refl) d (r.each_seat j d e));
         unborn = unborn;
       })
 
-  -- the lock of the shard i, which was free, is taken
-  taken : (s : St) (r : Rule s) (i z id c : ℕ) (seen : List (Entry T)) (cs : List (ℕ × Option S)) → i < count → z ≢ 0 → get_or s.words (8 * i) 0 ≡ 0 → Owns r.owner r.next id c → HasSeen r.history c seen
-      → Rule (stepped s (8 * i) z id cs (Holding i c seen (part shard i r.history) (r.value i)) (takes i (Some (r.value i))))
-  taken s r i z id c seen cs within shut free has fit =
-      let ws : List ℕ = set s.words (8 * i) z in
-      let in_words : 8 * i < length s.words = omega (arith, within, r.wide) in
-      let now : get_or ws (8 * i) 0 ≡ z = get_or-set_same s.words (8 * i) z 0 in_words in
-      let else : (j : ℕ) → j ≢ i → get_or ws (8 * j) 0 ≡ get_or s.words (8 * j) 0 = λ j ne. get_or-set_other s.words (8 * i) (8 * j) z 0 (apart i j ne) in
-      let h : ℕ → ℕ = with_at r.holder i id in
-      let w : D = Holding i c seen (part shard i r.history) (r.value i) in record {
-        history = r.history;
-        owner = r.owner;
-        next = r.next;
-        holder = h;
-        value = r.value;
-        wide = subst (λ (l : ℕ). 8 * count ≤ l) (sym (length-set s.words (8 * i) z)) r.wide;
-        on = r.on;
-        leads = r.leads;
-        home = λ j lt e. dite (ℕ_discrete j i)
-            (λ is. absurd (shut (sym now ∙ (ap (λ (k : ℕ). get_or ws (8 * k) 0) (sym is) ∙ e))))
-            (λ ne. set_else s.homes i j _ ne ∙ r.home j lt (sym (else j ne) ∙ e));
-        each_seat = seats_stay (Fits shard count r.owner r.next r.history h r.value ws) s.views id w
-            (has, fit, refl, refl, sym (with_now r.holder i id), (λ e. shut (sym now ∙ e)), within)
-            (λ j d other e. other_fits r.owner r.owner r.next r.next r.history r.history r.holder h r.value r.value s.words ws j (starts_same r.history) (λ c k. (k, refl))
-            (λ k lt a b. let ne : k ≢ i = λ is. a (ap (λ (y : ℕ). get_or s.words (8 * y) 0) is ∙ free) in ((λ e. a (sym (else k ne) ∙ e)), b ∙ sym (with_else r.holder i id k ne), refl, refl)) d (r.each_seat j d e));
-        unborn = r.unborn;
-      }
+  -- TRIES: the lock of the shard i is taken, where it was free
+  module _ (s : St) (r : Rule s) (i z id c : ℕ) (seen : List (Entry T)) (pairs : Pairs T) (held : List (ℕ × S)) (cs : List (ℕ × Option S)) (within : i < count) (shut : z ≢ 0) (free : get_or s.words (8 * i) 0 ≡ 0)
+      (known : Fits shard count r.owner r.next r.history r.whole r.holder r.value s.words id (Caller c seen pairs held)) where
+    abbrev held1 : List (ℕ × S)
+    held1 = (i, r.value i) ∷ held
 
-  -- TRIES: what becomes of the word where the lock was free, and where it was taken
-  pub tries : (slots id i c : ℕ) (seen : List (Entry T)) (cs : List (ℕ × Option S)) (then : ℕ → M → Type 0) → i < count
-      → ((n : ℕ) (whole : List (Entry T)) (x : S) → n ≡ 0 → Leads same content whole x → then n (Holding i c seen whole x, (i, Some x) ∷ cs))
-      → ((n : ℕ) → n ≢ 0 → then n (Idle c seen, cs))
-      → (z : ℕ) → z ≢ 0 → Allows Rule slots id (Idle c seen, cs) (8 * i) (λ n. either (eqb n 0) z n) then
-  tries slots id i c seen cs then within won lost z shut s r wide is small = let n : ℕ = get_or s.words (8 * i) 0 in let mine = r.each_seat id (Idle c seen) is in dite (ℕ_discrete n 0)
+    abbrev pairs1 : Pairs T
+    pairs1 = kept (keys_of shard (numbers held1)) r.whole
+
+    abbrev ws1 : List ℕ
+    ws1 = set s.words (8 * i) z
+
+    abbrev h1 : ℕ → ℕ
+    h1 = with_at r.holder i id
+
+    now : get_or ws1 (8 * i) 0 ≡ z
+    now = get_or-set_same s.words (8 * i) z 0 (omega (arith, within, r.wide))
+
+    else_word : (j : ℕ) → j ≢ i → get_or ws1 (8 * j) 0 ≡ get_or s.words (8 * j) 0
+    else_word j ne = get_or-set_other s.words (8 * i) (8 * j) z 0 (apart i j ne)
+
+    -- what is held was taken before
+    still_held : (j k : ℕ) (y : S) → IsHeld count r.holder r.value s.words j k y → IsHeld count h1 r.value ws1 j k y
+    still_held j k y m = let ne : k ≢ i = λ at. m.taken (ap (λ (l : ℕ). get_or s.words (8 * l) 0) at ∙ free) in record {
+      is = m.is;
+      by = m.by ∙ sym (with_else r.holder i id k ne);
+      taken = λ e. m.taken (sym (else_word k ne) ∙ e);
+      within = m.within;
+    }
+
+    now_held : (k : ℕ) (y : S) → lookup held1 k ≡ Some y → IsHeld count h1 r.value ws1 id k y
+    now_held k y e = dite (ℕ_discrete k i)
+        (λ at. let y_is : y ≡ r.value i = unsome y (r.value i) (sym e ∙ at_here i k (r.value i) held (sym at)) in record {
+          is = y_is ∙ ap r.value (sym at);
+          by = sym (ap h1 at ∙ with_now r.holder i id);
+          taken = λ zero. shut (sym now ∙ (ap (λ (l : ℕ). get_or ws1 (8 * l) 0) (sym at) ∙ zero));
+          within = subst (λ (l : ℕ). l < count) (sym at) within;
+        })
+        (λ ne. still_held id k y (known.3 k y (sym (at_next i k (r.value i) held (λ e. ne (sym e))) ∙ e)))
+
+    taken : Rule (stepped s (8 * i) z id cs (Caller c seen pairs1 held1) (takes i (Some (r.value i))))
+    taken = record {
+      history = r.history;
+      whole = r.whole;
+      owner = r.owner;
+      next = r.next;
+      holder = h1;
+      value = r.value;
+      wide = subst (λ (l : ℕ). 8 * count ≤ l) (sym (length-set s.words (8 * i) z)) r.wide;
+      many = length-set s.homes i none ∙ r.many;
+      run = r.run;
+      ordered = r.ordered;
+      parts = r.parts;
+      home = λ j lt e. dite (ℕ_discrete j i)
+          (λ is. absurd (shut (sym now ∙ (ap (λ (k : ℕ). get_or ws1 (8 * k) 0) (sym is) ∙ e))))
+          (λ ne. set_else s.homes i j _ ne ∙ r.home j lt (sym (else_word j ne) ∙ e));
+      each_seat = seats_stay (Fits shard count r.owner r.next r.history r.whole h1 r.value ws1) s.views id (Caller c seen pairs1 held1)
+          (known.0, known.1, refl, now_held)
+          (λ j d other e. other_fits r.owner r.owner r.next r.next r.history r.history r.whole r.whole r.holder h1 r.value r.value s.words ws1 j (starts_same r.history) (λ c k. (k, refl))
+          (λ k y m. still_held j k y m) (λ held k. refl) d (r.each_seat j d e));
+      unborn = r.unborn;
+    }
+
+    won_now : Won content shard i (Caller c seen pairs held, cs) (Caller c seen pairs1 held1, (i, Some (r.value i)) ∷ cs)
+    won_now = record {
+      value = r.value i;
+      pairs = pairs1;
+      is = refl;
+      new = none_in held i (λ y e. (known.3 i y e).taken free);
+      ordered = ascends_kept (keys_of shard (numbers held1)) r.whole r.ordered;
+      within = kept-kept (keys_of shard (numbers held1)) (keys_of shard (numbers held1)) r.whole (λ k e. e);
+      before = known.2 ∙ sym (kept-kept (keys_of shard (numbers held)) (keys_of shard (numbers held1)) r.whole (λ k e. is_in_next i (numbers held) (shard k) e));
+      contains = subst (λ (l : Pairs T). content (r.value i) l)
+          (sym (kept-kept (keys_at shard i) (keys_of shard (numbers held1)) r.whole (λ k e. is_in_here i (numbers held) (shard k) (eqb-true (shard k) i e))))
+          (r.parts i);
+    }
+
+  -- what becomes of the word where the lock was free, and where it was taken
+  pub tries : (slots id i c first z : ℕ) (seen : List (Entry T)) (pairs : Pairs T) (held : List (ℕ × S)) (cs : List (ℕ × Option S)) → i < count → z ≢ 0
+      → Allows Rule slots id (Caller c seen pairs held, cs) (8 * i) (λ n. either (eqb n 0) z n) (Tries content shard (step slots (8 * i) first z none) (Caller c seen pairs held, cs))
+  tries slots id i c first z seen pairs held cs within shut s r wide is small = let n : ℕ = get_or s.words (8 * i) 0 in let m : D = Caller c seen pairs held in let mine = r.each_seat id m is in dite (ℕ_discrete n 0)
       (λ hit. (
-        Holding i c seen (part shard i r.history) (r.value i),
+        Caller c seen (pairs1 s r i z id c seen pairs held cs within shut hit mine) ((i, r.value i) ∷ held),
         takes i (Some (r.value i)),
         r.home i within hit,
-        subst (λ b. Rule (stepped s (8 * i) (either b z n) id cs (Holding i c seen (part shard i r.history) (r.value i)) (takes i (Some (r.value i))))) (sym (eq-eqb n 0 hit)) (taken s r i z id c seen cs within shut hit mine.0 mine.1),
-        won n (part shard i r.history) (r.value i) hit (r.leads i),
+        subst (λ b. Rule (stepped s (8 * i) (either b z n) id cs (Caller c seen (pairs1 s r i z id c seen pairs held cs within shut hit mine) ((i, r.value i) ∷ held)) (takes i (Some (r.value i))))) (sym (eq-eqb n 0 hit)) (taken s r i z id c seen pairs held cs within shut hit mine),
+        record {
+          won = λ j at _. subst (λ (k : ℕ). Won content shard k (m, cs) (Caller c seen (pairs1 s r i z id c seen pairs held cs within shut hit mine) ((i, r.value i) ∷ held), (i, Some (r.value i)) ∷ cs)) (same_shard i j at) (won_now s r i z id c seen pairs held cs within shut hit mine);
+          lost = λ ne. absurd (ne hit);
+        },
       ))
       (λ miss. (
-        Idle c seen,
+        m,
         keeps,
         tt,
-        subst (λ b. Rule (stepped s (8 * i) (either b z n) id cs (Idle c seen) keeps)) (sym (ne_eqb n 0 miss)) (looked s r r.owner r.next (8 * i) id cs (Idle c seen) (λ j c other k. k) mine r.unborn),
-        lost n miss,
+        subst (λ b. Rule (stepped s (8 * i) (either b z n) id cs m keeps)) (sym (ne_eqb n 0 miss)) (looked s r r.owner r.next (8 * i) id cs m (λ j c other k. k) mine r.unborn),
+        record { won = λ j at e. absurd (miss e); lost = λ _. refl },
       ))
 
-  -- The lock of the shard i is released with another value. The history goes on by these operations
-  pub releases : (slots id i c : ℕ) (seen whole : List (Entry T)) (operations : List (Operation ℕ T T)) (x0 x : S) (then : ℕ → M → Type 0) → i < slots → AreOn shard i operations
-      → Leads same content (whole ++ entries_by c operations) x
-      → ((n : ℕ) (history : List (Entry T)) → HasSeen history c seen → IsLegalHistory same (history ++ entries_by c operations) → then n (Idle c (seen_after seen history (entries_by c operations)), []))
-      → Allows Rule slots id (Holding i c seen whole x0, (i, Some x) ∷ []) (8 * i) (λ _. 0) then
-  releases slots id i c seen whole operations x0 x then some_slot on leads learned s r wide is small =
-      let known = r.each_seat id (Holding i c seen whole x0) is in
-      let es : List (Entry T) = entries_by c operations in
-      let new : List (Entry T) = r.history ++ es in
-      let w : D = Idle c (seen_after seen r.history es) in
-      let ws : List ℕ = set s.words (8 * i) 0 in
-      let y : ℕ → S = with_at r.value i x in
-      let here_value : y i ≡ x = with_now r.value i x in
-      let else : (j : ℕ) → j ≢ i → get_or ws (8 * j) 0 ≡ get_or s.words (8 * j) 0 = λ j ne. get_or-set_other s.words (8 * i) (8 * j) 0 0 (apart i j ne) in
-      let others : (d : ℕ) → d ≢ c → entries_of d new ≡ entries_of d r.history = λ d ne. entries-append d r.history es ∙ (ap (λ (l : List (Entry T)). entries_of d r.history ++ l) (no_other c d operations ne) ∙ append-nil (entries_of d r.history)) in
-      let on_new : AreOnKeys new = on-append r.history es r.on (on_by shard i c operations on) in
-      let grown : whole ++ es ≡ part shard i new = ap (λ (l : List (Entry T)). l ++ es) known.2 ∙ sym (part_grows shard i c r.history operations on) in
-      let leads_new : (j : ℕ) → Leads same content (part shard j new) (y j) = λ j. dite (ℕ_discrete j i)
-      (λ at. subst (λ (k : ℕ). Leads same content (part shard k new) (y k)) (sym at)
-      (subst (λ (v : S). Leads same content (part shard i new) v) (sym here_value) (subst (λ (l : List (Entry T)). Leads same content l x) grown leads)))
-      (λ ne. subst (λ (v : S). Leads same content (part shard j new) v) (sym (with_else r.value i x j ne))
-      (subst (λ (l : List (Entry T)). Leads same content l (r.value j)) (sym (part_stays shard i j c r.history operations on ne)) (r.leads j))) in (
-        w,
-        gives,
-        tt,
-        record {
+  -- APPENDS: the history goes on by these operations, and the shards that the seat holds have these values
+  module _ (operations : List (Operation ℕ T T)) (s : St) (r : Rule s) (word id c : ℕ) (seen : List (Entry T)) (pairs : Pairs T) (held values : List (ℕ × S)) (cs : List (ℕ × Option S))
+      (known : Fits shard count r.owner r.next r.history r.whole r.holder r.value s.words id (Caller c seen pairs held))
+      (may : MayAppend same content shard operations (Caller c seen pairs held, cs) held values) where
+    abbrev mine : ℕ → Bool
+    mine = keys_of shard (numbers held)
+
+    abbrev es : List (Entry T)
+    es = entries_by c operations
+
+    abbrev new : List (Entry T)
+    new = r.history ++ es
+
+    run_on : RunsOnWhole same mine r.whole operations may.end
+    run_on = part_runs same mine operations r.whole may.end may.within r.ordered (subst (λ (l : Pairs T). StepsBy same operations l may.end) known.2 may.goes)
+
+    abbrev after : Pairs T
+    after = run_on.end
+
+    -- the values then
+    abbrev value1 : ℕ → S
+    value1 j = unwrap_or (lookup values j) (r.value j)
+
+    -- a shard with a value of its own is held
+    held_then : (j : ℕ) (v : S) → lookup values j ≡ Some v → (x : S) × (lookup held j ≡ Some x)
+    held_then j v e = value_in held j (ap (λ (ns : List ℕ). is_in ns j) (sym may.alike) ∙ found_in values j v e)
+
+    other_value : (j : ℕ) → ((v : S) → lookup values j ≡ Some v → ⊥) → value1 j ≡ r.value j
+    other_value j never = by (lookup values j) refl
+      where
+        by : (o : Option S) → lookup values j ≡ o → unwrap_or o (r.value j) ≡ r.value j
+        by None e = refl
+        by (Some v) e = absurd (never v e)
+
+    parts_after : (j : ℕ) → content (value1 j) (kept (keys_at shard j) after)
+    parts_after j = by (lookup values j) refl
+      where
+        by : (o : Option S) → lookup values j ≡ o → content (unwrap_or o (r.value j)) (kept (keys_at shard j) after)
+        by None e =
+            let out : is_in (numbers held) j ≡ false = ap (λ (ns : List ℕ). is_in ns j) (sym may.alike) ∙ none_in values j (λ v is. absurd (let clash : Some v ≡ None = sym is ∙ e in cc)) in
+            let far : AreApart mine (keys_at shard j) = λ k is. false_from_ne_true (keys_at shard j k) (λ at. true≢false (sym is ∙ (ap (λ (i : ℕ). is_in (numbers held) i) (eqb-true (shard k) j at) ∙ out))) in
+            subst (λ (l : Pairs T). content (r.value j) l) (sym (run_on.others (keys_at shard j) far)) (r.parts j)
+        by (Some v) e =
+            let inside : (k : ℕ) → keys_at shard j k ≡ true → mine k ≡ true = λ k at. ap (λ (i : ℕ). is_in (numbers held) i) (eqb-true (shard k) j at) ∙ (ap (λ (ns : List ℕ). is_in ns j) (sym may.alike) ∙ found_in values j v e) in
+            subst (λ (l : Pairs T). content v l) (ap (λ (l : Pairs T). kept (keys_at shard j) l) (sym run_on.part) ∙ kept-kept (keys_at shard j) mine after inside) (may.parts j v e)
+
+    -- another seat's shards are others
+    apart_from : (j : ℕ) (other : List (ℕ × S)) → j ≢ id → ((i : ℕ) (y : S) → lookup other i ≡ Some y → IsHeld count r.holder r.value s.words j i y) → AreApart mine (keys_of shard (numbers other))
+    apart_from j other ne theirs k is = false_from_ne_true (is_in (numbers other) (shard k)) (λ at.
+        let a = value_in held (shard k) is in let b = value_in other (shard k) at in
+        ne ((theirs (shard k) b.0 b.1).by ∙ sym (known.3 (shard k) a.0 a.1).by))
+
+    others_entries : (d : ℕ) → d ≢ c → entries_of d new ≡ entries_of d r.history
+    others_entries d ne = entries-append d r.history es ∙ (ap (λ (l : List (Entry T)). entries_of d r.history ++ l) (no_other c d operations ne) ∙ append-nil (entries_of d r.history))
+
+    abbrev w1 : D
+    w1 = Caller c (seen_after seen r.history es) may.end values
+
+    appended : Rule (stepped s word (get_or s.words word 0) id cs w1 keeps)
+    appended = let P : List ℕ → Type 0 = λ ws. Rule record { words = ws; homes = s.homes; views = set s.views id w1 } in
+        subst P (sym (set-get_or s.words word 0)) (record {
           history = new;
+          whole = after;
           owner = r.owner;
           next = r.next;
           holder = r.holder;
-          value = y;
-          wide = subst (λ (l : ℕ). 8 * count ≤ l) (sym (length-set s.words (8 * i) 0)) r.wide;
-          on = on_new;
-          leads = leads_new;
-          home = λ j lt e. dite (ℕ_discrete j i)
-              (λ at. ap (λ (k : ℕ). get_elem? (set s.homes i (some (Some x))) k) at ∙ (set_here s.homes i (some (Some x)) (omega (arith, wide, some_slot)) ∙ (λ k. some (some (Some (sym (ap y at ∙ here_value) k))))))
-              (λ ne. set_else s.homes i j _ ne ∙ (r.home j lt (sym (else j ne) ∙ e) ∙ (λ k. some (some (Some (sym (with_else r.value i x j ne) k))))));
-          each_seat = seats_stay (Fits shard count r.owner r.next new r.holder y ws) s.views id w (known.0, fit_after c seen r.history operations known.1)
-              (λ j d other e. other_fits r.owner r.owner r.next r.next r.history new r.holder r.holder r.value y s.words ws j (es, refl)
-              (λ k h. (h, others k (λ at. other (sym h.owned ∙ (ap r.owner at ∙ known.0.owned)))))
-              (λ k lt a b. let ne : k ≢ i = λ at. other (b ∙ (ap r.holder at ∙ sym known.4)) in
-              ((λ e. a (sym (else k ne) ∙ e)), b, sym (part_stays shard i k c r.history operations on ne), sym (with_else r.value i x k ne))) d (r.each_seat j d e));
-          unborn = λ d le. let b = known.0.born in others d (λ at. omega (arith, at, b, le)) ∙ r.unborn d le;
-        },
-        learned (get_or s.words (8 * i) 0) r.history known.1 (legal_whole new y on_new leads_new),
-      )
+          value = value1;
+          wide = r.wide;
+          many = r.many;
+          run = history_on same r.history r.whole after c operations r.run run_on.legal;
+          ordered = run_on.ordered;
+          parts = parts_after;
+          home = λ j lt e. r.home j lt e ∙ (λ k. some (some (Some (sym (other_value j (λ v is. let x = held_then j v is in (known.3 j x.0 x.1).taken e)) k))));
+          each_seat = seats_stay (Fits shard count r.owner r.next new after r.holder value1 s.words) s.views id w1 (
+            known.0,
+            fit_after c seen r.history operations known.1,
+            sym run_on.part ∙ ap (λ (ns : List ℕ). kept (keys_of shard ns) after) (sym may.alike),
+            λ i y e. let x = held_then i y e in let m = known.3 i x.0 x.1 in record { is = ap (λ (o : Option S). unwrap_or o (r.value i)) (sym e); by = m.by; taken = m.taken; within = m.within },
+          )
+              (λ j d other e. other_fits r.owner r.owner r.next r.next r.history new r.whole after r.holder r.holder r.value value1 s.words s.words j (es, refl)
+              (λ k h. (h, others_entries k (λ at. other (sym h.owned ∙ (ap r.owner at ∙ known.0.owned)))))
+              (λ i y m. record { is = m.is ∙ sym (other_value i (λ v is. let x = held_then i v is in other (m.by ∙ sym (known.3 i x.0 x.1).by))); by = m.by; taken = m.taken; within = m.within })
+              (λ theirs k. sym (run_on.others (keys_of shard (numbers theirs)) (apart_from j theirs other k))) d (r.each_seat j d e));
+          unborn = λ d le. let b = known.0.born in others_entries d (λ at. omega (arith, at, b, le)) ∙ r.unborn d le;
+        })
 
-  -- a blank seat gets a caller of its own
-  pub enters : (slots id : ℕ) (cs : List (ℕ × Option S)) (then : ℕ → M → Type 0) → ((n c : ℕ) → then n (Idle c [], cs)) → Allows Rule slots id (Blank, cs) 0 (λ n. n) then
-  enters slots id cs then learned s r wide at small = let o = with_at r.owner r.next id in (
-    Idle r.next [],
+    known_after : Appended same content shard operations (Caller c seen pairs held, cs) values (w1, cs)
+    known_after = record {
+      history = r.history;
+      end = may.end;
+      is = refl;
+      contain = record {
+        ordered = subst (λ (l : Pairs T). Ascends l) run_on.part (ascends_kept mine after run_on.ordered);
+        within = subst (λ (l : Pairs T). kept (keys_of shard (numbers values)) l ≡ l) run_on.part
+            (kept-kept (keys_of shard (numbers values)) mine after (λ k e. ap (λ (ns : List ℕ). is_in ns (shard k)) (sym may.alike) ∙ e) ∙ ap (λ (ns : List ℕ). kept (keys_of shard ns) after) may.alike);
+        parts = may.parts;
+      };
+      legal = (after, history_on same r.history r.whole after c operations r.run run_on.legal);
+      fit = known.1;
+    }
+
+  pub appends : (operations : List (Operation ℕ T T)) (slots id word c : ℕ) (seen : List (Entry T)) (pairs : Pairs T) (held values : List (ℕ × S)) (cs : List (ℕ × Option S))
+      → MayAppend same content shard operations (Caller c seen pairs held, cs) held values
+      → Allows Rule slots id (Caller c seen pairs held, cs) word (λ n. n) (λ _ n. Appended same content shard operations (Caller c seen pairs held, cs) values n)
+  appends operations slots id word c seen pairs held values cs may s r wide is small = let mine = r.each_seat id (Caller c seen pairs held) is in (
+    w1 operations s r word id c seen pairs held values cs mine may,
     keeps,
     tt,
-    looked s r o (r.next + 1) 0 id cs (Idle r.next [])
+    appended operations s r word id c seen pairs held values cs mine may,
+    known_after operations s r word id c seen pairs held values cs mine may,
+  )
+
+  -- RELEASES: the lock of the shard i, which was taken last, is free again
+  module _ (s : St) (r : Rule s) (i id c : ℕ) (seen : List (Entry T)) (pairs : Pairs T) (x : S) (held : List (ℕ × S)) (cs : List (ℕ × Option S)) (new : is_in (numbers held) i ≡ false)
+      (known : Fits shard count r.owner r.next r.history r.whole r.holder r.value s.words id (Caller c seen pairs ((i, x) ∷ held))) where
+    abbrev ws2 : List ℕ
+    ws2 = set s.words (8 * i) 0
+
+    abbrev pairs2 : Pairs T
+    pairs2 = kept (keys_of shard (numbers held)) pairs
+
+    last : IsHeld count r.holder r.value s.words id i x
+    last = known.3 i x (at_here i i x held refl)
+
+    else_after : (j : ℕ) → j ≢ i → get_or ws2 (8 * j) 0 ≡ get_or s.words (8 * j) 0
+    else_after j ne = get_or-set_other s.words (8 * i) (8 * j) 0 0 (apart i j ne)
+
+    held_on : (j k : ℕ) (y : S) → k ≢ i → IsHeld count r.holder r.value s.words j k y → IsHeld count r.holder r.value ws2 j k y
+    held_on j k y ne m = record { is = m.is; by = m.by; taken = λ e. m.taken (sym (else_after k ne) ∙ e); within = m.within }
+
+    -- the others are in the list too
+    other_last : (k : ℕ) (y : S) → lookup held k ≡ Some y → (k ≢ i) × (lookup ((i, x) ∷ held) k ≡ Some y)
+    other_last k y e =
+        let ne : k ≢ i = λ at. true≢false (sym (found_in held k y e) ∙ (ap (λ (l : ℕ). is_in (numbers held) l) at ∙ new)) in
+        (ne, at_next i k x held (λ e. ne (sym e)) ∙ e)
+
+    released : Rule (stepped s (8 * i) 0 id ((i, Some x) ∷ cs) (Caller c seen pairs2 held) gives)
+    released = let w : D = Caller c seen pairs2 held in record {
+      history = r.history;
+      whole = r.whole;
+      owner = r.owner;
+      next = r.next;
+      holder = r.holder;
+      value = r.value;
+      wide = subst (λ (l : ℕ). 8 * count ≤ l) (sym (length-set s.words (8 * i) 0)) r.wide;
+      many = length-set s.homes i (some (Some x)) ∙ r.many;
+      run = r.run;
+      ordered = r.ordered;
+      parts = r.parts;
+      home = λ j lt e. dite (ℕ_discrete j i)
+          (λ at. let within = last.within in ap (λ (k : ℕ). get_elem? (set s.homes i (some (Some x))) k) at ∙ (set_here s.homes i (some (Some x)) (omega (arith, r.many, within)) ∙ (λ k. some (some (Some ((last.is ∙ ap r.value (sym at)) k))))))
+          (λ ne. set_else s.homes i j _ ne ∙ r.home j lt (sym (else_after j ne) ∙ e));
+      each_seat = seats_stay (Fits shard count r.owner r.next r.history r.whole r.holder r.value ws2) s.views id w (
+        known.0,
+        known.1,
+        ap (λ (l : Pairs T). kept (keys_of shard (numbers held)) l) known.2 ∙ kept-kept (keys_of shard (numbers held)) (keys_of shard (i ∷ numbers held)) r.whole (λ k e. is_in_next i (numbers held) (shard k) e),
+        λ k y e. let o = other_last k y e in held_on id k y o.0 (known.3 k y o.1),
+      )
+          (λ j d other e. other_fits r.owner r.owner r.next r.next r.history r.history r.whole r.whole r.holder r.holder r.value r.value s.words ws2 j (starts_same r.history) (λ c k. (k, refl))
+          (λ k y m. held_on j k y (λ at. other (m.by ∙ (ap r.holder at ∙ sym last.by))) m) (λ held k. refl) d (r.each_seat j d e));
+      unborn = r.unborn;
+    }
+
+  pub releases : (slots id i c : ℕ) (seen : List (Entry T)) (pairs : Pairs T) (x : S) (held : List (ℕ × S)) (cs : List (ℕ × Option S)) → is_in (numbers held) i ≡ false
+      → Allows Rule slots id (Caller c seen pairs ((i, x) ∷ held), (i, Some x) ∷ cs) (8 * i) (λ _. 0) (λ _ n. n ≡ (Caller c seen (kept (keys_of shard (numbers held)) pairs) held, cs))
+  releases slots id i c seen pairs x held cs new s r wide is small = (
+    Caller c seen (kept (keys_of shard (numbers held)) pairs) held,
+    gives,
+    tt,
+    released s r i id c seen pairs x held cs new (r.each_seat id (Caller c seen pairs ((i, x) ∷ held)) is),
+    refl,
+  )
+
+  -- a seat that holds nothing
+  none_held : (r_whole : Pairs T) → ◌≡◌ {A = Pairs T} [] (kept (keys_of shard []) r_whole)
+  none_held m = sym (kept-none (keys_of shard []) m (λ k. refl))
+
+  none_there : {A : Type 0} (i : ℕ) (y : S) → ◌≡◌ {A = Option S} None (Some y) → A
+  none_there i y e = absurd (let clash : ◌≡◌ {A = Option S} None (Some y) = e in cc)
+
+  -- a blank seat gets a caller of its own
+  pub enters : (slots id : ℕ) (cs : List (ℕ × Option S)) (then : ℕ → M → Type 0) → ((n c : ℕ) → then n (Caller c [] [] [], cs)) → Allows Rule slots id (Blank, cs) 0 (λ n. n) then
+  enters slots id cs then learned s r wide at small = let o = with_at r.owner r.next id in (
+    Caller r.next [] [] [],
+    keeps,
+    tt,
+    looked s r o (r.next + 1) 0 id cs (Caller r.next [] [] [])
         (λ j c other k. let b = k.born in record { owned = with_else r.owner r.next id c (λ is. omega (arith, is, b)) ∙ k.owned; born = omega (arith, b) })
-        (record { owned = with_now r.owner r.next id; born = omega arith }, record { begins = (r.history, refl); own = r.unborn r.next (omega arith) })
+        (record { owned = with_now r.owner r.next id; born = omega arith }, record { begins = (r.history, refl); own = r.unborn r.next (omega arith) }, none_held r.whole, λ i y e. none_there i y e)
         (λ c le. r.unborn c (omega (arith, le))),
     learned (get_or s.words 0 0) r.next,
   )
@@ -264,20 +420,23 @@ module _ {T S : Type 0} (same : T → T → Bool) (content : S → Pairs T → T
   at_new (x ∷ xs) a b (suc j) e = ⊎_elim (λ t. inl t) (λ (t : (j ≡ length xs) × (a ≡ b)). inr (ap suc t.0, t.1)) (at_new xs a b j e)
 
   -- one seat takes in what another knows
-  pub joins : (id c : ℕ) (a : List (Entry T)) (other d : ℕ) (b : List (Entry T)) → Joins Rule id (Idle c a) other (Idle d b) (Paired c d a b) Blank
-  joins id c a other d b s r here apart there = let W : D = Paired c d a b in let o = with_at r.owner d id in let K = Fits shard count o r.next r.history r.holder r.value s.words in
-      let ka = r.each_seat id (Idle c a) here in let kb = r.each_seat other (Idle d b) (sym (set_else s.views id other W apart) ∙ there) in
+  pub joins : (id c : ℕ) (a : List (Entry T)) (other d : ℕ) (b : List (Entry T)) → Joins Rule id (Caller c a [] []) other (Caller d b [] []) (Paired c d a b) Blank
+  joins id c a other d b s r here apart there = let W : D = Paired c d a b in let o = with_at r.owner d id in let K = Fits shard count o r.next r.history r.whole r.holder r.value s.words in
+      let ka = r.each_seat id (Caller c a [] []) here in let kb = r.each_seat other (Caller d b [] []) (sym (set_else s.views id other W apart) ∙ there) in
       let ne : c ≢ d = λ is. apart (sym kb.0.owned ∙ (ap r.owner (sym is) ∙ ka.0.owned)) in record {
         history = r.history;
+        whole = r.whole;
         owner = o;
         next = r.next;
         holder = r.holder;
         value = r.value;
         wide = r.wide;
-        on = r.on;
-        leads = r.leads;
+        many = r.many;
+        run = r.run;
+        ordered = r.ordered;
+        parts = r.parts;
         home = r.home;
-        each_seat = seats_stay K (set s.views id W) other Blank tt (λ j x no e. seats_stay (λ i y. i ≢ other → K i y) s.views id W
+        each_seat = seats_stay K (set s.views id W) other Blank tt (λ j x far e. seats_stay (λ i y. i ≢ other → K i y) s.views id W
             (λ _. (
               record { owned = with_else r.owner d id c ne ∙ ka.0.owned; born = ka.0.born },
               record { owned = with_now r.owner d id; born = kb.0.born },
@@ -285,9 +444,9 @@ module _ {T S : Type 0} (same : T → T → Bool) (content : S → Pairs T → T
               ka.1,
               kb.1,
             ))
-            (λ i y not_me p not_other. other_fits r.owner o r.next r.next r.history r.history r.holder r.holder r.value r.value s.words s.words i (starts_same r.history)
+            (λ i y not_me p not_other. other_fits r.owner o r.next r.next r.history r.history r.whole r.whole r.holder r.holder r.value r.value s.words s.words i (starts_same r.history)
             (λ k h. (record { owned = with_else r.owner d id k (λ is. not_other (sym h.owned ∙ (ap r.owner is ∙ kb.0.owned))) ∙ h.owned; born = h.born }, refl))
-            (λ k _ e f. (e, f, refl, refl)) y (r.each_seat i y p)) j x e no);
+            (λ m z h. h) (λ held h. refl) y (r.each_seat i y p)) j x e far);
         unborn = r.unborn;
       }
 
@@ -300,43 +459,49 @@ module _ {T S : Type 0} (same : T → T → Bool) (content : S → Pairs T → T
     keeps,
     tt,
     looked s r r.owner r.next 0 id cs (Paired c d r.history r.history) (λ j c other h. h) (k.0, k.1, k.2, all c, all d) r.unborn,
-    learned (get_or s.words 0 0) r.history (legal_whole r.history r.value r.on r.leads) k.3 k.4,
+    learned (get_or s.words 0 0) r.history (r.whole, r.run) k.3 k.4,
   )
 
   -- and gives the other back to a seat of its own
-  pub splits_both : (id c d : ℕ) (a b : List (Entry T)) → Splits Rule id (Paired c d a b) (Idle c a) (Idle d b)
-  splits_both id c d a b s r here = let W : D = Idle c a in let end : ℕ = length (set s.views id W) in let o = with_at r.owner d end in
-      let K = Fits shard count o r.next r.history r.holder r.value s.words in let k = r.each_seat id (Paired c d a b) here in record {
+  pub splits_both : (id c d : ℕ) (a b : List (Entry T)) → Splits Rule id (Paired c d a b) (Caller c a [] []) (Caller d b [] [])
+  splits_both id c d a b s r here = let W : D = Caller c a [] [] in let end : ℕ = length (set s.views id W) in let o = with_at r.owner d end in
+      let K = Fits shard count o r.next r.history r.whole r.holder r.value s.words in let k = r.each_seat id (Paired c d a b) here in record {
         history = r.history;
+        whole = r.whole;
         owner = o;
         next = r.next;
         holder = r.holder;
         value = r.value;
         wide = r.wide;
-        on = r.on;
-        leads = r.leads;
+        many = r.many;
+        run = r.run;
+        ordered = r.ordered;
+        parts = r.parts;
         home = r.home;
         each_seat = λ j e p. ⊎_elim
-            (λ h. seats_stay K s.views id W (record { owned = with_else r.owner d end c k.2 ∙ k.0.owned; born = k.0.born }, k.3)
-            (λ i y not_me q. other_fits r.owner o r.next r.next r.history r.history r.holder r.holder r.value r.value s.words s.words i (starts_same r.history)
+            (λ h. seats_stay K s.views id W (record { owned = with_else r.owner d end c k.2 ∙ k.0.owned; born = k.0.born }, k.3, none_held r.whole, λ m z h. none_there m z h)
+            (λ i y not_me q. other_fits r.owner o r.next r.next r.history r.history r.whole r.whole r.holder r.holder r.value r.value s.words s.words i (starts_same r.history)
             (λ m h. (record { owned = with_else r.owner d end m (λ is. not_me (sym h.owned ∙ (ap r.owner is ∙ k.1.owned))) ∙ h.owned; born = h.born }, refl))
-            (λ m _ e f. (e, f, refl, refl)) y (r.each_seat i y q)) j e h)
-            (λ (t : (j ≡ end) × (Idle d b ≡ e)). subst (λ (z : ℕ × D). K z.0 z.1) (λ i. (sym t.0 i, t.1 i)) (record { owned = with_now r.owner d end; born = k.1.born }, k.4))
-            (at_new (set s.views id W) (Idle d b) e j p);
+            (λ m z h. h) (λ held h. refl) y (r.each_seat i y q)) j e h)
+            (λ (t : (j ≡ end) × (Caller d b [] [] ≡ e)). subst (λ (z : ℕ × D). K z.0 z.1) (λ i. (sym t.0 i, t.1 i)) (record { owned = with_now r.owner d end; born = k.1.born }, k.4, none_held r.whole, λ m z h. none_there m z h))
+            (at_new (set s.views id W) (Caller d b [] []) e j p);
         unborn = r.unborn;
       }
 
   -- a seat makes a blank one
   pub cuts : (id : ℕ) (v : D) → Splits Rule id v v Blank
-  cuts id v s r at = let K = Fits shard count r.owner r.next r.history r.holder r.value s.words in record {
+  cuts id v s r at = let K = Fits shard count r.owner r.next r.history r.whole r.holder r.value s.words in record {
     history = r.history;
+    whole = r.whole;
     owner = r.owner;
     next = r.next;
     holder = r.holder;
     value = r.value;
     wide = r.wide;
-    on = r.on;
-    leads = r.leads;
+    many = r.many;
+    run = r.run;
+    ordered = r.ordered;
+    parts = r.parts;
     home = r.home;
     each_seat = λ j e p. ⊎_elim (λ h. seats_stay K s.views id v (r.each_seat id v at) (λ i x _. r.each_seat i x) j e h) (λ (t : (j ≡ length (set s.views id v)) × (Blank ≡ e)). subst (λ (z : D). K j z) t.1 tt)
         (at_new (set s.views id v) Blank e j p);
@@ -348,19 +513,22 @@ module _ {T S : Type 0} (same : T → T → Bool) (content : S → Pairs T → T
   one_seat K k (suc j) v e = absurd (some-ne-none v (sym e))
 
   -- the table at the start: each slot has an empty part of the map
-  pub opens : (ws : List ℕ) (x : S) (xs : List S) → 8 * count ≤ length ws → count ≤ length (x ∷ xs) → All (λ (y : S). content y []) (x ∷ xs)
+  pub opens : (ws : List ℕ) (x : S) (xs : List S) → 8 * count ≤ length ws → length (x ∷ xs) ≡ count → All (λ (y : S). content y []) (x ∷ xs)
       → Rule (opening ws (map (λ (y : S). Some y) (x ∷ xs)) Blank)
   opens ws x xs wide enough empty = record {
     history = [];
+    whole = [];
     owner = λ _. 0;
     next = 0;
     holder = λ _. 0;
     value = λ i. get_or (x ∷ xs) i x;
     wide = wide;
-    on = tt;
-    leads = λ i. record { end = []; run = refl; contains = empty_at (x ∷ xs) x i empty (empty 0 x (omega arith)) };
+    many = length-map (map (λ (y : S). Some y) (x ∷ xs)) some ∙ (length-map (x ∷ xs) (λ (y : S). Some y) ∙ enough);
+    run = refl;
+    ordered = (0, tt);
+    parts = λ i. empty_at (x ∷ xs) x i empty (empty 0 x (omega arith));
     home = λ i lt _. home_at (x ∷ xs) x i (omega (arith, lt, enough));
-    each_seat = one_seat (Fits shard count (λ _. 0) 0 [] (λ _. 0) (λ i. get_or (x ∷ xs) i x) ws) tt;
+    each_seat = one_seat (Fits shard count (λ _. 0) 0 [] [] (λ _. 0) (λ i. get_or (x ∷ xs) i x) ws) tt;
     unborn = λ _ _. refl;
   }
     where

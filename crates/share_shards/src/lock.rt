@@ -1,12 +1,14 @@
 //! The sharded lock, and the seats at its table.
 
-ghost use Rattle.std.specs.Prelude.{◌≡◌, ◌<◌, ◌≤◌, ◌*◌, ℕ, List, [], ◌∷◌, map, Some, None, IfSome, IsTrue, IsFalse, All, length};
+ghost use Rattle.std.specs.Prelude.{◌≡◌, ◌<◌, ◌≤◌, ◌*◌, ◌++◌, ℕ, List, [], ◌∷◌, map, reverse, Option, Some, None, IfOk, IfSome, IsTrue, IsFalse, All, length};
+ghost use Rattle.atomic_table.specs.Table.{rest};
+ghost use Rattle.share_shards.specs.Held.{Visited, numbers, slots_of, values_of};
 ghost use Rattle.share_shards.specs.inner.SeatView.{Blank};
-ghost use Rattle.share_shards.specs.inner.Steps.{Ended, HeldBy, IsIdle, MayRelease, SeesMore, caller_of, seen_of};
+ghost use Rattle.share_shards.specs.inner.Steps.{Appended, HeldBy, Holds, IsIdle, MayAppend, SeesMore, Took, Won, caller_of, held_of, seen_of, without_last};
 
-use crate::rule::{Cut, Done, Enter, Law, Meet, Pair, Release, Sharded, Try};
+use crate::rule::{Append, Cut, Done, Enter, Law, Meet, Pair, Release, Sharded, Try};
 use crate::view::View;
-use crate::work::Work;
+use crate::work::{Visit, Work};
 use atomic_table::{Perch, Seat, Table};
 use spec_map::error::OOMError;
 use std::alloc::Global;
@@ -35,6 +37,7 @@ type Board<T, S> = Table<Option<S>, View<T, S>, (), Law<T, S>, Global>;
 pub struct ShardLock<T, S: Sharded<T>> {
     board: Board<T, S>,
     perch: Perch<Option<S>, View<T, S>>,
+    shards: usize,
 }
 
 impl<T, S: Sharded<T>> Model for ShardLock<T, S> {
@@ -48,32 +51,49 @@ impl<T, S: Sharded<T>> Model for ShardLock<T, S> {
 
     ghost view = { λ l. l.board.shared.table_id };
 
-    ghost invariant = { λ l. (8 * S.count ≤ l.board.shared.table_id.words) × (S.count ≤ l.board.shared.table_id.slots)
-        × (l.perch.table_id ≡ l.board.shared.table_id) × (l.perch.view ≡ Blank) × (0 < S.count) × (S.count ≤ 1024) };
+    ghost invariant = { λ l. (8 * l.board.shared.table_id.slots ≤ l.board.shared.table_id.words)
+        × (l.board.shared.table_id.slots ≤ 1024) × (l.perch.table_id ≡ l.board.shared.table_id)
+        × (l.perch.view ≡ Blank) × (0 < l.board.shared.table_id.slots)
+        × (l.shards ≡ l.board.shared.table_id.slots) };
 }
 
 impl<T, S: Sharded<T> + Drop> ShardLock<T, S> {
-    /// A lock of an empty map, with these words, eight for each shard, and slots. `OOMError` if there is no memory for it.
+    /// A lock of an empty map, with a shard for each slot, and eight words for each shard. `OOMError` if there is no
+    /// memory for it.
     pub fn new(alloc: Global, words: &[u64], slots: Vec<Option<S>>) -> Result<Self, OOMError>
-        requires some { 0 < S.count }
-        requires few { S.count ≤ 1024 }
-        requires words { 8 * S.count ≤ length words.now }
-        requires slots { (parts : List S) × (slots.items ≡ map (λ part. Some part) parts) × (S.count ≤ length parts)
+        requires some { 0 < length slots.items }
+        requires few { length slots.items ≤ 1024 }
+        requires words { 8 * length slots.items ≤ length words.now }
+        requires slots { (parts : List S) × (slots.items ≡ map (λ part. Some part) parts)
             × All (λ part. S.content part []) parts }
+        ensures shards { IfOk result (λ lock. lock.slots ≡ length slots.items) }
     {
+        let shards = slots.len();
         let Ok((board, seat)) = Board::new(alloc, words, slots, &()) else {
             return Err(OOMError::new());
         };
         let perch = Perch::new(&seat, EMPTY);
         match perch.give(seat, EMPTY, RESTING) {
-            Ok(()) => Ok(ShardLock { board, perch }),
+            Ok(()) => Ok(ShardLock {
+                board,
+                perch,
+                shards,
+            }),
             Err(_) => Err(OOMError::new()),
         }
     }
 
+    /// How many shards there are.
+    pub fn shards(&self) -> usize
+        ensures { result ≡ self.now.slots }
+    {
+        self.shards
+    }
+
     /// A seat with a caller of its own, which has seen nothing. `None` if another thread is just being given one.
     pub fn seat(&self) -> Option<LockSeat<T, S>>
-        ensures { IfSome result (λ s. (s.table_id ≡ self.now) × IsIdle s.me × (seen_of s.me.0 ≡ [])) }
+        ensures { IfSome result (λ s. (s.table_id ≡ self.now) × IsIdle s.me
+            × (seen_of s.me.0 ≡ [])) }
     {
         let (_, lent) = self.perch.take(EMPTY);
         let mut base = lent?;
@@ -89,7 +109,8 @@ impl<T, S: Sharded<T> + Drop> ShardLock<T, S> {
         requires idle { IsIdle seat.old.me }
         ensures table { seat.new.table_id ≡ seat.old.table_id }
         ensures same { seat.new.me ≡ seat.old.me }
-        ensures other { (result.table_id ≡ self.now) × IsIdle result.me × (seen_of result.me.0 ≡ []) }
+        ensures other { (result.table_id ≡ self.now) × IsIdle result.me
+            × (seen_of result.me.0 ≡ []) }
     {
         let mut other = self.board.shared.split_seat::<Cut>(seat);
         self.board.shared.load::<Enter>(&mut other, 0);
@@ -115,26 +136,127 @@ impl<T, S: Sharded<T> + Drop> ShardLock<T, S> {
         *b = self.board.shared.split_seat::<Pair>(a);
     }
 
-    /// Does this work at this shard, where its value is stored, if the shard's lock is free at one of so many tries. `false`
-    /// changes nothing.
-    pub fn hold<W: Work<T, S>>(
+    /// Does this work at this shard, where its value is stored, if the shard's lock is free at one of so many tries.
+    /// `false` changes nothing. Clauses see the value that was found.
+    pub fn hold<E, W: Work<T, S, E>>(
         &self,
         shard: usize,
         seat: &mut LockSeat<T, S>,
         work: &mut W,
+        buffer: &mut [E],
         tries: u32,
     ) -> bool
         requires table { seat.old.table_id ≡ self.now }
         requires idle { IsIdle seat.old.me }
-        requires shard { shard ≡ W.place work.old }
-        requires within { shard < S.count }
+        requires suits { W.suits work.old self.now.slots }
+        requires shard { shard ≡ W.place work.old self.now.slots }
+        requires within { shard < self.now.slots }
         ensures table { seat.new.table_id ≡ seat.old.table_id }
-        ensures made { IsTrue result → HeldBy S.same (W.made work.new) seat.old.me seat.new.me }
-        ensures does { IsTrue result → W.does work.old work.new }
-        ensures missed { IsFalse result → (seat.new.me ≡ seat.old.me) × (work.new ≡ work.old) }
+        ensures held { IsTrue result → (found : S)
+            × HeldBy S.same (W.made work.new found) seat.old.me seat.new.me
+            × W.does work.old buffer.old found work.new buffer.new }
+        ensures missed { IsFalse result → (seat.new.me ≡ seat.old.me) × (work.new ≡ work.old)
+            × (buffer.new ≡ buffer.old) }
     {
+        if !self.take_one(shard, seat, tries) {
+            return false;
+        }
+        let Some(value) = seat.slot_mut(&self.board.shared, shard) else {
+            unreachable!()
+        };
+        work.work(value, buffer);
+        self.append::<Brand, _>(shard, seat, work);
+        self.release_one(shard, seat);
+        true
+    }
+
+    /// Takes the locks of these shards, one after another, each at one of so many tries. `false` if one stays taken:
+    /// the others are released, and nothing has changed. Where all threads take shards in ascending order, each once,
+    /// one of them goes on.
+    pub fn take(&self, shards: &[usize], seat: &mut LockSeat<T, S>, tries: u32) -> bool
+        requires table { seat.old.table_id ≡ self.now }
+        requires holds { Holds S.content (S.shard self.now.slots) seat.old.me }
+        requires within { All (λ shard. shard < self.now.slots) shards.now }
+        ensures table { seat.new.table_id ≡ seat.old.table_id }
+        ensures took { IsTrue result
+            → Took S.content (S.shard self.now.slots) shards.now seat.old.me seat.new.me }
+        ensures missed { IsFalse result → seat.new.me ≡ seat.old.me }
+    {
+        let Some((first, others)) = shards.split_first() else {
+            return true;
+        };
+        if !self.take_one(*first, seat, tries) {
+            return false;
+        }
+        if self.take(others, seat, tries) {
+            return true;
+        }
+        self.release_one(*first, seat);
+        false
+    }
+
+    /// Visits each of these shards, which the seat holds, the last that was taken first.
+    pub fn each<E, V: Visit<S, E>>(
+        &self,
+        shards: &[usize],
+        seat: &mut LockSeat<T, S>,
+        visit: &mut V,
+        buffer: &mut [E],
+    )
+        requires table { seat.old.table_id ≡ self.now }
+        requires slots { (held : List (ℕ × S)) × (others : List (ℕ × Option S))
+            × (seat.old.me.1 ≡ slots_of held ++ others) × (numbers held ≡ reverse shards.now) }
+        ensures table { seat.new.table_id ≡ seat.old.table_id }
+        ensures view { seat.new.me.0 ≡ seat.old.me.0 }
+        ensures visited { (held : List (ℕ × S)) (others : List (ℕ × Option S))
+            → seat.old.me.1 ≡ slots_of held ++ others → numbers held ≡ reverse shards.now
+            → (values : List (ℕ × S)) × (seat.new.me.1 ≡ others ++ slots_of values)
+            × Visited V.does visit.old buffer.old held visit.new buffer.new values }
+    {
+        let Some((last, others)) = shards.split_last() else {
+            return;
+        };
+        let Some(value) = seat.slot_mut(&self.board.shared, *last) else {
+            unreachable!()
+        };
+        visit.visit(*last, value, buffer);
+        seat.turn();
+        self.each::<E, V>(others, seat, visit, buffer);
+    }
+
+    /// Appends to the history what the call picks as done by this work, and releases the locks of these shards, which
+    /// are all that the seat holds.
+    pub fn release<D: Done<T>, W>(&self, shards: &[usize], seat: &mut LockSeat<T, S>, work: &W)
+        requires table { seat.old.table_id ≡ self.now }
+        requires shards { numbers (held_of seat.old.me.0) ≡ reverse shards.now }
+        requires within { All (λ shard. shard < self.now.slots) shards.now }
+        requires may { MayAppend S.same S.content (S.shard self.now.slots) D.operations seat.old.me
+            (held_of seat.old.me.0) (values_of seat.old.me.1) }
+        ensures table { seat.new.table_id ≡ seat.old.table_id }
+        ensures held { HeldBy S.same D.operations seat.old.me seat.new.me }
+    {
+        // For the checker: that there is a shard.
+        let _ = &self.board;
+        self.append::<D, W>(0, seat, work);
+        self.release_all(shards, seat);
+    }
+
+    // Takes the lock of one more shard, if it is free at one of so many tries.
+    fn take_one(&self, shard: usize, seat: &mut LockSeat<T, S>, tries: u32) -> bool
+        requires table { seat.old.table_id ≡ self.now }
+        requires holds { Holds S.content (S.shard self.now.slots) seat.old.me }
+        requires within { shard < self.now.slots }
+        ensures table { seat.new.table_id ≡ seat.old.table_id }
+        ensures won { IsTrue result
+            → Won S.content (S.shard self.now.slots) shard seat.old.me seat.new.me }
+        ensures missed { IsFalse result → seat.new.me ≡ seat.old.me }
+    {
+        let table = &self.board.shared;
+        let word = 8 * shard;
         for _ in 0..tries {
-            if self.hold_once::<W>(shard, seat, work) {
+            if table.peek(word) == FREE
+                && table.compare_exchange::<Try>(seat, word, FREE, TAKEN) == FREE
+            {
                 return true;
             }
             spin_loop();
@@ -142,47 +264,49 @@ impl<T, S: Sharded<T> + Drop> ShardLock<T, S> {
         false
     }
 
-    // Does this work at this shard, if the shard's lock is free now.
-    fn hold_once<W: Work<T, S>>(
-        &self,
-        shard: usize,
-        seat: &mut LockSeat<T, S>,
-        work: &mut W,
-    ) -> bool
+    // Appends to the history what the call picks as done by this work, by a look at the word of this shard.
+    fn append<D: Done<T>, W>(&self, shard: usize, seat: &mut LockSeat<T, S>, work: &W)
         requires table { seat.old.table_id ≡ self.now }
-        requires idle { IsIdle seat.old.me }
-        requires shard { shard ≡ W.place work.old }
-        requires within { shard < S.count }
+        requires within { shard < self.now.slots }
+        requires may { (held : List (ℕ × S)) × (values : List (ℕ × S))
+            × MayAppend S.same S.content (S.shard self.now.slots) D.operations seat.old.me
+            held values }
         ensures table { seat.new.table_id ≡ seat.old.table_id }
-        ensures made { IsTrue result → HeldBy S.same (W.made work.new) seat.old.me seat.new.me }
-        ensures does { IsTrue result → W.does work.old work.new }
-        ensures missed { IsFalse result → (seat.new.me ≡ seat.old.me) × (work.new ≡ work.old) }
-    {
-        let table = &self.board.shared;
-        let word = 8 * shard;
-        if table.peek(word) != FREE {
-            return false;
-        }
-        if table.compare_exchange::<Try>(seat, word, FREE, TAKEN) != FREE {
-            return false;
-        }
-        let Some(value) = seat.slot_mut(table, shard) else {
-            unreachable!()
-        };
-        work.work(value);
-        self.free::<Brand, _>(shard, seat, work);
-        true
-    }
-
-    // Frees the lock of a shard, after what the call picks as done by this work.
-    fn free<D: Done<T>, W>(&self, shard: usize, seat: &mut LockSeat<T, S>, work: &W)
-        requires table { seat.old.table_id ≡ self.now }
-        requires within { shard < S.count }
-        requires may { (value : S) × MayRelease S.same D.operations S.content S.shard shard seat.old.me value }
-        ensures table { seat.new.table_id ≡ seat.old.table_id }
-        ensures ended { Ended S.same D.operations (caller_of seat.old.me.0) (seen_of seat.old.me.0) [] seat.new.me }
+        ensures appended { Appended S.same S.content (S.shard self.now.slots) D.operations
+            seat.old.me (values_of seat.old.me.1) seat.new.me }
     {
         let _ = work;
-        self.board.shared.swap::<Release<D>>(seat, 8 * shard, FREE);
+        self.board.shared.load::<Append<D>>(seat, 8 * shard);
+    }
+
+    // Releases the lock of the shard that was taken last.
+    fn release_one(&self, shard: usize, seat: &mut LockSeat<T, S>)
+        requires table { seat.old.table_id ≡ self.now }
+        requires holds { Holds S.content (S.shard self.now.slots) seat.old.me }
+        requires last { (others : List ℕ) × (numbers (held_of seat.old.me.0) ≡ shard ∷ others) }
+        requires within { shard < self.now.slots }
+        ensures table { seat.new.table_id ≡ seat.old.table_id }
+        ensures released { seat.new.me
+            ≡ (without_last (S.shard self.now.slots) seat.old.me.0, rest seat.old.me.1) }
+    {
+        self.board.shared.swap::<Release>(seat, 8 * shard, FREE);
+    }
+
+    // Releases the locks of these shards, which are all that the seat holds.
+    fn release_all(&self, shards: &[usize], seat: &mut LockSeat<T, S>)
+        requires table { seat.old.table_id ≡ self.now }
+        requires holds { Holds S.content (S.shard self.now.slots) seat.old.me }
+        requires shards { numbers (held_of seat.old.me.0) ≡ reverse shards.now }
+        requires within { All (λ shard. shard < self.now.slots) shards.now }
+        ensures table { seat.new.table_id ≡ seat.old.table_id }
+        ensures idle { IsIdle seat.new.me }
+        ensures caller { caller_of seat.new.me.0 ≡ caller_of seat.old.me.0 }
+        ensures seen { seen_of seat.new.me.0 ≡ seen_of seat.old.me.0 }
+    {
+        let Some((last, others)) = shards.split_last() else {
+            return;
+        };
+        self.release_one(*last, seat);
+        self.release_all(others, seat);
     }
 }

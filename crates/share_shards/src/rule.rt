@@ -14,11 +14,8 @@ pub trait Sharded<T> {
     // What it contains.
     ghost content: { Self → Pairs T → Type 0 };
 
-    // The shard of a key.
-    ghost shard: { ℕ → ℕ };
-
-    // How many shards there are.
-    ghost count: { ℕ };
+    // The shard of a key, where there are so many of them.
+    ghost shard: { ℕ → ℕ → ℕ };
 }
 
 /// The rule of the lock.
@@ -27,10 +24,10 @@ pub struct Law<T, S> {
 }
 
 impl<T, S: Sharded<T>> TableRule<Option<S>, View<T, S>, ()> for Law<T, S> {
-    ghost use Rattle.share_shards.specs.inner.Rule.{ShardRule};
+    ghost use Rattle.share_shards.specs.inner.Rule.{TableRule};
     ghost use Rattle.share_shards.specs.inner.SeatView.{Blank};
 
-    ghost holds = { λ _. ShardRule S.same S.content S.shard S.count };
+    ghost holds = { λ _. TableRule S.same S.content S.shard };
 
     ghost first = { λ _. Blank };
 }
@@ -41,7 +38,7 @@ pub struct Try;
 impl<T, S: Sharded<T>> Play<Option<S>, View<T, S>> for Try {
     ghost use Rattle.share_shards.specs.inner.Steps.{Tries};
 
-    ghost then = { Tries S.same S.content };
+    ghost then = { λ step. Tries S.content (S.shard step.slots) step };
 }
 
 /// What a hold has done: the operations that were made in it, in order.
@@ -58,15 +55,24 @@ impl<T> Done<T> for Brand {
     ghost operations = { [] };
 }
 
-/// The lock of a shard is released after a hold.
-pub struct Release<D> {
+/// The operations of a hold are appended to the history.
+pub struct Append<D> {
     of: PhantomData<D>,
 }
 
-impl<T, S: Sharded<T>, D: Done<T>> Play<Option<S>, View<T, S>> for Release<D> {
+impl<T, S: Sharded<T>, D: Done<T>> Play<Option<S>, View<T, S>> for Append<D> {
+    ghost use Rattle.share_shards.specs.inner.Steps.{Appends};
+
+    ghost then = { λ step. Appends S.same S.content (S.shard step.slots) D.operations step };
+}
+
+/// The lock of the shard that was taken last is released.
+pub struct Release;
+
+impl<T, S: Sharded<T>> Play<Option<S>, View<T, S>> for Release {
     ghost use Rattle.share_shards.specs.inner.Steps.{Releases};
 
-    ghost then = { Releases S.same D.operations };
+    ghost then = { λ step. Releases (S.shard step.slots) step };
 }
 
 /// A blank seat gets a caller of its own.
