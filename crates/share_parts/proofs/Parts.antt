@@ -1,11 +1,11 @@
 -- A call that some keys determine does on the whole map what it does on the pairs with these keys.
 use Rattle.std.proofs.Common.{◌≡◌, ◌≢◌, ℕ, ◌+◌, ◌<◌, ◌≤◌, Bool, true, false, cond, eqb, List, [], ◌∷◌, Option, Some, None, refl, sym, ap, subst, ◌∙◌, inl, inr, arith}
 use Rattle.std.specs.Prelude.{Result, Ok, Err, take, nat_le, nat_lt, ◌&&◌}
-use Rattle.std.proofs.lemmas.Bool.{cases_eq, cases_lt, cases_Bool, cond-false, lt-leb, le-ltb, and_left, and_right, true≢false, false_from_ne_true}
-use Rattle.spec_map.proofs.MapLaws.{lookup-next, lookup-put_same, lookup-put_other, lookup-without_same, lookup-without_other, Rises-wider, same_from_lookups}
+use Rattle.std.proofs.lemmas.Bool.{cases_eq, cases_lt, cases_Bool, lt-leb, le-ltb, and_left, and_right, true≢false, false_from_ne_true}
+use Rattle.spec_map.proofs.MapLaws.{lookup-next, Rises-wider, same_from_lookups}
 use Rattle.spec_map.specs.Call.{Call, get, insert, remove, compare_exchange, compute_if_present, compute_or_insert, is_empty, keys, range, nearest, count, ClosureCall, Answer, replied, refused, ranged, Operation}
 use Rattle.spec_map.specs.Legal.{IsLegal, MayAnswer, exchange, after_exchange, after_asking, after_operation, after_answer}
-use Rattle.spec_map.specs.Map.{Pairs, lookup, put, without, with_answer, between, Rises}
+use Rattle.spec_map.specs.Map.{Pairs, lookup, with_answer, between, Rises}
 use Rattle.spec_map.specs.Refusal.{never}
 use Rattle.share_parts.specs.Parts.{kept, Ascends, IsWithin, AreWithin, AreApart, RunsOnWhole}
 use Rattle.share_parts.proofs.Shards.{ascends_answer, ascends_after, allows_same, answer_at, other_answer}

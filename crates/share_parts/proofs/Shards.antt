@@ -2,7 +2,7 @@
 use Rattle.std.proofs.Common.{◌≡◌, ◌≢◌, ℕ, ◌+◌, Bool, cond, eqb, List, [], ◌∷◌, Option, Some, None, refl, sym, ap, subst, ◌∙◌, inl, inr, arith}
 use Rattle.std.specs.Prelude.{Result, Ok, Err}
 use Rattle.std.proofs.lemmas.Bool.{cases_eq, eq-eqb, ne_eqb}
-use Rattle.spec_map.specs.Map.{Pairs, lookup, put, with_answer, Rises}
+use Rattle.spec_map.specs.Map.{Pairs, lookup, put, with_answer}
 use Rattle.spec_map.specs.Call.{Call, get, insert, remove, compare_exchange, compute_if_present, compute_or_insert, is_empty, keys, range, nearest, count, ClosureCall, Answer, replied, refused, old_value, exchanged}
 use Rattle.spec_map.specs.Legal.{IsLegal, MayAnswer, CallsIfPresent, CallsAlways, exchange, after_exchange, after_asking, after_operation, after_answer}
 use Rattle.spec_map.specs.Refusal.{never}

@@ -1,5 +1,5 @@
 -- What a seat knows while it holds shards, and after it.
-use Rattle.std.proofs.Common.{◌≡◌, ◌≢◌, ◌<◌, ℕ, zero, suc, All, Bool, true, false, true≢false, cond, eqb, List, [], ◌∷◌, ◌++◌, reverse, length, get_or, drop, refl, sym, ap, ◌∙◌, subst, inl, inr, append_assoc, eq-eqb, ne_eqb, arith}
+use Rattle.std.proofs.Common.{◌≡◌, ◌≢◌, ◌<◌, ℕ, zero, suc, All, Bool, true, false, true≢false, cond, List, [], ◌∷◌, ◌++◌, reverse, length, get_or, drop, refl, sym, ap, ◌∙◌, subst, inl, inr, append_assoc, eq-eqb, ne_eqb, arith}
 use Rattle.std.proofs.lemmas.Bool.{cases_eq, eqb-true}
 use Rattle.std.proofs.lemmas.List.{reverse-append}
 use Rattle.std.specs.Prelude.{Option, Some, None, IsFalse}
@@ -11,9 +11,9 @@ use Rattle.share_rule.specs.inner.Hold.{StepsBy}
 use Rattle.share_rule.specs.inner.Steps.{seen_after}
 use Rattle.share_rule.proofs.Keeps.{entries-append}
 use Rattle.share_rule.proofs.Moves.{own_all}
-use Rattle.share_shards.specs.Held.{is_in, keys_at, keys_of, numbers, slots_of, values_of, AreDistinct, Contain, Visited}
+use Rattle.share_shards.specs.Held.{is_in, keys_at, keys_of, numbers, slots_of, values_of, AreDistinct, Visited}
 use Rattle.share_shards.specs.inner.SeatView.{ShardView, Caller}
-use Rattle.share_shards.specs.inner.Steps.{caller_of, seen_of, pairs_of, held_of, own_of, seat_with, IsIdle, HeldBy, Holds, Took, Won, MayAppend, Appended, operations_at, without_last}
+use Rattle.share_shards.specs.inner.Steps.{caller_of, seen_of, pairs_of, held_of, seat_with, IsIdle, HeldBy, Holds, Took, Won, MayAppend, Appended, operations_at, without_last}
 use Rattle.share_shards.proofs.Lists.{at_here, at_next, found_in, unsome}
 use Rattle.spec_map.specs.Call.{Operation}
 use Rattle.spec_map.specs.Map.{Pairs, lookup}
@@ -261,6 +261,10 @@ module _ {T S : Type 0} (same : T → T → Bool) (content : S → Pairs T → T
         seen = is_seen ∙ ap (λ (l : List (Entry T)). l ++ es) e.fit.begins.1;
         own = (λ i. entries_of (is_caller i) (is_seen i)) ∙ (entries-append c e.history es ∙ (λ i. e.fit.own i ++ own_all c (x ∷ xs) i));
       }
+
+  pub held_idle : (operations : List (Operation ℕ T T)) (m n : U) → HeldBy same operations m n → IsIdle n
+  held_idle [] m n h = h.idle
+  held_idle (x ∷ xs) m n h = h.idle
 
   -- the same from a seat before, which knew the same
   pub held_from : (operations : List (Operation ℕ T T)) (m a n : U) → caller_of a.0 ≡ caller_of m.0 → seen_of a.0 ≡ seen_of m.0 → HeldBy same operations a n → HeldBy same operations m n

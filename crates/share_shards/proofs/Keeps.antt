@@ -8,9 +8,9 @@ use mathlib.Core.Option.{none, some, some-injective, some-ne-none}
 use native.Mathlib.Decide.{ℕ_discrete}
 use lib.ListN.{get_elem?}
 use prog.Atomic.{either}
-use Rattle.atomic_table.specs.Table.{State, Me, Step, step, keeps, takes, gives, stepped, Allows, Splits, Joins, opening}
+use Rattle.atomic_table.specs.Table.{State, Me, step, keeps, takes, gives, stepped, Allows, Splits, Joins, opening}
 use Rattle.atomic_table.proofs.Lists.{at_set, set_here, set_else}
-use Rattle.share_parts.specs.Parts.{kept, Ascends, AreApart, AreWithin, RunsOnWhole}
+use Rattle.share_parts.specs.Parts.{kept, Ascends, AreApart, RunsOnWhole}
 use Rattle.share_parts.proofs.Parts.{ascends_kept, kept-kept, kept-none, part_runs}
 use Rattle.share_rule.specs.History.{Entry, StartsWith, entry, entries_by, entries_of, IsLegalHistory}
 use Rattle.share_rule.specs.inner.Hold.{StepsBy}
@@ -18,7 +18,7 @@ use Rattle.share_rule.specs.inner.Rule.{HasSeen, Owns}
 use Rattle.share_rule.specs.inner.Steps.{seen_after}
 use Rattle.share_rule.proofs.Holds.{history_on}
 use Rattle.share_rule.proofs.Keeps.{entries-append}
-use Rattle.share_shards.specs.Held.{is_in, keys_at, keys_of, numbers, slots_of}
+use Rattle.share_shards.specs.Held.{is_in, keys_at, keys_of, numbers}
 use Rattle.share_shards.specs.inner.SeatView.{ShardView, Blank, Caller, Paired}
 use Rattle.share_shards.specs.inner.Rule.{Fits, IsHeld, ShardRule}
 use Rattle.share_shards.specs.inner.Steps.{Tries, Won, MayAppend, Appended}

@@ -4,7 +4,7 @@ use Rattle.std.proofs.lemmas.List.{length-map}
 use Rattle.std.specs.Prelude.{Option, Some, IsFalse}
 use mathlib.Core.Option.{none}
 use prog.Atomic.{either}
-use Rattle.atomic_table.specs.Table.{State, Me, Step, step, rest, opening, Allows, Splits, Joins}
+use Rattle.atomic_table.specs.Table.{State, Me, Step, step, opening, Allows, Splits, Joins}
 use Rattle.share_rule.specs.History.{Entry, IsLegalHistory}
 use Rattle.share_rule.specs.inner.Rule.{HasSeen}
 use Rattle.share_shards.specs.Held.{is_in, numbers, slots_of}

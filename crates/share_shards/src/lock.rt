@@ -1,4 +1,6 @@
 //! The sharded lock, and the seats at its table.
+//!
+//! Tested in `test_share_shards`.
 
 ghost use Rattle.std.specs.Prelude.{◌≡◌, ◌<◌, ◌≤◌, ◌*◌, ◌++◌, ℕ, List, [], ◌∷◌, map, reverse, Option, Some, None, IfOk, IfSome, IsTrue, IsFalse, All, length};
 ghost use Rattle.atomic_table.specs.Table.{rest};
@@ -157,6 +159,7 @@ impl<T, S: Sharded<T> + Drop> ShardLock<T, S> {
             × W.does work.old buffer.old found work.new buffer.new }
         ensures missed { IsFalse result → (seat.new.me ≡ seat.old.me) × (work.new ≡ work.old)
             × (buffer.new ≡ buffer.old) }
+        ensures idle { IsIdle seat.new.me }
     {
         if !self.take_one(shard, seat, tries) {
             return false;
@@ -234,6 +237,7 @@ impl<T, S: Sharded<T> + Drop> ShardLock<T, S> {
             (held_of seat.old.me.0) (values_of seat.old.me.1) }
         ensures table { seat.new.table_id ≡ seat.old.table_id }
         ensures held { HeldBy S.same D.operations seat.old.me seat.new.me }
+        ensures idle { IsIdle seat.new.me }
     {
         // For the checker: that there is a shard.
         let _ = &self.board;

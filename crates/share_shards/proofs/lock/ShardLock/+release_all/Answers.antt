@@ -1,5 +1,4 @@
-use Rattle.std.proofs.Common.{◌≡◌, ◌∙◌, ◌<◌, ◌++◌, ℕ, List, reverse, rules, refl, sym, ap, subst}
-use Rattle.std.specs.Prelude.{Option}
+use Rattle.std.proofs.Common.{◌∙◌, ℕ, List, reverse, rules, ap}
 use Rattle.share_shards.specs.Held.{numbers}
 use Rattle.share_shards.specs.inner.Steps.{held_of}
 use Rattle.share_shards.proofs.Holding.{all_front, empty_of, holds_less, holds_none, last_of_reverse}

@@ -1,11 +1,11 @@
-use Rattle.std.proofs.Common.{◌≡◌, ◌∙◌, ◌*◌, ℕ, ap, eqb, refl, sym, subst, arith}
+use Rattle.std.proofs.Common.{◌≡◌, ◌∙◌, ◌*◌, ℕ, ap, eqb, sym, subst, arith}
 use Rattle.std.specs.Prelude.{Option}
 use mathlib.Core.Option.{none}
 use prog.Atomic.{either}
 use Rattle.atomic_table.specs.Table.{Allows, Me, step}
 use Rattle.share_shards.specs.inner.Rule.{TableRule}
 use Rattle.share_shards.specs.inner.SeatView.{ShardView}
-use Rattle.share_shards.specs.inner.Steps.{Holds, Tries, Won}
+use Rattle.share_shards.specs.inner.Steps.{Holds, Tries}
 use Rattle.share_shards.proofs.Holding.{caller_is}
 use Rattle.share_shards.proofs.Moves.{may_try, taken_shut}
 use Rattle.share_shards.proofs.lock.ShardLock.take_one.Goals as goal

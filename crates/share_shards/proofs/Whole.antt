@@ -1,0 +1,116 @@
+-- What visits of all shards that are held come to.
+use Rattle.std.proofs.Common.{◌≡◌, ℕ, ◌+◌, Bool, true, false, true≢false, cond, List, [], ◌∷◌, ◌++◌, reverse, append-nil, length, refl, sym, ap, ◌∙◌, subst, inl, inr, arith, eqb, eq-eqb, ne_eqb}
+use Rattle.std.proofs.lemmas.Bool.{cases_eq, cases_Bool}
+use Rattle.std.specs.Prelude.{Option, Some, None}
+use Rattle.atomic_table.specs.Table.{Me}
+use Rattle.share_parts.specs.Parts.{kept, AreWithin}
+use Rattle.share_rule.specs.inner.Hold.{StepsBy}
+use Rattle.share_shards.specs.Held.{is_in, keys_at, keys_of, numbers, slots_of, values_of, AreDistinct, Visited}
+use Rattle.share_shards.specs.inner.SeatView.{ShardView, Caller}
+use Rattle.share_shards.specs.inner.Steps.{IsIdle, MayAppend, Took, caller_of, held_of, pairs_of, seen_of}
+use Rattle.share_shards.proofs.Lists.{at_here, at_next, found_in, unsome, values-slots}
+use Rattle.spec_map.specs.Call.{Operation}
+use Rattle.spec_map.specs.Map.{Pairs, lookup}
+
+-- visits that leave each value as it was leave all
+pub visited_same : {V E S : Type 0} (does : V → List E → ℕ → S → V → List E → S → Type 0)
+    → ((v : V) (b : List E) (i : ℕ) (x : S) (w : V) (a : List E) (y : S) → does v b i x w a y → y ≡ x)
+    → (v w : V) (before after : List E) (held values : List (ℕ × S)) → Visited does v before held w after values → values ≡ held
+visited_same does same v w before after [] [] h = refl
+visited_same {V} {E} {S} does same v w before after (h ∷ held) (k ∷ values) t =
+    let y = same v before h.0 h.1 t.1 t.2 k.1 t.3 in
+    let rest = visited_same does same t.1 w t.2 after held values t.4 in
+    λ i. (t.0 i, y i) ∷ rest i
+visited_same does same v w before after [] (k ∷ values) h = absurd h
+visited_same does same v w before after (h ∷ held) [] t = absurd t
+
+-- each shard is as it was, but for its value, which has what each visit gives it
+pub visited_numbers : {V E S : Type 0} (does : V → List E → ℕ → S → V → List E → S → Type 0)
+    → (v w : V) (before after : List E) (held values : List (ℕ × S)) → Visited does v before held w after values → numbers values ≡ numbers held
+visited_numbers does v w before after [] [] h = refl
+visited_numbers does v w before after (h ∷ held) (k ∷ values) t =
+    let rest = visited_numbers does t.1 w t.2 after held values t.4 in λ i. t.0 i ∷ rest i
+visited_numbers does v w before after [] (k ∷ values) h = absurd h
+visited_numbers does v w before after (h ∷ held) [] t = absurd t
+
+pub visited_all : {V E S : Type 0} (does : V → List E → ℕ → S → V → List E → S → Type 0) (P : S → Type 0)
+    → ((v : V) (b : List E) (i : ℕ) (x : S) (w : V) (a : List E) (y : S) → does v b i x w a y → P y)
+    → (v w : V) (before after : List E) (held values : List (ℕ × S)) → Visited does v before held w after values → (i : ℕ) (y : S) → lookup values i ≡ Some y → P y
+visited_all {V} {E} {S} does P each v w before after [] [] t i y e = absurd (let clash : ◌≡◌ {A = Option S} None (Some y) = e in cc)
+visited_all {V} {E} {S} does P each v w before after (h ∷ held) (k ∷ values) t i y e =
+    elim (cases_eq k.0 i) [
+      | inl at ↦ subst P (unsome k.1 y (sym (at_here k.0 i k.1 values at) ∙ e)) (each v before h.0 h.1 t.1 t.2 k.1 t.3)
+      | inr ne ↦ visited_all does P each t.1 w t.2 after held values t.4 i y (sym (at_next k.0 i k.1 values ne) ∙ e)
+    ]
+visited_all does P each v w before after [] (k ∷ values) h i y e = absurd h
+visited_all does P each v w before after (h ∷ held) [] t i y e = absurd t
+
+-- the sum of the sizes of all that are held
+abbrev pub sum_sizes : {S : Type 0} → (S → ℕ) → List (ℕ × S) → ℕ
+sum_sizes size [] = 0
+sum_sizes size (h ∷ held) = size h.1 + sum_sizes size held
+
+module _ {T : Type 0} (shard : ℕ → ℕ) where
+  none_of : (m : Pairs T) → length (kept (keys_of shard []) m) ≡ 0
+  none_of [] = refl
+  none_of (e ∷ es) = none_of es
+
+  -- one shard more has its own pairs more
+  one_more : (i : ℕ) (ns : List ℕ) → is_in ns i ≡ false → (m : Pairs T) → length (kept (keys_of shard (i ∷ ns)) m) ≡ length (kept (keys_at shard i) m) + length (kept (keys_of shard ns) m)
+  one_more i ns new [] = refl
+  one_more i ns new (e ∷ es) =
+      let rest : length (kept (keys_of shard (i ∷ ns)) es) ≡ length (kept (keys_at shard i) es) + length (kept (keys_of shard ns) es) = one_more i ns new es in
+      elim (cases_eq (shard e.0) i) [
+        | inl is ↦
+            let all : is_in (i ∷ ns) (shard e.0) ≡ true = ap (λ (b : Bool). cond b true (is_in ns (shard e.0))) (eq-eqb i (shard e.0) (sym is)) in
+            let here : eqb (shard e.0) i ≡ true = eq-eqb (shard e.0) i is in
+            let gone : is_in ns (shard e.0) ≡ false = ap (λ (k : ℕ). is_in ns k) is ∙ new in
+            rw (all, here, gone) (omega (arith, rest))
+        | inr ne ↦
+            let here : eqb (shard e.0) i ≡ false = ne_eqb (shard e.0) i ne in
+            let all : is_in (i ∷ ns) (shard e.0) ≡ is_in ns (shard e.0) = ap (λ (b : Bool). cond b true (is_in ns (shard e.0))) (ne_eqb i (shard e.0) (λ at. ne (sym at))) in
+            elim (cases_Bool (is_in ns (shard e.0))) [
+              | inl there ↦ rw (all, here, there) (omega (arith, rest))
+              | inr gone ↦ rw (all, here, gone) rest
+            ]
+      ]
+
+  -- the pairs of all shards that are held are as many as those of each
+  pub parts_count : {S : Type 0} (size : S → ℕ) (m : Pairs T) (held : List (ℕ × S)) → AreDistinct (numbers held) → ((i : ℕ) (x : S) → lookup held i ≡ Some x → length (kept (keys_at shard i) m) ≡ size x)
+      → length (kept (keys_of shard (numbers held)) m) ≡ sum_sizes size held
+  parts_count size m [] distinct sizes = none_of m
+  parts_count size m (h ∷ held) distinct sizes =
+      let first : length (kept (keys_at shard h.0) m) ≡ size h.1 = sizes h.0 h.1 (at_here h.0 h.0 h.1 held refl) in
+      let rest : length (kept (keys_of shard (numbers held)) m) ≡ sum_sizes size held = parts_count size m held distinct.1 (λ i x e.
+      sizes i x (at_next h.0 i h.1 held (λ at. true≢false (sym (found_in held i x e) ∙ (ap (λ (k : ℕ). is_in (numbers held) k) (sym at) ∙ distinct.0))) ∙ e)) in
+      one_more h.0 (numbers held) distinct.0 m ∙ omega (arith, first, rest)
+
+-- A hold of these shards, from its start to its end
+module _ {T S : Type 0} (content : S → Pairs T → Type 0) (shard : ℕ → ℕ) (shards : List ℕ) (m m1 : Me (Option S) (ShardView T S)) (idle : IsIdle m) (took : Took content shard shards m m1) where
+  abbrev held : List (ℕ × S)
+  held = held_of m1.0
+
+  pub took_all : numbers held ≡ reverse shards
+  took_all = took.taken ∙ (ap (λ (z : Me (Option S) (ShardView T S)). reverse shards ++ numbers (held_of z.0)) idle ∙ append-nil (reverse shards))
+
+  pub took_slots : m1.1 ≡ slots_of held ++ []
+  took_slots = ap (λ (z : Me (Option S) (ShardView T S)). z.1) took.holds.is ∙ sym (append-nil (slots_of held))
+
+  -- with other values in the slots: what may be appended then
+  pub may_all : (same : T → T → Bool) (operations : List (Operation ℕ T T)) (m2 : Me (Option S) (ShardView T S)) (values : List (ℕ × S)) (end : Pairs T)
+      → m2.0 ≡ m1.0 → m2.1 ≡ slots_of values → numbers values ≡ numbers held → AreWithin (keys_of shard (numbers held)) operations → StepsBy same operations (pairs_of m1.0) end
+      → ((i : ℕ) (value : S) → lookup values i ≡ Some value → content value (kept (keys_at shard i) end))
+      → MayAppend same content shard operations m2 (held_of m2.0) (values_of m2.1)
+  may_all same operations m2 values end view slots alike within goes parts =
+      let view_is : m1.0 ≡ Caller (caller_of m1.0) (seen_of m1.0) (pairs_of m1.0) held = ap (λ (z : Me (Option S) (ShardView T S)). z.0) took.holds.is in
+      let P : ShardView T S × List (ℕ × Option S) → Type 0 = λ z. MayAppend same content shard operations z (held_of z.0) (values_of z.1) in
+      subst P (λ i. (sym view i, sym slots i))
+      (subst (λ (l : List (ℕ × S)). MayAppend same content shard operations (m1.0, slots_of values) held l) (sym (values-slots values)) (record {
+        end = end;
+        is = λ i. (view_is i, slots_of values);
+        alike = alike;
+        distinct = took.holds.distinct;
+        within = within;
+        goes = goes;
+        parts = parts;
+      }))

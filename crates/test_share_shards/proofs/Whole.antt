@@ -1,0 +1,69 @@
+-- What the calls on the whole map make of it.
+use Rattle.std.proofs.Common.{◌≡◌, ℕ, zero, suc, ◌+◌, ◌<◌, ◌≤◌, ◌%◌, ◌^◌, Bool, true, cond, All, List, [], ◌∷◌, length, refl, sym, ap, subst, ◌∙◌, eq-eqb, arith}
+use Rattle.std.specs.Prelude.{Option, Some, None, IsTrue}
+use Rattle.std.proofs.lemmas.List.{length-map}
+use Rattle.share_parts.specs.Parts.{AreWithin}
+use Rattle.share_rule.specs.inner.Hold.{StepsBy}
+use Rattle.share_shards.specs.Held.{is_in, keys_of, numbers, Visited}
+use Rattle.share_shards.proofs.Whole.{sum_sizes}
+use Rattle.spec_map.specs.Call.{old_value}
+use Rattle.spec_map.specs.Map.{Pairs, lookup, without}
+use Rattle.test_share_shards.specs.Cells.{cell_pairs, removals, same, shard_of}
+use Rattle.test_share_shards.specs.declared.cells.Cell.{Cell}
+
+-- four shards have all keys
+pub in_four : (n : ℕ) → n < 4 → is_in (3 ∷ 2 ∷ 1 ∷ 0 ∷ []) n ≡ true
+in_four zero lt = refl
+in_four (suc zero) lt = refl
+in_four (suc (suc zero)) lt = refl
+in_four (suc (suc (suc zero))) lt = refl
+in_four (suc (suc (suc (suc n)))) lt = absurd (omega (arith, lt))
+
+pub all_keys : (shards : ℕ) (ns : List ℕ) → shards ≡ 4 → ns ≡ 3 ∷ 2 ∷ 1 ∷ 0 ∷ [] → (k : ℕ) → IsTrue (keys_of (shard_of shards) ns k)
+all_keys shards ns four is k =
+    subst (λ (z : ℕ × List ℕ). is_in z.1 (k % z.0) ≡ true) (λ i. (sym four i, sym is i)) (in_four (k % 4) (omega arith))
+
+-- after these removals no pair is left
+pub removed_all : (es : Pairs ℕ) → StepsBy same (removals es) es []
+removed_all [] = refl
+removed_all (e ∷ es) =
+    let here = eq-eqb e.0 e.0 refl in (
+      (refl, ap (λ (b : Bool). old_value (cond b (Some e.1) (lookup es e.0))) (sym here)),
+      subst (λ (z : Pairs ℕ). StepsBy same (removals es) z []) (ap (λ (b : Bool). cond b es (e ∷ without es e.0)) (sym here)) (removed_all es),
+    )
+
+-- a tally that is below 2 to the 64 at its end counts each
+pub tallied : {V E S : Type 0} (does : V → List E → ℕ → S → V → List E → S → Type 0) (tally : V → ℕ) (size : S → ℕ)
+    → ((v : V) (b : List E) (i : ℕ) (x : S) (w : V) (a : List E) (y : S) → does v b i x w a y → tally v + size x < 2 ^ 64 → tally w ≡ tally v + size x)
+    → (v w : V) (before after : List E) (held values : List (ℕ × S)) → Visited does v before held w after values → tally v + sum_sizes size held < 2 ^ 64 → tally w ≡ tally v + sum_sizes size held
+tallied does tally size each v w before after [] [] h small = ap tally h.0 ∙ omega arith
+tallied {V} {E} {S} does tally size each v w before after (h ∷ held) (k ∷ values) t small =
+    let first : tally t.1 ≡ tally v + size h.1 = each v before h.0 h.1 t.1 t.2 k.1 t.3 (omega (arith, small)) in
+    let rest : tally w ≡ tally t.1 + sum_sizes size held = tallied does tally size each t.1 w t.2 after held values t.4 (omega (arith, small, first)) in
+    omega (arith, first, rest)
+tallied does tally size each v w before after [] (k ∷ values) h small = absurd h
+tallied does tally size each v w before after (h ∷ held) [] t small = absurd t
+
+-- of cells, each has one pair at most
+pub few : {S : Type 0} (size : S → ℕ) → ((x : S) → size x ≤ 1) → (held : List (ℕ × S)) → sum_sizes size held ≤ length held
+few size one [] = omega arith
+few size one (h ∷ held) = let first = one h.1 in let rest = few size one held in omega (arith, first, rest)
+
+pub one_pair : (key : ℕ) (v : Option ℕ) → length (cell_pairs key v) ≤ 1
+one_pair key None = omega arith
+one_pair key (Some v) = omega arith
+
+-- four cells without values
+pub four_empty : All (λ (c : Cell). ◌≡◌ {A = Pairs ℕ} [] (cell_pairs c.key c.value)) (record { key = 0; value = None } ∷ record { key = 1; value = None } ∷ record { key = 2; value = None } ∷ record { key = 3; value = None } ∷ [])
+four_empty zero d lt = refl
+four_empty (suc zero) d lt = refl
+four_empty (suc (suc zero)) d lt = refl
+four_empty (suc (suc (suc zero))) d lt = refl
+four_empty (suc (suc (suc (suc k)))) d lt = absurd (omega (arith, lt))
+
+pub length-numbers : {S : Type 0} (held : List (ℕ × S)) → length (numbers held) ≡ length held
+length-numbers held = length-map held (λ h. h.0)
+
+pub removals_within : (mine : ℕ → Bool) → ((k : ℕ) → IsTrue (mine k)) → (es : Pairs ℕ) → AreWithin mine (removals es)
+removals_within mine all [] = tt
+removals_within mine all (e ∷ es) = (all e.0, removals_within mine all es)

@@ -1,0 +1,18 @@
+-- What a visit of a cell does.
+use Rattle.std.specs.Prelude.{◌≡◌, ℕ, ◌+◌, ◌<◌, ◌^◌, List, length, None}
+use Rattle.test_share_shards.specs.Cells.{cell_pairs}
+use Rattle.test_share_shards.specs.declared.cells.Cell.{Cell}
+use Rattle.test_share_shards.specs.declared.cells.Clear.{Clear}
+use Rattle.test_share_shards.specs.declared.cells.Tally.{Tally}
+
+abbrev pub size_of : Cell → ℕ
+size_of cell = length (cell_pairs cell.key cell.value)
+
+-- it counts the cell's pairs, and leaves the cell
+pub record Tallies {E : Type 0} (old : Tally) (before : List E) (shard : ℕ) (cell : Cell) (new : Tally) (after : List E) (value : Cell) : Type 0 where
+  pub stays : value ≡ cell
+  pub counts : old.cells + size_of cell < 2 ^ 64 → new.cells ≡ old.cells + size_of cell
+
+-- the cell has no value then
+pub record Clears {E : Type 0} (old : Clear) (before : List E) (shard : ℕ) (cell : Cell) (new : Clear) (after : List E) (value : Cell) : Type 0 where
+  pub empty : value.value ≡ None
