@@ -1,0 +1,5 @@
+pub mod Words
+pub mod Head
+pub mod ListCells
+pub mod PlaceCells
+pub mod inner
