@@ -7,7 +7,7 @@ use Rattle.live_nodes.specs.Rule.{IsLive}
 use Rattle.live_nodes.specs.Acts as acts
 use Rattle.live_nodes.specs.Plays as plays
 use Rattle.live_nodes.specs.Calls.{KnowsPlace, KnowsCell, HoldsCell, InRoom, MayCheck, MayLock, MayFree, MayKeep, MayMake}
-use Rattle.live_nodes.proofs.Steps.{may_take, may_see, may_check, may_lock, may_write, may_free, may_keep}
+use Rattle.live_nodes.proofs.Steps.{may_take, may_see, may_look, may_check, may_lock, may_write, may_free, may_keep}
 use Rattle.live_nodes.proofs.Rooms.{may_put, may_make, may_grow}
 
 -- a multiple of 4
@@ -23,6 +23,9 @@ module _ {V : Type 0} (root : ℕ) (P : List Node → List V → Type 0) (id : �
 
   pub sees : KnowsCell v key → Loads R plays.Sees id v key
   sees k = subst (Loads R plays.Sees id v) k.2.2 (may_see root P id v k.0 k.1 k.2.0 k.2.1)
+
+  pub looks : Loads R plays.Looks id v key
+  looks = may_look root P id v key
 
   pub checks : (told : V → ℕ → ℕ → List (ℕ × ℕ) → List Place → V → Type 0) (word : ℕ) → word % 4 ≡ 0 → MayCheck v key P id told word → Loads R (plays.Checks told) id v key
   checks told word free k = subst (Loads R (plays.Checks told) id v) k.2.1 (may_check root P id v k.0 k.1 (word / 4) told k.2.0 k.3 (k.4 ∙ fourth word free) k.5)

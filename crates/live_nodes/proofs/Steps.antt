@@ -272,6 +272,21 @@ module _ {V : Type 0} (root : ℕ) (P : List Node → List V → Type 0) where
     one_hold : (p' : Place) (h' : Hold) → p'.number ≡ p.number → hold_of p'.number v.holds ≡ Some h' → h ≡ h'
     one_hold p' h' number mine' = some_one h h' (sym mine ∙ (ap (λ (z : ℕ). hold_of z v.holds) (sym number) ∙ mine'))
 
+  -- LOOK
+  pub may_look : (id : ℕ) (v : View) (key : ℕ) → Loads R plays.Looks id v key
+  may_look id v key s n r seat there = (
+    v,
+    silent s r id v v seat refl refl (r.each_seat id v seat),
+    record {
+      same = refl;
+      held = λ p i h known low at_key mine.
+          (let a : Node = node r.nodes p.number in
+          let found = cell_found s r id v seat p i n known low (subst (λ (z : ℕ). get_elem? s.words z ≡ some n) (sym at_key) there) in
+          found ∙ ap (λ (z : Option ℕ). at (shown z a.content (r.drafts p.number)) i) (held s r id v seat p h known mine) ∙ ap (λ (z : Content). at z i) (draft s r id v seat p h known mine));
+      roomed = λ i m at_key is. one_only s.words (v.room.start + i) n m (subst (λ (z : ℕ). get_elem? s.words z ≡ some n) (sym at_key) there) (r.each_room id v seat i m is).0;
+    },
+  )
+
   -- WRITE
   pub may_write : (id : ℕ) (v : View) (p : Place) (h : Hold) (i x : ℕ) → IsIn p v.places → hold_of p.number v.holds ≡ Some h → i < p.len → Stores R plays.Writes id v (p.key + i + 1) x
   may_write id v p h i x known mine low s n r seat there =

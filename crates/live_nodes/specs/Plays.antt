@@ -1,5 +1,7 @@
 -- What each step tells its seat. A `told` is what the client picks.
-use Rattle.std.specs.Prelude.{◌≡◌, ◌≢◌, ℕ, ◌+◌, ◌<◌, List, [], ◌∷◌, ◌++◌, length, slice_set, take, drop, replicate, cond, nat_eq, Option, Some, None}
+use Rattle.std.specs.Prelude.{◌≡◌, ◌≢◌, ℕ, ◌+◌, ◌<◌, List, [], ◌∷◌, ◌++◌, length, slice_index, slice_set, take, drop, replicate, cond, nat_eq, Option, Some, None}
+use mathlib.Core.Option.{some}
+use lib.ListN.{get_elem?}
 use Rattle.word_book.specs.Book.{reads, writes, compares, Tells}
 use Rattle.live_nodes.specs.Nodes.{Content}
 use Rattle.live_nodes.specs.Seats.{Place, Read, Hold, SeatView, seat_view, place, read, hold, room_at, IsIn, without, with_draft, with_word}
@@ -65,6 +67,14 @@ module _ {V : Type 0} where
     pub won : n ≡ word → (d : Content) × (c : V) × (length d ≡ len) × (w ≡ locked v c k (word + 2) d) × told d c
     pub lost : n ≢ word → w ≡ v
 
+  -- Nothing changes. The number found is the one that the seat has written last, at a word that no other seat writes: of a
+  -- node that it holds, or of its room.
+  pub record Looked (key : ℕ) (v : SeatView V) (n : ℕ) (w : SeatView V) : Type 0 where
+    pub same : w ≡ v
+    pub held : (p : Place) (i : ℕ) (h : Hold) → IsIn p v.places → i < p.len → p.key + i + 1 ≡ key
+        → hold_of p.number v.holds ≡ Some h → n ≡ slice_index h.draft i
+    pub roomed : (i m : ℕ) → v.room.start + i ≡ key → get_elem? v.room.draft i ≡ some m → n ≡ m
+
   -- The word of a node that is known is taken.
   abbrev pub Takes : Tells (SeatView V)
   Takes (reads key) v n more w = (p : Place) → IsIn p v.places → p.key ≡ key → w ≡ took v p.number n
@@ -76,6 +86,12 @@ module _ {V : Type 0} where
   Sees (reads key) v n more w = (p : Place) (i : ℕ) → IsIn p v.places → i < p.len → p.key + i + 1 ≡ key → w ≡ saw v p.number (i, n)
   Sees (writes key new) v n more w = ⊥
   Sees (compares key old new) v n more w = ⊥
+
+  -- A word is looked at.
+  abbrev pub Looks : Tells (SeatView V)
+  Looks (reads key) v n more w = Looked key v n w
+  Looks (writes key new) v n more w = ⊥
+  Looks (compares key old new) v n more w = ⊥
 
   -- Nothing is learnt.
   abbrev pub Idles : Tells (SeatView V)

@@ -72,6 +72,23 @@ impl<V, L: NodeLaw<V>> Heap<V, L> {
         self.segments.get(key)
     }
 
+    /// So many words, with the keys from this one on, as those of a node. `None` where they don't lie in one segment, or it
+    /// isn't there yet.
+    pub fn span(&self, key: u64, count: usize) -> Option<&[Word<V, L>]>
+        ensures { IfSome result (λ words. (length words.now ≡ count)
+            × AreWords key self.now words.now) }
+    {
+        let first = self.trunk.len() as u64;
+        if key >= first {
+            return self.segments.span(key, count);
+        }
+        let at = key as usize;
+        if count > self.trunk.len() - at {
+            return None;
+        }
+        Some(&self.trunk[at..at + count])
+    }
+
     /// One more segment, which is the seat's room from then on: the key of its first word. `None` where another thread is
     /// just making one.
     pub fn grow(&self, alloc: Global, seat: &mut Seat<V, L>) -> Result<Option<u64>, AllocError>

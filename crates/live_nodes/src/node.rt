@@ -3,11 +3,11 @@
 //! By its version word a node is free (a multiple of 4), locked (2 more) or obsolete (3 more).
 ghost use Rattle.std.specs.Prelude.{◌≡◌, ℕ, ◌+◌, ◌%◌, ◌<◌, ◌^◌, ◌↔◌, IsTrue};
 ghost use Rattle.word_book.specs.Book.{reads, writes, compares, none_joined, Joined};
-ghost use Rattle.live_nodes.specs.Plays.{Takes, Sees, Checks, Locks, Writes, Frees, Keeps};
+ghost use Rattle.live_nodes.specs.Plays.{Takes, Sees, Looks, Checks, Locks, Writes, Frees, Keeps};
 ghost use Rattle.live_nodes.specs.Calls.{KnowsPlace, KnowsCell, HoldsCell, MayCheck, MayLock, MayFree, MayKeep};
 
 use crate::law::{NodeLaw, Seat, Word};
-use crate::plays::{Change, Check, Free, Keep, Lesson, Lock, See, Take, Write};
+use crate::plays::{Change, Check, Free, Keep, Lesson, Lock, Look, See, Take, Write};
 
 /// Takes the version word of a node.
 pub fn take<V, L: NodeLaw<V>>(word: &Word<V, L>, seat: &mut Seat<V, L>) -> u64
@@ -27,6 +27,16 @@ pub fn read<V, L: NodeLaw<V>>(word: &Word<V, L>, seat: &mut Seat<V, L>) -> u64
     ensures told { Sees (reads word.now.key) seat.old.view result none_joined seat.new.view }
 {
     word.load::<See>(seat)
+}
+
+/// Reads a number that only this seat writes, of a node that it holds or of its room. It knows the number, if it has kept
+/// what it wrote, and the seat stays as it is.
+pub fn look<V, L: NodeLaw<V>>(word: &Word<V, L>, seat: &mut Seat<V, L>) -> u64
+    requires book { seat.old.book ≡ word.now.book }
+    ensures seat { (seat.new.book ≡ seat.old.book) × (seat.new.id ≡ seat.old.id) }
+    ensures told { Looks (reads word.now.key) seat.old.view result none_joined seat.new.view }
+{
+    word.load::<Look>(seat)
 }
 
 /// Whether a version word is still the one that was taken. Then all that was read of the node since is current.

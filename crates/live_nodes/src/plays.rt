@@ -1,5 +1,5 @@
 //! What the steps tell, and what a caller picks of it.
-ghost use Rattle.live_nodes.specs.Plays.{Takes, Sees, Idles, Checks, Locks, Writes, Frees, Keeps, Puts, Makes, Grows};
+ghost use Rattle.live_nodes.specs.Plays.{Takes, Sees, Looks, Idles, Checks, Locks, Writes, Frees, Keeps, Puts, Makes, Grows};
 
 use crate::law::{NodeLaw, View};
 use std::marker::PhantomData;
@@ -41,6 +41,12 @@ pub struct See;
 
 impl<V, L: NodeLaw<V>> Play<View<V, L>> for See {
     ghost then = { Sees };
+}
+
+pub struct Look;
+
+impl<V, L: NodeLaw<V>> Play<View<V, L>> for Look {
+    ghost then = { Looks };
 }
 
 pub struct Idle;

@@ -125,6 +125,28 @@ impl<V, P: Rule<V>> Segments<V, P> {
         Some(&segment[offset as usize])
     }
 
+    /// So many words, with the keys from this one on. `None` where they don't lie in one segment, or it isn't in the
+    /// directory.
+    pub fn span(&self, key: u64, count: usize) -> Option<&[Word<V, P>]>
+        requires { self.now.base ≤ key }
+        ensures { IfSome result (λ words. (length words.now ≡ count)
+            × AreWords key self.now.book words.now) }
+    {
+        let place = key - self.base;
+        if place >= LIMIT {
+            return None;
+        }
+        let (number, offset) = locate(place);
+        let (shelf, slot) = shelve(number);
+        let slots = self.shelves[shelf].get()?;
+        let segment = slots[slot].get()?;
+        let at = offset as usize;
+        if count > segment.len() - at {
+            return None;
+        }
+        Some(&segment[at..at + count])
+    }
+
     /// Memory for a segment, which then has a shelf. `None` where another thread is just making that.
     pub fn reserve(&self, alloc: Global, number: u64) -> Result<Option<Vec<Word<V, P>>>, AllocError>
         requires { number < 2 ^ 44 }
