@@ -133,7 +133,7 @@ module _ {X : Type 0} where
 abbrev none_in_flight : List (ℕ × Life) → PinsView
 none_in_flight lives = record { seats = []; slots = lives; count = 0 }
 
-abbrev pub alone : {X : Type 0} → List (Option (Stored X)) → List (ℕ × Life) → ℕ → Option ℕ → World X
+abbrev pub alone : {X : Type 0} → List (Option (Stored X)) → List (ℕ × Life) → ℕ → Option Charge → World X
 alone slots lives root charge = record { slots = slots; root = root; pins = none_in_flight lives; calls = []; entries = 0; charge = charge }
 
 pub alone_is : {X : Type 0} (slots : List (Option (Stored X))) (root : ℕ) (pins : PinsView) (calls : List (ℕ × Option (Record X))) (charge stated : Option Charge)
@@ -174,7 +174,7 @@ module _ {X : Type 0} (slots : List (Option (Stored X))) (lives : List (ℕ × L
       (same_from_lookups 0 (length slots) 0 (root + 1) (state_of w).nodes ((root, bare_root) ∷ []) (nodes_rise w) (omega arith, omega arith, tt) (root_lookup charge))
 
   -- and sound
-  pub root_sound : (Granted : Type 0) (same : X → X → Bool) (before : Option ℕ) → root < 2 ^ 64 → entry_at lives root ≡ Some InUse → ((o : ℕ) → o ≢ root → entry_at lives o ≡ None)
+  pub root_sound : (Granted : Type 0) (same : X → X → Bool) (before : Option Charge) → root < 2 ^ 64 → entry_at lives root ≡ Some InUse → ((o : ℕ) → o ≢ root → entry_at lives o ≡ None)
       → IsSoundWorld Granted same (alone slots lives root (add_charge before 2104))
   root_sound Granted same before narrow life bare =
       let charge = add_charge before 2104 in
@@ -205,7 +205,7 @@ module _ {X : Type 0} (slots : List (Option (Stored X))) (lives : List (ℕ × L
 module _ {P M : Type 0} (meaning : P → M) (slots : List (Option (Stored P))) (lives : List (ℕ × Life)) (root : ℕ) (n : Stored P)
     (here : slice_index_or slots root None ≡ Some n) (others : (o : ℕ) → o ≢ root → slice_index_or slots o None ≡ None)
     (word : n.word ≡ 0) (place : n.place ≡ Linked) (node : n.node ≡ record { form = N256; prefix = []; children = [] }) where
-  pub meant_sound : (Granted : Type 0) (same : M → M → Bool) (before : Option ℕ) → root < 2 ^ 64 → entry_at lives root ≡ Some InUse → ((o : ℕ) → o ≢ root → entry_at lives o ≡ None)
+  pub meant_sound : (Granted : Type 0) (same : M → M → Bool) (before : Option Charge) → root < 2 ^ 64 → entry_at lives root ≡ Some InUse → ((o : ℕ) → o ≢ root → entry_at lives o ≡ None)
       → IsSoundWorld Granted same (meant_world meaning (alone slots lives root (add_charge before 2104)))
   meant_sound Granted same before narrow life bare =
       root_sound (meant_slots meaning slots) lives root (meant_stored meaning n)

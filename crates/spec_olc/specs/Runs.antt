@@ -1,5 +1,6 @@
 -- SCHEDULES: which events are enabled, and what a run of a schedule is.
 use Rattle.std.specs.Prelude.{◌≡◌, ℕ, Bool, ◌==◌, List, [], ◌∷◌, ◌++◌, map, Option, Some, None, IsSome}
+use Rattle.node_table.specs.Charge.{Charge}
 use Rattle.spec_map.specs.Call.{Operation, replied}
 use Rattle.spec_map.specs.Legal.{IsLegal}
 use Rattle.spec_map.specs.Map.{Pairs, lookup}
@@ -40,7 +41,7 @@ module _ {M : Type 0} where
   bare_root = publish (unlinked (record { form = N256; prefix = []; children = [] }))
 
   -- A FRESH MACHINE: the root alone, with no call, no seat and nothing stored
-  abbrev pub fresh : ℕ → Option ℕ → State M
+  abbrev pub fresh : ℕ → Option Charge → State M
   fresh root charge = record {
     nodes = (root, bare_root) ∷ [];
     root = root;

@@ -1,5 +1,6 @@
 -- The machine's inside as data.
 use Rattle.std.specs.Prelude.{◌≡◌, ℕ, Option, Some, None}
+use Rattle.node_table.specs.Charge.{Charge}
 use Rattle.spec_olc.specs.Calls.{outline_of}
 use Rattle.spec_olc.specs.State.{State}
 use Rattle.spec_olc.specs.declared.types.Asking.TheVariants.{Fresh}
@@ -16,7 +17,7 @@ use Rattle.olc_machine.specs.declared.inner.Inner.{Inner}
 
 module _ {P A : Type 0} where
   -- the inside, with what the budget has charged
-  abbrev pub inside : (A → Option ℕ) → Inner P A → World P
+  abbrev pub inside : (A → Option Charge) → Inner P A → World P
   inside charge m = record {
     slots = m.stock.store.nodes.slots;
     root = m.stock.store.root;
@@ -27,11 +28,11 @@ module _ {P A : Type 0} where
   }
 
   -- the state that a reader sees of it
-  abbrev pub state_in : (A → Option ℕ) → Inner P A → State P
+  abbrev pub state_in : (A → Option Charge) → Inner P A → State P
   state_in charge m = state_of (inside charge m)
 
   -- the inside, with payloads replaced by their meanings
-  abbrev pub meant_in : {M : Type 0} → (P → M) → (A → Option ℕ) → Inner P A → World M
+  abbrev pub meant_in : {M : Type 0} → (P → M) → (A → Option Charge) → Inner P A → World M
   meant_in meaning charge m = meant_world meaning (inside charge m)
 
 module _ {M : Type 0} where

@@ -44,7 +44,7 @@ module _ {M : Type 0} where
     pub charged : charge' ≡ charge
 
   -- the private node, if there is one, is freed, and nothing else changes
-  abbrev pub IsGivenUp : NodeMap M → NodeMap M → Option ℕ → Option ℕ → Option ℕ → Type 0
+  abbrev pub IsGivenUp : NodeMap M → NodeMap M → Option ℕ → Option Charge → Option Charge → Type 0
   IsGivenUp t t' None charge charge' = TableStays t t' charge charge'
   IsGivenUp t t' (Some slot) charge charge' = LosesPrivate t t' slot charge charge'
 
