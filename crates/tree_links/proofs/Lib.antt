@@ -1,6 +1,7 @@
 pub mod SeenLaws
 pub mod SlotLaws
 pub mod PairSums
+pub mod PlaceLaws
 pub mod KeyLaws
 pub mod FindLaws
 pub mod PairLaws

@@ -3,6 +3,7 @@ pub mod LinkNode
 pub mod LinksView
 pub mod MovesNode
 pub mod PairCalls
+pub mod Places
 pub mod SameTree
 pub mod SeenTable
 pub mod SplitsChild

@@ -16,5 +16,6 @@ pub mod linked_node;
 pub mod links;
 pub mod moves;
 pub mod pairs;
+pub mod place;
 mod slots;
 pub mod splits;

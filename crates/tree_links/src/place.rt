@@ -1,0 +1,137 @@
+//! A node of `node_table` as one whose children may be pairs: an inner node has a `Place` for each child.
+//!
+//! Not tested yet.
+
+ghost use Rattle.std.specs.Prelude.{◌≡◌, ◌+◌, length, IfOk, IfErr, OnOk, OnErr, Some, None};
+ghost use Rattle.spec_map.specs.Map.{lookup};
+ghost use Rattle.node_base.specs.Form.{Fits};
+ghost use Rattle.node_table.specs.TableNode.{looked_at_ref};
+ghost use Rattle.tree_links.specs.LinkNode.{MayLink, looked_at, with_link};
+ghost use Rattle.tree_links.specs.Places.{as_link, as_linked};
+
+use crate::link::{Link, LinkMeeting, LinkRef};
+use crate::linked_node::LinkedNode;
+use node_base::base_node::BaseNode;
+use node_table::child::{Child, ChildRef, Meeting};
+use node_table::tree_node::TreeNode;
+use spec_map::error::OOMError;
+use std::alloc::Global;
+
+/// What an inner node has in the place of a child: the slot of the node below, or the one pair of the leaf below, by
+/// the last seven bytes of its key and its payload.
+#[derive(Drop)]
+pub enum Place<P> {
+    Slot(usize),
+    Pair([u8; 7], P),
+}
+
+// A link as a child of a node.
+fn child_of<P>(link: Link<P>) -> Child<P, Place<P>>
+    ensures { as_link result ≡ link }
+{
+    match link {
+        Link::Payload(payload) => Child::Payload(payload),
+        Link::Slot(slot) => Child::Node(Place::Slot(slot)),
+        Link::Pair(rest, payload) => Child::Node(Place::Pair(rest, payload)),
+    }
+}
+
+// A child of a node as a link.
+fn link_of<P>(child: Child<P, Place<P>>) -> Link<P>
+    ensures { result ≡ as_link child }
+{
+    match child {
+        Child::Payload(payload) => Link::Payload(payload),
+        Child::Node(Place::Slot(slot)) => Link::Slot(slot),
+        Child::Node(Place::Pair(rest, payload)) => Link::Pair(rest, payload),
+    }
+}
+
+// The same, where what is looked at stays in its node.
+#[inline(always)]
+fn link_at<'a, P>(child: ChildRef<'a, P, &'a Place<P>>) -> LinkRef<'a, P>
+    ensures { looked_at result ≡ as_link (looked_at_ref child.entry) }
+{
+    match child {
+        ChildRef::Payload(payload) => LinkRef::Payload(payload),
+        ChildRef::Node(Place::Slot(slot)) => LinkRef::Slot(*slot),
+        ChildRef::Node(Place::Pair(rest, payload)) => LinkRef::Pair(rest, payload),
+    }
+}
+
+impl<P: Drop> LinkedNode<P> for TreeNode<P, Place<P>> {
+    ghost use Rattle.tree_links.specs.Places.{as_linked};
+
+    ghost node = { as_linked };
+
+    fn leaf_of(prefix: &[u8], byte: u8, payload: P) -> Self {
+        let mut leaf = TreeNode::empty_leaf(prefix);
+        leaf.insert(byte, Child::Payload(payload));
+        leaf
+    }
+
+    fn base(&self) -> &BaseNode {
+        self.base()
+    }
+
+    #[inline(always)]
+    fn meet<'a>(&'a self, key: &[u8; 8], word: u64) -> LinkMeeting<'a, P> {
+        match self.meet_ref(key, word) {
+            Meeting::Other => LinkMeeting::Other,
+            Meeting::Leaf => LinkMeeting::Leaf,
+            Meeting::Nothing => LinkMeeting::Nothing,
+            Meeting::Node(Place::Slot(slot)) => LinkMeeting::Slot(*slot),
+            Meeting::Node(Place::Pair(rest, payload)) => LinkMeeting::Pair(rest, payload),
+        }
+    }
+
+    #[inline(always)]
+    fn get_link<'a>(&'a self, byte: u8) -> Option<LinkRef<'a, P>> {
+        match self.get_child_ref(byte) {
+            Some(child) => Some(link_at(child)),
+            None => None,
+        }
+    }
+
+    fn first_from<'a>(&'a self, from: usize) -> Option<(u8, LinkRef<'a, P>)> {
+        match self.first_ref_from(from) {
+            Some((byte, child)) => Some((byte, link_at(child))),
+            None => None,
+        }
+    }
+
+    fn insert(&mut self, byte: u8, link: Link<P>)
+        requires absent { lookup (as_linked self.old).links byte ≡ None }
+        requires room { Fits (as_linked self.old).form (length (as_linked self.old).links + 1) }
+        requires kind { MayLink (as_linked self.old).prefix link }
+        ensures { as_linked self.new ≡ with_link (as_linked self.old) byte link }
+    {
+        self.insert(byte, child_of(link));
+    }
+
+    fn exchange(&mut self, byte: u8, link: Link<P>) -> Result<Link<P>, Link<P>>
+        requires { MayLink (as_linked self.old).prefix link }
+        ensures before { IfOk result (λ c. lookup (as_linked self.old).links byte ≡ Some c) }
+        ensures after { OnOk result
+            (as_linked self.new ≡ with_link (as_linked self.old) byte link) }
+        ensures absent { OnErr result (lookup (as_linked self.old).links byte ≡ None) }
+        ensures back { IfErr result (λ c. c ≡ link) }
+        ensures same { OnErr result (as_linked self.new ≡ as_linked self.old) }
+    {
+        match self.exchange(byte, child_of(link)) {
+            Ok(before) => Ok(link_of(before)),
+            Err(back) => Err(link_of(back)),
+        }
+    }
+
+    fn take(&mut self, byte: u8) -> Option<Link<P>> {
+        match self.take(byte) {
+            Some(child) => Some(link_of(child)),
+            None => None,
+        }
+    }
+
+    fn grow(&mut self, alloc: Global) -> Result<(), OOMError> {
+        self.grow(alloc)
+    }
+}
