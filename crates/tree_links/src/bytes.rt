@@ -1,4 +1,6 @@
 //! The bytes of keys that pairs have in part.
+//!
+//! Tested in `test_tree_links`.
 
 ghost use Rattle.std.specs.Prelude.{◌≡◌, ◌++◌, [], ◌∷◌, drop, length, IsSome, Some};
 ghost use Rattle.tree_links.specs.LinkNode.{LinkNode};

@@ -1,4 +1,6 @@
 //! The path of a key from the root down.
+//!
+//! Tested in `test_tree_links`.
 
 ghost use Rattle.std.specs.Prelude.{◌≡◌, ◌+◌, ◌≤◌, drop, length, option_copied, IsTrue, false};
 ghost use Rattle.std.specs.Int.{w64, to_be_bytes};

@@ -6,7 +6,7 @@
 //!
 //! A leaf's second pair takes no memory. So a slot is kept free for each pair that is in its parent.
 //!
-//! Not used yet, and not tested.
+//! Not used yet. Tested in `test_tree_links`.
 #![tactic(auto)]
 
 mod bytes;

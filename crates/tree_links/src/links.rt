@@ -2,6 +2,8 @@
 //!
 //! A slot is kept free for each of these pairs. So a pair can always get a slot, without memory. `reserve` takes the
 //! memory, and the calls that add nodes and pairs take none.
+//!
+//! Tested in `test_tree_links`.
 
 ghost use Rattle.std.specs.Prelude.{◌≡◌, ◌≢◌, ℕ, ◌+◌, ◌<◌, ◌≤◌, [], Some, None, IsOk, IsSome, OnErr, OnOk, option_copied};
 ghost use Rattle.std.specs.Option.{option_map};

@@ -1,6 +1,8 @@
 //! A pair that gets a slot, and a leaf of one pair that goes back into its parent.
 //!
 //! The first comes before a leaf's second pair, and the second after a removal that leaves one. Neither takes memory.
+//!
+//! Tested in `test_tree_links`.
 
 ghost use Rattle.std.specs.Prelude.{◌≡◌, ℕ, List, [], ◌∷◌};
 ghost use Rattle.tree_links.specs.MovesNode.{MovesNode};

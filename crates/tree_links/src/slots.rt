@@ -1,4 +1,6 @@
 //! What calls do to the links of the node in one slot.
+//!
+//! Tested in `test_tree_links`.
 
 ghost use Rattle.std.specs.Prelude.{◌≡◌, IsSome, OnErr, OnOk};
 ghost use Rattle.slab.specs.Slab.{slab_len};

@@ -1,6 +1,8 @@
 //! A new key's pair where a prefix differs: a node of two children takes the place of a pair, or of a node.
 //!
 //! A node that is split keeps its slot, since its pairs are seen under that. The new node above gets a free one.
+//!
+//! Tested in `test_tree_links`.
 
 ghost use Rattle.std.specs.Prelude.{◌≡◌, ◌≢◌, ◌+◌, ◌<◌, [], ◌∷◌, take};
 ghost use Rattle.spec_map.specs.Map.{put};

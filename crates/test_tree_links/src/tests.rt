@@ -1,0 +1,36 @@
+//! One pair, and two.
+
+use crate::client::{make_round, one_pair, split, value_at};
+use std::test::Fail;
+
+const KEY: [u8; 8] = [3, 1, 4, 1, 5, 9, 2, 6];
+
+const LAST_DIFFERS: [u8; 8] = [3, 1, 4, 1, 5, 9, 2, 7];
+
+const FOURTH_DIFFERS: [u8; 8] = [3, 1, 4, 2, 5, 9, 2, 6];
+
+const FIRST_DIFFERS: [u8; 8] = [4, 1, 4, 1, 5, 9, 2, 6];
+
+#[test]
+fn a_pair_in_the_root_is_found_by_its_key_alone(rt: HostRuntime) -> Result<(), Fail> {
+    let (nodes, root) = one_pair(rt.alloc(), &KEY, 42)?;
+    assert!(rt; value_at(&nodes, root, &KEY) == Some(42));
+    assert!(rt; value_at(&nodes, root, &LAST_DIFFERS) == None);
+    assert!(rt; value_at(&nodes, root, &FOURTH_DIFFERS) == None);
+    assert!(rt; value_at(&nodes, root, &FIRST_DIFFERS) == None);
+    Ok(())
+}
+
+#[test]
+fn a_pair_is_changed_gets_a_slot_goes_back_and_is_taken(rt: HostRuntime) -> Result<(), Fail> {
+    let done = make_round(rt.alloc(), &KEY, 7, 8)?;
+    assert!(rt; done.payloads == [7, 8]);
+    assert!(rt; done.kinds == [3, 2, 3, 0]);
+    Ok(())
+}
+
+#[test]
+fn a_node_of_two_pairs_takes_the_place_of_one(rt: HostRuntime) -> Result<(), Fail> {
+    assert!(rt; split(rt.alloc(), &KEY, &FOURTH_DIFFERS, 3)? == (3, 3));
+    Ok(())
+}
