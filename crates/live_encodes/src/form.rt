@@ -47,17 +47,24 @@ pub fn place_of(form: NodeType) -> u8
     }
 }
 
-/// The form of a node with this head. It is some form for a word that is no head.
-pub fn form_in(head: u64) -> NodeType
-    ensures { (form : NodeType) (prefix : List ℕ) → IsHead head (form_place form) prefix
-        → result ≡ form }
+// The form with a place among the forms. It is some form for a number that is no place.
+fn form_at(place: u64) -> NodeType
+    ensures { (form : NodeType) → place ≡ form_place form → result ≡ form }
 {
-    match form_of(head) {
+    match place {
         0 => NodeType::N4,
         1 => NodeType::N16,
         2 => NodeType::N48,
         _ => NodeType::N256,
     }
+}
+
+/// The form of a node with this head. It is some form for a word that is no head.
+pub fn form_in(head: u64) -> NodeType
+    ensures { (form : NodeType) (prefix : List ℕ) → IsHead head (form_place form) prefix
+        → result ≡ form }
+{
+    form_at(form_of(head) as u64)
 }
 
 /// The word of a node below, by its slot and its form.
@@ -80,10 +87,5 @@ pub fn slot_below(word: u64) -> u64
 pub fn form_below(word: u64) -> NodeType
     ensures { (slot : ℕ) (form : NodeType) → word ≡ 256 * slot + form_place form → result ≡ form }
 {
-    match word % 256 {
-        0 => NodeType::N4,
-        1 => NodeType::N16,
-        2 => NodeType::N48,
-        _ => NodeType::N256,
-    }
+    form_at(word % 256)
 }
