@@ -3,6 +3,8 @@
 //!
 //! A reader knows a node's form from its parent, and checks it by the head. What it finds is right of each node whose words
 //! agree with what it read. A writer changes words that it has locked, or fills those of a new node.
+//!
+//! Tested in `test_live_rows`.
 #![tactic(auto)]
 
 pub mod change;

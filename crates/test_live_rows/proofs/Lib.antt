@@ -1,0 +1,2 @@
+mod Laws
+mod Views

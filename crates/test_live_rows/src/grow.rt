@@ -1,0 +1,79 @@
+//! Leaves are made, named by the root, and grow.
+ghost use Rattle.std.specs.Prelude.{◌≡◌, ◌+◌, ◌<◌, ◌^◌, length, IfOk, IfSome};
+ghost use Rattle.live_nodes.specs.Seats.{Place, IsIn};
+ghost use Rattle.live_encodes.specs.Encodes.{words_of};
+ghost use Rattle.live_rows.specs.Rows.{MayFill, filled};
+ghost use Rattle.test_live_rows.specs.Leaves.{KnowsRoot, KnowsLeaf, IsLeaf, BeginsWithZero};
+
+use crate::law::{Locked, Mine, New, Same, Tagged};
+use crate::leaf::{Guest, Nodes};
+use live_cells::words::Draft;
+use live_encodes::fill::lay;
+use live_encodes::form::{word_below, words_in};
+use live_nodes::law::Word;
+use live_nodes::{node, room};
+use live_rows::rows::{Fresh, Held};
+use node_base::base_node::NodeType;
+use std::alloc::{AllocError, Global};
+
+// The first words of the seat's room become a leaf. The number that names it.
+fn make(words: &[Word<Mine, Tagged>], key: u64, form: NodeType, seat: &mut Guest) -> u64
+    requires room { MayFill words.now seat.old.book seat.old.view }
+    requires long { length words.now ≡ words_of form + 1 }
+    requires key { (seat.old.view.room.start ≡ key) × (key < 2 ^ 56) }
+    requires zero { BeginsWithZero seat.old.view }
+    requires leaf { IsLeaf form (filled (length words.now) seat.old.view.room) }
+    ensures book { seat.new.book ≡ seat.old.book }
+    ensures leaf { KnowsLeaf seat.new.view result }
+    ensures root { KnowsRoot seat.old.view → KnowsRoot seat.new.view }
+{
+    let fresh: Fresh<'_, Mine, Tagged> = Fresh { words };
+    let last = fresh.get(words_in(form) - 1, seat);
+    room::make::<Mine, Tagged, New>(&words[words_in(form)], last, seat);
+    word_below(key, form)
+}
+
+/// A new leaf without payloads: the number that names it. `None` where another thread is just making one.
+pub fn new_leaf(nodes: &Nodes, alloc: Global, seat: &mut Guest) -> Result<Option<u64>, AllocError>
+    requires book { seat.old.book ≡ nodes.now }
+    requires root { KnowsRoot seat.old.view }
+    ensures book { seat.new.book ≡ seat.old.book }
+    ensures root { KnowsRoot seat.new.view }
+    ensures leaf { IfOk result (λ made. IfSome made (λ leaf. KnowsLeaf seat.new.view leaf)) }
+{
+    let Some(key) = nodes.grow(alloc, seat)? else {
+        return Ok(None);
+    };
+    if key >= 1 << 56 {
+        return Ok(None);
+    }
+    let Some(words) = nodes.span(key, 7) else {
+        return Ok(None);
+    };
+    let fresh: Fresh<'_, Mine, Tagged> = Fresh { words };
+    lay(&fresh, NodeType::N4, &[0; 7], seat);
+    Ok(Some(make(words, key, NodeType::N4, seat)))
+}
+
+/// The root names a leaf. `false` where another writer is busy there.
+pub fn name(nodes: &Nodes, leaf: u64, seat: &mut Guest) -> bool
+    requires book { seat.old.book ≡ nodes.now }
+    requires root { KnowsRoot seat.old.view }
+    requires leaf { KnowsLeaf seat.old.view leaf }
+    ensures book { seat.new.book ≡ seat.old.book }
+{
+    let Some(words) = nodes.span(1, 2) else {
+        return false;
+    };
+    let free = node::take(&words[0], seat);
+    if free % 4 != 0 || free >= 1 << 62 {
+        return false;
+    }
+    if !node::lock::<Mine, Tagged, Locked>(&words[0], free, seat) {
+        return false;
+    }
+    let held: Held<'_, Mine, Tagged, 0> = Held { words };
+    held.set(0, leaf, seat);
+    node::unlock::<Mine, Tagged, Same>(&words[0], free, seat);
+    true
+}
