@@ -12,10 +12,10 @@ use Rattle.share_parts.proofs.Shards.{ascends_answer, ascends_after, allows_same
 
 -- the first pair stays or goes
 module _ {P : Type 0} (mine : ℕ → Bool) where
-  kept_here : (e : ℕ × P) (es : Pairs P) → mine e.0 ≡ true → kept mine (e ∷ es) ≡ e ∷ kept mine es
+  pub kept_here : (e : ℕ × P) (es : Pairs P) → mine e.0 ≡ true → kept mine (e ∷ es) ≡ e ∷ kept mine es
   kept_here e es is = ap (λ (b : Bool). cond b (e ∷ kept mine es) (kept mine es)) is
 
-  kept_there : (e : ℕ × P) (es : Pairs P) → mine e.0 ≡ false → kept mine (e ∷ es) ≡ kept mine es
+  pub kept_there : (e : ℕ × P) (es : Pairs P) → mine e.0 ≡ false → kept mine (e ∷ es) ≡ kept mine es
   kept_there e es goes = ap (λ (b : Bool). cond b (e ∷ kept mine es) (kept mine es)) goes
 
   pub lookup-kept : (m : Pairs P) (k : ℕ) → mine k ≡ true → lookup (kept mine m) k ≡ lookup m k
@@ -40,7 +40,7 @@ module _ {P : Type 0} (mine : ℕ → Bool) where
         | inr out ↦ ap (λ (l : Pairs P). lookup l k) (kept_there e es out) ∙ rest
       ]
 
-  Rises-kept : (a b : ℕ) (m : Pairs P) → Rises a b m → Rises a b (kept mine m)
+  pub Rises-kept : (a b : ℕ) (m : Pairs P) → Rises a b m → Rises a b (kept mine m)
   Rises-kept a b [] h = tt
   Rises-kept a b (e ∷ es) h =
       let rest : Rises (e.0 + 1) b (kept mine es) = Rises-kept (e.0 + 1) b es h.2 in

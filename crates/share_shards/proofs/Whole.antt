@@ -1,16 +1,20 @@
 -- What visits of all shards that are held come to.
-use Rattle.std.proofs.Common.{◌≡◌, ℕ, ◌+◌, Bool, true, false, true≢false, cond, List, [], ◌∷◌, ◌++◌, reverse, append-nil, length, refl, sym, ap, ◌∙◌, subst, inl, inr, arith, eqb, eq-eqb, ne_eqb}
-use Rattle.std.proofs.lemmas.Bool.{cases_eq, cases_Bool}
-use Rattle.std.specs.Prelude.{Option, Some, None}
+use Rattle.std.proofs.Common.{◌≡◌, ◌≢◌, ℕ, ◌+◌, Bool, true, false, true≢false, cond, List, [], ◌∷◌, ◌++◌, reverse, append-nil, length, refl, sym, ap, ◌∙◌, subst, inl, inr, arith, eqb, eq-eqb, ne_eqb}
+use Rattle.std.proofs.lemmas.Bool.{cases_eq, cases_Bool, eqb-true, or_cases, or_from, or_left, or_right}
+use Rattle.std.specs.Prelude.{Option, Some, None, ◌||◌, ◌⊎◌}
 use Rattle.atomic_table.specs.Table.{Me}
-use Rattle.share_parts.specs.Parts.{kept, AreWithin}
+use Rattle.share_parts.specs.Nearest.{nearer}
+use Rattle.share_parts.specs.Parts.{kept, Ascends, AreWithin}
+use Rattle.share_parts.proofs.Nearest.{AreParts, near_parts}
+use Rattle.share_parts.proofs.Parts.{kept-agree, kept-none}
 use Rattle.share_rule.specs.inner.Hold.{StepsBy}
 use Rattle.share_shards.specs.Held.{is_in, keys_at, keys_of, numbers, slots_of, values_of, AreDistinct, Visited}
 use Rattle.share_shards.specs.inner.SeatView.{ShardView, Caller}
 use Rattle.share_shards.specs.inner.Steps.{IsIdle, MayAppend, Took, caller_of, held_of, pairs_of, seen_of}
-use Rattle.share_shards.proofs.Lists.{at_here, at_next, found_in, unsome, values-slots}
-use Rattle.spec_map.specs.Call.{Operation}
+use Rattle.share_shards.proofs.Lists.{at_here, at_next, found_in, is_in_here, unsome, values-slots}
+use Rattle.spec_map.specs.Call.{Near, first, last, floor, below, ceiling, above, Operation}
 use Rattle.spec_map.specs.Map.{Pairs, lookup}
+use Rattle.spec_map.specs.Near.{pair_near}
 
 -- visits that leave each value as it was leave all
 pub visited_same : {V E S : Type 0} (does : V → List E → ℕ → S → V → List E → S → Type 0)
@@ -87,25 +91,25 @@ module _ {T : Type 0} (shard : ℕ → ℕ) where
 
 -- A hold of these shards, from its start to its end
 module _ {T S : Type 0} (content : S → Pairs T → Type 0) (shard : ℕ → ℕ) (shards : List ℕ) (m m1 : Me (Option S) (ShardView T S)) (idle : IsIdle m) (took : Took content shard shards m m1) where
-  abbrev held : List (ℕ × S)
-  held = held_of m1.0
+  abbrev taken : List (ℕ × S)
+  taken = held_of m1.0
 
-  pub took_all : numbers held ≡ reverse shards
+  pub took_all : numbers taken ≡ reverse shards
   took_all = took.taken ∙ (ap (λ (z : Me (Option S) (ShardView T S)). reverse shards ++ numbers (held_of z.0)) idle ∙ append-nil (reverse shards))
 
-  pub took_slots : m1.1 ≡ slots_of held ++ []
-  took_slots = ap (λ (z : Me (Option S) (ShardView T S)). z.1) took.holds.is ∙ sym (append-nil (slots_of held))
+  pub took_slots : m1.1 ≡ slots_of taken ++ []
+  took_slots = ap (λ (z : Me (Option S) (ShardView T S)). z.1) took.holds.is ∙ sym (append-nil (slots_of taken))
 
   -- with other values in the slots: what may be appended then
   pub may_all : (same : T → T → Bool) (operations : List (Operation ℕ T T)) (m2 : Me (Option S) (ShardView T S)) (values : List (ℕ × S)) (end : Pairs T)
-      → m2.0 ≡ m1.0 → m2.1 ≡ slots_of values → numbers values ≡ numbers held → AreWithin (keys_of shard (numbers held)) operations → StepsBy same operations (pairs_of m1.0) end
+      → m2.0 ≡ m1.0 → m2.1 ≡ slots_of values → numbers values ≡ numbers taken → AreWithin (keys_of shard (numbers taken)) operations → StepsBy same operations (pairs_of m1.0) end
       → ((i : ℕ) (value : S) → lookup values i ≡ Some value → content value (kept (keys_at shard i) end))
       → MayAppend same content shard operations m2 (held_of m2.0) (values_of m2.1)
   may_all same operations m2 values end view slots alike within goes parts =
-      let view_is : m1.0 ≡ Caller (caller_of m1.0) (seen_of m1.0) (pairs_of m1.0) held = ap (λ (z : Me (Option S) (ShardView T S)). z.0) took.holds.is in
+      let view_is : m1.0 ≡ Caller (caller_of m1.0) (seen_of m1.0) (pairs_of m1.0) taken = ap (λ (z : Me (Option S) (ShardView T S)). z.0) took.holds.is in
       let P : ShardView T S × List (ℕ × Option S) → Type 0 = λ z. MayAppend same content shard operations z (held_of z.0) (values_of z.1) in
       subst P (λ i. (sym view i, sym slots i))
-      (subst (λ (l : List (ℕ × S)). MayAppend same content shard operations (m1.0, slots_of values) held l) (sym (values-slots values)) (record {
+      (subst (λ (l : List (ℕ × S)). MayAppend same content shard operations (m1.0, slots_of values) taken l) (sym (values-slots values)) (record {
         end = end;
         is = λ i. (view_is i, slots_of values);
         alike = alike;
@@ -114,3 +118,89 @@ module _ {T S : Type 0} (content : S → Pairs T → Type 0) (shard : ℕ → �
         goes = goes;
         parts = parts;
       }))
+
+near_nothing : {T : Type 0} (n : Near ℕ) → ◌≡◌ {A = Option (ℕ × T)} None (pair_near [] n)
+near_nothing first = refl
+near_nothing last = refl
+near_nothing (floor k) = refl
+near_nothing (below k) = refl
+near_nothing (ceiling k) = refl
+near_nothing (above k) = refl
+
+-- THE PAIR NEAREST to a place, from those of all shards that are held. The keys of s were looked at before
+module _ {T : Type 0} (shard : ℕ → ℕ) (near : Near ℕ) (m : Pairs T) (up : Ascends m) where
+  -- the keys of s, and those of one shard more
+  abbrev with_shard : (ℕ → Bool) → ℕ → ℕ → Bool
+  with_shard s i k = s k || keys_at shard i k
+
+  abbrev AreNew : (ℕ → Bool) → List ℕ → Type 0
+  AreNew s ns = (k : ℕ) → s k ≡ true → is_in ns (shard k) ≡ false
+
+  not_first : (n : ℕ) (ns : List ℕ) (j : ℕ) → is_in (n ∷ ns) j ≡ false → (n ≢ j) × (is_in ns j ≡ false)
+  not_first n ns j e =
+      elim (cases_eq n j) [
+        | inl is ↦ absurd (true≢false (sym (is_in_here n ns j (sym is)) ∙ e))
+        | inr ne ↦ (ne, sym (ap (λ (b : Bool). cond b true (is_in ns j)) (ne_eqb n j ne)) ∙ e)
+      ]
+
+  one_part : (s : ℕ → Bool) (i : ℕ) (ns : List ℕ) → AreNew s (i ∷ ns) → AreParts s (keys_at shard i) (with_shard s i)
+  one_part s i ns new k =
+      elim (cases_Bool (s k)) [
+        | inl here ↦
+            let other = not_first i ns (shard k) (new k here) in
+            inl (here, ne_eqb (shard k) i (λ e. other.0 (sym e)), or_left (s k) (keys_at shard i k) here)
+        | inr gone ↦ elim (cases_eq (shard k) i) [
+          | inl is ↦ let at : keys_at shard i k ≡ true = eq-eqb (shard k) i is in inr (inl (gone, at, or_right (s k) (keys_at shard i k) at))
+          | inr ne ↦ let at : keys_at shard i k ≡ false = ne_eqb (shard k) i ne in inr (inr (gone, at, or_from (s k) (keys_at shard i k) gone at))
+        ]
+      ]
+
+  still_new : (s : ℕ → Bool) (i : ℕ) (ns : List ℕ) → is_in ns i ≡ false → AreNew s (i ∷ ns) → AreNew (with_shard s i) ns
+  still_new s i ns distinct new k e =
+      elim (or_cases (s k) (keys_at shard i k) e) [
+        | inl here ↦ (not_first i ns (shard k) (new k here)).1
+        | inr at ↦ ap (λ (j : ℕ). is_in ns j) (eqb-true (shard k) i at) ∙ distinct
+      ]
+
+  or_none : (x : Bool) → (x || false) ≡ x
+  or_none true = refl
+  or_none false = refl
+
+  same_keys : (s : ℕ → Bool) (i : ℕ) (ns : List ℕ) (k : ℕ) → (with_shard s i k || is_in ns (shard k)) ≡ (s k || is_in (i ∷ ns) (shard k))
+  same_keys s i ns k =
+      elim (cases_eq (shard k) i) [
+        | inl is ↦
+            or_left (with_shard s i k) (is_in ns (shard k)) (or_right (s k) (keys_at shard i k) (eq-eqb (shard k) i is))
+            ∙ sym (or_right (s k) (is_in (i ∷ ns) (shard k)) (is_in_here i ns (shard k) is))
+        | inr ne ↦
+            ap (λ (b : Bool). (s k || b) || is_in ns (shard k)) (ne_eqb (shard k) i ne)
+            ∙ (ap (λ (b : Bool). b || is_in ns (shard k)) (or_none (s k))
+            ∙ ap (λ (b : Bool). s k || b) (sym (ap (λ (b : Bool). cond b true (is_in ns (shard k))) (ne_eqb i (shard k) (λ e. ne (sym e))))))
+      ]
+
+  module _ {V E S : Type 0} (does : V → List E → ℕ → S → V → List E → S → Type 0) (best : V → Option (ℕ × T)) (found : S → Option (ℕ × T))
+      (each : (v : V) (b : List E) (i : ℕ) (x : S) (w : V) (a : List E) (y : S) → does v b i x w a y → best w ≡ nearer near (best v) (found x)) where
+    nearest_on : (s : ℕ → Bool) (v w : V) (before after : List E) (held values : List (ℕ × S)) → Visited does v before held w after values → AreDistinct (numbers held) → AreNew s (numbers held)
+        → ((i : ℕ) (x : S) → lookup held i ≡ Some x → found x ≡ pair_near (kept (keys_at shard i) m) near) → best v ≡ pair_near (kept s m) near
+        → best w ≡ pair_near (kept (λ k. s k || is_in (numbers held) (shard k)) m) near
+    nearest_on s v w before after [] [] t distinct new parts known =
+        ap best t.0 ∙ (known ∙ ap (λ (l : Pairs T). pair_near l near) (kept-agree s (λ k. s k || false) m (λ k. sym (or_none (s k)))))
+    nearest_on s v w before after (h ∷ held) (y ∷ values) t distinct new parts known =
+        let next : best t.1 ≡ pair_near (kept (with_shard s h.0) m) near =
+        each v before h.0 h.1 t.1 t.2 y.1 t.3
+        ∙ ((λ i. nearer near (known i) (parts h.0 h.1 (at_here h.0 h.0 h.1 held refl) i))
+        ∙ sym (near_parts s (keys_at shard h.0) (with_shard s h.0) (one_part s h.0 (numbers held) new) near m up))
+        in
+        let later = λ (i : ℕ) (x : S) (e : lookup held i ≡ Some x). parts i x (at_next h.0 i h.1 held (λ at. true≢false (sym (found_in held i x e) ∙ (ap (λ (k : ℕ). is_in (numbers held) k) (sym at) ∙ distinct.0))) ∙ e) in
+        nearest_on (with_shard s h.0) t.1 w t.2 after held values t.4 distinct.1 (still_new s h.0 (numbers held) distinct.0 new) later next
+        ∙ ap (λ (l : Pairs T). pair_near l near) (kept-agree (λ k. with_shard s h.0 k || is_in (numbers held) (shard k)) (λ k. s k || is_in (h.0 ∷ numbers held) (shard k)) m (same_keys s h.0 (numbers held)))
+    nearest_on s v w before after [] (y ∷ values) t distinct new parts known = absurd t
+    nearest_on s v w before after (h ∷ held) [] t distinct new parts known = absurd t
+
+    -- visits that keep the nearer pair find the nearest of all
+    pub nearest_visited : (v w : V) (before after : List E) (held values : List (ℕ × S)) → Visited does v before held w after values → AreDistinct (numbers held) → kept (keys_of shard (numbers held)) m ≡ m
+        → ((i : ℕ) (x : S) → lookup held i ≡ Some x → found x ≡ pair_near (kept (keys_at shard i) m) near) → best v ≡ None → best w ≡ pair_near m near
+    nearest_visited v w before after held values visited distinct within parts start =
+        nearest_on (λ _. false) v w before after held values visited distinct (λ k e. absurd (true≢false (sym e))) parts
+        (start ∙ (near_nothing near ∙ ap (λ (l : Pairs T). pair_near l near) (sym (kept-none (λ _. false) m (λ k. refl)))))
+        ∙ ap (λ (l : Pairs T). pair_near l near) within

@@ -5,7 +5,9 @@
 
 ghost use Rattle.std.specs.Prelude.{◌≡◌, ℕ, [], ◌∷◌, None, IfSome, IsFalse, IsSome, IsTrue};
 ghost use Rattle.share_shards.specs.inner.Steps.{HeldBy, IsIdle, pairs_of};
-ghost use Rattle.spec_map.specs.Call.{count, counted, get, old_value};
+ghost use Rattle.share_parts.specs.Nearest.{lesser};
+ghost use Rattle.spec_map.specs.Call.{count, counted, first as first_end, found, get, nearest, old_value};
+ghost use Rattle.spec_map.specs.Near.{first_of};
 ghost use Rattle.spec_map.specs.Map.{Pairs, lookup, put};
 ghost use Rattle.test_share_shards.specs.Cells.{cell_pairs, putting, removals, returned, same};
 
@@ -146,6 +148,44 @@ impl Visit<Cell, ()> for Tally {
     }
 }
 
+// The cell's pair, if it has one.
+fn pair_of(cell: &Cell) -> Option<(u64, u64)>
+    ensures { result ≡ first_of (cell_pairs cell.now.key cell.now.value) }
+{
+    match cell.value {
+        None => None,
+        Some(value) => Some((cell.key, value)),
+    }
+}
+
+// The pair with the lesser key.
+fn lesser_of(a: Option<(u64, u64)>, b: Option<(u64, u64)>) -> Option<(u64, u64)>
+    ensures { result ≡ lesser a b }
+{
+    match (a, b) {
+        (Some(x), Some(y)) => if x.0 <= y.0 { Some(x) } else { Some(y) },
+        (Some(x), None) => Some(x),
+        (None, other) => other,
+    }
+}
+
+#[derive(Drop)]
+struct Least {
+    pair: Option<(u64, u64)>,
+}
+
+impl Visit<Cell, ()> for Least {
+    ghost use Rattle.test_share_shards.specs.Visits.{Leasts};
+
+    ghost does = { Leasts };
+
+    fn visit(&mut self, shard: usize, value: &mut Cell, buffer: &mut [()]) {
+        let _ = shard;
+        let _ = buffer;
+        self.pair = lesser_of(self.pair, pair_of(value));
+    }
+}
+
 #[derive(Drop)]
 struct Clear;
 
@@ -255,6 +295,25 @@ impl Cells {
         self.lock.each::<(), Tally>(&ALL, seat, &mut tally, &mut []);
         self.lock.release::<Brand, Tally>(&ALL, seat, &tally);
         Some(tally.cells)
+    }
+
+    /// The pair with the least key, at one moment. `None` if a shard is busy.
+    pub fn first(&self, seat: &mut CellSeat) -> Option<Option<(u64, u64)>>
+        requires table { seat.old.table_id ≡ self.now.lock }
+        requires idle { IsIdle seat.old.me }
+        ensures table { seat.new.table_id ≡ seat.old.table_id }
+        ensures made { IfSome result (λ pair.
+            HeldBy same (returned (nearest first_end) (found pair) ∷ []) seat.old.me seat.new.me) }
+        ensures missed { result ≡ None → seat.new.me ≡ seat.old.me }
+        ensures idle { IsIdle seat.new.me }
+    {
+        if !self.lock.take(&ALL, seat, TRIES) {
+            return None;
+        }
+        let mut least = Least { pair: None };
+        self.lock.each::<(), Least>(&ALL, seat, &mut least, &mut []);
+        self.lock.release::<Brand, Least>(&ALL, seat, &least);
+        Some(least.pair)
     }
 
     /// Removes all pairs, at one moment. `false` if a shard is busy.

@@ -8,25 +8,27 @@ use std::alloc::Global;
 use std::hint::spin_loop;
 use std::thread::{Threads, join};
 
-// What a few calls of one thread return: counts, a value, whether a key without a cell is refused.
-fn by_one(alloc: Global) -> Option<(u64, u64, Option<u64>, bool, u64)> {
+// What a few calls of one thread return: counts, the least pair, whether a value is found and a key without a cell is
+// refused.
+fn by_one(alloc: Global) -> Option<(u64, u64, Option<(u64, u64)>, bool, u64)> {
     let cells = Cells::new(alloc).ok()?;
     let mut seat = cells.seat()?;
     let none = cells.count(&mut seat)?;
-    cells.put(&mut seat, 2, 20)?;
     cells.put(&mut seat, 3, 30)?;
+    cells.put(&mut seat, 2, 20)?;
     let two = cells.count(&mut seat)?;
-    let found = cells.get(&mut seat, 2)?;
+    let least = cells.first(&mut seat)?;
+    let found = cells.get(&mut seat, 3)? == Some(30);
     let refused = cells.put(&mut seat, 7, 70)?.is_none();
     let cleared = cells.clear(&mut seat);
     let left = cells.count(&mut seat)?;
-    Some((none, two, found, refused && cleared, left))
+    Some((none, two, least, found && refused && cleared, left))
 }
 
 #[test]
 fn one_thread_sees_its_own_calls(rt: HostRuntime) {
     let seen = by_one(rt.alloc());
-    assert!(rt; seen == Some((0, 2, Some(20), true, 0)));
+    assert!(rt; seen == Some((0, 2, Some((2, 20)), true, 0)));
 }
 
 // A seat, as soon as no other thread is just being given one.
