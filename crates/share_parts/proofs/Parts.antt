@@ -2,10 +2,10 @@
 use Rattle.std.proofs.Common.{◌≡◌, ◌≢◌, ℕ, ◌+◌, ◌<◌, ◌≤◌, Bool, true, false, cond, eqb, List, [], ◌∷◌, Option, Some, None, refl, sym, ap, subst, ◌∙◌, inl, inr, arith}
 use Rattle.std.specs.Prelude.{Result, Ok, Err, take, nat_le, nat_lt, ◌&&◌}
 use Rattle.std.proofs.lemmas.Bool.{cases_eq, cases_lt, cases_Bool, lt-leb, le-ltb, and_left, and_right, true≢false, false_from_ne_true}
-use Rattle.spec_map.proofs.MapLaws.{lookup-next, Rises-wider, same_from_lookups}
+use Rattle.spec_map.proofs.MapLaws.{without-absent, lookup-next, Rises-wider, same_from_lookups}
 use Rattle.spec_map.specs.Call.{Call, get, insert, remove, compare_exchange, compute_if_present, compute_or_insert, is_empty, keys, range, nearest, count, ClosureCall, Answer, replied, refused, ranged, Operation}
 use Rattle.spec_map.specs.Legal.{IsLegal, MayAnswer, exchange, after_exchange, after_asking, after_operation, after_answer}
-use Rattle.spec_map.specs.Map.{Pairs, lookup, with_answer, between, Rises}
+use Rattle.spec_map.specs.Map.{Pairs, lookup, without, with_answer, between, Rises}
 use Rattle.spec_map.specs.Refusal.{never}
 use Rattle.share_parts.specs.Parts.{kept, Ascends, IsWithin, AreWithin, AreApart, RunsOnWhole}
 use Rattle.share_parts.proofs.Shards.{ascends_answer, ascends_after, allows_same, answer_at, other_answer}
@@ -237,3 +237,12 @@ module _ {P : Type 0} (same : P → P → Bool) where
           part = rest.part;
           others = λ other apart. rest.others other apart ∙ after_else other apart m x.call x.asked x.answer within.0 h;
         }
+
+-- a part of a map without a key
+pub kept-without : {P : Type 0} (mine : ℕ → Bool) (m : Pairs P) (k : ℕ) → Ascends m → kept mine (without m k) ≡ without (kept mine m) k
+kept-without {P} mine m k h =
+    let any : P → P → Bool = λ a b. true in
+    elim (cases_Bool (mine k)) [
+      | inl stays ↦ answer_kept any mine m k None h stays
+      | inr goes ↦ answer_else any mine m k None h goes ∙ sym (without-absent (kept mine m) k (lookup-kept_not mine m k goes))
+    ]

@@ -49,6 +49,23 @@ visited_all {V} {E} {S} does P each v w before after (h ∷ held) (k ∷ values)
 visited_all does P each v w before after [] (k ∷ values) h i y e = absurd h
 visited_all does P each v w before after (h ∷ held) [] t i y e = absurd t
 
+-- each value is made of what was there as each visit makes it, while the visitor keeps what it knows
+pub visited_each : {V E S : Type 0} (does : V → List E → ℕ → S → V → List E → S → Type 0) (Knows : V → Type 0) (Makes : S → S → Type 0)
+    → ((v : V) (b : List E) (i : ℕ) (x : S) (w : V) (a : List E) (y : S) → does v b i x w a y → Knows v → Knows w × Makes x y)
+    → (v w : V) (before after : List E) (held values : List (ℕ × S)) → Knows v → Visited does v before held w after values
+    → (i : ℕ) (y : S) → lookup values i ≡ Some y → (x : S) × (lookup held i ≡ Some x) × Makes x y
+visited_each {V} {E} {S} does Knows Makes each v w before after [] [] knows t i y e = absurd (let clash : ◌≡◌ {A = Option S} None (Some y) = e in cc)
+visited_each {V} {E} {S} does Knows Makes each v w before after (h ∷ held) (k ∷ values) knows t i y e =
+    let one = each v before h.0 h.1 t.1 t.2 k.1 t.3 knows in
+    elim (cases_eq k.0 i) [
+      | inl at ↦ (h.1, at_here h.0 i h.1 held (sym t.0 ∙ at), subst (λ (z : S). Makes h.1 z) (unsome k.1 y (sym (at_here k.0 i k.1 values at) ∙ e)) one.1)
+      | inr ne ↦
+          let rest = visited_each does Knows Makes each t.1 w t.2 after held values one.0 t.4 i y (sym (at_next k.0 i k.1 values ne) ∙ e) in
+          (rest.0, at_next h.0 i h.1 held (λ is. ne (t.0 ∙ is)) ∙ rest.1, rest.2)
+    ]
+visited_each does Knows Makes each v w before after [] (k ∷ values) knows h i y e = absurd h
+visited_each does Knows Makes each v w before after (h ∷ held) [] knows t i y e = absurd t
+
 -- the sum of the sizes of all that are held
 abbrev pub sum_sizes : {S : Type 0} → (S → ℕ) → List (ℕ × S) → ℕ
 sum_sizes size [] = 0

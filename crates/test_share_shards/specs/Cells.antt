@@ -1,7 +1,7 @@
 -- A map of a few keys, each in a cell and a shard of its own, and the operations of its calls.
 use Rattle.std.specs.Prelude.{ℕ, ◌%◌, Bool, List, [], ◌∷◌, ◌==◌, Option, Some, None}
-use Rattle.spec_map.specs.Call.{Call, Reply, Operation, insert, remove, replied, old_value}
-use Rattle.spec_map.specs.Map.{Pairs}
+use Rattle.spec_map.specs.Call.{Call, Reply, Operation, first, found, insert, nearest, remove, replied, old_value}
+use Rattle.spec_map.specs.Map.{Pairs, without}
 
 -- the pairs of a cell
 abbrev pub cell_pairs : ℕ → Option ℕ → Pairs ℕ
@@ -28,3 +28,13 @@ putting key value (Some before) = returned (insert key value) (old_value before)
 abbrev pub removals : Pairs ℕ → List (Operation ℕ ℕ ℕ)
 removals [] = []
 removals (e ∷ es) = returned (remove e.0) (old_value (Some e.1)) ∷ removals es
+
+-- the least pair was found, and removed if there was one
+abbrev pub popping : Option (ℕ × ℕ) → List (Operation ℕ ℕ ℕ)
+popping None = returned (nearest first) (found None) ∷ []
+popping (Some pair) = returned (nearest first) (found (Some pair)) ∷ returned (remove pair.0) (old_value (Some pair.1)) ∷ []
+
+-- the pairs without this one, if there is one
+abbrev pub left_by : Pairs ℕ → Option (ℕ × ℕ) → Pairs ℕ
+left_by m None = m
+left_by m (Some pair) = without m pair.0

@@ -9,7 +9,7 @@ ghost use Rattle.share_parts.specs.Nearest.{lesser};
 ghost use Rattle.spec_map.specs.Call.{count, counted, first as first_end, found, get, nearest, old_value};
 ghost use Rattle.spec_map.specs.Near.{first_of};
 ghost use Rattle.spec_map.specs.Map.{Pairs, lookup, put};
-ghost use Rattle.test_share_shards.specs.Cells.{cell_pairs, putting, removals, returned, same};
+ghost use Rattle.test_share_shards.specs.Cells.{cell_pairs, left_by, popping, putting, removals, returned, same};
 
 use share_shards::lock::{LockSeat, ShardLock};
 use share_shards::rule::Sharded;
@@ -112,7 +112,7 @@ struct Put {
 
 impl Work<u64, Cell, ()> for Put {
     ghost use Rattle.std.specs.Prelude.{◌≡◌};
-    ghost use Rattle.test_share_shards.specs.Cells.{cell_pairs, putting, shard_of};
+    ghost use Rattle.test_share_shards.specs.Cells.{cell_pairs, left_by, popping, putting, shard_of};
 
     ghost made = { λ w _. putting w.key w.value w.before };
 
@@ -183,6 +183,36 @@ impl Visit<Cell, ()> for Least {
         let _ = shard;
         let _ = buffer;
         self.pair = lesser_of(self.pair, pair_of(value));
+    }
+}
+
+// Empties the cell, if this pair is of its key.
+#[tactic(auto, using(crate::proofs::Whole::left_none, crate::proofs::Whole::left_same, crate::proofs::Whole::left_other))]
+fn take_out(cell: &mut Cell, pair: Option<(u64, u64)>)
+    ensures { cell_pairs cell.new.key cell.new.value ≡ left_by (cell_pairs cell.old.key cell.old.value) pair }
+{
+    let Some((key, _)) = pair else {
+        return;
+    };
+    if cell.key == key {
+        cell.value = None;
+    }
+}
+
+#[derive(Drop)]
+struct Remove {
+    pair: Option<(u64, u64)>,
+}
+
+impl Visit<Cell, ()> for Remove {
+    ghost use Rattle.test_share_shards.specs.Visits.{Removes};
+
+    ghost does = { Removes };
+
+    fn visit(&mut self, shard: usize, value: &mut Cell, buffer: &mut [()]) {
+        let _ = shard;
+        let _ = buffer;
+        take_out(value, self.pair);
     }
 }
 
@@ -312,6 +342,27 @@ impl Cells {
         }
         let mut least = Least { pair: None };
         self.lock.each::<(), Least>(&ALL, seat, &mut least, &mut []);
+        self.lock.release::<Brand, Least>(&ALL, seat, &least);
+        Some(least.pair)
+    }
+
+    /// Removes the pair with the least key, and returns it, at one moment. `None` if a shard is busy.
+    pub fn pop_first(&self, seat: &mut CellSeat) -> Option<Option<(u64, u64)>>
+        requires table { seat.old.table_id ≡ self.now.lock }
+        requires idle { IsIdle seat.old.me }
+        ensures table { seat.new.table_id ≡ seat.old.table_id }
+        ensures made { IfSome result (λ pair. HeldBy same (popping pair) seat.old.me seat.new.me) }
+        ensures missed { result ≡ None → seat.new.me ≡ seat.old.me }
+        ensures idle { IsIdle seat.new.me }
+    {
+        if !self.lock.take(&ALL, seat, TRIES) {
+            return None;
+        }
+        let mut least = Least { pair: None };
+        self.lock.each::<(), Least>(&ALL, seat, &mut least, &mut []);
+        let mut remove = Remove { pair: least.pair };
+        self.lock
+            .each::<(), Remove>(&ALL, seat, &mut remove, &mut []);
         self.lock.release::<Brand, Least>(&ALL, seat, &least);
         Some(least.pair)
     }

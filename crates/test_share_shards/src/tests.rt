@@ -8,8 +8,8 @@ use std::alloc::Global;
 use std::hint::spin_loop;
 use std::thread::{Threads, join};
 
-// What a few calls of one thread return: counts, the least pair, whether a value is found and a key without a cell is
-// refused.
+// What a few calls of one thread return: counts, the least pair, whether a value is found, the least pair is popped, a
+// key without a cell is refused and all is cleared.
 fn by_one(alloc: Global) -> Option<(u64, u64, Option<(u64, u64)>, bool, u64)> {
     let cells = Cells::new(alloc).ok()?;
     let mut seat = cells.seat()?;
@@ -19,10 +19,17 @@ fn by_one(alloc: Global) -> Option<(u64, u64, Option<(u64, u64)>, bool, u64)> {
     let two = cells.count(&mut seat)?;
     let least = cells.first(&mut seat)?;
     let found = cells.get(&mut seat, 3)? == Some(30);
+    let popped = cells.pop_first(&mut seat)? == least && cells.first(&mut seat)? == Some((3, 30));
     let refused = cells.put(&mut seat, 7, 70)?.is_none();
     let cleared = cells.clear(&mut seat);
     let left = cells.count(&mut seat)?;
-    Some((none, two, least, found && refused && cleared, left))
+    Some((
+        none,
+        two,
+        least,
+        found && popped && refused && cleared,
+        left,
+    ))
 }
 
 #[test]

@@ -1,5 +1,5 @@
 use Rattle.std.proofs.Common.{◌≡◌, ◌∙◌, [], ◌∷◌, ℕ, List, refl, sym, ap}
-use Rattle.std.specs.Prelude.{Option, Some}
+use Rattle.std.specs.Prelude.{Option}
 use Rattle.share_shards.specs.Held.{numbers}
 use Rattle.share_shards.specs.inner.Steps.{held_of, pairs_of}
 use Rattle.share_shards.proofs.Whole.{may_all, nearest_visited, took_all, took_slots, visited_same}
