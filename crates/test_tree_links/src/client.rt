@@ -5,6 +5,7 @@ ghost use Rattle.node_table.specs.Key.{IsFirstDifference};
 ghost use Rattle.tree_links.specs.SeenTable.{name_of};
 ghost use Rattle.tree_path.specs.inner.Root.{HasTree, tree_payload};
 
+use node_base::base_node::NodeType;
 use node_table::tree_node::TreeNode;
 use spec_map::error::OOMError;
 use std::alloc::Global;
@@ -114,4 +115,46 @@ pub fn split(alloc: Global, key: &[u8; 8], other: &[u8; 8], at: usize) -> Result
         kind_under(&nodes, above, key[at]),
         kind_under(&nodes, above, other[at]),
     ))
+}
+
+/// Splits as `split` does, and then above the new node by a third key, which differs from the second at a place before.
+/// Returns what the upper node has under the bytes of the second and the third, and the lower one under the first's.
+pub fn split_twice(
+    alloc: Global,
+    key: &[u8; 8],
+    other: &[u8; 8],
+    at: usize,
+    third: &[u8; 8],
+    before: usize,
+) -> Result<(u8, u8, u8), OOMError>
+    requires early { 0 < before }
+    requires order { before < at }
+    requires differs { IsFirstDifference (take 7 key.now) other.now at }
+    requires parts { IsFirstDifference (take at other.now) third.now before }
+{
+    let mut nodes: Numbers = Links::new(alloc);
+    nodes.reserve(6)?;
+    let root = nodes.add(TreeNode::root(alloc)?);
+    nodes.add_pair(root, key[0], key, 1);
+    let node = TreeNode::empty_inner(&other[..at]);
+    let lower = nodes.split_pair(root, key[0], other, at, node, 2);
+    let node = TreeNode::empty_inner(&third[..before]);
+    let upper = nodes.split_above(root, key[0], lower, third, before, node, 3);
+    Ok((
+        kind_under(&nodes, upper, other[before]),
+        kind_under(&nodes, upper, third[before]),
+        kind_under(&nodes, lower, key[at]),
+    ))
+}
+
+/// Whether a node of the smallest form has the next one once it is grown.
+pub fn grows(alloc: Global) -> Result<bool, OOMError> {
+    let mut nodes: Numbers = Links::new(alloc);
+    nodes.reserve(1)?;
+    let node = nodes.add(TreeNode::empty_inner(&[1, 2]));
+    nodes.grow(node, alloc)?;
+    match nodes.get(node) {
+        Some(grown) => Ok(grown.base().get_type() == NodeType::N16),
+        None => Ok(false),
+    }
 }

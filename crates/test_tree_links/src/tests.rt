@@ -1,6 +1,6 @@
 //! One pair, and two.
 
-use crate::client::{make_round, one_pair, split, value_at};
+use crate::client::{grows, make_round, one_pair, split, split_twice, value_at};
 use std::test::Fail;
 
 const KEY: [u8; 8] = [3, 1, 4, 1, 5, 9, 2, 6];
@@ -8,6 +8,8 @@ const KEY: [u8; 8] = [3, 1, 4, 1, 5, 9, 2, 6];
 const LAST_DIFFERS: [u8; 8] = [3, 1, 4, 1, 5, 9, 2, 7];
 
 const FOURTH_DIFFERS: [u8; 8] = [3, 1, 4, 2, 5, 9, 2, 6];
+
+const SECOND_DIFFERS: [u8; 8] = [3, 2, 4, 1, 5, 9, 2, 6];
 
 const FIRST_DIFFERS: [u8; 8] = [4, 1, 4, 1, 5, 9, 2, 6];
 
@@ -32,5 +34,19 @@ fn a_pair_is_changed_gets_a_slot_goes_back_and_is_taken(rt: HostRuntime) -> Resu
 #[test]
 fn a_node_of_two_pairs_takes_the_place_of_one(rt: HostRuntime) -> Result<(), Fail> {
     assert!(rt; split(rt.alloc(), &KEY, &FOURTH_DIFFERS, 3)? == (3, 3));
+    Ok(())
+}
+
+#[test]
+fn a_node_above_takes_the_place_of_one_that_keeps_its_slot(rt: HostRuntime) -> Result<(), Fail> {
+    assert!(rt;
+        split_twice(rt.alloc(), &KEY, &FOURTH_DIFFERS, 3, &SECOND_DIFFERS, 1)? == (2, 3, 3)
+    );
+    Ok(())
+}
+
+#[test]
+fn a_node_grows_into_the_next_form(rt: HostRuntime) -> Result<(), Fail> {
+    assert!(rt; grows(rt.alloc())?);
     Ok(())
 }
