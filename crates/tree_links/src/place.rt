@@ -1,7 +1,5 @@
 //! A node of `node_table` as one whose children may be pairs: an inner node has a `Place` for each child.
 //!
-//! Not tested yet.
-//!
 //! Tested in `test_tree_links`.
 
 ghost use Rattle.std.specs.Prelude.{◌≡◌, ◌+◌, length, IfOk, IfErr, OnOk, OnErr, Some, None};
