@@ -174,8 +174,8 @@ impl<T, S: Sharded<T> + Drop> ShardLock<T, S> {
     }
 
     /// Takes the locks of these shards, one after another, each at one of so many tries. `false` if one stays taken:
-    /// the others are released, and nothing has changed. Where all threads take shards in ascending order, each once,
-    /// one of them goes on.
+    /// the others are released, and nothing has changed. Callers pass shards in ascending order, each once, so that no two
+    /// of them wait for one another.
     pub fn take(&self, shards: &[usize], seat: &mut LockSeat<T, S>, tries: u32) -> bool
         requires table { seat.old.table_id ≡ self.now }
         requires holds { Holds S.content (S.shard self.now.slots) seat.old.me }
