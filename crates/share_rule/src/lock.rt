@@ -5,7 +5,7 @@
 ghost use Rattle.std.specs.Prelude.{◌≡◌, ◌≢◌, [], ◌∷◌, Some, None, IfOk, IfSome, IsTrue, IsFalse, MatchOption};
 ghost use Rattle.share_rule.specs.inner.Hold.{HeldBy};
 ghost use Rattle.share_rule.specs.inner.SeatView.{Blank};
-ghost use Rattle.share_rule.specs.inner.Steps.{IsIdle, MayRelease, Released, Won, at_of, seen_of};
+ghost use Rattle.share_rule.specs.inner.Steps.{IsIdle, MayRelease, Released, Won, at_of, caller_of, seen_of};
 ghost use Rattle.share_rule.specs.inner.Meeting.{SeesMore};
 
 use crate::rule::{Cut, Done, Enter, Law, Leave, Meet, Pair, Protected, Release, Try};
@@ -127,7 +127,7 @@ impl<T, N, S: Protected<T, N> + Drop> Lock<T, N, S> {
         let _ = self.perch.give(left, EMPTY, RESTING);
     }
 
-    /// Both callers have then seen the same, which begins with what each had seen.
+    /// Both callers, which are two, have then seen the same, which begins with what each had seen.
     pub fn meet(&self, a: &mut LockSeat<T, N, S>, b: &mut LockSeat<T, N, S>)
         requires first_table { a.old.table_id ≡ self.now }
         requires first_idle { IsIdle a.old.me }
@@ -138,6 +138,7 @@ impl<T, N, S: Protected<T, N> + Drop> Lock<T, N, S> {
         ensures second_table { b.new.table_id ≡ b.old.table_id }
         ensures second { SeesMore S.same b.old.me b.new.me }
         ensures one { seen_of a.new.me.0 ≡ seen_of b.new.me.0 }
+        ensures differ { caller_of a.old.me.0 ≢ caller_of b.old.me.0 }
     {
         let spare = self.board.shared.split_seat::<Cut>(a);
         let other = mem::replace(b, spare);
@@ -223,7 +224,7 @@ impl<T, N, S: Protected<T, N> + Drop> Lock<T, N, S> {
     }
 
     /// One more seat, with a caller of its own, which has seen nothing and has no number.
-    pub(crate) fn seat_beside(&self, seat: &mut LockSeat<T, N, S>) -> LockSeat<T, N, S>
+    pub fn seat_beside(&self, seat: &mut LockSeat<T, N, S>) -> LockSeat<T, N, S>
         requires table { seat.old.table_id ≡ self.now }
         requires idle { IsIdle seat.old.me }
         ensures table { seat.new.table_id ≡ seat.old.table_id }
