@@ -6,7 +6,8 @@ ghost use Rattle.std.specs.Prelude.{◌≡◌, ◌≢◌, ◌⊎◌, None, Some,
 ghost use Rattle.spec_map.specs.Call.{compare_exchange, exchanged};
 ghost use Rattle.spec_olc.specs.Runs.{same_number};
 ghost use Rattle.share_rule.specs.Known.{MadeCall};
-ghost use Rattle.share_calls.specs.Made.{returned, computed_from, sum_with};
+ghost use Rattle.share_works.specs.Made.{returned};
+ghost use Rattle.share_calls.specs.Computed.{computed_from, sum_with};
 ghost use Rattle.congee_shared_c.specs.Answer.{oom, busy};
 
 use crate::handle::Handle;

@@ -6,14 +6,14 @@ ghost use Rattle.std.specs.Prelude.{◌≡◌, ◌≢◌, ◌⊎◌, None, Some,
 ghost use Rattle.spec_map.specs.Call.{nearest, found, first, last, floor, below, ceiling, above};
 ghost use Rattle.spec_olc.specs.Runs.{same_number};
 ghost use Rattle.share_rule.specs.Known.{MadeCall, MadeCalls};
-ghost use Rattle.share_calls.specs.Made.{returned};
-ghost use Rattle.share_calls.specs.Ends.{popping};
+ghost use Rattle.share_works.specs.Made.{returned};
+ghost use Rattle.share_works.specs.Ends.{popping};
 ghost use Rattle.congee_shared_c.specs.Answer.{oom, busy};
 
 use crate::handle::Handle;
 use crate::{BUSY, OOM, Pair};
-use share_calls::ends::Near;
 use share_calls::state::Missed;
+use share_works::near::Near;
 
 /// Writes the pair with the least key to `pair` and answers 1, or answers 0 for an empty map, or `BUSY`. Takes no memory.
 #[unsafe(no_mangle)]

@@ -16,7 +16,7 @@ ghost use Rattle.std.specs.Prelude.{◌≡◌, ◌≢◌, ◌⊎◌, [], Some, N
 ghost use Rattle.spec_map.specs.Call.{compare_exchange, exchanged, get, insert, remove, old_value};
 ghost use Rattle.spec_olc.specs.Runs.{same_number};
 ghost use Rattle.share_rule.specs.Known.{MadeCall, SeenMore};
-ghost use Rattle.share_calls.specs.Made.{returned};
+ghost use Rattle.share_works.specs.Made.{returned};
 ghost use Rattle.congee_shared_c.specs.Answer.{oom, busy};
 
 mod computed;

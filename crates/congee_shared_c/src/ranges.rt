@@ -7,7 +7,7 @@ ghost use Rattle.spec_map.specs.Call.{range, ranged};
 ghost use Rattle.spec_map.specs.Map.{Pairs};
 ghost use Rattle.spec_olc.specs.Runs.{same_number};
 ghost use Rattle.share_rule.specs.Known.{MadeCall, MadeCalls};
-ghost use Rattle.share_calls.specs.Made.{returned, listing};
+ghost use Rattle.share_works.specs.Made.{returned, listing};
 ghost use Rattle.congee_shared_c.specs.Answer.{busy};
 ghost use Rattle.congee_shared_c.specs.Entries.{as_entries};
 

@@ -11,7 +11,7 @@ ghost use Rattle.spec_olc.specs.Runs.{same_number};
 ghost use Rattle.tree_edit.specs.Tree.{TreeView};
 ghost use Rattle.tree_edit.specs.TreeCalls.{IsChargeOf};
 ghost use Rattle.share_rule.specs.Known.{MadeCall, MadeCalls};
-ghost use Rattle.share_calls.specs.Made.{returned, clearing};
+ghost use Rattle.share_works.specs.Made.{returned, clearing};
 ghost use Rattle.congee_shared_c.specs.Answer.{busy};
 
 use crate::BUSY;

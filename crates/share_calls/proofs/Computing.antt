@@ -1,7 +1,7 @@
 -- How a map goes on by a call that puts the new value together from the current one.
 use Rattle.std.proofs.Common.{◌≡◌, ℕ, [], ◌∷◌, refl, sym, ap, subst, ◌∙◌}
-use Rattle.std.specs.Prelude.{Option, Some, None, Result, Ok, Err, IfOk, OnOk, OnErr}
-use Rattle.share_calls.specs.Made.{computed_from}
+use Rattle.std.specs.Prelude.{Option, Result, Ok, Err, IfOk, OnOk, OnErr}
+use Rattle.share_calls.specs.Computed.{computed_from}
 use Rattle.share_calls.specs.inner.Attempts.{computation}
 use Rattle.share_rule.specs.inner.Hold.{StepsBy}
 use Rattle.spec_map.specs.Legal.{IsLegal}

@@ -8,7 +8,7 @@ use Rattle.spec_map.specs.Legal.{IsLegal, after_exchange, exchange}
 use Rattle.spec_map.specs.Map.{Pairs, lookup, with_answer}
 use Rattle.spec_map.specs.Refusal.{never}
 use Rattle.spec_olc.specs.Runs.{same_number}
-use Rattle.share_calls.specs.Made.{returned}
+use Rattle.share_works.specs.Made.{returned}
 
 module _ (x y : Pairs ℕ) (key expected : ℕ) (desired : Option ℕ) (r : Result (Option ℕ) (Option ℕ)) where
   abbrev Ex : Option ℕ → Result (Option ℕ) (Option ℕ)

@@ -1,3 +1,2 @@
-pub mod Ends
-pub mod Made
+pub mod Computed
 pub mod inner

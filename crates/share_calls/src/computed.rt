@@ -6,7 +6,7 @@ ghost use Rattle.std.specs.Prelude.{◌≡◌, IfOk, OnErr, OnOk, unwrap_or};
 ghost use Rattle.spec_map.specs.Map.{lookup, put};
 ghost use Rattle.spec_olc.specs.Runs.{same_number};
 ghost use Rattle.share_rule.specs.Known.{MadeCall};
-ghost use Rattle.share_calls.specs.Made.{computed_from, sum_with};
+ghost use Rattle.share_calls.specs.Computed.{computed_from, sum_with};
 
 use crate::guard::Guard;
 use crate::state::{Missed, State};
@@ -24,7 +24,7 @@ struct Add {
 
 impl Work<u64, (), State, ()> for Add {
     ghost use Rattle.std.specs.Prelude.{◌≡◌};
-    ghost use Rattle.share_calls.specs.Made.{sum_with};
+    ghost use Rattle.share_calls.specs.Computed.{sum_with};
     ghost use Rattle.share_calls.specs.inner.Attempts.{computation};
 
     ghost made = { λ w _. computation w.key (λ before. sum_with before w.number) w.put };

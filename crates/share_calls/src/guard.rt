@@ -5,7 +5,7 @@
 ghost use Rattle.std.specs.Prelude.{◌≡◌, ℕ, [], IfOk, IsFalse, IsTrue};
 ghost use Rattle.spec_olc.specs.Runs.{same_number};
 ghost use Rattle.share_rule.specs.Known.{SeenMore};
-ghost use Rattle.share_calls.specs.Made.{KnowsBy};
+ghost use Rattle.share_works.specs.Made.{KnowsBy};
 
 use crate::state::{MapLock, MapSeat, State, TRIES};
 use face_typed::typed_congee::Congee;
@@ -61,7 +61,7 @@ impl Guard {
 
     /// One more caller of the map. Both have then seen one history, which begins with what this one had seen.
     /// `OOMError` where there are 2 to the 63 callers.
-    #[tactic(auto, using(crate::proofs::Seen::seen_same, crate::proofs::Seen::seen_more))]
+    #[tactic(auto, using(share_works::proofs::Knowing::seen_same, share_works::proofs::Knowing::seen_more))]
     pub fn another(&mut self) -> Result<Guard, OOMError>
         ensures other { IfOk result (λ other. (other.table ≡ self.old.table)
             × (other.seen ≡ self.new.seen)) }
@@ -76,7 +76,7 @@ impl Guard {
     }
 
     /// Does this work in one hold of the lock. `false` if the lock was taken at each try, and changes nothing.
-    #[tactic(auto, using(crate::proofs::Seen::knows_by))]
+    #[tactic(auto, using(share_works::proofs::Knowing::knows_by))]
     pub(crate) fn make<E, W: Work<u64, (), State, E>>(
         &mut self,
         work: &mut W,

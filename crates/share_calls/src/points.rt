@@ -6,7 +6,7 @@ ghost use Rattle.std.specs.Prelude.{◌≡◌, ◌≢◌, Err, Some, IfOk, OnErr
 ghost use Rattle.spec_map.specs.Call.{compare_exchange, exchanged, get, insert, remove, old_value};
 ghost use Rattle.spec_olc.specs.Runs.{same_number};
 ghost use Rattle.share_rule.specs.Known.{MadeCall};
-ghost use Rattle.share_calls.specs.Made.{returned};
+ghost use Rattle.share_works.specs.Made.{returned};
 
 use crate::guard::Guard;
 use crate::state::{Missed, State};
@@ -22,7 +22,7 @@ struct Get {
 impl Work<u64, (), State, ()> for Get {
     ghost use Rattle.std.specs.Prelude.{◌≡◌, [], ◌∷◌};
     ghost use Rattle.spec_map.specs.Call.{get, old_value};
-    ghost use Rattle.share_calls.specs.Made.{returned};
+    ghost use Rattle.share_works.specs.Made.{returned};
 
     ghost made = { λ w _. returned (get w.key) (old_value w.found) ∷ [] };
 
@@ -64,7 +64,7 @@ struct Remove {
 impl Work<u64, (), State, ()> for Remove {
     ghost use Rattle.std.specs.Prelude.{◌≡◌, [], ◌∷◌};
     ghost use Rattle.spec_map.specs.Call.{remove, old_value};
-    ghost use Rattle.share_calls.specs.Made.{returned};
+    ghost use Rattle.share_works.specs.Made.{returned};
 
     ghost made = { λ w _. returned (remove w.key) (old_value w.before) ∷ [] };
 
@@ -87,7 +87,7 @@ struct Exchange {
 impl Work<u64, (), State, ()> for Exchange {
     ghost use Rattle.std.specs.Prelude.{◌≡◌, [], ◌∷◌, IfOk};
     ghost use Rattle.spec_map.specs.Call.{compare_exchange, exchanged};
-    ghost use Rattle.share_calls.specs.Made.{returned};
+    ghost use Rattle.share_works.specs.Made.{returned};
 
     ghost made = { λ w _.
         returned (compare_exchange w.key w.expected w.desired) (exchanged w.result) ∷ [] };

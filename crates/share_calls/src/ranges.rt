@@ -7,92 +7,12 @@ ghost use Rattle.spec_map.specs.Call.{count, counted, range, ranged};
 ghost use Rattle.spec_map.specs.Map.{Pairs};
 ghost use Rattle.spec_olc.specs.Runs.{same_number};
 ghost use Rattle.share_rule.specs.Known.{MadeCall, MadeCalls};
-ghost use Rattle.share_calls.specs.Made.{returned, listing};
+ghost use Rattle.share_works.specs.Made.{returned, listing};
 
 use crate::guard::Guard;
-use crate::state::{Missed, State};
-use share_rule::work::Work;
+use crate::state::Missed;
+use share_works::ranges::{Range, RangeDescending, RangeInclusive};
 use tree_walk::range_scan::RangeEntry;
-
-#[derive(Drop)]
-struct Range {
-    start: u64,
-    end: u64,
-    room: usize,
-    written: usize,
-}
-
-impl<E: RangeEntry> Work<u64, (), State, E> for Range {
-    ghost use Rattle.std.specs.Prelude.{◌≡◌, [], ◌∷◌, length, take};
-    ghost use Rattle.spec_map.specs.Call.{range, ranged};
-    ghost use Rattle.spec_map.specs.Map.{between};
-    ghost use Rattle.share_calls.specs.Made.{returned};
-    ghost use Rattle.share_calls.specs.inner.Written.{AreWritten};
-
-    ghost made = { λ w value. returned (range w.start w.end w.room)
-        (ranged (take w.room (between value.map.pairs w.start w.end))) ∷ [] };
-
-    ghost does = { λ old before value new after. (new.start ≡ old.start) × (new.end ≡ old.end)
-        × (new.room ≡ old.room)
-        × AreWritten E.entry (between value.map.pairs new.start new.end) before new.written after };
-
-    fn work(&mut self, value: &mut State, buffer: &mut [E]) {
-        self.written = value.map.range_of(self.start, self.end, buffer);
-    }
-}
-
-#[derive(Drop)]
-struct RangeInclusive {
-    start: u64,
-    last: u64,
-    room: usize,
-    written: usize,
-}
-
-impl<E: RangeEntry> Work<u64, (), State, E> for RangeInclusive {
-    ghost use Rattle.std.specs.Prelude.{◌≡◌, ◌+◌, [], ◌∷◌, length, take};
-    ghost use Rattle.spec_map.specs.Call.{range, ranged};
-    ghost use Rattle.spec_map.specs.Map.{between};
-    ghost use Rattle.share_calls.specs.Made.{returned};
-    ghost use Rattle.share_calls.specs.inner.Written.{AreWritten};
-
-    ghost made = { λ w value. returned (range w.start (w.last + 1) w.room)
-        (ranged (take w.room (between value.map.pairs w.start (w.last + 1)))) ∷ [] };
-
-    ghost does = { λ old before value new after. (new.start ≡ old.start) × (new.last ≡ old.last)
-        × (new.room ≡ old.room)
-        × AreWritten E.entry (between value.map.pairs new.start (new.last + 1))
-        before new.written after };
-
-    fn work(&mut self, value: &mut State, buffer: &mut [E]) {
-        self.written = value.map.range_inclusive_of(self.start, self.last, buffer);
-    }
-}
-
-#[derive(Drop)]
-struct RangeDescending {
-    start: u64,
-    last: u64,
-    written: usize,
-}
-
-impl<E: RangeEntry> Work<u64, (), State, E> for RangeDescending {
-    ghost use Rattle.std.specs.Prelude.{◌≡◌, ◌+◌, length, reverse};
-    ghost use Rattle.spec_map.specs.Map.{between};
-    ghost use Rattle.share_calls.specs.Made.{listing};
-    ghost use Rattle.share_calls.specs.inner.Written.{AreWritten};
-
-    ghost made = { λ w value. listing w.start (w.last + 1) (length value.map.pairs)
-        (between value.map.pairs w.start (w.last + 1)) };
-
-    ghost does = { λ old before value new after. (new.start ≡ old.start) × (new.last ≡ old.last)
-        × AreWritten E.entry (reverse (between value.map.pairs old.start (old.last + 1)))
-        before new.written after };
-
-    fn work(&mut self, value: &mut State, buffer: &mut [E]) {
-        self.written = value.map.range_descending_of(self.start, self.last, buffer);
-    }
-}
 
 impl Guard {
     /// Writes the first pairs with keys from `start` on and below `end` to the buffer, ascending, as many as there are

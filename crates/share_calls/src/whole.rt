@@ -10,52 +10,12 @@ ghost use Rattle.spec_olc.specs.Runs.{same_number};
 ghost use Rattle.tree_edit.specs.Tree.{TreeView};
 ghost use Rattle.tree_edit.specs.TreeCalls.{IsChargeOf};
 ghost use Rattle.share_rule.specs.Known.{MadeCall, MadeCalls};
-ghost use Rattle.share_calls.specs.Made.{returned, clearing};
+ghost use Rattle.share_works.specs.Made.{returned, clearing};
 
 use crate::guard::Guard;
 use crate::state::{Missed, State};
 use share_rule::work::Work;
-
-#[derive(Drop)]
-struct Count {
-    count: u128,
-}
-
-impl Work<u64, (), State, ()> for Count {
-    ghost use Rattle.std.specs.Prelude.{[], ◌∷◌};
-    ghost use Rattle.spec_map.specs.Call.{count, counted};
-    ghost use Rattle.share_calls.specs.Made.{returned};
-
-    ghost made = { λ w _. returned count (counted w.count) ∷ [] };
-
-    ghost does = { λ old _ _ new _. Unit {0} };
-
-    fn work(&mut self, value: &mut State, buffer: &mut [()]) {
-        let _ = buffer;
-        self.count = value.map.value_count();
-    }
-}
-
-#[derive(Drop)]
-struct IsEmpty {
-    empty: bool,
-}
-
-impl Work<u64, (), State, ()> for IsEmpty {
-    ghost use Rattle.std.specs.Prelude.{[], ◌∷◌};
-    ghost use Rattle.spec_map.specs.Call.{is_empty, tested};
-    ghost use Rattle.share_calls.specs.Made.{returned};
-
-    ghost made = { λ w _. returned is_empty (tested w.empty) ∷ [] };
-
-    ghost does = { λ old _ _ new _. Unit {0} };
-
-    #[tactic(auto, using(crate::proofs::Counting::empty_goes))]
-    fn work(&mut self, value: &mut State, buffer: &mut [()]) {
-        let _ = buffer;
-        self.empty = value.map.is_empty();
-    }
-}
+use share_works::whole::{Clear, Count, IsEmpty};
 
 #[derive(Drop)]
 struct Charged {
@@ -66,7 +26,7 @@ impl Work<u64, (), State, ()> for Charged {
     ghost use Rattle.std.specs.Prelude.{[], ◌∷◌, length};
     ghost use Rattle.spec_map.specs.Call.{count, counted};
     ghost use Rattle.tree_edit.specs.TreeCalls.{IsChargeOf};
-    ghost use Rattle.share_calls.specs.Made.{returned};
+    ghost use Rattle.share_works.specs.Made.{returned};
 
     ghost made = { λ w value. returned count (counted (length value.map.pairs)) ∷ [] };
 
@@ -75,22 +35,6 @@ impl Work<u64, (), State, ()> for Charged {
     fn work(&mut self, value: &mut State, buffer: &mut [()]) {
         let _ = buffer;
         self.bytes = value.map.charged();
-    }
-}
-
-#[derive(Drop)]
-struct Clear;
-
-impl Work<u64, (), State, ()> for Clear {
-    ghost use Rattle.share_calls.specs.Made.{clearing};
-
-    ghost made = { λ w value. clearing value.map.pairs };
-
-    ghost does = { λ old _ _ new _. Unit {0} };
-
-    fn work(&mut self, value: &mut State, buffer: &mut [()]) {
-        let _ = buffer;
-        value.map.clear();
     }
 }
 

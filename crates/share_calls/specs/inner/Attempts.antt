@@ -1,7 +1,8 @@
 -- The operations of a hold whose call may be refused: none if it was.
 use Rattle.std.specs.Prelude.{ℕ, List, [], ◌∷◌, Option, Result, Ok, Err}
 use Rattle.spec_map.specs.Call.{Operation, insert, old_value}
-use Rattle.share_calls.specs.Made.{computed_from, returned}
+use Rattle.share_calls.specs.Computed.{computed_from}
+use Rattle.share_works.specs.Made.{returned}
 
 -- an insertion
 abbrev pub insertion : {E : Type 0} → ℕ → ℕ → Result (Option ℕ) E → List (Operation ℕ ℕ ℕ)

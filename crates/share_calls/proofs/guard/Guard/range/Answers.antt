@@ -1,6 +1,6 @@
 use Rattle.std.proofs.Common.{refl}
 use Rattle.spec_map.specs.Map.{between}
-use Rattle.share_calls.proofs.Writing.{first_written}
+use Rattle.share_works.proofs.Writing.{first_written}
 use Rattle.share_calls.proofs.guard.Guard.range.Goals as goal
 
 pub returns-clause-made : goal.returns-clause-made

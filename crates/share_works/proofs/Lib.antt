@@ -1,0 +1,6 @@
+pub mod Counting
+pub mod Going
+pub mod Knowing
+pub mod Popping
+pub mod Removing
+pub mod Writing

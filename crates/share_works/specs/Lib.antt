@@ -1,0 +1,4 @@
+pub mod Ends
+pub mod Listed
+pub mod Made
+pub mod inner
