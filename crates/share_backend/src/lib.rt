@@ -6,4 +6,5 @@
 pub mod change;
 pub mod event;
 pub mod lent;
+pub mod ordered;
 pub mod snapshots;

@@ -1,1 +1,2 @@
+pub mod KeyList
 pub mod Replies

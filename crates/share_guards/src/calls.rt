@@ -63,6 +63,7 @@ impl<L: Ledger, P: Drop, T, M: Lent<P, T>> Raw<L, P, T, M> {
         ensures made { IfOk result (λ value. MadeCall M.same guard.old
             (returned (get key) (old_value (in_some M.meaning value))) guard.new) }
         ensures refused { OnErr result (SeenMore M.same guard.old guard.new) }
+        ensures unchanged { OnErr result (guard.new ≡ guard.old) }
     {
         let op = Op::Get(key);
         let reply = self.call(rt, guard, &op, &mut OwnPurse, Nobody, &mut (), gate)?;
@@ -100,6 +101,7 @@ impl<L: Ledger, P: Drop, T, M: Lent<P, T>> Raw<L, P, T, M> {
             (returned (insert key (M.meaning payload))
             (old_value (in_some M.meaning before))) guard.new) }
         ensures refused { OnErr result (SeenMore M.same guard.old guard.new) }
+        ensures unchanged { OnErr result (guard.new ≡ guard.old) }
     {
         let op = Op::Insert(key, payload);
         let reply = self.call(rt, guard, &op, purse, Nobody, &mut (), gate)?;
@@ -159,6 +161,7 @@ impl<L: Ledger, P: Drop, T, M: Lent<P, T>> Raw<L, P, T, M> {
             WasLastCalled F.step f.new M.meaning (in_some M.meaning)
             (M.meaning pair.0) (in_some M.meaning pair.1))) }
         ensures refused { OnErr result (SeenMore M.same guard.old guard.new) }
+        ensures unchanged { OnErr result (guard.new ≡ guard.old) }
     {
         let op = Op::ComputeIfPresent(key);
         let reply = self.call(rt, guard, &op, &mut OwnPurse, IfPresent, f, &mut NoGate)?;
@@ -205,6 +208,7 @@ impl<L: Ledger, P: Drop, T, M: Lent<P, T>> Raw<L, P, T, M> {
             × WasLastCalled F.step f.new (in_some M.meaning) M.meaning
             (in_some M.meaning old) new) }
         ensures refused { OnErr result (SeenMore M.same guard.old guard.new) }
+        ensures unchanged { OnErr result (guard.new ≡ guard.old) }
     {
         let op = Op::ComputeOrInsert(key, otherwise);
         let reply = self.call(rt, guard, &op, &mut OwnPurse, Always, f, &mut NoGate)?;

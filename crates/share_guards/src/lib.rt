@@ -5,7 +5,11 @@
 #![tactic(auto)]
 
 pub mod calls;
+pub mod ends;
+pub mod listing;
+pub mod note;
 pub mod pin;
 pub mod range;
 pub mod raw;
 pub mod reads;
+pub mod whole;

@@ -2,7 +2,7 @@
 //!
 //! Tested in `test_share_guards` and `share_maps/guards`.
 
-ghost use Rattle.std.specs.Prelude.{◌≡◌, [], None, IfOk, OnErr};
+ghost use Rattle.std.specs.Prelude.{◌≡◌, ◌≢◌, [], None, IfOk, OnErr};
 ghost use Rattle.spec_olc.specs.Calls.{IsPoint, outline_of};
 ghost use Rattle.share_backend.specs.Changing.{IsReply, IsReplyTo, change_of};
 ghost use Rattle.share_state.specs.Booking.{Books};
@@ -48,7 +48,7 @@ impl<L: Ledger, P, T, M: Lent<P, T>> Model for Raw<L, P, T, M> {
 /// A caller of a shared map. Contracts see which map, the caller's number, and the history that it has seen.
 #[derive(Drop)]
 pub struct Guard<'a, L: Ledger, P, T, M: Lent<P, T>> {
-    raw: &'a Raw<L, P, T, M>,
+    pub(crate) raw: &'a Raw<L, P, T, M>,
     pub(crate) seat: MapSeat<L, P, T, M>,
     pub(crate) id: u64,
 }
@@ -153,6 +153,7 @@ impl<L: Ledger, P: Drop, T, M: Lent<P, T>> Raw<L, P, T, M> {
         ensures made { IfOk result (λ reply.
             MadeWith M.same M.meaning Q.step f.new op.now reply guard.old guard.new) }
         ensures refused { OnErr result (SeenMore M.same guard.old guard.new) }
+        ensures unchanged { OnErr result (guard.new ≡ guard.old) }
     {
         loops::call(
             &self.lock,
@@ -208,12 +209,13 @@ impl<'a, L: Ledger, P: Drop, T, M: Lent<P, T>> Guard<'a, L, P, T, M> {
         raw.lock.leave(seat);
     }
 
-    /// Both guards have then seen one history, which begins with what each had seen.
+    /// Both guards, whose callers are two, have then seen one history, which begins with what each had seen.
     pub fn meet(&mut self, other: &mut Guard<'_, L, P, T, M>)
         requires { other.old.table ≡ self.old.table }
         ensures first { SeenMore M.same self.old self.new }
         ensures second { SeenMore M.same other.old other.new }
         ensures one { self.new.seen ≡ other.new.seen }
+        ensures differ { self.old.caller ≢ other.old.caller }
     {
         let raw = self.raw;
         raw.lock.meet(&mut self.seat, &mut other.seat);

@@ -4,6 +4,7 @@
 #![tactic(auto)]
 
 mod locked;
+mod ordered;
 pub mod purse;
 pub mod share;
 pub mod state;

@@ -49,3 +49,10 @@ module _ {P M : Type 0} (meaning : P → M) (old new : Contents P) where
 
     pub onward_without : new.pairs ≡ without old.pairs key → CountsRise meaning old new
     onward_without is = onward_at (λ k not. ap (λ es. lookup es k) is ∙ lookup-without_other old.pairs key k not)
+
+  -- a counted change at each key
+  pub onward_all : ((k : ℕ) → change_count old.counts k ≤ 18446744073709551615) → ((k : ℕ) → change_count new.counts k ≡ min (change_count old.counts k + 1) 18446744073709551615) → CountsRise meaning old new
+  onward_all small all = record {
+    rises = λ k. up (change_count old.counts k) (change_count new.counts k) (small k) (all k);
+    stays = λ k same below. absurd (no_change (change_count old.counts k) (change_count new.counts k) (all k) same below);
+  }

@@ -50,4 +50,14 @@ impl ChangeCounts {
         let place = (key % 64) as usize;
         self.counts[place] = self.counts[place].saturating_add(1);
     }
+
+    /// Counts a change at each key.
+    pub(crate) fn raise_all(&mut self)
+        ensures small { (k : ℕ) → change_count self.old k ≤ 18446744073709551615 }
+        ensures all { (k : ℕ) → change_count self.new k ≡ min (change_count self.old k + 1) 18446744073709551615 }
+    {
+        for key in 0..64 {
+            self.raise(key);
+        }
+    }
 }

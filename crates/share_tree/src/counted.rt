@@ -2,8 +2,10 @@
 //!
 //! Tested in `share_maps` and `test_share_hostile/changes`.
 
-ghost use Rattle.std.specs.Prelude.{◌≡◌, [], None, IfOk, OnOk, OnErr, IsSome, IsTrue, option_copied};
-ghost use Rattle.spec_map.specs.Map.{IsMap, lookup, put, without, with_answer};
+ghost use Rattle.std.specs.Prelude.{◌≡◌, [], None, length, IfOk, OnOk, OnErr, IsSome, IsTrue, option_copied};
+ghost use Rattle.congee_tree.specs.Bulk.{outside};
+ghost use Rattle.spec_map.specs.Map.{IsMap, between, lookup, put, without, with_answer};
+ghost use Rattle.spec_map.specs.Near.{first_of, last_of, without_pair};
 ghost use Rattle.node_table.specs.inner.Kinds.{mapped};
 ghost use Rattle.spec_olc.specs.Meaning.{in_some};
 ghost use Rattle.share_tree.specs.inner.Current.{change_count, CountsRise, AnswerHolds};
@@ -119,6 +121,50 @@ impl<P: HasMeaning, A: Allocator> Counted<P, A> {
             }
             None => None,
         }
+    }
+
+    /// Removes the pair with the least key, and returns it.
+    pub(crate) fn pop_first(&mut self) -> Option<(u64, P)>
+        ensures pair { result ≡ first_of self.old.pairs }
+        ensures pairs { self.new.pairs ≡ without_pair self.old.pairs (first_of self.old.pairs) }
+        ensures onward { CountsRise P.meaning self.old self.new }
+    {
+        let (key, payload) = self.tree.pop_first()?;
+        self.changes.raise(key);
+        Some((key, payload))
+    }
+
+    /// Removes the pair with the greatest key, and returns it.
+    pub(crate) fn pop_last(&mut self) -> Option<(u64, P)>
+        ensures pair { result ≡ last_of self.old.pairs }
+        ensures pairs { self.new.pairs ≡ without_pair self.old.pairs (last_of self.old.pairs) }
+        ensures onward { CountsRise P.meaning self.old self.new }
+    {
+        let (key, payload) = self.tree.pop_last()?;
+        self.changes.raise(key);
+        Some((key, payload))
+    }
+
+    /// Removes all pairs.
+    pub(crate) fn clear(&mut self)
+        ensures pairs { self.new.pairs ≡ [] }
+        ensures onward { CountsRise P.meaning self.old self.new }
+    {
+        self.tree.clear();
+        self.changes.raise_all();
+    }
+
+    /// Removes the pairs with `start <= key < end`, and returns how many.
+    pub(crate) fn remove_range(&mut self, start: u64, end: u64) -> u128
+        ensures count { result ≡ length (between self.old.pairs start end) }
+        ensures pairs { self.new.pairs ≡ outside self.old.pairs start end }
+        ensures onward { CountsRise P.meaning self.old self.new }
+    {
+        let removed = self.tree.remove_range(start, end);
+        // For the proof: the keys still ascend.
+        self.tree.law_ordered();
+        self.changes.raise_all();
+        removed
     }
 
     /// Replaces what is stored at a key, or removes the key for `None`.

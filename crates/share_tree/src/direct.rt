@@ -47,7 +47,7 @@ use tree_walk::range_scan::RangeEntry;
 /// child in the order of the bytes), and the seats.
 #[derive(Drop)]
 pub struct Direct<P: HasMeaning, A: Allocator> {
-    tree: Counted<P, A>,
+    pub(crate) tree: Counted<P, A>,
     seats: Slab<CallSeat<P>>,
 }
 

@@ -23,6 +23,7 @@ mod counted;
 pub mod direct;
 mod numbers;
 mod opened;
+mod ordered;
 mod owners;
 mod payloads;
 pub mod seat;

@@ -1,4 +1,4 @@
--- `take_one` sets the book's row and the share's row in one opening of the invariant, as std's own booking does.
+-- `take_word` sets the book's row and the share's row in one opening of the invariant, as std's own booking does.
 use mathlib.Core.Path.{◌≡◌, refl, sym, subst}
 use mathlib.Core.List.{List, [], ◌∷◌}
 use Prim.Native.Nat.{ℕ, ◌+◌}
@@ -36,10 +36,10 @@ use Rattle.core.specs.contracts.ledger.Share as share
 use Rattle.core.proofs.ledger.Sums.{Audited}
 use Rattle.core.proofs.ledger.Steps as steps
 use Rattle.core.proofs.ledger.Walks.{hears, hears_last, tells_all}
-use Rattle.share_ledger.specs.contracts.take_one.{ended, clauses}
-use Rattle.share_ledger.specs.contracts.take_one.Key.{name as #self}
-use Rattle.share_ledger.proofs.take_one.Statement as stated
-use Rattle.share_ledger.proofs.take_one.Code as code
+use Rattle.share_ledger.specs.contracts.take_word.{ended, clauses}
+use Rattle.share_ledger.specs.contracts.take_word.Key.{name as #self}
+use Rattle.share_ledger.proofs.take_word.Statement as stated
+use Rattle.share_ledger.proofs.take_word.Code as code
 
 module _ (Y : RattleType) (g : Ghosts Y.Denot) (d : Dict) {M : Type 1} {𝓤 : Ura M} (𝓛 : Logic 𝓤) (𝓜 : Model 𝓤 𝓛.H) (𝓡 : Running 𝓤 𝓛.H 𝓜) where
   open 𝓛 use {H}
@@ -79,7 +79,7 @@ module _ (Y : RattleType) (g : Ghosts Y.Denot) (d : Dict) {M : Type 1} {𝓤 : U
     b = z.0.3.1.0.now
 
     abbrev m : ℕ
-    m = 340282366920938463463374607431768211455
+    m = 340282366920938463444927863358058659840
 
     abbrev u : Val
     u = vptr z.0.3.0.ref_ptr.0 z.0.3.0.ref_ptr.1
@@ -120,7 +120,7 @@ module _ (Y : RattleType) (g : Ghosts Y.Denot) (d : Dict) {M : Type 1} {𝓤 : U
       fact_use 𝓤 (Are Rs (Ises Rs) a vss) (via 𝓤 (sem 𝓛 (owns Rs a vss)) (via 𝓤 On (fst∗ 𝓤 On (asked z)) (snd∗ 𝓤 (alive 𝓛 (ended Y g d).signature z.0.0 z.0.1) (sem 𝓛 (owns Rs a vss)))) (owns_show 𝓛 Rs (Ises Rs) (showss 𝓛 Rs) a vss)) (λ are.
       subst (Goes z) (λ i. (sym are.0.0 i, (sym are.1.0.0 i, tt))) (walks z)))
 
-pub take_one_spec : {M : Type 1} → stated.statement M
-take_one_spec 𝓤 𝓛 𝓜 𝓡 wired Y laws g d _ = let 𝓣' = tables 𝓤 𝓛.H 𝓜 𝓡 𝓡.env in
+pub take_word_spec : {M : Type 1} → stated.statement M
+take_word_spec 𝓤 𝓛 𝓜 𝓡 wired Y laws g d _ = let 𝓣' = tables 𝓤 𝓛.H 𝓜 𝓡 𝓡.env in
     entered 𝓤 𝓛.H (triple_of 𝓛 (ended Y g d).signature (closing 𝓛 (ended Y g d) (held Y g d 𝓛 𝓜 𝓡))) 𝓣'.C 𝓣'.Λ (#self (bounded (a_type ∷ []) (Y, tt) (dcons d dnil))) (function Y g d 𝓛 𝓜 𝓡)
     (code.unfolded 𝓤 𝓛.H 𝓜 𝓡 wired (Y, tt) d) (meets Y g d 𝓛 𝓜 𝓡)

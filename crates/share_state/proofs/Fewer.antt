@@ -1,0 +1,36 @@
+-- How a removal of pairs is booked.
+use Rattle.std.proofs.Common.{◌≡◌, ℕ, ◌+◌, ◌-◌, ◌<◌, ◌≤◌, ◌%◌, ◌^◌, Bool, not, [], ◌∷◌, length, inl, inr, refl, arith}
+use Rattle.std.proofs.lemmas.Bool.{cases_eq, eq-eqb, ne_eqb}
+use Rattle.std.proofs.lemmas.List.Filters.{length-filter_both}
+use Rattle.std.specs.Prelude.{Option, Some, None, ◌&&◌, nat_le, nat_lt, filter}
+use Rattle.congee_tree.specs.Bulk.{outside}
+use Rattle.spec_map.specs.Map.{Pairs, without}
+use Rattle.spec_map.specs.Near.{without_pair}
+
+fewer_by : (es : Pairs ℕ) (k : ℕ) → length (without es k) ≤ length es
+fewer_by [] k = omega arith
+fewer_by (e ∷ es) k =
+    elim (cases_eq e.0 k) [
+      | inl is ↦ rw (eq-eqb e.0 k is) (omega arith)
+      | inr ne ↦ rw (ne_eqb e.0 k ne) (omega (arith, fewer_by es k))
+    ]
+
+-- no more pairs are left
+pub fewer_without : (es : Pairs ℕ) (e : Option (ℕ × ℕ)) → length (without_pair es e) ≤ length es
+fewer_without es None = omega arith
+fewer_without es (Some e) = fewer_by es e.0
+
+pub fewer_outside : (es : Pairs ℕ) (a b : ℕ) → length (outside es a b) ≤ length es
+fewer_outside es a b =
+    let p : ℕ × ℕ → Bool = λ e. nat_le a e.0 && nat_lt e.0 b in
+    let both : length (filter p es) + length (filter (λ e. not (p e)) es) ≡ length es = length-filter_both p (λ e. not (p e)) (λ e. refl) es in
+    omega (arith, both)
+
+-- the total is the number of those that are left
+pub booked_to : (before after total next : ℕ) → before ≡ total % 2 ^ 128 → after ≤ before → before ≤ 2 ^ 64
+    → (after < before → next ≡ total + (2 ^ 128 - (before - after))) → (after ≡ before → next ≡ total) → after ≡ next % 2 ^ 128
+booked_to before after total next was fewer few less same =
+    elim (cases_eq after before) [
+      | inl is ↦ omega (arith, same is)
+      | inr ne ↦ omega (arith, less (omega arith))
+    ]

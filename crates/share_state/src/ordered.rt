@@ -1,0 +1,113 @@
+//! The state of a shared map of numbers whose map finds and removes pairs by their order. What a removal takes out is
+//! booked on the share that the state keeps.
+//!
+//! Tested in `test_share_ends`.
+
+ghost use Rattle.std.specs.Prelude.{◌≡◌, ◌≤◌, ◌^◌, length};
+
+use crate::state::LockedState;
+use share_backend::lent::CallStage;
+use share_backend::ordered::Ordered;
+use share_ledger::take_to;
+use share_works::map_state::MapState;
+use share_works::near::Near;
+use std::sync::ledger::Ledger;
+use tree_walk::range_scan::RangeEntry;
+
+impl<L: Ledger, M: Ordered> MapState<CallStage<u64>> for LockedState<L, u64, u64, M> {
+    ghost pairs = { λ s. M.pairs s.under };
+
+    fn law_contains(&self) {
+        self.under.law_contains();
+    }
+
+    fn pair_count(&self) -> u128 {
+        self.under.law_contains();
+        self.under.entry_count()
+    }
+
+    fn nearest(&self, near: Near) -> Option<(u64, u64)> {
+        match near {
+            Near::First => self.under.first(),
+            Near::Last => self.under.last(),
+            Near::Floor(key) => self.under.floor(key),
+            Near::Below(key) => self.under.below(key),
+            Near::Ceiling(key) => self.under.ceiling(key),
+            Near::Above(key) => self.under.above(key),
+        }
+    }
+
+    fn page<E: RangeEntry>(&self, start: u64, end: u64, buffer: &mut [E]) -> usize {
+        self.under.pairs_from(start, end, buffer)
+    }
+
+    fn page_inclusive<E: RangeEntry>(&self, start: u64, last: u64, buffer: &mut [E]) -> usize {
+        self.under.pairs_to(start, last, buffer)
+    }
+
+    fn page_descending<E: RangeEntry>(&self, start: u64, last: u64, buffer: &mut [E]) -> usize {
+        self.under.pairs_down(start, last, buffer)
+    }
+
+    fn pop_first(&mut self) -> Option<(u64, u64)> {
+        let LockedState {
+            under,
+            book,
+            own,
+            of: _,
+        } = self;
+        let before = count_of(under);
+        let popped = under.pop_first();
+        take_to(book, own, before, count_of(under));
+        popped
+    }
+
+    fn pop_last(&mut self) -> Option<(u64, u64)> {
+        let LockedState {
+            under,
+            book,
+            own,
+            of: _,
+        } = self;
+        let before = count_of(under);
+        let popped = under.pop_last();
+        take_to(book, own, before, count_of(under));
+        popped
+    }
+
+    fn clear(&mut self) {
+        let LockedState {
+            under,
+            book,
+            own,
+            of: _,
+        } = self;
+        let before = count_of(under);
+        under.clear();
+        take_to(book, own, before, count_of(under));
+    }
+
+    fn remove_range(&mut self, start: u64, end: u64) -> u128 {
+        let LockedState {
+            under,
+            book,
+            own,
+            of: _,
+        } = self;
+        let before = count_of(under);
+        let removed = under.remove_range(start, end);
+        take_to(book, own, before, count_of(under));
+        removed
+    }
+}
+
+// The number of a map's pairs, of which there are 2 to the 64 at most.
+#[tactic(auto, using(share_backend::proofs::Counting::few))]
+fn count_of<M: Ordered>(map: &M) -> u128
+    ensures count { result ≡ M.entries map.now }
+    ensures pairs { result ≡ length (M.pairs map.now) }
+    ensures few { result ≤ 2 ^ 64 }
+{
+    map.law_contains();
+    map.entry_count()
+}

@@ -1,0 +1,13 @@
+use Rattle.std.proofs.Common.{◌^◌}
+use Rattle.spec_map.proofs.MapLaws.{Rises-without}
+use Rattle.share_tree.proofs.Onward.{onward_without}
+use Rattle.share_tree.proofs.counted.Counted.pop_last.Goals as goal
+
+pub invariant_of-self-2 : goal.invariant_of-self-2
+invariant_of-self-2 g c =
+    rw c.in_ok-key.ensures.removes.pairs (Rises-without 0 (2 ^ 64) c.self.inside.tree.pairs c.in_ok-key.key c.self.invariant)
+
+pub returns-clause-onward : goal.returns-clause-onward
+returns-clause-onward g c =
+    let e = c.raise.ensures in
+    rw (← c.self.view_is) (onward_without g.P.HasMeaning.meaning _ _ c.in_ok-key.key e.small e.own e.others c.in_ok-key.ensures.removes.pairs)
