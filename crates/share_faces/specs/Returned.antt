@@ -3,8 +3,9 @@
 use Rattle.std.specs.Prelude.{◌≡◌, ℕ, Option, Result, Ok, Err, IfSome}
 use Rattle.share_backend.specs.Owners.{never_same}
 use Rattle.share_guards.specs.Operations.{WasLastCalled, computed_with, inserted_with, returned}
-use Rattle.share_rule.specs.Known.{Known, MadeCall}
-use Rattle.spec_map.specs.Call.{Call, compare_exchange, exchanged, old_value}
+use Rattle.share_rule.specs.Known.{Known, MadeCall, MadeCalls}
+use Rattle.share_works.specs.Ends.{popping}
+use Rattle.spec_map.specs.Call.{Call, Near, compare_exchange, exchanged, found, nearest, old_value}
 use Rattle.spec_olc.specs.Meaning.{in_some}
 use Rattle.spec_olc.specs.Runs.{same_number}
 
@@ -30,6 +31,20 @@ module _ {V : Type 0} (of_number : ℕ → V) (k : Known ℕ) where
   ReturnsInserted {F} step last key before n =
       (old : Option ℕ) × (new : ℕ) × (before ≡ in_some of_number old) × MadeCall same_number k (inserted_with key old new) n
       × ((state : F) × step state old new last)
+
+-- THE ENDS AND NEIGHBOURS of a map of numbers, by a guard that knew k
+module _ {K V : Type 0} (key_of : ℕ → K) (value_of : ℕ → V) (k : Known ℕ) where
+  -- the call returned the pair there
+  abbrev pub ReturnsPair : Near ℕ → Option (K × V) → Known ℕ → Type 0
+  ReturnsPair near pair n =
+      (numbers : Option (ℕ × ℕ)) × (pair ≡ in_some (λ (both : ℕ × ℕ). (key_of both.0, value_of both.1)) numbers)
+      × MadeCall same_number k (returned (nearest near) (found numbers)) n
+
+  -- the call removed the pair there, and returned it
+  abbrev pub ReturnsPopped : Near ℕ → Option (K × V) → Known ℕ → Type 0
+  ReturnsPopped near pair n =
+      (numbers : Option (ℕ × ℕ)) × (pair ≡ in_some (λ (both : ℕ × ℕ). (key_of both.0, value_of both.1)) numbers)
+      × MadeCalls same_number k (popping near numbers) n
 
 -- COMPUTE_IF_PRESENT OF A MAP OF OWNERS returned the previous owner. `step` are the calls of its closure, of which the
 -- last one, with an owner of the previous value, left it as `last`

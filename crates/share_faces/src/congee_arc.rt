@@ -144,6 +144,7 @@ impl<L: Ledger, K: Word, V: Send + Sync + Drop + 'static, M: Owners<V>> CongeeAr
         ensures made { IfOk result (λ owner. MadeCall never_same guard.old
             (returned (get (K.number key)) (old_value (in_some arc_value owner))) guard.new) }
         ensures refused { OnErr result (SeenMore never_same guard.old guard.new) }
+        ensures unchanged { OnErr result (guard.new ≡ guard.old) }
     {
         self.get_gated(rt, guard, key, &mut NoGate)
     }
@@ -161,6 +162,7 @@ impl<L: Ledger, K: Word, V: Send + Sync + Drop + 'static, M: Owners<V>> CongeeAr
         ensures made { IfOk result (λ owner. MadeCall never_same guard.old
             (returned (get (K.number key)) (old_value (in_some arc_value owner))) guard.new) }
         ensures refused { OnErr result (SeenMore never_same guard.old guard.new) }
+        ensures unchanged { OnErr result (guard.new ≡ guard.old) }
     {
         self.raw.get(rt, guard, key.into_u64(), gate)
     }
@@ -179,6 +181,7 @@ impl<L: Ledger, K: Word, V: Send + Sync + Drop + 'static, M: Owners<V>> CongeeAr
         ensures made { IfOk result (λ before. MadeCall never_same guard.old
             (returned (insert (K.number key) (arc_value owner)) (old_value (in_some arc_value before))) guard.new) }
         ensures refused { OnErr result (SeenMore never_same guard.old guard.new) }
+        ensures unchanged { OnErr result (guard.new ≡ guard.old) }
     {
         self.insert_gated(rt, guard, key, owner, &mut NoGate)
     }
@@ -197,6 +200,7 @@ impl<L: Ledger, K: Word, V: Send + Sync + Drop + 'static, M: Owners<V>> CongeeAr
         ensures made { IfOk result (λ before. MadeCall never_same guard.old
             (returned (insert (K.number key) (arc_value owner)) (old_value (in_some arc_value before))) guard.new) }
         ensures refused { OnErr result (SeenMore never_same guard.old guard.new) }
+        ensures unchanged { OnErr result (guard.new ≡ guard.old) }
     {
         self.raw
             .insert(rt, guard, key.into_u64(), owner, &mut OwnPurse, gate)
@@ -217,6 +221,7 @@ impl<L: Ledger, K: Word, V: Send + Sync + Drop + 'static, M: Owners<V>> CongeeAr
         ensures made { IfOk result (λ before. MadeCall never_same guard.old
             (returned (insert (K.number key) (arc_value owner)) (old_value (in_some arc_value before))) guard.new) }
         ensures refused { OnErr result (SeenMore never_same guard.old guard.new) }
+        ensures unchanged { OnErr result (guard.new ≡ guard.old) }
     {
         self.raw
             .insert(rt, guard, key.into_u64(), owner, share, &mut NoGate)
@@ -284,10 +289,12 @@ impl<L: Ledger, K: Word, V: Send + Sync + Drop + 'static, M: Owners<V>> CongeeAr
     ) -> Result<Option<Arc<V>>, OOMError>
         requires map { guard.old.table ≡ self.now }
         requires callable { F.IsAlwaysCallable f.old }
+        ensures callable { F.IsAlwaysCallable f.new }
         ensures map { guard.new.table ≡ guard.old.table }
         ensures made { IfOk result (λ before.
             ReturnsComputed arc_value F.step f.new guard.old (K.number key) before guard.new) }
         ensures refused { OnErr result (SeenMore never_same guard.old guard.new) }
+        ensures unchanged { OnErr result (guard.new ≡ guard.old) }
     {
         let both = self.raw.compute_if_present(rt, guard, key.into_u64(), f)?;
         Ok(previous_of(both))
@@ -328,7 +335,7 @@ impl<L: Ledger, K: Word, V: Send + Sync + Drop + 'static, M: Owners<V>> CongeeAr
     }
 }
 
-/// Both guards, of one map, have then seen one legal history, which begins with what each had seen.
+/// Both guards, of one map, whose callers are two, have then seen one legal history, which begins with what each had seen.
 pub fn meet<L: Ledger, V: Send + Sync + Drop + 'static, M: Owners<V>>(
     a: &mut OwnerGuard<'_, L, V, M>,
     b: &mut OwnerGuard<'_, L, V, M>,
@@ -337,6 +344,7 @@ pub fn meet<L: Ledger, V: Send + Sync + Drop + 'static, M: Owners<V>>(
     ensures first { SeenMore never_same a.old a.new }
     ensures second { SeenMore never_same b.old b.new }
     ensures one { a.new.seen ≡ b.new.seen }
+    ensures differ { a.old.caller ≢ b.old.caller }
 {
     // (what the checker needs to know of M)
     M::owners_mean_their_values();

@@ -12,11 +12,14 @@ ghost use Rattle.share_rule.specs.Known.{MadeCall, SeenMore};
 ghost use Rattle.share_guards.specs.Operations.{computed_with};
 ghost use Rattle.share_faces.specs.Returned.{ReturnsExchanged, ReturnsInserted, ReturnsOld};
 
+mod ends;
+mod ranges;
+
 use node_stats::NodeStats;
 use share_backend::snapshots::{Made, Pages};
 use share_guards::pin::PinError;
-use share_guards::raw;
 use share_guards::raw::Raw;
+use share_guards::{note, raw};
 use share_holds::gate::{Gate, NoGate};
 use share_state::purse::OwnPurse;
 use share_state::share::Share;
@@ -32,6 +35,9 @@ use tree_walk::range_scan::RangeEntry;
 /// A caller of a shared map of numbers. It belongs to one map, and makes one call at a time. Contracts see which map, the
 /// caller's number, and the history that it has seen.
 pub type Guard<'a, L, M> = raw::Guard<'a, L, u64, u64, M>;
+
+/// A note of what a guard has seen.
+pub type Note<L, M> = note::Note<L, u64, u64, M>;
 
 /// An ordered map from keys to values, both of types that are written as 64-bit numbers, which threads share. Two keys
 /// with one number are one key.
@@ -186,6 +192,7 @@ impl<L: Ledger, K: Word, V: Word, M: Pages, D: Drainer<K, V>> Congee<L, K, V, M,
         ensures made { IfOk result (λ before. ReturnsOld V.of_number guard.old
             (insert (K.number key) (V.number value)) before guard.new) }
         ensures refused { OnErr result (SeenMore same_number guard.old guard.new) }
+        ensures unchanged { OnErr result (guard.new ≡ guard.old) }
     {
         self.insert_gated(rt, guard, key, value, &mut NoGate)
     }
@@ -204,6 +211,7 @@ impl<L: Ledger, K: Word, V: Word, M: Pages, D: Drainer<K, V>> Congee<L, K, V, M,
         ensures made { IfOk result (λ before. ReturnsOld V.of_number guard.old
             (insert (K.number key) (V.number value)) before guard.new) }
         ensures refused { OnErr result (SeenMore same_number guard.old guard.new) }
+        ensures unchanged { OnErr result (guard.new ≡ guard.old) }
     {
         let before = self.raw.insert(
             rt,
@@ -231,6 +239,7 @@ impl<L: Ledger, K: Word, V: Word, M: Pages, D: Drainer<K, V>> Congee<L, K, V, M,
         ensures made { IfOk result (λ before. ReturnsOld V.of_number guard.old
             (insert (K.number key) (V.number value)) before guard.new) }
         ensures refused { OnErr result (SeenMore same_number guard.old guard.new) }
+        ensures unchanged { OnErr result (guard.new ≡ guard.old) }
     {
         let before = self.raw.insert(
             rt,
@@ -337,6 +346,7 @@ impl<L: Ledger, K: Word, V: Word, M: Pages, D: Drainer<K, V>> Congee<L, K, V, M,
     ) -> Option<(u64, Option<u64>)>
         requires map { guard.old.table ≡ self.now }
         requires callable { F.IsAlwaysCallable f.old }
+        ensures callable { F.IsAlwaysCallable f.new }
         ensures map { guard.new.table ≡ guard.old.table }
         ensures made { MadeCall same_number guard.old (computed_with (K.number key.now) result) guard.new }
         ensures asked { IfSome result (λ pair. (state : F) × F.step state pair.0 pair.1 f.new) }
@@ -357,10 +367,12 @@ impl<L: Ledger, K: Word, V: Word, M: Pages, D: Drainer<K, V>> Congee<L, K, V, M,
     ) -> Result<Option<V>, OOMError>
         requires map { guard.old.table ≡ self.now }
         requires callable { F.IsAlwaysCallable f.old }
+        ensures callable { F.IsAlwaysCallable f.new }
         ensures map { guard.new.table ≡ guard.old.table }
         ensures made { IfOk result (λ before.
             ReturnsInserted V.of_number guard.old F.step f.new (K.number key) before guard.new) }
         ensures refused { OnErr result (SeenMore same_number guard.old guard.new) }
+        ensures unchanged { OnErr result (guard.new ≡ guard.old) }
     {
         // (the 0 would be stored if the closure returned no value, which it can't)
         let before = self.raw.compute_or_insert(rt, guard, key.into_u64(), 0, f)?;
@@ -444,12 +456,13 @@ impl<L: Ledger, K: Word, V: Word, M: Pages, D: Drainer<K, V>> Drop for Congee<L,
     }
 }
 
-/// Both guards, of one map, have then seen one legal history, which begins with what each had seen.
+/// Both guards, of one map, whose callers are two, have then seen one legal history, which begins with what each had seen.
 pub fn meet<L: Ledger, M: Pages>(a: &mut Guard<'_, L, M>, b: &mut Guard<'_, L, M>)
     requires map { b.old.table ≡ a.old.table }
     ensures first { SeenMore same_number a.old a.new }
     ensures second { SeenMore same_number b.old b.new }
     ensures one { a.new.seen ≡ b.new.seen }
+    ensures differ { a.old.caller ≢ b.old.caller }
 {
     // (what the checker needs to know of M)
     M::numbers_mean_themselves();

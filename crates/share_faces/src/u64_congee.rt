@@ -10,6 +10,8 @@ ghost use Rattle.share_state.specs.Held.{inserted, removed};
 ghost use Rattle.share_rule.specs.Known.{SeenMore};
 ghost use Rattle.share_faces.specs.Returned.{ReturnsOld};
 
+mod ends;
+
 use crate::typed_congee::{Congee, Guard};
 use node_stats::NodeStats;
 use node_table::allocator::DefaultAllocator;
@@ -131,6 +133,7 @@ impl<L: Ledger, V: Word, M: Pages> U64Congee<L, V, M> {
         ensures made { IfOk result (λ before. ReturnsOld V.of_number guard.old
             (insert key (V.number val)) before guard.new) }
         ensures refused { OnErr result (SeenMore same_number guard.old guard.new) }
+        ensures unchanged { OnErr result (guard.new ≡ guard.old) }
     {
         self.map.insert(rt, guard, key, val)
     }
@@ -149,6 +152,7 @@ impl<L: Ledger, V: Word, M: Pages> U64Congee<L, V, M> {
         ensures made { IfOk result (λ before. ReturnsOld V.of_number guard.old
             (insert key (V.number val)) before guard.new) }
         ensures refused { OnErr result (SeenMore same_number guard.old guard.new) }
+        ensures unchanged { OnErr result (guard.new ≡ guard.old) }
     {
         self.map.insert_gated(rt, guard, key, val, gate)
     }
@@ -168,6 +172,7 @@ impl<L: Ledger, V: Word, M: Pages> U64Congee<L, V, M> {
         ensures made { IfOk result (λ before. ReturnsOld V.of_number guard.old
             (insert key (V.number val)) before guard.new) }
         ensures refused { OnErr result (SeenMore same_number guard.old guard.new) }
+        ensures unchanged { OnErr result (guard.new ≡ guard.old) }
     {
         self.map.insert_counted(rt, guard, share, key, val)
     }
