@@ -9,5 +9,8 @@ pub use Rattle.share_guards.specs.Operations
 pub use Rattle.share_laws.specs.Keys
 pub use Rattle.share_rule.specs.History
 pub use Rattle.share_rule.specs.Known
+pub use Rattle.share_works.specs.Ends
+pub use Rattle.share_works.specs.Listed
+pub use Rattle.share_works.specs.Made
 pub use Rattle.spec_olc.specs.Meaning
 pub use Rattle.spec_olc.specs.Runs

@@ -6,9 +6,9 @@ use Rattle.congee.specs.Meaning.{in_some}
 use Rattle.congee.specs.Runs.{same_number}
 use Rattle.congee.specs.Operations.{returned}
 use Rattle.congee.specs.Keys.{AllLeave, OwnsKeys, finds, inserts}
-use Rattle.congee.specs.History.{Entry, entries_of, IsHistory}
+use Rattle.congee.specs.History.{Entry, entries_of, IsHistory, StartsWith}
 use Rattle.congee.specs.Known.{Known, MadeCall, SeenMore, own_entries}
-use Rattle.example_guards.specs.Callers.{HandedOver, KeepsOwn}
+use Rattle.example_guards.specs.Callers.{HandedOver, IsNoted, KeepsOwn}
 
 -- a number is read back as itself
 pub in_some_same : (x : Option ℕ) → in_some (λ n. n) x ≡ x
@@ -19,6 +19,14 @@ joined : {X : Type 0} (a rest more : List X) (e g : X) → (((a ++ e ∷ []) ++ 
 joined [] rest more e g = refl
 joined (x ∷ a) rest more e g = ap (λ l. x ∷ l) (joined a rest more e g)
 
+opened : {X : Type 0} (a rest : List X) (e : X) → (a ++ e ∷ []) ++ rest ≡ a ++ (e ∷ rest)
+opened [] rest e = refl
+opened (x ∷ a) rest e = ap (λ l. x ∷ l) (opened a rest e)
+
+longer : {X : Type 0} (a rest more : List X) (e : X) → (a ++ (e ∷ rest)) ++ more ≡ (a ++ e ∷ []) ++ (rest ++ more)
+longer [] rest more e = refl
+longer (x ∷ a) rest more e = ap (λ l. x ∷ l) (longer a rest more e)
+
 appended : {X : Type 0} (a : List X) (e g : X) → (a ++ e ∷ []) ++ g ∷ [] ≡ a ++ (e ∷ (g ∷ []))
 appended [] e g = refl
 appended (x ∷ a) e g = ap (λ l. x ∷ l) (appended a e g)
@@ -27,6 +35,16 @@ appended (x ∷ a) e g = ap (λ l. x ∷ l) (appended a e g)
 abbrev pub FindsIt : Type 0
 FindsIt = (first middle : List (Entry ℕ)) (a b key : ℕ) (value : ℕ) (before found : Option ℕ) (m : Pairs ℕ)
     → IsHistory same_number (first ++ (inserts a key value before ∷ (middle ++ finds b key found ∷ []))) m → AllLeave key middle → found ≡ Some value
+
+module _ (key value : ℕ) where
+  -- an insertion that was noted
+  pub noted : (k0 k1 k2 : Known ℕ) (before : Option ℕ) → MadeCall same_number k0 (returned (insert key value) (old_value before)) k1 → SeenMore same_number k1 k2 → IsNoted k0.caller key value k2.seen
+  noted k0 k1 k2 before put more = record {
+    first = k0.seen ++ put.between;
+    rest = more.seen.0;
+    before = before;
+    is = more.seen.1 ∙ (ap (λ (l : List (Entry ℕ)). l ++ more.seen.0) put.seen ∙ opened (k0.seen ++ put.between) more.seen.0 (inserts k0.caller key value before));
+  }
 
 module _ (key value : ℕ) (law : FindsIt) where
   -- an insertion, a meeting, and the other's look-up
@@ -47,6 +65,26 @@ module _ (key value : ℕ) (law : FindsIt) where
         before = before;
         is = is;
         finds_it = λ leave. law first (rest ++ got.between) k0.caller t0.caller key value before found got.legal.0 (subst (λ (l : List (Entry ℕ)). IsHistory same_number l got.legal.0) is got.legal.1) leave;
+      }
+
+  -- the look-up of a guard that has learnt it
+  pub learned : (giver : ℕ) (seen : List (Entry ℕ)) (t0 t1 t2 : Known ℕ) (found : Option ℕ) → IsNoted giver key value seen → StartsWith t1.seen seen → SeenMore same_number t0 t1
+      → MadeCall same_number t1 (returned (get key) (old_value found)) t2 → HandedOver giver t0.caller key value found t2.seen
+  learned giver seen t0 t1 t2 found n starts other got =
+      let e = inserts giver key value n.before in
+      let rest = n.rest ++ starts.0 in
+      let learnt : t1.seen ≡ (n.first ++ e ∷ []) ++ rest = starts.1 ∙ (ap (λ (l : List (Entry ℕ)). l ++ starts.0) n.is ∙ longer n.first n.rest starts.0 e) in
+      let is : t2.seen ≡ n.first ++ (e ∷ ((rest ++ got.between) ++ finds t0.caller key found ∷ [])) =
+      got.seen
+      ∙ (ap (λ (l : List (Entry ℕ)). (l ++ got.between) ++ finds t1.caller key found ∷ []) learnt
+      ∙ (ap (λ c. (((n.first ++ e ∷ []) ++ rest) ++ got.between) ++ finds c key found ∷ []) other.caller
+      ∙ joined n.first rest got.between e (finds t0.caller key found)))
+      in record {
+        first = n.first;
+        between = rest ++ got.between;
+        before = n.before;
+        is = is;
+        finds_it = λ leave. law n.first (rest ++ got.between) giver t0.caller key value n.before found got.legal.0 (subst (λ (l : List (Entry ℕ)). IsHistory same_number l got.legal.0) is got.legal.1) leave;
       }
 
   -- an owner's insertion and look-up

@@ -16,6 +16,13 @@ pub record HandedOver (giver taker key value : ℕ) (found : Option ℕ) (histor
   pub is : history ≡ first ++ (inserts giver key value before ∷ (between ++ finds taker key found ∷ []))
   pub finds_it : AllLeave key between → found ≡ Some value
 
+-- NOTED: the giver's insertion
+pub record IsNoted (giver key value : ℕ) (history : List (Entry ℕ)) : Type 0 where
+  pub first : List (Entry ℕ)
+  pub rest : List (Entry ℕ)
+  pub before : Option ℕ
+  pub is : history ≡ first ++ (inserts giver key value before ∷ rest)
+
 -- COUNTED: the number at the key is at least the previous one
 pub record IsCounted (k : Known ℕ) (key : ℕ) (before : Option ℕ) (n : Known ℕ) : Type 0 where
   pub number : ℕ

@@ -42,6 +42,9 @@ pub type CongeeArc<L, K, V, A = DefaultAllocator> = congee_arc::CongeeArc<
 /// A caller of a map of numbers.
 pub type Guard<'a, L, A = DefaultAllocator> = typed_congee::Guard<'a, L, Events<u64, A>>;
 
+/// A note of what a caller of a map of numbers has seen.
+pub type Note<L, A = DefaultAllocator> = typed_congee::Note<L, Events<u64, A>>;
+
 /// A caller of a map of owners.
 pub type OwnerGuard<'a, L, V, A = DefaultAllocator> = congee_arc::OwnerGuard<
     'a,
