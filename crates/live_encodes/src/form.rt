@@ -1,7 +1,7 @@
 //! Forms, as words have them.
 
 ghost use Rattle.std.specs.Prelude.{◌≡◌, ℕ, ◌+◌, ◌*◌, ◌^◌, ◌<◌, ◌≤◌, List, IfSome};
-ghost use Rattle.node_base.specs.Form.{limit, form_place};
+ghost use Rattle.node_base.specs.Form.{limit, form_place, next_form};
 ghost use Rattle.node_base.specs.declared.base_node.NodeType.{NodeType};
 ghost use Rattle.live_cells.specs.Head.{IsHead};
 ghost use Rattle.node_table.specs.declared.child.Child.TheVariants.{Node};
@@ -88,4 +88,15 @@ pub fn form_below(word: u64) -> NodeType
     ensures { (slot : ℕ) (form : NodeType) → word ≡ 256 * slot + form_place form → result ≡ form }
 {
     form_at(word % 256)
+}
+
+/// The form that a full node grows into.
+pub fn next_of(form: NodeType) -> NodeType
+    ensures { result ≡ next_form form }
+{
+    match form {
+        NodeType::N4 => NodeType::N16,
+        NodeType::N16 => NodeType::N48,
+        NodeType::N48 | NodeType::N256 => NodeType::N256,
+    }
 }

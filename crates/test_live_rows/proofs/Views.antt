@@ -1,5 +1,5 @@
 -- What a seat knows, step by step.
-use Rattle.std.proofs.Common.{◌≡◌, ℕ, ◌+◌, ◌-◌, ◌*◌, ◌%◌, ◌<◌, ◌≤◌, ◌^◌, zero, suc, take, drop, Bool, cond, List, [], ◌∷◌, ◌++◌, length, get_or, Option, Some, None, IsSome, IfSome, IfNone, refl, sym, ap, ◌∙◌, subst, inl, inr, arith, rules, eq-eqb, ne_eqb}
+use Rattle.std.proofs.Common.{◌≡◌, ◌≢◌, ℕ, ◌+◌, ◌-◌, ◌*◌, ◌%◌, ◌<◌, ◌≤◌, ◌^◌, zero, suc, take, drop, Bool, cond, List, [], ◌∷◌, ◌++◌, length, get_or, Option, Some, None, IsSome, IfSome, IfNone, refl, sym, ap, ◌∙◌, subst, inl, inr, arith, rules, eq-eqb, ne_eqb}
 use Rattle.std.proofs.lemmas.Bool.{cases_eq, cases_order, lt-ltb, le-ltb}
 use Rattle.std.proofs.lemmas.List.{get_or-take, get_or-drop}
 use mathlib.Core.Option.{some}
@@ -14,14 +14,15 @@ use Rattle.word_book.specs.Book.{Book, Name, reads, writes, compares, none_joine
 use Rattle.word_segments.specs.Segments.{AreWords}
 use Rattle.node_base.specs.Form.{form_place}
 use Rattle.live_nodes.specs.Nodes.{Content}
-use Rattle.live_nodes.specs.Seats.{Place, place, Read, read, Hold, hold, SeatView, seat_view, IsIn, Agree, with_draft}
+use Rattle.live_nodes.specs.Seats.{Place, place, Read, read, Hold, hold, Room, room_at, SeatView, seat_view, IsIn, Agree, with_draft}
 use Rattle.live_nodes.specs.Acts as acts
+use Rattle.live_nodes.specs.Plays as plays
 use Rattle.live_nodes.specs.Plays.{read_of, hold_of, saw_in, took, saw, locked, new_content, given, Takes, Sees, Checks, Locks, Makes}
 use Rattle.live_nodes.specs.Calls.{KnowsPlace, KnowsCell, MayCheck, MayLock, MayFree, MayMake}
 use Rattle.live_rows.specs.Rows.{AreOf, last_saw, unread, nth, draft_of, undrafted, filled, MayRead, MayHold, MayFill, without_reads, without_draft, without_fill}
-use Rattle.live_encodes.specs.Encodes.{words_of, IsBelow, IsWord, with_child, Encodes}
+use Rattle.live_encodes.specs.Encodes.{words_of, IsBelow, IsWord, with_child, in_form, Encodes}
 use Rattle.live_encodes.proofs.StandLaws.{few_forms}
-use Rattle.test_live_rows.specs.Leaves.{IsTagged, AreTagged, IsLeaf, Known, place_at, AreLeaves, LearnsChild, LearnsLeaf, LearnsHeld, StaysSame, KnowsNew, KnowsRoot, KnowsLeaf, BeginsWithZero}
+use Rattle.test_live_rows.specs.Leaves.{IsTagged, AreTagged, IsLeaf, Known, place_at, AreLeaves, LearnsChild, LearnsLeaf, LearnsHeld, StaysSame, KnowsNew, KnowsRoot, KnowsLeaf, KnowsAlike, BeginsWithZero}
 use Rattle.test_live_rows.proofs.Laws.{child_learns, leaf_learns, locks, leaf_makes}
 
 abbrev View : Type 0
@@ -69,6 +70,12 @@ module _ (v : View) (known : KnowsRoot v) (v₁ : View) (n k₁ k₂ : ℕ) (at�
           subst (λ (z : View). IsIn (place_at a) z.places) (sym h.2) (subst (λ (ps : List Place). IsIn (place_at a) (ps ++ v.places)) (sym leaf.1) (inl refl)),
           leaf.3,
         )
+
+    pub keeps_root : (w : View) (m : ℕ) → Checks LearnsChild (reads k₁) v₂ m none_joined w → m ≡ n → 0 < x → KnowsRoot w
+    keeps_root w m told hit some_leaf =
+        let told' = subst (λ (z : View). Checks LearnsChild (reads k₁) z m none_joined w) root_read told root (read 0 n ((0, x) ∷ [])) known at₁ (head_read 0 n ((0, x) ∷ []) v.reads) in
+        let h = told'.hit hit in let leaf = h.3 x refl some_leaf in
+        subst KnowsRoot (sym h.2) (subst (λ (ps : List Place). IsIn root (ps ++ v.places)) (sym leaf.1) (inr known))
 
 -- A LEAF IS READ
 number_of : List Read → ℕ
@@ -214,11 +221,14 @@ abbrev pub holding : View → ℕ → ℕ → Content → View
 holding v k n d = seat_view v.client v.places (read k n [] ∷ v.reads) (hold k (n + 2) d ∷ v.holds) v.room
 
 module _ (v : View) (p : Place) (here : IsIn p v.places) (v₁ : View) (n k : ℕ) (at_k : p.key ≡ k) (took_it : Takes (reads k) v n none_joined v₁) (k₂ : ℕ) (at_k₂ : p.key ≡ k₂) where
-  node_taken : v₁ ≡ took v p.number n
+  pub node_taken : v₁ ≡ took v p.number n
   node_taken = took_it p here at_k
 
   pub may_lock : (id : ℕ) → MayLock v₁ k₂ AreLeaves id LearnsHeld n
   may_lock id = subst (λ (z : View). MayLock z k₂ AreLeaves id LearnsHeld n) (sym node_taken) (p, (here, at_k₂), locks id v.client p.number n)
+
+  pub not_locked : (v₂ : View) (m : ℕ) (j : Joined) → Locks LearnsHeld (compares k₂ n (n + 2)) v₁ m j v₂ → m ≢ n → v₂ ≡ took v p.number n
+  not_locked v₂ m j told ne = (subst (λ (z : View). Locks LearnsHeld (compares k₂ n (n + 2)) z m j v₂) node_taken told p here at_k₂).lost ne
 
   module _ (v₂ : View) (m : ℕ) (j : Joined) (told : Locks LearnsHeld (compares k₂ n (n + 2)) v₁ m j v₂) (hit : m ≡ n) where
     won : (d : Content) × (c : List Known) × (length d ≡ p.len) × (v₂ ≡ locked (took v p.number n) c p.number (n + 2) d) × LearnsHeld v.client p.number d c
@@ -245,6 +255,17 @@ module _ (v : View) (p : Place) (here : IsIn p v.places) (v₁ : View) (n k : �
     pub drafts_leaf : (a : Known) → IsIn a v.client → a.number ≡ p.number → IsLeaf a.form draft
     drafts_leaf a mine same = subst (IsLeaf a.form) (sym draft_is) (won.4.1 a mine same)
 
+    -- others were written, and it becomes obsolete
+    module _ (v₄ : View) (holds : v₄.holds ≡ v₂.holds) (still : IsIn p v₄.places) (k₃ x : ℕ) (at_k₃ : p.key ≡ k₃) where
+      held_still : hold_of p.number v₄.holds ≡ Some (hold p.number (n + 2) draft)
+      held_still = ap (hold_of p.number) (holds ∙ ap (λ (z : View). z.holds) is_held) ∙ hold_head p.number (n + 2) draft v.holds
+
+      pub may_retire : (id : ℕ) → acts.Frees AreLeaves id v₄.client p.number x draft (StaysSame v₄.client p.number draft) → MayFree v₄ k₃ AreLeaves id StaysSame (n + 2) x
+      may_retire id frees = (p, hold p.number (n + 2) draft, (still, at_k₃), held_still, refl, frees)
+
+      pub is_retired : (v₅ : View) → plays.Frees StaysSame (writes k₃ x) v₄ x none_joined v₅ → KnowsAlike v₄ v₅
+      is_retired v₅ told₅ = let t = told₅ p (hold p.number (n + 2) draft) still at_k₃ held_still in (ap (λ (z : View). z.client) t.1 ∙ t.2, ap (λ (z : View). z.places) t.1)
+
     -- it was written
     module _ (v₃ : View) (rest : without_draft 0 v₃ ≡ without_draft 0 v₂) where
       before : undrafted (nth 0 v₂.holds) v₂.holds ≡ hold p.number (n + 2) [] ∷ with_draft p.number [] v.holds
@@ -270,6 +291,12 @@ module _ (v : View) (p : Place) (here : IsIn p v.places) (v₁ : View) (n k : �
             refl,
             subst (λ (c : List Known). acts.Frees AreLeaves id c p.number x d (StaysSame c p.number d)) (sym same_client) frees,
           )
+
+      pub is_freed : (v₄ : View) (k₃ x : ℕ) → p.key ≡ k₃ → plays.Frees StaysSame (writes k₃ x) v₃ x none_joined v₄ → KnowsAlike v v₄
+      is_freed v₄ k₃ x at_k₃ told₄ =
+          let d : Content = draft_of (nth 0 v₃.holds) in
+          let t = told₄ p (hold p.number (n + 2) d) (subst (λ (ps : List Place). IsIn p ps) (sym same_places) here) at_k₃ (ap (hold_of p.number) last.1 ∙ hold_head p.number (n + 2) d last.0) in
+          (ap (λ (z : View). z.client) t.1 ∙ t.2 ∙ same_client, ap (λ (z : View). z.places) t.1 ∙ same_places)
 
 -- A LEAF IS MADE
 module _ (v : View) (words : List Name) (b : Book) (may : MayFill words b v) (form : NodeType) (long : length words ≡ words_of form + 1) (zero : BeginsWithZero v) (leaf : IsLeaf form (filled (length words) v.room)) where
@@ -351,3 +378,70 @@ module _ (v w u : View) (key : ℕ) (room : HasRoom v w key) (m : ℕ) (rest : w
   pub room_zero : 1 ≤ length u.room.draft → BeginsWithZero u
   room_zero some_words = let l = room.1 in
       first_zero u.room.draft (drop m u.room.draft) (drop m (replicate room.0 0)) room.0 some_words (omega (arith, l)) (ap (λ (z : View). z.room.draft) room_is)
+
+-- WHAT IS KNOWN STAYS
+pub made_keeps : (v w : View) (k x len : ℕ) → v.room.start + len ≡ k → Makes KnowsNew (writes k x) v x none_joined w
+    → (w.holds ≡ v.holds) × ((p : Place) → IsIn p v.places → IsIn p w.places) × ((a : Known) → IsIn a v.client → IsIn a w.client)
+made_keeps v w k x len at told =
+    let t = told len at in (
+      ap (λ (z : View). z.holds) t.2,
+      (λ p h. subst (λ (z : View). IsIn p z.places) (sym t.2) (inr h)),
+      (λ a h. subst (λ (z : View). IsIn a z.client) (sym t.2) (subst (λ (c : List Known). IsIn a c) (sym t.3.3) (inr h))),
+    )
+
+-- another view with the same holds
+pub holds_alike : (n : ℕ) (words : List Name) (b b' : Book) (v w : View) → b' ≡ b → w.places ≡ v.places → w.holds ≡ v.holds → MayHold n words b v → MayHold n words b' w
+holds_alike n words b b' v w book places holds may = (
+  may.0,
+  may.1,
+  subst (λ (ps : List Place). IsIn may.0 ps) (sym places) may.2,
+  (may.3.0, subst (λ z. AreWords may.0.key z words) (sym book) may.3.1),
+  ap (nth n) holds ∙ may.4,
+  ap (hold_of may.0.number) holds ∙ may.5,
+  may.6,
+)
+
+first_same : (xs ys zs ws : List ℕ) → 1 ≤ length xs → get_elem? zs 0 ≡ some 0 → take 1 xs ++ ys ≡ take 1 zs ++ ws → get_elem? xs 0 ≡ some 0
+unfolding head_or
+first_same [] ys zs ws l z e = absurd (omega arith)
+first_same (x ∷ xs) ys [] ws l z e = absurd (none_some z)
+  where
+    none_some : {n : ℕ} → mathlib.Core.Option.none ≡ some n → ⊥
+    none_some e = cc
+first_same (x ∷ xs) ys (z ∷ zs) ws l is e = ap (λ (l : List ℕ). some (head_or l)) e ∙ is
+
+-- the room is filled
+pub filled_zero : (v u : View) (m : ℕ) → without_fill m u ≡ without_fill m v → BeginsWithZero v → 1 ≤ length u.room.draft → BeginsWithZero u
+filled_zero v u m rest was some_words = first_same u.room.draft (drop m u.room.draft) v.room.draft (drop m v.room.draft) some_words was (ap (λ (z : View). z.room.draft) rest)
+
+pub leaf_in : (form other : NodeType) (c d : Content) (l : IsLeaf form c) → Encodes d (in_form l.its other) → IsLeaf other d
+leaf_in form other c d l e = record { its = in_form l.its other; encodes = e; in_form = refl; whole = l.whole; tagged = l.tagged }
+
+pub same_root : (v w : View) → KnowsAlike v w → KnowsRoot v → KnowsRoot w
+same_root v w e known = subst (λ (ps : List Place). IsIn (place 0 1 1) ps) (sym e.1) known
+
+pub same_leaf : (v w : View) (x : ℕ) → KnowsAlike v w → KnowsLeaf v x → KnowsLeaf w x
+same_leaf v w x e leaf = (leaf.0, subst (λ (vs : List Known). IsIn leaf.0 vs) (sym e.0) leaf.1, subst (λ (ps : List Place). IsIn (place_at leaf.0) ps) (sym e.1) leaf.2, leaf.3)
+
+-- room that was just given
+pub room_fills : (v w u : View) (key : ℕ) (room : HasRoom v w key) → u.room ≡ w.room → (words : List Name) (b : Book) (form : NodeType) → length words ≡ words_of form + 1 → AreWords key b words
+    → MayFill words b u × (u.room.start ≡ key) × BeginsWithZero u
+room_fills v w u key room same words b form long are =
+    let r : u.room ≡ room_at key (replicate room.0 0) = same ∙ ap (λ (z : View). z.room) room.3 in
+    let n : length u.room.draft ≡ room.0 = ap (λ (z : Room). length z.draft) r ∙ lib.ListN.length-replicate {A = ℕ} room.0 0 in
+    let most = words_most form in
+    let l = room.1 in (
+      (subst (λ k. AreWords k b words) (sym (ap (λ (z : Room). z.start) r)) are, omega (arith, long), omega (arith, long, n, most, l)),
+      ap (λ (z : Room). z.start) r,
+      subst (λ (z : Room). get_elem? z.draft 0 ≡ some 0) (sym r) (zero_in room.0 (omega (arith, l))),
+    )
+  where
+    words_most : (f : NodeType) → words_of f ≤ 262
+    words_most N4 = omega arith
+    words_most N16 = omega arith
+    words_most N48 = omega arith
+    words_most N256 = omega arith
+
+    zero_in : (n : ℕ) → 1 ≤ n → get_elem? {A = ℕ} (replicate n 0) 0 ≡ some 0
+    zero_in zero l = absurd (omega arith)
+    zero_in (suc n) l = refl

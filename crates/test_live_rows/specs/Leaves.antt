@@ -93,3 +93,7 @@ KnowsLeaf v x = (a : Known) × IsIn a v.client × IsIn (place_at a) v.places × 
 -- The room of a seat begins with a word that is 0.
 abbrev pub BeginsWithZero : SeatView (List Known) → Type 0
 BeginsWithZero v = get_elem? v.room.draft 0 ≡ some 0
+
+-- A seat knows the same leaves, and where they lie.
+abbrev pub KnowsAlike : SeatView (List Known) → SeatView (List Known) → Type 0
+KnowsAlike v w = (w.client ≡ v.client) × (w.places ≡ v.places)

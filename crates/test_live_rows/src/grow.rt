@@ -1,15 +1,17 @@
 //! Leaves are made, named by the root, and grow.
-ghost use Rattle.std.specs.Prelude.{◌≡◌, ◌+◌, ◌<◌, ◌^◌, length, IfOk, IfSome};
+ghost use Rattle.std.specs.Prelude.{◌≡◌, ◌≢◌, ◌+◌, ◌<◌, ◌^◌, length, IfOk, IfSome};
+ghost use Rattle.node_base.specs.Form.{next_form};
+ghost use Rattle.node_base.specs.declared.base_node.NodeType.TheVariants.{N256};
 ghost use Rattle.live_nodes.specs.Seats.{Place, IsIn};
 ghost use Rattle.live_encodes.specs.Encodes.{words_of};
-ghost use Rattle.live_rows.specs.Rows.{MayFill, filled};
-ghost use Rattle.test_live_rows.specs.Leaves.{KnowsRoot, KnowsLeaf, IsLeaf, BeginsWithZero};
+ghost use Rattle.live_rows.specs.Rows.{MayHold, MayFill, filled, draft_of, nth};
+ghost use Rattle.test_live_rows.specs.Leaves.{KnowsRoot, KnowsLeaf, KnowsAlike, Known, IsLeaf, BeginsWithZero};
 
 use crate::law::{Locked, Mine, New, Same, Tagged};
 use crate::leaf::{Guest, Nodes};
 use live_cells::words::Draft;
-use live_encodes::fill::lay;
-use live_encodes::form::{word_below, words_in};
+use live_encodes::fill::{grow, lay};
+use live_encodes::form::{form_below, next_of, slot_below, word_below, words_in};
 use live_nodes::law::Word;
 use live_nodes::{node, room};
 use live_rows::rows::{Fresh, Held};
@@ -26,6 +28,9 @@ fn make(words: &[Word<Mine, Tagged>], key: u64, form: NodeType, seat: &mut Guest
     ensures book { seat.new.book ≡ seat.old.book }
     ensures leaf { KnowsLeaf seat.new.view result }
     ensures root { KnowsRoot seat.old.view → KnowsRoot seat.new.view }
+    ensures holds { seat.new.view.holds ≡ seat.old.view.holds }
+    ensures places { (p : Place) → IsIn p seat.old.view.places → IsIn p seat.new.view.places }
+    ensures known { (a : Known) → IsIn a seat.old.view.client → IsIn a seat.new.view.client }
 {
     let fresh: Fresh<'_, Mine, Tagged> = Fresh { words };
     let last = fresh.get(words_in(form) - 1, seat);
@@ -61,6 +66,7 @@ pub fn name(nodes: &Nodes, leaf: u64, seat: &mut Guest) -> bool
     requires root { KnowsRoot seat.old.view }
     requires leaf { KnowsLeaf seat.old.view leaf }
     ensures book { seat.new.book ≡ seat.old.book }
+    ensures known { KnowsAlike seat.old.view seat.new.view }
 {
     let Some(words) = nodes.span(1, 2) else {
         return false;
@@ -76,4 +82,71 @@ pub fn name(nodes: &Nodes, leaf: u64, seat: &mut Guest) -> bool
     held.set(0, leaf, seat);
     node::unlock::<Mine, Tagged, Same>(&words[0], free, seat);
     true
+}
+
+// The payloads of a leaf that the seat holds come to a new one, of the next form. The number that names it.
+fn move_leaf(
+    words: &[Word<Mine, Tagged>],
+    form: NodeType,
+    others: &[Word<Mine, Tagged>],
+    key: u64,
+    seat: &mut Guest,
+) -> u64
+    requires form { form ≢ N256 }
+    requires held { MayHold 0 words.now seat.old.book seat.old.view }
+    requires leaf { IsLeaf form (draft_of (nth 0 seat.old.view.holds)) }
+    requires room { MayFill others.now seat.old.book seat.old.view }
+    requires long { length others.now ≡ words_of (next_form form) + 1 }
+    requires key { (seat.old.view.room.start ≡ key) × (key < 2 ^ 56) }
+    requires zero { BeginsWithZero seat.old.view }
+    ensures book { seat.new.book ≡ seat.old.book }
+    ensures leaf { KnowsLeaf seat.new.view result }
+    ensures holds { seat.new.view.holds ≡ seat.old.view.holds }
+    ensures places { (p : Place) → IsIn p seat.old.view.places → IsIn p seat.new.view.places }
+    ensures known { (a : Known) → IsIn a seat.old.view.client → IsIn a seat.new.view.client }
+{
+    let held: Held<'_, Mine, Tagged, 0> = Held { words };
+    let fresh: Fresh<'_, Mine, Tagged> = Fresh { words: others };
+    grow(&held, form, &fresh, seat);
+    make(others, key, next_of(form), seat)
+}
+
+/// A leaf gives its payloads to a new one of the next form, which the root names from then on, and becomes obsolete.
+/// `false` where it has no next form, or another writer is busy.
+pub fn widen(nodes: &Nodes, alloc: Global, leaf: u64, seat: &mut Guest) -> Result<bool, AllocError>
+    requires book { seat.old.book ≡ nodes.now }
+    requires root { KnowsRoot seat.old.view }
+    requires leaf { KnowsLeaf seat.old.view leaf }
+{
+    let form = form_below(leaf);
+    if form == NodeType::N256 {
+        return Ok(false);
+    }
+    let Some(key) = nodes.grow(alloc, seat)? else {
+        return Ok(false);
+    };
+    if key >= 1 << 56 {
+        return Ok(false);
+    }
+    let Some(words) = nodes.span(slot_below(leaf), words_in(form) + 1) else {
+        return Ok(false);
+    };
+    let Some(others) = nodes.span(key, words_in(next_of(form)) + 1) else {
+        return Ok(false);
+    };
+    let free = node::take(&words[0], seat);
+    if free % 4 != 0 || free >= 1 << 62 {
+        return Ok(false);
+    }
+    if !node::lock::<Mine, Tagged, Locked>(&words[0], free, seat) {
+        return Ok(false);
+    }
+    let new = move_leaf(words, form, others, key, seat);
+    node::retire::<Mine, Tagged, Same>(&words[0], free, seat);
+    for _ in 0..1_000_000u32 {
+        if name(nodes, new, seat) {
+            return Ok(true);
+        }
+    }
+    Ok(false)
 }

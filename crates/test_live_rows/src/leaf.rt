@@ -39,6 +39,7 @@ pub fn child(nodes: &Nodes, seat: &mut Guest) -> Option<u64>
     requires root { KnowsRoot seat.old.view }
     ensures book { seat.new.book ≡ seat.old.book }
     ensures leaf { IfSome result (λ leaf. KnowsLeaf seat.new.view leaf) }
+    ensures root { IfSome result (λ _. KnowsRoot seat.new.view) }
 {
     let root = nodes.word(1)?;
     let number = nodes.word(2)?;

@@ -1,6 +1,6 @@
 //! One thread, and several threads at one leaf.
 
-use crate::grow::{name, new_leaf};
+use crate::grow::{name, new_leaf, widen};
 use crate::leaf::{Nodes, Outcome, child, enter, get, new_nodes, set};
 use std::alloc::Global;
 use std::test::Fail;
@@ -157,4 +157,55 @@ fn by_four<R: Threads + Sync>(rt: &R, alloc: Global) -> Option<((u32, u32), (u32
 fn two_writers_at_one_leaf_lose_nothing(rt: HostRuntime) {
     let seen = by_four(&rt, rt.alloc());
     assert!(rt; seen == Some(((20_000, 20_000), (0, 0))));
+}
+
+// Writes under every third byte, and widens the leaf where it is full. Returns how many are there.
+fn filled(nodes: &Nodes, alloc: Global) -> u32 {
+    let mut done = 0u32;
+    for byte in 0..=254u8 {
+        if byte % 3 == 0 && written_wide(nodes, alloc, byte) {
+            done = done.wrapping_add(1);
+        }
+    }
+    done
+}
+
+// Writes under a byte, also where the leaf is full.
+fn written_wide(nodes: &Nodes, alloc: Global, byte: u8) -> bool {
+    for _ in 0..1_000_000u32 {
+        match written(nodes, byte, 1) {
+            Outcome::Done => return true,
+            Outcome::Full => wider(nodes, alloc),
+            Outcome::Busy => {}
+        }
+    }
+    false
+}
+
+// The leaf that the root names is widened, unless a writer is busy there.
+fn wider(nodes: &Nodes, alloc: Global) {
+    let mut seat = enter(nodes);
+    if let Some(leaf) = child(nodes, &mut seat) {
+        let _ = widen(nodes, alloc, leaf, &mut seat);
+    }
+}
+
+// One thread fills a leaf, which grows three times, and another reads a byte that is there from the beginning.
+fn beside_growth<R: Threads + Sync>(rt: &R, alloc: Global) -> Option<(u32, u32)> {
+    let nodes = new_nodes(alloc).ok()?;
+    if !planted(&nodes, alloc) || written(&nodes, 200, 7) != Outcome::Done {
+        return None;
+    }
+    let shared = &nodes;
+    Some(join(
+        rt,
+        || filled(shared, alloc),
+        || wrong_reads(shared, 200, 20_000),
+    ))
+}
+
+#[test]
+fn a_leaf_grows_beside_a_reader(rt: HostRuntime) {
+    let seen = beside_growth(&rt, rt.alloc());
+    assert!(rt; seen == Some((85, 0)));
 }
