@@ -1,6 +1,6 @@
 -- A removal goes up a key's path, step by step: what its loop keeps.
 use Rattle.std.proofs.Common.{◌≡◌, ◌≢◌, ℕ, zero, suc, ◌+◌, ◌<◌, List, [], ◌∷◌, ◌++◌, length, get_or, Option, Some, None, IsSome, ◌⊎◌, Bool, false, refl, ap, sym, subst, ◌∙◌, arith, inl, inr, length-append}
-use Rattle.node_table.specs.Charge.{Charge}
+use Rattle.node_table.specs.Charge.{Charge, add_charge}
 use Rattle.node_base.specs.Form.{smaller_form}
 use Rattle.node_base.specs.declared.base_node.NodeType.{NodeType}
 use Rattle.spec_map.specs.Map.{lookup}

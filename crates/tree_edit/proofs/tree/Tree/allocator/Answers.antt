@@ -12,4 +12,4 @@ pub returns-clause-charged : goal.returns-clause-charged
 returns-clause-charged g c =
     let i = c.self.invariant in
     subst (λ (t : TreeView g.row.P.Denot g.row.A.Denot). Covers (g.A.Allocator.charge t.budget) (charge_of t.nodes)) c.self.view_is
-    (subst (λ n. Covers _ n) (size_counted _ _ i.by_form) c.budget.ensures.charged)
+    (subst (λ n. Covers (g.A.Allocator.charge c.self.inside.supply.budget) n) (size_counted _ _ i.by_form) c.budget.ensures.charged)
