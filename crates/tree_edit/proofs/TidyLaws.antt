@@ -29,25 +29,29 @@ use Rattle.tree_edit.proofs.LostLaws.{lost}
 use Rattle.tree_edit.proofs.RiseLaws.{longer_than, rises, above_stays, removed}
 use Rattle.tree_edit.specs.inner.Rise.{with_all, ThinsAt, Risen, HasRisen, IsWholeBefore, IsRemoval}
 
-bytes_in : Option Charge → ℕ
+abbrev bytes_in : Option Charge → ℕ
 bytes_in None = 0
 bytes_in (Some c) = c.bytes
 
-limit_in : Option Charge → ℕ
+abbrev limit_in : Option Charge → ℕ
 limit_in None = 0
 limit_in (Some c) = c.limit
 
+abbrev more : Charge → ℕ → Charge
+more c size = record { bytes = c.bytes + size; limit = c.limit }
+
 pub moves_trans : (a b c : Option Charge) (x y z : ℕ) → MovesAlike a x b y → MovesAlike b y c z → MovesAlike a x c z
 moves_trans None None None x y z p q = refl
-moves_trans None None (Some c) x y z p q = absurd (let q' : ◌≡◌ {A = Option Charge} None (add_charge (Some c) y) = q in cc)
-moves_trans None (Some b) c x y z p q = absurd (let p' : ◌≡◌ {A = Option Charge} None (add_charge (Some b) x) = p in cc)
-moves_trans (Some a) None c x y z p q = absurd (let p' : ◌≡◌ {A = Option Charge} (add_charge (Some a) y) None = p in cc)
-moves_trans (Some a) (Some b) None x y z p q = absurd (let q' : ◌≡◌ {A = Option Charge} (add_charge (Some b) z) None = q in cc)
+moves_trans None None (Some c) x y z p q = absurd (let q' : ◌≡◌ {A = Option Charge} None (Some (more c y)) = q in cc)
+moves_trans None (Some b) c x y z p q = absurd (let p' : ◌≡◌ {A = Option Charge} None (Some (more b x)) = p in cc)
+moves_trans (Some a) None c x y z p q = absurd (let p' : ◌≡◌ {A = Option Charge} (Some (more a y)) None = p in cc)
+moves_trans (Some a) (Some b) None x y z p q = absurd (let q' : ◌≡◌ {A = Option Charge} (Some (more b z)) None = q in cc)
 moves_trans (Some a) (Some b) (Some c) x y z p q =
     let p' : a.bytes + y ≡ b.bytes + x = ap bytes_in p in
     let q' : b.bytes + z ≡ c.bytes + y = ap bytes_in q in
+    let sum : a.bytes + z ≡ c.bytes + x = omega (arith, p', q') in
     let same : a.limit ≡ c.limit = ap limit_in p ∙ ap limit_in q in
-    rw same (ap (λ (n : ℕ). Some (record { bytes = n; limit = c.limit })) (omega (arith, p', q')))
+    λ i. Some (record { bytes = sum i; limit = same i })
 
 count_all : (f : NodeType) (nodes : List NodeInfo) (c : FormCounts) → count f (with_all nodes c) ≡ count f c + total (one f) nodes
 count_all f [] c = omega arith
