@@ -5,8 +5,7 @@ use Rattle.spec_map.specs.Map.{lookup, put, without}
 use Rattle.node_base.specs.Form.{limit, form_place}
 use Rattle.node_base.specs.declared.base_node.NodeType.{NodeType}
 use Rattle.node_base.specs.declared.base_node.NodeType.TheVariants.{N4, N16, N48, N256}
-use Rattle.node_table.specs.TableNode.{TableNode, MayHave}
-use Rattle.node_table.specs.declared.child.Child.{Child}
+use Rattle.node_table.specs.TableNode.{TableNode, Child, MayHave}
 use Rattle.node_table.specs.declared.child.Child.TheVariants.{Payload, Node}
 use Rattle.live_cells.specs.Words.{at}
 use Rattle.live_cells.specs.Head.{IsHead}

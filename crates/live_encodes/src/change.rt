@@ -3,8 +3,7 @@
 ghost use Rattle.std.specs.Prelude.{◌≡◌, ◌↔◌, ◌+◌, ◌<◌, ◌≤◌, ℕ, List, length, Some, None, IfSome, IfNone, IsTrue, false};
 ghost use Rattle.spec_map.specs.Map.{lookup};
 ghost use Rattle.node_base.specs.Form.{limit};
-ghost use Rattle.node_table.specs.TableNode.{TableNode, MayHave};
-ghost use Rattle.node_table.specs.declared.child.Child.{Child};
+ghost use Rattle.node_table.specs.TableNode.{TableNode, Child, MayHave};
 ghost use Rattle.live_cells.specs.Words.{Stays, Looks};
 ghost use Rattle.live_encodes.specs.Encodes.{words_of, most, IsCounted, HasRoom, Encodes, IsBelow, IsWord, with_child};
 

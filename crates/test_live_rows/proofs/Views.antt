@@ -8,7 +8,7 @@ use lib.Seq.{set-get_or}
 use Rattle.spec_map.specs.Map.{lookup, put}
 use Rattle.node_base.specs.declared.base_node.NodeType.{NodeType}
 use Rattle.node_base.specs.declared.base_node.NodeType.TheVariants.{N4, N16, N48, N256}
-use Rattle.node_table.specs.declared.child.Child.{Child}
+use Rattle.node_table.specs.TableNode.{Child}
 use Rattle.node_table.specs.declared.child.Child.TheVariants.{Payload, Node}
 use Rattle.word_book.specs.Book.{Book, Name, reads, writes, compares, none_joined, Joined}
 use Rattle.word_segments.specs.Segments.{AreWords}
