@@ -5,9 +5,9 @@
 #![tactic(auto)]
 
 pub use congee_owned::{
-    Allocator, Budget, Congee, CongeeArc, DefaultAllocator, Drainer, FnDrain, InsertManyError, Iter,
-    LevelStats, Levels, NoDrain, NodeSize, NodeStats, OOMError, Payload, PayloadCongee, U64Congee,
-    Word,
+    Allocator, Budget, Congee, CongeeArc, DefaultAllocator, Drainer, FnDrain, InsertManyError,
+    Iter, LevelStats, Levels, NoDrain, NodeSize, NodeStats, OOMError, Payload, PayloadCongee,
+    U64Congee, Word,
 };
 pub use face_runs::{calls, payload_calls, u64_calls};
 pub use share_laws::laws as guard_laws;

@@ -58,6 +58,6 @@ module _ {P : Type 0} where
         let more : 15 < length es = omega (arith, count, full) in
         let first : take 16 new ≡ take 16 es = subst (λ (k : ℕ). take k new ≡ take k es) all written in
         let last : get_or new 15 d ≡ get_or es 15 d =
-            sym (get_or-take 16 new 15 d (omega arith)) ∙ ap (λ (xs : Pairs P). get_or xs 15 d) first ∙ get_or-take 16 es 15 d (omega arith) in
+        sym (get_or-take 16 new 15 d (omega arith)) ∙ ap (λ (xs : Pairs P). get_or xs 15 d) first ∙ get_or-take 16 es 15 d (omega arith) in
         let after : drop 16 es ≡ between m ((get_or es 15 d).0 + 1) e = after_page b s e m es 15 d h (sym each) more in
         rw (written, all, last, ← after) (take-append-drop 16 es)
