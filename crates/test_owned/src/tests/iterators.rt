@@ -94,6 +94,17 @@ fn ranges_end_where_they_are_said_to(rt: HostRuntime) -> Result<(), Fail> {
     Ok(())
 }
 
+fn count<I: Iterator<Item = (u64, u64)>>(pairs: I) -> u64
+    requires can { I.can_next pairs }
+    requires ends { IsFinite (I.remaining pairs) }
+{
+    let mut count = 0u64;
+    for _ in pairs {
+        count = count.wrapping_add(1);
+    }
+    count
+}
+
 fn right_by_number(map: &mut U64Congee<u64>) -> Result<bool, OOMError> {
     map.insert(5, 4)?;
     map.insert(u64::MAX, u64::MAX ^ 1)?;
@@ -101,8 +112,9 @@ fn right_by_number(map: &mut U64Congee<u64>) -> Result<bool, OOMError> {
     for (key, value) in &*map {
         sum = sum.wrapping_add(key ^ value);
     }
-    let with = map.iter_range_inclusive(6, u64::MAX).count();
-    Ok(sum == 2 && with == 1 && map.iter_range(6, u64::MAX).count() == 0 && map.iter().count() == 2)
+    let with = count(map.iter_range_inclusive(6, u64::MAX));
+    let without = count(map.iter_range(6, u64::MAX));
+    Ok(sum == 2 && with == 1 && without == 0 && count(map.iter()) == 2)
 }
 
 #[test]
