@@ -51,7 +51,8 @@ fn callers<L: Ledger, R: Wait>(
     let before = count(rt, &map, &mut counter, 2)?;
     let mut owner = map.pin(rt).ok().ok_or("no guard")?;
     let kept = keep(rt, &map, &mut owner, 3, 7)?;
-    let mut note = store_and_note(rt, &map, &mut giver, 4, 11)?;
+    let mut noter = map.pin(rt).ok().ok_or("no guard")?;
+    let mut note = store_and_note(rt, &map, &mut noter, 4, 11)?;
     let noted = learn_and_find(rt, &map, &mut counter, &mut note, 4);
     Ok((number(found), number(before), number(kept), number(noted)))
 }
