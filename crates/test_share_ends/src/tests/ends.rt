@@ -87,6 +87,21 @@ fn right_rows<L: Ledger, R: Wait>(
     right
 }
 
+// Puts these pairs into the map.
+fn fill<L: Ledger, R: Wait>(
+    rt: &R,
+    map: &U64Congee<L, u64>,
+    guard: &mut Guard<'_, L>,
+) -> Result<(), Fail>
+    requires { guard.old.table ≡ map.now }
+    ensures { guard.new.table ≡ guard.old.table }
+{
+    for (key, value) in [(20, 2), (u64::MAX, 3), (10, 1)] {
+        map.insert(rt, guard, key, value)?;
+    }
+    Ok(())
+}
+
 // The right rows, and how many pairs are counted in the end.
 fn by_rows<L: Ledger, R: Wait>(rt: &R, alloc: Global, blank: Blank) -> Result<(usize, bool), Fail>
     requires name { blank.name ≡ L.name }
@@ -95,9 +110,7 @@ fn by_rows<L: Ledger, R: Wait>(rt: &R, alloc: Global, blank: Blank) -> Result<(u
 {
     let (map, share) = U64Congee::<L, u64>::new(alloc, blank)?;
     let mut guard = map.pin(rt)?;
-    for (key, value) in [(20, 2), (u64::MAX, 3), (10, 1)] {
-        map.insert(rt, &mut guard, key, value)?;
-    }
+    fill(rt, &map, &mut guard)?;
     let right = right_rows(rt, &map, &mut guard);
     map.unpin(rt, guard);
     Ok((right, map.settle(rt, share).ok() == Some(0)))

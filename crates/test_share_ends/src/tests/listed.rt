@@ -80,6 +80,17 @@ fn right_rows<L: Ledger, R: Wait>(rt: &R, map: &Map<L>, guard: &mut Guard<'_, L>
     right
 }
 
+// Puts these pairs into the map.
+fn fill<L: Ledger, R: Wait>(rt: &R, map: &Map<L>, guard: &mut Guard<'_, L>) -> Result<(), Fail>
+    requires { guard.old.table ≡ map.now }
+    ensures { guard.new.table ≡ guard.old.table }
+{
+    for (key, value) in [(20, 2), (u64::MAX, 4), (10, 1), (30, 3)] {
+        map.insert(rt, guard, key, value)?;
+    }
+    Ok(())
+}
+
 // The right rows, the count and the test before all pairs are removed, and both after it.
 fn by_rows<L: Ledger, R: Wait>(
     rt: &R,
@@ -92,9 +103,7 @@ fn by_rows<L: Ledger, R: Wait>(
 {
     let (map, share) = Map::<L>::new(alloc, blank, DefaultAllocator {})?;
     let mut guard = map.pin(rt)?;
-    for (key, value) in [(20, 2), (u64::MAX, 4), (10, 1), (30, 3)] {
-        map.insert(rt, &mut guard, key, value)?;
-    }
+    fill(rt, &map, &mut guard)?;
     let right = right_rows(rt, &map, &mut guard);
     let count = map.value_count_recorded(rt, &mut guard);
     let some = map.is_empty_recorded(rt, &mut guard);
@@ -124,9 +133,7 @@ fn by_range<L: Ledger, R: Wait>(
 {
     let (map, share) = Map::<L>::new(alloc, blank, DefaultAllocator {})?;
     let mut guard = map.pin(rt)?;
-    for (key, value) in [(20, 2), (u64::MAX, 4), (10, 1), (30, 3)] {
-        map.insert(rt, &mut guard, key, value)?;
-    }
+    fill(rt, &map, &mut guard)?;
     let removed = map.remove_range(rt, &mut guard, &11, &31);
     let keys = map.keys_recorded(rt, &mut guard, alloc)?;
     let listed = keys.as_slice() == [10, u64::MAX].as_slice();

@@ -37,6 +37,17 @@ fn popped<L: Ledger, R: Wait>(
     (count, sum)
 }
 
+// Puts the keys from 1 to 100 into the map, each its own value.
+fn fill<L: Ledger, R: Wait>(rt: &R, map: &Map<L>, guard: &mut Guard<'_, L>) -> Result<(), Fail>
+    requires { guard.old.table ≡ map.now }
+    ensures { guard.new.table ≡ guard.old.table }
+{
+    for key in 1..=100u64 {
+        map.insert(rt, guard, key, key)?;
+    }
+    Ok(())
+}
+
 fn from_both_ends<L: Ledger + Send + Sync, R: Threads + Wait + Sync>(
     rt: &R,
     alloc: Global,
@@ -48,9 +59,7 @@ fn from_both_ends<L: Ledger + Send + Sync, R: Threads + Wait + Sync>(
 {
     let (map, share) = Map::<L>::new(alloc, blank)?;
     let mut guard = map.pin(rt)?;
-    for key in 1..=100u64 {
-        map.insert(rt, &mut guard, key, key)?;
-    }
+    fill(rt, &map, &mut guard)?;
     let other = map.pin(rt)?;
     let shared = &map;
     let (one, two) = join(
