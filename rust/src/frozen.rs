@@ -101,7 +101,7 @@ impl Frozen {
         let handle = ManuallyDrop::new(self).handle();
         let (mut made, mut back) = (Handle::none(), FrozenHandle::none());
         match unsafe { congee_c_thaw(handle, &mut made, &mut back) } {
-            1 => Ok(Map::of_address(made.map, limit)),
+            1 => Ok(Map::of_address(made.map)),
             _ => Err(Frozen::of_address(back.reader, limit, charged)),
         }
     }

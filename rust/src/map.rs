@@ -18,7 +18,6 @@ use std::ops::RangeBounds;
 /// A call reads one path through the tree, of at most eight nodes.
 pub struct Map {
     map: *mut OneThreadAtATime,
-    limit: u64,
 }
 
 // SAFETY: the library proves that a map may go to another thread (`unsafe impl Send for Handle`).
@@ -56,7 +55,7 @@ impl Map {
     pub fn with_limit(bytes: u64) -> Result<Map, OutOfMemory> {
         let mut made = Handle::none();
         match unsafe { congee_c_new(bytes, &mut made) } {
-            0 => Ok(Map::of_address(made.map, bytes)),
+            0 => Ok(Map::of_address(made.map)),
             _ => Err(OutOfMemory),
         }
     }
@@ -90,13 +89,13 @@ impl Map {
     /// # }
     /// ```
     pub fn try_clone(&self) -> Result<Map, OutOfMemory> {
-        let mut other = Map::with_limit(self.limit)?;
+        let mut other = Map::with_limit(self.limit())?;
         other.try_extend(self)?;
         Ok(other)
     }
 
-    pub(crate) fn of_address(map: *mut OneThreadAtATime, limit: u64) -> Map {
-        Map { map, limit }
+    pub(crate) fn of_address(map: *mut OneThreadAtATime) -> Map {
+        Map { map }
     }
 
     fn handle(&self) -> Handle {
@@ -214,7 +213,7 @@ impl Map {
     #[doc(alias = "split_off")]
     pub fn try_split_off(&mut self, key: impl Borrow<u64>) -> Result<Map, OutOfMemory> {
         let start = *key.borrow();
-        let mut other = Map::with_limit(self.limit)?;
+        let mut other = Map::with_limit(self.limit())?;
         other.try_extend(self.range(start..))?;
         self.remove_range(start..);
         Ok(other)
@@ -728,7 +727,7 @@ impl Map {
     /// # }
     /// ```
     pub fn limit(&self) -> u64 {
-        self.limit
+        unsafe { congee_c_limit(&mut self.handle()) }
     }
 
     /// Freezes the map: from here on nobody changes it, and it may have several readers, which look up side by side. None
@@ -745,14 +744,14 @@ impl Map {
     /// # }
     /// ```
     pub fn freeze(self) -> Result<Frozen, FreezeError> {
-        let (limit, charged) = (self.limit, self.charged());
+        let (limit, charged) = (self.limit(), self.charged());
         // (the library owns the map from here on, or returns it)
         let handle = ManuallyDrop::new(self).handle();
         let (mut made, mut back) = (FrozenHandle::none(), Handle::none());
         match unsafe { congee_c_freeze(handle, &mut made, &mut back) } {
             0 => Ok(Frozen::of_address(made.reader, limit, charged)),
             _ => Err(FreezeError {
-                map: Map::of_address(back.map, limit),
+                map: Map::of_address(back.map),
             }),
         }
     }

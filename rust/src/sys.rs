@@ -137,6 +137,7 @@ extern "C" {
     pub(crate) fn congee_c_is_empty(handle: *mut Handle) -> bool;
     pub(crate) fn congee_c_count(handle: *mut Handle) -> u64;
     pub(crate) fn congee_c_charged(handle: *mut Handle) -> u64;
+    pub(crate) fn congee_c_limit(handle: *mut Handle) -> u64;
     pub(crate) fn congee_c_freeze(handle: Handle, out: *mut FrozenHandle, back: *mut Handle)
         -> i32;
     pub(crate) fn congee_c_thaw(
