@@ -1,7 +1,9 @@
 //! Tables with a root and few pairs.
 
-ghost use Rattle.std.specs.Prelude.{◌≡◌, ◌<◌, length, take, IfOk, slice_index};
+ghost use Rattle.std.specs.Prelude.{◌≡◌, ◌≢◌, ◌<◌, length, take, IfOk, slice_index};
 ghost use Rattle.node_table.specs.Key.{IsFirstDifference};
+ghost use Rattle.test_tree_links.specs.OneLeaf.{HasLeafOf};
+ghost use Rattle.tree_links.specs.LeafCalls.{HasLeafAt};
 ghost use Rattle.tree_links.specs.SeenTable.{name_of};
 ghost use Rattle.tree_path.specs.inner.Root.{HasTree, tree_payload};
 
@@ -14,11 +16,10 @@ use std::sync::ledger::{Blank, Ledger};
 use tree_links::link::LinkRef;
 use tree_links::linked_node::LinkedNode;
 use tree_links::links::Links;
-use tree_links::place::Place;
 use tree_path::reads::ReadCount;
 
 /// A table whose payloads are numbers.
-pub type Numbers = Links<u64, TreeNode<u64, Place<u64>>>;
+pub type Numbers = Links<u64>;
 
 // The payload at the key, where the count of reads is dropped.
 fn looked<L: Ledger>(nodes: &Numbers, root: usize, key: &[u8; 8], blank: Blank) -> Option<u64>
@@ -147,14 +148,84 @@ pub fn split_twice(
     ))
 }
 
-/// Whether a node of the smallest form has the next one once it is grown.
-pub fn grows(alloc: Global) -> Result<bool, OOMError> {
+/// A table with a root and one pair, whose leaf has a slot: the slots of the root and the leaf.
+#[derive(Drop)]
+pub struct OneLeaf {
+    pub nodes: Numbers,
+    pub root: usize,
+    pub leaf: usize,
+}
+
+/// Makes one with this pair.
+pub fn one_leaf(alloc: Global, key: &[u8; 8], payload: u64) -> Result<OneLeaf, OOMError>
+    ensures { IfOk result (λ made. HasLeafOf made.nodes.table (name_of made.root)
+        (slice_index key.now 0) (name_of made.leaf) key.now payload) }
+{
+    let mut nodes: Numbers = Links::new(alloc);
+    nodes.reserve(2)?;
+    let root = nodes.add(TreeNode::root(alloc)?);
+    let byte = key[0];
+    nodes.add_pair(root, byte, key, payload);
+    let leaf = nodes.hoist(root, byte);
+    Ok(OneLeaf { nodes, root, leaf })
+}
+
+/// Sets a payload in a leaf, and returns the previous one, 0 if there was none, and 1000 if the leaf is full.
+fn set(nodes: &mut Numbers, leaf: usize, byte: u8, payload: u64) -> u64
+    requires { HasLeafAt nodes.old.table (name_of leaf) }
+    ensures { HasLeafAt nodes.new.table (name_of leaf) }
+{
+    match nodes.set_payload(leaf, byte, payload) {
+        Ok(Some(before)) => before,
+        Ok(None) => 0,
+        Err(_) => 1000,
+    }
+}
+
+/// Sets a payload of 2 under each of five last bytes in the leaf of a pair with payload 1. Returns what each call did.
+pub fn fill(alloc: Global, key: &[u8; 8], bytes: &[u8; 5]) -> Result<[u64; 5], OOMError> {
+    let mut made = one_leaf(alloc, key, 1)?;
+    let mut done = [0u64; 5];
+    for i in 0..5 {
+        done[i] = set(&mut made.nodes, made.leaf, bytes[i], 2);
+    }
+    Ok(done)
+}
+
+/// What is taken out under a last byte of the leaf of a pair with payload 42.
+pub fn taken(alloc: Global, key: &[u8; 8], byte: u8) -> Result<Option<u64>, OOMError> {
+    let mut made = one_leaf(alloc, key, 42)?;
+    Ok(made.nodes.take_payload(made.leaf, byte))
+}
+
+/// Whether the leaf of a pair has a payload under a second last byte once that is put there.
+pub fn put_beside(alloc: Global, key: &[u8; 8], byte: u8) -> Result<bool, OOMError>
+    requires { slice_index key.now 7 ≢ byte }
+{
+    let mut made = one_leaf(alloc, key, 1)?;
+    made.nodes.put_payload(made.leaf, byte, 2);
+    Ok(kind_under(&made.nodes, made.leaf, byte) == 1)
+}
+
+/// Takes the one payload of a leaf out, and then the leaf. Returns whether it was empty before that and after, and
+/// whether the root has something in its place.
+pub fn empties(alloc: Global, key: &[u8; 8]) -> Result<(bool, bool, u8), OOMError> {
+    let mut made = one_leaf(alloc, key, 1)?;
+    let before = made.nodes.is_empty(made.leaf);
+    let _ = made.nodes.take_payload(made.leaf, key[7]);
+    let after = made.nodes.is_empty(made.leaf) && made.nodes.is_due(made.leaf);
+    let form = made.nodes.take_slot(made.root, key[0], made.leaf);
+    let gone = kind_under(&made.nodes, made.root, key[0]);
+    Ok((before, after && form == NodeType::N4, gone))
+}
+
+/// Whether a node of the smallest form has the next one once it is grown, and the smallest once it shrinks.
+pub fn grows_and_shrinks(alloc: Global) -> Result<(bool, bool), OOMError> {
     let mut nodes: Numbers = Links::new(alloc);
     nodes.reserve(1)?;
     let node = nodes.add(TreeNode::empty_inner(&[1, 2]));
     nodes.grow(node, alloc)?;
-    match nodes.get(node) {
-        Some(grown) => Ok(grown.base().get_type() == NodeType::N16),
-        None => Ok(false),
-    }
+    let grown = nodes.form_of(node) == NodeType::N16 && !nodes.is_full(node);
+    nodes.shrink(node, alloc)?;
+    Ok((grown, nodes.form_of(node) == NodeType::N4))
 }

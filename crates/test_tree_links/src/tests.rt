@@ -1,6 +1,9 @@
 //! One pair, and two.
 
-use crate::client::{grows, make_round, one_pair, split, split_twice, value_at};
+use crate::client::{
+    empties, fill, grows_and_shrinks, make_round, one_pair, put_beside, split, split_twice, taken,
+    value_at,
+};
 use std::test::Fail;
 
 const KEY: [u8; 8] = [3, 1, 4, 1, 5, 9, 2, 6];
@@ -46,7 +49,22 @@ fn a_node_above_takes_the_place_of_one_that_keeps_its_slot(rt: HostRuntime) -> R
 }
 
 #[test]
-fn a_node_grows_into_the_next_form(rt: HostRuntime) -> Result<(), Fail> {
-    assert!(rt; grows(rt.alloc())?);
+fn a_node_grows_into_the_next_form_and_back(rt: HostRuntime) -> Result<(), Fail> {
+    assert!(rt; grows_and_shrinks(rt.alloc())? == (true, true));
+    Ok(())
+}
+
+#[test]
+fn a_leaf_has_its_payloads_until_it_is_full(rt: HostRuntime) -> Result<(), Fail> {
+    assert!(rt; fill(rt.alloc(), &KEY, &[6, 7, 8, 5, 4])? == [1, 0, 0, 0, 1000]);
+    assert!(rt; put_beside(rt.alloc(), &KEY, 7)?);
+    Ok(())
+}
+
+#[test]
+fn a_payload_is_taken_from_its_leaf_alone(rt: HostRuntime) -> Result<(), Fail> {
+    assert!(rt; taken(rt.alloc(), &KEY, 6)? == Some(42));
+    assert!(rt; taken(rt.alloc(), &KEY, 7)? == None);
+    assert!(rt; empties(rt.alloc(), &KEY)? == (false, true, 0));
     Ok(())
 }

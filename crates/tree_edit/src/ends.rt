@@ -24,7 +24,7 @@ use tree_path::descent::{PathEnd, Stop};
 
 /// At which side of the pairs a removal is.
 #[derive(Clone, Copy)]
-pub(crate) enum Side {
+pub enum Side {
     First,
     Last,
 }

@@ -43,19 +43,19 @@ module _ {P : Type 0} (t : LinkTable P) (root : ℕ) (key : List ℕ) (all_bytes
   abbrev spot_of : ℕ → ℕ → ℕ → Stop → PathEnd
   spot_of slot parent above stop = record { slot = slot; parent = parent; above = above; stop = stop }
 
-  ends : (above slot parent : ℕ) (n : TableNode P) (stop : Stop) → LeadsTo s (name_of root) key above slot parent → node_at s slot ≡ Some n → Halts key n stop → SeeksTo s (name_of root) key (spot_of slot parent above stop)
+  pub ends : (above slot parent : ℕ) (n : TableNode P) (stop : Stop) → LeadsTo s (name_of root) key above slot parent → node_at s slot ≡ Some n → Halts key n stop → SeeksTo s (name_of root) key (spot_of slot parent above stop)
   ends above slot parent n stop leads here halts = record { leads = leads; node = n; here = here; stop = halts }
 
   module _ (above parent i : ℕ) (n : LinkNode P) (leads : LeadsTo s (name_of root) key above (name_of i) parent) (at : link_at t i ≡ Some n) where
-    there : node_at s (name_of i) ≡ Some (seen_node i n)
+    pub there : node_at s (name_of i) ≡ Some (seen_node i n)
     there = at_slot t i n at
 
-    short : length n.prefix ≤ 7
+    pub short : length n.prefix ≤ 7
     short =
         let o = open_subtree s leads.levels (name_of i) (seen_node i n) (record { above = leads.q; tree = leads.tree }) (sym there) in
         o.sound.short
 
-    seen_at : (c : Option (Link P)) → lookup n.links (next_byte n.prefix key) ≡ c → lookup (seen_node i n).children (next_byte n.prefix key) ≡ option_map (λ d. seen_link i (next_byte n.prefix key) d) c
+    pub seen_at : (c : Option (Link P)) → lookup n.links (next_byte n.prefix key) ≡ c → lookup (seen_node i n).children (next_byte n.prefix key) ≡ option_map (λ d. seen_link i (next_byte n.prefix key) d) c
     seen_at c found = lookup-seen i n.links (next_byte n.prefix key) ∙ ap (option_map (λ d. seen_link i (next_byte n.prefix key) d)) found
 
     pub find_down : (j : ℕ) → Begins n.prefix key → lookup n.links (next_byte n.prefix key) ≡ Some (Slot j) → LeadsTo s (name_of root) key (above + 1) (name_of j) (name_of i)
@@ -109,23 +109,23 @@ module _ {P : Type 0} (t : LinkTable P) (root : ℕ) (key : List ℕ) (all_bytes
       abbrev other_key : List ℕ
       other_key = key_under n.prefix b rest
 
-      inside : b < bytes
+      pub inside : b < bytes
       unfolding bytes
       inside = let on = goes_on n.prefix key begins all_bytes (omega (arith, inner)) full in on.byte
 
-      below : LeadsTo s (name_of root) key (above + 1) (name_under i b) (name_of i)
+      pub below : LeadsTo s (name_of root) key (above + 1) (name_under i b) (name_of i)
       below = leads_step s (name_of root) key above (name_of i) parent (seen_node i n) leads there begins all_bytes full (name_under i b) (seen_at (Some (Pair rest v)) found)
 
-      leaf_there : node_at s (name_under i b) ≡ Some (leaf_of other_key v)
+      pub leaf_there : node_at s (name_under i b) ≡ Some (leaf_of other_key v)
       leaf_there = leaf_under t i b n rest v inside at found
 
-      long_key : length other_key ≡ 8
+      pub long_key : length other_key ≡ 8
       long_key = key_long n.prefix b rest long
 
-      seven_bytes : length (take 7 other_key) ≡ 7
+      pub seven_bytes : length (take 7 other_key) ≡ 7
       seven_bytes = length-take 7 other_key ∙ omega (arith, long_key)
 
-      at_pair : Begins (take 7 other_key) key → SeeksTo s (name_of root) key (spot_of (name_under i b) (name_of i) (above + 1) (stops.Leaf (get_or key 7 0)))
+      pub at_pair : Begins (take 7 other_key) key → SeeksTo s (name_of root) key (spot_of (name_under i b) (name_of i) (above + 1) (stops.Leaf (get_or key 7 0)))
       at_pair goes = ends (above + 1) (name_under i b) (name_of i) (leaf_of other_key v) (stops.Leaf (get_or key 7 0)) below leaf_there (ap (λ k. get_or key k 0) (sym seven_bytes), goes, seven_bytes)
 
       pub find_pair : rest ≡ drop 1 key → Finds (Some v) (above + 1)

@@ -7,7 +7,12 @@ pub mod FindLaws
 pub mod PairLaws
 pub mod CallLaws
 pub mod NodeLaws
+pub mod PayloadLaws
 pub mod LeafLaws
 pub mod MoveLaws
 pub mod SplitLaws
 pub mod TreeLaws
+pub mod LeadLaws
+pub mod SplitTreeLaws
+pub mod SeekLaws
+pub mod ReadLaws

@@ -1,13 +1,15 @@
 -- How the number of pairs in places changes.
-use Rattle.std.proofs.Common.{◌≡◌, ◌≢◌, ℕ, zero, suc, ◌+◌, List, [], ◌∷◌, Option, Some, None, refl, ap, arith, inl, inr}
+use Rattle.std.proofs.Common.{◌≡◌, ◌≢◌, ℕ, zero, suc, ◌+◌, List, [], ◌∷◌, Option, Some, None, refl, ap, ◌∙◌, arith, inl, inr}
 use Rattle.std.proofs.lemmas.Bool.{le-ltb, lt-ltb, eq-eqb, ne_eqb, cases_order, cases_eq}
+use Rattle.std.specs.Option.{option_map}
 use Rattle.spec_map.specs.Map.{lookup, put, without, Rises}
 use Rattle.spec_map.proofs.MapLaws.{lookup-below}
 use Rattle.tree_links.specs.LinkNode.{LinkNode}
 use Rattle.tree_links.specs.SeenTable.{LinkTable, link_at}
 use Rattle.tree_links.specs.declared.link.Link.{Link}
+use Rattle.tree_links.specs.declared.link.Link.TheVariants.{Payload}
 use Rattle.tree_links.specs.inner.Pairs.{pairs_in_link, pairs_in_links, pairs_in_node, pairs_in_table}
-use Rattle.tree_links.specs.inner.Slots.{SameSlots, ExchangesLink, PutsLink, TakesLink}
+use Rattle.tree_links.specs.inner.Slots.{SameSlots, ExchangesLink, PutsLink, TakesLink, SetsAt}
 
 not_zero : (k : ℕ) → suc k ≢ zero
 not_zero k = omega arith
@@ -98,6 +100,18 @@ module _ {P : Type 0} where
       let is : pairs_in_node (link_at u i) ≡ pairs_in_links (without h.node.links b) = ap pairs_in_node h.there in
       let one : pairs_at (lookup h.node.links b) ≡ pairs_in_link c = ap pairs_at h.found in
       omega (arith, was, is, one, table-changed t u i h.others, links-without 0 h.node.links b h.ordered)
+
+  -- payloads are no pairs
+  no_pairs : (before : Option P) → pairs_at (option_map (λ v. Payload v) before) ≡ 0
+  no_pairs None = refl
+  no_pairs (Some v) = refl
+
+  pub pairs-set : (t u : LinkTable P) (i b : ℕ) (v : P) (before : Option P) → SetsAt t u i b v before → pairs_in_table u ≡ pairs_in_table t
+  pairs-set t u i b v before h =
+      let was : pairs_in_node (link_at t i) ≡ pairs_in_links h.node.links = ap pairs_in_node h.here in
+      let is : pairs_in_node (link_at u i) ≡ pairs_in_links (put h.node.links b (Payload v)) = ap pairs_in_node h.there in
+      let one : pairs_at (lookup h.node.links b) ≡ 0 = ap pairs_at h.was ∙ no_pairs before in
+      omega (arith, was, is, one, table-changed t u i h.others, links-put 0 h.node.links b (Payload v) h.ordered)
 
   pub pairs-more : (t u : LinkTable P) (i : ℕ) (n : LinkNode P) → link_at t i ≡ None → link_at u i ≡ Some n → SameSlots t u i → pairs_in_table u ≡ pairs_in_table t + pairs_in_links n.links
   pairs-more t u i n none there others =

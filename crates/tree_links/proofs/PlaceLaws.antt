@@ -1,5 +1,5 @@
 -- What a node has as links, where its children change.
-use Rattle.std.proofs.Common.{◌≡◌, ℕ, ◌+◌, List, [], ◌∷◌, ap, sym, ◌∙◌}
+use Rattle.std.proofs.Common.{◌≡◌, ℕ, ◌+◌, List, ◌∷◌, ap, sym, ◌∙◌}
 use Rattle.spec_map.specs.Map.{put, without, between}
 use Rattle.node_table.specs.TableNode.{TableNodeOf}
 use Rattle.node_table.specs.declared.child.Child.{Child as ChildOf}

@@ -19,7 +19,7 @@ use Rattle.tree_links.specs.declared.link.Link.TheVariants.{Slot, Pair}
 use Rattle.tree_links.specs.inner.Slots.{SameSlots, ExchangesLink}
 use Rattle.tree_links.proofs.KeyLaws.{key_long, whole_key, rest_of, key_first}
 use Rattle.tree_links.proofs.CallLaws.{parted_is}
-use Rattle.tree_links.proofs.SeenLaws.{seen_in, at_slot, lookup-seen, put-seen, leaf_under, seen-put, nothing_in, keeps_two}
+use Rattle.tree_links.proofs.SeenLaws.{seen_in, seen_slot, seen_under, at_slot, lookup-seen, put-seen, leaf_under, seen-put, nothing_in, keeps_two}
 
 -- the bytes before a place, that one, and the rest
 pub begins_at : (key : List ℕ) (at : ℕ) → at < length key → Begins (take at key ++ get_or key at 0 ∷ []) key
@@ -55,6 +55,12 @@ module _ {P : Type 0} (t g u : LinkTable P) (p b k : ℕ) (before : Link P) (new
 
   was_none : link_at t k ≡ None
   was_none = sym (h.others k apart) ∙ fresh
+
+  upper_free : node_at (seen_table t) (name_of k) ≡ None
+  upper_free = seen_slot t k ∙ ap (option_map (λ n. seen_node k n)) was_none
+
+  leaf_free : (c : ℕ) → c < bytes → node_at (seen_table t) (name_under k c) ≡ None
+  leaf_free c inside = seen_under t k c inside ∙ ap (λ x. pair_in x c) was_none
 
   parent_then : node_at (seen_table u) (name_of p) ≡ Some (record (seen_node p h.node) { children = put (seen_node p h.node).children b (seen_link p b (Slot k)) })
   parent_then = at_slot u p (with_link h.node b (Slot k)) then_p ∙ ap (λ es. Some (record { form = h.node.form; prefix = h.node.prefix; children = es })) (put-seen p h.node.links b (Slot k))
@@ -99,6 +105,8 @@ module _ {P : Type 0} (t g u : LinkTable P) (p b k : ℕ) (key : List ℕ) (at c
     found = lookup-seen p n.links b ∙ ap (option_map (λ d. seen_link p b d)) h.found;
     was = leaf_under t p b n rest w inside h.here h.found;
     differs = differs;
+    upper_free = upper_free t g u p b k (Pair rest w) new h fresh there others;
+    leaf_free = leaf_free t g u p b k (Pair rest w) new h fresh there others c c_inside;
     there = parent_then t g u p b k (Pair rest w) new h fresh there others;
     upper_is = at_slot u k new there
         ∙ ap (λ es. Some (record { form = N4; prefix = take at key; children = es })) (put-seen k ((a, Pair rest w) ∷ []) c (Pair (drop 1 key) v)
@@ -150,6 +158,8 @@ module _ {P : Type 0} (t g u : LinkTable P) (p b k : ℕ) (key : List ℕ) (at c
     found = lookup-seen p h.node.links b ∙ ap (option_map (λ d. seen_link p b d)) h.found;
     was = at_slot t i n here_i;
     differs = differs;
+    upper_free = upper_free t g u p b k (Slot i) new h fresh there others;
+    leaf_free = leaf_free t g u p b k (Slot i) new h fresh there others c c_inside;
     there = parent_then t g u p b k (Slot i) new h fresh there others;
     upper_is = at_slot u k new there
         ∙ ap (λ es. Some (record { form = N4; prefix = take at key; children = es })) (put-seen k ((a, Slot i) ∷ []) c (Pair (drop 1 key) v)

@@ -1,10 +1,14 @@
-pub mod GrowsNode
+pub mod LeafCalls
 pub mod LinkNode
 pub mod LinksView
+pub mod LosesNode
 pub mod MovesNode
+pub mod OtherForm
 pub mod PairCalls
 pub mod Places
 pub mod SameTree
 pub mod SeenTable
+pub mod Seeks
 pub mod SplitsChild
+pub mod SplitsTree
 pub mod inner

@@ -1,5 +1,5 @@
 -- A node whose prefix a key leaves gets a node above it, which has the leaf of the key's pair beside it.
-use Rattle.std.specs.Prelude.{◌≡◌, ◌≢◌, ℕ, List, [], ◌∷◌, take, Some, slice_index_or}
+use Rattle.std.specs.Prelude.{◌≡◌, ◌≢◌, ℕ, List, [], ◌∷◌, take, Some, None, slice_index_or}
 use Rattle.spec_map.specs.Map.{lookup, put}
 use Rattle.node_base.specs.declared.base_node.NodeType.TheVariants.{N4}
 use Rattle.node_table.specs.Key.{IsFirstDifference}
@@ -23,7 +23,8 @@ module _ {P : Type 0} where
     children = put ((slice_index_or prefix at 0, Node lower) ∷ []) (slice_index_or key at 0) (Node leaf);
   }
 
-  -- In place of the node at `old` the one at `parent` has the new node, under this byte.
+  -- In place of the node at `old` the one at `parent` has the new node, under this byte. That and the leaf are where there
+  -- was no node.
   pub record SplitsChild (s t : NodeTable P) (parent byte old upper : ℕ) (key : List ℕ) (at : ℕ) (payload : P) : Type 0 where
     pub node : TableNode P
     pub child : TableNode P
@@ -33,6 +34,8 @@ module _ {P : Type 0} where
     pub found : lookup node.children byte ≡ Some (Node old)
     pub was : node_at s old ≡ Some child
     pub differs : IsFirstDifference child.prefix key at
+    pub upper_free : node_at s upper ≡ None
+    pub leaf_free : node_at s leaf ≡ None
     pub there : node_at t parent ≡ Some (record node { children = put node.children byte (Node upper) })
     pub upper_is : node_at t upper ≡ Some (upper_of child.prefix key at lower leaf)
     pub lower_is : node_at t lower ≡ Some child

@@ -6,16 +6,18 @@
 //!
 //! A leaf's second pair takes no memory. So a slot is kept free for each pair that is in its parent.
 //!
-//! Not used yet. Tested in `test_tree_links`.
+//! Tested in `test_tree_links`. No map uses it yet.
 #![tactic(auto)]
 
 mod bytes;
 pub mod descent;
+pub mod leaves;
 pub mod link;
 pub mod linked_node;
 pub mod links;
 pub mod moves;
 pub mod pairs;
 pub mod place;
+pub mod reading;
 mod slots;
 pub mod splits;

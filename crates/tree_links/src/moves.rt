@@ -16,6 +16,7 @@ use crate::bytes::{first_byte, rest_in_leaf, whole_key};
 use crate::link::Link;
 use crate::linked_node::LinkedNode;
 use crate::links::Links;
+use crate::place::Linked;
 use crate::slots::exchange_at;
 
 // The last byte and the payload of a leaf's only pair.
@@ -35,7 +36,7 @@ fn only_pair<P: Drop, N: LinkedNode<P>>(leaf: N) -> (u8, P)
     }
 }
 
-impl<P: Drop, N: LinkedNode<P>> Links<P, N> {
+impl<P: Drop> Links<P> {
     /// Gives a slot to the leaf of a pair under a byte of the inner node in a slot, and returns it. Takes no memory.
     pub fn hoist(&mut self, slot: usize, byte: u8) -> usize
         requires { HasBelow self.old.table (name_of slot) byte (name_under slot byte) }
@@ -54,7 +55,7 @@ impl<P: Drop, N: LinkedNode<P>> Links<P, N> {
                 let key = whole_key(first, &rest);
                 self.pairs -= 1;
                 self.nodes
-                    .insert_reserved(N::leaf_of(&key[..7], key[7], payload));
+                    .insert_reserved(Linked::<P>::leaf_of(&key[..7], key[7], payload));
                 below
             }
             _ => unreachable!(),
@@ -74,7 +75,7 @@ impl<P: Drop, N: LinkedNode<P>> Links<P, N> {
     {
         let leaf = self.nodes.remove(slot);
         let mut first = [0u8; 7];
-        first.copy_from_slice(leaf.base().prefix());
+        first.copy_from_slice(LinkedNode::base(&leaf).prefix());
         let (last, payload) = only_pair(leaf);
         let rest = rest_in_leaf(&first, last);
         exchange_at(&mut self.nodes, parent, byte, Link::Pair(rest, payload));

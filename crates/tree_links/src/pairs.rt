@@ -8,11 +8,10 @@ ghost use Rattle.tree_links.specs.SeenTable.{name_of, name_under};
 
 use crate::bytes::{has_seven, rest_of};
 use crate::link::Link;
-use crate::linked_node::LinkedNode;
 use crate::links::Links;
 use crate::slots::{exchange_at, put_at, take_at};
 
-impl<P: Drop, N: LinkedNode<P>> Links<P, N> {
+impl<P: Drop> Links<P> {
     /// Puts a new key's pair under a byte of the inner node in a slot, which has room and nothing there: a leaf that
     /// takes no slot. Takes no memory.
     pub fn add_pair(&mut self, slot: usize, byte: u8, key: &[u8; 8], payload: P)

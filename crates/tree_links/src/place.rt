@@ -12,7 +12,7 @@ ghost use Rattle.tree_links.specs.Places.{as_link, as_linked};
 use crate::link::{Link, LinkMeeting, LinkRef};
 use crate::linked_node::LinkedNode;
 use node_base::base_node::BaseNode;
-use node_table::child::{Child, ChildRef, Meeting};
+use node_table::child::{Child, ChildIter, ChildRef, Meeting};
 use node_table::tree_node::TreeNode;
 use spec_map::error::OOMError;
 use std::alloc::Global;
@@ -24,6 +24,9 @@ pub enum Place<P> {
     Slot(usize),
     Pair([u8; 7], P),
 }
+
+/// A node of a table of links.
+pub type Linked<P> = TreeNode<P, Place<P>>;
 
 // A link as a child of a node.
 fn child_of<P>(link: Link<P>) -> Child<P, Place<P>>
@@ -64,6 +67,14 @@ impl<P: Drop> LinkedNode<P> for TreeNode<P, Place<P>> {
 
     ghost node = { as_linked };
 
+    fn root(alloc: Global) -> Result<Self, OOMError> {
+        TreeNode::root(alloc)
+    }
+
+    fn empty_inner(prefix: &[u8]) -> Self {
+        TreeNode::empty_inner(prefix)
+    }
+
     fn leaf_of(prefix: &[u8], byte: u8, payload: P) -> Self {
         let mut leaf = TreeNode::empty_leaf(prefix);
         leaf.insert(byte, Child::Payload(payload));
@@ -72,6 +83,18 @@ impl<P: Drop> LinkedNode<P> for TreeNode<P, Place<P>> {
 
     fn base(&self) -> &BaseNode {
         self.base()
+    }
+
+    fn is_full(&self) -> bool {
+        self.is_full()
+    }
+
+    fn is_due(&self) -> bool {
+        self.is_due()
+    }
+
+    fn is_leaf(&self) -> bool {
+        self.is_leaf()
     }
 
     #[inline(always)]
@@ -98,6 +121,17 @@ impl<P: Drop> LinkedNode<P> for TreeNode<P, Place<P>> {
             Some((byte, child)) => Some((byte, link_at(child))),
             None => None,
         }
+    }
+
+    fn last_below<'a>(&'a self, to: usize) -> Option<(u8, LinkRef<'a, P>)> {
+        match self.last_ref_below(to) {
+            Some((byte, child)) => Some((byte, link_at(child))),
+            None => None,
+        }
+    }
+
+    fn links_between<'a>(&'a self, from: usize, to: usize) -> ChildIter<'a, P, Place<P>> {
+        self.children_between(from, to)
     }
 
     fn insert(&mut self, byte: u8, link: Link<P>)
@@ -133,5 +167,9 @@ impl<P: Drop> LinkedNode<P> for TreeNode<P, Place<P>> {
 
     fn grow(&mut self, alloc: Global) -> Result<(), OOMError> {
         self.grow(alloc)
+    }
+
+    fn shrink(&mut self, alloc: Global) -> Result<(), OOMError> {
+        self.shrink(alloc)
     }
 }

@@ -4,18 +4,22 @@
 //!
 //! Tested in `test_tree_links`.
 
-ghost use Rattle.std.specs.Prelude.{◌≡◌, ◌≢◌, ◌+◌, ◌<◌, [], ◌∷◌, take};
+ghost use Rattle.std.specs.Prelude.{◌≡◌, ◌≢◌, ℕ, ◌+◌, ◌<◌, [], ◌∷◌, take};
 ghost use Rattle.spec_map.specs.Map.{put};
 ghost use Rattle.node_base.specs.declared.base_node.NodeType.TheVariants.{N4};
 ghost use Rattle.tree_links.specs.LinkNode.{MayLink};
 ghost use Rattle.tree_links.specs.PairCalls.{HasBelow};
+ghost use Rattle.tree_links.specs.Places.{as_linked};
 ghost use Rattle.tree_links.specs.SeenTable.{name_of, name_under};
+ghost use Rattle.tree_links.specs.SameTree.{GoesOnAt};
 ghost use Rattle.tree_links.specs.SplitsChild.{IsParted, SplitsChild};
+ghost use Rattle.tree_links.specs.SplitsTree.{SplitsTree};
 
 use crate::bytes::{first_byte, rest_of, whole_key};
 use crate::link::Link;
 use crate::linked_node::LinkedNode;
 use crate::links::Links;
+use crate::place::Linked;
 use crate::slots::exchange_at;
 
 // The node with two links, under different bytes.
@@ -42,7 +46,7 @@ fn with_both<P: Drop, N: LinkedNode<P>>(
     node
 }
 
-impl<P: Drop, N: LinkedNode<P>> Links<P, N> {
+impl<P: Drop> Links<P> {
     /// Puts a node of two pairs in the place of a pair, under this byte of the inner node in a slot: of that pair, and
     /// of a new key, which leaves the first seven bytes of its key at this place. `upper` is that node, still empty.
     /// Returns its slot. Takes no memory.
@@ -52,15 +56,19 @@ impl<P: Drop, N: LinkedNode<P>> Links<P, N> {
         byte: u8,
         key: &[u8; 8],
         at: usize,
-        upper: N,
+        upper: Linked<P>,
         payload: P,
     ) -> usize
         requires below { HasBelow self.old.table (name_of slot) byte (name_under slot byte) }
         requires parted { IsParted self.old.table (name_under slot byte) key.now at }
-        requires upper { N.node upper ≡ record { form = N4; prefix = take at key.now; links = [] } }
+        requires upper { as_linked upper ≡ record { form = N4; prefix = take at key.now; links = [] } }
         requires free { 1 < self.old.free }
         ensures splits { SplitsChild self.old.table self.new.table (name_of slot) byte
             (name_under slot byte) (name_of result) key.now at payload }
+        ensures tree { (root : ℕ)
+            → GoesOnAt self.old.table root key.now (name_of slot) byte
+            → SplitsTree self.old.table self.new.table root (name_under slot byte)
+            key.now at payload }
         ensures free { self.new.free + 2 ≡ self.old.free }
     {
         let first = first_byte(&self.nodes, slot, byte);
@@ -90,22 +98,26 @@ impl<P: Drop, N: LinkedNode<P>> Links<P, N> {
         slot: usize,
         key: &[u8; 8],
         at: usize,
-        upper: N,
+        upper: Linked<P>,
         payload: P,
     ) -> usize
         requires below { HasBelow self.old.table (name_of parent) byte (name_of slot) }
         requires apart { slot ≢ parent }
         requires parted { IsParted self.old.table (name_of slot) key.now at }
-        requires upper { N.node upper ≡ record { form = N4; prefix = take at key.now; links = [] } }
+        requires upper { as_linked upper ≡ record { form = N4; prefix = take at key.now; links = [] } }
         requires free { 1 < self.old.free }
         ensures splits { SplitsChild self.old.table self.new.table (name_of parent) byte
             (name_of slot) (name_of result) key.now at payload }
+        ensures tree { (root : ℕ)
+            → GoesOnAt self.old.table root key.now (name_of parent) byte
+            → SplitsTree self.old.table self.new.table root (name_of slot)
+            key.now at payload }
         ensures free { self.new.free + 2 ≡ self.old.free }
     {
         let Some(old) = self.nodes.get(slot) else {
             unreachable!()
         };
-        let prefix = old.base().prefix();
+        let prefix = LinkedNode::base(old).prefix();
         let old_byte = prefix[at];
         let above = self.nodes.vacant_key();
         exchange_at(&mut self.nodes, parent, byte, Link::Slot(above));

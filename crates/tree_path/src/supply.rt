@@ -124,8 +124,8 @@ impl<A: Allocator> Supply<A> {
         self.forms.bytes()
     }
 
-    // Charges a node.
-    fn charge(&mut self, form: NodeType) -> Result<(), OOMError>
+    /// Charges a node that the caller makes. Refused by the budget alone, and changes nothing then.
+    pub fn charge(&mut self, form: NodeType) -> Result<(), OOMError>
         requires { count form self.old.forms < 2 ^ 63 }
         ensures ok { OnOk result (Charges A.charge self.old form self.new) }
         ensures err { OnErr result (self.new ≡ self.old) }
@@ -261,8 +261,8 @@ fn give_back_all<A: Allocator>(budget: &mut A, form: NodeType, nodes: u64)
     }
 }
 
-// The form that a full node grows into.
-fn larger(form: NodeType) -> NodeType
+/// The form that a full node grows into.
+pub fn larger(form: NodeType) -> NodeType
     ensures { result ≡ next_form form }
 {
     match form {
@@ -272,8 +272,8 @@ fn larger(form: NodeType) -> NodeType
     }
 }
 
-// The form that a node with few children shrinks into.
-fn smaller(form: NodeType) -> NodeType
+/// The form that a node with few children shrinks into.
+pub fn smaller(form: NodeType) -> NodeType
     ensures { result ≡ smaller_form form }
 {
     match form {

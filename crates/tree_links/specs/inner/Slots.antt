@@ -1,11 +1,12 @@
 -- What is done to the links of the node in one slot.
-use Rattle.std.specs.Prelude.{◌≡◌, ◌≢◌, ℕ, ◌+◌, [], ◌∷◌, length, Some, None, IsSome}
+use Rattle.std.specs.Prelude.{◌≡◌, ◌≢◌, ℕ, ◌+◌, [], ◌∷◌, length, Option, Some, None, IsSome}
+use Rattle.std.specs.Option.{option_map}
 use Rattle.spec_map.specs.Map.{lookup, Rises}
-use Rattle.node_base.specs.Form.{Fits, next_form}
+use Rattle.node_base.specs.Form.{Fits, next_form, smaller_form}
 use Rattle.tree_links.specs.LinkNode.{LinkNode, MayLink, with_link, without_link}
 use Rattle.tree_links.specs.SeenTable.{LinkTable, link_at}
 use Rattle.tree_links.specs.declared.link.Link.{Link}
-use Rattle.tree_links.specs.declared.link.Link.TheVariants.{Payload}
+use Rattle.tree_links.specs.declared.link.Link.TheVariants.{Payload, Slot, Pair}
 
 module _ {P : Type 0} where
   -- every slot but this one has what it had
@@ -73,3 +74,52 @@ module _ {P : Type 0} where
     pub there : link_at u i ≡ Some (record node { form = next_form node.form })
     pub room : Fits (next_form node.form) (length node.links + 1)
     pub others : SameSlots t u i
+
+  -- the node in the slot fits into its smaller form
+  pub record IsFewAt (t : LinkTable P) (i : ℕ) : Type 0 where
+    pub node : LinkNode P
+    pub here : link_at t i ≡ Some node
+    pub few : Fits (smaller_form node.form) (length node.links)
+
+  -- it is in that form
+  pub record ShrinksAt (t u : LinkTable P) (i : ℕ) : Type 0 where
+    pub node : LinkNode P
+    pub here : link_at t i ≡ Some node
+    pub there : link_at u i ≡ Some (record node { form = smaller_form node.form })
+    pub others : SameSlots t u i
+
+  -- a link as leaves have it
+  abbrev pub IsPayload : Link P → Type 0
+  IsPayload (Payload v) = Unit {0}
+  IsPayload (Slot j) = ⊥
+  IsPayload (Pair rest v) = ⊥
+
+  -- the slot has a leaf
+  pub record IsLeafAt (t : LinkTable P) (i : ℕ) : Type 0 where
+    pub node : LinkNode P
+    pub here : link_at t i ≡ Some node
+    pub seven : length node.prefix ≡ 7
+    pub kind : (b : ℕ) (c : Link P) → lookup node.links b ≡ Some c → MayLink node.prefix c
+
+  -- it has this payload under the byte, in place of the previous one or, where it had room, of none
+  pub record SetsAt (t u : LinkTable P) (i byte : ℕ) (payload : P) (before : Option P) : Type 0 where
+    pub node : LinkNode P
+    pub here : link_at t i ≡ Some node
+    pub ordered : Rises 0 256 node.links
+    pub was : lookup node.links byte ≡ option_map (λ v. Payload v) before
+    pub room : before ≡ None → Fits node.form (length node.links + 1)
+    pub there : link_at u i ≡ Some (with_link node byte (Payload payload))
+    pub others : SameSlots t u i
+
+  -- it has nothing under the byte
+  pub record IsAbsentAt (t : LinkTable P) (i byte : ℕ) : Type 0 where
+    pub node : LinkNode P
+    pub here : link_at t i ≡ Some node
+    pub absent : lookup node.links byte ≡ None
+
+  -- and no room
+  pub record IsFullAt (t : LinkTable P) (i byte : ℕ) : Type 0 where
+    pub node : LinkNode P
+    pub here : link_at t i ≡ Some node
+    pub absent : lookup node.links byte ≡ None
+    pub full : Fits node.form (length node.links + 1) → ⊥

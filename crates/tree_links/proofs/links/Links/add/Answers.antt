@@ -1,6 +1,7 @@
 use Rattle.std.proofs.Common.{◌≡◌, ◌∙◌, None, ap, arith, subst}
 use Rattle.std.specs.Option.{option_map}
 use Rattle.node_table.specs.Table.{node_at}
+use Rattle.tree_links.specs.Places.{as_linked}
 use Rattle.tree_links.specs.SeenTable.{links_of, name_of, seen_node}
 use Rattle.tree_links.specs.inner.Pairs.{pairs_in_links}
 use Rattle.tree_links.proofs.CallLaws.{table_is, free_is}
@@ -12,7 +13,7 @@ use Rattle.tree_links.proofs.links.Links.add.Goals as goal
 
 pub invariant_of-self : goal.invariant_of-self
 invariant_of-self g c =
-    let f = g.N.LinkedNode.node in
+    let f = as_linked in
     let t = links_of f c.self.inside.nodes.slots in
     let x = c.insert_reserved.ensures in
     let j = c.insert_reserved.result in
@@ -26,7 +27,7 @@ invariant_of-self g c =
 
 pub returns-clause-fresh : goal.returns-clause-fresh
 returns-clause-fresh g c =
-    let f = g.N.LinkedNode.node in
+    let f = as_linked in
     let t = links_of f c.self.inside.nodes.slots in
     let j = c.insert_reserved.result in
     let none = none_there f c.self.inside.nodes.slots j c.insert_reserved.ensures.was_vacant in
@@ -34,13 +35,13 @@ returns-clause-fresh g c =
 
 pub returns-clause-is : goal.returns-clause-is
 returns-clause-is g c =
-    let f = g.N.LinkedNode.node in
+    let f = as_linked in
     let j = c.insert_reserved.result in
     at_slot (links_of f c.insert_reserved.new.self.slots) j (f c.args.node) (node_there f c.insert_reserved.new.self.slots j c.args.node c.insert_reserved.ensures.updates.changed)
 
 pub returns-clause-others : goal.returns-clause-others
 returns-clause-others g c =
-    let f = g.N.LinkedNode.node in
+    let f = as_linked in
     let t = links_of f c.self.inside.nodes.slots in
     let x = c.insert_reserved.ensures in
     let j = c.insert_reserved.result in

@@ -1,4 +1,5 @@
 use Rattle.std.proofs.Common.{arith, sym, subst}
+use Rattle.tree_links.specs.Places.{as_linked}
 use Rattle.tree_links.specs.PairCalls.{IsOpenFor, GetsLeaf}
 use Rattle.tree_links.specs.SeenTable.{links_of, name_of, name_under, seen_table}
 use Rattle.tree_links.specs.declared.link.Link.TheVariants.{Pair}
@@ -11,13 +12,13 @@ use Rattle.tree_links.proofs.links.Links.add_pair.Goals as goal
 
 pub put_at-requires : goal.put_at-requires
 put_at-requires g c =
-    let t = links_of g.N.LinkedNode.node c.self.inside.nodes.slots in
+    let t = links_of as_linked c.self.inside.nodes.slots in
     let e = table_is t _ _ _ c.self.view_is in
     lacks_pair t c.args.slot c.args.byte (byte_inside c.args.byte (omega arith)) c.args.key.now _ _ (subst (λ s. IsOpenFor s (name_of c.args.slot) c.args.byte c.args.key.now) (sym e) c.requires.open)
 
 pub invariant_of-self : goal.invariant_of-self
 invariant_of-self g c =
-    let t = links_of g.N.LinkedNode.node c.self.inside.nodes.slots in
+    let t = links_of as_linked c.self.inside.nodes.slots in
     let free = free_is t _ _ _ c.self.view_is in
     let more = pairs-put t _ _ _ _ c.put_at.ensures.puts in
     let i = c.self.invariant in
@@ -25,8 +26,8 @@ invariant_of-self g c =
 
 pub returns-clause-adds : goal.returns-clause-adds
 returns-clause-adds g c =
-    let t = links_of g.N.LinkedNode.node c.self.inside.nodes.slots in
-    let u = links_of g.N.LinkedNode.node c.put_at.new.nodes.slots in
+    let t = links_of as_linked c.self.inside.nodes.slots in
+    let u = links_of as_linked c.put_at.new.nodes.slots in
     let e = table_is t _ _ _ c.self.view_is in
     let inside = byte_inside c.args.byte (omega arith) in
     let o = subst (λ s. IsOpenFor s (name_of c.args.slot) c.args.byte c.args.key.now) (sym e) c.requires.open in

@@ -1,6 +1,7 @@
 use Rattle.std.proofs.Common.{rules, ◌∙◌, IsSome, ap, arith, sym, subst, refl}
 use Rattle.node_table.specs.Table.{node_at}
-use Rattle.tree_links.specs.GrowsNode.{GrowsNode}
+use Rattle.tree_links.specs.Places.{as_linked}
+use Rattle.tree_links.specs.OtherForm.{GrowsNode}
 use Rattle.tree_links.specs.SeenTable.{links_of, name_of, seen_table}
 use Rattle.tree_links.specs.inner.Pairs.{pairs_in_table}
 use Rattle.tree_links.proofs.CallLaws.{has_node, table_is}
@@ -10,7 +11,7 @@ use Rattle.tree_links.proofs.links.Links.grow.Goals as goal
 
 pub grow_at-requires : goal.grow_at-requires
 grow_at-requires g c =
-    let t = links_of g.N.LinkedNode.node c.self.inside.nodes.slots in
+    let t = links_of as_linked c.self.inside.nodes.slots in
     has_node t c.args.slot (subst (λ s. IsSome (node_at s (name_of c.args.slot))) (sym (table_is t _ _ _ c.self.view_is)) c.requires)
 
 pub invariant_of-self : goal.invariant_of-self
@@ -28,14 +29,14 @@ invariant_of-self-2 g c =
 
 pub returns-in_err-grow_at-clause-err : goal.returns-in_err-grow_at-clause-err
 returns-in_err-grow_at-clause-err g c =
-    let t = links_of g.N.LinkedNode.node c.self.inside.nodes.slots in
+    let t = links_of as_linked c.self.inside.nodes.slots in
     let same = ap seen_table c.in_err-grow_at.ensures.err ∙ table_is t _ _ _ c.self.view_is in
     search (rules, same)
 
 pub returns-clause-ok : goal.returns-clause-ok
 returns-clause-ok g c =
-    let t = links_of g.N.LinkedNode.node c.self.inside.nodes.slots in
-    let u = links_of g.N.LinkedNode.node c.grow_at.new.nodes.slots in
+    let t = links_of as_linked c.self.inside.nodes.slots in
+    let u = links_of as_linked c.grow_at.new.nodes.slots in
     let x = c.in_ok-grow_at.ensures.ok in
     subst (λ s. GrowsNode s (seen_table u) (name_of c.args.slot)) (table_is t _ _ _ c.self.view_is)
     (grows_node t u c.args.slot x.others x.node x.here x.there x.room)

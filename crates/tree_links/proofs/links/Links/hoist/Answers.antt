@@ -1,4 +1,5 @@
 use Rattle.std.proofs.Common.{◌≡◌, ◌∙◌, Some, None, ap, arith, sym, subst, refl}
+use Rattle.tree_links.specs.Places.{as_linked}
 use Rattle.tree_links.specs.LinkNode.{LinkNode}
 use Rattle.tree_links.specs.MovesNode.{MovesNode}
 use Rattle.tree_links.specs.PairCalls.{HasBelow}
@@ -18,21 +19,21 @@ use Rattle.tree_links.proofs.links.Links.hoist.Goals as goal
 
 pub first_byte-first-requires : goal.first_byte-first-requires
 first_byte-first-requires g c =
-    let t = links_of g.N.LinkedNode.node c.self.inside.nodes.slots in
+    let t = links_of as_linked c.self.inside.nodes.slots in
     let inside = byte_inside c.args.byte (omega arith) in
     let p = pair_below t c.args.slot c.args.byte inside (subst (λ s. HasBelow s (name_of c.args.slot) c.args.byte (name_under c.args.slot c.args.byte)) (sym (table_is t _ _ _ c.self.view_is)) c.requires) in
     rw p.below.here refl
 
 pub exchange_at-link-requires : goal.exchange_at-link-requires
 exchange_at-link-requires g c =
-    let t = links_of g.N.LinkedNode.node c.self.inside.nodes.slots in
+    let t = links_of as_linked c.self.inside.nodes.slots in
     let inside = byte_inside c.args.byte (omega arith) in
     let p = pair_below t c.args.slot c.args.byte inside (subst (λ s. HasBelow s (name_of c.args.slot) c.args.byte (name_under c.args.slot c.args.byte)) (sym (table_is t _ _ _ c.self.view_is)) c.requires) in
     has_slot t c.args.slot c.args.byte inside _ _ p.below
 
 pub unreachable-requires : goal.unreachable-requires
 unreachable-requires g c =
-    let t = links_of g.N.LinkedNode.node c.self.inside.nodes.slots in
+    let t = links_of as_linked c.self.inside.nodes.slots in
     let inside = byte_inside c.args.byte (omega arith) in
     let p = pair_below t c.args.slot c.args.byte inside (subst (λ s. HasBelow s (name_of c.args.slot) c.args.byte (name_under c.args.slot c.args.byte)) (sym (table_is t _ _ _ c.self.view_is)) c.requires) in
     let x = c.exchange_at-link.ensures.exchanges in
@@ -40,14 +41,14 @@ unreachable-requires g c =
 
 pub overflow_sub-self : goal.overflow_sub-self
 overflow_sub-self g c =
-    let t = links_of g.N.LinkedNode.node c.self.inside.nodes.slots in
+    let t = links_of as_linked c.self.inside.nodes.slots in
     let one = ap pairs_in_link c.in-Pair.is in
     let less = pairs-exchanged t _ _ _ _ _ c.exchange_at-link.ensures.exchanges in
     omega (arith, one, less, c.self.invariant.0)
 
 pub insert_reserved-requires : goal.insert_reserved-requires
 insert_reserved-requires g c =
-    let t = links_of g.N.LinkedNode.node c.self.inside.nodes.slots in
+    let t = links_of as_linked c.self.inside.nodes.slots in
     let one = ap pairs_in_link c.in-Pair.is in
     let less = pairs-exchanged t _ _ _ _ _ c.exchange_at-link.ensures.exchanges in
     let x = c.exchange_at-link.ensures in
@@ -55,7 +56,7 @@ insert_reserved-requires g c =
 
 pub invariant_of-self : goal.invariant_of-self
 invariant_of-self g c =
-    let f = g.N.LinkedNode.node in
+    let f = as_linked in
     let t = links_of f c.self.inside.nodes.slots in
     let j = c.insert_reserved.result in
     let y = c.insert_reserved.ensures in
@@ -70,7 +71,7 @@ invariant_of-self g c =
 
 pub returns-clause-free : goal.returns-clause-free
 returns-clause-free g c =
-    let t = links_of g.N.LinkedNode.node c.self.inside.nodes.slots in
+    let t = links_of as_linked c.self.inside.nodes.slots in
     let one = ap pairs_in_link c.in-Pair.is in
     let less = pairs-exchanged t _ _ _ _ _ c.exchange_at-link.ensures.exchanges in
     let free = free_is t _ _ _ c.self.view_is in
@@ -78,7 +79,7 @@ returns-clause-free g c =
 
 pub returns-clause-moves : goal.returns-clause-moves
 returns-clause-moves g c =
-    let f = g.N.LinkedNode.node in
+    let f = as_linked in
     let t = links_of f c.self.inside.nodes.slots in
     let m = links_of f c.exchange_at-link.new.nodes.slots in
     let u = links_of f c.insert_reserved.new.self.slots in
@@ -97,4 +98,4 @@ returns-clause-moves g c =
 
 pub returns-clause-same : goal.returns-clause-same
 returns-clause-same g c = λ root key on.
-    moves_on_path c.args.self.now.table (seen_table (links_of g.N.LinkedNode.node c.insert_reserved.new.self.slots)) root (name_of c.args.slot) c.args.byte (name_under c.args.slot c.args.byte) (name_of c.vacant_key-below.result) key on (returns-clause-moves g c)
+    moves_on_path c.args.self.now.table (seen_table (links_of as_linked c.insert_reserved.new.self.slots)) root (name_of c.args.slot) c.args.byte (name_under c.args.slot c.args.byte) (name_of c.vacant_key-below.result) key on (returns-clause-moves g c)

@@ -1,5 +1,6 @@
 use Rattle.std.proofs.Common.{◌≡◌, ◌∙◌, Some, IsSome, length, take, ap, arith, sym, subst, refl}
 use Rattle.node_table.specs.Table.{node_at}
+use Rattle.tree_links.specs.Places.{as_linked}
 use Rattle.tree_links.specs.LinkNode.{LinkNode}
 use Rattle.tree_links.specs.MovesNode.{MovesNode}
 use Rattle.tree_links.specs.PairCalls.{HasLeaf}
@@ -18,13 +19,13 @@ use Rattle.tree_links.proofs.links.Links.lower.Goals as goal
 
 pub remove-leaf-requires : goal.remove-leaf-requires
 remove-leaf-requires g c =
-    let t = links_of g.N.LinkedNode.node c.self.inside.nodes.slots in
+    let t = links_of as_linked c.self.inside.nodes.slots in
     let some : IsSome (node_at c.args.self.now.table (name_of c.args.slot)) = rw c.requires.is refl in
-    value_there g.N.LinkedNode.node c.self.inside.nodes.slots c.args.slot (has_node t c.args.slot (subst (λ s. IsSome (node_at s (name_of c.args.slot))) (sym (table_is t _ _ _ c.self.view_is)) some))
+    value_there as_linked c.self.inside.nodes.slots c.args.slot (has_node t c.args.slot (subst (λ s. IsSome (node_at s (name_of c.args.slot))) (sym (table_is t _ _ _ c.self.view_is)) some))
 
 pub copy_from_slice-requires : goal.copy_from_slice-requires
 copy_from_slice-requires g c =
-    let f = g.N.LinkedNode.node in
+    let f = as_linked in
     let t = links_of f c.self.inside.nodes.slots in
     let h = subst (λ s. HasLeaf s (name_of c.args.parent) c.args.byte (name_of c.args.slot)) (sym (table_is t _ _ _ c.self.view_is)) c.requires in
     let is = leaf_there t c.args.slot (f c.remove-leaf.result) h.key h.payload (node_there f c.self.inside.nodes.slots c.args.slot c.remove-leaf.result c.remove-leaf.ensures.value) h.is in
@@ -32,7 +33,7 @@ copy_from_slice-requires g c =
 
 pub only_pair-last-requires : goal.only_pair-last-requires
 only_pair-last-requires g c =
-    let f = g.N.LinkedNode.node in
+    let f = as_linked in
     let t = links_of f c.self.inside.nodes.slots in
     let h = subst (λ s. HasLeaf s (name_of c.args.parent) c.args.byte (name_of c.args.slot)) (sym (table_is t _ _ _ c.self.view_is)) c.requires in
     let is = leaf_there t c.args.slot (f c.remove-leaf.result) h.key h.payload (node_there f c.self.inside.nodes.slots c.args.slot c.remove-leaf.result c.remove-leaf.ensures.value) h.is in
@@ -40,7 +41,7 @@ only_pair-last-requires g c =
 
 pub exchange_at-requires : goal.exchange_at-requires
 exchange_at-requires g c =
-    let f = g.N.LinkedNode.node in
+    let f = as_linked in
     let t = links_of f c.self.inside.nodes.slots in
     let m = links_of f c.remove-leaf.new.self.slots in
     let inside = byte_inside c.args.byte (omega arith) in
@@ -54,7 +55,7 @@ exchange_at-requires g c =
 
 pub invariant_of-self : goal.invariant_of-self
 invariant_of-self g c =
-    let f = g.N.LinkedNode.node in
+    let f = as_linked in
     let t = links_of f c.self.inside.nodes.slots in
     let m = links_of f c.remove-leaf.new.self.slots in
     let inside = byte_inside c.args.byte (omega arith) in
@@ -76,7 +77,7 @@ invariant_of-self g c =
 
 pub returns-clause-moves : goal.returns-clause-moves
 returns-clause-moves g c =
-    let f = g.N.LinkedNode.node in
+    let f = as_linked in
     let t = links_of f c.self.inside.nodes.slots in
     let m = links_of f c.remove-leaf.new.self.slots in
     let u = links_of f c.exchange_at.new.nodes.slots in
@@ -101,4 +102,4 @@ returns-clause-moves g c =
 
 pub returns-clause-same : goal.returns-clause-same
 returns-clause-same g c = λ root key on.
-    moves_on_path c.args.self.now.table (seen_table (links_of g.N.LinkedNode.node c.exchange_at.new.nodes.slots)) root (name_of c.args.parent) c.args.byte (name_of c.args.slot) (name_under c.args.parent c.args.byte) key on (returns-clause-moves g c)
+    moves_on_path c.args.self.now.table (seen_table (links_of as_linked c.exchange_at.new.nodes.slots)) root (name_of c.args.parent) c.args.byte (name_of c.args.slot) (name_under c.args.parent c.args.byte) key on (returns-clause-moves g c)

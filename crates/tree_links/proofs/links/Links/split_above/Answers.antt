@@ -2,6 +2,7 @@ use Rattle.std.proofs.Common.{◌≡◌, ◌<◌, ◌∙◌, [], ◌∷◌, Some
 use Rattle.std.proofs.lemmas.List.{length-take}
 use Rattle.spec_map.specs.Map.{put}
 use Rattle.node_table.specs.Key.{IsFirstDifference}
+use Rattle.tree_links.specs.Places.{as_linked}
 use Rattle.tree_links.specs.LinkNode.{LinkNode}
 use Rattle.tree_links.specs.PairCalls.{HasBelow}
 use Rattle.tree_links.specs.SeenTable.{link_at, links_of, name_of, seen_node, seen_table}
@@ -13,12 +14,13 @@ use Rattle.tree_links.proofs.CallLaws.{slot_below, has_slot, same_link, parted_i
 use Rattle.tree_links.proofs.PairSums.{pairs-exchanged, pairs-more, pairs-two}
 use Rattle.tree_links.proofs.SeenLaws.{byte_inside, slot_at, at_slot}
 use Rattle.tree_links.proofs.SlotLaws.{none_there, node_there, not_none, same_others}
+use Rattle.tree_links.proofs.SplitTreeLaws.{split_tree}
 use Rattle.tree_links.proofs.SplitLaws.{two_links, split_above}
 use Rattle.tree_links.proofs.links.Links.split_above.Goals as goal
 
 pub unreachable-requires : goal.unreachable-requires
 unreachable-requires g c =
-    let f = g.N.LinkedNode.node in
+    let f = as_linked in
     let t = links_of f c.self.inside.nodes.slots in
     let parted = subst (λ s. IsParted s (name_of c.args.slot) c.args.key.now c.args.at) (sym (table_is t _ _ _ c.self.view_is)) c.requires.parted in
     let n = slot_at t c.args.slot parted.node parted.here in
@@ -26,7 +28,7 @@ unreachable-requires g c =
 
 pub bounds-prefix-at : goal.bounds-prefix-at
 bounds-prefix-at g c =
-    let f = g.N.LinkedNode.node in
+    let f = as_linked in
     let t = links_of f c.self.inside.nodes.slots in
     let inside = byte_inside c.args.byte (omega arith) in
     let here = node_there f c.self.inside.nodes.slots c.args.slot c.in-Some.old.now (sym c.get.ensures ∙ ap option_copied c.in-Some.is) in
@@ -38,7 +40,7 @@ bounds-prefix-at g c =
 
 pub bounds-key-at : goal.bounds-key-at
 bounds-key-at g c =
-    let f = g.N.LinkedNode.node in
+    let f = as_linked in
     let t = links_of f c.self.inside.nodes.slots in
     let inside = byte_inside c.args.byte (omega arith) in
     let here = node_there f c.self.inside.nodes.slots c.args.slot c.in-Some.old.now (sym c.get.ensures ∙ ap option_copied c.in-Some.is) in
@@ -51,7 +53,7 @@ bounds-key-at g c =
 
 pub exchange_at-requires : goal.exchange_at-requires
 exchange_at-requires g c =
-    let t = links_of g.N.LinkedNode.node c.self.inside.nodes.slots in
+    let t = links_of as_linked c.self.inside.nodes.slots in
     let inside = byte_inside c.args.byte (omega arith) in
     let p = slot_below t c.args.parent c.args.byte inside c.args.slot (subst (λ s. HasBelow s (name_of c.args.parent) c.args.byte (name_of c.args.slot)) (sym (table_is t _ _ _ c.self.view_is)) c.requires.below) in
     has_slot t c.args.parent c.args.byte inside _ _ p
@@ -64,7 +66,7 @@ with_both-node-requires-clause-form g c = ap (λ (n : LinkNode g.row.P.Denot). n
 
 pub with_both-node-requires-clause-apart : goal.with_both-node-requires-clause-apart
 with_both-node-requires-clause-apart g c =
-    let f = g.N.LinkedNode.node in
+    let f = as_linked in
     let t = links_of f c.self.inside.nodes.slots in
     let inside = byte_inside c.args.byte (omega arith) in
     let here = node_there f c.self.inside.nodes.slots c.args.slot c.in-Some.old.now (sym c.get.ensures ∙ ap option_copied c.in-Some.is) in
@@ -76,7 +78,7 @@ with_both-node-requires-clause-apart g c =
 
 pub with_both-node-requires-clause-old : goal.with_both-node-requires-clause-old
 with_both-node-requires-clause-old g c =
-    let f = g.N.LinkedNode.node in
+    let f = as_linked in
     let t = links_of f c.self.inside.nodes.slots in
     let inside = byte_inside c.args.byte (omega arith) in
     let here = node_there f c.self.inside.nodes.slots c.args.slot c.in-Some.old.now (sym c.get.ensures ∙ ap option_copied c.in-Some.is) in
@@ -90,7 +92,7 @@ with_both-node-requires-clause-old g c =
 
 pub with_both-node-requires-clause-new : goal.with_both-node-requires-clause-new
 with_both-node-requires-clause-new g c =
-    let f = g.N.LinkedNode.node in
+    let f = as_linked in
     let t = links_of f c.self.inside.nodes.slots in
     let inside = byte_inside c.args.byte (omega arith) in
     let here = node_there f c.self.inside.nodes.slots c.args.slot c.in-Some.old.now (sym c.get.ensures ∙ ap option_copied c.in-Some.is) in
@@ -104,14 +106,14 @@ with_both-node-requires-clause-new g c =
 
 pub insert_reserved-requires : goal.insert_reserved-requires
 insert_reserved-requires g c =
-    let t = links_of g.N.LinkedNode.node c.self.inside.nodes.slots in
+    let t = links_of as_linked c.self.inside.nodes.slots in
     let free = free_is t _ _ _ c.self.view_is in
     let x = c.exchange_at.ensures in
     omega (arith, free, c.requires.free, x.len, x.capacity)
 
 pub invariant_of-self : goal.invariant_of-self
 invariant_of-self g c =
-    let f = g.N.LinkedNode.node in
+    let f = as_linked in
     let t = links_of f c.self.inside.nodes.slots in
     let inside = byte_inside c.args.byte (omega arith) in
     let here = node_there f c.self.inside.nodes.slots c.args.slot c.in-Some.old.now (sym c.get.ensures ∙ ap option_copied c.in-Some.is) in
@@ -135,13 +137,13 @@ invariant_of-self g c =
 
 pub returns-clause-free : goal.returns-clause-free
 returns-clause-free g c =
-    let t = links_of g.N.LinkedNode.node c.self.inside.nodes.slots in
+    let t = links_of as_linked c.self.inside.nodes.slots in
     let free = free_is t _ _ _ c.self.view_is in
     omega (arith, free, c.requires.free, c.insert_reserved.ensures.len, c.exchange_at.ensures.len)
 
 pub returns-clause-splits : goal.returns-clause-splits
 returns-clause-splits g c =
-    let f = g.N.LinkedNode.node in
+    let f = as_linked in
     let t = links_of f c.self.inside.nodes.slots in
     let inside = byte_inside c.args.byte (omega arith) in
     let here = node_there f c.self.inside.nodes.slots c.args.slot c.in-Some.old.now (sym c.get.ensures ∙ ap option_copied c.in-Some.is) in
@@ -169,3 +171,7 @@ returns-clause-splits g c =
     let others = subst (λ k. SameSlots m u k) is (same_others f c.exchange_at.new.nodes.slots c.insert_reserved.new.self.slots c.insert_reserved.result y.updates.others) in
     subst (λ s. SplitsChild s (seen_table u) (name_of c.args.parent) c.args.byte (name_of c.args.slot) (name_of j) c.args.key.now c.args.at c.args.payload) (table_is t _ _ _ c.self.view_is)
     (split_above t m u c.args.parent c.args.byte j c.args.key.now c.args.at b c.args.payload inside (byte_inside b c.with_both-node.ensures.new_fits) c.told-key refl c.args.slot (f c.in-Some.old.now) a here c.requires.apart x differs (omega (arith, same, c.prefix-prefix.ensures.short)) (ap (λ q. get_or q c.args.at 0) prefix) fresh there others)
+
+pub returns-clause-tree : goal.returns-clause-tree
+returns-clause-tree g c = λ root on.
+    split_tree c.args.self.now.table (seen_table (links_of as_linked c.insert_reserved.new.self.slots)) (name_of c.args.parent) c.args.byte (name_of c.args.slot) (name_of c.vacant_key-above.result) c.args.key.now c.args.at c.args.payload (returns-clause-splits g c) root on

@@ -1,6 +1,7 @@
 use Rattle.std.proofs.Common.{◌≡◌, ◌∙◌, [], ◌∷◌, Some, None, length, take, drop, get_or, ap, arith, sym, subst, refl}
 use Rattle.std.proofs.lemmas.List.{length-take}
 use Rattle.spec_map.specs.Map.{put}
+use Rattle.tree_links.specs.Places.{as_linked}
 use Rattle.tree_links.specs.LinkNode.{LinkNode}
 use Rattle.tree_links.specs.PairCalls.{HasBelow}
 use Rattle.tree_links.specs.SeenTable.{link_at, links_of, name_of, name_under, seen_table}
@@ -12,26 +13,27 @@ use Rattle.tree_links.proofs.CallLaws.{pair_below, has_slot, same_link, table_is
 use Rattle.tree_links.proofs.PairSums.{pairs-exchanged, pairs-more, pairs-two}
 use Rattle.tree_links.proofs.SeenLaws.{byte_inside}
 use Rattle.tree_links.proofs.SlotLaws.{none_there, node_there, same_others}
+use Rattle.tree_links.proofs.SplitTreeLaws.{split_tree}
 use Rattle.tree_links.proofs.SplitLaws.{pair_differs, pair_early, other_at, other_apart, two_links, split_pair}
 use Rattle.tree_links.proofs.links.Links.split_pair.Goals as goal
 
 pub first_byte-first-requires : goal.first_byte-first-requires
 first_byte-first-requires g c =
-    let t = links_of g.N.LinkedNode.node c.self.inside.nodes.slots in
+    let t = links_of as_linked c.self.inside.nodes.slots in
     let inside = byte_inside c.args.byte (omega arith) in
     let p = pair_below t c.args.slot c.args.byte inside (subst (λ s. HasBelow s (name_of c.args.slot) c.args.byte (name_under c.args.slot c.args.byte)) (sym (table_is t _ _ _ c.self.view_is)) c.requires.below) in
     rw p.below.here refl
 
 pub exchange_at-link-requires : goal.exchange_at-link-requires
 exchange_at-link-requires g c =
-    let t = links_of g.N.LinkedNode.node c.self.inside.nodes.slots in
+    let t = links_of as_linked c.self.inside.nodes.slots in
     let inside = byte_inside c.args.byte (omega arith) in
     let p = pair_below t c.args.slot c.args.byte inside (subst (λ s. HasBelow s (name_of c.args.slot) c.args.byte (name_under c.args.slot c.args.byte)) (sym (table_is t _ _ _ c.self.view_is)) c.requires.below) in
     has_slot t c.args.slot c.args.byte inside _ _ p.below
 
 pub unreachable-requires : goal.unreachable-requires
 unreachable-requires g c =
-    let t = links_of g.N.LinkedNode.node c.self.inside.nodes.slots in
+    let t = links_of as_linked c.self.inside.nodes.slots in
     let inside = byte_inside c.args.byte (omega arith) in
     let p = pair_below t c.args.slot c.args.byte inside (subst (λ s. HasBelow s (name_of c.args.slot) c.args.byte (name_under c.args.slot c.args.byte)) (sym (table_is t _ _ _ c.self.view_is)) c.requires.below) in
     let x = c.exchange_at-link.ensures.exchanges in
@@ -39,7 +41,7 @@ unreachable-requires g c =
 
 pub bounds-other-at : goal.bounds-other-at
 bounds-other-at g c =
-    let f = g.N.LinkedNode.node in
+    let f = as_linked in
     let t = links_of f c.self.inside.nodes.slots in
     let m = links_of f c.exchange_at-link.new.nodes.slots in
     let j = c.vacant_key-above.result in
@@ -51,7 +53,7 @@ bounds-other-at g c =
 
 pub bounds-key-at : goal.bounds-key-at
 bounds-key-at g c =
-    let f = g.N.LinkedNode.node in
+    let f = as_linked in
     let t = links_of f c.self.inside.nodes.slots in
     let m = links_of f c.exchange_at-link.new.nodes.slots in
     let j = c.vacant_key-above.result in
@@ -69,7 +71,7 @@ with_both-node-requires-clause-form g c = ap (λ (n : LinkNode g.row.P.Denot). n
 
 pub with_both-node-requires-clause-apart : goal.with_both-node-requires-clause-apart
 with_both-node-requires-clause-apart g c =
-    let f = g.N.LinkedNode.node in
+    let f = as_linked in
     let t = links_of f c.self.inside.nodes.slots in
     let m = links_of f c.exchange_at-link.new.nodes.slots in
     let j = c.vacant_key-above.result in
@@ -81,7 +83,7 @@ with_both-node-requires-clause-apart g c =
 
 pub with_both-node-requires-clause-old : goal.with_both-node-requires-clause-old
 with_both-node-requires-clause-old g c =
-    let f = g.N.LinkedNode.node in
+    let f = as_linked in
     let t = links_of f c.self.inside.nodes.slots in
     let m = links_of f c.exchange_at-link.new.nodes.slots in
     let j = c.vacant_key-above.result in
@@ -94,7 +96,7 @@ with_both-node-requires-clause-old g c =
 
 pub with_both-node-requires-clause-new : goal.with_both-node-requires-clause-new
 with_both-node-requires-clause-new g c =
-    let f = g.N.LinkedNode.node in
+    let f = as_linked in
     let t = links_of f c.self.inside.nodes.slots in
     let m = links_of f c.exchange_at-link.new.nodes.slots in
     let j = c.vacant_key-above.result in
@@ -107,14 +109,14 @@ with_both-node-requires-clause-new g c =
 
 pub insert_reserved-requires : goal.insert_reserved-requires
 insert_reserved-requires g c =
-    let t = links_of g.N.LinkedNode.node c.self.inside.nodes.slots in
+    let t = links_of as_linked c.self.inside.nodes.slots in
     let free = free_is t _ _ _ c.self.view_is in
     let x = c.exchange_at-link.ensures in
     omega (arith, free, c.requires.free, x.len, x.capacity)
 
 pub invariant_of-self : goal.invariant_of-self
 invariant_of-self g c =
-    let f = g.N.LinkedNode.node in
+    let f = as_linked in
     let t = links_of f c.self.inside.nodes.slots in
     let m = links_of f c.exchange_at-link.new.nodes.slots in
     let j = c.vacant_key-above.result in
@@ -136,13 +138,13 @@ invariant_of-self g c =
 
 pub returns-clause-free : goal.returns-clause-free
 returns-clause-free g c =
-    let t = links_of g.N.LinkedNode.node c.self.inside.nodes.slots in
+    let t = links_of as_linked c.self.inside.nodes.slots in
     let free = free_is t _ _ _ c.self.view_is in
     omega (arith, free, c.requires.free, c.insert_reserved.ensures.len, c.exchange_at-link.ensures.len)
 
 pub returns-clause-splits : goal.returns-clause-splits
 returns-clause-splits g c =
-    let f = g.N.LinkedNode.node in
+    let f = as_linked in
     let t = links_of f c.self.inside.nodes.slots in
     let m = links_of f c.exchange_at-link.new.nodes.slots in
     let j = c.vacant_key-above.result in
@@ -167,3 +169,7 @@ returns-clause-splits g c =
     let a_is = other_at t m c.args.slot c.args.byte j c.args.key.now c.args.at c.in-Pair.rest c.in-Pair.before inside x parted c.first_byte-first.result c.whole_key-other.result c.first_byte-first.ensures c.whole_key-other.ensures.key in
     subst (λ s. SplitsChild s (seen_table u) (name_of c.args.slot) c.args.byte (name_under c.args.slot c.args.byte) (name_of j) c.args.key.now c.args.at c.args.payload) (table_is t _ _ _ c.self.view_is)
     (split_pair t m u c.args.slot c.args.byte j c.args.key.now c.args.at b c.args.payload inside (byte_inside b c.with_both-node.ensures.new_fits) c.told-key refl c.in-Pair.rest c.in-Pair.before a (byte_inside a c.with_both-node.ensures.old_fits) c.whole_key-other.ensures.seven x differs a_is fresh there others)
+
+pub returns-clause-tree : goal.returns-clause-tree
+returns-clause-tree g c = λ root on.
+    split_tree c.args.self.now.table (seen_table (links_of as_linked c.insert_reserved.new.self.slots)) (name_of c.args.slot) c.args.byte (name_under c.args.slot c.args.byte) (name_of c.vacant_key-above.result) c.args.key.now c.args.at c.args.payload (returns-clause-splits g c) root on

@@ -1,4 +1,5 @@
 use Rattle.std.proofs.Common.{ap, arith, sym, subst}
+use Rattle.tree_links.specs.Places.{as_linked}
 use Rattle.tree_links.specs.PairCalls.{HasBelow, LosesLeaf}
 use Rattle.tree_links.specs.SeenTable.{links_of, name_of, name_under, seen_table}
 use Rattle.tree_links.specs.inner.Pairs.{pairs_in_link}
@@ -11,14 +12,14 @@ use Rattle.tree_links.proofs.links.Links.take_pair.Goals as goal
 
 pub take_at-link-requires : goal.take_at-link-requires
 take_at-link-requires g c =
-    let t = links_of g.N.LinkedNode.node c.self.inside.nodes.slots in
+    let t = links_of as_linked c.self.inside.nodes.slots in
     let inside = byte_inside c.args.byte (omega arith) in
     let p = pair_below t c.args.slot c.args.byte inside (subst (λ s. HasBelow s (name_of c.args.slot) c.args.byte (name_under c.args.slot c.args.byte)) (sym (table_is t _ _ _ c.self.view_is)) c.requires) in
     is_present t c.args.slot c.args.byte inside _ p.below
 
 pub overflow_sub-self : goal.overflow_sub-self
 overflow_sub-self g c =
-    let t = links_of g.N.LinkedNode.node c.self.inside.nodes.slots in
+    let t = links_of as_linked c.self.inside.nodes.slots in
     let inside = byte_inside c.args.byte (omega arith) in
     let p = pair_below t c.args.slot c.args.byte inside (subst (λ s. HasBelow s (name_of c.args.slot) c.args.byte (name_under c.args.slot c.args.byte)) (sym (table_is t _ _ _ c.self.view_is)) c.requires) in
     let x = c.take_at-link.ensures.takes in
@@ -28,7 +29,7 @@ overflow_sub-self g c =
 
 pub unreachable-requires : goal.unreachable-requires
 unreachable-requires g c =
-    let t = links_of g.N.LinkedNode.node c.self.inside.nodes.slots in
+    let t = links_of as_linked c.self.inside.nodes.slots in
     let inside = byte_inside c.args.byte (omega arith) in
     let p = pair_below t c.args.slot c.args.byte inside (subst (λ s. HasBelow s (name_of c.args.slot) c.args.byte (name_under c.args.slot c.args.byte)) (sym (table_is t _ _ _ c.self.view_is)) c.requires) in
     let x = c.take_at-link.ensures.takes in
@@ -36,7 +37,7 @@ unreachable-requires g c =
 
 pub invariant_of-self : goal.invariant_of-self
 invariant_of-self g c =
-    let t = links_of g.N.LinkedNode.node c.self.inside.nodes.slots in
+    let t = links_of as_linked c.self.inside.nodes.slots in
     let one = ap pairs_in_link c.in-Pair.is in
     let less = pairs-taken t _ _ _ _ c.take_at-link.ensures.takes in
     let i = c.self.invariant in
@@ -44,8 +45,8 @@ invariant_of-self g c =
 
 pub returns-clause-loses : goal.returns-clause-loses
 returns-clause-loses g c =
-    let t = links_of g.N.LinkedNode.node c.self.inside.nodes.slots in
-    let u = links_of g.N.LinkedNode.node c.take_at-link.new.nodes.slots in
+    let t = links_of as_linked c.self.inside.nodes.slots in
+    let u = links_of as_linked c.take_at-link.new.nodes.slots in
     let e = table_is t _ _ _ c.self.view_is in
     let x = subst (λ l. TakesLink t u c.args.slot c.args.byte l) c.in-Pair.is c.take_at-link.ensures.takes in
     subst (λ s. LosesLeaf s (seen_table u) (name_of c.args.slot) c.args.byte (name_under c.args.slot c.args.byte) c.in-Pair.before) e
@@ -53,7 +54,7 @@ returns-clause-loses g c =
 
 pub returns-clause-free : goal.returns-clause-free
 returns-clause-free g c =
-    let t = links_of g.N.LinkedNode.node c.self.inside.nodes.slots in
+    let t = links_of as_linked c.self.inside.nodes.slots in
     let one = ap pairs_in_link c.in-Pair.is in
     let less = pairs-taken t _ _ _ _ c.take_at-link.ensures.takes in
     let free = free_is t _ _ _ c.self.view_is in

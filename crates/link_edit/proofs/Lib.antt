@@ -1,0 +1,12 @@
+pub mod AloneLaws
+pub mod GainLaws
+pub mod KeptLaws
+pub mod LeadLaws
+pub mod LeafLaws
+pub mod ReadyLaws
+pub mod RemovalLaws
+pub mod RemovedLaws
+pub mod SameLaws
+pub mod SettleLaws
+pub mod SideLaws
+pub mod PopLaws

@@ -1,0 +1,5 @@
+pub mod Beside
+pub mod Gains
+pub mod Lowers
+pub mod Ready
+pub mod Spots

@@ -1,0 +1,199 @@
+//! Removals of the first pair and of the last: one path down the first children, or the last, whose slots are remembered
+//! for the removal. The path may end at a pair in its parent.
+//!
+//! Not used yet, so no test is of it.
+
+ghost use Rattle.std.specs.Prelude.{◌≡◌, ◌+◌, false, [], ◌∷◌, IfSome, IfNone, Some, map, length};
+ghost use Rattle.std.specs.Int.{to_be_bytes, w64};
+ghost use Rattle.std.specs.Option.{option_map};
+ghost use Rattle.spec_map.specs.Near.{first_of, last_of};
+ghost use Rattle.node_table.specs.Key.{key_number};
+ghost use Rattle.tree_path.specs.inner.Descent.{IsTrail, SeeksTo};
+ghost use Rattle.tree_path.specs.inner.Root.{HasTree, tree_pairs, tree_nodes};
+ghost use Rattle.tree_edit.specs.Reduce.{AreFilled, LosesInPlace};
+ghost use Rattle.tree_edit.specs.TreeCalls.{Removes};
+ghost use Rattle.tree_edit.specs.inner.Ends.{at_side};
+ghost use Rattle.tree_links.specs.LinkNode.{looked_at};
+ghost use Rattle.tree_links.specs.Places.{as_linked};
+ghost use Rattle.tree_links.specs.SeenTable.{key_under, name_of};
+ghost use Rattle.tree_links.specs.Seeks.{seen_end, KnowsPair};
+
+use crate::removal::take_out;
+use crate::tree::{LinkTree, Nodes};
+use node_base::base_node::BaseNode;
+use node_table::allocator::Allocator;
+use node_table::tree_node::TreeNode;
+use tree_edit::ends::Side;
+use tree_links::descent::{LinkEnd, LinkStop};
+use tree_links::link::LinkRef;
+use tree_links::linked_node::LinkedNode;
+use tree_links::place::Place;
+
+// The node's first link or its last, and the byte.
+#[inline(always)]
+fn link_at<P: Drop>(node: &TreeNode<P, Place<P>>, side: Side) -> Option<(u8, LinkRef<'_, P>)>
+    ensures { option_map (λ found. (found.0, looked_at found.1)) result
+        ≡ at_side side (as_linked node.now).links }
+{
+    // For the proof: brings the order of the bytes into scope.
+    let _ = LinkedNode::base(node);
+    match side {
+        Side::First => LinkedNode::first_from(node, 0),
+        Side::Last => LinkedNode::last_below(node, 256),
+    }
+}
+
+// The first byte of each key under a byte of the node with this base.
+#[inline(always)]
+fn first_byte(base: &BaseNode, byte: u8) -> u8
+    ensures { key_under base.now.prefix byte [] ≡ result ∷ [] }
+{
+    match base.prefix() {
+        [] => byte,
+        [first, ..] => *first,
+    }
+}
+
+// The number of the key of a pair under a byte of the node with this base.
+#[inline(always)]
+fn pair_number(base: &BaseNode, byte: u8, rest: &[u8; 7]) -> u64
+    ensures number { result ≡ key_number (key_under base.now.prefix byte rest.now) }
+    ensures seven { length rest.now ≡ 7 }
+{
+    let first = first_byte(base, byte);
+    let [a, b, c, d, e, f, g] = *rest;
+    u64::from_be_bytes([first, a, b, c, d, e, f, g])
+}
+
+// Descends to the first pair or the last, and remembers the slots on the way as `seek_along` does. Returns its key and
+// where the path ends; `None` where there is no pair. Only the root may be empty, so no node on the way is a dead end.
+#[inline(always)]
+fn seek_end<P: Drop>(
+    nodes: &Nodes<P>,
+    root: usize,
+    side: Side,
+    trail: &mut [usize; 8],
+) -> Option<(u64, LinkEnd)>
+    requires tree { HasTree nodes.now.table (name_of root) }
+    requires filled { AreFilled (tree_nodes nodes.now.table (name_of root)) }
+    ensures none { IfNone result (tree_pairs nodes.now.table (name_of root) ≡ []) }
+    ensures key { IfSome result (λ found. Some found.0
+        ≡ option_map (λ pair. pair.0) (at_side side (tree_pairs nodes.now.table (name_of root)))) }
+    ensures ends { IfSome result (λ found.
+        SeeksTo nodes.now.table (name_of root) (to_be_bytes w64 found.0)
+        (seen_end (to_be_bytes w64 found.0) found.1)) }
+    ensures pair { IfSome result (λ found.
+        KnowsPair nodes.now.table (to_be_bytes w64 found.0) found.1) }
+    ensures trail { IfSome result (λ found.
+        IsTrail nodes.now.table (name_of root) (to_be_bytes w64 found.0) (map name_of trail.new)
+        (found.1.above + 1)) }
+{
+    let mut slot = root;
+    let mut parent = root;
+    let mut above = 0;
+    'down: loop {
+        trail[above] = slot;
+        let Some(node) = nodes.get(slot) else {
+            unreachable!()
+        };
+        let Some((byte, link)) = link_at(node, side) else {
+            return None;
+        };
+        let base = LinkedNode::base(node);
+        match link {
+            LinkRef::Payload(_) => {
+                let key = base.first_key() + byte as u64;
+                let stop = LinkStop::Leaf(byte);
+                return Some((
+                    key,
+                    LinkEnd {
+                        slot,
+                        parent,
+                        above,
+                        stop,
+                    },
+                ));
+            }
+            LinkRef::Pair(rest, _) => {
+                let key = pair_number(base, byte, rest);
+                let stop = LinkStop::Pair(byte);
+                return Some((
+                    key,
+                    LinkEnd {
+                        slot,
+                        parent,
+                        above,
+                        stop,
+                    },
+                ));
+            }
+            LinkRef::Slot(below) => {
+                parent = slot;
+                slot = below;
+                above += 1;
+            }
+        }
+    }
+}
+
+impl<P: Drop, A: Allocator> LinkTree<P, A> {
+    /// Removes the pair with the least key, and returns it: a removal as any other. Never fails.
+    pub fn pop_first(&mut self) -> Option<(u64, P)>
+        ensures pair { result ≡ first_of self.old.pairs }
+        ensures removes { IfSome result (λ pair.
+            Removes A.charge self.old pair.0 (Some pair.1) self.new) }
+        ensures empty { IfNone result (self.new ≡ self.old) }
+    {
+        self.pop(Side::First, true)
+    }
+
+    /// The same, where no node shrinks: takes no memory. For a tree that is drained.
+    pub fn pop_first_in_place(&mut self) -> Option<(u64, P)>
+        ensures pair { result ≡ first_of self.old.pairs }
+        ensures removes { IfSome result (λ pair.
+            Removes A.charge self.old pair.0 (Some pair.1) self.new) }
+        ensures in_place { IfSome result (λ pair.
+            LosesInPlace self.old.nodes (to_be_bytes w64 pair.0) self.new.nodes) }
+        ensures empty { IfNone result (self.new ≡ self.old) }
+    {
+        self.pop(Side::First, false)
+    }
+
+    /// Removes the pair with the greatest key, and returns it: a removal as any other. Never fails.
+    pub fn pop_last(&mut self) -> Option<(u64, P)>
+        ensures pair { result ≡ last_of self.old.pairs }
+        ensures removes { IfSome result (λ pair.
+            Removes A.charge self.old pair.0 (Some pair.1) self.new) }
+        ensures empty { IfNone result (self.new ≡ self.old) }
+    {
+        self.pop(Side::Last, true)
+    }
+
+    #[inline(always)]
+    fn pop(&mut self, side: Side, shrinks: bool) -> Option<(u64, P)>
+        ensures pair { result ≡ at_side side self.old.pairs }
+        ensures removes { IfSome result (λ pair.
+            Removes A.charge self.old pair.0 (Some pair.1) self.new) }
+        ensures in_place { IfSome result (λ pair. shrinks ≡ false
+            → LosesInPlace self.old.nodes (to_be_bytes w64 pair.0) self.new.nodes) }
+        ensures empty { IfNone result (self.new ≡ self.old) }
+    {
+        let mut trail = [self.root; 8];
+        let Some((key, spot)) = seek_end(&self.nodes, self.root, side, &mut trail) else {
+            return None;
+        };
+        let bytes = key.to_be_bytes();
+        let Some(payload) = take_out(
+            &mut self.nodes,
+            &mut self.supply,
+            &spot,
+            &trail,
+            &bytes,
+            shrinks,
+        ) else {
+            unreachable!()
+        };
+        self.count -= 1;
+        Some((key, payload))
+    }
+}

@@ -1,0 +1,124 @@
+//! The adaptive radix tree as one value (*The Adaptive Radix Tree*, Leis et al.): its nodes in a table of links, the
+//! supply that they are charged to, and how many pairs there are.
+//!
+//! A node is charged in its form, and a pair in its parent as the leaf that it is seen as.
+//!
+//! Not used yet, so no test is of it.
+
+ghost use Rattle.std.specs.Prelude.{◌≡◌, length, IfOk, option_copied};
+ghost use Rattle.tree_path.specs.inner.Root.{HasTree, tree_pairs, tree_nodes};
+ghost use Rattle.tree_edit.specs.TreeCalls.{IsNew, IsChargeOf, ReadsPath};
+ghost use Rattle.tree_path.specs.Charge.{charge_of};
+ghost use Rattle.node_table.specs.Charge.{Covers};
+ghost use Rattle.tree_edit.specs.Tree.{payload_at};
+ghost use Rattle.tree_links.specs.SeenTable.{name_of};
+
+use node_base::base_node::NodeType;
+use node_table::allocator::Allocator;
+use node_table::tree_node::TreeNode;
+use spec_map::error::OOMError;
+use std::alloc::Global;
+use std::marker::Model;
+use std::sync::ledger::Ledger;
+use tree_links::links::Links;
+use tree_path::reads::ReadCount;
+use tree_path::supply::Supply;
+
+/// The nodes of a tree with these payloads.
+pub type Nodes<P> = Links<P>;
+
+/// An ordered map from keys of eight bytes, most significant first, to payloads.
+///
+/// Contracts see the list of its pairs by the keys' numbers (byte order is numeric order), the list of its nodes, and
+/// the budget, which is charged for each node from before it is made until it is freed.
+#[derive(Drop)]
+pub struct LinkTree<P: Drop, A: Allocator> {
+    pub(crate) nodes: Nodes<P>,
+    pub(crate) supply: Supply<A>,
+    pub(crate) root: usize,
+    /// How many pairs there are: 2 to the 64 at most.
+    pub(crate) count: u128,
+}
+
+impl<P: Drop, A: Allocator> Model for LinkTree<P, A> {
+    ghost use Rattle.tree_path.specs.inner.Root.{tree_pairs, tree_nodes};
+    ghost use Rattle.tree_edit.specs.Tree.{TreeView, tree_code};
+    ghost use Rattle.tree_edit.specs.inner.Whole.{IsWhole};
+    ghost use Rattle.tree_links.specs.SeenTable.{name_of};
+
+    ghost Value = { TreeView P A };
+
+    ghost coded = { tree_code P.code A.code };
+
+    ghost view = { λ t. record {
+      pairs = tree_pairs t.nodes.table (name_of t.root);
+      nodes = tree_nodes t.nodes.table (name_of t.root);
+      budget = t.supply.budget;
+    } };
+
+    ghost invariant = { λ t. IsWhole t.nodes.table (name_of t.root) t.supply.forms t.count };
+}
+
+impl<P: Drop, A: Allocator> LinkTree<P, A> {
+    /// An empty tree, or `OOMError` where the budget or the machine has no memory for its root.
+    pub fn new(alloc: Global, budget: A) -> Result<Self, OOMError>
+        ensures { IfOk result (λ tree. IsNew A.charge budget tree) }
+    {
+        let mut nodes = Links::new(alloc);
+        nodes.reserve(1)?;
+        let mut supply = Supply::new(alloc, budget);
+        supply.charge(NodeType::N256)?;
+        let root = nodes.add(TreeNode::root(alloc)?);
+        Ok(LinkTree {
+            nodes,
+            supply,
+            root,
+            count: 0,
+        })
+    }
+
+    /// The payload at the key. `reads` goes up by one for each node on the key's path.
+    pub fn get<L: Ledger>(&self, key: &[u8; 8], reads: &mut ReadCount<L>) -> Option<&P>
+        ensures value { option_copied result ≡ payload_at self.now key.now }
+        ensures reads { ReadsPath self.now.nodes key.now reads.old reads.new }
+    {
+        self.nodes.find(self.root, key, reads)
+    }
+
+    /// How many pairs there are.
+    pub fn value_count(&self) -> u128
+        ensures { result ≡ length self.now.pairs }
+    {
+        self.count
+    }
+
+    /// The sum of the stated sizes of the nodes, which the budget is charged for. No node but the root is empty, and in
+    /// an empty tree there is no other.
+    pub fn charged(&self) -> u128
+        ensures { IsChargeOf self.now result }
+    {
+        self.supply.bytes()
+    }
+
+    /// The budget, which is charged for all nodes.
+    pub fn allocator(&self) -> &A
+        ensures budget { result.now ≡ self.now.budget }
+        ensures charged { Covers (A.charge self.now.budget) (charge_of self.now.nodes) }
+    {
+        self.supply.budget()
+    }
+
+    /// The machine's memory, from which the nodes are taken.
+    pub fn memory(&self) -> Global {
+        self.supply.memory()
+    }
+
+    /// The table of the nodes and the slot of the root in it, for walks.
+    pub fn table(&self) -> (&Nodes<P>, usize)
+        ensures tree { HasTree result.0.now.table (name_of result.1) }
+        ensures pairs { tree_pairs result.0.now.table (name_of result.1) ≡ self.now.pairs }
+        ensures nodes { tree_nodes result.0.now.table (name_of result.1) ≡ self.now.nodes }
+    {
+        (&self.nodes, self.root)
+    }
+}

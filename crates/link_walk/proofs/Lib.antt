@@ -1,0 +1,4 @@
+pub mod CountLaws
+pub mod EntryLaws
+pub mod KeyWalkLaws
+pub mod LinkLaws
