@@ -11,7 +11,7 @@
 //!
 //! The functions know no memory: they read and write by the traits in `words`.
 //!
-//! Lanes and heads are tested here.
+//! Tested in `test_live_rows`.
 #![tactic(auto)]
 
 pub mod by_key;
@@ -20,6 +20,4 @@ pub mod lanes;
 pub mod list;
 pub mod moves;
 pub mod places;
-#[cfg(test)]
-mod tests;
 pub mod words;

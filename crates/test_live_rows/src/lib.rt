@@ -4,6 +4,8 @@
 #![tactic(auto)]
 
 pub mod grow;
+#[cfg(test)]
+mod lanes;
 pub mod law;
 pub mod leaf;
 #[cfg(test)]

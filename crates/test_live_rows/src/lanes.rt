@@ -1,7 +1,7 @@
-//! Lanes and heads by worked words.
+//! The lanes and heads of `live_cells`, by worked words.
 
-use crate::head::{begins, form_of, head, prefix_len, with_form};
-use crate::lanes::{find_lane, lane_of, with_lane};
+use live_cells::head::{begins, form_of, head, prefix_len, with_form};
+use live_cells::lanes::{find_lane, lane_of, with_lane};
 
 // 0x11 is byte 0, and there are two of 0x33.
 const WORD: u64 = 0x8877_3355_4433_2211;

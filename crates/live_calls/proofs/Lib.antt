@@ -1,0 +1,11 @@
+pub mod Views
+pub mod Finds
+pub mod Locks
+pub mod Values
+pub mod Written
+pub mod Rooms
+pub mod Grips
+pub mod Linked
+pub mod Trunks
+pub mod Ready
+pub mod Pairs

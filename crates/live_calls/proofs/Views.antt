@@ -1,0 +1,284 @@
+-- What a seat knows, step by step.
+use Rattle.std.proofs.Common.{◌≡◌, ◌≢◌, ℕ, ◌+◌, ◌*◌, ◌<◌, ◌^◌, zero, suc, Bool, true, false, cond, List, [], ◌∷◌, ◌++◌, get_or, Option, Some, None, IfSome, refl, sym, ap, ◌∙◌, subst, inl, inr, arith, eq-eqb}
+use Rattle.node_table.specs.TableNode.{TableNode, Child}
+use Rattle.node_table.specs.declared.child.Child.TheVariants.{Payload, Node as Below}
+use Rattle.spec_map.specs.Map.{lookup}
+use Rattle.word_book.specs.Book.{Book, Name, name, reads, none_joined}
+use Rattle.node_base.specs.Form.{form_place}
+use Rattle.live_nodes.specs.Nodes.{Content}
+use Rattle.live_nodes.specs.Seats.{Place, place, Read, read, SeatView, seat_view, IsIn, Agree}
+use Rattle.live_nodes.specs.Plays as Plays
+use Rattle.live_nodes.specs.Plays.{read_of, saw_in, took, saw, Takes, Sees, Checks}
+use Rattle.live_nodes.specs.Calls.{KnowsPlace, KnowsCell, MayCheck}
+use Rattle.live_rows.specs.Rows.{AreOf, last_saw, unread, MayRead, without_reads}
+use Rattle.live_encodes.specs.Encodes.{IsBelow, IsWord, Encodes}
+use Rattle.live_encodes.proofs.StandLaws.{few_forms}
+use Rattle.live_law.specs.Levels.{up, digit, Spot, name_of, Covers, place_at}
+use Rattle.live_law.specs.Views.{View, Ask}
+use Rattle.live_law.specs.Tree.{IsMap, LearnsRoot, IsRoot, LearnsNode, Looks, GoesTo, HasAnswer, IsOfKind}
+use Rattle.live_law.proofs.Plans.{root-top}
+use Rattle.live_law.proofs.Looks.{root_learns, node_looks}
+use Rattle.live_calls.specs.Ways.{KnowsTrunk, Names, AreNamed, Keeps, Told}
+
+abbrev Seen : Type 0
+Seen = SeatView View
+
+pub head_read : (k n : ℕ) (s : List (ℕ × ℕ)) (rs : List Read) → read_of k (read k n s ∷ rs) ≡ Some (read k n s)
+head_read k n s rs = ap (λ (b : Bool). cond b (Some (read k n s)) (read_of k rs)) (eq-eqb k k refl)
+
+saw_head : (k n : ℕ) (x : ℕ × ℕ) (s : List (ℕ × ℕ)) (rs : List Read) → saw_in k x (read k n s ∷ rs) ≡ read k n (x ∷ s) ∷ rs
+saw_head k n x s rs = ap (λ (b : Bool). cond b (read k n (x ∷ s) ∷ rs) (read k n s ∷ saw_in k x rs)) (eq-eqb k k refl)
+
+-- a node's word was taken, and since then so much was read of it
+abbrev pub reading : Seen → ℕ → ℕ → List (ℕ × ℕ) → Seen
+reading v k n s = seat_view v.client v.places (read k n s ∷ v.reads) v.holds v.room
+
+pub reading_keeps : (v w : Seen) (k n : ℕ) (s : List (ℕ × ℕ)) → w ≡ reading v k n s → Keeps v w × (w.client ≡ v.client)
+reading_keeps v w k n s e = (
+  record {
+    places = λ p h. subst (λ (z : Seen). IsIn p z.places) (sym e) h;
+    met = λ a h. subst (λ (z : Seen). IsIn a z.client.met) (sym e) h;
+    own = ap (λ (z : Seen). z.client.own) e;
+    holds = ap (λ (z : Seen). z.holds) e;
+    room = ap (λ (z : Seen). z.room) e;
+  },
+  ap (λ (z : Seen). z.client) e,
+)
+
+-- places were learnt, and the client knows more
+in_more : {A : Type 0} (x : A) (ys xs : List A) → IsIn x xs → IsIn x (ys ++ xs)
+in_more x [] xs h = h
+in_more x (y ∷ ys) xs h = inr (in_more x ys xs h)
+
+learned_keeps : (v w : Seen) (ps : List Place) (c : View) (rs : List Read) → w ≡ seat_view c (ps ++ v.places) rs v.holds v.room → ((a : Spot) → IsIn a v.client.met → IsIn a c.met) → c.own ≡ v.client.own → Keeps v w
+learned_keeps v w ps c rs e met own = record {
+  places = λ p h. subst (λ (z : Seen). IsIn p z.places) (sym e) (in_more p ps v.places h);
+  met = λ a h. subst (λ (z : Seen). IsIn a z.client.met) (sym e) (met a h);
+  own = ap (λ (z : Seen). z.client.own) e ∙ own;
+  holds = ap (λ (z : Seen). z.holds) e;
+  room = ap (λ (z : Seen). z.room) e;
+}
+
+-- THE TRUNK
+abbrev trunk : Place
+trunk = place 0 1 1
+
+module _ (v : Seen) (known : KnowsTrunk v) (k₁ : ℕ) (at₁ : 1 ≡ k₁) where
+  pub trunk_place : KnowsPlace v k₁
+  trunk_place = (trunk, (known, at₁))
+
+  module _ (v₁ : Seen) (n : ℕ) (took_it : Takes (reads k₁) v n none_joined v₁) where
+    pub trunk_taken : v₁ ≡ reading v 0 n []
+    trunk_taken = took_it trunk known at₁
+
+    module _ (k₂ : ℕ) (at₂ : 2 ≡ k₂) where
+      pub trunk_cell : KnowsCell v₁ k₂
+      trunk_cell = (trunk, 0, (subst KnowsTrunk (sym trunk_taken) known, (let l : 0 < 1 = omega arith in l), at₂))
+
+      module _ (v₂ : Seen) (x : ℕ) (saw_it : Sees (reads k₂) v₁ x none_joined v₂) where
+        pub trunk_read : v₂ ≡ reading v 0 n ((0, x) ∷ [])
+        trunk_read = saw_it trunk 0 (subst KnowsTrunk (sym trunk_taken) known) (let l : 0 < 1 = omega arith in l) at₂
+            ∙ (ap (λ (z : Seen). saw z 0 (0, x)) trunk_taken ∙ ap (λ (rs : List Read). seat_view v.client v.places rs v.holds v.room) (saw_head 0 n (0, x) [] v.reads))
+
+        module _ (k₃ : ℕ) (at₃ : 1 ≡ k₃) where
+          pub may_check_trunk : (id : ℕ) → MayCheck v₂ k₃ IsMap id LearnsRoot n
+          may_check_trunk id = subst (λ (z : Seen). MayCheck z k₃ IsMap id LearnsRoot n) (sym trunk_read)
+              (trunk, read 0 n ((0, x) ∷ []), (known, at₃), head_read 0 n ((0, x) ∷ []) v.reads, refl, root_learns id v.client n x)
+
+          module _ (w : Seen) (m : ℕ) (told : Checks LearnsRoot (reads k₃) v₂ m none_joined w) where
+            checked : Plays.Checked (LearnsRoot v.client 0 n ((0, x) ∷ [])) n (reading v 0 n ((0, x) ∷ [])) m w
+            checked = subst (λ (z : Seen). Checks LearnsRoot (reads k₃) z m none_joined w) trunk_read told trunk (read 0 n ((0, x) ∷ [])) known at₃ (head_read 0 n ((0, x) ∷ []) v.reads)
+
+            pub trunk_missed : m ≢ n → Keeps v w × (w.client ≡ v.client)
+            trunk_missed ne = reading_keeps v w 0 n ((0, x) ∷ []) (checked.miss ne)
+
+            pub trunk_none : m ≡ n → x ≡ 0 → Keeps v w × (w.client ≡ v.client)
+            trunk_none hit zero_is =
+                let h = checked.hit hit in
+                let e = (h.3 x refl).1 zero_is in
+                (learned_keeps v w h.0 h.1 (read 0 n ((0, x) ∷ []) ∷ v.reads) h.2 (λ b in_it. subst (λ (z : View). IsIn b z.met) (sym e.1) in_it) (ap (λ (z : View). z.own) e.1), ap (λ (z : Seen). z.client) h.2 ∙ e.1)
+
+            pub trunk_names : m ≡ n → 0 < x → (key : ℕ) → key < 2 ^ 64 → Keeps v w × (w.client.seen ≡ v.client.seen) × Names w x key 8
+            trunk_names hit some_root key l =
+                let h = checked.hit hit in
+                let r : IsRoot v.client x h.0 h.1 = (h.3 x refl).0 some_root in
+                let a : Spot = r.spot in (
+                  learned_keeps v w h.0 h.1 (read 0 n ((0, x) ∷ []) ∷ v.reads) h.2 (λ b in_it. subst (λ (z : View). IsIn b z.met) (sym r.is) (inr in_it)) (ap (λ (z : View). z.own) r.is),
+                  ap (λ (z : Seen). z.client.seen) h.2 ∙ ap (λ (z : View). z.seen) r.is,
+                  record {
+                    spot = a;
+                    met = subst (λ (z : Seen). IsIn a z.client.met) (sym h.2) (subst (λ (z : View). IsIn a z.met) (sym r.is) (inl refl));
+                    placed = subst (λ (z : Seen). IsIn (place_at a) z.places) (sym h.2) (subst (λ (ps : List Place). IsIn (place_at a) (ps ++ v.places)) (sym r.place) (inl refl));
+                    named = r.named;
+                    high = r.height;
+                    covers = ap (λ (z : ℕ). up z key) r.height ∙ (root-top key l ∙ sym r.top);
+                  },
+                )
+
+-- A NODE
+pub if_some : {A : Type 0} {P Q : A → Type 0} (o : Option A) → ((x : A) → P x → Q x) → IfSome o P → IfSome o Q
+if_some None f h = tt
+if_some (Some x) f h = f x h
+
+pub name_slot : (a : Spot) → (name : ℕ) → name ≡ name_of a.shape → IsWord name (Below a.shape.key)
+name_slot a name e = (form_place a.shape.form, (let l = few_forms a.shape.form in omega (arith, l)), e)
+
+number_of : List Read → ℕ
+number_of [] = 0
+number_of (r ∷ rs) = r.number
+
+taken_of : List Read → ℕ
+taken_of [] = 0
+taken_of (r ∷ rs) = r.word
+
+others_of : List Read → List Read
+others_of [] = []
+others_of (r ∷ rs) = rs
+
+no_reads : (r : Read) (rs : List Read) → [] ≡ r ∷ rs → ⊥
+no_reads r rs e = cc
+
+unread_is : (xs : List Read) (k n : ℕ) (ys : List Read) → unread xs ≡ read k n [] ∷ ys → xs ≡ read k n (last_saw xs) ∷ ys
+unfolding number_of taken_of others_of
+unread_is [] k n ys e = absurd (no_reads (read k n []) ys e)
+unread_is (x ∷ xs) k n ys e = λ i. read (number_of (e i)) (taken_of (e i)) x.saw ∷ others_of (e i)
+
+pub reads_on : (v w : Seen) (k n : ℕ) → without_reads w ≡ without_reads (took v k n) → w ≡ reading v k n (last_saw w.reads)
+reads_on v w k n e = ap (λ (z : Seen). seat_view z.client z.places w.reads z.holds z.room) e
+    ∙ ap (λ (xs : List Read). seat_view v.client v.places xs v.holds v.room) (unread_is w.reads k n v.reads (ap (λ (z : Seen). z.reads) e))
+
+-- the first of a node's words is its version word
+pub first_word : (p : Place) (b : Book) (words : List Name) → AreOf p b words → (w d : Name) → get_or words 0 d ≡ w → (p.key ≡ w.key) × (w.book ≡ b)
+first_word p b words of w d is =
+    let e : name (p.key + 0) b ≡ w = sym (of.1 0 d (let l = of.0 in omega (arith, l))) ∙ is in
+    ((let z : p.key ≡ p.key + 0 = omega arith in z) ∙ ap (λ (x : Name). x.key) e, sym (ap (λ (x : Name). x.book) e))
+
+-- What was found ends the way, or leads on.
+ends : (look : Bool) (q : Ask) (height : ℕ) (v w : Seen) (a : Spot) (ps : List Place) (rs : List Read) (c : View) (o : Option (Child ℕ)) (found : Option ℕ) → a.shape.height ≡ height → w ≡ seat_view c (ps ++ v.places) rs v.holds v.room
+    → IsOfKind height o → IsBelow o found → Looks look q v.client a o ps c → Keeps v w × Told look q height found v w
+ends look q height v w a ps rs c o (Some x) high is kind below then = some_there height o high kind below then
+  where
+    goes : (h : ℕ) (s : ℕ) → a.shape.height ≡ suc (suc h) → IsWord x (Below s) → GoesTo q.key v.client a s ps c → Keeps v w × ((w.client.seen ≡ v.client.seen) × ((name : ℕ) × IsWord x (Below name) × Names w name q.key (suc h)))
+    goes h s at_h word g = let b : Spot = g.spot in (
+      learned_keeps v w ps c rs is (λ z in_it. subst (λ (y : View). IsIn z y.met) (sym g.is) (inr in_it)) (ap (λ (y : View). y.own) g.is),
+      (
+        ap (λ (z : Seen). z.client.seen) is ∙ ap (λ (z : View). z.seen) g.is,
+        (
+          s,
+          word,
+          record {
+            spot = b;
+            met = subst (λ (z : Seen). IsIn b z.client.met) (sym is) (subst (λ (z : View). IsIn b z.met) (sym g.is) (inl refl));
+            placed = subst (λ (z : Seen). IsIn (place_at b) z.places) (sym is) (subst (λ (z : List Place). IsIn (place_at b) (z ++ v.places)) (sym g.place) (inl refl));
+            named = g.named;
+            high = (let e = g.height in omega (arith, e, at_h));
+            covers = g.covers;
+          },
+        ),
+      ),
+    )
+
+    answered : (found : Option ℕ) → HasAnswer q found v.client c → Keeps v w × HasAnswer q found v.client w.client
+    answered found h = (
+      learned_keeps v w ps c rs is (λ z in_it. subst (λ (y : View). IsIn z y.met) (sym h.is) in_it) (ap (λ (y : View). y.own) h.is),
+      subst (λ (z : Seen). HasAnswer q found v.client z.client) (sym is) h,
+    )
+
+    same : c ≡ v.client → Keeps v w × (w.client ≡ v.client)
+    same e = (
+      learned_keeps v w ps c rs is (λ z in_it. subst (λ (y : View). IsIn z y.met) (sym e) in_it) (ap (λ (y : View). y.own) e),
+      ap (λ (z : Seen). z.client) is ∙ e,
+    )
+
+    some_there : (height : ℕ) (o : Option (Child ℕ)) → a.shape.height ≡ height → IsOfKind height o → IsBelow o (Some x) → Looks look q v.client a o ps c → Keeps v w × Told look q height (Some x) v w
+    some_there height None high kind below then = absurd below
+    some_there zero (Some y) high kind below then = absurd kind
+    some_there (suc zero) (Some (Payload y)) high kind below then = leaf look then
+      where
+        leaf : (look : Bool) → Looks look q v.client a (Some (Payload y)) ps c → Keeps v w × Told look q 1 (Some x) v w
+        leaf true h = subst (λ (z : ℕ). Keeps v w × HasAnswer q (Some z) v.client w.client) (sym below) (answered (Some y) h)
+        leaf false h = same h
+    some_there (suc zero) (Some (Below s)) high kind below then = absurd kind
+    some_there (suc (suc h)) (Some (Payload y)) high kind below then = absurd kind
+    some_there (suc (suc h)) (Some (Below s)) high kind below then = inner look then
+      where
+        inner : (look : Bool) → Looks look q v.client a (Some (Below s)) ps c → Keeps v w × Told look q (suc (suc h)) (Some x) v w
+        inner true g = goes h s high below g
+        inner false g = goes h s high below g
+ends look q height v w a ps rs c None None high is kind below then = none_there look height then
+  where
+    answered : HasAnswer q None v.client c → Keeps v w × HasAnswer q None v.client w.client
+    answered h = (
+      learned_keeps v w ps c rs is (λ z in_it. subst (λ (y : View). IsIn z y.met) (sym h.is) in_it) (ap (λ (y : View). y.own) h.is),
+      subst (λ (z : Seen). HasAnswer q None v.client z.client) (sym is) h,
+    )
+
+    same : c ≡ v.client → Keeps v w × (w.client ≡ v.client)
+    same e = (
+      learned_keeps v w ps c rs is (λ z in_it. subst (λ (y : View). IsIn z y.met) (sym e) in_it) (ap (λ (y : View). y.own) e),
+      ap (λ (z : Seen). z.client) is ∙ e,
+    )
+
+    none_there : (look : Bool) (height : ℕ) → Looks look q v.client a None ps c → Keeps v w × Told look q height None v w
+    none_there true height h = answered h
+    none_there false height h = same h
+ends look q height v w a ps rs c (Some y) None high is kind below then = absurd below
+
+module _ (v : Seen) (name key height : ℕ) (n : Names v name key height) (b : Book) (words : List Name) (are : AreNamed b name words) where
+  abbrev pub its : Spot
+  its = n.spot
+
+  abbrev p : Place
+  p = place_at its
+
+  pub of : AreOf p b words
+  of = are its n.named
+
+  pub at_place : (k : ℕ) → p.key ≡ k → KnowsPlace v k
+  at_place k at_k = (p, (n.placed, at_k))
+
+  module _ (k : ℕ) (at_k : p.key ≡ k) (v₁ : Seen) (t : ℕ) (took_it : Takes (reads k) v t none_joined v₁) where
+    pub node_taken : v₁ ≡ reading v its.number t []
+    node_taken = took_it p n.placed at_k
+
+    pub taken_keeps : Keeps v v₁ × (v₁.client ≡ v.client)
+    taken_keeps = reading_keeps v v₁ its.number t [] node_taken
+
+    pub may_read_node : MayRead words b v₁
+    may_read_node = subst (MayRead words b) (sym node_taken) (p, read its.number t [], v.reads, n.placed, of, refl, refl)
+
+    module _ (v₂ : Seen) (rest : without_reads v₂ ≡ without_reads v₁) where
+      node_read : v₂ ≡ reading v its.number t (last_saw v₂.reads)
+      node_read = reads_on v v₂ its.number t (rest ∙ ap without_reads node_taken)
+
+      module _ (k' : ℕ) (at_k' : p.key ≡ k') (reads_it : Bool) (q : Ask) (asked : q.key ≡ key) where
+        abbrev Then : View → ℕ → ℕ → List (ℕ × ℕ) → List Place → View → Type 0
+        Then = LearnsNode (Looks reads_it) q
+
+        abbrev saw_it : List (ℕ × ℕ)
+        saw_it = last_saw v₂.reads
+
+        covers : Covers its.shape q.key
+        covers = ap (up its.shape.height) asked ∙ n.covers
+
+        pub may_check_node : (id m : ℕ) → q.caller ≡ id → t ≡ 4 * m → MayCheck v₂ k' IsMap id Then t
+        may_check_node id m by even = subst (λ (z : Seen). MayCheck z k' IsMap id Then t) (sym node_read)
+            (p, read its.number t saw_it, (n.placed, at_k'), head_read its.number t saw_it v.reads, refl, node_looks q id by v.client its n.met t saw_it m even reads_it covers)
+
+        module _ (w : Seen) (m : ℕ) (told : Checks Then (reads k') v₂ m none_joined w) where
+          node_checked : Plays.Checked (Then v.client its.number t saw_it) t (reading v its.number t saw_it) m w
+          node_checked = subst (λ (z : Seen). Checks Then (reads k') z m none_joined w) node_read told p (read its.number t saw_it) n.placed at_k' (head_read its.number t saw_it v.reads)
+
+          pub node_missed : m ≢ t → Keeps v w × (w.client ≡ v.client)
+          node_missed ne = reading_keeps v w its.number t saw_it (node_checked.miss ne)
+
+          pub node_ends : m ≡ t → (found : Option ℕ)
+              → ((c : Content) (o : TableNode ℕ) → Agree c saw_it → Encodes c o → o.form ≡ its.shape.form → IsBelow (lookup o.children (digit height key)) found)
+              → Keeps v w × Told reads_it q height found v w
+          node_ends hit found finds =
+              let h = node_checked.hit hit in
+              let x = h.3 its n.met refl covers in
+              let below : IsBelow (lookup x.its.children (digit its.shape.height q.key)) found =
+              subst (λ (z : ℕ × ℕ). IsBelow (lookup x.its.children (digit z.0 z.1)) found) (λ i. (sym n.high i, sym asked i)) (finds x.content x.its x.agrees x.encodes x.in_form) in
+              ends reads_it q height v w its h.0 (read its.number t saw_it ∷ v.reads) h.1 (lookup x.its.children (digit its.shape.height q.key)) found n.high h.2
+              (subst (λ (z : ℕ). IsOfKind z (lookup x.its.children (digit its.shape.height q.key))) n.high x.of_kind) below x.then

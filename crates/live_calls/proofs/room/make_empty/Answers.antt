@@ -1,0 +1,76 @@
+use Rattle.std.proofs.Common.{arith, ap, refl, length, length-take, List, ℕ, ◌+◌, ◌-◌, ◌∙◌}
+use Rattle.live_rows.specs.Rows.{filled}
+use Rattle.live_encodes.specs.Encodes.{words_of}
+use Rattle.live_calls.proofs.Rooms.{may_fill, words_long, is_filled, made_before}
+use Rattle.live_calls.proofs.room.make_empty.Goals as goal
+
+pub lay-requires-clause-may : goal.lay-requires-clause-may
+lay-requires-clause-may g c =
+    let v = c.args.pass.now.view in
+    let b = c.args.pass.now.book in
+    let words = c.args.words.now in
+    let form = c.args.form in
+    let start = c.args.start in
+    may_fill v b words start c.requires.room.0 form c.requires.room.1 c.requires.room.2 c.requires.words.0 c.requires.words.1
+
+pub lay-requires-clause-long : goal.lay-requires-clause-long
+lay-requires-clause-long g c =
+    let v = c.args.pass.now.view in
+    let b = c.args.pass.now.book in
+    let words = c.args.words.now in
+    let form = c.args.form in
+    let start = c.args.start in
+    words_long v b words start c.requires.room.0 form c.requires.room.1 c.requires.room.2 c.requires.words.0 c.requires.words.1
+
+pub make-requires-clause-room : goal.make-requires-clause-room
+make-requires-clause-room g c =
+    let v = c.args.pass.now.view in
+    let b = c.args.pass.now.book in
+    let words = c.args.words.now in
+    let form = c.args.form in
+    let start = c.args.start in
+    let u = c.lay.new.seat in
+    let may = c.lay.ensures.seat.still in
+    let rest = ap (λ s. s.view) c.lay.ensures.seat.others in
+    let left = c.requires.room.0 in
+    (left - (words_of form + 1), is_filled v b words start left form c.requires.room.1 c.requires.room.2 c.requires.words.0 c.requires.words.1 u.view u.book may rest)
+
+pub make-requires-clause-node : goal.make-requires-clause-node
+make-requires-clause-node g c = (_, c.lay.ensures.is, refl)
+
+pub returns-clause-told : goal.returns-clause-told
+returns-clause-told g c =
+    let v = c.args.pass.now.view in
+    let b = c.args.pass.now.book in
+    let words = c.args.words.now in
+    let form = c.args.form in
+    let start = c.args.start in
+    let u = c.lay.new.seat in
+    let may = c.lay.ensures.seat.still in
+    let rest = ap (λ s. s.view) c.lay.ensures.seat.others in
+    let t = c.make.ensures.told in
+    let s = c.lay.ensures.seat.others in (
+      t.0 ∙ ap (λ s. s.book) s,
+      t.1 ∙ ap (λ s. s.id) s,
+      record {
+        content = filled (length words) u.view.room;
+        made = made_before g.A.Asks.ask v u.view c.make.new.pass.view (filled (length words) u.view.room) form c.make.result (length words) rest t.2;
+        its = _;
+        encodes = c.lay.ensures.is;
+        its_form = refl;
+        deep = (let l = length-take (8 - c.args.height) c.to_be_bytes-bytes.result in let m = ap (λ (z : List ℕ). length z) c.to_be_bytes-bytes.ensures in let h = c.requires.height in omega (arith, l, m, c.requires.asks, h));
+        empty = refl;
+      },
+    )
+
+pub returns-clause-room : goal.returns-clause-room
+returns-clause-room g c = λ left room enough.
+    let v = c.args.pass.now.view in
+    let b = c.args.pass.now.book in
+    let words = c.args.words.now in
+    let form = c.args.form in
+    let start = c.args.start in
+    let u = c.lay.new.seat in
+    let may = c.lay.ensures.seat.still in
+    let rest = ap (λ s. s.view) c.lay.ensures.seat.others in
+    c.make.ensures.room (left - (words_of form + 1)) (is_filled v b words start left form room enough c.requires.words.0 c.requires.words.1 u.view u.book may rest)

@@ -1,0 +1,25 @@
+-- What a caller knows between two calls, and what a call does.
+use Rattle.std.specs.Prelude.{◌≡◌, ℕ, [], Option, Some, None}
+use Rattle.word_book.specs.Book.{Book}
+use Rattle.live_nodes.specs.Seats.{SeatView}
+use Rattle.live_law.specs.Views.{View, Ask, inserted}
+use Rattle.live_law.specs.Known.{Known}
+use Rattle.live_law.specs.Tree.{Answers}
+use Rattle.live_calls.specs.Ways.{KnowsTrunk}
+use Rattle.live_calls.specs.Rooms.{HasRoom}
+
+-- what a caller knows, by its seat
+abbrev pub known_of : Book → ℕ → SeatView View → Known
+known_of b id v = record { book = b; caller = id; seen = v.client.seen }
+
+-- A seat between two calls: it has nothing to itself but some room.
+pub record IsReady (v : SeatView View) (start left : ℕ) : Type 0 where
+  pub trunk : KnowsTrunk v
+  pub own : v.client.own ≡ []
+  pub holds : v.holds ≡ []
+  pub room : HasRoom v start left
+
+-- An insertion is done, or the seat has seen no more.
+abbrev pub Inserts : Ask → Option (Option ℕ) → SeatView View → SeatView View → Type 0
+Inserts q None v w = w.client.seen ≡ v.client.seen
+Inserts q (Some found) v w = Answers q.caller (inserted q found) v.client.seen w.client.seen

@@ -1,0 +1,59 @@
+-- What a seat has locked.
+use Rattle.std.specs.Prelude.{◌≡◌, ℕ, ◌+◌, ◌%◌, ◌<◌, ◌^◌, List, [], ◌∷◌, length, Option, Some, None}
+use Rattle.node_table.specs.TableNode.{TableNode}
+use Rattle.node_table.specs.declared.child.Child.TheVariants.{Payload}
+use Rattle.spec_map.specs.Map.{lookup}
+use Rattle.word_book.specs.Book.{Book, Name}
+use Rattle.live_nodes.specs.Nodes.{Content}
+use Rattle.live_nodes.specs.Seats.{hold, SeatView, IsIn, Each}
+use Rattle.live_rows.specs.Rows.{AreOf}
+use Rattle.live_encodes.specs.Encodes.{words_of, Encodes, with_child}
+use Rattle.live_law.specs.Levels.{Spot, place_at}
+use Rattle.live_law.specs.Views.{View, locked, Ask, inserted}
+use Rattle.live_law.specs.Tree.{HasValue, IsApart, Answers}
+use Rattle.live_calls.specs.Ways.{Names}
+
+-- The seat knows the same, but for what it has to itself.
+pub record Alike (v w : SeatView View) : Type 0 where
+  pub places : w.places ≡ v.places
+  pub met : w.client.met ≡ v.client.met
+  pub room : w.room ≡ v.room
+
+-- A node of that name was locked, which was free by that word.
+pub record HasLocked (v w : SeatView View) (name key height free : ℕ) : Type 0 where
+  pub names : Names v name key height
+  pub content : Content
+  pub own : w.client.own ≡ locked names.spot content ∷ v.client.own
+  pub holds : w.holds ≡ hold names.spot.number (free + 2) content ∷ v.holds
+  pub alike : Alike v w
+  pub seen : w.client.seen ≡ v.client.seen
+  pub its : TableNode ℕ
+  pub encodes : Encodes content its
+  pub in_form : its.form ≡ names.spot.shape.form
+  pub deep : length its.prefix + height ≡ 8
+  pub long : length content ≡ words_of names.spot.shape.form
+  pub even : free % 4 ≡ 0
+  pub small : free < 2 ^ 62
+  pub apart : Each (IsApart names.spot.number) v.client.own
+
+-- It holds this node alone, whose words are these, and has written this.
+pub record HoldsOne (v : SeatView View) (b : Book) (words : List Name) (free : ℕ) (a : Spot) (c d : Content) : Type 0 where
+  pub own : v.client.own ≡ locked a c ∷ []
+  pub holds : v.holds ≡ hold a.number (free + 2) d ∷ []
+  pub placed : IsIn (place_at a) v.places
+  pub are : AreOf (place_at a) b words
+
+-- It has nothing to itself any more.
+pub record HasRest (v w : SeatView View) : Type 0 where
+  pub own : w.client.own ≡ []
+  pub holds : w.holds ≡ []
+  pub alike : Alike v w
+
+-- A byte of a leaf has this value, where the leaf isn't full. It had that.
+abbrev pub IsWritten : ℕ → ℕ → Option (Option ℕ) → Content → Content → TableNode ℕ → Type 0
+IsWritten b x None c d n = d ≡ c
+IsWritten b x (Some old) c d n = Encodes d (with_child n b (Some (Payload x))) × HasValue (lookup n.children b) old
+
+-- An insertion is done, which has found this.
+abbrev pub IsDone : Ask → Option ℕ → SeatView View → SeatView View → Type 0
+IsDone q found v w = Answers q.caller (inserted q found) v.client.seen w.client.seen

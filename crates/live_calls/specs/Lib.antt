@@ -1,0 +1,4 @@
+pub mod Ways
+pub mod Calls
+pub mod Holds
+pub mod Rooms

@@ -1,0 +1,55 @@
+-- What a seat knows on the way of a key.
+use Rattle.std.specs.Prelude.{◌≡◌, ℕ, zero, suc, Bool, true, false, List, Option, Some, None}
+use Rattle.node_table.specs.declared.child.Child.TheVariants.{Node}
+use Rattle.word_book.specs.Book.{Book, Name}
+use Rattle.live_nodes.specs.Seats.{Place, place, SeatView, IsIn}
+use Rattle.live_rows.specs.Rows.{AreOf}
+use Rattle.live_encodes.specs.Encodes.{IsWord}
+use Rattle.live_law.specs.Levels.{Spot, name_of, Covers, place_at}
+use Rattle.live_law.specs.Views.{View, Ask, got}
+use Rattle.live_law.specs.Tree.{HasAnswer, Answers}
+
+abbrev pub KnowsTrunk : SeatView View → Type 0
+KnowsTrunk v = IsIn (place 0 1 1) v.places
+
+-- This names a node of that height, which has keys that begin like this one.
+pub record Names (v : SeatView View) (name key height : ℕ) : Type 0 where
+  pub spot : Spot
+  pub met : IsIn spot v.client.met
+  pub placed : IsIn (place_at spot) v.places
+  pub named : name ≡ name_of spot.shape
+  pub high : spot.shape.height ≡ height
+  pub covers : Covers spot.shape key
+
+-- These are its words.
+abbrev pub AreNamed : Book → ℕ → List Name → Type 0
+AreNamed b name words = (a : Spot) → name ≡ name_of a.shape → AreOf (place_at a) b words
+
+-- The seat knows as much, and has the same to itself.
+pub record Keeps (v w : SeatView View) : Type 0 where
+  pub places : (p : Place) → IsIn p v.places → IsIn p w.places
+  pub met : (a : Spot) → IsIn a v.client.met → IsIn a w.client.met
+  pub own : w.client.own ≡ v.client.own
+  pub holds : w.holds ≡ v.holds
+  pub room : w.room ≡ v.room
+
+-- A look-up has its answer, and another call knows no more.
+abbrev pub Ended : Bool → Ask → Option ℕ → SeatView View → SeatView View → Type 0
+Ended true q found v w = HasAnswer q found v.client w.client
+Ended false q found v w = w.client ≡ v.client
+
+-- What was found under the key's digit in a node of this height: the name of the node below, or the end.
+abbrev pub Told : Bool → Ask → ℕ → Option ℕ → SeatView View → SeatView View → Type 0
+Told looks q height None v w = Ended looks q None v w
+Told looks q zero (Some x) v w = Ended looks q (Some x) v w
+Told looks q (suc zero) (Some x) v w = Ended looks q (Some x) v w
+Told looks q (suc (suc h)) (Some x) v w = (w.client.seen ≡ v.client.seen) × ((name : ℕ) × IsWord x (Node name) × Names w name q.key (suc h))
+
+abbrev pub Looked : Bool → Ask → ℕ → Option (Option ℕ) → SeatView View → SeatView View → Type 0
+Looked looks q height None v w = w.client ≡ v.client
+Looked looks q height (Some found) v w = Told looks q height found v w
+
+-- A look-up has its answer, or the seat has seen no more.
+abbrev pub Found : Ask → Option (Option ℕ) → SeatView View → SeatView View → Type 0
+Found q None v w = w.client.seen ≡ v.client.seen
+Found q (Some found) v w = Answers q.caller (got q found) v.client.seen w.client.seen

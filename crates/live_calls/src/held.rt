@@ -1,0 +1,46 @@
+//! Nodes are locked, and unlocked.
+ghost use Rattle.std.specs.Prelude.{◌≡◌, ℕ, ◌+◌, ◌%◌, ◌<◌, ◌^◌, IfSome, IfNone};
+ghost use Rattle.live_nodes.specs.Nodes.{Content};
+ghost use Rattle.live_law.specs.Levels.{Spot};
+ghost use Rattle.live_calls.specs.Ways.{Names, AreNamed, Keeps};
+ghost use Rattle.live_calls.specs.Holds.{Alike, HasLocked, HoldsOne, HasRest};
+
+use crate::way::{Cell, Pass};
+use live_law::law::{Levels, Locked, Mine, Same};
+use live_nodes::node;
+
+/// Locks the node that a number names: the word by which it was free. `None` where another writer is busy there, or it is
+/// obsolete.
+pub fn lock_node(words: &[Cell], name: u64, height: usize, key: u64, pass: &mut Pass) -> Option<u64>
+    requires words { AreNamed pass.old.book name words.now }
+    requires named { Names pass.old.view name key height }
+    ensures told { (pass.new.book ≡ pass.old.book) × (pass.new.id ≡ pass.old.id)
+        × IfSome result (λ free. HasLocked pass.old.view pass.new.view name key height free)
+        × IfNone result (Alike pass.old.view pass.new.view
+        × (pass.new.view.client ≡ pass.old.view.client)
+        × (pass.new.view.holds ≡ pass.old.view.holds)) }
+{
+    let _ = name;
+    let _ = height;
+    let _ = key;
+    let free = node::take(&words[0], pass);
+    if free % 4 != 0 || free >= 1 << 62 {
+        return None;
+    }
+    if !node::lock::<Mine, Levels, Locked>(&words[0], free, pass) {
+        return None;
+    }
+    Some(free)
+}
+
+/// Unlocks a node that is as it was.
+pub fn unlock_same(words: &[Cell], free: u64, pass: &mut Pass)
+    requires word { (free % 4 ≡ 0) × (free < 2 ^ 62) }
+    requires holds { (a : Spot) × (c : Content)
+        × HoldsOne pass.old.view pass.old.book words.now free a c c }
+    ensures told { (pass.new.book ≡ pass.old.book) × (pass.new.id ≡ pass.old.id)
+        × HasRest pass.old.view pass.new.view
+        × (pass.new.view.client.seen ≡ pass.old.view.client.seen) }
+{
+    node::unlock::<Mine, Levels, Same>(&words[0], free, pass);
+}

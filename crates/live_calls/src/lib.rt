@@ -1,0 +1,18 @@
+//! The calls of a map that threads read without a lock.
+//!
+//! A look-up goes down from the root, and checks each node's version word behind what it read there. The check at which it
+//! ends is the moment of the call. A writer locks single nodes. A call that meets too many writers gives up (`Busy`).
+//!
+//! Tested in `test_live_calls`.
+#![tactic(auto)]
+
+mod get;
+pub mod held;
+mod insert;
+pub mod link;
+pub mod map;
+pub mod plant;
+pub mod room;
+pub mod way;
+pub mod widen;
+pub mod write;

@@ -1,0 +1,102 @@
+//! A new node comes below another.
+ghost use Rattle.std.specs.Prelude.{◌≡◌, ℕ, ◌+◌, ◌<◌, ◌≤◌, ◌^◌, [], length, None, IfNone};
+ghost use Rattle.node_table.specs.TableNode.{TableNode};
+ghost use Rattle.spec_map.specs.Map.{lookup};
+ghost use Rattle.live_cells.specs.Words.{Looks};
+ghost use Rattle.live_encodes.specs.Encodes.{words_of, Encodes, HasRoom as HasSpace};
+ghost use Rattle.live_calls.specs.Ways.{Names};
+ghost use Rattle.live_calls.specs.Rooms.{HasRoom, HasGrown};
+
+use crate::held::{lock_node, unlock_same};
+use crate::room::make_empty;
+use crate::way::{Nodes, Pass, byte_at, words_at};
+use crate::write::Hindrance;
+use live_cells::words::{Draft, Drafted};
+use live_encodes::change::{is_full, put};
+use live_encodes::form::{form_below, word_below, words_in};
+use live_encodes::search::find;
+use live_law::law::{Asks, Levels, Link, Mine};
+use live_nodes::node;
+use live_rows::rows::Held;
+use node_base::base_node::NodeType;
+
+/// The form of a new node.
+pub const NEW: NodeType = NodeType::N256;
+
+/// A seat's room: the first of its words, and how many there are at least.
+#[derive(Clone, Copy, Debug, PartialEq, Eq)]
+pub struct Room {
+    pub start: u64,
+    pub left: u64,
+}
+
+/// Why no child can be put under a byte: there is one, or no room. `None` where it can.
+fn obstacle<S, D: Draft<S>>(
+    draft: &D,
+    form: NodeType,
+    byte: u8,
+    seat: &mut S,
+) -> Option<Result<(), Hindrance>>
+    requires may { D.may_write draft.now seat.old }
+    requires long { length (D.words draft.now seat.old) ≡ words_of form }
+    ensures seat { Looks D.may_write D.words draft.now seat.old seat.new }
+    ensures none { IfNone result (HasSpace form (D.words draft.now seat.old)
+        × ((n : TableNode ℕ) → Encodes (D.words draft.now seat.old) n → n.form ≡ form
+        → lookup n.children byte ≡ None)) }
+{
+    let long = words_in(form);
+    let cells = Drafted { draft, long };
+    if find(&cells, form, byte, seat).is_some() {
+        return Some(Ok(()));
+    }
+    if is_full(draft, form, seat) {
+        return Some(Err(Hindrance::Full));
+    }
+    None
+}
+
+/// Makes an empty node below this one, on the way of a key, where there is none.
+pub fn link<A: Asks>(
+    nodes: &Nodes,
+    name: u64,
+    height: usize,
+    key: u64,
+    room: &mut Room,
+    pass: &mut Pass,
+) -> Result<(), Hindrance>
+    requires book { pass.old.book ≡ nodes.now }
+    requires asks { (A.ask.key ≡ key) × (A.ask.height + 1 ≡ height) }
+    requires named { Names pass.old.view name key height }
+    requires height { (2 ≤ height) × (height ≤ 8) }
+    requires rests { (pass.old.view.client.own ≡ []) × (pass.old.view.holds ≡ []) }
+    requires room { HasRoom pass.old.view room.old.start room.old.left }
+    ensures told { (pass.new.book ≡ pass.old.book) × (pass.new.id ≡ pass.old.id)
+        × HasGrown pass.old.view pass.new.view
+        × HasRoom pass.new.view room.new.start room.new.left }
+{
+    if room.start >= 1 << 48 || room.left < 263 {
+        return Err(Hindrance::Busy);
+    }
+    let Some(words) = words_at(nodes, name) else {
+        return Err(Hindrance::Busy);
+    };
+    let Some(others) = nodes.span(room.start, words_in(NEW) + 1) else {
+        return Err(Hindrance::Busy);
+    };
+    let form = form_below(name);
+    let byte = byte_at(key, height);
+    let Some(free) = lock_node(words, name, height, key, pass) else {
+        return Err(Hindrance::Busy);
+    };
+    let held: Held<'_, Mine, Levels, 0> = Held { words };
+    if let Some(end) = obstacle(&held, form, byte, pass) {
+        unlock_same(words, free, pass);
+        return end;
+    }
+    let child = make_empty::<A>(others, room.start, NEW, key, height - 1, pass);
+    room.start += words_in(NEW) as u64 + 1;
+    room.left -= words_in(NEW) as u64 + 1;
+    put(&held, form, byte, word_below(child, NEW), pass);
+    node::unlock::<Mine, Levels, Link>(&words[0], free, pass);
+    Ok(())
+}

@@ -1,0 +1,125 @@
+//! The map, and its callers.
+ghost use Rattle.std.specs.Prelude.{◌≡◌, ℕ, [], IfOk, OnErr};
+ghost use Rattle.live_law.specs.Views.{ask, got, inserted};
+ghost use Rattle.live_law.specs.Known.{MadeCall};
+
+use crate::get::get_once;
+use crate::insert::{insert_once, reserve};
+use crate::link::Room;
+use crate::plant::plant;
+use crate::way::{Nodes, Pass};
+use live_nodes::heap::Heap;
+use std::alloc::{AllocError, Global};
+use std::marker::{Brand, Model};
+
+/// How often a call is tried before it gives up.
+const TRIES: u32 = 1000;
+
+/// Too many writers came in between.
+#[derive(Clone, Copy, Debug, PartialEq, Eq)]
+pub struct Busy;
+
+/// Why nothing was inserted.
+#[derive(Clone, Copy, Debug, PartialEq, Eq)]
+pub enum Refusal {
+    Busy,
+    OutOfMemory,
+}
+
+/// A map from keys to values, of 64 bits each. Threads share it.
+#[derive(Drop)]
+pub struct Congee {
+    nodes: Nodes,
+}
+
+impl Model for Congee {
+    ghost use Rattle.word_book.specs.Book.{Book, book_coded};
+
+    ghost Value = { Book };
+
+    ghost coded = { book_coded };
+
+    ghost view = { λ m. m.nodes };
+}
+
+/// A caller of a map. Clauses see which map, the caller's number, and the history that it has seen.
+#[derive(Drop)]
+pub struct Guard {
+    pass: Pass,
+    room: Room,
+}
+
+impl Model for Guard {
+    ghost use Rattle.live_law.specs.Known.{Known};
+    ghost use Rattle.live_calls.specs.Calls.{known_of, IsReady};
+
+    ghost Value = { Known };
+
+    ghost view = { λ g. known_of g.pass.book g.pass.id g.pass.view };
+
+    ghost invariant = { λ g. IsReady g.pass.view g.room.start g.room.left };
+}
+
+impl Congee {
+    /// An empty map. It has a root of 2,104 bytes.
+    pub fn new(alloc: Global) -> Result<Congee, AllocError> {
+        let nodes: Nodes = Heap::new(alloc, 1)?;
+        let mut pass = nodes.enter();
+        let mut room = Room { start: 0, left: 0 };
+        let _ = reserve(&nodes, alloc, &mut room, &mut pass)?;
+        if !plant::<Brand>(&nodes, &mut room, &mut pass) {
+            return Err(AllocError);
+        }
+        Ok(Congee { nodes })
+    }
+
+    /// A caller, which has seen nothing yet.
+    pub fn pin(&self) -> Guard
+        ensures { (result.book ≡ self.now) × (result.seen ≡ []) }
+    {
+        Guard {
+            pass: self.nodes.enter(),
+            room: Room { start: 0, left: 0 },
+        }
+    }
+
+    /// The value of a key.
+    pub fn get(&self, guard: &mut Guard, key: u64) -> Result<Option<u64>, Busy>
+        requires { guard.old.book ≡ self.now }
+        ensures made { IfOk result (λ found. MadeCall guard.old
+            (got (ask guard.old.caller key 0 0) found) guard.new) }
+        ensures busy { OnErr result (guard.new ≡ guard.old) }
+    {
+        for _ in 0..TRIES {
+            if let Some(found) = get_once::<Brand>(&self.nodes, key, &mut guard.pass) {
+                return Ok(found);
+            }
+        }
+        Err(Busy)
+    }
+
+    /// Gives a key a value. The value before.
+    pub fn insert(
+        &self,
+        alloc: Global,
+        guard: &mut Guard,
+        key: u64,
+        value: u64,
+    ) -> Result<Option<u64>, Refusal>
+        requires { guard.old.book ≡ self.now }
+        ensures made { IfOk result (λ old. MadeCall guard.old
+            (inserted (ask guard.old.caller key value 1) old) guard.new) }
+        ensures refused { OnErr result (guard.new ≡ guard.old) }
+    {
+        for _ in 0..TRIES {
+            if reserve(&self.nodes, alloc, &mut guard.room, &mut guard.pass).is_err() {
+                return Err(Refusal::OutOfMemory);
+            }
+            let done = insert_once(&self.nodes, key, value, &mut guard.room, &mut guard.pass);
+            if let Some(old) = done {
+                return Ok(old);
+            }
+        }
+        Err(Refusal::Busy)
+    }
+}

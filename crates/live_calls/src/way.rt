@@ -1,0 +1,100 @@
+//! The way of a key: from the trunk to the root, and from a node to the one below.
+ghost use Rattle.std.specs.Prelude.{◌≡◌, ℕ, ◌+◌, ◌<◌, ◌≤◌, ◌^◌, IfSome, IfNone};
+ghost use Rattle.node_base.specs.Form.{form_place};
+ghost use Rattle.node_base.specs.declared.base_node.NodeType.{NodeType};
+ghost use Rattle.live_law.specs.Levels.{digit, up};
+ghost use Rattle.live_calls.specs.Ways.{KnowsTrunk, Names, AreNamed, Keeps, Looked};
+
+use live_encodes::form::{form_below, slot_below, words_in};
+use live_encodes::search::find;
+use live_law::law::{Asks, Levels, Look, Mine, Root};
+use live_nodes::heap::Heap;
+use live_nodes::law::{Seat, Word};
+use live_nodes::node;
+use live_rows::rows::Row;
+
+pub type Nodes = Heap<Mine, Levels>;
+
+pub type Pass = Seat<Mine, Levels>;
+
+pub type Cell = Word<Mine, Levels>;
+
+/// The byte of a key by which a node of this height leads on.
+pub fn byte_at(key: u64, height: usize) -> u8
+    requires { (1 ≤ height) × (height ≤ 8) }
+    ensures { result ≡ digit height key }
+{
+    match height {
+        1 => (key % 256) as u8,
+        2 => (key / 256 % 256) as u8,
+        3 => (key / 256 / 256 % 256) as u8,
+        4 => (key / 256 / 256 / 256 % 256) as u8,
+        5 => (key / 256 / 256 / 256 / 256 % 256) as u8,
+        6 => (key / 256 / 256 / 256 / 256 / 256 % 256) as u8,
+        7 => (key / 256 / 256 / 256 / 256 / 256 / 256 % 256) as u8,
+        _ => (key / 256 / 256 / 256 / 256 / 256 / 256 / 256 % 256) as u8,
+    }
+}
+
+/// The name of the root. `None` where there is none yet, or a writer came in between.
+pub fn root(nodes: &Nodes, key: u64, pass: &mut Pass) -> Option<u64>
+    requires book { pass.old.book ≡ nodes.now }
+    requires trunk { KnowsTrunk pass.old.view }
+    ensures told { (pass.new.book ≡ pass.old.book) × (pass.new.id ≡ pass.old.id)
+        × Keeps pass.old.view pass.new.view
+        × (pass.new.view.client.seen ≡ pass.old.view.client.seen)
+        × IfSome result (λ name. Names pass.new.view name key 8) }
+{
+    let trunk = nodes.word(1)?;
+    let number = nodes.word(2)?;
+    let taken = node::take(trunk, pass);
+    if taken % 4 != 0 {
+        return None;
+    }
+    let name = node::read(number, pass);
+    if !node::check::<Mine, Levels, Root>(trunk, taken, pass) {
+        return None;
+    }
+    if name == 0 {
+        return None;
+    }
+    Some(name)
+}
+
+/// The words of the node that a number names. `None` where its segment isn't there yet.
+pub fn words_at(nodes: &Nodes, name: u64) -> Option<&[Cell]>
+    ensures { IfSome result (λ words. AreNamed nodes.now name words.now) }
+{
+    nodes.span(slot_below(name), words_in(form_below(name)) + 1)
+}
+
+/// What a node of this height has under the key's digit. `None` where a writer came in between.
+pub fn look<A: Asks>(
+    nodes: &Nodes,
+    name: u64,
+    height: usize,
+    key: u64,
+    pass: &mut Pass,
+) -> Option<Option<u64>>
+    requires book { pass.old.book ≡ nodes.now }
+    requires asks { (A.ask.key ≡ key) × (A.ask.caller ≡ pass.old.id) }
+    requires named { Names pass.old.view name key height }
+    requires height { (1 ≤ height) × (height ≤ 8) }
+    ensures told { (pass.new.book ≡ pass.old.book) × (pass.new.id ≡ pass.old.id)
+        × Keeps pass.old.view pass.new.view
+        × Looked A.reads A.ask height result pass.old.view pass.new.view }
+{
+    let words = words_at(nodes, name)?;
+    let form = form_below(name);
+    let byte = byte_at(key, height);
+    let taken = node::take(&words[0], pass);
+    if taken % 4 != 0 {
+        return None;
+    }
+    let row = Row { words };
+    let found = find(&row, form, byte, pass);
+    if !node::check::<Mine, Levels, Look<A>>(&words[0], taken, pass) {
+        return None;
+    }
+    Some(found)
+}

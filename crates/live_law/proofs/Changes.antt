@@ -1,0 +1,136 @@
+-- One node changes, and what stays so.
+use Rattle.std.proofs.Common.{◌≡◌, ◌≢◌, ⊎_elim, ℕ, ◌/◌, ◌<◌, ◌≤◌, nat_eq, List, [], ◌∷◌, length, length-set, set, Some, None, sym, ap, ◌∙◌, subst, arith}
+use mathlib.Core.Logic.{dite}
+use native.Mathlib.Decide.{ℕ_discrete}
+use Rattle.atomic_table.proofs.Lists.{at_set}
+use Rattle.spec_map.specs.Map.{Pairs, lookup}
+use Rattle.share_rule.specs.History.{Entry, entries_of, IsHistory}
+use Rattle.share_rule.specs.inner.Rule.{HasSeen}
+use Rattle.live_nodes.proofs.Frames.{each_map, node_here, node_else}
+use Rattle.live_nodes.specs.Nodes.{Content, at, Node, node}
+use Rattle.live_nodes.specs.Seats.{Each}
+use Rattle.live_law.specs.Levels.{Spot}
+use Rattle.live_law.specs.Views.{View, Own, locked, fresh, outgrown, trunk}
+use Rattle.live_law.specs.Tree.{Plan, home_of, IsFree, NamesRoot, IsCurrent, IsSpot, IsMet, IsOwn, Knows, AreNodes, IsTree, IsMap}
+
+-- ANOTHER MAP, which all other seats know as well as the one before
+module _ (ns : List Node) (vs : List View) (id : ℕ) (p : IsMap ns vs) where
+  pub with_map : (ns' : List Node) (w : View) (plan : Plan) (history : List (Entry ℕ)) (pairs : Pairs ℕ) → IsHistory nat_eq history pairs → AreNodes plan ns' → IsTree plan ns' pairs
+      → ((a : Spot) → IsMet p.plan ns a → IsMet plan ns' a)
+      → ((j : ℕ) → j ≢ id → (o : Own) → IsOwn p.plan ns j o → IsOwn plan ns' j o)
+      → ((j : ℕ) → j ≢ id → (s : List (Entry ℕ)) → HasSeen p.history j s → HasSeen history j s)
+      → ((c : ℕ) → length vs ≤ c → entries_of c history ≡ [])
+      → Knows plan ns' history id w → IsMap ns' (set vs id w)
+  with_map ns' w plan history pairs legal nodes tree met own seen unborn knows = record {
+    plan = plan;
+    history = history;
+    pairs = pairs;
+    legal = legal;
+    nodes = nodes;
+    tree = tree;
+    each_view = λ j u e. ⊎_elim
+        (λ t. subst (λ (x : ℕ × View). Knows plan ns' history x.0 x.1) (λ i. (sym t.0 i, t.1 i)) knows)
+        (λ t. let k = p.each_view j u t.1 in record { seen = seen j t.0 u.seen k.seen; met = each_map (IsMet p.plan ns) (IsMet plan ns') u.met met k.met; own = each_map (IsOwn p.plan ns j) (IsOwn plan ns' j) u.own (own j t.0) k.own })
+        (at_set vs id j w u e);
+    unborn = λ c l. unborn c (omega (arith, l, length-set vs id w));
+  }
+
+-- ONE NODE becomes b, which lies there too, and is as long.
+module _ (d : Plan) (ns : List Node) (k : ℕ) (b : Node) (low : k < length ns) (there : b.place ≡ (node ns k).place) (long : length b.content ≡ length (node ns k).content) where
+  abbrev pub changed : List Node
+  changed = set ns k b
+
+  pub is_here : (j : ℕ) → j ≡ k → node changed j ≡ b
+  is_here j e = ap (node changed) e ∙ node_here ns k b low
+
+  pub is_else : (j : ℕ) → j ≢ k → node changed j ≡ node ns j
+  is_else j ne = node_else ns k j b ne
+
+  place_stays : (j : ℕ) → (node changed j).place ≡ (node ns j).place
+  place_stays j = dite (ℕ_discrete j k)
+      (λ e. ap (λ (z : Node). z.place) (is_here j e) ∙ (there ∙ ap (λ (z : ℕ). (node ns z).place) (sym e)))
+      (λ ne. ap (λ (z : Node). z.place) (is_else j ne))
+
+  long_stays : (j : ℕ) → length (node changed j).content ≡ length (node ns j).content
+  long_stays j = dite (ℕ_discrete j k)
+      (λ e. ap (λ (z : Node). length z.content) (is_here j e) ∙ (long ∙ ap (λ (z : ℕ). length (node ns z).content) (sym e)))
+      (λ ne. ap (λ (z : Node). length z.content) (is_else j ne))
+
+  pub low_stays : (j : ℕ) → j < length ns → j < length changed
+  low_stays j l = omega (arith, l, length-set ns k b)
+
+  pub nodes_stay : AreNodes d ns → AreNodes d changed
+  nodes_stay n = record {
+    some_trunk = low_stays 0 n.some_trunk;
+    trunk_long = long_stays 0 ∙ n.trunk_long;
+    placed = λ j some_node l. place_stays j ∙ n.placed j some_node (omega (arith, l, length-set ns k b));
+    long = λ j some_node l. long_stays j ∙ n.long j some_node (omega (arith, l, length-set ns k b));
+  }
+
+  pub spot_stays : (a : Spot) → IsSpot d ns a → IsSpot d changed a
+  spot_stays a s = record { below_trunk = s.below_trunk; low = low_stays a.number s.low; shaped = s.shaped }
+
+  pub met_stays : ((a : Spot) → IsMet d ns a → a.number ≡ k → IsFree b → home_of d a.shape ≡ a.number) → (a : Spot) → IsMet d ns a → IsMet d changed a
+  met_stays if_free a m = record {
+    spot = spot_stays a m.spot;
+    linked = m.linked;
+    current = dite (ℕ_discrete a.number k)
+        (λ e f. if_free a m e (subst IsFree (is_here a.number e) f))
+        (λ ne f. m.current (subst IsFree (is_else a.number ne) f));
+  }
+
+  -- what a seat has to itself, where the node isn't among it
+  module _ (if_free : (a : Spot) → IsMet d ns a → a.number ≡ k → IsFree b → home_of d a.shape ≡ a.number) (j : ℕ) (no_holder : (node ns k).holder ≢ Some j) (no_maker : 1 ≤ k → d.maker k ≢ Some j) where
+    others : (a : ℕ) → (node ns a).holder ≡ Some j → a ≢ k
+    others a h e = no_holder (ap (λ (z : ℕ). (node ns z).holder) (sym e) ∙ h)
+
+    pub own_stays : (o : Own) → IsOwn d ns j o → IsOwn d changed j o
+    own_stays (locked a c) h = let ne = others a.number h.holder in record {
+      met = met_stays if_free a h.met;
+      holder = ap (λ (z : Node). z.holder) (is_else a.number ne) ∙ h.holder;
+      content = ap (λ (z : Node). z.content) (is_else a.number ne) ∙ h.content;
+      current = h.current;
+    }
+    own_stays (fresh a c) h = record {
+      spot = spot_stays a h.spot;
+      maker = h.maker;
+      content = ap (λ (z : Node). z.content) (is_else a.number (λ e. no_maker (let s = h.spot.below_trunk in omega (arith, s, e)) (ap d.maker (sym e) ∙ h.maker))) ∙ h.content;
+    }
+    own_stays (outgrown a) h = let ne = others a.number h.holder in record {
+      met = met_stays if_free a h.met;
+      holder = ap (λ (z : Node). z.holder) (is_else a.number ne) ∙ h.holder;
+      replaced = h.replaced;
+    }
+    own_stays (trunk c) h = let ne = others 0 h.0 in (
+      ap (λ (z : Node). z.holder) (is_else 0 ne) ∙ h.0,
+      ap (λ (z : Node). z.content) (is_else 0 ne) ∙ h.1,
+    )
+
+    pub each_stays : (os : List Own) → Each (IsOwn d ns j) os → Each (IsOwn d changed j) os
+    each_stays [] h = tt
+    each_stays (o ∷ os) h = (own_stays o h.0, each_stays os h.1)
+
+  -- THE TREE, with the same nodes current
+  pub tree_stays : (m m' : Pairs ℕ) → IsTree d ns m
+      → (k ≡ 0 → NamesRoot d (at b.content 0))
+      → (1 ≤ k → home_of d (d.shape k) ≡ k → IsCurrent d m' (d.shape k) b.content)
+      → ((j : ℕ) → 1 ≤ j → j ≢ k → home_of d (d.shape j) ≡ j → IsCurrent d m (d.shape j) (node ns j).content → IsCurrent d m' (d.shape j) (node ns j).content)
+      → ((x : ℕ) → d.home 1 (x / 256) ≡ 0 → lookup m' x ≡ None) → IsTree d changed m'
+  tree_stays m m' t root its else none = record {
+    root = dite (ℕ_discrete 0 k)
+        (λ e. subst (λ (z : Node). NamesRoot d (at z.content 0)) (sym (is_here 0 e)) (root (sym e)))
+        (λ ne. subst (λ (z : Node). NamesRoot d (at z.content 0)) (sym (is_else 0 ne)) t.root);
+    housed = λ h s some_node. let w = t.housed h s some_node in (low_stays (d.home h s) w.0, w.1, w.2, w.3);
+    upward = t.upward;
+    current = λ j some_node here. dite (ℕ_discrete j k)
+        (λ e. subst (λ (z : Node). IsCurrent d m' (d.shape j) z.content) (sym (is_here j e)) (subst (λ (z : ℕ). IsCurrent d m' (d.shape z) b.content) (sym e) (its (subst (λ (z : ℕ). 1 ≤ z) e some_node) (subst (λ (z : ℕ). home_of d (d.shape z) ≡ z) e here))))
+        (λ ne. subst (λ (z : Node). IsCurrent d m' (d.shape j) z.content) (sym (is_else j ne)) (else j some_node ne here (t.current j some_node here)));
+    absent = none;
+  }
+
+  -- nothing in it changes
+  pub tree_same : (m : Pairs ℕ) → IsTree d ns m → b.content ≡ (node ns k).content → IsTree d changed m
+  tree_same m t same = tree_stays m m t
+      (λ e. subst (λ (z : Content). NamesRoot d (at z 0)) (ap (λ (z : ℕ). (node ns z).content) (sym e) ∙ sym same) t.root)
+      (λ some_node here. subst (IsCurrent d m (d.shape k)) (sym same) (t.current k some_node here))
+      (λ j some_node ne here c. c) t.absent

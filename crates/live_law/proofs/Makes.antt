@@ -1,0 +1,219 @@
+-- A node is made.
+use Rattle.std.proofs.Common.{◌≡◌, ◌≢◌, ⊎_elim, ℕ, zero, suc, ◌+◌, ◌*◌, ◌<◌, ◌≤◌, Bool, cond, nat_eq, List, [], ◌∷◌, ◌++◌, length, Option, Some, None, refl, sym, ap, ◌∙◌, subst, inl, inr, arith, eq-eqb, ne_eqb}
+use mathlib.Core.Logic.{dite}
+use native.Mathlib.Decide.{ℕ_discrete}
+use Rattle.node_base.specs.Form.{limit, form_place}
+use Rattle.node_base.specs.declared.base_node.NodeType.{NodeType}
+use Rattle.node_base.specs.declared.base_node.NodeType.TheVariants.{N4, N16, N48, N256}
+use Rattle.node_table.specs.TableNode.{TableNode, Child}
+use Rattle.node_table.specs.declared.child.Child.TheVariants.{Payload, Node as Below}
+use Rattle.spec_map.specs.Map.{Pairs, lookup}
+use Rattle.live_nodes.proofs.Frames.{each_map, node_before, node_last, one_more}
+use Rattle.live_nodes.specs.Nodes.{Content, at, Node, node, node_at}
+use Rattle.live_nodes.specs.Acts as acts
+use Rattle.live_cells.specs.Words as cells
+use Rattle.live_cells.specs.Head.{IsHead}
+use Rattle.live_encodes.specs.Encodes.{words_of, long_for, HasChildren, Encodes}
+use Rattle.live_law.specs.Levels.{up, Shape, name_of, Spot, spot}
+use Rattle.live_law.specs.Views.{View, view_of, Own, locked, fresh, outgrown, trunk, Ask}
+use Rattle.live_law.specs.Tree.{Plan, home_of, IsFree, LeadsTo, IsUnder, IsCurrent, NamesRoot, IsSpot, IsMet, IsOwn, AreNodes, IsTree, IsMap, IsMade}
+use Rattle.live_law.proofs.Changes.{with_map}
+
+-- how long a content is, and what form it has
+children-long : (o : Option ℕ) (c : List ℕ) (es : List (ℕ × ℕ)) → HasChildren o c es → length c ≡ long_for o
+children-long None c es h = h.long
+children-long (Some room) c es h = h.long
+
+pub encodes-long : (c : Content) (n : TableNode ℕ) → Encodes c n → length c ≡ words_of n.form
+encodes-long c n e = children-long (limit n.form) c e.words e.children
+
+same-place : (f g : NodeType) → form_place f ≡ form_place g → f ≡ g
+same-place N4 N4 e = refl
+same-place N4 N16 e = absurd (omega arith)
+same-place N4 N48 e = absurd (omega arith)
+same-place N4 N256 e = absurd (omega arith)
+same-place N16 N4 e = absurd (omega arith)
+same-place N16 N16 e = refl
+same-place N16 N48 e = absurd (omega arith)
+same-place N16 N256 e = absurd (omega arith)
+same-place N48 N4 e = absurd (omega arith)
+same-place N48 N16 e = absurd (omega arith)
+same-place N48 N48 e = refl
+same-place N48 N256 e = absurd (omega arith)
+same-place N256 N4 e = absurd (omega arith)
+same-place N256 N16 e = absurd (omega arith)
+same-place N256 N48 e = absurd (omega arith)
+same-place N256 N256 e = refl
+
+same-head : (word f g : ℕ) (p q : List ℕ) → IsHead word f p → IsHead word g q → f ≡ g
+same-head word f g p q h i = omega (arith, h.sized, h.short, i.sized, i.short)
+
+pub one-form : (c : Content) (l m : TableNode ℕ) → Encodes c l → Encodes c m → l.form ≡ m.form
+one-form c l m e f = same-place l.form m.form (same-head (cells.at c 0) (form_place l.form) (form_place m.form) l.prefix m.prefix e.head f.head)
+
+-- what is under a byte, where the nodes below are led to as well
+pub under_alike : (d d' : Plan) (m : Pairs ℕ) (height top x : ℕ) (o : Option (Child ℕ)) → ((h : ℕ) → height ≡ suc (suc h) → LeadsTo d o (d.home (suc h) (256 * top + x)) → LeadsTo d' o (d'.home (suc h) (256 * top + x)))
+    → IsUnder d m height top x o → IsUnder d' m height top x o
+under_alike d d' m zero top x o f u = u
+under_alike d d' m (suc zero) top x o f u = u
+under_alike d d' m (suc (suc h)) top x o f u = f h refl u
+
+pub current_alike : (d d' : Plan) (m : Pairs ℕ) (s : Shape) (c : Content) → ((o : Option (Child ℕ)) (h x : ℕ) → x < 256 → s.height ≡ suc (suc h) → LeadsTo d o (d.home (suc h) (256 * s.top + x)) → LeadsTo d' o (d'.home (suc h) (256 * s.top + x)))
+    → IsCurrent d m s c → IsCurrent d' m s c
+current_alike d d' m s c f cur = record {
+  its = cur.its;
+  encodes = cur.encodes;
+  in_form = cur.in_form;
+  deep = cur.deep;
+  under = λ x l. under_alike d d' m s.height s.top x (lookup cur.its.children x) (λ h e. f (lookup cur.its.children x) h x l e) (cur.under x l);
+}
+
+module _ (d : Plan) (id : ℕ) (s : Shape) (ns : List Node) (content : Content) where
+  abbrev b : Node
+  b = node_at s.key 0 content None
+
+  abbrev longer : List Node
+  longer = ns ++ b ∷ []
+
+  abbrev last : ℕ
+  last = length ns
+
+  abbrev d' : Plan
+  d' = record {
+    shape = λ j. cond (nat_eq j last) s (d.shape j);
+    home = d.home;
+    maker = λ j. cond (nat_eq j last) (Some id) (d.maker j);
+  }
+
+  abbrev none : ℕ → Content
+  none _ = []
+
+  more : length longer ≡ length ns + 1
+  more = one_more ns none b content
+
+  node_new : node longer last ≡ b
+  node_new = node_last ns none b content
+
+  node_old : (j : ℕ) → j < last → node longer j ≡ node ns j
+  node_old j l = node_before ns none b content j l
+
+  shape_new : d'.shape last ≡ s
+  shape_new = ap (λ (t : Bool). cond t s (d.shape last)) (eq-eqb last last refl)
+
+  shape_old : (j : ℕ) → j ≢ last → d'.shape j ≡ d.shape j
+  shape_old j ne = ap (λ (t : Bool). cond t s (d.shape j)) (ne_eqb j last ne)
+
+  maker_new : d'.maker last ≡ Some id
+  maker_new = ap (λ (t : Bool). cond t (Some id) (d.maker last)) (eq-eqb last last refl)
+
+  maker_old : (j : ℕ) → j ≢ last → d'.maker j ≡ d.maker j
+  maker_old j ne = ap (λ (t : Bool). cond t (Some id) (d.maker j)) (ne_eqb j last ne)
+
+  lower : (j : ℕ) → j < last → j ≢ last
+  lower j l e = omega (arith, l, e)
+
+  spot_old : (a : Spot) → IsSpot d ns a → IsSpot d' longer a
+  spot_old a t = record { below_trunk = t.below_trunk; low = (let l = t.low in omega (arith, l, more)); shaped = shape_old a.number (lower a.number t.low) ∙ t.shaped }
+
+  met_old : (a : Spot) → IsMet d ns a → IsMet d' longer a
+  met_old a m = record {
+    spot = spot_old a m.spot;
+    linked = maker_old a.number (lower a.number m.spot.low) ∙ m.linked;
+    current = λ f. m.current (subst IsFree (node_old a.number m.spot.low) f);
+  }
+
+  module _ (some_trunk : 0 < last) (j : ℕ) where
+    own_old : (o : Own) → IsOwn d ns j o → IsOwn d' longer j o
+    own_old (locked a c) h = let same = node_old a.number h.met.spot.low in record {
+      met = met_old a h.met;
+      holder = ap (λ (z : Node). z.holder) same ∙ h.holder;
+      content = ap (λ (z : Node). z.content) same ∙ h.content;
+      current = h.current;
+    }
+    own_old (fresh a c) h = record {
+      spot = spot_old a h.spot;
+      maker = maker_old a.number (lower a.number h.spot.low) ∙ h.maker;
+      content = ap (λ (z : Node). z.content) (node_old a.number h.spot.low) ∙ h.content;
+    }
+    own_old (outgrown a) h = record {
+      met = met_old a h.met;
+      holder = ap (λ (z : Node). z.holder) (node_old a.number h.met.spot.low) ∙ h.holder;
+      replaced = h.replaced;
+    }
+    own_old (trunk c) h = (ap (λ (z : Node). z.holder) (node_old 0 some_trunk) ∙ h.0, ap (λ (z : Node). z.content) (node_old 0 some_trunk) ∙ h.1)
+
+  nodes_longer : length content ≡ words_of s.form → AreNodes d ns → AreNodes d' longer
+  nodes_longer long n = record {
+    some_trunk = (let l = n.some_trunk in omega (arith, l, more));
+    trunk_long = ap (λ (z : Node). length z.content) (node_old 0 n.some_trunk) ∙ n.trunk_long;
+    placed = λ k some_node l. dite (ℕ_discrete k last)
+        (λ e. ap (λ (z : ℕ). (node longer z).place) e ∙ (ap (λ (z : Node). z.place) node_new ∙ sym (ap (λ (z : ℕ). (d'.shape z).key) e ∙ ap (λ (z : Shape). z.key) shape_new)))
+        (λ ne. let l' : k < last = omega (arith, l, more, ne) in ap (λ (z : Node). z.place) (node_old k l') ∙ (n.placed k some_node l' ∙ sym (ap (λ (z : Shape). z.key) (shape_old k ne))));
+    long = λ k some_node l. dite (ℕ_discrete k last)
+        (λ e. ap (λ (z : ℕ). length (node longer z).content) e ∙ (ap (λ (z : Node). length z.content) node_new ∙ (long ∙ sym (ap (λ (z : ℕ). words_of (d'.shape z).form) e ∙ ap (λ (z : Shape). words_of z.form) shape_new))))
+        (λ ne. let l' : k < last = omega (arith, l, more, ne) in ap (λ (z : Node). length z.content) (node_old k l') ∙ (n.long k some_node l' ∙ sym (ap (λ (z : Shape). words_of z.form) (shape_old k ne))));
+  }
+
+  module _ (m : Pairs ℕ) (t : IsTree d ns m) where
+    home_low : (h x : ℕ) → 1 ≤ d.home h x → d.home h x ≢ last
+    home_low h x some_node = lower (d.home h x) (t.housed h x some_node).0
+
+    leads_old : (o : Option (Child ℕ)) (h x : ℕ) → LeadsTo d o (d.home h x) → LeadsTo d' o (d.home h x)
+    leads_old None h x l = l
+    leads_old (Some (Payload w)) h x l = l
+    leads_old (Some (Below w)) h x l = (l.0, l.1 ∙ sym (ap name_of (shape_old (d.home h x) (home_low h x l.0))))
+
+    tree_longer : AreNodes d ns → IsTree d' longer m
+    tree_longer n = record {
+      root = subst (λ (z : Node). NamesRoot d' (at z.content 0)) (sym (node_old 0 n.some_trunk)) (⊎_elim
+          (λ no. inl no)
+          (λ there. inr (there.0, there.1, there.2 ∙ sym (ap name_of (shape_old (d.home 8 0) (home_low 8 0 there.0)))))
+          t.root);
+      housed = λ h x some_node. let w = t.housed h x some_node in let same = shape_old (d.home h x) (home_low h x some_node) in
+          ((let l = w.0 in omega (arith, l, more)), ap (λ (z : Shape). z.height) same ∙ w.1, ap (λ (z : Shape). z.top) same ∙ w.2, maker_old (d.home h x) (home_low h x some_node) ∙ w.3);
+      upward = t.upward;
+      current = λ k some_node here.
+          let at_home : 1 ≤ home_of d (d'.shape k) = subst (λ (z : ℕ). 1 ≤ z) (sym here) some_node in
+          let low : k < last = subst (λ (z : ℕ). z < last) here (t.housed (d'.shape k).height (d'.shape k).top at_home).0 in
+          let same = shape_old k (lower k low) in
+          subst (λ (z : Shape × Node). IsCurrent d' m z.0 z.1.content) (λ i. (sym same i, sym (node_old k low) i))
+          (current_alike d d' m (d.shape k) (node ns k).content (λ o h x l e. leads_old o (suc h) (256 * (d.shape k).top + x)) (t.current k some_node (ap (home_of d) (sym same) ∙ here)));
+      absent = t.absent;
+    }
+
+pub node_makes : (q : Ask) (id : ℕ) (v : View) (key : ℕ) (content : Content) (n : TableNode ℕ) → Encodes content n → acts.Makes IsMap id v key content (IsMade q v key content)
+node_makes q id v key content n encodes ns vs p seat =
+    let s : Shape = record { key = key; form = n.form; height = q.height; top = up q.height q.key } in
+    let a : Spot = spot (length ns) s in
+    let kn = p.each_view id v seat in
+    let w : View = view_of v.seen v.met (fresh a content ∷ v.own) in
+    let nodes = p.nodes in
+    let own_ok : (j : ℕ) (o : Own) → IsOwn p.plan ns j o → IsOwn (d' p.plan id s ns content) (longer p.plan id s ns content) j o = λ j o. own_old p.plan id s ns content nodes.some_trunk j o in (
+      w,
+      with_map ns vs id p (longer p.plan id s ns content) w (d' p.plan id s ns content) p.history p.pairs p.legal
+          (nodes_longer p.plan id s ns content (encodes-long content n encodes) nodes)
+          (tree_longer p.plan id s ns content p.pairs p.tree nodes)
+          (met_old p.plan id s ns content)
+          (λ j ne o. own_ok j o)
+          (λ j ne x h. h) p.unborn record {
+            seen = kn.seen;
+            met = each_map (IsMet p.plan ns) (IsMet (d' p.plan id s ns content) (longer p.plan id s ns content)) v.met (met_old p.plan id s ns content) kn.met;
+            own = (
+              record {
+                spot = record { below_trunk = nodes.some_trunk; low = (let l = more p.plan id s ns content in omega (arith, l)); shaped = shape_new p.plan id s ns content };
+                maker = maker_new p.plan id s ns content;
+                content = ap (λ (z : Node). z.content) (node_new p.plan id s ns content);
+              },
+              each_map (IsOwn p.plan ns id) (IsOwn (d' p.plan id s ns content) (longer p.plan id s ns content) id) v.own (own_ok id) kn.own,
+            );
+          },
+      record {
+        spot = a;
+        number = refl;
+        placed = refl;
+        height = refl;
+        covers = refl;
+        form = λ o e. one-form content n o encodes e;
+        is = refl;
+      },
+    )

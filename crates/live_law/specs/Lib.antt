@@ -1,0 +1,4 @@
+pub mod Levels
+pub mod Views
+pub mod Known
+pub mod Tree

@@ -1,0 +1,55 @@
+-- What a seat knows, and what a call asks.
+use Rattle.std.specs.Prelude.{ℕ, List, [], ◌∷◌, Option, None}
+use Rattle.spec_map.specs.Call.{get, insert, old_value, replied}
+use Rattle.share_rule.specs.History.{Entry, entry}
+use Rattle.live_nodes.specs.Nodes.{Content}
+use Rattle.live_law.specs.Levels.{Spot}
+
+-- a node that the seat has to itself
+pub data Own : Type 0 where
+  -- it is locked, and has this content
+  locked : Spot → Content → Own
+  -- it is new, and nobody else knows it
+  fresh : Spot → Content → Own
+  -- it is locked, and no part of the map any more
+  outgrown : Spot → Own
+  -- the trunk is locked
+  trunk : Content → Own
+
+-- the history that it has seen, nodes of the map that it has met, and its own
+pub record View : Type 0 where
+  pub seen : List (Entry ℕ)
+  pub met : List Spot
+  pub own : List Own
+
+abbrev pub view_of : List (Entry ℕ) → List Spot → List Own → View
+view_of s m o = record { seen = s; met = m; own = o }
+
+-- what it has to itself, without the last one, and what that is
+abbrev pub rest_of : List Own → List Own
+rest_of [] = []
+rest_of (o ∷ os) = os
+
+abbrev pub content_of : List Own → Content
+content_of [] = []
+content_of (locked a c ∷ os) = c
+content_of (fresh a c ∷ os) = c
+content_of (outgrown a ∷ os) = []
+content_of (trunk c ∷ os) = c
+
+-- who calls, with which key and value, and at which height
+pub record Ask : Type 0 where
+  pub caller : ℕ
+  pub key : ℕ
+  pub value : ℕ
+  pub height : ℕ
+
+abbrev pub ask : ℕ → ℕ → ℕ → ℕ → Ask
+ask c k v h = record { caller = c; key = k; value = v; height = h }
+
+-- the entries of a call, by the value that it finds
+abbrev pub got : Ask → Option ℕ → Entry ℕ
+got a found = entry a.caller record { call = get a.key; asked = None; answer = replied (old_value found) }
+
+abbrev pub inserted : Ask → Option ℕ → Entry ℕ
+inserted a found = entry a.caller record { call = insert a.key a.value; asked = None; answer = replied (old_value found) }

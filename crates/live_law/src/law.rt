@@ -1,0 +1,130 @@
+//! The law, and what is learnt by it.
+
+use live_nodes::law::NodeLaw;
+use live_nodes::plays::{Birth, Change, Lesson};
+use std::marker::{Brand, Model, PhantomData};
+
+/// What a seat knows of the map. It exists in proofs alone.
+pub struct Mine;
+
+impl Model for Mine {
+    ghost use Rattle.std.specs.Prelude.{[]};
+    ghost use Rattle.live_law.specs.Views.{View, view_of};
+
+    ghost Value = { View };
+
+    ghost view = { λ _. view_of [] [] [] };
+}
+
+/// The nodes are those of a map.
+pub struct Levels;
+
+impl NodeLaw<Mine> for Levels {
+    ghost use Rattle.std.specs.Prelude.{[]};
+    ghost use Rattle.live_law.specs.Views.{view_of};
+    ghost use Rattle.live_law.specs.Tree.{IsMap};
+
+    ghost holds = { IsMap };
+
+    ghost first = { view_of [] [] [] };
+
+    ghost root = { 1 };
+}
+
+/// A call: who makes it, with which key and value. A caller picks it.
+pub trait Asks {
+    ghost use Rattle.std.specs.Prelude.{Bool};
+    ghost use Rattle.live_law.specs.Views.{Ask};
+
+    ghost ask: { Ask };
+
+    // Whether it is a look-up, which ends where it finds what it asks for.
+    ghost reads: { Bool };
+}
+
+impl Asks for Brand {
+    ghost use Rattle.std.specs.Prelude.{false};
+    ghost use Rattle.live_law.specs.Views.{ask};
+
+    ghost ask = { ask 0 0 0 0 };
+
+    ghost reads = { false };
+}
+
+/// Which node is the root.
+pub struct Root;
+
+impl Lesson<Mine> for Root {
+    ghost use Rattle.live_law.specs.Tree.{LearnsRoot};
+
+    ghost told = { LearnsRoot };
+}
+
+/// A look-up goes on below a node, or ends there. Another call goes on, or learns nothing.
+pub struct Look<A> {
+    of: PhantomData<A>,
+}
+
+impl<A: Asks> Lesson<Mine> for Look<A> {
+    ghost use Rattle.live_law.specs.Tree.{LearnsNode, Looks};
+
+    ghost told = { LearnsNode (Looks A.reads) A.ask };
+}
+
+/// A node was locked.
+pub struct Locked;
+
+impl Change<Mine> for Locked {
+    ghost use Rattle.live_law.specs.Tree.{LearnsLocked};
+
+    ghost told = { LearnsLocked };
+}
+
+/// The trunk was locked.
+pub struct TrunkLocked;
+
+impl Change<Mine> for TrunkLocked {
+    ghost use Rattle.live_law.specs.Tree.{LearnsTrunk};
+
+    ghost told = { LearnsTrunk };
+}
+
+/// A node is unlocked, and the map is as it was.
+pub struct Same;
+
+impl Change<Mine> for Same {
+    ghost use Rattle.live_law.specs.Tree.{StaysSame};
+
+    ghost told = { StaysSame };
+}
+
+/// A leaf is unlocked, with a value that was inserted.
+pub struct Insert<A> {
+    of: PhantomData<A>,
+}
+
+impl<A: Asks> Change<Mine> for Insert<A> {
+    ghost use Rattle.live_law.specs.Tree.{Inserts};
+
+    ghost told = { Inserts A.ask };
+}
+
+/// A node is unlocked, and leads to a new one.
+pub struct Link;
+
+impl Change<Mine> for Link {
+    ghost use Rattle.live_law.specs.Tree.{Links};
+
+    ghost told = { Links };
+}
+
+/// A node is made.
+pub struct New<A> {
+    of: PhantomData<A>,
+}
+
+impl<A: Asks> Birth<Mine> for New<A> {
+    ghost use Rattle.live_law.specs.Tree.{IsMade};
+
+    ghost told = { IsMade A.ask };
+}

@@ -1,0 +1,5 @@
+//! Tests of the map that threads read without a lock.
+#![tactic(auto)]
+
+#[cfg(test)]
+mod tests;

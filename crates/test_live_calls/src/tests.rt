@@ -1,0 +1,114 @@
+//! One thread, and several threads at one map.
+
+use live_calls::map::{Busy, Congee, Refusal};
+use std::alloc::Global;
+use std::test::Fail;
+use std::thread::{Threads, join};
+
+// The value of a key, by a caller of its own.
+fn looked(map: &Congee, key: u64) -> Result<Option<u64>, Busy> {
+    let mut guard = map.pin();
+    map.get(&mut guard, key)
+}
+
+// What an insertion returns, by a caller of its own.
+fn put(map: &Congee, alloc: Global, key: u64, value: u64) -> Result<Option<u64>, Refusal> {
+    let mut guard = map.pin();
+    map.insert(alloc, &mut guard, key, value)
+}
+
+// Keys that share some of their bytes, or none.
+const KEYS: [u64; 6] = [
+    0,
+    255,
+    256,
+    0x0102030405060708,
+    0x0102030405060709,
+    u64::MAX,
+];
+
+#[test]
+fn a_key_has_the_value_that_was_inserted_last(rt: HostRuntime) -> Result<(), Fail> {
+    let map = Congee::new(rt.alloc())?;
+    for key in KEYS {
+        assert!(rt; looked(&map, key) == Ok(None));
+        assert!(rt; put(&map, rt.alloc(), key, key ^ 7) == Ok(None));
+        assert!(rt; put(&map, rt.alloc(), key, key ^ 9) == Ok(Some(key ^ 7)));
+    }
+    for key in KEYS {
+        assert!(rt; looked(&map, key) == Ok(Some(key ^ 9)));
+    }
+    assert!(rt; looked(&map, 257) == Ok(None));
+    Ok(())
+}
+
+// Inserts as many keys, each with a value of its own. Returns how many were new.
+fn filled(map: &Congee, alloc: Global, first: u64, step: u64, count: u32) -> u32 {
+    let mut guard = map.pin();
+    let mut key = first;
+    let mut new = 0u32;
+    for _ in 0..count {
+        if map.insert(alloc, &mut guard, key, key ^ 1) == Ok(None) {
+            new = new.wrapping_add(1);
+        }
+        key = key.wrapping_add(step);
+    }
+    new
+}
+
+// Reads these keys over and over, until each is there. Returns how many reads found another key's value.
+fn wrong_reads(map: &Congee, first: u64, step: u64, count: u32) -> u32 {
+    let mut guard = map.pin();
+    let mut key = first;
+    let mut found = 0u32;
+    let mut wrong = 0u32;
+    for _ in 0..100_000_000u32 {
+        if found >= count {
+            return wrong;
+        }
+        if let Ok(Some(value)) = map.get(&mut guard, key) {
+            if value != key ^ 1 {
+                wrong = wrong.wrapping_add(1);
+            }
+            found += 1;
+            key = key.wrapping_add(step);
+        }
+    }
+    u32::MAX
+}
+
+// One thread inserts keys, and another reads them as they come.
+fn by_two<R: Threads + Sync>(rt: &R, alloc: Global, step: u64, count: u32) -> Option<(u32, u32)> {
+    let map = Congee::new(alloc).ok()?;
+    let shared = &map;
+    Some(join(
+        rt,
+        || filled(shared, alloc, 3, step, count),
+        || wrong_reads(shared, 3, step, count),
+    ))
+}
+
+#[test]
+fn a_reader_finds_what_a_writer_inserts(rt: HostRuntime) {
+    let near = by_two(&rt, rt.alloc(), 1, 2_000);
+    assert!(rt; near == Some((2_000, 0)));
+    let far = by_two(&rt, rt.alloc(), 0x0001000200030005, 60);
+    assert!(rt; far == Some((60, 0)));
+}
+
+// Two threads insert keys that lie between one another.
+fn by_writers<R: Threads + Sync>(rt: &R, alloc: Global) -> Option<(u32, u32, u32)> {
+    let map = Congee::new(alloc).ok()?;
+    let shared = &map;
+    let (even, odd) = join(
+        rt,
+        || filled(shared, alloc, 0, 2, 2_000),
+        || filled(shared, alloc, 1, 2, 2_000),
+    );
+    Some((even, odd, wrong_reads(shared, 0, 1, 4_000)))
+}
+
+#[test]
+fn two_writers_lose_nothing(rt: HostRuntime) {
+    assert!(rt; by_writers(&rt, rt.alloc()) == Some((2_000, 2_000, 0)));
+}
