@@ -91,6 +91,7 @@ size_t congee_c_frozen_range_descending(struct congee_const_frozen_handle *froze
 uint64_t congee_c_frozen_count(struct congee_const_frozen_handle *frozen);
 
 int32_t congee_c_shared_new(uint64_t limit, struct congee_shared_handle *out);
+int32_t congee_c_shared_new_sharded(uint64_t limit, struct congee_shared_handle *out);
 int32_t congee_c_shared_another(struct congee_shared_handle *handle, struct congee_shared_handle *out);
 void congee_c_shared_free(struct congee_shared_handle handle);
 int32_t congee_c_shared_get(struct congee_const_shared_handle *handle, uint64_t key, uint64_t *value);

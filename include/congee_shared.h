@@ -1,10 +1,11 @@
 /* congee_shared.h: a map from uint64_t to uint64_t that threads share, each by a handle of its own. C11 and C++11. MIT
  * license.
  *
- * congee.h includes this header. A handle is one caller of the map. All calls of one map are made one after the other,
- * under one lock. A call holds it no longer than it works: meanwhile it waits for no other call, and calls nothing of
- * the program but malloc, realloc and free. A call tries the lock a bounded number of times. If it is taken each time,
- * the map is busy: the call ends, and nothing has changed.
+ * congee.h includes this header. A handle is one caller of the map. A map is under one lock, or in 64 shards, each under
+ * a lock of its own. A call of one key takes the lock of its key's shard, and any other call those of all shards. A call
+ * holds them no longer than it works: meanwhile it waits for no other call, and calls nothing of the program but malloc,
+ * realloc and free. A call tries each lock a bounded number of times. If one is taken each time, the map is busy: the
+ * call gives back the others and ends, and nothing has changed.
  *
  *   - congee_shared_try_get and the others with `try` return CONGEE_BUSY then. They end whatever other threads do with
  *     the map.
@@ -49,7 +50,7 @@
 extern "C" {
 #endif
 
-/* What a call returns where the lock was taken at each of its tries. */
+/* What a call returns where a lock was taken at each of its tries. */
 #define CONGEE_BUSY (-2)
 
 /* A handle: one caller of a map that threads share. */
@@ -63,6 +64,17 @@ struct congee_shared;
 static inline int congee_shared_new(uint64_t limit, struct congee_shared **out) {
     struct congee_shared_handle made = {NULL};
     int code = congee_c_shared_new(limit, &made);
+    *out = made.guard;
+    return code;
+}
+
+/* The same of a map in 64 shards, for many threads. Keys that differ in their last eight bits alone are of one shard.
+ * Calls of keys of different shards go on side by side. A call that is not of one key takes 64 locks, and looks into 64
+ * trees. Each shard has a 64th of the limit, rounded down, so a call may be out of memory while other shards have room.
+ * The 64 first nodes take 134,656 bytes. */
+static inline int congee_shared_new_sharded(uint64_t limit, struct congee_shared **out) {
+    struct congee_shared_handle made = {NULL};
+    int code = congee_c_shared_new_sharded(limit, &made);
     *out = made.guard;
     return code;
 }

@@ -12,8 +12,9 @@ use std::thread;
 
 /// A map that threads share, each by a [`Guard`] of its own. Its calls are those of the guards, which take `&self`.
 ///
-/// All calls of one map are made one after the other, under one lock of the library. There is one order of the calls of all
-/// guards in which each reply is that of an ordered map. A guard's own calls are in it in their order, and each comes after
+/// The calls of a map are made under one lock of the library, or, of a map that [`sharded`](SharedMap::sharded) makes, under
+/// one of 64 locks, or all of them. There is one order of the calls of all guards in which each reply is that of an ordered
+/// map. A guard's own calls are in it in their order, and each comes after
 /// all that its guard had seen before.
 ///
 /// ```
@@ -69,8 +70,51 @@ impl SharedMap {
     /// assert!(SharedMap::with_limit(2103).is_err());
     /// ```
     pub fn with_limit(bytes: u64) -> Result<SharedMap, OutOfMemory> {
+        SharedMap::made_by(congee_c_shared_new, bytes)
+    }
+
+    /// An empty map in 64 shards, for many threads. Keys that differ in their last eight bits alone are of one shard. Calls
+    /// of keys of different shards go on side by side. A call that isn't of one key takes 64 locks, and looks into 64 trees.
+    ///
+    /// ```
+    /// # fn main() -> Result<(), proved_congee::OutOfMemory> {
+    /// let guard = proved_congee::SharedMap::sharded()?.pin()?;
+    /// for key in [1, 256, 1 << 40] {
+    ///     guard.insert(key, key + 1)?;
+    /// }
+    /// assert_eq!(guard.above(1), Some((256, 257)));
+    /// assert_eq!(guard.len(), 3);
+    /// # Ok(())
+    /// # }
+    /// ```
+    pub fn sharded() -> Result<SharedMap, OutOfMemory> {
+        SharedMap::sharded_with_limit(u64::MAX)
+    }
+
+    /// The same with a limit in bytes, of which each shard has a 64th, rounded down. So a call may be out of memory while
+    /// other shards have room. The 64 first nodes take 134,656 bytes.
+    ///
+    /// ```
+    /// use proved_congee::SharedMap;
+    ///
+    /// let map = SharedMap::sharded_with_limit(64 * (2104 + 64)).unwrap();
+    /// let guard = map.pin().unwrap();
+    /// // (keys of one shard, until it is full)
+    /// let stored = (0..100).take_while(|i| guard.insert(i << 40, 1).is_ok()).count();
+    /// assert!((1..100).contains(&stored));
+    /// assert_eq!(guard.insert(1 << 8, 1), Ok(None));
+    /// assert!(SharedMap::sharded_with_limit(64 * 2104 - 1).is_err());
+    /// ```
+    pub fn sharded_with_limit(bytes: u64) -> Result<SharedMap, OutOfMemory> {
+        SharedMap::made_by(congee_c_shared_new_sharded, bytes)
+    }
+
+    fn made_by(
+        make: unsafe extern "C" fn(u64, *mut SharedHandle) -> i32,
+        bytes: u64,
+    ) -> Result<SharedMap, OutOfMemory> {
         let mut made = SharedHandle::none();
-        match unsafe { congee_c_shared_new(bytes, &mut made) } {
+        match unsafe { make(bytes, &mut made) } {
             0 => Ok(SharedMap {
                 first: Mutex::new(Guard { guard: made.guard }),
                 limit: bytes,

@@ -172,6 +172,7 @@ extern "C" {
     ) -> usize;
     pub(crate) fn congee_c_frozen_count(frozen: *mut FrozenHandle) -> u64;
     pub(crate) fn congee_c_shared_new(limit: u64, out: *mut SharedHandle) -> i32;
+    pub(crate) fn congee_c_shared_new_sharded(limit: u64, out: *mut SharedHandle) -> i32;
     pub(crate) fn congee_c_shared_another(handle: *mut SharedHandle, out: *mut SharedHandle)
         -> i32;
     pub(crate) fn congee_c_shared_free(handle: SharedHandle);

@@ -1,12 +1,15 @@
 /* Mixed calls on a map that threads share, by two handles in turn and by one thread, beside the same calls on a map with one
- * owner. Each returns the same, writes the same, and is charged the same, under a limit that refuses some. No call is busy. */
+ * owner. Each returns the same, writes the same, and is charged the same, under a limit that refuses some. No call is busy.
+ * Then the same of a map in shards, which has a charge of its own and no limit, and its limits apart. */
 #include "congee.h"
 #include <inttypes.h>
 #include <stdio.h>
 #include <stdlib.h>
 #include <string.h>
 
-enum { CALLS = 1000000, KEYS = 2048, ROOM = 24, LIMIT = 20000 };
+enum { CALLS = 1000000, FEWER = 100000, KEYS = 2048, ROOM = 24, LIMIT = 20000, FIRST = 2104 };
+
+static bool sharded;
 
 static void need(bool holds, const char *what) {
     if (!holds) {
@@ -154,10 +157,14 @@ static void call_range(struct congee *map, struct congee_shared *shared, uint64_
 static void compare_counts(struct congee *map, struct congee_shared *shared) {
     uint64_t count = 99, charged = 99;
     need(congee_count(map) == congee_shared_count(shared), "count");
-    need(congee_charged(map) == congee_shared_charged(shared) && congee_charged(map) <= LIMIT, "charged");
+    if (sharded)
+        need(congee_count(map) ? congee_shared_charged(shared) >= 64 * FIRST : congee_shared_charged(shared) == 64 * FIRST,
+             "charged, of all shards");
+    else
+        need(congee_charged(map) == congee_shared_charged(shared) && congee_charged(map) <= LIMIT, "charged");
     need(congee_is_empty(map) == congee_shared_is_empty(shared), "is_empty");
     need(congee_shared_try_count(shared, &count) == 0 && count == congee_count(map), "count, tried");
-    need(congee_shared_try_charged(shared, &charged) == 0 && charged == congee_charged(map), "charged, tried");
+    need(congee_shared_try_charged(shared, &charged) == 0 && charged == congee_shared_charged(shared), "charged, tried");
     need(congee_shared_try_is_empty(shared) == (count == 0), "is_empty, tried");
 }
 
@@ -195,15 +202,15 @@ static void clear(struct congee *map, struct congee_shared *shared, bool waits) 
         need(congee_shared_try_clear(shared) == 0, "clear isn't busy");
 }
 
-int main(void) {
+/* So many calls. Returns how many of them the limit refused. */
+static uint64_t call_all(int calls, uint64_t limit) {
     struct congee *map;
     struct congee_shared *handles[2];
     uint64_t seed = 11, refused = 0;
-    congee_shared_free(NULL);
-    need(congee_shared_new(2103, &handles[0]) == CONGEE_OOM && handles[0] == NULL, "a limit below the first node's size");
-    need(congee_new_with_limit(&map, LIMIT) == 0 && congee_shared_new(LIMIT, &handles[0]) == 0, "the maps");
+    need(congee_new_with_limit(&map, limit) == 0, "a map with one owner");
+    need((sharded ? congee_shared_new_sharded(limit, &handles[0]) : congee_shared_new(limit, &handles[0])) == 0, "a map");
     need(congee_shared_another(handles[0], &handles[1]) == 0 && handles[1] != handles[0], "another handle");
-    for (int call = 0; call < CALLS; call++) {
+    for (int call = 0; call < calls; call++) {
         struct congee_shared *shared = handles[next(&seed) % 2];
         uint64_t key = key_of(next(&seed) % KEYS), kind = next(&seed) % 16;
         if (kind < 10)
@@ -226,7 +233,36 @@ int main(void) {
     call_each(map, handles[1], 0);
     congee_shared_free(handles[1]);
     congee_free(map);
+    return refused;
+}
+
+/* A shard has a 64th of the limit: room for its first node and little more. */
+static void try_limits(void) {
+    struct congee_shared *map;
+    uint64_t stored = 0;
+    int code;
+    need(congee_shared_new_sharded(64 * FIRST - 1, &map) == CONGEE_OOM && map == NULL, "a limit below the first nodes' sizes");
+    need(congee_shared_new_sharded(64 * (FIRST + 64), &map) == 0 && congee_shared_charged(map) == 64 * FIRST, "the first nodes");
+    /* (keys of one shard, until it is full) */
+    while ((code = congee_shared_insert(map, stored << 40, stored, NULL)) == 0)
+        stored++;
+    need(code == CONGEE_OOM && stored > 0, "a shard that is full");
+    need(congee_shared_insert(map, 1 << 8, 1, NULL) == 0, "another shard has room");
+    need(congee_shared_count(map) == stored + 1, "the pairs of both");
+    need(congee_shared_charged(map) <= 64 * (FIRST + 64), "the limit holds");
+    congee_shared_free(map);
+}
+
+int main(void) {
+    struct congee_shared *map;
+    uint64_t refused;
+    congee_shared_free(NULL);
+    need(congee_shared_new(FIRST - 1, &map) == CONGEE_OOM && map == NULL, "a limit below the first node's size");
+    refused = call_all(CALLS, LIMIT);
     need(refused > 1000, "calls that the limit refuses");
-    printf("%d calls, %" PRIu64 " of them refused\n", CALLS, refused);
+    sharded = true;
+    need(call_all(FEWER, UINT64_MAX) == 0, "no call is refused without a limit");
+    try_limits();
+    printf("%d calls, %" PRIu64 " of them refused\n", CALLS + FEWER, refused);
     return 0;
 }

@@ -1,4 +1,4 @@
-/* Threads change one map, each by a handle of its own. Each stored value is stored once, and each thread notes what its calls
+/* Threads change one map, each by a handle of its own: first one under one lock, then one in shards. Each stored value is stored once, and each thread notes what its calls
  * returned. Afterwards:
  *   - what is replaced or removed at a key, and what is there at the end, is what was stored there, each value once. So the
  *     writes of a key are one chain
@@ -38,9 +38,9 @@ static uint64_t next(uint64_t *state) { /* splitmix64 */
     return z ^ (z >> 31);
 }
 
-/* Keys below, within and above one leaf. */
+/* Keys below, within and above one leaf, of 34 shards. */
 static uint64_t key_of(uint64_t i) {
-    return i < 32 ? 240 + i : i == 63 ? UINT64_MAX : i << 40;
+    return i < 32 ? 240 + i : i == 63 ? UINT64_MAX : (i << 40) + (i << 8);
 }
 
 static uint64_t place_of(uint64_t key) {
@@ -208,12 +208,11 @@ static bool all(struct worker *workers, void *(*work)(void *)) {
     return true;
 }
 
-int main(int words, char **word) {
+static int load(int (*make)(uint64_t, struct congee_shared **), const char *kind) {
     static struct worker workers[MOST];
     struct congee_shared *first;
-    calls = words > 1 ? strtoull(word[1], NULL, 10) : calls;
-    threads = words > 2 ? strtoull(word[2], NULL, 10) : threads;
-    if (threads == 0 || threads >= MOST || congee_shared_new(UINT64_MAX, &first))
+    memset(workers, 0, sizeof workers);
+    if (threads == 0 || threads >= MOST || make(UINT64_MAX, &first))
         return 1;
     for (uint64_t i = 0; i < threads; i++) {
         workers[i].id = i + 1;
@@ -224,7 +223,7 @@ int main(int words, char **word) {
     if (!all(workers, apart) || congee_shared_count(first) != 0 || !all(workers, together))
         return 3;
     if (!is_chain(workers, first)) {
-        fprintf(stderr, "shared_load: wrong: the writes of a key aren't one chain\n");
+        fprintf(stderr, "shared_load: wrong: the writes of a key aren't one chain, of a map %s\n", kind);
         return 4;
     }
     uint64_t count = 0;
@@ -234,6 +233,13 @@ int main(int words, char **word) {
         congee_shared_free(workers[i].map);
     }
     congee_shared_free(first);
-    printf("%" PRIu64 " threads, the %" PRIu64 " writes of %d keys are chains\n", threads, count, KEYS);
+    printf("%" PRIu64 " threads, the %" PRIu64 " writes of %d keys are chains, of a map %s\n", threads, count, KEYS, kind);
     return 0;
+}
+
+int main(int words, char **word) {
+    calls = words > 1 ? strtoull(word[1], NULL, 10) : calls;
+    threads = words > 2 ? strtoull(word[2], NULL, 10) : threads;
+    int failed = load(congee_shared_new, "under one lock");
+    return failed ? failed : load(congee_shared_new_sharded, "in shards");
 }

@@ -70,6 +70,9 @@ static int enter(struct congee_shared *map, uint64_t i, uint64_t *old) {
     }
 }
 
+/* How a map is made: under one lock, or in shards. */
+static int (*make)(uint64_t, struct congee_shared **);
+
 /* Makes a map and a second handle, fills it by both and empties it by one, with so many requests granted. Returns whether one
  * was refused. */
 static bool fill(long granted, bool all) {
@@ -78,7 +81,7 @@ static bool fill(long granted, bool all) {
     left = granted;
     all_after = all;
     failed = 0;
-    if (congee_shared_new(UINT64_MAX, &one) == CONGEE_OOM)
+    if (make(UINT64_MAX, &one) == CONGEE_OOM)
         need(one == NULL && failed > 0, "what a refused map leaves");
     if (one && congee_shared_another(one, &other) == CONGEE_OOM)
         need(other == NULL && failed > 0, "what a refused handle leaves");
@@ -123,6 +126,12 @@ static int insert_with_limit(uint64_t limit) {
 
 int main(void) {
     long tried = 0;
+    make = congee_shared_new_sharded;
+    while (fill(tried, false) && fill(tried, true))
+        tried++;
+    need(tried > 64, "each shard takes memory");
+    tried = 0;
+    make = congee_shared_new;
     while (fill(tried, false) && fill(tried, true))
         tried++;
     need(tried > 10, "each node takes memory");

@@ -1,4 +1,4 @@
-/* What calls cost on a map that threads share, beside a map in a pthread_mutex_t: nanoseconds of wall time for each call of all
+/* What calls cost on a map that threads share, under one lock and in shards, beside a map in a pthread_mutex_t: nanoseconds of wall time for each call of all
  * threads together, the least of so many rounds, and of a thousand calls how many answers were CONGEE_BUSY.
  *
  *     shared_times [KEYS]... */
@@ -12,11 +12,14 @@
 
 enum { MOST = 4, ROUNDS = 5, CALLS = 200000 };
 
+/* The maps: in a mutex, under one lock, and in shards. */
+enum { MUTEX, SHARED, SHARDED, KINDS };
+
 struct worker {
     pthread_t thread;
-    int number;
-    bool is_shared, writes;
-    struct congee_shared *shared;
+    int number, kind;
+    bool writes;
+    struct congee_shared *shared[KINDS];
     uint64_t busy, sum;
     double began, ended;
 };
@@ -41,8 +44,9 @@ static double now(void) {
 
 static void call_shared(struct worker *worker, uint64_t key, bool writes) {
     uint64_t value = 0;
-    while ((writes ? congee_shared_try_insert(worker->shared, key, key, &value)
-                   : congee_shared_try_get(worker->shared, key, &value)) == CONGEE_BUSY) {
+    struct congee_shared *shared = worker->shared[worker->kind];
+    while ((writes ? congee_shared_try_insert(shared, key, key, &value) : congee_shared_try_get(shared, key, &value)) ==
+           CONGEE_BUSY) {
         worker->busy++;
         CONGEE_YIELD();
     }
@@ -68,22 +72,22 @@ static void *work(void *at) {
     for (int i = 0; i < CALLS; i++) {
         uint64_t number = next(&seed), key = keys[number % key_count];
         bool writes = worker->writes && number >> 63;
-        if (worker->is_shared)
-            call_shared(worker, key, writes);
-        else
+        if (worker->kind == MUTEX)
             call_locked(worker, key, writes);
+        else
+            call_shared(worker, key, writes);
     }
     worker->ended = now();
     return NULL;
 }
 
 /* The time for each call of so many threads, thread i on processor i, from the first one's start to the last one's end. */
-static double run(struct worker *workers, int threads, bool is_shared, bool writes, uint64_t *busy) {
+static double run(struct worker *workers, int threads, int kind, bool writes, uint64_t *busy) {
     cpu_set_t processor;
     double began = 1e18, ended = 0;
     pthread_barrier_init(&start, NULL, (unsigned)threads);
     for (int i = 0; i < threads; i++) {
-        workers[i].is_shared = is_shared;
+        workers[i].kind = kind;
         workers[i].writes = writes;
         workers[i].busy = 0;
         if (pthread_create(&workers[i].thread, NULL, work, &workers[i]))
@@ -105,36 +109,46 @@ static double run(struct worker *workers, int threads, bool is_shared, bool writ
 
 static int times(bool is_dense) {
     struct worker workers[MOST] = {{0}};
-    struct congee_shared *first;
+    struct congee_shared *first[KINDS] = {NULL};
     uint64_t seed = 1;
-    if (congee_new(&map) || congee_shared_new(UINT64_MAX, &first))
+    if (congee_new(&map) || congee_shared_new(UINT64_MAX, &first[SHARED]) ||
+        congee_shared_new_sharded(UINT64_MAX, &first[SHARDED]))
         return 1;
     for (uint64_t i = 0; i < key_count; i++) {
         keys[i] = is_dense ? i : next(&seed);
-        if (congee_insert(map, keys[i], i, NULL) < 0 || congee_shared_insert(first, keys[i], i, NULL) < 0)
+        if (congee_insert(map, keys[i], i, NULL) < 0)
             return 1;
+        for (int kind = SHARED; kind < KINDS; kind++)
+            if (congee_shared_insert(first[kind], keys[i], i, NULL) < 0)
+                return 1;
     }
     for (int i = 0; i < MOST; i++) {
         workers[i].number = i;
-        if (congee_shared_another(first, &workers[i].shared))
-            return 1;
+        for (int kind = SHARED; kind < KINDS; kind++)
+            if (congee_shared_another(first[kind], &workers[i].shared[kind]))
+                return 1;
     }
     for (int writes = 0; writes < 2; writes++)
         for (int threads = 1; threads <= MOST; threads *= 2) {
-            double least[2] = {1e18, 1e18};
-            uint64_t busy = 0, most = 0;
-            for (int round = 0; round < 2 * ROUNDS; round++) {
-                double time = run(workers, threads, round % 2, writes, &busy);
-                least[round % 2] = time < least[round % 2] ? time : least[round % 2];
-                most = busy > most ? busy : most;
+            double least[KINDS] = {1e18, 1e18, 1e18};
+            uint64_t busy = 0, most[KINDS] = {0};
+            for (int round = 0; round < KINDS * ROUNDS; round++) {
+                int kind = round % KINDS;
+                double time = run(workers, threads, kind, writes, &busy);
+                least[kind] = time < least[kind] ? time : least[kind];
+                most[kind] = busy > most[kind] ? busy : most[kind];
             }
-            printf("C     %8" PRIu64 " %-6s  %-11s by %d: mutex %7.1f  shared %7.1f  busy at most %.2f of 1000\n", key_count,
-                   is_dense ? "dense" : "random", writes ? "half writes" : "look-ups", threads, least[0], least[1],
-                   1000.0 * (double)most / CALLS / threads);
+            printf("C     %8" PRIu64 " %-6s  %-11s by %d: mutex %7.1f  shared %7.1f  in shards %7.1f  busy at most %.2f and %.2f of "
+                   "1000\n",
+                   key_count, is_dense ? "dense" : "random", writes ? "half writes" : "look-ups", threads, least[MUTEX],
+                   least[SHARED], least[SHARDED], 1000.0 * (double)most[SHARED] / CALLS / threads,
+                   1000.0 * (double)most[SHARDED] / CALLS / threads);
         }
-    for (int i = 0; i < MOST; i++)
-        congee_shared_free(workers[i].shared);
-    congee_shared_free(first);
+    for (int kind = SHARED; kind < KINDS; kind++) {
+        for (int i = 0; i < MOST; i++)
+            congee_shared_free(workers[i].shared[kind]);
+        congee_shared_free(first[kind]);
+    }
     congee_free(map);
     return 0;
 }

@@ -1,5 +1,6 @@
 //! Guards of a `SharedMap`: a million mixed calls by two of them in turn, each answer compared with that of a `BTreeMap`. Then
-//! threads that change one map by every call, so that sums and counts have to agree.
+//! threads that change one map by every call, so that sums and counts have to agree. Each with a map under one lock, and with one
+//! in shards.
 
 use proved_congee::{Busy, Guard, OutOfMemory, Pair, SharedMap, TryError};
 use std::collections::BTreeMap;
@@ -7,6 +8,7 @@ use std::sync::OnceLock;
 use std::thread;
 
 const CALLS: u64 = 1_000_000;
+const FEWER: u64 = 100_000;
 const THREADS: u64 = 4;
 const EACH: u64 = 50_000;
 
@@ -201,11 +203,10 @@ fn end(guard: &Guard, plain: &mut Plain, at: u64, seed: &mut u64) {
     }
 }
 
-fn against_btree() -> Result<(), OutOfMemory> {
-    let map = SharedMap::new()?;
+fn against_btree(map: SharedMap, calls: u64) -> Result<(), OutOfMemory> {
     let guards = [map.pin()?, map.try_clone()?.pin()?];
     let (mut plain, mut seed) = (Plain::new(), 7);
-    for call in 0..CALLS {
+    for call in 0..calls {
         let guard = &guards[(call % 2) as usize];
         let (at, value) = (key(&mut seed), next(&mut seed) % 4);
         match next(&mut seed) % 16 {
@@ -227,7 +228,8 @@ fn against_btree() -> Result<(), OutOfMemory> {
 /// A thread's calls. Each adds to a counter by one of the ways to, and a call that doesn't wait is made again while it is busy.
 fn raise(guard: &Guard, number: u64) -> Result<(), OutOfMemory> {
     for i in 0..EACH {
-        let at = (i * 7 + number) % 16;
+        // (of 16 shards, where there are shards)
+        let at = ((i * 7 + number) % 16) << 8;
         match i % 4 {
             0 => {
                 guard.add(at, 1)?;
@@ -262,8 +264,7 @@ fn raise(guard: &Guard, number: u64) -> Result<(), OutOfMemory> {
     Ok(())
 }
 
-fn side_by_side() -> Result<(), OutOfMemory> {
-    let map = SharedMap::new()?;
+fn side_by_side(map: SharedMap) -> Result<(), OutOfMemory> {
     thread::scope(|scope| {
         let threads: Vec<_> = (0..THREADS)
             .map(|number| {
@@ -301,12 +302,15 @@ fn in_a_static() {
 }
 
 fn main() -> Result<(), OutOfMemory> {
-    against_btree()?;
-    side_by_side()?;
+    against_btree(SharedMap::new()?, CALLS)?;
+    against_btree(SharedMap::sharded()?, FEWER)?;
+    side_by_side(SharedMap::new()?)?;
+    side_by_side(SharedMap::sharded()?)?;
     in_a_static();
     println!(
-        "{CALLS} calls by one thread, {} by {THREADS}",
-        THREADS * EACH
+        "{} calls by one thread, {} by {THREADS}",
+        CALLS + FEWER,
+        2 * THREADS * EACH
     );
     Ok(())
 }

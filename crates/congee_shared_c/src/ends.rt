@@ -12,8 +12,8 @@ ghost use Rattle.congee_shared_c.specs.Answer.{oom, busy};
 
 use crate::handle::Handle;
 use crate::{BUSY, OOM, Pair};
-use share_calls::state::Missed;
-use share_works::near::Near;
+use share_calls::guard::Missed;
+use share_visits::near::Near;
 
 /// Writes the pair with the least key to `pair` and answers 1, or answers 0 for an empty map, or `BUSY`. Takes no memory.
 #[unsafe(no_mangle)]

@@ -1,7 +1,7 @@
 //! A map from `u64` to `u64` that the threads of a C or Rust program share, each by a handle of its own.
 //!
-//! A call tries the map's lock a bounded number of times. If it is taken each time, the call answers `BUSY`, and nothing
-//! has changed. Else its reply is the map's at the end of one legal history, which begins with what this handle had seen
+//! A call tries the lock of its key's shard a bounded number of times, or those of all shards. If one is taken each time,
+//! the call answers `BUSY`, and nothing has changed. Else its reply is the map's at the end of one legal history, which begins with what this handle had seen
 //! (`MadeCall`). A call doesn't move what a handle holds (`place`), so C may keep its address alone.
 //!
 //! An answer is an `i32`: 0, 1 or 2 with the meaning that each call documents, `OOM` or `BUSY`.
@@ -31,15 +31,14 @@ mod whole;
 pub use handle::Handle;
 use held::Held;
 pub use room::Room;
-use share_calls::guard::Guard;
-use share_calls::state::Missed;
+use share_calls::guard::{Guard, Missed};
 use std::alloc::Global;
 use tree_walk::range_scan::RangeEntry;
 
 /// There was no memory.
 const OOM: i32 = -1;
 
-/// The lock was taken at each try.
+/// A lock that the call needs was taken at each try.
 const BUSY: i32 = -2;
 
 /// A key and its value: 16 bytes.
@@ -58,17 +57,42 @@ impl RangeEntry for Pair {
     }
 }
 
-/// Writes the first handle of a new, empty map to `out` and answers 0, or answers `OOM` and writes nothing. The stated
-/// sizes of the map's nodes are charged to a limit in bytes, which refuses what goes past it; `u64::MAX` is no limit.
+/// Writes the first handle of a new, empty map under one lock to `out` and answers 0, or answers `OOM` and writes nothing.
+/// The stated sizes of the map's nodes are charged to a limit in bytes, which refuses what goes past it; `u64::MAX` is no
+/// limit.
 #[unsafe(no_mangle)]
 pub extern "C" fn congee_c_shared_new(alloc: Global, limit: u64, out: &mut Room) -> i32
     requires { out.old.held ≡ None }
     ensures code { (result ≡ pos 0) ⊎ (result ≡ oom) }
     ensures made { result ≡ pos 0 → IsSome out.new.held }
     ensures unseen { result ≡ pos 0 → IfSome out.new.held (λ held. held.guard.seen ≡ []) }
+    ensures shards { result ≡ pos 0
+        → IfSome out.new.held (λ held. held.guard.table.slots ≡ 1) }
     ensures refused { result ≡ oom → out.new ≡ out.old }
 {
     let Ok(guard) = Guard::first(alloc, limit) else {
+        return OOM;
+    };
+    let Ok(handle) = Handle::new(alloc, Held { guard }) else {
+        return OOM;
+    };
+    *out = Room::of(handle);
+    0
+}
+
+/// The same of a map in 64 shards, each under a lock of its own, for many threads. Keys that differ in their last eight
+/// bits alone are of one shard. Each shard has a 64th of the limit, rounded down, and its first node is charged to it.
+#[unsafe(no_mangle)]
+pub extern "C" fn congee_c_shared_new_sharded(alloc: Global, limit: u64, out: &mut Room) -> i32
+    requires { out.old.held ≡ None }
+    ensures code { (result ≡ pos 0) ⊎ (result ≡ oom) }
+    ensures made { result ≡ pos 0 → IsSome out.new.held }
+    ensures unseen { result ≡ pos 0 → IfSome out.new.held (λ held. held.guard.seen ≡ []) }
+    ensures shards { result ≡ pos 0
+        → IfSome out.new.held (λ held. held.guard.table.slots ≡ 64) }
+    ensures refused { result ≡ oom → out.new ≡ out.old }
+{
+    let Ok(guard) = Guard::first_sharded(alloc, limit) else {
         return OOM;
     };
     let Ok(handle) = Handle::new(alloc, Held { guard }) else {

@@ -2,7 +2,7 @@
 //!
 //! Tested in `tools/c-library`.
 
-ghost use Rattle.std.specs.Prelude.{◌≡◌, ◌⊎◌, ℕ, true, false, length, pos};
+ghost use Rattle.std.specs.Prelude.{◌≡◌, ◌⊎◌, ℕ, List, true, false, length, pos};
 ghost use Rattle.node_stats.specs.LevelCounts.{capped};
 ghost use Rattle.node_table.specs.Charge.{BudgetView};
 ghost use Rattle.spec_map.specs.Call.{count, counted, is_empty, tested};
@@ -11,6 +11,7 @@ ghost use Rattle.spec_olc.specs.Runs.{same_number};
 ghost use Rattle.tree_edit.specs.Tree.{TreeView};
 ghost use Rattle.tree_edit.specs.TreeCalls.{IsChargeOf};
 ghost use Rattle.share_rule.specs.Known.{MadeCall, MadeCalls};
+ghost use Rattle.share_visits.specs.Charged.{IsChargeOfAll, sum_of};
 ghost use Rattle.share_works.specs.Made.{returned, clearing};
 ghost use Rattle.congee_shared_c.specs.Answer.{busy};
 
@@ -62,14 +63,16 @@ pub extern "C" fn congee_c_shared_is_empty(handle: &mut Handle, out: &mut u64) -
 }
 
 /// Writes the sum in bytes of the stated sizes of the map's nodes to `out`, which saturates at `u64::MAX`, and answers 0,
-/// or answers `BUSY`. The sum is of the tree of one moment, whose pairs were counted then. Takes constant time.
+/// or answers `BUSY`. The sum is of the trees of one moment, one for each shard, whose pairs were counted then. Takes
+/// constant time.
 #[unsafe(no_mangle)]
 pub extern "C" fn congee_c_shared_charged(handle: &mut Handle, out: &mut u64) -> i32
     ensures code { (result ≡ pos 0) ⊎ (result ≡ busy) }
-    ensures made { result ≡ pos 0 → (tree : TreeView ℕ BudgetView) × (bytes : ℕ)
+    ensures made { result ≡ pos 0 → (trees : List (TreeView ℕ BudgetView)) × (bytes : ℕ)
+        × (length trees ≡ handle.old.held.guard.table.slots)
         × MadeCall same_number handle.old.held.guard
-        (returned count (counted (length tree.pairs))) handle.new.held.guard
-        × IsChargeOf tree bytes × (out.new ≡ capped bytes) }
+        (returned count (counted (sum_of (λ tree. length tree.pairs) trees))) handle.new.held.guard
+        × IsChargeOfAll IsChargeOf trees bytes × (out.new ≡ capped bytes) }
     ensures missed { result ≡ busy → (handle.new.held ≡ handle.old.held) × (out.new ≡ out.old) }
     ensures place { handle.new.ptr ≡ handle.old.ptr }
 {

@@ -56,7 +56,8 @@ pub trait Lent<P, T>: Drop {
     fn seat(&mut self) -> Result<u64, OOMError>
         ensures content { (m : Pairs T) → content self.old m → content self.new m }
         ensures entries { entries self.new ≡ entries self.old }
-        ensures ok { IfOk result (λ id. (place self.old id ≡ None) × (place self.new id ≡ Some Ready)
+        ensures ok { IfOk result (λ id. (place self.old id ≡ None)
+            × (place self.new id ≡ Some Ready)
             × ((k : ℕ) → k ≢ id → place self.new k ≡ place self.old k)) }
         ensures err { OnErr result ((k : ℕ) → place self.new k ≡ place self.old k) };
 
@@ -71,9 +72,12 @@ pub trait Lent<P, T>: Drop {
     /// refusal leaves everything unchanged. The clauses on the call after the event hold only if the number was ready.
     fn open(&mut self, id: u64, op: &Op<P>) -> Result<EventResult<P>, StartError>
         ensures opens { place self.old id ≡ Some Ready → IfOk result (λ event.
-            Opens (outline_of op.now) (op_of meaning op.now) (place self.new id) (outcome_of meaning event.outcome)) }
-        ensures content { IfOk result (λ event. (m : Pairs T) → content self.old m → (n : Pairs T) × content self.new n
-            × Changes same (Running (outline_of op.now) (op_of meaning op.now) Fresh) m n (outcome_of meaning event.outcome)) }
+            Opens (outline_of op.now) (op_of meaning op.now) (place self.new id)
+            (outcome_of meaning event.outcome)) }
+        ensures content { IfOk result (λ event. (m : Pairs T) → content self.old m
+            → (n : Pairs T) × content self.new n
+            × Changes same (Running (outline_of op.now) (op_of meaning op.now) Fresh) m n
+            (outcome_of meaning event.outcome)) }
         ensures counts { Counts op.now (reply_opened result) (entries self.old) (entries self.new) }
         ensures err { OnErr result ((k : ℕ) → place self.new k ≡ place self.old k) }
         ensures refused { OnErr result ((m : Pairs T) → content self.old m → content self.new m) }
@@ -84,12 +88,16 @@ pub trait Lent<P, T>: Drop {
     /// number is known to have a call of the same kind and keys as `op`.
     fn step(&mut self, id: u64, op: &Op<P>, env: Env<P>) -> EventResult<P>
         ensures turns { (p : CallStage T) → place self.old id ≡ Some p → IsOf (outline_of op.now) p
-            → Turns p (in_some meaning env.answer) result.report.kind (place self.new id) (outcome_of meaning result.outcome) }
-        ensures content { (p : CallStage T) → place self.old id ≡ Some p → IsOf (outline_of op.now) p
+            → Turns p (in_some meaning env.answer) result.report.kind (place self.new id)
+            (outcome_of meaning result.outcome) }
+        ensures content { (p : CallStage T) → place self.old id ≡ Some p
+            → IsOf (outline_of op.now) p
             → (m : Pairs T) → content self.old m → (n : Pairs T) × content self.new n
             × Changes same p m n (outcome_of meaning result.outcome) }
-        ensures counts { Counts op.now (reply_in result.outcome) (entries self.old) (entries self.new) }
-        ensures others { (p : CallStage T) → place self.old id ≡ Some p → IsOf (outline_of op.now) p
+        ensures counts { Counts op.now (reply_in result.outcome)
+            (entries self.old) (entries self.new) }
+        ensures others { (p : CallStage T) → place self.old id ≡ Some p
+            → IsOf (outline_of op.now) p
             → (k : ℕ) → k ≢ id → place self.new k ≡ place self.old k };
 
     /// Reclaims one slot that may be reclaimed, if there is one.

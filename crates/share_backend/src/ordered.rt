@@ -3,7 +3,8 @@
 //! Tested in `test_share_ends`.
 
 ghost use Rattle.std.specs.Prelude.{◌≡◌, ◌+◌, ◌++◌, ℕ, [], length, map, min, take, drop, reverse};
-ghost use Rattle.congee_tree.specs.Bulk.{outside};
+ghost use Rattle.std.specs.List.{FoldsTo};
+ghost use Rattle.congee_tree.specs.Bulk.{outside, Retains};
 ghost use Rattle.spec_map.specs.Map.{Pairs, IsMap, between};
 ghost use Rattle.spec_map.specs.Near.{first_of, last_of, floor_of, below_of, ceiling_of, above_of, without_pair};
 
@@ -52,10 +53,11 @@ pub trait Ordered: Pages {
     /// Writes the first pairs with `start <= key < end` to the buffer, ascending, and returns how many. The places after
     /// them stay unchanged.
     fn pairs_from<E: RangeEntry>(&self, start: u64, end: u64, buffer: &mut [E]) -> usize
-        ensures count { result ≡ min (length buffer.old) (length (between (pairs self.now) start end)) }
-        ensures written { buffer.new
-            ≡ take result (map (λ pair. E.entry pair.0 pair.1) (between (pairs self.now) start end))
-            ++ drop result buffer.old };
+        ensures count { result
+            ≡ min (length buffer.old) (length (between (pairs self.now) start end)) }
+        ensures written { let found = between (pairs self.now) start end in
+            let entries = map (λ pair. E.entry pair.0 pair.1) found in
+            buffer.new ≡ take result entries ++ drop result buffer.old };
 
     /// The same for `start <= key <= last`.
     fn pairs_to<E: RangeEntry>(&self, start: u64, last: u64, buffer: &mut [E]) -> usize
@@ -94,5 +96,28 @@ pub trait Ordered: Pages {
     fn remove_range(&mut self, start: u64, end: u64) -> u128
         ensures count { result ≡ length (between (pairs self.old) start end) }
         ensures pairs { pairs self.new ≡ outside (pairs self.old) start end }
+        ensures places { (k : ℕ) → Self.place self.new k ≡ Self.place self.old k };
+
+    /// Removes the pairs with `start <= key <= last`, and returns how many.
+    fn remove_range_inclusive(&mut self, start: u64, last: u64) -> u128
+        ensures count { result ≡ length (between (pairs self.old) start (last + 1)) }
+        ensures pairs { pairs self.new ≡ outside (pairs self.old) start (last + 1) }
+        ensures places { (k : ℕ) → Self.place self.new k ≡ Self.place self.old k };
+
+    /// Removes the pairs with `start <= key < end`, and calls the closure with each once, keys ascending.
+    fn extract_range<F: FnMut(u64, u64)>(&mut self, start: u64, end: u64, f: &mut F)
+        requires { F.IsAlwaysCallable f.old }
+        ensures callable { F.IsAlwaysCallable f.new }
+        ensures calls { FoldsTo (λ state pair next. F.step state pair.0 pair.1 tt next)
+            f.old (between (pairs self.old) start end) f.new }
+        ensures pairs { pairs self.new ≡ outside (pairs self.old) start end }
+        ensures places { (k : ℕ) → Self.place self.new k ≡ Self.place self.old k };
+
+    /// Asks the closure about each pair once, keys ascending, and removes those for which it returns false.
+    fn retain<F: FnMut(u64, u64) -> bool>(&mut self, f: &mut F)
+        requires { F.IsAlwaysCallable f.old }
+        ensures callable { F.IsAlwaysCallable f.new }
+        ensures retains { Retains (λ state pair stays next. F.step state pair.0 pair.1 stays next)
+            f.old (pairs self.old) (pairs self.new) f.new }
         ensures places { (k : ℕ) → Self.place self.new k ≡ Self.place self.old k };
 }

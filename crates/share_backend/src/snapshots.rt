@@ -50,13 +50,15 @@ pub trait Snapshots<P, T>: Lent<P, T> {
 
     /// The least pair whose key isn't below `start`, if there is one. Takes no memory.
     fn pair_from(&self, start: u64) -> Option<(u64, &P)>
-        ensures { (m : Pairs T) × Self.content self.now m × MatchOption result (from_key start m ≡ [])
+        ensures { (m : Pairs T) × Self.content self.now m
+            × MatchOption result (from_key start m ≡ [])
             (λ pair. first_pair (from_key start m) ≡ Some (pair.0, Self.meaning pair.1.now)) };
 
     /// The sums over the reachable nodes by level and form, and the number of pairs. `OOMError` if there is no memory
     /// for the levels.
     fn stats(&self) -> Result<NodeStats, OOMError>
-        ensures levels { IfOk result (λ stats. IsTally (visits_below 0 (nodes self.now)) stats.levels) }
+        ensures levels { IfOk result (λ stats.
+            IsTally (visits_below 0 (nodes self.now)) stats.levels) }
         ensures pairs { IfOk result (λ stats. stats.kv_pairs ≡ capped (Self.entries self.now)) };
 }
 
@@ -73,7 +75,8 @@ pub trait Pages: Snapshots<u64, u64> {
     fn page<E: RangeEntry>(&self, start: u64, end: u64, buffer: &mut [E]) -> Option<usize>
         ensures written { IfSome result (λ count. (m : Pairs ℕ) × Self.content self.now m
             × (count ≡ min (length buffer.old) (length (between m start end)))
-            × (buffer.new ≡ take count (map (λ pair. E.entry pair.0 pair.1) (between m start end)) ++ drop count buffer.old)) }
+            × (buffer.new ≡ take count (map (λ pair. E.entry pair.0 pair.1) (between m start end))
+            ++ drop count buffer.old)) }
         ensures none { result ≡ None → buffer.new ≡ buffer.old };
 }
 

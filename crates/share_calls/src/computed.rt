@@ -8,11 +8,12 @@ ghost use Rattle.spec_olc.specs.Runs.{same_number};
 ghost use Rattle.share_rule.specs.Known.{MadeCall};
 ghost use Rattle.share_calls.specs.Computed.{computed_from, sum_with};
 
-use crate::guard::Guard;
-use crate::state::{Missed, State};
+use crate::guard::{Guard, Missed};
 use face_typed::typed_congee::Congee;
 use node_table::allocator::Budget;
-use share_rule::work::Work;
+use share_moments::state::State;
+use share_shards::work::Work;
+use share_visits::part::Part;
 use spec_map::error::OOMError;
 
 #[derive(Drop)]
@@ -22,19 +23,24 @@ struct Add {
     put: Result<Option<u64>, OOMError>,
 }
 
-impl Work<u64, (), State, ()> for Add {
+impl Work<u64, Part<State>, ()> for Add {
     ghost use Rattle.std.specs.Prelude.{◌≡◌};
     ghost use Rattle.share_calls.specs.Computed.{sum_with};
+    ghost use Rattle.share_visits.specs.Whole.{shard_of};
     ghost use Rattle.share_calls.specs.inner.Attempts.{computation};
 
     ghost made = { λ w _. computation w.key (λ before. sum_with before w.number) w.put };
 
+    ghost suits = { λ _ _. Unit {0} };
+
+    ghost place = { λ w shards. shard_of shards w.key };
+
     ghost does = { λ old _ _ new _. (new.key ≡ old.key) × (new.number ≡ old.number) };
 
-    #[tactic(auto, using(crate::proofs::Computing::computation_goes))]
-    fn work(&mut self, value: &mut State, buffer: &mut [()]) {
+    #[tactic(auto, using(crate::proofs::Computing::computation_goes, crate::proofs::Places::computation_within))]
+    fn work(&mut self, value: &mut Part<State>, buffer: &mut [()]) {
         let _ = buffer;
-        self.put = add_to(&mut value.map, self.key, self.number);
+        self.put = add_to(&mut value.map.map, self.key, self.number);
     }
 }
 
@@ -45,18 +51,23 @@ struct GetOrInsert {
     put: Result<Option<u64>, OOMError>,
 }
 
-impl Work<u64, (), State, ()> for GetOrInsert {
+impl Work<u64, Part<State>, ()> for GetOrInsert {
     ghost use Rattle.std.specs.Prelude.{◌≡◌, unwrap_or};
+    ghost use Rattle.share_visits.specs.Whole.{shard_of};
     ghost use Rattle.share_calls.specs.inner.Attempts.{computation};
 
     ghost made = { λ w _. computation w.key (λ before. unwrap_or before w.value) w.put };
 
+    ghost suits = { λ _ _. Unit {0} };
+
+    ghost place = { λ w shards. shard_of shards w.key };
+
     ghost does = { λ old _ _ new _. (new.key ≡ old.key) × (new.value ≡ old.value) };
 
-    #[tactic(auto, using(crate::proofs::Computing::computation_goes))]
-    fn work(&mut self, value: &mut State, buffer: &mut [()]) {
+    #[tactic(auto, using(crate::proofs::Computing::computation_goes, crate::proofs::Places::computation_within))]
+    fn work(&mut self, value: &mut Part<State>, buffer: &mut [()]) {
         let _ = buffer;
-        self.put = put_if_absent(&mut value.map, self.key, self.value);
+        self.put = put_if_absent(&mut value.map.map, self.key, self.value);
     }
 }
 
@@ -108,7 +119,7 @@ impl Guard {
             number,
             put: Ok(None),
         };
-        if !self.make(&mut work, &mut []) {
+        if !self.make(key, &mut work) {
             return Err(Missed::Busy);
         }
         match work.put {
@@ -129,7 +140,7 @@ impl Guard {
             value,
             put: Ok(None),
         };
-        if !self.make(&mut work, &mut []) {
+        if !self.make(key, &mut work) {
             return Err(Missed::Busy);
         }
         match work.put {

@@ -1,5 +1,5 @@
-//! The calls of a map from `u64` to `u64` that threads share where none of them may wait: each is one hold of the lock,
-//! which a bounded number of tries takes, or isn't made.
+//! The calls of a map from `u64` to `u64` that threads share where none of them may wait: each is one hold of a lock, or of
+//! the locks of all shards, which a bounded number of tries takes, or isn't made.
 //!
 //! Tested in `tools/c-library`.
 #![tactic(auto)]
@@ -9,5 +9,4 @@ pub mod ends;
 pub mod guard;
 pub mod points;
 pub mod ranges;
-pub mod state;
 pub mod whole;

@@ -8,9 +8,10 @@ ghost use Rattle.spec_olc.specs.Runs.{same_number};
 ghost use Rattle.share_rule.specs.Known.{MadeCall};
 ghost use Rattle.share_works.specs.Made.{returned};
 
-use crate::guard::Guard;
-use crate::state::{Missed, State};
-use share_rule::work::Work;
+use crate::guard::{Guard, Missed};
+use share_moments::state::State;
+use share_shards::work::Work;
+use share_visits::part::Part;
 use spec_map::error::OOMError;
 
 #[derive(Drop)]
@@ -19,18 +20,24 @@ struct Get {
     found: Option<u64>,
 }
 
-impl Work<u64, (), State, ()> for Get {
+impl Work<u64, Part<State>, ()> for Get {
     ghost use Rattle.std.specs.Prelude.{◌≡◌, [], ◌∷◌};
     ghost use Rattle.spec_map.specs.Call.{get, old_value};
+    ghost use Rattle.share_visits.specs.Whole.{shard_of};
     ghost use Rattle.share_works.specs.Made.{returned};
 
     ghost made = { λ w _. returned (get w.key) (old_value w.found) ∷ [] };
 
+    ghost suits = { λ _ _. Unit {0} };
+
+    ghost place = { λ w shards. shard_of shards w.key };
+
     ghost does = { λ old _ _ new _. new.key ≡ old.key };
 
-    fn work(&mut self, value: &mut State, buffer: &mut [()]) {
+    #[tactic(auto, using(crate::proofs::Places::in_its_shard))]
+    fn work(&mut self, value: &mut Part<State>, buffer: &mut [()]) {
         let _ = buffer;
-        self.found = value.map.get(&self.key);
+        self.found = value.map.map.get(&self.key);
     }
 }
 
@@ -41,17 +48,23 @@ struct Insert {
     put: Result<Option<u64>, OOMError>,
 }
 
-impl Work<u64, (), State, ()> for Insert {
+impl Work<u64, Part<State>, ()> for Insert {
     ghost use Rattle.std.specs.Prelude.{◌≡◌};
+    ghost use Rattle.share_visits.specs.Whole.{shard_of};
     ghost use Rattle.share_calls.specs.inner.Attempts.{insertion};
 
     ghost made = { λ w _. insertion w.key w.value w.put };
 
+    ghost suits = { λ _ _. Unit {0} };
+
+    ghost place = { λ w shards. shard_of shards w.key };
+
     ghost does = { λ old _ _ new _. (new.key ≡ old.key) × (new.value ≡ old.value) };
 
-    fn work(&mut self, value: &mut State, buffer: &mut [()]) {
+    #[tactic(auto, using(crate::proofs::Places::insertion_within))]
+    fn work(&mut self, value: &mut Part<State>, buffer: &mut [()]) {
         let _ = buffer;
-        self.put = value.map.insert(self.key, self.value);
+        self.put = value.map.map.insert(self.key, self.value);
     }
 }
 
@@ -61,18 +74,24 @@ struct Remove {
     before: Option<u64>,
 }
 
-impl Work<u64, (), State, ()> for Remove {
+impl Work<u64, Part<State>, ()> for Remove {
     ghost use Rattle.std.specs.Prelude.{◌≡◌, [], ◌∷◌};
     ghost use Rattle.spec_map.specs.Call.{remove, old_value};
+    ghost use Rattle.share_visits.specs.Whole.{shard_of};
     ghost use Rattle.share_works.specs.Made.{returned};
 
     ghost made = { λ w _. returned (remove w.key) (old_value w.before) ∷ [] };
 
+    ghost suits = { λ _ _. Unit {0} };
+
+    ghost place = { λ w shards. shard_of shards w.key };
+
     ghost does = { λ old _ _ new _. new.key ≡ old.key };
 
-    fn work(&mut self, value: &mut State, buffer: &mut [()]) {
+    #[tactic(auto, using(crate::proofs::Places::in_its_shard))]
+    fn work(&mut self, value: &mut Part<State>, buffer: &mut [()]) {
         let _ = buffer;
-        self.before = value.map.remove(&self.key);
+        self.before = value.map.map.remove(&self.key);
     }
 }
 
@@ -84,21 +103,27 @@ struct Exchange {
     result: Result<Option<u64>, Option<u64>>,
 }
 
-impl Work<u64, (), State, ()> for Exchange {
+impl Work<u64, Part<State>, ()> for Exchange {
     ghost use Rattle.std.specs.Prelude.{◌≡◌, [], ◌∷◌, IfOk};
     ghost use Rattle.spec_map.specs.Call.{compare_exchange, exchanged};
+    ghost use Rattle.share_visits.specs.Whole.{shard_of};
     ghost use Rattle.share_works.specs.Made.{returned};
 
     ghost made = { λ w _.
         returned (compare_exchange w.key w.expected w.desired) (exchanged w.result) ∷ [] };
 
+    ghost suits = { λ _ _. Unit {0} };
+
+    ghost place = { λ w shards. shard_of shards w.key };
+
     ghost does = { λ old _ _ new _. (new.key ≡ old.key) × (new.expected ≡ old.expected)
         × (new.desired ≡ old.desired) × IfOk new.result (λ stored. stored ≡ old.desired) };
 
-    #[tactic(auto, using(crate::proofs::Exchanging::exchange_goes, crate::proofs::Exchanging::stored_is))]
-    fn work(&mut self, value: &mut State, buffer: &mut [()]) {
+    #[tactic(auto, using(crate::proofs::Places::in_its_shard, crate::proofs::Exchanging::exchange_goes, crate::proofs::Exchanging::stored_is))]
+    fn work(&mut self, value: &mut Part<State>, buffer: &mut [()]) {
         let _ = buffer;
         self.result = value
+            .map
             .map
             .compare_exchange(&self.key, &self.expected, self.desired);
     }
@@ -113,7 +138,7 @@ impl Guard {
         ensures free { result ≢ Err Missed.Oom }
     {
         let mut work = Get { key, found: None };
-        if !self.make(&mut work, &mut []) {
+        if !self.make(key, &mut work) {
             return Err(Missed::Busy);
         }
         Ok(work.found)
@@ -130,7 +155,7 @@ impl Guard {
             value,
             put: Ok(None),
         };
-        if !self.make(&mut work, &mut []) {
+        if !self.make(key, &mut work) {
             return Err(Missed::Busy);
         }
         match work.put {
@@ -147,7 +172,7 @@ impl Guard {
         ensures free { result ≢ Err Missed.Oom }
     {
         let mut work = Remove { key, before: None };
-        if !self.make(&mut work, &mut []) {
+        if !self.make(key, &mut work) {
             return Err(Missed::Busy);
         }
         Ok(work.before)
@@ -172,7 +197,7 @@ impl Guard {
             desired,
             result: Err(None),
         };
-        if !self.make(&mut work, &mut []) {
+        if !self.make(key, &mut work) {
             return Err(Missed::Busy);
         }
         Ok(work.result)

@@ -9,9 +9,8 @@ ghost use Rattle.spec_olc.specs.Runs.{same_number};
 ghost use Rattle.share_rule.specs.Known.{MadeCall, MadeCalls};
 ghost use Rattle.share_works.specs.Made.{returned, listing};
 
-use crate::guard::Guard;
-use crate::state::Missed;
-use share_works::ranges::{Range, RangeDescending, RangeInclusive};
+use crate::guard::{Guard, Missed};
+use share_moments::ranges::{hold_range, hold_range_descending, hold_range_inclusive};
 use tree_walk::range_scan::RangeEntry;
 
 impl Guard {
@@ -32,16 +31,10 @@ impl Guard {
         ensures missed { OnErr result ((self.new ≡ self.old) × (buffer.new ≡ buffer.old)) }
         ensures free { result ≢ Err Missed.Oom }
     {
-        let mut work = Range {
-            start,
-            end,
-            room: buffer.len(),
-            written: 0,
-        };
-        if !self.make(&mut work, buffer) {
+        let Some(written) = hold_range(&self.lock, &mut self.seat, start, end, buffer) else {
             return Err(Missed::Busy);
-        }
-        Ok(work.written)
+        };
+        Ok(written)
     }
 
     /// As `range`, with the pair at `last` too, which can be the greatest key.
@@ -60,16 +53,11 @@ impl Guard {
         ensures missed { OnErr result ((self.new ≡ self.old) × (buffer.new ≡ buffer.old)) }
         ensures free { result ≢ Err Missed.Oom }
     {
-        let mut work = RangeInclusive {
-            start,
-            last,
-            room: buffer.len(),
-            written: 0,
-        };
-        if !self.make(&mut work, buffer) {
+        let Some(written) = hold_range_inclusive(&self.lock, &mut self.seat, start, last, buffer)
+        else {
             return Err(Missed::Busy);
-        }
-        Ok(work.written)
+        };
+        Ok(written)
     }
 
     /// Writes the last pairs with keys from `start` to `last`, both included, to the buffer, descending, as many as
@@ -88,14 +76,10 @@ impl Guard {
         ensures missed { OnErr result ((self.new ≡ self.old) × (buffer.new ≡ buffer.old)) }
         ensures free { result ≢ Err Missed.Oom }
     {
-        let mut work = RangeDescending {
-            start,
-            last,
-            written: 0,
-        };
-        if !self.make(&mut work, buffer) {
+        let Some(written) = hold_range_descending(&self.lock, &mut self.seat, start, last, buffer)
+        else {
             return Err(Missed::Busy);
-        }
-        Ok(work.written)
+        };
+        Ok(written)
     }
 }

@@ -10,6 +10,7 @@ ghost use Rattle.spec_olc.specs.Meaning.{in_some};
 ghost use Rattle.share_backend.specs.Owners.{never_same};
 ghost use Rattle.share_state.specs.Held.{inserted, removed};
 ghost use Rattle.share_rule.specs.Known.{MadeCall, SeenMore};
+ghost use Rattle.share_holds.specs.Closures.{Reaches};
 ghost use Rattle.share_guards.specs.Operations.{returned};
 ghost use Rattle.share_faces.specs.Returned.{ReturnsComputed};
 
@@ -290,6 +291,7 @@ impl<L: Ledger, K: Word, V: Send + Sync + Drop + 'static, M: Owners<V>> CongeeAr
         requires map { guard.old.table ≡ self.now }
         requires callable { F.IsAlwaysCallable f.old }
         ensures callable { F.IsAlwaysCallable f.new }
+        ensures reached { Reaches F.step f.old f.new }
         ensures map { guard.new.table ≡ guard.old.table }
         ensures made { IfOk result (λ before.
             ReturnsComputed arc_value F.step f.new guard.old (K.number key) before guard.new) }

@@ -9,6 +9,7 @@ ghost use Rattle.spec_olc.specs.Meaning.{in_some};
 ghost use Rattle.spec_olc.specs.Runs.{same_number};
 ghost use Rattle.share_state.specs.Held.{inserted, removed};
 ghost use Rattle.share_rule.specs.Known.{MadeCall, SeenMore};
+ghost use Rattle.share_holds.specs.Closures.{Reaches};
 ghost use Rattle.share_guards.specs.Operations.{computed_with};
 ghost use Rattle.share_faces.specs.Returned.{ReturnsExchanged, ReturnsInserted, ReturnsOld};
 
@@ -44,7 +45,8 @@ pub type Note<L, M> = note::Note<L, u64, u64, M>;
 ///
 /// Each event of a call takes one hold of the map's lock. The map under the lock,
 /// `M`, decides how many events a call takes. Closures and gates are called while the
-/// lock is free, and closures may be called again. That a call returns isn't claimed.
+/// lock is free, and closures may be called again: all but the closures of `extract_range`
+/// and `retain`. That a call returns isn't claimed.
 ///
 /// Contracts see which map it is. Each call is made by a guard of the map. What the guard has seen after a call is one
 /// legal history of the map: it begins with what the guard had seen before, and ends with the call and its reply.
@@ -347,6 +349,7 @@ impl<L: Ledger, K: Word, V: Word, M: Pages, D: Drainer<K, V>> Congee<L, K, V, M,
         requires map { guard.old.table ≡ self.now }
         requires callable { F.IsAlwaysCallable f.old }
         ensures callable { F.IsAlwaysCallable f.new }
+        ensures reached { Reaches F.step f.old f.new }
         ensures map { guard.new.table ≡ guard.old.table }
         ensures made { MadeCall same_number guard.old (computed_with (K.number key.now) result) guard.new }
         ensures asked { IfSome result (λ pair. (state : F) × F.step state pair.0 pair.1 f.new) }
@@ -368,6 +371,7 @@ impl<L: Ledger, K: Word, V: Word, M: Pages, D: Drainer<K, V>> Congee<L, K, V, M,
         requires map { guard.old.table ≡ self.now }
         requires callable { F.IsAlwaysCallable f.old }
         ensures callable { F.IsAlwaysCallable f.new }
+        ensures reached { Reaches F.step f.old f.new }
         ensures map { guard.new.table ≡ guard.old.table }
         ensures made { IfOk result (λ before.
             ReturnsInserted V.of_number guard.old F.step f.new (K.number key) before guard.new) }

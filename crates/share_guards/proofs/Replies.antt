@@ -1,8 +1,10 @@
 -- The kind of a made call: the last operation of a legal history is one that the map allows then.
-use Rattle.std.proofs.Common.{◌≡◌, ℕ, Bool, List, [], ◌++◌, sym, ap, ◌∙◌, subst}
+use Rattle.std.proofs.Common.{◌≡◌, ℕ, Bool, List, [], ◌∷◌, ◌++◌, sym, ap, ◌∙◌, subst}
 use Rattle.std.specs.Prelude.{Option, Some, None, Result, IfSome}
 use Rattle.share_backend.specs.Stages.{operation_by}
-use Rattle.share_holds.specs.Closures.{IsLastCall, StepsAlways, StepsIfPresent}
+use Rattle.std.specs.List.{FoldsTo}
+use Rattle.share_holds.specs.Closures.{IsLastCall, Reaches, StepsAlways, StepsIfPresent}
+use Rattle.share_holds.proofs.Attempts.{one_call}
 use Rattle.share_guards.specs.Made.{MadeWith}
 use Rattle.share_guards.specs.Operations.{returned, asked_by, computed_with, inserted_with, WasLastCalled}
 use Rattle.share_holds.proofs.Last.{last_allowed}
@@ -138,3 +140,24 @@ module _ {P T F Q : Type 0} (meaning : P → T) (step : F → Option P → P →
         argument_is = call.old_is ∙ ap (λ (z : Option T × Option T). z.0) e;
         answer_is = value_is (meaning made.0) new back;
       }
+
+-- ALL CALLS of a closure that is called only with a value that is present, and of one that always returns one
+module _ {P F : Type 0} (step : F → P → Option P → F → Type 0) where
+  present_calls : (calls : List (Option P × Option P)) (f g : F) → FoldsTo (λ (s : F) (call : Option P × Option P) (t : F). StepsIfPresent step s call.0 call.1 t) f calls g → Reaches step f g
+  present_calls [] f g is = ([], is)
+  present_calls ((None, answer) ∷ calls) f g (next, called, later) =
+      subst (λ (x : F). Reaches step x g) called.1 (present_calls calls next g later)
+  present_calls ((Some value, answer) ∷ calls) f g (next, called, later) =
+      one_call step f value answer next g called (present_calls calls next g later)
+
+  pub reached_present : (f g : F) → Reaches (λ (s : F) (old answer : Option P) (t : F). StepsIfPresent step s old answer t) f g → Reaches step f g
+  reached_present f g all = present_calls all.0 f g all.1
+
+module _ {P F : Type 0} (step : F → Option P → P → F → Type 0) where
+  always_calls : (calls : List (Option P × Option P)) (f g : F) → FoldsTo (λ (s : F) (call : Option P × Option P) (t : F). StepsAlways step s call.0 call.1 t) f calls g → Reaches step f g
+  always_calls [] f g is = ([], is)
+  always_calls (call ∷ calls) f g (next, called, later) =
+      one_call step f call.0 called.0 next g called.2 (always_calls calls next g later)
+
+  pub reached_always : (f g : F) → Reaches (λ (s : F) (old answer : Option P) (t : F). StepsAlways step s old answer t) f g → Reaches step f g
+  reached_always f g all = always_calls all.0 f g all.1

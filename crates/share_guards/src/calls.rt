@@ -9,6 +9,7 @@ ghost use Rattle.spec_olc.specs.Meaning.{both_of, exchanged_of, in_some};
 ghost use Rattle.share_backend.specs.Changing.{IsOld, IsComputed, IsExchangeReply, if_present};
 ghost use Rattle.share_state.specs.Booking.{BooksInsert};
 ghost use Rattle.share_rule.specs.Known.{MadeCall, SeenMore};
+ghost use Rattle.share_holds.specs.Closures.{Reaches};
 ghost use Rattle.share_guards.specs.Operations.{WasLastCalled, computed_with, inserted_with, returned};
 
 use crate::raw::{Guard, Raw};
@@ -155,6 +156,7 @@ impl<L: Ledger, P: Drop, T, M: Lent<P, T>> Raw<L, P, T, M> {
         requires map { guard.old.table ≡ self.now }
         requires callable { F.IsAlwaysCallable f.old }
         ensures callable { F.IsAlwaysCallable f.new }
+        ensures reached { Reaches F.step f.old f.new }
         ensures made { IfOk result (λ both. MadeCall M.same guard.old
             (computed_with key (in_some (both_of M.meaning) both)) guard.new) }
         ensures asked { IfOk result (λ both. IfSome both (λ pair.
@@ -179,6 +181,7 @@ impl<L: Ledger, P: Drop, T, M: Lent<P, T>> Raw<L, P, T, M> {
         requires map { guard.old.table ≡ self.now }
         requires callable { F.IsAlwaysCallable f.old }
         ensures callable { F.IsAlwaysCallable f.new }
+        ensures reached { Reaches F.step f.old f.new }
         ensures made { MadeCall M.same guard.old
             (computed_with key (in_some (both_of M.meaning) result)) guard.new }
         ensures asked { IfSome result (λ pair.
@@ -203,6 +206,7 @@ impl<L: Ledger, P: Drop, T, M: Lent<P, T>> Raw<L, P, T, M> {
         requires map { guard.old.table ≡ self.now }
         requires callable { F.IsAlwaysCallable f.old }
         ensures callable { F.IsAlwaysCallable f.new }
+        ensures reached { Reaches F.step f.old f.new }
         ensures made { IfOk result (λ old. (new : T)
             × MadeCall M.same guard.old (inserted_with key (in_some M.meaning old) new) guard.new
             × WasLastCalled F.step f.new (in_some M.meaning) M.meaning

@@ -7,7 +7,9 @@
 pub mod calls;
 pub mod ends;
 pub mod listing;
+pub mod many;
 pub mod note;
+pub mod owned;
 pub mod pin;
 pub mod range;
 pub mod raw;

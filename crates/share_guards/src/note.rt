@@ -17,7 +17,7 @@ use std::sync::ledger::Ledger;
 /// Contracts see which map it is of, and the history.
 #[derive(Drop)]
 pub struct Note<L: Ledger, P, T, M: Lent<P, T>> {
-    seat: MapSeat<L, P, T, M>,
+    pub(crate) seat: MapSeat<L, P, T, M>,
 }
 
 impl<L: Ledger, P, T, M: Lent<P, T>> Model for Note<L, P, T, M> {

@@ -9,6 +9,7 @@ ghost use Rattle.share_state.specs.Booking.{Books};
 ghost use Rattle.share_rule.specs.Known.{SeenMore};
 ghost use Rattle.share_rule.specs.inner.Steps.{IsIdle, at_of, seen_of};
 ghost use Rattle.share_guards.specs.Made.{MadeWith};
+ghost use Rattle.share_holds.specs.Closures.{Reaches};
 ghost use Rattle.share_holds.specs.Replies.{reply_got};
 
 use crate::pin::PinError;
@@ -148,6 +149,7 @@ impl<L: Ledger, P: Drop, T, M: Lent<P, T>> Raw<L, P, T, M> {
         requires point { IsPoint (outline_of op.now) }
         requires callable { Q.can_ask f.old }
         ensures callable { Q.can_ask f.new }
+        ensures reached { Reaches Q.step f.old f.new }
         ensures booked { Books B.after op.now (reply_got result) purse.old purse.new }
         ensures reply { IsReply op.now (reply_got result) }
         ensures made { IfOk result (λ reply.
@@ -183,6 +185,7 @@ impl<L: Ledger, P: Drop, T, M: Lent<P, T>> Raw<L, P, T, M> {
         requires point { IsPoint (outline_of op.now) }
         requires callable { Q.can_ask f.old }
         ensures callable { Q.can_ask f.new }
+        ensures reached { Reaches Q.step f.old f.new }
         ensures booked { purse.new ≡ B.after (change_of op.now result) purse.old }
         ensures reply { IsReplyTo op.now result }
         ensures made { MadeWith M.same M.meaning Q.step f.new op.now result guard.old guard.new }

@@ -32,7 +32,8 @@ impl<L: Ledger, M: Ordered> Raw<L, u64, u64, M> {
         buffer: &mut [E],
     ) -> usize
         requires map { guard.old.table ≡ self.now }
-        ensures made { ListsFirst E.entry guard.old start end buffer.old result buffer.new guard.new }
+        ensures made { ListsFirst E.entry guard.old start end buffer.old result buffer.new
+            guard.new }
     {
         M::numbers_mean_themselves();
         let mut work = Range {

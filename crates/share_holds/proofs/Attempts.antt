@@ -1,5 +1,6 @@
 -- What the events of a call, one after another, leave.
-use Rattle.std.proofs.Common.{◌≡◌, ◌≢◌, ℕ, Bool, true, false, ◌⊎◌, inl, inr, sym, refl, ◌∙◌, subst}
+use Rattle.std.proofs.Common.{◌≡◌, ◌≢◌, ℕ, Bool, true, false, List, [], ◌∷◌, ◌⊎◌, inl, inr, sym, refl, ◌∙◌, subst}
+use Rattle.std.specs.List.{FoldsTo}
 use Rattle.std.specs.Prelude.{Option, Some}
 use Rattle.atomic_table.specs.Table.{Me}
 use Rattle.share_backend.specs.Stages.{Follows, TakesAnswer, operation_by}
@@ -8,7 +9,7 @@ use Rattle.share_backend.specs.declared.lent.CallStage.TheVariants.{Ready}
 use Rattle.share_backend.specs.Changing.{reply_in}
 use Rattle.share_backend.specs.declared.change.Change.{Change}
 use Rattle.share_state.specs.Booking.{Books}
-use Rattle.share_holds.specs.Closures.{IsLastCall}
+use Rattle.share_holds.specs.Closures.{IsLastCall, Reaches}
 use Rattle.share_holds.specs.declared.tried.Tried.{Tried}
 use Rattle.share_holds.specs.declared.tried.Tried.TheVariants.{Replied, Refused as Rejected, Again}
 use Rattle.share_holds.specs.inner.Events.{KnowsOf, AfterLast, WasCalled, Answered, Attempted, is_last}
@@ -101,6 +102,23 @@ module _ {P T F : Type 0} (meaning : P → T) (step : F → Option P → Option 
   last_call_of Fresh answer w = tt
   last_call_of (Wants old) answer w = tt
   last_call_of (Given old given) answer w = w
+
+-- THE CALLS OF A CLOSURE, one after another
+module _ {F A B : Type 0} (step : F → A → B → F → Type 0) where
+  pub no_call : (f : F) → Reaches step f f
+  no_call f = ([], refl)
+
+  folds_on : (calls : List (A × B)) (f g h : F) → FoldsTo (λ (s : F) (call : A × B) (t : F). step s call.0 call.1 t) f calls g → Reaches step g h → Reaches step f h
+  folds_on [] f g h is on = subst (λ (x : F). Reaches step x h) (sym is) on
+  folds_on (call ∷ calls) f g h (next, called, later) on =
+      let more = folds_on calls next g h later on in
+      (call ∷ more.0, (next, called, more.1))
+
+  pub calls_on : (f g h : F) → Reaches step f g → Reaches step g h → Reaches step f h
+  calls_on f g h first then = folds_on first.0 f g h first.1 then
+
+  pub one_call : (f : F) (old : A) (answer : B) (g h : F) → step f old answer g → Reaches step g h → Reaches step f h
+  one_call f old answer g h called on = ((old, answer) ∷ on.0, (g, called, on.1))
 
 -- HOW AN ATTEMPT ENDED, seen from before it
 module _ {P T S F : Type 0} (same : T → T → Bool) (meaning : P → T) (step : F → Option P → Option P → F → Type 0) (last : F) (op : Op P) (m m1 m2 : Me (Option S) (SeatView T (CallStage T) S)) where

@@ -1,5 +1,5 @@
 -- What each event of a call may do, and what its seat knows after it.
-use Rattle.std.proofs.Common.{◌≡◌, ◌≢◌, ℕ, Bool, List, [], ◌∷◌, sym, refl, ap, ◌∙◌, subst, inl, inr}
+use Rattle.std.proofs.Common.{◌≡◌, ◌≢◌, ℕ, Bool, List, [], sym, refl, ap, ◌∙◌, subst, inl, inr}
 use Rattle.std.specs.Prelude.{Option, Some, None, Result, Ok, Err, IfOk, OnErr}
 use Rattle.atomic_table.specs.Table.{Me}
 use Rattle.share_backend.specs.Stages.{Changes, IsOf, Opens, Turns, TurnsEnded, operation_by}

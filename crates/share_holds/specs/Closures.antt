@@ -1,6 +1,7 @@
 -- WHAT A CLOSURE WAS LAST CALLED WITH. `step` are the calls of a closure: its state before the call, what it is called
 -- with, what it returns, and its state after the call.
-use Rattle.std.specs.Prelude.{◌≡◌, Option, Some, None}
+use Rattle.std.specs.Prelude.{◌≡◌, List, Option, Some, None}
+use Rattle.std.specs.List.{FoldsTo}
 use Rattle.spec_olc.specs.Meaning.{in_some}
 
 -- a closure that is called only with a value that is present
@@ -17,6 +18,12 @@ StepsAlways step before old answer after = (new : _) × (answer ≡ Some new) ×
 -- no closure
 abbrev pub StepsNot : {F P : Type 0} → F → Option P → Option P → F → Type 0
 StepsNot before old answer after = (answer ≡ None) × (after ≡ before)
+
+-- SOME CALLS, one after another, lead from a closure to what it is left as. Each has what it was called with, and what it
+-- returned
+abbrev pub Reaches : {F A B : Type 0} → (F → A → B → F → Type 0) → F → F → Type 0
+Reaches {F} {A} {B} step first last =
+    (calls : List (A × B)) × FoldsTo (λ (before : F) (call : A × B) (after : F). step before call.0 call.1 after) first calls last
 
 -- `last` is the closure as it is left
 module _ {P T F : Type 0} (meaning : P → T)

@@ -12,6 +12,7 @@ ghost use Rattle.share_backend.specs.declared.lent.CallStage.TheVariants.{Ready,
 ghost use Rattle.share_backend.specs.Changing.{IsReply, IsReplyTo, change_of};
 ghost use Rattle.share_state.specs.Booking.{Books};
 ghost use Rattle.share_rule.specs.inner.Steps.{IsIdle, SeesNoMore, at_of};
+ghost use Rattle.share_holds.specs.Closures.{Reaches};
 ghost use Rattle.share_holds.specs.Replies.{reply_got, reply_tried};
 ghost use Rattle.share_holds.specs.inner.Events.{Answered, Attempted, IsOver, KnowsOf, WasCalled, is_last};
 
@@ -168,6 +169,7 @@ fn go_on<L: Ledger, P: Drop, T, M: Lent<P, T>, R: Wait, B: Purse<L>, F, Q: Asks<
     requires point { IsPoint (outline_of op.now) }
     requires callable { Q.can_ask f.old }
     ensures callable { Q.can_ask f.new }
+    ensures reached { Reaches Q.step f.old f.new }
     ensures booked { Books B.after op.now (reply_tried result) purse.old purse.new }
     ensures reply { IsReply op.now (reply_tried result) }
     ensures table { seat.new.table_id ≡ seat.old.table_id }
@@ -228,6 +230,7 @@ fn attempt<L: Ledger, P: Drop, T, M: Lent<P, T>, R: Wait, B: Purse<L>, F, Q: Ask
     requires point { IsPoint (outline_of op.now) }
     requires callable { Q.can_ask f.old }
     ensures callable { Q.can_ask f.new }
+    ensures reached { Reaches Q.step f.old f.new }
     ensures booked { Books B.after op.now (reply_tried result) purse.old purse.new }
     ensures reply { IsReply op.now (reply_tried result) }
     ensures table { seat.new.table_id ≡ seat.old.table_id }
@@ -281,6 +284,7 @@ pub fn call<L: Ledger, P: Drop, T, M: Lent<P, T>, R: Wait, B: Purse<L>, F, Q: As
     requires point { IsPoint (outline_of op.now) }
     requires callable { Q.can_ask f.old }
     ensures callable { Q.can_ask f.new }
+    ensures reached { Reaches Q.step f.old f.new }
     ensures booked { Books B.after op.now (reply_got result) purse.old purse.new }
     ensures reply { IsReply op.now (reply_got result) }
     ensures table { seat.new.table_id ≡ seat.old.table_id }
@@ -329,6 +333,7 @@ pub fn call_always<
     requires point { IsPoint (outline_of op.now) }
     requires callable { Q.can_ask f.old }
     ensures callable { Q.can_ask f.new }
+    ensures reached { Reaches Q.step f.old f.new }
     ensures booked { purse.new ≡ B.after (change_of op.now result) purse.old }
     ensures reply { IsReplyTo op.now result }
     ensures table { seat.new.table_id ≡ seat.old.table_id }

@@ -8,7 +8,7 @@ use Rattle.spec_map.specs.Legal.{IsLegal, MayAnswer, exchange, after_exchange, a
 use Rattle.spec_map.specs.Map.{Pairs, lookup, without, with_answer, between, Rises}
 use Rattle.spec_map.specs.Refusal.{never}
 use Rattle.share_parts.specs.Parts.{kept, Ascends, IsWithin, AreWithin, AreApart, RunsOnWhole}
-use Rattle.share_parts.proofs.Shards.{ascends_answer, ascends_after, allows_same, answer_at, other_answer}
+use Rattle.share_parts.proofs.OnKeys.{ascends_answer, ascends_after, allows_same, answer_at, other_answer}
 
 -- the first pair stays or goes
 module _ {P : Type 0} (mine : ℕ → Bool) where

@@ -6,6 +6,5 @@
 
 pub mod lock;
 pub mod rule;
-pub mod spin;
 pub mod view;
 pub mod work;

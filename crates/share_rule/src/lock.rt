@@ -3,19 +3,17 @@
 //! Tested in `test_share_guards`.
 
 ghost use Rattle.std.specs.Prelude.{◌≡◌, ◌≢◌, [], ◌∷◌, Some, None, IfOk, IfSome, IsTrue, IsFalse, MatchOption};
-ghost use Rattle.share_rule.specs.inner.Hold.{HeldBy};
 ghost use Rattle.share_rule.specs.inner.SeatView.{Blank};
 ghost use Rattle.share_rule.specs.inner.Steps.{IsIdle, MayRelease, Released, Won, at_of, caller_of, seen_of};
 ghost use Rattle.share_rule.specs.inner.Meeting.{SeesMore};
 
 use crate::rule::{Cut, Done, Enter, Law, Leave, Meet, Pair, Protected, Release, Try};
 use crate::view::View;
-use crate::work::Work;
 use atomic_table::{Perch, Seat, Shared, Table};
 use crossbeam_utils::Backoff;
 use spec_map::error::OOMError;
 use std::alloc::Global;
-use std::marker::{Brand, Model};
+use std::marker::Model;
 use std::mem;
 use std::sync::Wait;
 
@@ -235,49 +233,5 @@ impl<T, N, S: Protected<T, N> + Drop> Lock<T, N, S> {
         let mut other = self.board.shared.split_seat::<Cut>(seat);
         self.board.shared.load::<Enter>(&mut other, 0);
         other
-    }
-
-    /// Does this work under the lock, where the value is stored, if the lock is free now.
-    pub(crate) fn hold_once<E, W: Work<T, N, S, E>>(
-        &self,
-        seat: &mut LockSeat<T, N, S>,
-        work: &mut W,
-        buffer: &mut [E],
-    ) -> bool
-        requires table { seat.old.table_id ≡ self.now }
-        requires idle { IsIdle seat.old.me }
-        ensures table { seat.new.table_id ≡ seat.old.table_id }
-        ensures held { IsTrue result → (found : S)
-            × HeldBy S.same (W.made work.new found) seat.old.me seat.new.me
-            × W.does work.old buffer.old found work.new buffer.new }
-        ensures missed { IsFalse result → (seat.new.me ≡ seat.old.me) × (work.new ≡ work.old)
-            × (buffer.new ≡ buffer.old) }
-    {
-        let table = &self.board.shared;
-        if table.peek(0) != FREE {
-            return false;
-        }
-        if table.compare_exchange::<Try>(seat, 0, FREE, TAKEN) != FREE {
-            return false;
-        }
-        let Some(value) = seat.slot_mut(table, 0) else {
-            unreachable!()
-        };
-        work.work(value, buffer);
-        self.free::<Brand, _>(seat, work);
-        true
-    }
-
-    // Frees the lock, after what the call picks as done by this work. The value is in the slot that the seat holds.
-    fn free<D: Done<T>, W>(&self, seat: &mut LockSeat<T, N, S>, work: &W)
-        requires table { seat.old.table_id ≡ self.now }
-        requires may { (value : S) × (seat.old.me.1 ≡ (0, Some value) ∷ [])
-            × MayRelease S.place D.operations D.number S.same S.content (seat.old.me.0, (0, None) ∷ []) value }
-        ensures table { seat.new.table_id ≡ seat.old.table_id }
-        ensures released { (value : S) → seat.old.me.1 ≡ (0, Some value) ∷ []
-            → Released S.place D.operations D.number (seat.old.me.0, (0, None) ∷ []) value seat.new.me }
-    {
-        let _ = work;
-        self.board.shared.swap::<Release<D>>(seat, 0, FREE);
     }
 }

@@ -1,5 +1,5 @@
 -- What visits of all shards that are held come to.
-use Rattle.std.proofs.Common.{◌≡◌, ◌≢◌, ℕ, ◌+◌, Bool, true, false, true≢false, cond, List, [], ◌∷◌, ◌++◌, reverse, append-nil, length, refl, sym, ap, ◌∙◌, subst, inl, inr, arith, eqb, eq-eqb, ne_eqb}
+use Rattle.std.proofs.Common.{◌≡◌, ◌≢◌, ℕ, ◌+◌, ◌<◌, Bool, true, false, true≢false, cond, List, [], ◌∷◌, ◌++◌, reverse, append-nil, length, refl, sym, ap, ◌∙◌, subst, inl, inr, arith, eqb, eq-eqb, ne_eqb}
 use Rattle.std.proofs.lemmas.Bool.{cases_eq, cases_Bool, eqb-true, or_cases, or_from, or_left, or_right}
 use Rattle.std.specs.Prelude.{Option, Some, None, ◌||◌, ◌⊎◌}
 use Rattle.atomic_table.specs.Table.{Me}
@@ -70,6 +70,18 @@ visited_each does Knows Makes each v w before after (h ∷ held) [] knows t i y 
 abbrev pub sum_sizes : {S : Type 0} → (S → ℕ) → List (ℕ × S) → ℕ
 sum_sizes size [] = 0
 sum_sizes size (h ∷ held) = size h.1 + sum_sizes size held
+
+-- a tally that is below the limit at its end counts each
+pub tallied : {V E S : Type 0} (limit : ℕ) (does : V → List E → ℕ → S → V → List E → S → Type 0) (tally : V → ℕ) (size : S → ℕ)
+    → ((v : V) (b : List E) (i : ℕ) (x : S) (w : V) (a : List E) (y : S) → does v b i x w a y → tally v + size x < limit → tally w ≡ tally v + size x)
+    → (v w : V) (before after : List E) (held values : List (ℕ × S)) → Visited does v before held w after values → tally v + sum_sizes size held < limit → tally w ≡ tally v + sum_sizes size held
+tallied limit does tally size each v w before after [] [] h small = ap tally h.0 ∙ omega arith
+tallied {V} {E} {S} limit does tally size each v w before after (h ∷ held) (k ∷ values) t small =
+    let first : tally t.1 ≡ tally v + size h.1 = each v before h.0 h.1 t.1 t.2 k.1 t.3 (omega (arith, small)) in
+    let rest : tally w ≡ tally t.1 + sum_sizes size held = tallied limit does tally size each t.1 w t.2 after held values t.4 (omega (arith, small, first)) in
+    omega (arith, first, rest)
+tallied limit does tally size each v w before after [] (k ∷ values) h small = absurd h
+tallied limit does tally size each v w before after (h ∷ held) [] t small = absurd t
 
 module _ {T : Type 0} (shard : ℕ → ℕ) where
   none_of : (m : Pairs T) → length (kept (keys_of shard []) m) ≡ 0

@@ -1,5 +1,5 @@
 //! A map that threads share, in shards: one table with a word and a slot for each shard, under one rule, with one history
-//! of the whole map. A hold is of one shard, or of several at one moment. No map uses it yet.
+//! of the whole map. A hold is of one shard, or of several at one moment.
 //!
 //! Tested in `test_share_shards`.
 #![tactic(auto)]

@@ -1,9 +1,9 @@
 -- How a removal of pairs is booked.
-use Rattle.std.proofs.Common.{◌≡◌, ℕ, ◌+◌, ◌-◌, ◌<◌, ◌≤◌, ◌%◌, ◌^◌, Bool, not, [], ◌∷◌, length, inl, inr, refl, arith}
+use Rattle.std.proofs.Common.{◌≡◌, ℕ, ◌+◌, ◌-◌, ◌<◌, ◌≤◌, ◌%◌, ◌^◌, Bool, true, false, if◌then◌else◌, not, [], ◌∷◌, length, inl, inr, refl, ap, arith}
 use Rattle.std.proofs.lemmas.Bool.{cases_eq, eq-eqb, ne_eqb}
 use Rattle.std.proofs.lemmas.List.Filters.{length-filter_both}
 use Rattle.std.specs.Prelude.{Option, Some, None, ◌&&◌, nat_le, nat_lt, filter}
-use Rattle.congee_tree.specs.Bulk.{outside}
+use Rattle.congee_tree.specs.Bulk.{outside, Retains}
 use Rattle.spec_map.specs.Map.{Pairs, without}
 use Rattle.spec_map.specs.Near.{without_pair}
 
@@ -25,6 +25,16 @@ fewer_outside es a b =
     let p : ℕ × ℕ → Bool = λ e. nat_le a e.0 && nat_lt e.0 b in
     let both : length (filter p es) + length (filter (λ e. not (p e)) es) ≡ length es = length-filter_both p (λ e. not (p e)) (λ e. refl) es in
     omega (arith, both)
+
+either : (b : Bool) (e : ℕ × ℕ) (es : Pairs ℕ) → length (if b then e ∷ es else es) ≤ length es + 1
+either true e es = omega arith
+either false e es = omega arith
+
+-- those that a closure keeps
+pub fewer_kept : {F : Type 0} (step : F → ℕ × ℕ → Bool → F → Type 0) (es : Pairs ℕ) (f : F) (kept : Pairs ℕ) (last : F) → Retains step f es kept last → length kept ≤ length es
+fewer_kept step [] f kept last h = omega (arith, ap (λ (l : Pairs ℕ). length l) h.0)
+fewer_kept step (e ∷ es) f kept last (stays, next, rest, called, more, is) =
+    omega (arith, ap (λ (l : Pairs ℕ). length l) is, either stays e rest, fewer_kept step es next rest last more)
 
 -- the total is the number of those that are left
 pub booked_to : (before after total next : ℕ) → before ≡ total % 2 ^ 128 → after ≤ before → before ≤ 2 ^ 64

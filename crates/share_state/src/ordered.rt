@@ -3,7 +3,10 @@
 //!
 //! Tested in `test_share_ends`.
 
-ghost use Rattle.std.specs.Prelude.{◌≡◌, ◌≤◌, ◌^◌, length};
+ghost use Rattle.std.specs.Prelude.{◌≡◌, ◌+◌, ◌≤◌, ◌^◌, ℕ, length};
+ghost use Rattle.std.specs.List.{FoldsTo};
+ghost use Rattle.congee_tree.specs.Bulk.{outside, Retains};
+ghost use Rattle.spec_map.specs.Map.{between};
 
 use crate::state::LockedState;
 use share_backend::lent::CallStage;
@@ -98,6 +101,65 @@ impl<L: Ledger, M: Ordered> MapState<CallStage<u64>> for LockedState<L, u64, u64
         let removed = under.remove_range(start, end);
         take_to(book, own, before, count_of(under));
         removed
+    }
+}
+
+impl<L: Ledger, M: Ordered> LockedState<L, u64, u64, M> {
+    /// Removes the pairs with `start <= key <= last`, and returns how many.
+    pub fn remove_range_inclusive(&mut self, start: u64, last: u64) -> u128
+        ensures count { result ≡ length (between (M.pairs self.old.under) start (last + 1)) }
+        ensures pairs { M.pairs self.new.under ≡ outside (M.pairs self.old.under) start (last + 1) }
+        ensures places { (k : ℕ) → M.place self.new.under k ≡ M.place self.old.under k }
+    {
+        let LockedState {
+            under,
+            book,
+            own,
+            of: _,
+        } = self;
+        let before = count_of(under);
+        let removed = under.remove_range_inclusive(start, last);
+        take_to(book, own, before, count_of(under));
+        removed
+    }
+
+    /// Removes the pairs with `start <= key < end`, and calls the closure with each once, keys ascending.
+    pub fn extract_range<F: FnMut(u64, u64)>(&mut self, start: u64, end: u64, f: &mut F)
+        requires { F.IsAlwaysCallable f.old }
+        ensures callable { F.IsAlwaysCallable f.new }
+        ensures calls { FoldsTo (λ state pair next. F.step state pair.0 pair.1 tt next)
+            f.old (between (M.pairs self.old.under) start end) f.new }
+        ensures pairs { M.pairs self.new.under ≡ outside (M.pairs self.old.under) start end }
+        ensures places { (k : ℕ) → M.place self.new.under k ≡ M.place self.old.under k }
+    {
+        let LockedState {
+            under,
+            book,
+            own,
+            of: _,
+        } = self;
+        let before = count_of(under);
+        under.extract_range(start, end, f);
+        take_to(book, own, before, count_of(under));
+    }
+
+    /// Asks the closure about each pair once, keys ascending, and removes those for which it returns false.
+    pub fn retain<F: FnMut(u64, u64) -> bool>(&mut self, f: &mut F)
+        requires { F.IsAlwaysCallable f.old }
+        ensures callable { F.IsAlwaysCallable f.new }
+        ensures retains { Retains (λ state pair stays next. F.step state pair.0 pair.1 stays next)
+            f.old (M.pairs self.old.under) (M.pairs self.new.under) f.new }
+        ensures places { (k : ℕ) → M.place self.new.under k ≡ M.place self.old.under k }
+    {
+        let LockedState {
+            under,
+            book,
+            own,
+            of: _,
+        } = self;
+        let before = count_of(under);
+        under.retain(f);
+        take_to(book, own, before, count_of(under));
     }
 }
 

@@ -45,7 +45,8 @@ impl ChangeCounts {
         ensures small { change_count self.old key ≤ 18446744073709551615 }
         ensures own { (k : ℕ) → k % 64 ≡ key % 64
             → change_count self.new k ≡ min (change_count self.old k + 1) 18446744073709551615 }
-        ensures others { (k : ℕ) → k % 64 ≢ key % 64 → change_count self.new k ≡ change_count self.old k }
+        ensures others { (k : ℕ) → k % 64 ≢ key % 64
+            → change_count self.new k ≡ change_count self.old k }
     {
         let place = (key % 64) as usize;
         self.counts[place] = self.counts[place].saturating_add(1);
@@ -54,7 +55,8 @@ impl ChangeCounts {
     /// Counts a change at each key.
     pub(crate) fn raise_all(&mut self)
         ensures small { (k : ℕ) → change_count self.old k ≤ 18446744073709551615 }
-        ensures all { (k : ℕ) → change_count self.new k ≡ min (change_count self.old k + 1) 18446744073709551615 }
+        ensures all { (k : ℕ) → change_count self.new k
+            ≡ min (change_count self.old k + 1) 18446744073709551615 }
     {
         for key in 0..64 {
             self.raise(key);

@@ -2,14 +2,16 @@
 //!
 //! Tested in `share_maps` and `test_share_hostile/changes`.
 
-ghost use Rattle.std.specs.Prelude.{◌≡◌, [], None, length, IfOk, OnOk, OnErr, IsSome, IsTrue, option_copied};
-ghost use Rattle.congee_tree.specs.Bulk.{outside};
+ghost use Rattle.std.specs.Prelude.{◌≡◌, ◌+◌, [], None, length, IfOk, OnOk, OnErr, IsSome, IsTrue, option_copied};
+ghost use Rattle.std.specs.List.{FoldsTo};
+ghost use Rattle.congee_tree.specs.Bulk.{outside, Retains};
 ghost use Rattle.spec_map.specs.Map.{IsMap, between, lookup, put, without, with_answer};
 ghost use Rattle.spec_map.specs.Near.{first_of, last_of, without_pair};
 ghost use Rattle.node_table.specs.inner.Kinds.{mapped};
 ghost use Rattle.spec_olc.specs.Meaning.{in_some};
 ghost use Rattle.share_tree.specs.inner.Current.{change_count, CountsRise, AnswerHolds};
 
+use crate::bulk;
 use crate::changes::ChangeCounts;
 use crate::seat::Question;
 use congee_tree::by_number;
@@ -167,6 +169,27 @@ impl<P: HasMeaning, A: Allocator> Counted<P, A> {
         removed
     }
 
+    /// Removes the pairs with `start <= key <= last`, and returns how many.
+    pub(crate) fn remove_range_inclusive(&mut self, start: u64, last: u64) -> u128
+        ensures count { result ≡ length (between self.old.pairs start (last + 1)) }
+        ensures pairs { self.new.pairs ≡ outside self.old.pairs start (last + 1) }
+        ensures onward { CountsRise P.meaning self.old self.new }
+    {
+        let removed = self.tree.remove_range_inclusive(start, last);
+        // For the proof: the keys still ascend.
+        self.tree.law_ordered();
+        self.changes.raise_all();
+        removed
+    }
+
+    /// The tree alone.
+    pub(crate) fn into_tree(self) -> RawCongee<P, A>
+        ensures { result.pairs ≡ self.pairs }
+    {
+        let Counted { tree, changes: _ } = self;
+        tree
+    }
+
     /// Replaces what is stored at a key, or removes the key for `None`.
     pub(crate) fn set(&mut self, key: u64, wanted: Option<P>)
         requires present { IsSome (lookup (mapped P.meaning self.old.pairs) key) }
@@ -204,5 +227,34 @@ impl<P: HasMeaning, A: Allocator> Counted<P, A> {
             },
             None => self.look(question.key).is_none(),
         }
+    }
+}
+
+impl<A: Allocator> Counted<u64, A> {
+    /// Removes the pairs with `start <= key < end`, and calls the closure with each, keys ascending.
+    pub(crate) fn extract_range<F: FnMut(u64, u64)>(&mut self, start: u64, end: u64, f: &mut F)
+        requires { F.IsAlwaysCallable f.old }
+        ensures callable { F.IsAlwaysCallable f.new }
+        ensures calls { FoldsTo (λ state pair next. F.step state pair.0 pair.1 tt next)
+            f.old (between self.old.pairs start end) f.new }
+        ensures pairs { self.new.pairs ≡ outside self.old.pairs start end }
+        ensures onward { CountsRise (λ n. n) self.old self.new }
+    {
+        bulk::extract_range(&mut self.tree, start, end, f);
+        self.tree.law_ordered();
+        self.changes.raise_all();
+    }
+
+    /// Asks the closure about each pair once, keys ascending, and removes those for which it returns false.
+    pub(crate) fn retain<F: FnMut(u64, u64) -> bool>(&mut self, f: &mut F)
+        requires { F.IsAlwaysCallable f.old }
+        ensures callable { F.IsAlwaysCallable f.new }
+        ensures retains { Retains (λ state pair stays next. F.step state pair.0 pair.1 stays next)
+            f.old self.old.pairs self.new.pairs f.new }
+        ensures onward { CountsRise (λ n. n) self.old self.new }
+    {
+        bulk::retain(&mut self.tree, f);
+        self.tree.law_ordered();
+        self.changes.raise_all();
     }
 }

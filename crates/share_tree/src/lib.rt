@@ -17,6 +17,7 @@
 #![tactic(auto)]
 
 mod asking;
+mod bulk;
 mod calls;
 mod changes;
 mod counted;

@@ -2,13 +2,15 @@
 //!
 //! Tested in `test_share_ends`.
 
-ghost use Rattle.std.specs.Prelude.{◌≡◌, [], length};
+ghost use Rattle.std.specs.Prelude.{◌≡◌, ◌+◌, [], length};
+ghost use Rattle.std.specs.List.{FoldsTo};
 ghost use Rattle.std.specs.Option.{option_map};
-ghost use Rattle.congee_tree.specs.Bulk.{outside};
+ghost use Rattle.congee_tree.specs.Bulk.{outside, Retains};
 ghost use Rattle.spec_map.specs.Map.{between};
 ghost use Rattle.spec_map.specs.Near.{first_of, last_of, without_pair};
 
 use crate::direct::Direct;
+use congee_tree::tree::RawCongee;
 use node_table::allocator::Allocator;
 use share_backend::ordered::Ordered;
 use spec_olc::payload::HasMeaning;
@@ -48,6 +50,47 @@ impl<P: HasMeaning, A: Allocator> Direct<P, A> {
         ensures seats { self.new.seats ≡ self.old.seats }
     {
         self.tree.remove_range(start, end)
+    }
+
+    /// Removes the pairs with `start <= key <= last`, and returns how many.
+    pub(crate) fn take_range_inclusive(&mut self, start: u64, last: u64) -> u128
+        ensures count { result ≡ length (between self.old.pairs start (last + 1)) }
+        ensures pairs { self.new.pairs ≡ outside self.old.pairs start (last + 1) }
+        ensures seats { self.new.seats ≡ self.old.seats }
+    {
+        self.tree.remove_range_inclusive(start, last)
+    }
+
+    /// The tree with one owner. The seats are gone.
+    pub fn into_tree(self) -> RawCongee<P, A>
+        ensures { result.pairs ≡ self.pairs }
+    {
+        self.tree.into_tree()
+    }
+}
+
+impl<A: Allocator> Direct<u64, A> {
+    /// Removes the pairs with `start <= key < end`, and calls the closure with each, keys ascending.
+    pub(crate) fn take_each<F: FnMut(u64, u64)>(&mut self, start: u64, end: u64, f: &mut F)
+        requires { F.IsAlwaysCallable f.old }
+        ensures callable { F.IsAlwaysCallable f.new }
+        ensures calls { FoldsTo (λ state pair next. F.step state pair.0 pair.1 tt next)
+            f.old (between self.old.pairs start end) f.new }
+        ensures pairs { self.new.pairs ≡ outside self.old.pairs start end }
+        ensures seats { self.new.seats ≡ self.old.seats }
+    {
+        self.tree.extract_range(start, end, f);
+    }
+
+    /// Asks the closure about each pair once, keys ascending, and removes those for which it returns false.
+    pub(crate) fn take_unless<F: FnMut(u64, u64) -> bool>(&mut self, f: &mut F)
+        requires { F.IsAlwaysCallable f.old }
+        ensures callable { F.IsAlwaysCallable f.new }
+        ensures retains { Retains (λ state pair stays next. F.step state pair.0 pair.1 stays next)
+            f.old self.old.pairs self.new.pairs f.new }
+        ensures seats { self.new.seats ≡ self.old.seats }
+    {
+        self.tree.retain(f);
     }
 }
 
@@ -116,5 +159,17 @@ impl<A: Allocator> Ordered for Direct<u64, A> {
 
     fn remove_range(&mut self, start: u64, end: u64) -> u128 {
         self.take_range(start, end)
+    }
+
+    fn remove_range_inclusive(&mut self, start: u64, last: u64) -> u128 {
+        self.take_range_inclusive(start, last)
+    }
+
+    fn extract_range<F: FnMut(u64, u64)>(&mut self, start: u64, end: u64, f: &mut F) {
+        self.take_each(start, end, f);
+    }
+
+    fn retain<F: FnMut(u64, u64) -> bool>(&mut self, f: &mut F) {
+        self.take_unless(f);
     }
 }

@@ -46,7 +46,7 @@ module _ (same : ℕ → ℕ → Bool) (test : ℕ → Bool) where
       )
   removed_by e es ps d pass rest false is = below e ps es d is pass rest
 
-  removed : (es : Pairs ℕ) → IsLegal same never es (removals (filter (λ (e : ℕ × ℕ). test e.0) es)) (filter (λ (e : ℕ × ℕ). not (test e.0)) es)
+  pub removed : (es : Pairs ℕ) → IsLegal same never es (removals (filter (λ (e : ℕ × ℕ). test e.0) es)) (filter (λ (e : ℕ × ℕ). not (test e.0)) es)
   removed [] = refl
   removed (e ∷ es) =
       removed_by e es (filter (λ (x : ℕ × ℕ). test x.0) es) (filter (λ (x : ℕ × ℕ). not (test x.0)) es) (passing es) (removed es) (test e.0) refl

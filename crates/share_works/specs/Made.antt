@@ -1,8 +1,8 @@
 -- The operations that calls enter in a history, and what a caller knows after them.
-use Rattle.std.specs.Prelude.{◌≡◌, ℕ, List, [], ◌∷◌, ◌++◌, None, Some, length}
+use Rattle.std.specs.Prelude.{◌≡◌, ℕ, ◌^◌, List, [], ◌∷◌, ◌++◌, None, Some, length, filter, is_none}
 use Rattle.share_rule.specs.Known.{Known, MadeCall, MadeCalls}
 use Rattle.spec_map.specs.Call.{Call, count, range, remove, Operation, Reply, replied, counted, old_value, ranged}
-use Rattle.spec_map.specs.Map.{Pairs}
+use Rattle.spec_map.specs.Map.{Pairs, lookup}
 use Rattle.spec_olc.specs.Runs.{same_number}
 
 -- a call without a closure, and its reply
@@ -36,3 +36,12 @@ clearing pairs = returned count (counted (length pairs)) ∷ (removals pairs ++ 
 abbrev pub range_removal : ℕ → ℕ → ℕ → Pairs ℕ → List (Operation ℕ ℕ ℕ)
 range_removal start end total pairs =
     returned count (counted total) ∷ returned (range start end total) (ranged pairs) ∷ removals pairs
+
+-- those of these pairs whose keys the others don't have
+abbrev pub gone : Pairs ℕ → Pairs ℕ → Pairs ℕ
+gone pairs kept = filter (λ (pair : ℕ × ℕ). is_none (lookup kept pair.0)) pairs
+
+-- A RETAIN of a map with these pairs: they are listed, all of them, and those that aren't kept are removed
+abbrev pub retaining : Pairs ℕ → Pairs ℕ → List (Operation ℕ ℕ ℕ)
+retaining pairs kept =
+    returned count (counted (length pairs)) ∷ returned (range 0 (2 ^ 64) (length pairs)) (ranged pairs) ∷ removals (gone pairs kept)

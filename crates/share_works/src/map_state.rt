@@ -37,11 +37,13 @@ pub trait MapState<N>: Protected<u64, N> {
 
     /// Writes the first pairs with keys from `start` on and below `end` to the buffer, ascending.
     fn page<E: RangeEntry>(&self, start: u64, end: u64, buffer: &mut [E]) -> usize
-        ensures { AreWritten E.entry (between (pairs self.now) start end) buffer.old result buffer.new };
+        ensures { AreWritten E.entry (between (pairs self.now) start end)
+            buffer.old result buffer.new };
 
     /// The same, with the pair at `last` too.
     fn page_inclusive<E: RangeEntry>(&self, start: u64, last: u64, buffer: &mut [E]) -> usize
-        ensures { AreWritten E.entry (between (pairs self.now) start (last + 1)) buffer.old result buffer.new };
+        ensures { AreWritten E.entry (between (pairs self.now) start (last + 1))
+            buffer.old result buffer.new };
 
     /// Writes the last pairs with keys from `start` to `last` to the buffer, descending.
     fn page_descending<E: RangeEntry>(&self, start: u64, last: u64, buffer: &mut [E]) -> usize

@@ -1,3 +1,4 @@
 mod ends;
 mod listed;
+mod many;
 mod popped;

@@ -5,7 +5,7 @@ use Rattle.std.proofs.lemmas.List.{length-map}
 use Rattle.share_parts.specs.Parts.{kept, Ascends, AreWithin}
 use Rattle.share_parts.proofs.Parts.{kept-without}
 use Rattle.share_rule.specs.inner.Hold.{StepsBy}
-use Rattle.share_shards.specs.Held.{is_in, keys_of, numbers, Visited}
+use Rattle.share_shards.specs.Held.{is_in, keys_of, numbers}
 use Rattle.share_shards.proofs.Whole.{sum_sizes}
 use Rattle.spec_map.proofs.NearLaws.{first_at}
 use Rattle.spec_map.specs.Call.{found, old_value}
@@ -34,18 +34,6 @@ removed_all (e ∷ es) =
       (refl, ap (λ (b : Bool). old_value (cond b (Some e.1) (lookup es e.0))) (sym here)),
       subst (λ (z : Pairs ℕ). StepsBy same (removals es) z []) (ap (λ (b : Bool). cond b es (e ∷ without es e.0)) (sym here)) (removed_all es),
     )
-
--- a tally that is below 2 to the 64 at its end counts each
-pub tallied : {V E S : Type 0} (does : V → List E → ℕ → S → V → List E → S → Type 0) (tally : V → ℕ) (size : S → ℕ)
-    → ((v : V) (b : List E) (i : ℕ) (x : S) (w : V) (a : List E) (y : S) → does v b i x w a y → tally v + size x < 2 ^ 64 → tally w ≡ tally v + size x)
-    → (v w : V) (before after : List E) (held values : List (ℕ × S)) → Visited does v before held w after values → tally v + sum_sizes size held < 2 ^ 64 → tally w ≡ tally v + sum_sizes size held
-tallied does tally size each v w before after [] [] h small = ap tally h.0 ∙ omega arith
-tallied {V} {E} {S} does tally size each v w before after (h ∷ held) (k ∷ values) t small =
-    let first : tally t.1 ≡ tally v + size h.1 = each v before h.0 h.1 t.1 t.2 k.1 t.3 (omega (arith, small)) in
-    let rest : tally w ≡ tally t.1 + sum_sizes size held = tallied does tally size each t.1 w t.2 after held values t.4 (omega (arith, small, first)) in
-    omega (arith, first, rest)
-tallied does tally size each v w before after [] (k ∷ values) h small = absurd h
-tallied does tally size each v w before after (h ∷ held) [] t small = absurd t
 
 -- of cells, each has one pair at most
 pub few : {S : Type 0} (size : S → ℕ) → ((x : S) → size x ≤ 1) → (held : List (ℕ × S)) → sum_sizes size held ≤ length held

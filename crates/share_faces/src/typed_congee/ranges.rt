@@ -4,14 +4,17 @@
 //! Tested in `test_share_ends`.
 
 ghost use Rattle.std.specs.Prelude.{◌≡◌, ◌+◌, ℕ, List, IfOk, OnErr, length, map};
+ghost use Rattle.std.specs.List.{FoldsTo};
+ghost use Rattle.congee_tree.specs.Bulk.{Retains};
 ghost use Rattle.spec_map.specs.Call.{count, counted, is_empty, keys, listed, tested};
 ghost use Rattle.spec_map.specs.Map.{Pairs};
 ghost use Rattle.spec_olc.specs.Runs.{same_number};
+ghost use Rattle.share_rule.specs.History.{Entry, IsHistory, StartsWith};
 ghost use Rattle.share_rule.specs.Known.{MadeCall, MadeCalls};
 ghost use Rattle.share_works.specs.Listed.{ListsFirst, ListsLast};
-ghost use Rattle.share_works.specs.Made.{returned, clearing, range_removal};
+ghost use Rattle.share_works.specs.Made.{returned, clearing, range_removal, retaining};
 
-use super::{Congee, Guard};
+use super::{Congee, Guard, Note};
 use share_backend::ordered::Ordered;
 use spec_map::error::OOMError;
 use spec_map::traits::{Drainer, Word};
@@ -189,5 +192,86 @@ impl<L: Ledger, K: Word, V: Word, M: Ordered, D: Drainer<K, V>> Congee<L, K, V, 
     {
         self.raw
             .remove_range(rt, guard, start.into_u64(), end.into_u64())
+    }
+
+    /// As `remove_range`, with the pair at `last` too, which can be the greatest key. Reads one more path.
+    pub fn remove_range_inclusive<R: Wait>(
+        &self,
+        rt: &R,
+        guard: &mut Guard<'_, L, M>,
+        start: &K,
+        last: &K,
+    ) -> u128
+        requires map { guard.old.table ≡ self.now }
+        ensures map { guard.new.table ≡ guard.old.table }
+        ensures made { (total : ℕ) × (pairs : Pairs ℕ) × MadeCalls same_number guard.old
+            (range_removal (K.number start.now) (K.number last.now + 1) total pairs) guard.new
+            × (result ≡ length pairs) }
+    {
+        self.raw
+            .remove_range_inclusive(rt, guard, start.into_u64(), last.into_u64())
+    }
+
+    /// Removes the pairs with keys from `start` on and below `end` in one hold, and calls the closure with each by its
+    /// numbers, once, keys ascending. The map's drainer isn't called.
+    ///
+    /// The closure is called while the lock is taken. So a call of this map in it waits for ever, and others wait until
+    /// it returns.
+    pub fn extract_range<R: Wait, F: FnMut(u64, u64)>(
+        &self,
+        rt: &R,
+        guard: &mut Guard<'_, L, M>,
+        start: &K,
+        end: &K,
+        f: &mut F,
+    )
+        requires map { guard.old.table ≡ self.now }
+        requires callable { F.IsAlwaysCallable f.old }
+        ensures callable { F.IsAlwaysCallable f.new }
+        ensures map { guard.new.table ≡ guard.old.table }
+        ensures made { (total : ℕ) × (pairs : Pairs ℕ) × MadeCalls same_number guard.old
+            (range_removal (K.number start.now) (K.number end.now) total pairs) guard.new
+            × FoldsTo (λ state pair next. F.step state pair.0 pair.1 tt next) f.old pairs f.new }
+    {
+        self.raw
+            .extract_range(rt, guard, start.into_u64(), end.into_u64(), f);
+    }
+    /// Asks the closure about each pair by its numbers, once, keys ascending, and removes those for which it returns
+    /// false, in one hold. The map's drainer isn't called. Reads one path for each pair, and two more for each that is removed.
+    ///
+    /// The closure is called while the lock is taken. So a call of this map in it waits for ever, and others wait until
+    /// it returns.
+    pub fn retain<R: Wait, F: FnMut(u64, u64) -> bool>(
+        &self,
+        rt: &R,
+        guard: &mut Guard<'_, L, M>,
+        f: &mut F,
+    )
+        requires map { guard.old.table ≡ self.now }
+        requires callable { F.IsAlwaysCallable f.old }
+        ensures callable { F.IsAlwaysCallable f.new }
+        ensures map { guard.new.table ≡ guard.old.table }
+        ensures made { (pairs : Pairs ℕ) × (kept : Pairs ℕ)
+            × MadeCalls same_number guard.old (retaining pairs kept) guard.new
+            × Retains (λ state pair stays next. F.step state pair.0 pair.1 stays next) f.old
+            pairs kept f.new }
+    {
+        self.raw.retain(rt, guard, f);
+    }
+    /// The map under the lock, once no guard borrows this one. Its pairs are those at the end of a legal history, which
+    /// begins with what was noted. The map's drainer isn't called.
+    pub fn into_owned<R: Wait>(self, rt: &R, note: Note<L, M>) -> M
+        requires map { note.table ≡ self }
+        ensures { (history : List (Entry ℕ)) × StartsWith history note.seen
+            × IsHistory same_number history (M.pairs result) }
+    {
+        let Congee {
+            raw,
+            drainer: _,
+            of: _,
+        } = self;
+        let under = raw.into_owned(rt, note);
+        under.law_contains();
+        under
     }
 }

@@ -6,12 +6,14 @@
 
 ghost use Rattle.std.specs.Prelude.{◌≡◌, ◌+◌, ℕ, IfOk, OnErr, length};
 ghost use Rattle.std.specs.Int.{to_be_bytes, w64};
+ghost use Rattle.std.specs.List.{FoldsTo};
+ghost use Rattle.congee_tree.specs.Bulk.{Retains};
 ghost use Rattle.spec_map.specs.Call.{count, counted, is_empty, keys, listed, tested, first as first_end, last as last_end, floor as floor_of, below as below_of, ceiling as ceiling_of, above as above_of};
 ghost use Rattle.spec_map.specs.Map.{Pairs};
 ghost use Rattle.spec_olc.specs.Runs.{same_number};
 ghost use Rattle.share_rule.specs.Known.{MadeCall, MadeCalls};
 ghost use Rattle.share_works.specs.Listed.{ListsFirst, ListsLast};
-ghost use Rattle.share_works.specs.Made.{returned, clearing, range_removal};
+ghost use Rattle.share_works.specs.Made.{returned, clearing, range_removal, retaining};
 ghost use Rattle.share_faces.specs.Returned.{ReturnsPair, ReturnsPopped};
 
 use super::U64Congee;
@@ -221,5 +223,68 @@ impl<L: Ledger, V: Word, M: Ordered> U64Congee<L, V, M> {
             × (result ≡ length pairs) }
     {
         self.map.remove_range(rt, guard, &start, &end)
+    }
+
+    /// As `remove_range`, with the pair at `last` too, which can be the greatest key. Reads one more path.
+    pub fn remove_range_inclusive<R: Wait>(
+        &self,
+        rt: &R,
+        guard: &mut Guard<'_, L, M>,
+        start: u64,
+        last: u64,
+    ) -> u128
+        requires map { guard.old.table ≡ self.now }
+        ensures map { guard.new.table ≡ guard.old.table }
+        ensures made { (total : ℕ) × (pairs : Pairs ℕ)
+            × MadeCalls same_number guard.old (range_removal start (last + 1) total pairs) guard.new
+            × (result ≡ length pairs) }
+    {
+        self.map.remove_range_inclusive(rt, guard, &start, &last)
+    }
+
+    /// Removes the pairs with keys from `start` on and below `end` in one hold, and calls the closure with each by its
+    /// numbers, once, keys ascending.
+    ///
+    /// The closure is called while the lock is taken. So a call of this map in it waits for ever, and others wait until
+    /// it returns.
+    pub fn extract_range<R: Wait, F: FnMut(u64, u64)>(
+        &self,
+        rt: &R,
+        guard: &mut Guard<'_, L, M>,
+        start: u64,
+        end: u64,
+        f: &mut F,
+    )
+        requires map { guard.old.table ≡ self.now }
+        requires callable { F.IsAlwaysCallable f.old }
+        ensures callable { F.IsAlwaysCallable f.new }
+        ensures map { guard.new.table ≡ guard.old.table }
+        ensures made { (total : ℕ) × (pairs : Pairs ℕ)
+            × MadeCalls same_number guard.old (range_removal start end total pairs) guard.new
+            × FoldsTo (λ state pair next. F.step state pair.0 pair.1 tt next) f.old pairs f.new }
+    {
+        self.map.extract_range(rt, guard, &start, &end, f);
+    }
+    /// Asks the closure about each pair by its numbers, once, keys ascending, and removes those for which it returns
+    /// false, in one hold. Reads one path for each pair, and two more for each that is removed.
+    ///
+    /// The closure is called while the lock is taken. So a call of this map in it waits for ever, and others wait until
+    /// it returns.
+    pub fn retain<R: Wait, F: FnMut(u64, u64) -> bool>(
+        &self,
+        rt: &R,
+        guard: &mut Guard<'_, L, M>,
+        f: &mut F,
+    )
+        requires map { guard.old.table ≡ self.now }
+        requires callable { F.IsAlwaysCallable f.old }
+        ensures callable { F.IsAlwaysCallable f.new }
+        ensures map { guard.new.table ≡ guard.old.table }
+        ensures made { (pairs : Pairs ℕ) × (kept : Pairs ℕ)
+            × MadeCalls same_number guard.old (retaining pairs kept) guard.new
+            × Retains (λ state pair stays next. F.step state pair.0 pair.1 stays next) f.old
+            pairs kept f.new }
+    {
+        self.map.retain(rt, guard, f);
     }
 }

@@ -3,10 +3,11 @@
 use super::asserts::{assert_number, assert_old, assert_put, assert_test};
 use super::counted::{Counted, Counts};
 use super::rows::{Wanted, assert_rows};
-use congee_owned::{Budget, Congee, OOMError};
+use congee_owned::{Budget, Congee, CongeeArc, OOMError, U64Congee};
 use face_runs::calls::Call;
 use std::alloc::Global;
 use std::process::Abort;
+use std::sync::Arc;
 use std::test::Fail;
 
 // A call with what it has to return.
@@ -173,5 +174,32 @@ fn each_request_refused(rt: HostRuntime) -> Result<(), Fail> {
         assert_each(&rt, rt.alloc(), &counts, computes)?;
         assert_number(&rt, u128::from(counts.charged()), 0);
     }
+    Ok(())
+}
+
+// The limit of a map's budget and what is left of it, after one insertion under a limit of 5000.
+fn of_typed(alloc: Global) -> Result<(u64, u64), OOMError> {
+    let mut map = Congee::new(alloc, Budget::new(5000))?;
+    map.insert(1u64, 1u64)?;
+    Ok((map.allocator().limit(), map.allocator().left()))
+}
+
+fn of_numbers(alloc: Global) -> Result<(u64, u64), OOMError> {
+    let mut map = U64Congee::new_in(alloc, Budget::new(5000))?;
+    map.insert(1, 1u64)?;
+    Ok((map.allocator().limit(), map.allocator().left()))
+}
+
+fn of_owners(alloc: Global) -> Result<(u64, u64), Fail> {
+    let mut map = CongeeArc::new_in(alloc, Budget::new(5000))?;
+    map.insert(1u64, Arc::new(alloc, 1u64)?)?;
+    Ok((map.allocator().limit(), map.allocator().left()))
+}
+
+#[test]
+fn limit_stays_and_what_is_left_falls(rt: HostRuntime) -> Result<(), Fail> {
+    assert!(rt; of_typed(rt.alloc())? == (5000, 2832));
+    assert!(rt; of_numbers(rt.alloc())? == (5000, 2832));
+    assert!(rt; of_owners(rt.alloc())? == (5000, 2832));
     Ok(())
 }

@@ -3,7 +3,7 @@ use Rattle.atomic_table.specs.Seated.{TableId}
 use Rattle.share_backend.specs.Stages.{operation_by}
 use Rattle.share_backend.specs.declared.lent.CallStage.TheVariants.{Settled, Denied}
 use Rattle.share_holds.specs.inner.Events.{AfterEvent}
-use Rattle.share_holds.proofs.Attempts.{booked_in, kept_called, last_call_of}
+use Rattle.share_holds.proofs.Attempts.{booked_in, calls_on, kept_called, last_call_of, no_call, one_call}
 use Rattle.share_rule.proofs.Holds.{made_later, made_still, sees_no_more_twice}
 use Rattle.spec_olc.specs.Calls.{outline_of, asked_of}
 use Rattle.spec_olc.specs.Meaning.{in_some, op_of, meant_reply, outcome_of}
@@ -30,6 +30,7 @@ loop-preserved-in-Going g c =
         next.at_is,
         kept_called m g.Q.Asks.step c.loop.f w.0 c.loop.answer c.kept-answer.result (in_some m c.in-Ok.copy) t.0 made.report.kind c.in-Ok.ensures t.1 t.2 c.kept-answer.ensures w.2,
       ),
+      c.loop.invariant.7,
     )
 
 pub loop-preserved : goal.loop-preserved
@@ -45,6 +46,8 @@ loop-preserved g c =
       ◌∙◌ {A = TableId} c.event-outcome.ensures.table c.loop.invariant.4,
       sees_no_more_twice c.args.seat.now.me c.loop.seat.me c.event-outcome.new.seat.me c.loop.invariant.5 t.quiet,
       (Wants (in_some m c.in-Ask.old), t.at_is, record { before = c.loop.f; argument = c.in-Ask.old; called = c.ask-answer.ensures.step; old_is = refl }),
+      calls_on g.Q.Asks.step c.args.f.now c.loop.f c.ask-answer.new.f c.loop.invariant.7
+          (one_call g.Q.Asks.step c.loop.f c.in-Ask.old c.ask-answer.result c.ask-answer.new.f c.ask-answer.new.f c.ask-answer.ensures.step (no_call g.Q.Asks.step c.ask-answer.new.f)),
     )
 
 pub finish-requires-clause-idle : goal.finish-requires-clause-idle

@@ -2,6 +2,7 @@
 use Rattle.std.proofs.Common.{◌≡◌}
 use Rattle.std.specs.Prelude.{Some}
 use Rattle.share_backend.specs.declared.lent.CallStage.TheVariants.{Running}
+use Rattle.share_holds.specs.Closures.{Reaches}
 use Rattle.share_holds.specs.inner.Events.{WasCalled}
 use Rattle.share_rule.specs.inner.Steps.{SeesNoMore, at_of}
 use Rattle.spec_olc.specs.Calls.{outline_of}
@@ -16,3 +17,4 @@ invariant-loop g l =
     (l.seat.table_id ≡ l.initial.seat.table_id) × SeesNoMore l.initial.seat.me l.seat.me ×
     ((s : Asking g.row.T.Denot) × (at_of l.seat.me.0 ≡ Some (l.id, Running (outline_of l.op) (op_of g.M.Lent.meaning l.op) s))
     × WasCalled g.M.Lent.meaning g.Q.Asks.step l.f s l.answer)
+    × Reaches g.Q.Asks.step l.initial.f l.f

@@ -1,10 +1,13 @@
-use Rattle.std.proofs.Common.{ℕ, ◌+◌, ap, refl}
+use Rattle.std.proofs.Common.{[], ◌∷◌, ◌+◌, length, sym, take}
+use Rattle.share_works.specs.Made.{returned}
+use Rattle.spec_map.specs.Call.{range, ranged}
 use Rattle.spec_map.specs.Map.{between}
-use Rattle.share_works.proofs.Writing.{first_written}
+use Rattle.share_calls.proofs.Knowing.{knows_by}
+use Rattle.share_calls.proofs.Listing.{first_here}
 use Rattle.share_calls.proofs.guard.Guard.range_inclusive.Goals as goal
 
 pub returns-clause-made : goal.returns-clause-made
 returns-clause-made g c =
-    let h = c.if-not-make.ensures.made refl in let w = c.make.new.work in
-    first_written g.E.RangeEntry.entry c.args.buffer.now c.make.new.buffer (between h.0.map.pairs w.start (w.last + 1)) c.args.self.now c.make.new.self
-    c.args.start w.start (c.args.last + 1) (w.last + 1) w.room w.written h.2.0 (ap (λ (n : ℕ). n + 1) h.2.1) h.2.2 h.1 h.2.3
+    let h = c.in-Some.ensures.made in let old = c.self.inside.seat in let new = c.hold_range_inclusive.new.seat in let room = length c.args.buffer.now in
+    first_here g.E.RangeEntry.entry c.args.buffer.now c.hold_range_inclusive.new.buffer _ c.args.self.now _ (sym c.self.view_is) (between h.0 c.args.start (c.args.last + 1)) c.args.start (c.args.last + 1) c.in-Some.written
+    (knows_by old.table_id new.table_id old.me new.me c.hold_range_inclusive.ensures.table (returned (range c.args.start (c.args.last + 1) room) (ranged (take room (between h.0 c.args.start (c.args.last + 1)))) ∷ []) h.1) h.2

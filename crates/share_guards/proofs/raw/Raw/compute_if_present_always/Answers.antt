@@ -1,5 +1,5 @@
 use Rattle.std.proofs.Common.{refl}
-use Rattle.share_guards.proofs.Replies.{asked_present, computed_last, computed_made}
+use Rattle.share_guards.proofs.Replies.{reached_present, asked_present, computed_last, computed_made}
 use Rattle.share_guards.proofs.raw.Raw.compute_if_present_always.Goals as goal
 
 pub returns-clause-made : goal.returns-clause-made
@@ -9,3 +9,6 @@ pub returns-clause-asked : goal.returns-clause-asked
 returns-clause-asked g c =
     asked_present g.M.Lent.meaning _ c.call_always-reply.new.f (λ s. s) c.call_always-reply.new.f refl c.computed_in.result
     (computed_last _ _ _ _ c.args.guard.now c.call_always-reply.new.guard c.args.key c.computed_in.result c.call_always-reply.result c.computed_in.ensures c.call_always-reply.ensures.made)
+
+pub returns-clause-reached : goal.returns-clause-reached
+returns-clause-reached g c = reached_present _ c.args.f.now c.call_always-reply.new.f c.call_always-reply.ensures.reached

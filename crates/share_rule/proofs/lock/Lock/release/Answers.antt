@@ -1,9 +1,5 @@
-use Rattle.std.proofs.Common.{◌∙◌, sym, refl, ap, subst, arith, List, ◌∷◌, [], ℕ}
-use Rattle.std.specs.Prelude.{Option, Some, None}
-use Rattle.atomic_table.specs.Table.{Me, rest, step}
-use mathlib.Core.Option.{none}
-use Rattle.share_rule.specs.inner.SeatView.{SeatView}
-use Rattle.share_rule.specs.inner.Steps.{Releases, Released}
+use Rattle.std.proofs.Common.{◌∙◌, sym, arith, ◌∷◌, []}
+use Rattle.std.specs.Prelude.{None}
 use Rattle.share_rule.proofs.Moves.{may_release}
 use Rattle.share_rule.proofs.lock.Lock.release.Goals as goal
 

@@ -1,13 +1,13 @@
-use Rattle.std.proofs.Common.{◌≡◌, ◌∙◌, [], ◌∷◌, ℕ, ◌+◌, ◌≤◌, List, length, refl, sym, ap, subst, arith}
+use Rattle.std.proofs.Common.{◌≡◌, ◌∙◌, [], ◌∷◌, ℕ, ◌+◌, ◌≤◌, ◌^◌, List, length, refl, sym, ap, subst, arith}
 use Rattle.share_shards.specs.Held.{numbers}
 use Rattle.share_shards.specs.inner.Steps.{held_of, pairs_of}
-use Rattle.share_shards.proofs.Whole.{may_all, parts_count, sum_sizes, took_all, took_slots, visited_same}
+use Rattle.share_shards.proofs.Whole.{may_all, parts_count, sum_sizes, tallied, took_all, took_slots, visited_same}
 use Rattle.spec_map.specs.Call.{counted}
 use Rattle.spec_map.specs.Map.{Pairs, lookup}
 use Rattle.test_share_shards.specs.Cells.{cell_pairs, same, shard_of}
 use Rattle.test_share_shards.specs.Visits.{Tallies, size_of}
 use Rattle.test_share_shards.specs.declared.cells.Cell.{Cell}
-use Rattle.test_share_shards.proofs.Whole.{all_keys, few, length-numbers, one_pair, tallied}
+use Rattle.test_share_shards.proofs.Whole.{all_keys, few, length-numbers, one_pair}
 use Rattle.test_share_shards.proofs.cells.Cells.count.Goals as goal
 
 pub release-requires-clause-may : goal.release-requires-clause-may
@@ -22,7 +22,7 @@ release-requires-clause-may c =
     let stay : values ≡ held = visited_same Tallies (λ v b i x w a y d. d.stays) _ _ _ _ held values v.2 in
     let four : length held ≡ 4 = sym (length-numbers held) ∙ ap length ns in
     let small : sum_sizes size_of held ≤ 4 = subst (λ (k : ℕ). sum_sizes size_of held ≤ k) four (few size_of (λ x. one_pair x.key x.value) held) in
-    let total : c.each.new.visit.cells ≡ 0 + sum_sizes size_of held = tallied Tallies (λ t. t.cells) size_of (λ v b i x w a y d. d.counts) _ _ _ _ held values v.2 (omega (arith, small)) in
+    let total : c.each.new.visit.cells ≡ 0 + sum_sizes size_of held = tallied (2 ^ 64) Tallies (λ t. t.cells) size_of (λ v b i x w a y d. d.counts) _ _ _ _ held values v.2 (omega (arith, small)) in
     let sum : c.each.new.visit.cells ≡ sum_sizes size_of held = omega (arith, total) in
     let contain = took.holds.contain in
     let pairs = pairs_of m1.0 in

@@ -1,0 +1,23 @@
+use Rattle.std.proofs.Common.{ap, refl, subst, sym}
+use Rattle.share_shards.specs.inner.Steps.{pairs_of}
+use Rattle.share_visits.specs.Whole.{Contains}
+use Rattle.share_moments.specs.declared.state.State.{State}
+use Rattle.share_moments.proofs.Moments.{count_here}
+use Rattle.share_moments.proofs.holds.hold_count.Goals as goal
+
+pub release_all-requires-clause-may : goal.release_all-requires-clause-may
+release_all-requires-clause-may c =
+    let n = c.take_all.new.seat.me in let all = pairs_of n.0 in
+    let same = c.pair_count-pairs.ensures.same in
+    let h = c.if-not-take_all.ensures.all refl in (
+      c.args.seat.now.me,
+      n,
+      all,
+      c.if-not-take_all.ensures.took refl,
+      ap (λ z. z.0) same,
+      subst (λ z. Contains (λ (s : State). s.map.pairs) c.args.lock.now.slots all z.1) (sym same) h,
+      count_here all c.pair_count-pairs.result (c.pair_count-pairs.ensures.count all h),
+    )
+
+pub returns-clause-made : goal.returns-clause-made
+returns-clause-made c = c.release_all.ensures.held c.args.seat.now.me c.take_all.new.seat.me (c.if-not-take_all.ensures.took refl) (ap (λ z. z.0) c.pair_count-pairs.ensures.same)

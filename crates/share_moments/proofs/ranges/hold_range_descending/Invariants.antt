@@ -1,0 +1,9 @@
+-- The operations that the call has made.
+use Rattle.std.proofs.Common.{◌+◌, length}
+use Rattle.share_shards.specs.inner.Steps.{pairs_of}
+use Rattle.share_works.specs.Made.{listing}
+use Rattle.spec_map.specs.Map.{between}
+use Rattle.share_moments.proofs.ranges.hold_range_descending.Given as goal
+
+abbrev pub ghosts-release_all : goal.ghosts-release_all
+ghosts-release_all g a = record { operations = listing a.work.now.0 (a.work.now.1 + 1) (length (pairs_of a.seat.now.me.0)) (between (pairs_of a.seat.now.me.0) a.work.now.0 (a.work.now.1 + 1)) }

@@ -1,0 +1,73 @@
+//! What is under the locks.
+//!
+//! Tested in `tools/c-library`.
+
+use face_typed::typed_congee::Congee;
+use node_table::allocator::Budget;
+use share_visits::near::Near;
+use share_visits::part::{MapShard, Pages, PartLock, PartSeat};
+use tree_walk::range_scan::RangeEntry;
+
+/// How often a call tries a lock before it answers that it is busy: some microseconds.
+pub const TRIES: u32 = 200;
+
+/// The map under one lock: the whole map, or that of a shard.
+#[derive(Drop)]
+pub struct State {
+    pub map: Congee<u64, u64, Budget>,
+}
+
+impl MapShard for State {
+    ghost use Rattle.tree_edit.specs.TreeCalls.{IsChargeOf};
+
+    ghost pairs = { λ s. s.map.pairs };
+
+    ghost charges = { λ s. IsChargeOf s.map };
+
+    #[tactic(auto, using(crate::proofs::Moments::few_pairs))]
+    fn pair_count(&self) -> u128 {
+        self.map.law_ordered();
+        self.map.value_count()
+    }
+
+    fn nearest(&self, near: Near) -> Option<(u64, u64)> {
+        match near {
+            Near::First => self.map.first(),
+            Near::Last => self.map.last(),
+            Near::Floor(key) => self.map.floor(&key),
+            Near::Below(key) => self.map.below(&key),
+            Near::Ceiling(key) => self.map.ceiling(&key),
+            Near::Above(key) => self.map.above(&key),
+        }
+    }
+
+    fn charge(&self) -> u128 {
+        self.map.charged()
+    }
+
+    fn remove_key(&mut self, key: u64) {
+        let _ = self.map.remove(&key);
+    }
+
+    fn clear(&mut self) {
+        self.map.clear();
+    }
+}
+
+impl<E: RangeEntry> Pages<E> for State {
+    ghost entry = { E.entry };
+
+    fn page(&self, start: u64, last: u64, buffer: &mut [E]) -> usize {
+        self.map.range_inclusive_of(start, last, buffer)
+    }
+
+    fn page_back(&self, start: u64, last: u64, buffer: &mut [E]) -> usize {
+        self.map.range_descending_of(start, last, buffer)
+    }
+}
+
+/// The locks of a shared map.
+pub type MapLock = PartLock<State>;
+
+/// A seat at them.
+pub type MapSeat = PartSeat<State>;

@@ -1,0 +1,5 @@
+pub mod Charged
+pub mod Near
+pub mod Visits
+pub mod Whole
+pub mod Written

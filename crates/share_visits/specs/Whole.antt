@@ -1,0 +1,40 @@
+-- A map in one shard or in 64, each of them a map of its own, where one seat holds them all.
+use Rattle.std.specs.Prelude.{◌≡◌, ℕ, zero, suc, ◌/◌, ◌%◌, ◌⊎◌, List, [], ◌∷◌, Option, Some, reverse}
+use Rattle.share_parts.specs.Parts.{kept, Ascends}
+use Rattle.share_shards.specs.Held.{keys_at, numbers, slots_of}
+use Rattle.share_shards.specs.inner.SeatView.{ShardSeat}
+use Rattle.share_shards.specs.inner.Steps.{IsIdle, Took}
+use Rattle.share_visits.specs.declared.part.Part.{Part}
+use Rattle.spec_map.specs.Map.{Pairs, lookup}
+
+-- the shard of a key, of so many: keys that differ in their last eight bits alone are of one shard
+abbrev pub shard_of : ℕ → ℕ → ℕ
+shard_of count key = (key / 256) % count
+
+-- there is one shard, or there are 64
+abbrev pub IsCount : ℕ → Type 0
+IsCount count = (count ≡ 1) ⊎ (count ≡ 64)
+
+-- the numbers below this one, descending
+abbrev pub down : ℕ → List ℕ
+down zero = []
+down (suc n) = n ∷ down n
+
+-- the slots are those of all shards, which contain these pairs
+pub record Contains {M : Type 0} (pairs : M → Pairs ℕ) (count : ℕ) (all : Pairs ℕ) (slots : List (ℕ × Option (Part M))) : Type 0 where
+  pub held : List (ℕ × Part M)
+  pub is : slots ≡ slots_of held
+  pub numbered : numbers held ≡ down count
+  pub ordered : Ascends all
+  pub parts : (i : ℕ) (part : Part M) → lookup held i ≡ Some part → kept (keys_at (shard_of count) i) all ≡ pairs part.map
+
+-- what the slot of a shard contains
+abbrev pub part_content : {M : Type 0} → (M → Pairs ℕ) → Part M → Pairs ℕ → Type 0
+part_content pairs part m = m ≡ pairs part.map
+
+-- all shards were taken, by a seat that held none
+pub record TookAll {M : Type 0} (pairs : M → Pairs ℕ) (count : ℕ) (m n : ShardSeat ℕ (Part M)) : Type 0 where
+  pub idle : IsIdle m
+  pub shards : List ℕ
+  pub all : reverse shards ≡ down count
+  pub took : Took (part_content pairs) (shard_of count) shards m n
