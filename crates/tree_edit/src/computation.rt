@@ -16,7 +16,6 @@ use crate::removal::take_out;
 use crate::tree::Tree;
 use node_table::allocator::Allocator;
 use std::sync::ledger::Ledger;
-use tree_path::descent::seek_along;
 use tree_path::reads::ReadCount;
 
 impl<P: Drop, A: Allocator> Tree<P, A> {
@@ -36,13 +35,13 @@ impl<P: Drop, A: Allocator> Tree<P, A> {
         ensures reads { ReadsPath self.old.nodes key.now reads.old reads.new }
     {
         let mut trail = [self.root; 8];
-        let spot = seek_along(&self.nodes, self.root, key, reads, &mut trail);
-        let Some(payload) = current(&self.nodes, spot.slot, &spot.stop) else {
+        let spot = self.nodes.seek_along(self.root, key, reads, &mut trail);
+        let Some(payload) = current(&self.nodes, &spot, key) else {
             return None;
         };
         match f(payload) {
             Some(answer) => {
-                let before = change_payload(&mut self.nodes, spot.slot, &spot.stop, answer);
+                let before = change_payload(&mut self.nodes, &spot, key, answer);
                 Some(before)
             }
             None => {

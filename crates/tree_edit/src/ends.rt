@@ -1,26 +1,32 @@
 //! Removals of the first pair and of the last: one path down the first children, or the last, whose slots are remembered
-//! for the removal.
+//! for the removal. The path may end at a pair in its parent.
 //!
 //! Tested in `test_owned/neighbours`.
 
-ghost use Rattle.std.specs.Prelude.{◌≡◌, ◌+◌, false, [], IfSome, IfNone, Some};
+ghost use Rattle.std.specs.Prelude.{◌≡◌, ◌+◌, false, [], ◌∷◌, IfSome, IfNone, Some, map, length};
 ghost use Rattle.std.specs.Int.{to_be_bytes, w64};
 ghost use Rattle.std.specs.Option.{option_map};
 ghost use Rattle.spec_map.specs.Near.{first_of, last_of};
-ghost use Rattle.node_table.specs.TableNode.{looked_at};
+ghost use Rattle.node_table.specs.Key.{key_number};
 ghost use Rattle.tree_path.specs.inner.Descent.{IsTrail, SeeksTo};
 ghost use Rattle.tree_path.specs.inner.Root.{HasTree, tree_pairs, tree_nodes};
 ghost use Rattle.tree_edit.specs.Reduce.{AreFilled, LosesInPlace};
 ghost use Rattle.tree_edit.specs.TreeCalls.{Removes};
 ghost use Rattle.tree_edit.specs.inner.Ends.{at_side};
+ghost use Rattle.tree_links.specs.LinkNode.{looked_at};
+ghost use Rattle.tree_links.specs.Places.{as_linked};
+ghost use Rattle.tree_links.specs.SeenTable.{key_under, name_of};
+ghost use Rattle.tree_links.specs.Seeks.{seen_end, KnowsPair};
 
 use crate::removal::take_out;
-use crate::tree::Tree;
+use crate::tree::{Nodes, Tree};
+use node_base::base_node::BaseNode;
 use node_table::allocator::Allocator;
-use node_table::child::ChildRef;
 use node_table::tree_node::TreeNode;
-use slab::Slab;
-use tree_path::descent::{PathEnd, Stop};
+use tree_links::descent::{LinkEnd, LinkStop};
+use tree_links::link::LinkRef;
+use tree_links::linked_node::LinkedNode;
+use tree_links::place::Place;
 
 /// At which side of the pairs a removal is.
 #[derive(Clone, Copy)]
@@ -29,38 +35,64 @@ pub enum Side {
     Last,
 }
 
-// The node's first child or its last, and the byte.
+// The node's first link or its last, and the byte.
 #[inline(always)]
-fn child_at<P: Drop>(node: &TreeNode<P>, side: Side) -> Option<(u8, ChildRef<'_, P>)>
+fn link_at<P: Drop>(node: &TreeNode<P, Place<P>>, side: Side) -> Option<(u8, LinkRef<'_, P>)>
     ensures { option_map (λ found. (found.0, looked_at found.1)) result
-        ≡ at_side side node.now.children }
+        ≡ at_side side (as_linked node.now).links }
 {
     // For the proof: brings the order of the bytes into scope.
-    let _ = node.base();
+    let _ = LinkedNode::base(node);
     match side {
-        Side::First => node.first_from(0),
-        Side::Last => node.last_below(256),
+        Side::First => LinkedNode::first_from(node, 0),
+        Side::Last => LinkedNode::last_below(node, 256),
     }
+}
+
+// The first byte of each key under a byte of the node with this base.
+#[inline(always)]
+fn first_byte(base: &BaseNode, byte: u8) -> u8
+    ensures { key_under base.now.prefix byte [] ≡ result ∷ [] }
+{
+    match base.prefix() {
+        [] => byte,
+        [first, ..] => *first,
+    }
+}
+
+// The number of the key of a pair under a byte of the node with this base.
+#[inline(always)]
+fn pair_number(base: &BaseNode, byte: u8, rest: &[u8; 7]) -> u64
+    ensures number { result ≡ key_number (key_under base.now.prefix byte rest.now) }
+    ensures seven { length rest.now ≡ 7 }
+{
+    let first = first_byte(base, byte);
+    let [a, b, c, d, e, f, g] = *rest;
+    u64::from_be_bytes([first, a, b, c, d, e, f, g])
 }
 
 // Descends to the first pair or the last, and remembers the slots on the way as `seek_along` does. Returns its key and
 // where the path ends; `None` where there is no pair. Only the root may be empty, so no node on the way is a dead end.
 #[inline(always)]
 fn seek_end<P: Drop>(
-    nodes: &Slab<TreeNode<P>>,
+    nodes: &Nodes<P>,
     root: usize,
     side: Side,
     trail: &mut [usize; 8],
-) -> Option<(u64, PathEnd)>
-    requires tree { HasTree nodes.now.slots root }
-    requires filled { AreFilled (tree_nodes nodes.now.slots root) }
-    ensures none { IfNone result (tree_pairs nodes.now.slots root ≡ []) }
+) -> Option<(u64, LinkEnd)>
+    requires tree { HasTree nodes.now.table (name_of root) }
+    requires filled { AreFilled (tree_nodes nodes.now.table (name_of root)) }
+    ensures none { IfNone result (tree_pairs nodes.now.table (name_of root) ≡ []) }
     ensures key { IfSome result (λ found. Some found.0
-        ≡ option_map (λ pair. pair.0) (at_side side (tree_pairs nodes.now.slots root))) }
+        ≡ option_map (λ pair. pair.0) (at_side side (tree_pairs nodes.now.table (name_of root)))) }
     ensures ends { IfSome result (λ found.
-        SeeksTo nodes.now.slots root (to_be_bytes w64 found.0) found.1) }
+        SeeksTo nodes.now.table (name_of root) (to_be_bytes w64 found.0)
+        (seen_end (to_be_bytes w64 found.0) found.1)) }
+    ensures pair { IfSome result (λ found.
+        KnowsPair nodes.now.table (to_be_bytes w64 found.0) found.1) }
     ensures trail { IfSome result (λ found.
-        IsTrail nodes.now.slots root (to_be_bytes w64 found.0) trail.new (found.1.above + 1)) }
+        IsTrail nodes.now.table (name_of root) (to_be_bytes w64 found.0) (map name_of trail.new)
+        (found.1.above + 1)) }
 {
     let mut slot = root;
     let mut parent = root;
@@ -70,16 +102,17 @@ fn seek_end<P: Drop>(
         let Some(node) = nodes.get(slot) else {
             unreachable!()
         };
-        let Some((byte, child)) = child_at(node, side) else {
+        let Some((byte, link)) = link_at(node, side) else {
             return None;
         };
-        match child {
-            ChildRef::Payload(_) => {
-                let key = node.base().first_key() + byte as u64;
-                let stop = Stop::Leaf(byte);
+        let base = LinkedNode::base(node);
+        match link {
+            LinkRef::Payload(_) => {
+                let key = base.first_key() + byte as u64;
+                let stop = LinkStop::Leaf(byte);
                 return Some((
                     key,
-                    PathEnd {
+                    LinkEnd {
                         slot,
                         parent,
                         above,
@@ -87,7 +120,20 @@ fn seek_end<P: Drop>(
                     },
                 ));
             }
-            ChildRef::Node(below) => {
+            LinkRef::Pair(rest, _) => {
+                let key = pair_number(base, byte, rest);
+                let stop = LinkStop::Pair(byte);
+                return Some((
+                    key,
+                    LinkEnd {
+                        slot,
+                        parent,
+                        above,
+                        stop,
+                    },
+                ));
+            }
+            LinkRef::Slot(below) => {
                 parent = slot;
                 slot = below;
                 above += 1;

@@ -1,306 +1,315 @@
-//! An insertion: at the end of the key's path, one node is changed or grown, or a new node is put above it.
+//! An insertion: at the end of the key's path, a payload is set, a pair is put into a place, or a node is put above it.
 //!
-//! All memory is taken before the first change of what the tree stores, and before a closure is called.
+//! All memory is taken before the first change of what the tree stores, and before a closure is called. A pair that gets
+//! a leaf of its own for a second one takes none.
 //!
 //! What a call does at a leaf is inline (`#[inline(always)]`), as its result has several words, which a call returns
 //! through memory.
 //!
 //! Tested in `test_owned` and `tools/dev/try-commands`.
 
-ghost use Rattle.std.specs.Prelude.{◌≡◌, ℕ, ◌<◌, ◌^◌, [], take, IfOk, IfErr, IfSome, IfNone, OnOk, OnErr, IsSome, Some, None, option_copied};
+ghost use Rattle.std.specs.Prelude.{◌≡◌, ℕ, List, ◌+◌, ◌<◌, ◌≤◌, ◌^◌, IfOk, IfErr, IfSome, IfNone, OnOk, OnErr, Some, None, option_copied, slice_index};
 ghost use Rattle.std.specs.Int.{from_be_bytes, w64};
-ghost use Rattle.slab.specs.Slab.{slab_len, HasRoomFor};
+ghost use Rattle.node_base.specs.Form.{next_form};
+ghost use Rattle.node_base.specs.declared.base_node.NodeType.{NodeType};
+ghost use Rattle.node_base.specs.declared.base_node.NodeType.TheVariants.{N4};
+ghost use Rattle.node_table.specs.TableNode.{TableNode};
+ghost use Rattle.node_table.specs.Table.{node_at};
+ghost use Rattle.tree_path.specs.inner.Supply.{count, with_form, CountsGrown, IsCountedAt, AreFew, Alike, Trades};
 ghost use Rattle.tree_edit.specs.TreeCalls.{Inserts, ComputesOrInserts, ReadsPath};
 ghost use Rattle.tree_edit.specs.Closure.{TakesOption};
 ghost use Rattle.tree_edit.specs.Tree.{payload_at};
-ghost use Rattle.node_table.specs.Table.{node_at};
-ghost use Rattle.tree_path.specs.declared.descent.Stop.TheVariants.{Differs};
-ghost use Rattle.node_base.specs.declared.base_node.NodeType.{NodeType};
-ghost use Rattle.node_base.specs.declared.base_node.NodeType.TheVariants.{N4};
-ghost use Rattle.tree_path.specs.inner.Supply.{count, with_form, IsCountedAt, CountsGrown, AreFew, Alike};
-ghost use Rattle.tree_edit.specs.inner.Writes.{SameElsewhere, MakesRoom, IsFullAt, RefusesHere, IsReadyFor, WritesChild, HasLeafFor, NothingIsStored, IsStoredWhere, Exchanges, Sets, IsOpenFor, AddsLeafFor, HaltsAt, empty_leaf, IsParted, SplitsFor, IsReady};
+ghost use Rattle.tree_edit.specs.inner.Writes.{HasLeafAt, HasNothingUnder, IsFullAt, IsStoredWhere, MakesRoom, SameElsewhere};
+ghost use Rattle.tree_path.specs.declared.descent.Stop.TheVariants.{Leaf};
+ghost use Rattle.tree_links.specs.PairCalls.{HasBelow};
+ghost use Rattle.tree_links.specs.OtherForm.{GrowsNode};
+ghost use Rattle.tree_links.specs.SeenTable.{leaf_of, name_of, name_under};
+ghost use Rattle.tree_edit.specs.inner.Ready.{MayPut, Puts, IsReady};
+ghost use Rattle.tree_edit.specs.inner.Spots.{IsSpot, HasThere, LacksThere, MayRefuse, ExchangesThere, SetsThere, EndsAbsent};
 
-use crate::tree::Tree;
+use crate::tree::{Nodes, Tree};
 use node_base::base_node::NodeType;
 use node_table::allocator::Allocator;
-use node_table::child::{Child, ChildRef};
 use node_table::tree_node::TreeNode;
-use slab::Slab;
 use spec_map::error::OOMError;
-use std::mem;
 use std::sync::ledger::Ledger;
-use tree_path::descent::{PathEnd, Stop, seek};
+use tree_links::descent::{LinkEnd, LinkStop};
+use tree_links::link::LinkRef;
+use tree_links::linked_node::LinkedNode;
 use tree_path::reads::ReadCount;
-use tree_path::supply::Supply;
+use tree_path::supply::{Supply, larger};
 
-// Grows the node in a slot where it is full.
-fn make_room<P: Drop, A: Allocator>(
-    nodes: &mut Slab<TreeNode<P>>,
-    supply: &mut Supply<A>,
-    slot: usize,
-) -> Result<(), OOMError>
-    requires counted { IsCountedAt nodes.old.slots slot supply.old.forms }
-    requires few { (form : NodeType) → count form supply.old.forms < 2 ^ 63 }
-    ensures keeps { SameElsewhere slot nodes.old.slots nodes.new.slots }
-    ensures ok { OnOk result (MakesRoom nodes.old.slots nodes.new.slots slot) }
-    ensures err { OnErr result (nodes.new.slots ≡ nodes.old.slots) }
-    ensures refused { OnErr result (IsFullAt nodes.old.slots slot) }
-    ensures len { slab_len nodes.new ≡ slab_len nodes.old }
-    ensures capacity { nodes.new.capacity ≡ nodes.old.capacity }
-    ensures grown { OnOk result
-        (CountsGrown nodes.old.slots slot supply.old.forms supply.new.forms) }
-    ensures same { OnErr result (supply.new.forms ≡ supply.old.forms) }
-    ensures alike { Alike A.charge supply.old supply.new }
-{
-    let Some(node) = nodes.get_mut(slot) else {
-        unreachable!()
-    };
-    // (for the proof: brings the order of the children into scope)
-    let _ = node.base();
-    let full = node.is_full();
-    if full {
-        supply.grow(node)?;
-    }
-    Ok(())
+/// What is ready for a new key's pair.
+#[derive(Drop)]
+pub(crate) enum Ready {
+    /// The key's leaf, in this slot, has room.
+    Leaf(usize),
+    /// The node in this slot has room, and nothing under this byte.
+    Place(usize, u8),
+    /// Under this byte of the node in this slot there is a pair, whose leaf's prefix the key leaves at this place.
+    Beside(usize, u8, usize),
+    /// Under this byte of the node in this slot there is the node in another, whose prefix the key leaves at this place.
+    Above(usize, u8, usize, usize),
 }
 
-/// Puts a child into the node in a slot, which has room.
-pub(crate) fn put_child<P: Drop>(
-    nodes: &mut Slab<TreeNode<P>>,
-    slot: usize,
-    byte: u8,
-    child: Child<P>,
-)
-    requires { IsReadyFor nodes.old.slots slot byte child }
-    ensures keeps { SameElsewhere slot nodes.old.slots nodes.new.slots }
-    ensures written { WritesChild nodes.old.slots nodes.new.slots slot byte child }
+// The payload under a byte of the leaf in a slot.
+#[inline(always)]
+fn payload_at<P: Drop>(nodes: &Nodes<P>, slot: usize, byte: u8) -> Option<&P>
+    requires { HasLeafAt nodes.now.table (name_of slot) }
+    ensures some { IfSome result (λ payload.
+        IsStoredWhere nodes.now.table (name_of slot) (Leaf byte) payload.now) }
+    ensures none { IfNone result (HasNothingUnder nodes.now.table (name_of slot) byte) }
 {
-    let Some(node) = nodes.get_mut(slot) else {
+    match nodes.node(slot).get_link(byte) {
+        None => None,
+        Some(LinkRef::Payload(payload)) => Some(payload),
+        Some(LinkRef::Slot(_)) => unreachable!(),
+        Some(LinkRef::Pair(_, _)) => unreachable!(),
+    }
+}
+
+// The payload of the pair under a byte of the inner node in a slot.
+#[inline(always)]
+fn pair_at<P: Drop>(nodes: &Nodes<P>, slot: usize, byte: u8) -> &P
+    requires { HasBelow nodes.now.table (name_of slot) byte (name_under slot byte) }
+    ensures { (key : List ℕ) (payload : P)
+        → node_at nodes.now.table (name_under slot byte) ≡ Some (leaf_of key payload)
+        → payload ≡ result.now }
+{
+    let Some(node) = nodes.get(slot) else {
         unreachable!()
     };
-    node.insert(byte, child);
+    match node.get_link(byte) {
+        Some(LinkRef::Pair(_, payload)) => payload,
+        Some(LinkRef::Payload(_)) => unreachable!(),
+        Some(LinkRef::Slot(_)) => unreachable!(),
+        None => unreachable!(),
+    }
 }
 
 /// The payload where a descent ended, if the key is present.
 #[inline(always)]
 pub(crate) fn current<'a, P: Drop>(
-    nodes: &'a Slab<TreeNode<P>>,
-    slot: usize,
-    stop: &Stop,
+    nodes: &'a Nodes<P>,
+    spot: &LinkEnd,
+    key: &[u8; 8],
 ) -> Option<&'a P>
-    requires { HasLeafFor nodes.now.slots slot stop.now }
-    ensures some { IfSome result (λ payload. IsStoredWhere nodes.now.slots slot stop.now payload.now) }
-    ensures none { IfNone result (NothingIsStored nodes.now.slots slot stop.now) }
+    requires { IsSpot nodes.now.table key.now spot.now }
+    ensures some { IfSome result (λ payload. HasThere nodes.now.table key.now spot.now payload.now) }
+    ensures none { IfNone result (LacksThere nodes.now.table key.now spot.now) }
 {
-    let Stop::Leaf(byte) = stop else {
-        return None;
-    };
-    let Some(leaf) = nodes.get(slot) else {
-        unreachable!()
-    };
-    match leaf.get_child(*byte)? {
-        ChildRef::Payload(payload) => Some(payload),
-        ChildRef::Node(_) => unreachable!(),
+    match spot.stop {
+        LinkStop::Leaf(byte) => payload_at(nodes, spot.slot, byte),
+        LinkStop::Pair(byte) => Some(pair_at(nodes, spot.slot, byte)),
+        _ => None,
+    }
+}
+
+/// Sets the payload where a descent ended, if the key is present there or its leaf has room for one more, and returns the
+/// previous one. Takes no memory, and searches the leaf once. Otherwise returns the given payload as `Err`.
+#[inline(always)]
+pub(crate) fn set_payload<P: Drop>(
+    nodes: &mut Nodes<P>,
+    spot: &LinkEnd,
+    key: &[u8; 8],
+    payload: P,
+) -> Result<Option<P>, P>
+    requires { IsSpot nodes.old.table key.now spot.now }
+    ensures set { IfOk result (λ before.
+        SetsThere nodes.old.table key.now spot.now nodes.new.table payload before) }
+    ensures absent { OnErr result (LacksThere nodes.old.table key.now spot.now) }
+    ensures same { OnErr result (nodes.new.table ≡ nodes.old.table) }
+    ensures back { IfErr result (λ back. back ≡ payload) }
+{
+    match spot.stop {
+        LinkStop::Leaf(byte) => nodes.set_payload(spot.slot, byte, payload),
+        LinkStop::Pair(byte) => Ok(Some(nodes.change_pair(spot.slot, byte, key, payload))),
+        _ => Err(payload),
     }
 }
 
 /// Replaces the payload where a descent ended, and returns the previous one.
 #[inline(always)]
 pub(crate) fn change_payload<P: Drop>(
-    nodes: &mut Slab<TreeNode<P>>,
-    slot: usize,
-    stop: &Stop,
+    nodes: &mut Nodes<P>,
+    spot: &LinkEnd,
+    key: &[u8; 8],
     payload: P,
 ) -> P
-    requires leaf { HasLeafFor nodes.old.slots slot stop.now }
-    requires at_key { NothingIsStored nodes.old.slots slot stop.now → ⊥ }
-    ensures before { IsStoredWhere nodes.old.slots slot stop.now result }
-    ensures after { Exchanges nodes.old.slots nodes.new.slots slot stop.now payload }
+    requires spot { IsSpot nodes.old.table key.now spot.now }
+    requires at_key { LacksThere nodes.old.table key.now spot.now → ⊥ }
+    ensures before { HasThere nodes.old.table key.now spot.now result }
+    ensures after { ExchangesThere nodes.old.table key.now spot.now nodes.new.table payload }
 {
-    match set_payload(nodes, slot, stop, payload) {
+    match set_payload(nodes, spot, key, payload) {
         Ok(Some(before)) => before,
         Ok(None) => unreachable!(),
         Err(_) => unreachable!(),
     }
 }
 
-/// Sets the payload in the leaf where a descent ended, if the key is present there or the leaf has room for one more,
-/// and returns the previous one. Takes no memory, and searches the leaf once. Otherwise returns the given payload as
-/// `Err`.
-#[inline(always)]
-pub(crate) fn set_payload<P: Drop>(
-    nodes: &mut Slab<TreeNode<P>>,
-    slot: usize,
-    stop: &Stop,
-    payload: P,
-) -> Result<Option<P>, P>
-    requires { HasLeafFor nodes.old.slots slot stop.now }
-    ensures set { IfOk result (λ before.
-        Sets nodes.old.slots nodes.new.slots slot stop.now payload before) }
-    ensures absent { OnErr result (NothingIsStored nodes.old.slots slot stop.now) }
-    ensures same { OnErr result (nodes.new.slots ≡ nodes.old.slots) }
-    ensures back { IfErr result (λ back. back ≡ payload) }
-{
-    let Stop::Leaf(byte) = stop else {
-        return Err(payload);
-    };
-    let Some(node) = nodes.get_mut(slot) else {
-        unreachable!()
-    };
-    match node.exchange(*byte, Child::Payload(payload)) {
-        Ok(Child::Payload(before)) => Ok(Some(before)),
-        Err(Child::Payload(back)) => {
-            if node.is_full() {
-                return Err(back);
-            }
-            node.insert(*byte, Child::Payload(back));
-            Ok(None)
-        }
-        Ok(Child::Node(_)) => unreachable!(),
-        Err(Child::Node(_)) => unreachable!(),
-    }
-}
-
-// Puts another node into a slot.
-fn swap_node<P: Drop>(nodes: &mut Slab<TreeNode<P>>, slot: usize, other: TreeNode<P>) -> TreeNode<P>
-    requires { IsSome (node_at nodes.old.slots slot) }
-    ensures keeps { SameElsewhere slot nodes.old.slots nodes.new.slots }
-    ensures before { node_at nodes.old.slots slot ≡ Some result }
-    ensures after { node_at nodes.new.slots slot ≡ Some other }
-    ensures len { slab_len nodes.new ≡ slab_len nodes.old }
-    ensures capacity { nodes.new.capacity ≡ nodes.old.capacity }
-    ensures next { nodes.new.vacant_key ≡ nodes.old.vacant_key }
-{
-    let Some(node) = nodes.get_mut(slot) else {
-        unreachable!()
-    };
-    mem::replace(node, other)
-}
-
-// Puts an empty leaf for the key under a byte of the node in a slot, which is above the leaves and has no child there,
-// and returns the leaf's slot. All memory is taken before the first change.
-fn add_leaf<P: Drop, A: Allocator>(
-    nodes: &mut Slab<TreeNode<P>>,
+// Puts the node in a slot, of this form, into its next one. The size of that is charged before the old one is uncharged.
+fn grow<P: Drop, A: Allocator>(
+    nodes: &mut Nodes<P>,
     supply: &mut Supply<A>,
     slot: usize,
-    byte: u8,
-    key: &[u8; 8],
-) -> Result<usize, OOMError>
-    requires open { IsOpenFor nodes.old.slots slot byte }
-    requires counted { IsCountedAt nodes.old.slots slot supply.old.forms }
-    requires few { AreFew supply.old.forms }
-    ensures ok { IfOk result (λ leaf.
-        AddsLeafFor nodes.old.slots nodes.new.slots slot key.now byte leaf) }
+    small: NodeType,
+) -> Result<(), OOMError>
+    requires here { (n : TableNode P) × (node_at nodes.old.table (name_of slot) ≡ Some n) }
+    requires counted { 0 < count small supply.old.forms }
+    requires room { count (next_form small) supply.old.forms < 2 ^ 63 }
+    ensures ok { OnOk result (GrowsNode nodes.old.table nodes.new.table (name_of slot)) }
+    ensures err { OnErr result (nodes.new.table ≡ nodes.old.table) }
+    ensures free { nodes.new.free ≡ nodes.old.free }
+    ensures forms { OnOk result (Trades supply.old.forms small (next_form small) supply.new.forms) }
+    ensures same { OnErr result (supply.new.forms ≡ supply.old.forms) }
+    ensures alike { Alike A.charge supply.old supply.new }
+{
+    let large = larger(small);
+    supply.charge(large)?;
+    let grown = nodes.grow(slot, supply.memory());
+    supply.give_back(if grown.is_ok() { small } else { large });
+    grown
+}
+
+// Grows the node in a slot where it is full.
+fn make_room<P: Drop, A: Allocator>(
+    nodes: &mut Nodes<P>,
+    supply: &mut Supply<A>,
+    slot: usize,
+) -> Result<(), OOMError>
+    requires counted { IsCountedAt nodes.old.table (name_of slot) supply.old.forms }
+    requires few { (form : NodeType) → count form supply.old.forms < 2 ^ 63 }
+    ensures keeps { SameElsewhere (name_of slot) nodes.old.table nodes.new.table }
+    ensures ok { OnOk result (MakesRoom nodes.old.table nodes.new.table (name_of slot)) }
+    ensures err { OnErr result (nodes.new.table ≡ nodes.old.table) }
+    ensures refused { OnErr result (IsFullAt nodes.old.table (name_of slot)) }
+    ensures free { nodes.new.free ≡ nodes.old.free }
     ensures grown { OnOk result
-        (CountsGrown nodes.old.slots slot (with_form N4 supply.old.forms) supply.new.forms) }
-    ensures err { OnErr result (nodes.new.slots ≡ nodes.old.slots) }
+        (CountsGrown nodes.old.table (name_of slot) supply.old.forms supply.new.forms) }
+    ensures same { OnErr result (supply.new.forms ≡ supply.old.forms) }
+    ensures alike { Alike A.charge supply.old supply.new }
+{
+    // (for the proof: brings the number of children into scope)
+    let _ = nodes.node(slot).base();
+    if nodes.is_full(slot) {
+        let form = nodes.form_of(slot);
+        grow(nodes, supply, slot, form)?;
+    }
+    Ok(())
+}
+
+// Makes room for a pair in the node in a slot, and charges its leaf.
+fn make_place<P: Drop, A: Allocator>(
+    nodes: &mut Nodes<P>,
+    supply: &mut Supply<A>,
+    slot: usize,
+) -> Result<(), OOMError>
+    requires counted { IsCountedAt nodes.old.table (name_of slot) supply.old.forms }
+    requires few { AreFew supply.old.forms }
+    ensures keeps { SameElsewhere (name_of slot) nodes.old.table nodes.new.table }
+    ensures ok { OnOk result (MakesRoom nodes.old.table nodes.new.table (name_of slot)) }
+    ensures err { OnErr result (nodes.new.table ≡ nodes.old.table) }
+    ensures free { OnOk result (0 < nodes.new.free) }
+    ensures grown { OnOk result (CountsGrown nodes.old.table (name_of slot)
+        (with_form N4 supply.old.forms) supply.new.forms) }
     ensures same { OnErr result (supply.new.forms ≡ supply.old.forms) }
     ensures alike { Alike A.charge supply.old supply.new }
 {
     nodes.reserve(1)?;
-    let leaf = supply.leaf(&key[..7])?;
+    supply.charge(NodeType::N4)?;
     if let Err(error) = make_room(nodes, supply, slot) {
         supply.give_back(NodeType::N4);
         return Err(error);
     }
-    let below = nodes.insert_reserved(leaf);
-    put_child(nodes, slot, byte, Child::Node(below));
-    Ok(below)
+    Ok(())
 }
 
-// Puts a node above the one in a slot, where the key leaves its prefix, and the key's leaf beside that one. Takes no
-// memory. Returns the leaf's slot.
-fn part<P: Drop>(
-    nodes: &mut Slab<TreeNode<P>>,
-    slot: usize,
-    key: &[u8; 8],
-    at: usize,
-    upper: TreeNode<P>,
-    leaf: TreeNode<P>,
-) -> usize
-    requires parted { IsParted nodes.old.slots slot key.now at }
-    requires upper { upper ≡ record { form = N4; prefix = take at key.now; children = [] } }
-    requires leaf { leaf ≡ empty_leaf key.now }
-    requires reserved { HasRoomFor nodes.old 2 }
-    ensures { SplitsFor nodes.old.slots nodes.new.slots slot key.now at result }
-{
-    let Some(node) = nodes.get(slot) else {
-        unreachable!()
-    };
-    let byte = node.base().prefix()[at];
-    let leaf_slot = nodes.insert_reserved(leaf);
-    let lower = nodes.vacant_key();
-    let mut upper = upper;
-    upper.insert(byte, Child::Node(lower));
-    upper.insert(key[at], Child::Node(leaf_slot));
-    let old = swap_node(nodes, slot, upper);
-    nodes.insert_reserved(old);
-    leaf_slot
-}
-
-// Splits the node in a slot where the key leaves its prefix, at this byte: puts a node above it, and an empty leaf for
-// the key beside it, whose slot it returns. All memory is taken before the first change.
-fn split<P: Drop, A: Allocator>(
-    nodes: &mut Slab<TreeNode<P>>,
+// Takes memory for a node and a leaf, and charges them.
+fn make_two<P: Drop, A: Allocator>(
+    nodes: &mut Nodes<P>,
     supply: &mut Supply<A>,
-    slot: usize,
-    key: &[u8; 8],
-    at: usize,
-) -> Result<usize, OOMError>
-    requires parted { IsParted nodes.old.slots slot key.now at }
-    requires prefix { at < 7 }
+) -> Result<(), OOMError>
     requires few { AreFew supply.old.forms }
-    ensures ok { IfOk result (λ leaf.
-        SplitsFor nodes.old.slots nodes.new.slots slot key.now at leaf) }
+    ensures table { nodes.new.table ≡ nodes.old.table }
+    ensures free { OnOk result (1 < nodes.new.free) }
     ensures more { OnOk result (supply.new.forms ≡ with_form N4 (with_form N4 supply.old.forms)) }
-    ensures err { OnErr result (nodes.new.slots ≡ nodes.old.slots) }
     ensures same { OnErr result (supply.new.forms ≡ supply.old.forms) }
     ensures alike { Alike A.charge supply.old supply.new }
 {
     nodes.reserve(2)?;
-    let upper = supply.inner(&key[..at])?;
-    match supply.leaf(&key[..7]) {
-        Ok(leaf) => Ok(part(nodes, slot, key, at, upper, leaf)),
-        Err(error) => {
-            supply.give_back(NodeType::N4);
-            Err(error)
+    supply.charge(NodeType::N4)?;
+    if let Err(error) = supply.charge(NodeType::N4) {
+        supply.give_back(NodeType::N4);
+        return Err(error);
+    }
+    Ok(())
+}
+
+/// Makes ready for a new key where its descent ended: no later step can fail. All memory is taken before the first
+/// change.
+pub(crate) fn make_ready<P: Drop, A: Allocator>(
+    nodes: &mut Nodes<P>,
+    supply: &mut Supply<A>,
+    spot: &LinkEnd,
+    key: &[u8; 8],
+) -> Result<Ready, OOMError>
+    requires ends { (root : ℕ)
+        × EndsAbsent nodes.old.table key.now spot.now root supply.old.forms }
+    requires few { AreFew supply.old.forms }
+    ensures may { IfOk result (λ ready. MayPut nodes.new.table nodes.new.free key.now ready) }
+    ensures ready { IfOk result (λ ready. (root : ℕ)
+        → EndsAbsent nodes.old.table key.now spot.now root supply.old.forms
+        → IsReady nodes.old.table nodes.new.table root key.now ready supply.new.forms) }
+    ensures err { OnErr result (nodes.new.table ≡ nodes.old.table) }
+    ensures same { OnErr result (supply.new.forms ≡ supply.old.forms) }
+    ensures refused { OnErr result (MayRefuse nodes.old.table key.now spot.now) }
+    ensures alike { Alike A.charge supply.old supply.new }
+{
+    match spot.stop {
+        LinkStop::Leaf(_) => {
+            make_room(nodes, supply, spot.slot)?;
+            Ok(Ready::Leaf(spot.slot))
         }
+        LinkStop::PairBeside(byte) => Ok(Ready::Leaf(nodes.hoist(spot.slot, byte))),
+        LinkStop::Absent(byte) => {
+            make_place(nodes, supply, spot.slot)?;
+            Ok(Ready::Place(spot.slot, byte))
+        }
+        LinkStop::PairDiffers(byte, at) => {
+            make_two(nodes, supply)?;
+            Ok(Ready::Beside(spot.slot, byte, at))
+        }
+        LinkStop::Differs(at) => {
+            let byte = key[nodes.node(spot.parent).base().prefix().len()];
+            make_two(nodes, supply)?;
+            Ok(Ready::Above(spot.parent, byte, spot.slot, at))
+        }
+        LinkStop::Pair(_) => unreachable!(),
     }
 }
 
-/// Makes a leaf ready for a new key, where its descent ended, and returns the leaf's slot: no later step can fail. All
-/// memory is taken before the first change.
-pub(crate) fn make_ready<P: Drop, A: Allocator>(
-    nodes: &mut Slab<TreeNode<P>>,
-    supply: &mut Supply<A>,
-    slot: usize,
-    stop: &Stop,
-    key: &[u8; 8],
-) -> Result<usize, OOMError>
-    requires halts { HaltsAt nodes.old.slots slot key.now stop.now }
-    requires counted { IsCountedAt nodes.old.slots slot supply.old.forms }
-    requires few { AreFew supply.old.forms }
-    requires prefix { (at : ℕ) → stop.now ≡ Differs at → at < 7 }
-    ensures ready { IfOk result (λ leaf.
-        IsReady nodes.old.slots nodes.new.slots slot stop.now key.now
-        supply.old.forms supply.new.forms leaf) }
-    ensures err { OnErr result (nodes.new.slots ≡ nodes.old.slots) }
-    ensures same { OnErr result (supply.new.forms ≡ supply.old.forms) }
-    ensures refused { OnErr result (RefusesHere nodes.old.slots slot stop.now) }
-    ensures alike { Alike A.charge supply.old supply.new }
+/// Puts a new key's pair where all is ready for it. Takes no memory.
+pub(crate) fn put<P: Drop>(nodes: &mut Nodes<P>, ready: Ready, key: &[u8; 8], payload: P)
+    requires { MayPut nodes.old.table nodes.old.free key.now ready }
+    ensures { Puts nodes.old.table nodes.new.table key.now ready payload }
 {
-    match *stop {
-        Stop::Differs(at) => split(nodes, supply, slot, key, at),
-        Stop::Absent(byte) => add_leaf(nodes, supply, slot, byte, key),
-        Stop::Leaf(_) => {
-            make_room(nodes, supply, slot)?;
-            Ok(slot)
+    match ready {
+        Ready::Leaf(slot) => nodes.put_payload(slot, key[7], payload),
+        Ready::Place(slot, byte) => nodes.add_pair(slot, byte, key, payload),
+        Ready::Beside(slot, byte, at) => {
+            let upper = TreeNode::empty_inner(&key[..at]);
+            nodes.split_pair(slot, byte, key, at, upper, payload);
+        }
+        Ready::Above(parent, byte, slot, at) => {
+            let upper = TreeNode::empty_inner(&key[..at]);
+            nodes.split_above(parent, byte, slot, key, at, upper, payload);
         }
     }
 }
 
 // `None` with the lifetime of `nodes`, so that both arms hand the closure one type.
-fn nothing<P>(_nodes: &Slab<TreeNode<P>>) -> Option<&P>
+fn nothing<P: Drop>(_nodes: &Nodes<P>) -> Option<&P>
     ensures { option_copied result ≡ None }
 {
     None
@@ -324,16 +333,16 @@ impl<P: Drop, A: Allocator> Tree<P, A> {
             Inserts A.charge self.old number payload result self.new }
         ensures reads { ReadsPath self.old.nodes key.now reads.old reads.new }
     {
-        let PathEnd { slot, stop, .. } = seek(&self.nodes, self.root, key, reads);
-        match set_payload(&mut self.nodes, slot, &stop, payload) {
+        let spot = self.nodes.seek(self.root, key, reads);
+        match set_payload(&mut self.nodes, &spot, key, payload) {
             Ok(Some(before)) => Ok(Some(before)),
             Ok(None) => {
                 self.count += 1;
                 Ok(None)
             }
             Err(payload) => {
-                let leaf = make_ready(&mut self.nodes, &mut self.supply, slot, &stop, key)?;
-                put_child(&mut self.nodes, leaf, key[7], Child::Payload(payload));
+                let ready = make_ready(&mut self.nodes, &mut self.supply, &spot, key)?;
+                put(&mut self.nodes, ready, key, payload);
                 self.count += 1;
                 Ok(None)
             }
@@ -355,18 +364,18 @@ impl<P: Drop, A: Allocator> Tree<P, A> {
             ComputesOrInserts A.charge self.old number F.FnMut f.old result f.new self.new }
         ensures reads { ReadsPath self.old.nodes key.now reads.old reads.new }
     {
-        let PathEnd { slot, stop, .. } = seek(&self.nodes, self.root, key, reads);
-        let shown = current(&self.nodes, slot, &stop);
+        let spot = self.nodes.seek(self.root, key, reads);
+        let shown = current(&self.nodes, &spot, key);
         match shown {
             Some(_) => {
                 let answer = f(shown);
-                let before = change_payload(&mut self.nodes, slot, &stop, answer);
+                let before = change_payload(&mut self.nodes, &spot, key, answer);
                 Ok(Some(before))
             }
             None => {
-                let leaf = make_ready(&mut self.nodes, &mut self.supply, slot, &stop, key)?;
+                let ready = make_ready(&mut self.nodes, &mut self.supply, &spot, key)?;
                 let payload = f(nothing(&self.nodes));
-                put_child(&mut self.nodes, leaf, key[7], Child::Payload(payload));
+                put(&mut self.nodes, ready, key, payload);
                 self.count += 1;
                 Ok(None)
             }

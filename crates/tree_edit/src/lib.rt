@@ -1,5 +1,7 @@
 //! A tree as one value, and the calls that change one pair of it.
 //!
+//! A pair that is alone in its leaf is in its parent. Contracts speak of the table in which it has a leaf of its own.
+//!
 //! Tested in `test_owned` and `tools/dev/try-commands`.
 #![tactic(auto)]
 

@@ -1,12 +1,13 @@
-//! The adaptive radix tree as one value (*The Adaptive Radix Tree*, Leis et al.): its nodes in one table, the supply
-//! that they are taken from, and how many pairs there are.
+//! The adaptive radix tree as one value (*The Adaptive Radix Tree*, Leis et al.): its nodes in a table of links, the
+//! supply that they are charged to, and how many pairs there are.
 //!
 //! The nodes refer to each other by slot numbers that no user sees. Each node's prefix has all bytes from the root down
-//! to it. Nodes with a prefix of seven bytes have payloads as children, those with a shorter one have nodes. The root
-//! has no prefix, and the form that never grows.
+//! to it. Nodes with a prefix of seven bytes have payloads as children, those with a shorter one have nodes, or pairs
+//! that are alone in their leaf. The root has no prefix, and the form that never grows. A node is charged in its form,
+//! and a pair in its parent as the leaf that it is seen as.
 //!
 //! The modules beside this one change it. They work on its parts, which needn't agree with one another between two
-//! steps; a `Tree` is parts that agree.
+//! steps. A `Tree` is parts that agree.
 //!
 //! Tested in `test_owned` and `tools/dev/try-commands`.
 
@@ -16,17 +17,21 @@ ghost use Rattle.tree_edit.specs.TreeCalls.{IsNew, IsChargeOf, ReadsPath};
 ghost use Rattle.tree_path.specs.Charge.{charge_of};
 ghost use Rattle.node_table.specs.Charge.{Covers};
 ghost use Rattle.tree_edit.specs.Tree.{payload_at};
+ghost use Rattle.tree_links.specs.SeenTable.{name_of};
 
+use node_base::base_node::NodeType;
 use node_table::allocator::Allocator;
 use node_table::tree_node::TreeNode;
-use slab::Slab;
 use spec_map::error::OOMError;
 use std::alloc::Global;
 use std::marker::Model;
 use std::sync::ledger::Ledger;
-use tree_path::descent::find;
+use tree_links::links::Links;
 use tree_path::reads::ReadCount;
 use tree_path::supply::Supply;
+
+/// The nodes of a tree with these payloads.
+pub type Nodes<P> = Links<P>;
 
 /// An ordered map from keys of eight bytes, most significant first, to payloads.
 ///
@@ -34,7 +39,7 @@ use tree_path::supply::Supply;
 /// the budget, which is charged for each node from before it is made until it is freed.
 #[derive(Drop)]
 pub struct Tree<P: Drop, A: Allocator> {
-    pub(crate) nodes: Slab<TreeNode<P>>,
+    pub(crate) nodes: Nodes<P>,
     pub(crate) supply: Supply<A>,
     pub(crate) root: usize,
     /// How many pairs there are: 2 to the 64 at most.
@@ -45,18 +50,19 @@ impl<P: Drop, A: Allocator> Model for Tree<P, A> {
     ghost use Rattle.tree_path.specs.inner.Root.{tree_pairs, tree_nodes};
     ghost use Rattle.tree_edit.specs.Tree.{TreeView, tree_code};
     ghost use Rattle.tree_edit.specs.inner.Whole.{IsWhole};
+    ghost use Rattle.tree_links.specs.SeenTable.{name_of};
 
     ghost Value = { TreeView P A };
 
     ghost coded = { tree_code P.code A.code };
 
     ghost view = { λ t. record {
-      pairs = tree_pairs t.nodes.slots t.root;
-      nodes = tree_nodes t.nodes.slots t.root;
+      pairs = tree_pairs t.nodes.table (name_of t.root);
+      nodes = tree_nodes t.nodes.table (name_of t.root);
       budget = t.supply.budget;
     } };
 
-    ghost invariant = { λ t. IsWhole t.nodes.slots t.root t.supply.forms t.count };
+    ghost invariant = { λ t. IsWhole t.nodes.table (name_of t.root) t.supply.forms t.count };
 }
 
 impl<P: Drop, A: Allocator> Tree<P, A> {
@@ -64,10 +70,11 @@ impl<P: Drop, A: Allocator> Tree<P, A> {
     pub fn new(alloc: Global, budget: A) -> Result<Self, OOMError>
         ensures { IfOk result (λ tree. IsNew A.charge budget tree) }
     {
-        let mut nodes = Slab::new(alloc);
+        let mut nodes = Links::new(alloc);
         nodes.reserve(1)?;
         let mut supply = Supply::new(alloc, budget);
-        let root = nodes.insert_reserved(supply.root()?);
+        supply.charge(NodeType::N256)?;
+        let root = nodes.add(TreeNode::root(alloc)?);
         Ok(Tree {
             nodes,
             supply,
@@ -81,7 +88,7 @@ impl<P: Drop, A: Allocator> Tree<P, A> {
         ensures value { option_copied result ≡ payload_at self.now key.now }
         ensures reads { ReadsPath self.now.nodes key.now reads.old reads.new }
     {
-        find(&self.nodes, self.root, key, reads)
+        self.nodes.find(self.root, key, reads)
     }
 
     /// How many pairs there are.
@@ -113,10 +120,10 @@ impl<P: Drop, A: Allocator> Tree<P, A> {
     }
 
     /// The table of the nodes and the slot of the root in it, for walks.
-    pub fn table(&self) -> (&Slab<TreeNode<P>>, usize)
-        ensures tree { HasTree result.0.now.slots result.1 }
-        ensures pairs { tree_pairs result.0.now.slots result.1 ≡ self.now.pairs }
-        ensures nodes { tree_nodes result.0.now.slots result.1 ≡ self.now.nodes }
+    pub fn table(&self) -> (&Nodes<P>, usize)
+        ensures tree { HasTree result.0.now.table (name_of result.1) }
+        ensures pairs { tree_pairs result.0.now.table (name_of result.1) ≡ self.now.pairs }
+        ensures nodes { tree_nodes result.0.now.table (name_of result.1) ≡ self.now.nodes }
     {
         (&self.nodes, self.root)
     }

@@ -1,5 +1,9 @@
 pub mod BytesLeft
+pub mod CountLaws
+pub mod EntryLaws
 pub mod FillLaws
+pub mod KeyWalkLaws
+pub mod LinkLaws
 pub mod NearestLaws
 pub mod ScanDownLaws
 pub mod ScanLaws

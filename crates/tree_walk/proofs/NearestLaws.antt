@@ -15,7 +15,7 @@ use Rattle.node_table.specs.Table.{NodeTable, node_at, pairs_under, pairs_of, pa
 use Rattle.node_table.specs.declared.child.Child.TheVariants.{Payload, Node}
 use Rattle.tree_walk.specs.Scan.{from_key, first_number}
 use Rattle.tree_walk.specs.inner.Scan.{IsWindow}
-use Rattle.tree_walk.specs.declared.range_scan.Window.{Window}
+use Rattle.tree_walk.specs.declared.window.Window.{Window}
 use Rattle.tree_walk.proofs.WindowLaws.{low-leaf}
 use Rattle.tree_walk.proofs.ScanLaws.{at_node, pairs_from, skip, clip, child_at, root_tree}
 use Rattle.tree_walk.proofs.WalkLaws.{SeekLeft, pairs_next}

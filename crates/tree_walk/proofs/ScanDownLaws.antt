@@ -13,7 +13,7 @@ use Rattle.node_table.specs.Table.{NodeTable, node_at, pairs_of, pairs_at, IsChi
 use Rattle.node_table.specs.declared.child.Child.TheVariants.{Payload, Node}
 use Rattle.node_table.proofs.NodesLaws.{none_below_seven}
 use Rattle.tree_walk.specs.inner.Scan.{IsWindow, HasSubtree, FillsBuffer, AddsEntries, entries_down}
-use Rattle.tree_walk.specs.declared.range_scan.Window.{Window}
+use Rattle.tree_walk.specs.declared.window.Window.{Window}
 use Rattle.tree_walk.proofs.FillLaws.{Written, written-none, written-more, written-end, written-full, fills-none}
 use Rattle.tree_walk.proofs.NearestLaws.{one_between, next_at, pairs_of-append}
 use Rattle.tree_walk.proofs.ScanLaws.{at_node, window_pairs, child_at, next_inside, in_leaf, goes_down, GoesDown, root_tree}

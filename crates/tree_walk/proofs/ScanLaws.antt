@@ -19,7 +19,7 @@ use Rattle.tree_walk.specs.inner.Scan.{IsWindow, HasSubtree, FillsBuffer, AddsEn
 use Rattle.tree_walk.proofs.BytesLeft.{bytes_left}
 use Rattle.tree_path.specs.inner.Root.{depth}
 use Rattle.tree_path.proofs.PathEndLaws.{depth_is}
-use Rattle.tree_walk.specs.declared.range_scan.Window.{Window}
+use Rattle.tree_walk.specs.declared.window.Window.{Window}
 use Rattle.tree_walk.proofs.WindowLaws.{low-leaf, leaf_fits, padded_key}
 use Rattle.tree_walk.proofs.FillLaws.{fills-none, Written, written-none, written-more, written-end}
 

@@ -8,7 +8,7 @@ use Rattle.std.specs.Int.{from_be_bytes}
 use Rattle.node_table.specs.Key.{span, least, room, low, high, AreBytes}
 use Rattle.node_table.proofs.KeyLaws.{between_spans, room-positive, least-bound, key_number-be_bytes}
 use Rattle.tree_walk.specs.inner.Scan.{IsWindow}
-use Rattle.tree_walk.specs.declared.range_scan.Window.{Window}
+use Rattle.tree_walk.specs.declared.window.Window.{Window}
 
 -- bytes of 0 after a prefix add nothing
 least-zeros : (r n : ℕ) → least r (replicate n 0) ≡ 0

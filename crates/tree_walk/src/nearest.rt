@@ -5,32 +5,34 @@
 ghost use Rattle.std.specs.Prelude.{◌≡◌};
 ghost use Rattle.std.specs.Option.{option_map};
 ghost use Rattle.spec_map.specs.Near.{floor_of, ceiling_of};
+ghost use Rattle.tree_links.specs.SeenTable.{name_of};
 ghost use Rattle.tree_walk.specs.inner.Scan.{HasSubtree, EachSubtree};
 
-use crate::range_scan::window_of;
-use node_table::child::ChildRef;
-use node_table::tree_node::TreeNode;
-use slab::Slab;
+use crate::pair::{pair_if_from, pair_if_to, pair_number};
+use crate::window::window_of;
+use tree_links::link::LinkRef;
+use tree_links::linked_node::LinkedNode;
+use tree_links::links::Links;
 
 /// The pair of the subtree's least key that isn't below `start`.
-pub fn pair_from<'a, P: Drop>(
-    nodes: &'a Slab<TreeNode<P>>,
-    slot: usize,
-    start: u64,
-) -> Option<(u64, &'a P)>
-    requires { HasSubtree nodes.now.slots slot }
-    ensures { EachSubtree nodes.now.slots slot (λ pairs.
+pub fn pair_from<'a, P: Drop>(nodes: &'a Links<P>, slot: usize, start: u64) -> Option<(u64, &'a P)>
+    requires { HasSubtree nodes.now.table (name_of slot) }
+    ensures { EachSubtree nodes.now.table (name_of slot) (λ pairs.
         option_map (λ found. (found.0, found.1.now)) result ≡ ceiling_of pairs start) }
 {
     let Some(node) = nodes.get(slot) else {
         unreachable!()
     };
-    let window = window_of(node.base(), start, u64::MAX);
+    let base = LinkedNode::base(node);
+    let window = window_of(base, start, u64::MAX);
     let mut from = window.from;
-    'children: while let Some((byte, child)) = node.first_from(from) {
+    'children: while let Some((byte, child)) = LinkedNode::first_from(node, from) {
         let found = match child {
-            ChildRef::Payload(payload) => Some((window.first + byte as u64, payload)),
-            ChildRef::Node(below) => pair_from(nodes, below, start),
+            LinkRef::Payload(payload) => Some((window.first + byte as u64, payload)),
+            LinkRef::Slot(below) => pair_from(nodes, below, start),
+            LinkRef::Pair(rest, payload) => {
+                pair_if_from(pair_number(base, byte, rest), payload, start)
+            }
         };
         if found.is_some() {
             return found;
@@ -41,24 +43,24 @@ pub fn pair_from<'a, P: Drop>(
 }
 
 /// The pair of the subtree's greatest key that isn't above `last`.
-pub fn pair_to<'a, P: Drop>(
-    nodes: &'a Slab<TreeNode<P>>,
-    slot: usize,
-    last: u64,
-) -> Option<(u64, &'a P)>
-    requires { HasSubtree nodes.now.slots slot }
-    ensures { EachSubtree nodes.now.slots slot (λ pairs.
+pub fn pair_to<'a, P: Drop>(nodes: &'a Links<P>, slot: usize, last: u64) -> Option<(u64, &'a P)>
+    requires { HasSubtree nodes.now.table (name_of slot) }
+    ensures { EachSubtree nodes.now.table (name_of slot) (λ pairs.
         option_map (λ found. (found.0, found.1.now)) result ≡ floor_of pairs last) }
 {
     let Some(node) = nodes.get(slot) else {
         unreachable!()
     };
-    let window = window_of(node.base(), 0, last);
+    let base = LinkedNode::base(node);
+    let window = window_of(base, 0, last);
     let mut to = window.to;
-    'children: while let Some((byte, child)) = node.last_below(to) {
+    'children: while let Some((byte, child)) = LinkedNode::last_below(node, to) {
         let found = match child {
-            ChildRef::Payload(payload) => Some((window.first + byte as u64, payload)),
-            ChildRef::Node(below) => pair_to(nodes, below, last),
+            LinkRef::Payload(payload) => Some((window.first + byte as u64, payload)),
+            LinkRef::Slot(below) => pair_to(nodes, below, last),
+            LinkRef::Pair(rest, payload) => {
+                pair_if_to(pair_number(base, byte, rest), payload, last)
+            }
         };
         if found.is_some() {
             return found;

@@ -7,22 +7,24 @@
 //! skipped: the root may be one.
 //!
 //! An iterator remembers the place in each node, so that a node isn't searched again for each child. The payloads of a
-//! leaf are written in one loop, which is compiled for each form of nodes by itself. Some children of an inner node are
-//! read ahead.
+//! leaf are written in one loop, which is compiled for each form of nodes by itself. A pair in its parent is written
+//! where it is met. Some children of an inner node are read ahead.
 //!
 //! Tested in `test_owned/scans`.
 
-ghost use Rattle.std.specs.Prelude.{◌≡◌, ℕ, ◌+◌, ◌^◌, ◌<◌, ◌≤◌, [], ◌∷◌, length, IfSome, IfNone};
-ghost use Rattle.node_table.specs.Key.{low};
+ghost use Rattle.std.specs.Prelude.{◌≡◌, ◌+◌, ◌^◌, ◌<◌, ◌≤◌, [], ◌∷◌, length, IfSome, IfNone};
 ghost use Rattle.node_base.specs.Rest.{rest};
-ghost use Rattle.tree_walk.specs.inner.Scan.{IsWindow, HasSubtree, EachSubtree, AddsEntries, entries_of, entries_under};
+ghost use Rattle.tree_links.specs.SeenTable.{name_of};
+ghost use Rattle.tree_walk.specs.inner.Scan.{HasSubtree, EachSubtree, AddsEntries, entries_of, entries_under};
 
+use crate::pair::{pair_number, write_pair};
 use crate::payloads::Payloads;
-use node_base::base_node::{BaseNode, Node};
+use crate::window::window_of;
 use node_base::iter::NodeIter;
 use node_table::child::ChildIter;
-use node_table::tree_node::TreeNode;
-use slab::Slab;
+use tree_links::linked_node::LinkedNode;
+use tree_links::links::Links;
+use tree_links::place::{Linked, Place};
 
 /// What a range scan writes for a pair.
 pub trait RangeEntry: Copy {
@@ -56,70 +58,43 @@ impl RangeEntry for ([u8; 8], u64) {
     }
 }
 
-/// Under which bytes a node has keys of a range: not below `from`, and below `to`, which is 256 at most.
-#[derive(Drop)]
-pub(crate) struct Window {
-    /// The least key that begins with the node's prefix.
-    pub(crate) first: u64,
-    pub(crate) from: usize,
-    pub(crate) to: usize,
-}
-
-/// Where the keys from `start` on and up to `last` are in a node with this base.
-pub(crate) fn window_of(base: &BaseNode, start: u64, last: u64) -> Window
-    ensures { IsWindow base.now.prefix start (last + 1) result }
-{
-    let first = base.first_key();
-    let shift = 8 * (7 - base.prefix().len());
-    let from = start.saturating_sub(first) >> shift;
-    let to = if first <= last {
-        ((last - first) >> shift).min(255) + 1
-    } else {
-        0
-    };
-    Window {
-        first,
-        from: from as usize,
-        to: to as usize,
-    }
-}
-
 /// How many children a scan looks at before it reads the first of them.
 pub(crate) const AHEAD: usize = 16;
 
 /// How many of so many places are left after the entries of the node in a slot, by its count.
 #[inline(always)]
-pub(crate) fn room_after(nodes: &Slab<TreeNode<u64>>, slot: usize, room: usize) -> usize {
+pub(crate) fn room_after(nodes: &Links<u64>, slot: usize, room: usize) -> usize {
     match nodes.get(slot) {
-        Some(node) => room.saturating_sub(node.base().value_count() as usize),
+        Some(node) => room.saturating_sub(LinkedNode::base(node).value_count() as usize),
         None => room,
     }
 }
 
-// The first of the remaining slots, after its byte. Two words: the iterator's own result is a byte beside a reference,
+// The first of the remaining places, after its byte. Two words: the iterator's own result is a byte beside a reference,
 // which the processor puts together more slowly than it finds it.
-fn next_slot(slots: &mut NodeIter<'_, usize>) -> Option<(usize, usize)>
-    ensures none { IfNone result (rest slots.old ≡ []) }
-    ensures some { IfSome result (λ found. rest slots.old ≡ (found.0, found.1) ∷ rest slots.new) }
+fn next_place<'a>(places: &mut NodeIter<'a, Place<u64>>) -> Option<(usize, &'a Place<u64>)>
+    ensures none { IfNone result (rest places.old ≡ []) }
+    ensures some { IfSome result (λ found. rest places.old
+        ≡ (found.0, found.1.now) ∷ rest places.new) }
     ensures byte { IfSome result (λ found. found.0 < 256) }
 {
-    let (byte, slot) = match slots {
-        NodeIter::N4(slots) => slots.next()?,
-        NodeIter::N16(slots) => slots.next()?,
-        NodeIter::N48(slots) => slots.next()?,
-        NodeIter::N256(slots) => slots.next()?,
+    let (byte, place) = match places {
+        NodeIter::N4(places) => places.next()?,
+        NodeIter::N16(places) => places.next()?,
+        NodeIter::N48(places) => places.next()?,
+        NodeIter::N256(places) => places.next()?,
     };
-    Some((byte as usize, *slot))
+    Some((byte as usize, place))
 }
 
 // Up to which byte the next children of an inner node are read together, from a byte on: as many as it takes to fill so
 // many places by the counts of their nodes, and `AHEAD` at most.
 //
 // A count is read of each of them, one right after the other, and none waits for the others. So their nodes come from
-// memory at the same time, where the scan by itself would wait for each in turn.
+// memory at the same time, where the scan by itself would wait for each in turn. A pair is in this node.
 fn read_ahead(
-    nodes: &Slab<TreeNode<u64>>,
-    node: &TreeNode<u64>,
+    nodes: &Links<u64>,
+    node: &Linked<u64>,
     from: usize,
     to: usize,
     mut room: usize,
@@ -129,16 +104,19 @@ fn read_ahead(
     ensures more { from < result }
     ensures within { result ≤ to }
 {
-    let ChildIter::Nodes(mut slots) = node.children_between(from, to) else {
+    let ChildIter::Nodes(mut places) = LinkedNode::links_between(node, from, to) else {
         return to;
     };
     let mut until = from + 1;
     for _ in 0..AHEAD {
-        let Some((byte, below)) = next_slot(&mut slots) else {
+        let Some((byte, place)) = next_place(&mut places) else {
             return to;
         };
         until = byte + 1;
-        room = room_after(nodes, below, room);
+        room = match place {
+            Place::Slot(below) => room_after(nodes, *below, room),
+            Place::Pair(_, _) => room.saturating_sub(1),
+        };
         if room == 0 {
             break;
         }
@@ -193,24 +171,26 @@ fn write_payloads<E: RangeEntry>(
 /// Writes the entries of the subtree's pairs from `start` on and up to `last` to the buffer, from place `count` on, and
 /// returns the place after the last one. It ends at the buffer's end.
 pub fn scan<E: RangeEntry>(
-    nodes: &Slab<TreeNode<u64>>,
+    nodes: &Links<u64>,
     slot: usize,
     start: u64,
     last: u64,
     buffer: &mut [E],
     mut count: usize,
 ) -> usize
-    requires tree { HasSubtree nodes.now.slots slot }
+    requires tree { HasSubtree nodes.now.table (name_of slot) }
     requires room { count ≤ length buffer.old }
-    ensures { EachSubtree nodes.now.slots slot (λ pairs.
+    ensures { EachSubtree nodes.now.table (name_of slot) (λ pairs.
         AddsEntries (entries_of E.entry start (last + 1) pairs) buffer.old count buffer.new result) }
 {
     let Some(node) = nodes.get(slot) else {
         unreachable!()
     };
-    let window = window_of(node.base(), start, last);
-    if node.is_leaf() {
-        let ChildIter::Payloads(payloads) = node.children_between(window.from, window.to) else {
+    let base = LinkedNode::base(node);
+    let window = window_of(base, start, last);
+    if LinkedNode::is_leaf(node) {
+        let ChildIter::Payloads(payloads) = LinkedNode::links_between(node, window.from, window.to)
+        else {
             unreachable!()
         };
         return write_payloads(payloads, window.first, buffer, count);
@@ -221,14 +201,20 @@ pub fn scan<E: RangeEntry>(
             return count;
         }
         let until = read_ahead(nodes, node, from, window.to, buffer.len() - count);
-        let ChildIter::Nodes(mut slots) = node.children_between(from, until) else {
+        let ChildIter::Nodes(mut places) = LinkedNode::links_between(node, from, until) else {
             unreachable!()
         };
-        'children: while let Some((_, below)) = next_slot(&mut slots) {
+        'children: while let Some((byte, place)) = next_place(&mut places) {
             if count >= buffer.len() {
                 return count;
             }
-            count = scan(nodes, below, start, last, buffer, count);
+            count = match place {
+                Place::Slot(below) => scan(nodes, *below, start, last, buffer, count),
+                Place::Pair(rest, value) => {
+                    let number = pair_number(base, byte as u8, rest);
+                    write_pair(number, *value, start, last, buffer, count)
+                }
+            };
         }
         from = until;
     }

@@ -3,7 +3,7 @@ use Rattle.std.specs.Prelude.{◌≡◌, ℕ, suc, ◌+◌, ◌<◌, ◌≤◌, 
 use Rattle.spec_map.specs.Map.{Pairs, between}
 use Rattle.node_table.specs.Key.{low, high}
 use Rattle.node_table.specs.Table.{NodeTable, pairs_at, IsSubtree}
-use Rattle.tree_walk.specs.declared.range_scan.Window.{Window}
+use Rattle.tree_walk.specs.declared.window.Window.{Window}
 
 -- the keys of the range below this prefix are those under the bytes of the window
 pub record IsWindow (p : List ℕ) (start end : ℕ) (w : Window) : Type 0 where

@@ -1,10 +1,11 @@
 use Rattle.std.proofs.Common.{refl, ◌∙◌, arith}
-use Rattle.tree_edit.proofs.BesideLaws.{reached_root, put_next}
+use Rattle.tree_edit.proofs.BesideLaws.{put_next}
 use Rattle.tree_edit.proofs.TidyLaws.{moves_trans}
+use Rattle.tree_edit.proofs.KeptLaws.{reached_top}
 use Rattle.tree_edit.proofs.beside.insert_all.Goals as goal
 
 pub loop-inserted-init : goal.loop-inserted-init
-loop-inserted-init g c = (c.requires.whole, reached_root _ _ c.requires.whole.tree _ c.top-last.ensures.slot c.top-last.ensures.parent c.top-last.ensures.above, refl, refl)
+loop-inserted-init g c = (c.requires.whole, reached_top _ _ c.requires.whole.tree c.top-last.result c.top-last.ensures, refl, refl)
 
 pub loop-inserted-preserved : goal.loop-inserted-preserved
 loop-inserted-preserved g c =

@@ -1,8 +1,7 @@
-use Rattle.std.proofs.Common.{◌∙◌, Some, ap, sym}
-use Rattle.node_table.specs.TableNode.{seen}
-use Rattle.tree_edit.proofs.SpotLaws.{no_slot}
+use Rattle.tree_edit.proofs.LeafLaws.{pair_has}
 use Rattle.tree_edit.proofs.insertion.current.Goals as goal
 
-pub unreachable-requires-in-Node : goal.unreachable-requires-in-Node
-unreachable-requires-in-Node g c =
-    no_slot _ _ (rw c.in-Leaf.is at c.requires) _ c.in-Some.ensures _ c.in-Node.field-0 (sym c.in_ok-payload.ensures ∙ ap (λ x. seen (Some x)) c.in-Node.is)
+pub returns-in-Pair-clause-some : goal.returns-in-Pair-clause-some
+returns-in-Pair-clause-some g c =
+    let m = rw c.in-Pair.is at c.requires.pair in
+    rw c.in-Pair.is (pair_has c.args.nodes.now.table _ c.args.key.now m.0.leaf.key m.0.leaf.payload _ m.0.leaf.is m.1 (c.pair_at.ensures m.0.leaf.key m.0.leaf.payload m.0.leaf.is))

@@ -1,31 +1,17 @@
-use Rattle.std.proofs.Common.{rules, ◌≡◌, ◌+◌, refl, ◌∙◌, sym, Some, length}
-use Rattle.std.proofs.lemmas.List.{get_or-set_same}
+use Rattle.std.proofs.Common.{length, refl, subst}
 use Rattle.node_base.specs.Form.{Fits}
-use Rattle.tree_edit.proofs.FormLaws.{grown_fits, grown_full}
-use Rattle.tree_edit.proofs.SlotLaws.{in_range}
+use Rattle.node_table.specs.TableNode.{TableNode}
+use Rattle.node_table.specs.Table.{node_at}
+use Rattle.tree_edit.specs.inner.Writes.{IsFullAt}
+use Rattle.tree_links.specs.Places.{as_linked}
+use Rattle.tree_links.specs.SeenTable.{name_of, seen_node}
+use Rattle.tree_links.proofs.NodeLaws.{seen_is}
+use Rattle.tree_edit.proofs.LeafLaws.{err_of, full_count, seen_count}
 use Rattle.tree_edit.proofs.insertion.make_room.Goals as goal
 
-pub returns-in_ok-grow-clause-ok : goal.returns-in_ok-grow-clause-ok
-returns-in_ok-grow-clause-ok g c = λ n here.
-    let both : Some c.in-Some.node.now ≡ Some n = c.in-Some.ensures.value ∙ here in
-    let is : c.in-Some.node.now ≡ n = cc in
-    let e = c.in_ok-grow.ensures in
-    let full : Fits n.form (length n.children + 1) → ⊥ = rw is at (c.if-full.ensures.full refl) in
-    (c.grow.new.node, get_or-set_same _ _ _ _ (in_range c.args.nodes.now.slots c.args.slot n here), rw (e.ok, is) refl, rw (e.ok, is) refl, e.fits, rw (e.ok, is) (sym (grown_full n.form (length n.children) full)))
-
-pub returns-else-full-clause-ok : goal.returns-else-full-clause-ok
-returns-else-full-clause-ok g c = λ n here.
-    let both : Some c.in-Some.node.now ≡ Some n = c.in-Some.ensures.value ∙ here in
-    let is : c.in-Some.node.now ≡ n = cc in
-    let room = c.if-full.ensures.room refl in
-    let fits : Fits n.form (length n.children + 1) = rw is at room in
-    (c.in-Some.node.now, get_or-set_same _ _ _ _ (in_range c.args.nodes.now.slots c.args.slot n here), rw is refl, rw is refl, room, rw is (sym (grown_fits n.form (length n.children) fits)))
-
 pub returns-in_err-grow-clause-refused : goal.returns-in_err-grow-clause-refused
-returns-in_err-grow-clause-refused g c = search rules
-
-pub returns-in_ok-grow-clause-grown : goal.returns-in_ok-grow-clause-grown
-returns-in_ok-grow-clause-grown g c = search rules
-
-pub returns-else-full-clause-grown : goal.returns-else-full-clause-grown
-returns-else-full-clause-grown g c = search rules
+returns-in_err-grow-clause-refused g c = err_of {X = IsFullAt c.args.nodes.now.table (name_of c.args.slot)} c.from_residual.result (λ n here.
+    let m = c.node.result.now in
+    let is = seen_is (node_at c.args.nodes.now.table (name_of c.args.slot)) c.args.slot (as_linked m) n c.node.ensures here in
+    let within : Fits (seen_node c.args.slot (as_linked m)).form (length (seen_node c.args.slot (as_linked m)).children) = rw (seen_count c.args.slot m) c.base.ensures.within in
+    full_count n.form (length n.children) (subst (λ (x : TableNode g.row.P.Denot). Fits x.form (length x.children)) is within) (c.if-is_full.ensures.full n here refl))

@@ -1,5 +1,0 @@
-pub mod Beside
-pub mod Gains
-pub mod Lowers
-pub mod Ready
-pub mod Spots

@@ -1,4 +1,0 @@
-pub mod CountLaws
-pub mod EntryLaws
-pub mod KeyWalkLaws
-pub mod LinkLaws
