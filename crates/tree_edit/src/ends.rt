@@ -3,11 +3,10 @@
 //!
 //! Tested in `test_owned/neighbours`.
 
-ghost use Rattle.std.specs.Prelude.{◌≡◌, ◌+◌, false, [], ◌∷◌, IfSome, IfNone, Some, map, length};
+ghost use Rattle.std.specs.Prelude.{◌≡◌, ◌+◌, false, [], IfSome, IfNone, Some, map, length};
 ghost use Rattle.std.specs.Int.{to_be_bytes, w64};
 ghost use Rattle.std.specs.Option.{option_map};
 ghost use Rattle.spec_map.specs.Near.{first_of, last_of};
-ghost use Rattle.node_table.specs.Key.{key_number};
 ghost use Rattle.tree_path.specs.inner.Descent.{IsTrail, SeeksTo};
 ghost use Rattle.tree_path.specs.inner.Root.{HasTree, tree_pairs, tree_nodes};
 ghost use Rattle.tree_edit.specs.Reduce.{AreFilled, LosesInPlace};
@@ -15,14 +14,14 @@ ghost use Rattle.tree_edit.specs.TreeCalls.{Removes};
 ghost use Rattle.tree_edit.specs.inner.Ends.{at_side};
 ghost use Rattle.tree_links.specs.LinkNode.{looked_at};
 ghost use Rattle.tree_links.specs.Places.{as_linked};
-ghost use Rattle.tree_links.specs.SeenTable.{key_under, name_of};
+ghost use Rattle.tree_links.specs.SeenTable.{name_of};
 ghost use Rattle.tree_links.specs.Seeks.{seen_end, KnowsPair};
 
 use crate::removal::take_out;
 use crate::tree::{Nodes, Tree};
-use node_base::base_node::BaseNode;
 use node_table::allocator::Allocator;
 use node_table::tree_node::TreeNode;
+use tree_links::bytes::pair_number;
 use tree_links::descent::{LinkEnd, LinkStop};
 use tree_links::link::LinkRef;
 use tree_links::linked_node::LinkedNode;
@@ -47,28 +46,6 @@ fn link_at<P: Drop>(node: &TreeNode<P, Place<P>>, side: Side) -> Option<(u8, Lin
         Side::First => LinkedNode::first_from(node, 0),
         Side::Last => LinkedNode::last_below(node, 256),
     }
-}
-
-// The first byte of each key under a byte of the node with this base.
-#[inline(always)]
-fn first_byte(base: &BaseNode, byte: u8) -> u8
-    ensures { key_under base.now.prefix byte [] ≡ result ∷ [] }
-{
-    match base.prefix() {
-        [] => byte,
-        [first, ..] => *first,
-    }
-}
-
-// The number of the key of a pair under a byte of the node with this base.
-#[inline(always)]
-fn pair_number(base: &BaseNode, byte: u8, rest: &[u8; 7]) -> u64
-    ensures number { result ≡ key_number (key_under base.now.prefix byte rest.now) }
-    ensures seven { length rest.now ≡ 7 }
-{
-    let first = first_byte(base, byte);
-    let [a, b, c, d, e, f, g] = *rest;
-    u64::from_be_bytes([first, a, b, c, d, e, f, g])
 }
 
 // Descends to the first pair or the last, and remembers the slots on the way as `seek_along` does. Returns its key and

@@ -1,12 +1,14 @@
 //! The bytes of keys that pairs have in part.
 //!
-//! Tested in `test_tree_links`.
+//! Tested in `test_tree_links` and `test_owned`.
 
 ghost use Rattle.std.specs.Prelude.{◌≡◌, ◌++◌, [], ◌∷◌, drop, length, IsSome, Some};
+ghost use Rattle.node_table.specs.Key.{key_number};
 ghost use Rattle.tree_links.specs.LinkNode.{LinkNode};
 ghost use Rattle.tree_links.specs.SeenTable.{key_under, links_of, link_at};
 
 use crate::linked_node::LinkedNode;
+use node_base::base_node::BaseNode;
 use slab::Slab;
 
 /// The key's bytes but the first.
@@ -32,10 +34,29 @@ pub(crate) fn first_byte<P: Drop, N: LinkedNode<P>>(nodes: &Slab<N>, slot: usize
     let Some(node) = nodes.get(slot) else {
         unreachable!()
     };
-    match node.base().prefix() {
+    first_under(node.base(), byte)
+}
+
+// The first byte of each key under a byte of the node with this base.
+#[inline(always)]
+fn first_under(base: &BaseNode, byte: u8) -> u8
+    ensures { key_under base.now.prefix byte [] ≡ result ∷ [] }
+{
+    match base.prefix() {
         [] => byte,
         [first, ..] => *first,
     }
+}
+
+/// The number of the key of a pair under a byte of the node with this base.
+#[inline(always)]
+pub fn pair_number(base: &BaseNode, byte: u8, rest: &[u8; 7]) -> u64
+    ensures number { result ≡ key_number (key_under base.now.prefix byte rest.now) }
+    ensures seven { length rest.now ≡ 7 }
+{
+    let first = first_under(base, byte);
+    let [a, b, c, d, e, f, g] = *rest;
+    u64::from_be_bytes([first, a, b, c, d, e, f, g])
 }
 
 /// A key by its first byte and the others.

@@ -6,10 +6,10 @@
 //!
 //! A leaf's second pair takes no memory. So a slot is kept free for each pair that is in its parent.
 //!
-//! Tested in `test_tree_links`. No map uses it yet.
+//! Tested in `test_tree_links` and `test_owned`.
 #![tactic(auto)]
 
-mod bytes;
+pub mod bytes;
 pub mod descent;
 pub mod leaves;
 pub mod link;

@@ -8,8 +8,9 @@ ghost use Rattle.spec_map.specs.Near.{floor_of, ceiling_of};
 ghost use Rattle.tree_links.specs.SeenTable.{name_of};
 ghost use Rattle.tree_walk.specs.inner.Scan.{HasSubtree, EachSubtree};
 
-use crate::pair::{pair_if_from, pair_if_to, pair_number};
+use crate::pair::{pair_if_from, pair_if_to};
 use crate::window::window_of;
+use tree_links::bytes::pair_number;
 use tree_links::link::LinkRef;
 use tree_links::linked_node::LinkedNode;
 use tree_links::links::Links;

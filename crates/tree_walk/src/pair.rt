@@ -5,34 +5,9 @@
 ghost use Rattle.std.specs.Prelude.{◌≡◌, ℕ, ◌+◌, ◌<◌, [], ◌∷◌, length};
 ghost use Rattle.std.specs.Option.{option_map};
 ghost use Rattle.spec_map.specs.Near.{floor_of, ceiling_of};
-ghost use Rattle.node_table.specs.Key.{key_number};
-ghost use Rattle.tree_links.specs.SeenTable.{key_under};
 ghost use Rattle.tree_walk.specs.inner.Scan.{AddsEntries, entries_of, entries_down};
 
 use crate::range_scan::RangeEntry;
-use node_base::base_node::BaseNode;
-
-// The first byte of each key under a byte of the node with this base.
-#[inline(always)]
-fn first_byte(base: &BaseNode, byte: u8) -> u8
-    ensures { key_under base.now.prefix byte [] ≡ result ∷ [] }
-{
-    match base.prefix() {
-        [] => byte,
-        [first, ..] => *first,
-    }
-}
-
-/// The number of the key of a pair under a byte of the node with this base.
-#[inline(always)]
-pub(crate) fn pair_number(base: &BaseNode, byte: u8, rest: &[u8; 7]) -> u64
-    ensures number { result ≡ key_number (key_under base.now.prefix byte rest.now) }
-    ensures seven { length rest.now ≡ 7 }
-{
-    let first = first_byte(base, byte);
-    let [a, b, c, d, e, f, g] = *rest;
-    u64::from_be_bytes([first, a, b, c, d, e, f, g])
-}
 
 /// The pair, if its key isn't below `start`.
 #[inline(always)]

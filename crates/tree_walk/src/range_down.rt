@@ -15,9 +15,10 @@ ghost use Rattle.tree_links.specs.LinkNode.{looked_at};
 ghost use Rattle.tree_links.specs.SeenTable.{name_of};
 ghost use Rattle.tree_walk.specs.inner.Scan.{HasSubtree, EachSubtree, AddsEntries, entries_down};
 
-use crate::pair::{pair_number, write_pair};
+use crate::pair::write_pair;
 use crate::range_scan::{AHEAD, RangeEntry, room_after};
 use crate::window::window_of;
+use tree_links::bytes::pair_number;
 use tree_links::link::LinkRef;
 use tree_links::linked_node::LinkedNode;
 use tree_links::links::Links;

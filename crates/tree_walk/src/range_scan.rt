@@ -17,11 +17,12 @@ ghost use Rattle.node_base.specs.Rest.{rest};
 ghost use Rattle.tree_links.specs.SeenTable.{name_of};
 ghost use Rattle.tree_walk.specs.inner.Scan.{HasSubtree, EachSubtree, AddsEntries, entries_of, entries_under};
 
-use crate::pair::{pair_number, write_pair};
+use crate::pair::write_pair;
 use crate::payloads::Payloads;
 use crate::window::window_of;
 use node_base::iter::NodeIter;
 use node_table::child::ChildIter;
+use tree_links::bytes::pair_number;
 use tree_links::linked_node::LinkedNode;
 use tree_links::links::Links;
 use tree_links::place::{Linked, Place};

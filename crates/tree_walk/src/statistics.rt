@@ -8,10 +8,10 @@ ghost use Rattle.tree_links.specs.SeenTable.{name_of};
 ghost use Rattle.tree_path.specs.inner.Root.{depth};
 ghost use Rattle.tree_walk.specs.inner.Count.{AddsSubtree};
 
-use crate::pair::pair_number;
 use node_base::base_node::NodeType;
 use node_stats::NodeStats;
 use spec_map::error::OOMError;
+use tree_links::bytes::pair_number;
 use tree_links::link::LinkRef;
 use tree_links::linked_node::LinkedNode;
 use tree_links::links::Links;

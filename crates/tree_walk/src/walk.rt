@@ -8,8 +8,8 @@ ghost use Rattle.tree_walk.specs.Scan.{first_number, from_key};
 ghost use Rattle.tree_walk.specs.inner.Scan.{HasSubtree, EachSubtree, KeysFit};
 
 use crate::nearest::pair_from;
-use crate::pair::pair_number;
 use spec_map::traits::Word;
+use tree_links::bytes::pair_number;
 use tree_links::link::LinkRef;
 use tree_links::linked_node::LinkedNode;
 use tree_links::links::Links;
