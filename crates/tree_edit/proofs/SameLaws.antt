@@ -2,9 +2,10 @@
 use Rattle.std.proofs.Common.{◌≡◌, ℕ, zero, suc, List, [], ◌∷◌, length, Some, refl, ap, sym, subst, ◌∙◌}
 use Rattle.node_table.specs.Key.{key_number}
 use Rattle.node_table.specs.Shape.{Reshapes}
-use Rattle.node_table.specs.Table.{NodeTable, NodeInfo, node_info, nodes_of, nodes_at, IsTree}
+use Rattle.node_table.specs.Table.{NodeTable, NodeInfo, node_at, node_info, nodes_of, nodes_at, IsTree}
 use Rattle.node_table.specs.TableNode.{TableNode}
-use Rattle.node_table.proofs.NodesLaws.{below}
+use Rattle.node_table.proofs.DownLaws.{KeepsBelow, frame}
+use Rattle.node_table.proofs.NodesLaws.{below, frame_nodes}
 use Rattle.spec_map.specs.Map.{lookup, put}
 use Rattle.std.specs.Prelude.{Bool, None}
 use Rattle.tree_path.specs.inner.Root.{depth, HasRoot, HasTree, tree_nodes}
@@ -17,6 +18,13 @@ use Rattle.tree_links.specs.SameTree.{SameTree}
 use Rattle.tree_edit.specs.inner.Gains.{GainsPair}
 
 module _ {P : Type 0} where
+  -- a table with the same nodes
+  pub same_table : (s t : NodeTable P) (root : ℕ) → HasTree s root → ((o : ℕ) → node_at t o ≡ node_at s o) → SameTree s t root
+  same_table s t root tree same =
+      let keeps : KeepsBelow [] s t = λ o n here begins. same o ∙ here in
+      let f = frame s t depth [] root tree keeps in
+      record { tree = f.tree; pairs = f.pairs; nodes = frame_nodes s t depth [] root tree keeps }
+
   -- the top of the same list of nodes is the same root
   top_node : (s t : NodeTable P) (levels root : ℕ) (q : List ℕ) → IsTree s levels q root → IsTree t levels q root → nodes_at t levels q root ≡ nodes_at s levels q root → HasRoot s root → HasRoot t root
   top_node s t zero root q h k same r = absurd h

@@ -56,6 +56,7 @@ impl<P: Drop, A: Allocator> Tree<P, A> {
                     unreachable!()
                 };
                 self.count -= 1;
+                self.release_slots();
                 Some(before)
             }
         }

@@ -177,6 +177,7 @@ impl<P: Drop, A: Allocator> Tree<P, A> {
             unreachable!()
         };
         self.count -= 1;
+        self.release_slots();
         Some((key, payload))
     }
 }

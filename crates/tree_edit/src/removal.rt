@@ -307,6 +307,7 @@ impl<P: Drop, A: Allocator> Tree<P, A> {
             return None;
         };
         self.count -= 1;
+        self.release_slots();
         Some(before)
     }
 }

@@ -119,6 +119,15 @@ impl<P: Drop, A: Allocator> Tree<P, A> {
         self.supply.memory()
     }
 
+    /// Gives the slots of former nodes back to the machine once no pair is left.
+    pub(crate) fn release_slots(&mut self)
+        ensures { self.new ≡ self.old }
+    {
+        if self.count == 0 {
+            self.nodes.shrink_to_fit();
+        }
+    }
+
     /// The table of the nodes and the slot of the root in it, for walks.
     pub fn table(&self) -> (&Nodes<P>, usize)
         ensures tree { HasTree result.0.now.table (name_of result.1) }

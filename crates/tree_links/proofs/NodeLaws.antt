@@ -30,6 +30,10 @@ module _ {P : Type 0} where
       let few : Fits (smaller_form n.node.form) (length (seen_node i n.node).children) = subst (λ (m : TableNode P). Fits (smaller_form m.form) (length m.children)) n.is h.few in
       record { node = n.node; here = n.here; few = subst (λ k. Fits (smaller_form n.node.form) k) (length-seen i n.node.links) few }
 
+  -- the same in each slot
+  pub all_same : (t u : LinkTable P) → ((k : ℕ) → link_at u k ≡ link_at t k) → (o : ℕ) → node_at (seen_table u) o ≡ node_at (seen_table t) o
+  all_same t u same o = same_one t u 0 (λ x. x ≡ x) (λ k other. same k) (λ a here. ap (λ x. seen_in 0 x a) (same 0)) o refl
+
   module _ (t u : LinkTable P) (i : ℕ) (others : SameSlots t u i) where
     -- a node without links in an empty slot
     pub added_others : (n : LinkNode P) → n.links ≡ [] → link_at t i ≡ None → link_at u i ≡ Some n → (o : ℕ) → o ≢ name_of i → node_at (seen_table u) o ≡ node_at (seen_table t) o

@@ -51,7 +51,7 @@ module _ {P : Type 0} where
             rw (ne_eqb e.0 b other) (omega (arith, r))
       ]
 
-  table-same : (t u : LinkTable P) → ((k : ℕ) → link_at u k ≡ link_at t k) → pairs_in_table u ≡ pairs_in_table t
+  pub table-same : (t u : LinkTable P) → ((k : ℕ) → link_at u k ≡ link_at t k) → pairs_in_table u ≡ pairs_in_table t
   table-same [] [] h = refl
   table-same [] (y ∷ u) h =
       let a : pairs_in_node y ≡ 0 = ap pairs_in_node (h 0) in

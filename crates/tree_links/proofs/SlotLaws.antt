@@ -37,6 +37,9 @@ module _ {N P : Type 0} (f : N → LinkNode P) where
   pub not_none : (s : List (Option N)) (i : ℕ) (m : LinkNode P) → get_or s i None ≡ None → link_at (links_of f s) i ≡ Some m → ⊥
   not_none s i m h there = let clash : ◌≡◌ {A = Option (LinkNode P)} None (Some m) = sym (none_there s i h) ∙ there in cc
 
+  pub same_slots : (s t : List (Option N)) → ((o : ℕ) → get_or t o None ≡ get_or s o None) → (k : ℕ) → link_at (links_of f t) k ≡ link_at (links_of f s) k
+  same_slots s t h k = at_links_of f t k ∙ ap (option_map f) (h k) ∙ sym (at_links_of f s k)
+
   pub same_others : (s t : List (Option N)) (i : ℕ) → ((o : ℕ) → o ≢ i → get_or t o None ≡ get_or s o None) → SameSlots (links_of f s) (links_of f t) i
   same_others s t i h k other = at_links_of f t k ∙ ap (option_map f) (h k other) ∙ sym (at_links_of f s k)
 

@@ -90,6 +90,18 @@ impl<P: Drop> Links<P> {
         Ok(())
     }
 
+    /// Gives the memory of the free slots past the last node back to the machine, where no pair is in its parent: for
+    /// each such pair one is kept. No slot changes.
+    pub fn shrink_to_fit(&mut self)
+        ensures { (slot : ℕ) → node_at self.new.table slot ≡ node_at self.old.table slot }
+    {
+        if self.pairs == 0 {
+            self.nodes.shrink_to_fit();
+            // (for the proof: brings the capacity's bounds into scope)
+            let _ = self.nodes.capacity();
+        }
+    }
+
     /// The node in a slot.
     pub fn get(&self, slot: usize) -> Option<&Linked<P>>
         ensures node { option_map (λ n. seen_node slot (as_linked n)) (option_copied result)
