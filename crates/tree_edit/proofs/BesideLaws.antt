@@ -12,7 +12,7 @@ use Rattle.node_table.proofs.TableLaws.{IsChild-found}
 use Rattle.node_table.specs.Key.{AreBytes, Begins, next_byte}
 use Rattle.node_table.specs.Table.{NodeTable, node_at, pairs_at, nodes_at, IsTree}
 use Rattle.node_table.specs.TableNode.{TableNode}
-use Rattle.node_table.specs.declared.child.Child.TheVariants.{Payload, Node}
+use Rattle.node_table.specs.declared.child.Child.TheVariants.{Node}
 use Rattle.spec_map.specs.Map.{Pairs, lookup, put}
 use Rattle.tree_path.proofs.PathEndLaws.{leads_start}
 use Rattle.tree_path.specs.declared.descent.PathEnd.{PathEnd}
@@ -21,11 +21,11 @@ use Rattle.tree_path.specs.declared.descent.Stop.TheVariants as stops
 use Rattle.tree_path.specs.inner.Descent.{PathTo, HasParent, LeadsTo, Halts, SeeksTo}
 use Rattle.tree_path.specs.inner.Root.{depth}
 use Rattle.tree_path.specs.inner.Supply.{SupplyView, Alike}
-use Rattle.tree_edit.proofs.CallLaws.{exchanged, filled, added, insert_refused}
+use Rattle.tree_edit.proofs.CallLaws.{exchanged, filled, insert_refused}
 use Rattle.tree_edit.specs.Tree.{TreeView}
 use Rattle.tree_edit.specs.inner.Beside.{IsReached, Puts, Refuses}
 use Rattle.tree_edit.specs.inner.Whole.{IsWhole}
-use Rattle.tree_edit.specs.inner.Writes.{SameElsewhere, WritesChild, NothingIsStored, Sets, RefusesHere, IsReady}
+use Rattle.tree_edit.specs.inner.Writes.{SameElsewhere, NothingIsStored, Sets, RefusesHere}
 
 module _ {P : Type 0} (s : NodeTable P) (root : ℕ) where
   -- the path of another key that begins with the same bytes
@@ -183,22 +183,6 @@ module _ {P A : Type 0} (charge : A → Option Charge) (s : NodeTable P) (root :
   puts_new t v sets =
       let x = filled charge s root old count i seen refl key bytes full spot ends t v sets in
       record { whole = x.whole; pairs = x.pairs; alike = refl; reached = reached_set t v None sets x.whole.tree }
-
-  -- in a leaf that was made ready
-  module _ (nothing : NothingIsStored s spot.slot spot.stop) (g t : NodeTable P) (v : P) (new : SupplyView A) (leaf : ℕ) (is : IsReady s g spot.slot spot.stop key old.forms new.forms leaf) (keeps : SameElsewhere leaf g t) (writes : WritesChild g t leaf (get_or key 7 0) (Payload v)) (alike : Alike charge old new) where
-    put_ready : (last : PathEnd) → (IsTree t depth [] root → IsReached t root last) → Puts charge s old root number v last t new (count + 1)
-    put_ready last reaches =
-        let x = added charge s root old count i seen refl key bytes full spot ends nothing g t v new leaf is keeps writes alike in
-        record { whole = x.whole; pairs = x.pairs; alike = alike; reached = reaches x.whole.tree }
-
-    pub puts_ready : (b : ℕ) → spot.stop ≡ stops.Leaf b → Puts charge s old root number v spot t new (count + 1)
-    puts_ready b stop_is =
-        let r : IsReady s g spot.slot (stops.Leaf b) key old.forms new.forms leaf = subst (λ x. IsReady s g spot.slot x key old.forms new.forms leaf) stop_is is in
-        let same : SameElsewhere spot.slot g t = subst (λ j. SameElsewhere j g t) r.0 keeps in
-        put_ready spot (λ whole. reached_leaf t b stop_is (λ j other. same j other ∙ r.1 j other) whole)
-
-    pub puts_made : (last : PathEnd) → last.slot ≡ root → last.parent ≡ root → last.above ≡ 0 → Puts charge s old root number v last t new (count + 1)
-    puts_made last slot parent above = put_ready last (λ whole. reached_root t root whole last slot parent above)
 
   pub refuses : {E : Type 0} (e : E) (v : P) (t : NodeTable P) (new : SupplyView A) → t ≡ s → new.forms ≡ old.forms → Alike charge old new → NothingIsStored s spot.slot spot.stop → RefusesHere s spot.slot spot.stop
       → Refuses charge s old root number t new count

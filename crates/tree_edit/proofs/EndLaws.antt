@@ -27,14 +27,14 @@ use Rattle.tree_path.proofs.TrailLaws.{trail_more, trail_none}
 use Rattle.tree_edit.specs.Reduce.{AreFilled, LosesInPlace}
 use Rattle.tree_edit.specs.Tree.{TreeView}
 use Rattle.tree_edit.specs.TreeCalls.{Removes}
-use Rattle.tree_edit.specs.inner.Rise.{IsWholeBefore, IsRemoval}
+use Rattle.tree_edit.specs.inner.Rise.{IsRemoval}
 use Rattle.tree_edit.specs.inner.Whole.{IsWhole}
 use Rattle.tree_edit.specs.inner.Writes.{NothingIsStored, IsStoredWhere}
 use Rattle.tree_path.specs.inner.Supply.{SupplyView, Alike}
 use Rattle.tree_edit.specs.declared.ends.Side.{Side}
 use Rattle.tree_edit.specs.declared.ends.Side.TheVariants.{First, Last}
 use Rattle.tree_edit.specs.inner.Ends.{at_side}
-use Rattle.tree_edit.proofs.CallLaws.{after, byte_at, begins_whole, nothing_seen, ordered, seeks_along, taken_out}
+use Rattle.tree_edit.proofs.CallLaws.{after, byte_at, nothing_seen, ordered, taken_out}
 use Rattle.tree_edit.proofs.FilledLaws.{HasSome, filled_pairs, filled_left, filled_right}
 
 -- a pair at a side
@@ -333,12 +333,6 @@ module _ {P A : Type 0} (charge : A → Option Charge) (s : NodeTable P) (root :
     (seen : ◌≡◌ {A = TreeView P A} (record { pairs = pairs_at s depth root; nodes = nodes_at s depth [] root; budget = old.budget }) w)
     (side : Side) (key : ℕ) (is : Some key ≡ option_map (λ e. e.0) (at_side side (pairs_at s depth root)))
     (spot : PathEnd) (ends : SeeksTo s root (to_be_bytes w64 key) spot) (trail : List ℕ) (on : IsTrail s root (to_be_bytes w64 key) trail (spot.above + 1)) where
-  pub pop_spot : SeeksTo s (get_or trail 0 0) (to_be_bytes w64 key) spot
-  pop_spot = seeks_along charge s root old count i w seen (to_be_bytes w64 key) (key_bytes key) refl spot ends trail on
-
-  pub pop_begins : IsWholeBefore s (get_or trail 0 0) (to_be_bytes w64 key) trail spot.above old.forms
-  pop_begins = begins_whole charge s root old count i w seen (to_be_bytes w64 key) (key_bytes key) refl spot ends trail on
-
   pop_side : Some key ≡ option_map (λ e. e.0) (at_side side w.pairs)
   pop_side = rw (← seen) is
 

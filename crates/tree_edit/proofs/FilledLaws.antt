@@ -50,9 +50,6 @@ in_order_filled a b xs ys h k =
       | inr (inr more) ↦ rw (le-ltb a b (omega (arith, more))) (filled_append ys xs k h)
     ]
 
-no_place : (p : List ℕ) (i : ℕ) → p ≡ [] → i < length p → ⊥
-no_place p i e l = let none : length p ≡ 0 = ap length e in omega (arith, none, l)
-
 pub splits : (old : List NodeInfo) (key : List ℕ) (new : List NodeInfo) → SplitsNode old key new → AreFilled old → AreFilled new
 splits old key new x h =
     let lower : NodeInfo = record { edge = take x.at key ++ get_or x.node.prefix x.at 0 ∷ []; prefix = x.node.prefix; form = x.node.form; count = x.node.count } in

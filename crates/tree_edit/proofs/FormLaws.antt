@@ -1,7 +1,7 @@
 -- The form of a node that takes one more child.
 use Rattle.std.proofs.Common.{◌≡◌, ℕ, ◌+◌, ◌≤◌, refl, arith}
-use Rattle.std.proofs.lemmas.Bool.{lt-ltb, le-ltb}
-use Rattle.node_base.specs.Form.{Fits, next_form}
+use Rattle.std.proofs.lemmas.Bool.{lt-ltb}
+use Rattle.node_base.specs.Form.{Fits}
 use Rattle.node_table.specs.Shape.{grown_form}
 use Rattle.node_base.specs.declared.base_node.NodeType.{NodeType}
 use Rattle.node_base.specs.declared.base_node.NodeType.TheVariants.{N4, N16, N48, N256}
@@ -14,9 +14,3 @@ grown_fits N256 c h = refl
 
 at_most : (c n : ℕ) → (c + 1 ≤ n → ⊥) → n ≤ c
 at_most c n h = omega (arith, h)
-
-pub grown_full : (f : NodeType) (c : ℕ) → (Fits f (c + 1) → ⊥) → grown_form f c ≡ next_form f
-grown_full N4 c h = rw (le-ltb c 4 (at_most c 4 h)) refl
-grown_full N16 c h = rw (le-ltb c 16 (at_most c 16 h)) refl
-grown_full N48 c h = rw (le-ltb c 48 (at_most c 48 h)) refl
-grown_full N256 c h = absurd (h tt)

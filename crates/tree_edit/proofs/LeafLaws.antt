@@ -1,5 +1,5 @@
 -- What the calls for one payload of a leaf do, as `tree_edit` states it.
-use Rattle.std.proofs.Common.{◌≡◌, ℕ, ◌+◌, ◌<◌, List, [], ◌∷◌, length, get_or, Option, Some, None, IsSome, Result, Ok, Err, IfOk, OnErr, refl, ap, sym, subst, ◌∙◌, arith, inl, inr}
+use Rattle.std.proofs.Common.{◌≡◌, ℕ, ◌+◌, ◌<◌, List, [], ◌∷◌, length, get_or, Option, Some, None, Result, Ok, Err, IfOk, OnErr, refl, ap, sym, subst, ◌∙◌, arith, inl, inr}
 use Rattle.spec_map.specs.Map.{lookup, put, without}
 use Rattle.spec_map.specs.Refusal.{IsFullOrAbsent}
 use Rattle.node_base.specs.Form.{Fits}
@@ -14,8 +14,8 @@ use Rattle.tree_edit.specs.inner.Takes as takes_out
 use Rattle.std.specs.Option.{option_map}
 use Rattle.std.proofs.lemmas.Bool.{eq-eqb}
 use Rattle.tree_edit.proofs.SpotLaws.{no_slot}
-use Rattle.tree_edit.specs.inner.Writes.{HasLeafAt, IsStoredWhere, NothingIsStored, Sets, WritesChild}
-use Rattle.tree_links.specs.LeafCalls.{HasNothing, IsFullFor, SetsPayload, TakesPayload}
+use Rattle.tree_edit.specs.inner.Writes.{HasLeafAt, IsStoredWhere, Sets, WritesChild}
+use Rattle.tree_links.specs.LeafCalls.{SetsPayload, TakesPayload}
 use Rattle.tree_links.specs.Places.{as_link, as_linked, as_links}
 use Rattle.tree_links.specs.LinkNode.{LinkNode}
 use Rattle.tree_links.specs.PairCalls.{HasBelow}
@@ -58,15 +58,6 @@ module _ {P : Type 0} where
           (record x.node { children = without x.node.children byte }, x.there, (refl, refl, refl)),
     )
 
-    pub taken_was : (before : P) → TakesPayload s t i byte before → IsStoredWhere s i (stops.Leaf byte) before
-    taken_was before x = of_node s i (λ n. lookup n.children byte ≡ Some (Payload before)) x.node x.here x.found
-
-  pub nothing_full : (s : NodeTable P) (i byte : ℕ) → IsFullFor s i byte → NothingIsStored s i (stops.Leaf byte)
-  nothing_full s i byte x = of_node s i (λ n. lookup n.children byte ≡ None) x.node x.here x.absent
-
-  pub nothing_had : (s : NodeTable P) (i byte : ℕ) → HasNothing s i byte → NothingIsStored s i (stops.Leaf byte)
-  nothing_had s i byte x = of_node s i (λ n. lookup n.children byte ≡ None) x.node x.here x.absent
-
   pub sets_ok : (s t : NodeTable P) (i byte : ℕ) (v : P) {E : Type 0} (r : Result (Option P) E) → IfOk r (λ before. SetsPayload s t i byte v before) → IfOk r (λ before. Sets s t i (stops.Leaf byte) v before)
   sets_ok s t i byte v (Ok before) x = sets s t i byte v before x
   sets_ok s t i byte v (Err e) x = tt
@@ -75,13 +66,6 @@ module _ {P : Type 0} where
   pub record Here (s : NodeTable P) (i : ℕ) : Type 0 where
     pub node : TableNode P
     pub here : node_at s i ≡ Some node
-
-  pub here_is : (s : NodeTable P) (i : ℕ) → IsSome (node_at s i) → Here s i
-  here_is s i some = at (node_at s i) refl
-    where
-      at : (o : Option (TableNode P)) → node_at s i ≡ o → Here s i
-      at None e = absurd (let clash = rw e at some in cc)
-      at (Some n) e = record { node = n; here = e }
 
   -- what is under a byte of a node in a slot
   module _ (s : NodeTable P) (i b : ℕ) (l : LinkNode P) (at : node_at s (name_of i) ≡ Some (seen_node i l)) where

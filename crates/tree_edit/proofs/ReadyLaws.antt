@@ -1,7 +1,5 @@
 -- What is ready for a new key's pair, at each end of a descent.
 use Rattle.std.proofs.Common.{◌≡◌, ℕ, zero, suc, ◌+◌, ◌-◌, ◌<◌, List, [], ◌∷◌, ◌++◌, length, get_or, Option, Some, None, refl, ap, sym, subst, ◌∙◌, arith}
-use Rattle.std.proofs.lemmas.Bool.{ne_eqb}
-use Rattle.std.proofs.lemmas.List.{length-take}
 use Rattle.spec_map.specs.Map.{lookup}
 use Rattle.node_base.specs.declared.base_node.NodeType.TheVariants.{N4}
 use Rattle.node_table.specs.Key.{AreBytes, Begins, next_byte}
@@ -21,7 +19,6 @@ use Rattle.tree_edit.specs.inner.Writes.{MakesRoom, SameElsewhere, Splits}
 use Rattle.tree_edit.proofs.ChargeLaws.{add_counted, split_counted}
 use Rattle.tree_edit.proofs.SpotLaws.{counted_there, fill_inserts, put_inserts}
 use Rattle.tree_edit.proofs.WholeLaws.{IsInsertion, add_inserts, split_inserts, parts_high}
-use Rattle.tree_links.specs.LeafCalls.{HasRoomFor}
 use Rattle.tree_links.specs.MovesNode.{MovesNode}
 use Rattle.tree_links.specs.PairCalls.{IsOpenFor}
 use Rattle.tree_links.specs.SameTree.{GoesOnAt, SameTree}
@@ -65,21 +62,6 @@ module _ {P : Type 0} (s : NodeTable P) (root : ℕ) (key : List ℕ) where
         let f = sets g t (name_of i) (get_or key 7 0) v None x in
         let y = put_inserts s root key (seen_at key i j above (ends.Leaf b)) h.ends h.bytes h.full forms h.counted h.rooted h.nothing g t v new (name_of i) (refl, same, room, grown) f.2 f.3 in
         gains h.bytes h.full t v new y.0 y.1
-
-    pub leaf_may : HasRoomFor g (name_of i) (get_or key 7 0)
-    leaf_may =
-        let w = h.ends in
-        let n = w.node in
-        let stop : Halts key n (stops.Leaf b) = w.stop in
-        let y = room n w.here in
-        let last : b ≡ get_or key 7 0 = stop.0 ∙ ap (λ k. get_or key k 0) stop.2 in
-        record {
-          node = y.0;
-          here = y.1;
-          seven = ap (λ (p : List ℕ). length p) y.2 ∙ stop.2;
-          absent = ap (λ es. lookup es (get_or key 7 0)) y.3 ∙ subst (λ c. lookup n.children c ≡ None) last (h.nothing n w.here);
-          room = y.4;
-        }
 
   -- A PLACE in the node above the leaves, which has room in g
   module _ (i j above b : ℕ) (forms : FormCounts) (h : EndsAbsent s key (end_of i j above (ends.Absent b)) root forms) (g : NodeTable P) (room : MakesRoom s g (name_of i)) where
@@ -140,9 +122,6 @@ module _ {P : Type 0} (s : NodeTable P) (root : ℕ) (key : List ℕ) where
     same_tree : SameTree s g root
     same_tree = moves_on_path s g root (name_of i) b (name_under i b) (name_of k) key (pair_goes i above b h.bytes h.full h.ends.leads h.pair.0) m
 
-    moved_is : leaf_of h.pair.0.leaf.key h.pair.0.leaf.payload ≡ m.moved
-    moved_is = let both : Some (leaf_of h.pair.0.leaf.key h.pair.0.leaf.payload) ≡ Some m.moved = sym h.pair.0.leaf.is ∙ m.was in cc
-
     next_in : b ≡ next_byte m.node.prefix key
     next_in =
         let both : Some h.pair.0.leaf.below.node ≡ Some m.node = sym h.pair.0.leaf.below.here ∙ m.here in
@@ -159,17 +138,6 @@ module _ {P : Type 0} (s : NodeTable P) (root : ℕ) (key : List ℕ) where
       where
         gains_in : (g : NodeTable P) (bytes : AreBytes key) (full : length key ≡ 8) (t : NodeTable P) (v : P) (forms : FormCounts) → IsInsertion g root key bytes full t v None → IsCounted forms (nodes_at t depth [] root) → GainsPair g t root key v forms
         gains_in g bytes full t v forms x counted = record { tree = x.tree; rooted = x.root_stays; absent = sym x.was; pairs = x.pairs; shape = x.shape; counted = counted }
-
-    pub beside_may : HasRoomFor g (name_of k) last
-    beside_may =
-        let x = h.pair.0.leaf in
-        record {
-          node = leaf_of x.key x.payload;
-          here = m.is ∙ ap (λ (n : TableNode P). Some n) (sym moved_is);
-          seven = length-take 7 x.key ∙ omega (arith, x.full);
-          absent = rw (ne_eqb (get_or x.key 7 0) last h.pair.2) refl;
-          room = omega arith;
-        }
 
   -- A SPLIT, as the tree after one in place
   splits_of : (t : NodeTable P) (old at : ℕ) (v : P) → SplitsInPlace s t old key at v → Splits s t old key at v
@@ -207,18 +175,6 @@ module _ {P : Type 0} (s : NodeTable P) (root : ℕ) (key : List ℕ) where
     over_pair_ready new more = λ t v x.
         let y : PartsTree s t (name_of i) b (name_under i b) key at v = subst (λ z. PartsTree z t (name_of i) b (name_under i b) key at v) same x in
         split_gains (seen_at key i j above (ends.PairDiffers b at)) at h.ends refl h.rooted h.bytes h.full forms new h.counted more t v (y root (pair_goes i above b h.bytes h.full h.ends.leads h.pair.0))
-
-    pub over_pair_may : (free : ℕ) → 1 < free → MayPart g free (name_of i) b (name_under i b) key at
-    over_pair_may free some =
-        let x = h.pair.0.leaf in
-        let p = pair_step i above b h.bytes h.full h.ends.leads in
-        subst (λ z. MayPart z free (name_of i) b (name_under i b) key at) (sym same) (record {
-          below = x.below;
-          apart = p.apart;
-          parted = record { node = leaf_of x.key x.payload; here = x.is; differs = h.pair.1 };
-          early = differs_early (seen_at key i j above (ends.PairDiffers b at)) at h.ends refl;
-          two = some;
-        })
 
   -- above a node
   module _ (i j above at : ℕ) (forms : FormCounts) (h : EndsAbsent s key (end_of i j above (ends.Differs at)) root forms) where

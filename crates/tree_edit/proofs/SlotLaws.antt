@@ -81,32 +81,3 @@ module _ {P : Type 0} where
           children_are = p.children_are;
           is_leaf = l.2;
         }
-
-  -- the slots reserved, the leaf, the upper node in the slot, then the old node
-  module _ (s r s1 s2 t : NodeTable P) (slot j k : ℕ) (n l u old : TableNode P) (here : node_at s slot ≡ Some n) (same : r ≡ s)
-      (fresh1 : node_at r j ≡ None) (others1 : (i : ℕ) → i ≢ j → node_at s1 i ≡ node_at r i) (there1 : node_at s1 j ≡ Some l)
-      (others2 : SameElsewhere slot s1 s2) (was2 : node_at s1 slot ≡ Some old) (there2 : node_at s2 slot ≡ Some u)
-      (fresh3 : node_at s2 k ≡ None) (others3 : (i : ℕ) → i ≢ k → node_at t i ≡ node_at s2 i) (there3 : node_at t k ≡ Some old) where
-    in1 : (i : ℕ) (m : TableNode P) → node_at s i ≡ Some m → node_at s1 i ≡ Some m
-    in1 i m h = at_key s r s1 i j m same fresh1 others1 h
-
-    in3 : (i : ℕ) (m : TableNode P) → node_at s2 i ≡ Some m → node_at t i ≡ Some m
-    in3 i m h = others3 i (differ s2 i k m h fresh3) ∙ h
-
-    slot_j : slot ≢ j
-    slot_j = differ r slot j n (subst (λ x. node_at x slot ≡ Some n) (sym same) here) fresh1
-
-    pub split_keeps : (i : ℕ) (m : TableNode P) → i ≢ slot → node_at s i ≡ Some m → node_at t i ≡ Some m
-    split_keeps i m d h = in3 i m (others2 i d ∙ in1 i m h)
-
-    pub split_upper : node_at t slot ≡ Some u
-    split_upper = in3 slot u there2
-
-    pub split_lower : node_at t k ≡ Some n
-    split_lower = there3 ∙ sym was2 ∙ in1 slot n here
-
-    pub split_apart : k ≢ j
-    split_apart = λ same. differ s2 j k l (others2 j (λ e. slot_j (sym e)) ∙ there1) fresh3 (sym same)
-
-    pub split_leaf : node_at t j ≡ Some l
-    split_leaf = in3 j l (others2 j (λ e. slot_j (sym e)) ∙ there1)

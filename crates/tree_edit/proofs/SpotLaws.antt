@@ -1,6 +1,5 @@
 -- How the path of a key ends where its descent did, once the key's payload there is known.
 use Rattle.std.proofs.Common.{◌≡◌, ◌<◌, ℕ, List, [], length, get_or, Some, None, refl, ap, sym, subst, ◌∙◌, arith}
-use Rattle.std.proofs.lemmas.List.{length-take}
 use Rattle.spec_map.specs.Map.{lookup}
 use Rattle.spec_map.specs.Refusal.{NeedsNode}
 use Rattle.node_table.specs.Key.{AreBytes, key_number}
@@ -15,7 +14,7 @@ use Rattle.tree_path.specs.declared.descent.PathEnd.{PathEnd}
 use Rattle.tree_path.proofs.PathEndLaws.{leads_kind, place_of, ended, leaf_has, leaf_lacks, none_above}
 use Rattle.tree_path.specs.inner.Supply.{with_form, CountsGrown, IsCounted, IsCountedAt}
 use Rattle.tree_path.specs.declared.supply.FormCounts.{FormCounts}
-use Rattle.tree_edit.specs.inner.Writes.{SameElsewhere, WritesChild, IsReadyFor, empty_leaf, HasLeafAt, HasLeafFor, HasNothingUnder, NothingIsStored, WasChild, IsStoredWhere, Exchanges, Fills, MakesRoom, HaltsAt, RefusesHere, IsReady}
+use Rattle.tree_edit.specs.inner.Writes.{SameElsewhere, WritesChild, HasLeafAt, HasLeafFor, HasNothingUnder, NothingIsStored, WasChild, IsStoredWhere, Exchanges, Fills, MakesRoom, RefusesHere, IsReady}
 use Rattle.tree_edit.proofs.ChargeLaws.{end_counted, fill_counted, add_counted, split_counted}
 use Rattle.tree_edit.proofs.FormLaws.{grown_fits}
 use Rattle.tree_edit.proofs.RefusalLaws.{needs_node-absent, needs_node-differs}
@@ -59,9 +58,6 @@ module _ {P : Type 0} (s : NodeTable P) (root : ℕ) (key : List ℕ) (spot : Pa
       at (stops.Differs i) is = tt
       at (stops.Absent b) is = tt
       at (stops.Leaf b) is = ready_leaf b is
-
-  pub halts_there : HaltsAt s spot.slot key spot.stop
-  halts_there = record { node = w.node; here = w.here; halts = w.stop }
 
   -- what holds of the node where the descent ended holds of the slot's node
   of_node : (F : TableNode P → Type 0) → F w.node → (n : TableNode P) → node_at s spot.slot ≡ Some n → F n
@@ -107,29 +103,6 @@ module _ {P : Type 0} (s : NodeTable P) (root : ℕ) (key : List ℕ) (spot : Pa
     module _ (forms : FormCounts) (h : IsCounted forms (nodes_at s depth [] root)) where
       pub counted_there : IsCountedAt s spot.slot forms
       counted_there = let e = ended s root key spot w in end_counted s root key _ e.ends forms h
-
-      -- the leaf that is ready can take the payload
-      pub ready_there : NothingIsStored s spot.slot spot.stop → (g : NodeTable P) (forms' : FormCounts) (leaf : ℕ) (v : P) → IsReady s g spot.slot spot.stop key forms forms' leaf → IsReadyFor g leaf (get_or key 7 0) (Payload v)
-      ready_there nothing g forms' leaf v x = at spot.stop refl nothing x
-        where
-          new_leaf : node_at g leaf ≡ Some (empty_leaf key) → IsReadyFor g leaf (get_or key 7 0) (Payload v)
-          new_leaf there = record { node = empty_leaf key; here = there; absent = refl; room = omega arith; kind = length-take 7 key ∙ omega (arith, full) }
-
-          at : (stop : Stop) → spot.stop ≡ stop → NothingIsStored s spot.slot stop → IsReady s g spot.slot stop key forms forms' leaf → IsReadyFor g leaf (get_or key 7 0) (Payload v)
-          at (stops.Differs i) is none x =
-              let p = x.0.parts in
-              new_leaf (subst (λ j. node_at g j ≡ Some (empty_leaf key)) x.0.is (p.leaf_there ∙ ap (λ (l : TableNode P). Some l) p.is_leaf))
-          at (stops.Absent b) is none x = new_leaf x.0.there
-          at (stops.Leaf b) is none x =
-              let l = at_leaf b is in
-              let y = x.2 w.node w.here in
-              record {
-                node = y.0;
-                here = subst (λ j. node_at g j ≡ Some y.0) (sym x.0) y.1;
-                absent = ap (λ es. lookup es (get_or key 7 0)) y.3 ∙ subst (λ c. lookup w.node.children c ≡ None) (last_byte b is) (none w.node w.here);
-                room = y.4;
-                kind = ap (λ (p : List ℕ). length p) y.2 ∙ l.2;
-              }
 
       -- and contains the pair then
       pub put_inserts : HasRoot s root → NothingIsStored s spot.slot spot.stop → (g t : NodeTable P) (v : P) (forms' : FormCounts) (leaf : ℕ) → IsReady s g spot.slot spot.stop key forms forms' leaf

@@ -1,6 +1,6 @@
 -- A removal goes up a key's path, step by step: what its loop keeps.
 use Rattle.std.proofs.Common.{◌≡◌, ◌≢◌, ℕ, zero, suc, ◌+◌, ◌<◌, List, [], ◌∷◌, ◌++◌, length, get_or, Option, Some, None, IsSome, ◌⊎◌, Bool, false, refl, ap, sym, subst, ◌∙◌, arith, inl, inr, length-append}
-use Rattle.node_table.specs.Charge.{Charge, add_charge}
+use Rattle.node_table.specs.Charge.{Charge}
 use Rattle.node_base.specs.Form.{smaller_form}
 use Rattle.node_base.specs.declared.base_node.NodeType.{NodeType}
 use Rattle.spec_map.specs.Map.{lookup}
@@ -181,10 +181,6 @@ module _ {P : Type 0} (s : NodeTable P) (root : ℕ) (key : List ℕ) where
           let x = r.risen in
           let some : IsSome (lookup r.top.node.children (next_byte r.top.node.prefix key)) = rw x.found refl in
           less_info r.q r.top.node r.left (next_byte r.top.node.prefix key) r.top.sound.ordered some x.prefix x.children r.form
-
-      -- where it keeps a child and its form
-      pub ends_kept : 0 < length r.left.children → (shrinks : Bool) → IsRemoval s root key shrinks t new
-      ends_kept some shrinks = ends_at t new (λ i far. refl) r.left r.risen.there refl refl (λ e. refl) shrinks (λ e. lessened) (inr some) (inl lessened) refl
 
       -- at the root
       pub ends_top : at ≡ 0 → (shrinks : Bool) → IsRemoval s root key shrinks t new

@@ -140,13 +140,6 @@ module _ {P : Type 0} where
           let is : m ≡ seen_node i n = cc in
           record { node = n; here = e; is = is }
 
-  pub slot_none : (t : LinkTable P) (i : ℕ) → node_at (seen_table t) (name_of i) ≡ None → link_at t i ≡ None
-  slot_none t i h = at (link_at t i) refl
-    where
-      at : (x : Option (LinkNode P)) → link_at t i ≡ x → link_at t i ≡ None
-      at None e = e
-      at (Some n) e = absurd (let clash : ◌≡◌ {A = Option (TableNode P)} None (Some (seen_node i n)) = sym h ∙ (seen_slot t i ∙ ap (option_map (λ n. seen_node i n)) e) in cc)
-
   pub at_slot : (t : LinkTable P) (i : ℕ) (n : LinkNode P) → link_at t i ≡ Some n → node_at (seen_table t) (name_of i) ≡ Some (seen_node i n)
   at_slot t i n h = seen_slot t i ∙ ap (option_map (λ n. seen_node i n)) h
 

@@ -1,6 +1,6 @@
 //! The bytes of keys that pairs have in part.
 //!
-//! Tested in `test_tree_links` and `test_owned`.
+//! Tested in `test_owned` and `tools/dev/try-commands`.
 
 ghost use Rattle.std.specs.Prelude.{◌≡◌, ◌++◌, [], ◌∷◌, drop, length, IsSome, Some};
 ghost use Rattle.node_table.specs.Key.{key_number};

@@ -1,6 +1,6 @@
 //! The path of a key from the root down.
 //!
-//! Tested in `test_tree_links`.
+//! Tested in `test_owned` and `tools/dev/try-commands`.
 
 ghost use Rattle.std.specs.Prelude.{◌≡◌, ◌+◌, ◌≤◌, drop, length, map, option_copied, IsSome, IsTrue, Some, false};
 ghost use Rattle.std.specs.Int.{w64, to_be_bytes};

@@ -1,6 +1,6 @@
 //! The calls for one payload of a leaf that has a slot.
 //!
-//! Tested in `test_tree_links`.
+//! Tested in `test_owned` and `tools/dev/try-commands`.
 
 ghost use Rattle.std.specs.Prelude.{◌≡◌, IfErr, IfNone, IfOk, IfSome, OnErr, None};
 ghost use Rattle.tree_links.specs.LeafCalls.{HasLeafAt, HasNothing, HasRoomFor, IsFullFor, SetsPayload, TakesPayload};

@@ -6,7 +6,7 @@
 //!
 //! A leaf's second pair takes no memory. So a slot is kept free for each pair that is in its parent.
 //!
-//! Tested in `test_tree_links` and `test_owned`.
+//! Tested in `test_owned` and `tools/dev/try-commands`.
 #![tactic(auto)]
 
 pub mod bytes;

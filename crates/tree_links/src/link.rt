@@ -1,6 +1,6 @@
 //! What a node has under a byte, where the one pair of a leaf may be in the place of that leaf.
 //!
-//! Tested in `test_tree_links`.
+//! Tested in `test_owned` and `tools/dev/try-commands`.
 
 /// A payload, under the last byte of its key; the slot of the node below; or the one pair of the leaf below: the last
 /// seven bytes of its key, and its payload.

@@ -3,7 +3,7 @@
 //! A slot is kept free for each of these pairs. So a pair can always get a slot, without memory. `reserve` takes the
 //! memory, and the calls that add nodes and pairs take none.
 //!
-//! Tested in `test_tree_links`.
+//! Tested in `test_owned` and `tools/dev/try-commands`.
 
 ghost use Rattle.std.specs.Prelude.{◌≡◌, ◌≢◌, ℕ, ◌+◌, ◌<◌, ◌≤◌, [], Some, None, IsOk, IsSome, OnErr, OnOk, option_copied};
 ghost use Rattle.std.specs.Option.{option_map};

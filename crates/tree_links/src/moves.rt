@@ -2,7 +2,7 @@
 //!
 //! The first comes before a leaf's second pair, and the second after a removal that leaves one. Neither takes memory.
 //!
-//! Tested in `test_tree_links`.
+//! Tested in `test_owned` and `tools/dev/try-commands`.
 
 ghost use Rattle.std.specs.Prelude.{◌≡◌, ℕ, List, [], ◌∷◌};
 ghost use Rattle.tree_links.specs.MovesNode.{MovesNode};

@@ -1,6 +1,6 @@
 //! The calls for one pair that is alone in its leaf, in its parent.
 //!
-//! Tested in `test_tree_links`.
+//! Tested in `test_owned` and `tools/dev/try-commands`.
 
 ghost use Rattle.std.specs.Prelude.{◌≡◌, ◌+◌, ◌<◌};
 ghost use Rattle.tree_links.specs.PairCalls.{IsOpenFor, GetsLeaf, HasBelow, HasPair, ChangesLeaf, LosesLeaf};

@@ -1,6 +1,6 @@
 //! A node of `node_table` as one whose children may be pairs: an inner node has a `Place` for each child.
 //!
-//! Tested in `test_tree_links`.
+//! Tested in `test_owned` and `tools/dev/try-commands`.
 
 ghost use Rattle.std.specs.Prelude.{◌≡◌, ◌+◌, length, IfOk, IfErr, OnOk, OnErr, Some, None};
 ghost use Rattle.spec_map.specs.Map.{lookup};

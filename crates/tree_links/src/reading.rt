@@ -1,6 +1,6 @@
 //! What is asked of the node in a slot, by the node that is seen there.
 //!
-//! Tested in `test_tree_links`.
+//! Tested in `test_owned` and `tools/dev/try-commands`.
 
 ghost use Rattle.std.specs.Prelude.{◌≡◌, ◌+◌, ◌≤◌, ◌↔◌, length, IsSome, IsTrue, Some, false};
 ghost use Rattle.node_base.specs.Form.{Fits, few_in};

@@ -1,6 +1,6 @@
 //! What calls do to the links of the node in one slot.
 //!
-//! Tested in `test_tree_links`.
+//! Tested in `test_owned` and `tools/dev/try-commands`.
 
 ghost use Rattle.std.specs.Prelude.{◌≡◌, ◌≤◌, IfErr, IfNone, IfOk, IfSome, IsSome, OnErr, OnOk};
 ghost use Rattle.slab.specs.Slab.{slab_len, HasRoomFor};

@@ -2,7 +2,7 @@
 //!
 //! A node that is split keeps its slot, since its pairs are seen under that. The new node above gets a free one.
 //!
-//! Tested in `test_tree_links`.
+//! Tested in `test_owned` and `tools/dev/try-commands`.
 
 ghost use Rattle.std.specs.Prelude.{◌≡◌, ◌≢◌, ℕ, ◌+◌, ◌<◌, [], ◌∷◌, take};
 ghost use Rattle.spec_map.specs.Map.{put};

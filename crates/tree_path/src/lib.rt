@@ -1,5 +1,5 @@
-//! The path of a key from the root down, which all point calls take, the count of the nodes that it reads, and the
-//! supply that nodes are taken from and charged to.
+//! How the path of a key goes down from the root, the count of the nodes that it reads, and the supply that nodes are
+//! charged to.
 //!
 //! Tested in `test_owned` and `tools/dev/try-commands`.
 #![tactic(auto)]

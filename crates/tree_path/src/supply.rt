@@ -1,16 +1,15 @@
-//! What the nodes of a tree are taken from: the machine's memory, and a budget that is charged for each of them.
+//! What the nodes of a tree are charged to: a budget, and the machine's memory, from which their owner takes them.
 //!
 //! Tested in `test_owned` and `tools/dev/try-commands`.
 
-ghost use Rattle.std.specs.Prelude.{◌≡◌, ◌+◌, ◌*◌, ◌<◌, ◌^◌, [], length, IfOk, OnOk, OnErr};
+ghost use Rattle.std.specs.Prelude.{◌≡◌, ◌+◌, ◌*◌, ◌<◌, ◌^◌, OnOk, OnErr};
 ghost use Rattle.node_table.specs.Charge.{add_charge, Covers};
-ghost use Rattle.node_base.specs.Form.{Fits, next_form, smaller_form, stated_size};
+ghost use Rattle.node_base.specs.Form.{next_form, smaller_form, stated_size};
 ghost use Rattle.node_base.specs.declared.base_node.NodeType.{NodeType};
-ghost use Rattle.tree_path.specs.inner.Supply.{count, with_form, no_forms, size_of, Alike, Charges, ChargesNothing, Trades};
+ghost use Rattle.tree_path.specs.inner.Supply.{count, with_form, no_forms, size_of, Alike, Charges};
 
 use node_base::base_node::{NodeSize, NodeType};
 use node_table::allocator::Allocator;
-use node_table::tree_node::TreeNode;
 use spec_map::error::OOMError;
 use std::alloc::Global;
 use std::marker::Model;
@@ -85,8 +84,6 @@ impl<A: Allocator> Model for Supply<A> {
 }
 
 impl<A: Allocator> Supply<A> {
-    ghost use Rattle.node_base.specs.declared.base_node.NodeType.TheVariants.{N4, N256};
-
     /// A supply from which nothing was taken.
     pub fn new(alloc: Global, budget: A) -> Self
         ensures { result ≡ record { budget = budget; forms = no_forms } }
@@ -143,97 +140,6 @@ impl<A: Allocator> Supply<A> {
     {
         self.forms = self.forms.without(form);
         self.budget.deallocate(NodeSize::of(form));
-    }
-
-    /// The root of an empty tree.
-    pub fn root<P: Drop>(&mut self) -> Result<TreeNode<P>, OOMError>
-        requires { count N256 self.old.forms < 2 ^ 63 }
-        ensures node { IfOk result (λ n. n ≡ record { form = N256; prefix = []; children = [] }) }
-        ensures ok { OnOk result (Charges A.charge self.old N256 self.new) }
-        ensures err { OnErr result (ChargesNothing A.charge self.old self.new) }
-    {
-        self.charge(NodeType::N256)?;
-        let root = TreeNode::root(self.alloc);
-        if root.is_err() {
-            self.give_back(NodeType::N256);
-        }
-        root
-    }
-
-    /// An inner node of the smallest form, without children.
-    pub fn inner<P: Drop>(&mut self, prefix: &[u8]) -> Result<TreeNode<P>, OOMError>
-        requires prefix { length prefix.now < 7 }
-        requires room { count N4 self.old.forms < 2 ^ 63 }
-        ensures node { IfOk result (λ n.
-            n ≡ record { form = N4; prefix = prefix.now; children = [] }) }
-        ensures ok { OnOk result (Charges A.charge self.old N4 self.new) }
-        ensures err { OnErr result (ChargesNothing A.charge self.old self.new) }
-    {
-        self.charge(NodeType::N4)?;
-        let node = TreeNode::inner(self.alloc, prefix);
-        if node.is_err() {
-            self.give_back(NodeType::N4);
-        }
-        node
-    }
-
-    /// A leaf of the smallest form, without payloads.
-    pub fn leaf<P: Drop>(&mut self, prefix: &[u8]) -> Result<TreeNode<P>, OOMError>
-        requires prefix { length prefix.now ≡ 7 }
-        requires room { count N4 self.old.forms < 2 ^ 63 }
-        ensures node { IfOk result (λ n.
-            n ≡ record { form = N4; prefix = prefix.now; children = [] }) }
-        ensures ok { OnOk result (Charges A.charge self.old N4 self.new) }
-        ensures err { OnErr result (ChargesNothing A.charge self.old self.new) }
-    {
-        self.charge(NodeType::N4)?;
-        let leaf = TreeNode::leaf(self.alloc, prefix);
-        if leaf.is_err() {
-            self.give_back(NodeType::N4);
-        }
-        leaf
-    }
-
-    /// Puts a node into its next form. The size of that form is charged before the old one is uncharged.
-    pub fn grow<P: Drop>(&mut self, node: &mut TreeNode<P>) -> Result<(), OOMError>
-        requires counted { 0 < count node.old.form self.old.forms }
-        requires room { count (next_form node.old.form) self.old.forms < 2 ^ 63 }
-        ensures ok { OnOk result (node.new ≡ record node.old { form = next_form node.old.form }) }
-        ensures fits { OnOk result (Fits node.new.form (length node.new.children + 1)) }
-        ensures err { OnErr result (node.new ≡ node.old) }
-        ensures forms { OnOk result
-            (Trades self.old.forms node.old.form (next_form node.old.form) self.new.forms) }
-        ensures same { OnErr result (self.new.forms ≡ self.old.forms) }
-        ensures alike { Alike A.charge self.old self.new }
-    {
-        let small = node.base().get_type();
-        let large = larger(small);
-        self.charge(large)?;
-        let grown = node.grow(self.alloc);
-        self.give_back(if grown.is_ok() { small } else { large });
-        grown
-    }
-
-    /// Puts a node with few children into its next smaller form. The size of that form is charged before the old one is
-    /// uncharged. A refusal leaves node and charge unchanged.
-    pub fn shrink<P: Drop>(&mut self, node: &mut TreeNode<P>) -> Result<(), OOMError>
-        requires counted { 0 < count node.old.form self.old.forms }
-        requires room { count (smaller_form node.old.form) self.old.forms < 2 ^ 63 }
-        requires few { Fits (smaller_form node.old.form) (length node.old.children) }
-        ensures ok { OnOk result
-            (node.new ≡ record node.old { form = smaller_form node.old.form }) }
-        ensures err { OnErr result (node.new ≡ node.old) }
-        ensures forms { OnOk result
-            (Trades self.old.forms node.old.form (smaller_form node.old.form) self.new.forms) }
-        ensures same { OnErr result (self.new.forms ≡ self.old.forms) }
-        ensures alike { Alike A.charge self.old self.new }
-    {
-        let large = node.base().get_type();
-        let small = smaller(large);
-        self.charge(small)?;
-        let shrunk = node.shrink(self.alloc);
-        self.give_back(if shrunk.is_ok() { large } else { small });
-        shrunk
     }
 }
 

@@ -13,7 +13,7 @@ use Rattle.node_table.specs.Key.{low}
 use Rattle.node_table.specs.TableNode.{TableNode, Child}
 use Rattle.node_table.specs.Table.{NodeTable, node_at, pairs_under, pairs_of, pairs_at, IsTree, IsSubtree}
 use Rattle.node_table.specs.declared.child.Child.TheVariants.{Payload, Node}
-use Rattle.tree_walk.specs.Scan.{from_key, first_number}
+use Rattle.tree_walk.specs.Scan.{from_key}
 use Rattle.tree_walk.specs.inner.Scan.{IsWindow}
 use Rattle.tree_walk.specs.declared.window.Window.{Window}
 use Rattle.tree_walk.proofs.WindowLaws.{low-leaf}
@@ -42,11 +42,6 @@ module _ {P : Type 0} where
   last-append (x ∷ []) [] some = absurd (some refl)
   last-append (x ∷ []) (y ∷ ys) some = refl
   last-append (x ∷ z ∷ xs) ys some = last-append (z ∷ xs) ys some
-
-  -- the key of the first pair
-  pub number_of_first : (es : Pairs P) (o : Option (ℕ × P)) → o ≡ first_of es → option_map (λ p. p.0) o ≡ first_number es
-  number_of_first [] o is = ap (λ x. option_map (λ p. p.0) x) is
-  number_of_first (e ∷ es) o is = ap (λ x. option_map (λ p. p.0) x) is
 
 -- a byte and its child
 module _ {C : Type 0} where

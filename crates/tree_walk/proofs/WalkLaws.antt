@@ -1,7 +1,6 @@
 -- Walks over all pairs below a node.
 use Rattle.std.proofs.Common.{◌≡◌, ℕ, zero, suc, ◌+◌, ◌^◌, ◌<◌, ◌≤◌, List, [], ◌∷◌, ◌++◌, length, map, Some, None, refl, ap, sym, subst, ◌∙◌, arith, append_assoc, length-append}
 use Rattle.std.proofs.lemmas.List.{map-append, length-map}
-use Rattle.std.proofs.lemmas.Bool.{eq-eqb}
 use Rattle.spec_map.specs.Map.{Pairs, lookup, without, between, Rises}
 use Rattle.node_table.specs.Key.{low}
 use Rattle.node_table.specs.TableNode.{TableNode, Child}
@@ -147,16 +146,6 @@ module _ {P : Type 0} where
     pub found : lookup m k ≡ Some value
     pub others : without m k ≡ rest
     pub above : Rises (k + 1) (2 ^ 64) rest
-
-  pub first_left : (from : ℕ) (m : Pairs P) (k : ℕ) → Rises from (2 ^ 64) m → Some k ≡ first_number (from_key from m) → FirstLeft m k
-  first_left from m k h is = go m h (subst (λ es. Some k ≡ first_number es) (between-all from (2 ^ 64) from (2 ^ 64) m h (omega arith) (omega arith)) is)
-    where
-      go : (m : Pairs P) → Rises from (2 ^ 64) m → Some k ≡ first_number m → FirstLeft m k
-      go [] h is = absurd (cc)
-      go ((j, v) ∷ es) h is =
-          let same : j ≡ k = cc in
-          subst (λ i. FirstLeft ((j, v) ∷ es) i) same
-          (record { value = v; rest = es; is = refl; found = rw (eq-eqb j j refl) refl; others = rw (eq-eqb j j refl) refl; above = h.2 })
 
   pub left_after : (m : Pairs P) (k : ℕ) (f : FirstLeft m k) (v : P) (n : Pairs P) → Some v ≡ lookup m k → n ≡ without m k → m ≡ (k, v) ∷ n
   left_after m k f v n here others =

@@ -14,12 +14,6 @@ module _ {P : Type 0} where
   abbrev pub Loses : TableNode P → ℕ → TableNode P → Type 0
   Loses n byte m = (m.prefix ≡ n.prefix) × (m.children ≡ without n.children byte) × (m.form ≡ n.form)
 
-  -- the slot has a node with something under this byte
-  pub record IsPresentIn (s : NodeTable P) (slot byte : ℕ) : Type 0 where
-    pub node : TableNode P
-    pub here : node_at s slot ≡ Some node
-    pub present : IsSome (lookup node.children byte)
-
   -- the slot's node has nothing under this byte any more
   abbrev pub TakesChild : NodeTable P → NodeTable P → ℕ → ℕ → Type 0
   TakesChild s t slot byte =

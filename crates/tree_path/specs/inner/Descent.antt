@@ -5,8 +5,6 @@ use Rattle.node_table.specs.Key.{Begins, IsFirstDifference, next_byte}
 use Rattle.node_table.specs.TableNode.{TableNode, Child, MayHave}
 use Rattle.node_table.specs.Table.{NodeTable, node_at, IsTree}
 use Rattle.node_table.specs.declared.child.Child.TheVariants.{Payload, Node}
-use Rattle.tree_path.specs.declared.descent.Step.{Step}
-use Rattle.tree_path.specs.declared.descent.Step.TheVariants.{Down, Here}
 use Rattle.tree_path.specs.declared.descent.Stop.{Stop}
 use Rattle.tree_path.specs.declared.descent.Stop.TheVariants as stops
 use Rattle.tree_path.specs.declared.descent.PathEnd.{PathEnd}
@@ -47,12 +45,6 @@ module _ {P : Type 0} (key : List ℕ) where
       × (length n.prefix < 7)
   Halts n (stops.Leaf b) =
       (b ≡ next_byte n.prefix key) × Begins n.prefix key × (length n.prefix ≡ 7)
-
-  -- the outcome of a look at a node: the slot of the child on the key's path, or the end of the descent
-  abbrev pub Meets : TableNode P → Step → Type 0
-  Meets n (Down j) =
-      Begins n.prefix key × (lookup n.children (next_byte n.prefix key) ≡ Some (Node j))
-  Meets n (Here stop) = Halts n stop
 
 -- each child of the node is of the kind that its prefix determines
 abbrev pub IsOfOneKind : {P : Type 0} → TableNode P → Type 0

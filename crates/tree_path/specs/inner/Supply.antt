@@ -72,11 +72,6 @@ module _ {A : Type 0} (charge : A → Option Charge) where
     pub forms : new.forms ≡ with_form form old.forms
     pub alike : Alike old new
 
-  -- nothing is charged or counted that was not before
-  pub record ChargesNothing (old new : SupplyView A) : Type 0 where
-    pub forms : new.forms ≡ old.forms
-    pub alike : Alike old new
-
 -- one node of the one form is counted in place of one of the other
 abbrev pub Trades : FormCounts → NodeType → NodeType → FormCounts → Type 0
 Trades old gone come new = with_form gone new ≡ with_form come old

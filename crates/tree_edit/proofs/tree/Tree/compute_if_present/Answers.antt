@@ -90,11 +90,12 @@ returns-in-Some-take_out-clause-computes g c =
     let removal = subst (λ r. IsRemoval c.self.inside.nodes.table r c.args.key.now true c.take_out.new.nodes.table c.take_out.new.supply.forms) (root_first _ _ _ _ _ c.seek_along-spot.ensures.trail) (e.taken refl) in
     let x = taken_out g.A.Allocator.charge _ _ _ _ c.self.invariant _ c.self.view_is _ (AreBytes-from_items _ (λ k l. c.fits-key k)) c.told-key (seen_end c.args.key.now c.seek_along-spot.result) c.seek_along-spot.ensures.ends true c.take_out.new.nodes.table _ c.take_out.new.supply e.before removal c.take_out.ensures.alike in
     let found = payload_seen g.A.Allocator.charge _ _ _ _ c.self.invariant _ c.self.view_is _ (AreBytes-from_items _ (λ k l. c.fits-key k)) c.told-key (seen_end c.args.key.now c.seek_along-spot.result) c.seek_along-spot.ensures.ends _ c.in-Some.ensures.some in
-    record {
+    rw c.release_slots.ensures
+    (record {
       before = x.removes.before;
       absent = λ none. absurd (let clash = sym found ∙ none in cc);
       present = λ current is.
           let both : Some c.in-Some.payload.now ≡ Some current = sym found ∙ is in
           (None, record { shown = c.in-Some.payload; shows = (cc); called = c.in-None.ensures }, x.removes.pairs, x.removes.shape);
       charged = x.removes.charged;
-    }
+    })

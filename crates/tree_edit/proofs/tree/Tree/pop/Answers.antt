@@ -65,7 +65,7 @@ returns-clause-removes g c =
     let there = subst (λ k. HasThere c.self.inside.nodes.table k c.in-Some.spot c.in-Some-take_out.payload) c.to_be_bytes-bytes.ensures e.before in
     let removal = subst (λ r. IsRemoval c.self.inside.nodes.table r (to_be_bytes w64 c.in-Some.key) c.args.shrinks c.take_out.new.nodes.table c.take_out.new.supply.forms) (root_first _ _ _ _ _ x.trail)
     (subst (λ k. IsRemoval c.self.inside.nodes.table (name_of (get_or c.seek_end.new.trail 0 0)) k c.args.shrinks c.take_out.new.nodes.table c.take_out.new.supply.forms) c.to_be_bytes-bytes.ensures (e.taken refl)) in
-    (popped g.A.Allocator.charge _ _ _ _ c.self.invariant _ c.self.view_is c.args.side c.in-Some.key x.key (seen_end (to_be_bytes w64 c.in-Some.key) c.in-Some.spot) x.ends c.args.shrinks c.take_out.new.nodes.table _ c.take_out.new.supply there removal c.take_out.ensures.alike).removes
+    rw c.release_slots.ensures ((popped g.A.Allocator.charge _ _ _ _ c.self.invariant _ c.self.view_is c.args.side c.in-Some.key x.key (seen_end (to_be_bytes w64 c.in-Some.key) c.in-Some.spot) x.ends c.args.shrinks c.take_out.new.nodes.table _ c.take_out.new.supply there removal c.take_out.ensures.alike).removes)
 
 pub returns-clause-in_place : goal.returns-clause-in_place
 returns-clause-in_place g c =
@@ -74,4 +74,4 @@ returns-clause-in_place g c =
     let there = subst (λ k. HasThere c.self.inside.nodes.table k c.in-Some.spot c.in-Some-take_out.payload) c.to_be_bytes-bytes.ensures e.before in
     let removal = subst (λ r. IsRemoval c.self.inside.nodes.table r (to_be_bytes w64 c.in-Some.key) c.args.shrinks c.take_out.new.nodes.table c.take_out.new.supply.forms) (root_first _ _ _ _ _ x.trail)
     (subst (λ k. IsRemoval c.self.inside.nodes.table (name_of (get_or c.seek_end.new.trail 0 0)) k c.args.shrinks c.take_out.new.nodes.table c.take_out.new.supply.forms) c.to_be_bytes-bytes.ensures (e.taken refl)) in
-    (popped g.A.Allocator.charge _ _ _ _ c.self.invariant _ c.self.view_is c.args.side c.in-Some.key x.key (seen_end (to_be_bytes w64 c.in-Some.key) c.in-Some.spot) x.ends c.args.shrinks c.take_out.new.nodes.table _ c.take_out.new.supply there removal c.take_out.ensures.alike).in_place
+    rw c.release_slots.ensures ((popped g.A.Allocator.charge _ _ _ _ c.self.invariant _ c.self.view_is c.args.side c.in-Some.key x.key (seen_end (to_be_bytes w64 c.in-Some.key) c.in-Some.spot) x.ends c.args.shrinks c.take_out.new.nodes.table _ c.take_out.new.supply there removal c.take_out.ensures.alike).in_place)

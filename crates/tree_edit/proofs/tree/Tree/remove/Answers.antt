@@ -46,4 +46,4 @@ returns-clause-removes g c =
     let x = c.seek_along-spot.ensures in
     let removal = subst (λ r. IsRemoval c.self.inside.nodes.table r c.args.key.now true c.take_out.new.nodes.table c.take_out.new.supply.forms) (root_first _ _ _ _ _ x.trail) (e.taken refl) in
     let y = taken_out g.A.Allocator.charge _ _ _ _ c.self.invariant _ c.self.view_is _ (AreBytes-from_items _ (λ k l. c.fits-key k)) c.told-key _ x.ends _ c.take_out.new.nodes.table _ c.take_out.new.supply e.before removal c.take_out.ensures.alike in
-    y.removes
+    rw c.release_slots.ensures (y.removes)

@@ -1,2 +1,0 @@
-pub mod ClientLaws
-pub mod LeafLaws
