@@ -18,12 +18,16 @@ use std::marker::Brand;
 use std::sync::ledger::Blank;
 
 impl<P: Payload, A: Allocator> RawCongee<P, A> {
-    /// Removes all pairs, which leaves the root alone. Takes no memory. Reads one path for each pair.
+    /// Removes all pairs, which leaves the root alone. Never fails. Frees node by node where there is memory for a new
+    /// root, which isn't charged beside the old one. Else reads one path for each pair.
     pub fn clear(&mut self)
         ensures pairs { self.new.pairs ≡ [] }
         ensures nodes { self.new.nodes ≡ root_alone }
         ensures charge { ChargesForNodes A.charge self.old self.new }
     {
+        if self.tree.clear_at_once() {
+            return;
+        }
         'pairs: while let Some(_) = self.pop_first_in_place() {}
         self.law_empty();
     }

@@ -1,8 +1,8 @@
 -- The tree of one node without children.
-use Rattle.std.proofs.Common.{◌≡◌, ℕ, suc, [], ◌∷◌, Option, Some, None, refl, ap, sym, subst, ◌∙◌, arith}
+use Rattle.std.proofs.Common.{◌≡◌, ℕ, suc, ◌<◌, [], ◌∷◌, Option, Some, None, refl, ap, sym, subst, ◌∙◌, arith}
 use Rattle.node_table.specs.Charge.{Charge, add_charge}
-use Rattle.tree_path.specs.Charge.{charge_of}
-use Rattle.tree_path.specs.inner.Supply.{with_form, no_forms, size_of, IsCounted, SupplyView, Alike}
+use Rattle.tree_path.specs.Charge.{charge_of, total, MovesAlike}
+use Rattle.tree_path.specs.inner.Supply.{count, one, with_form, no_forms, size_of, IsCounted, SupplyView, Alike}
 use Rattle.tree_path.specs.declared.supply.FormCounts.{FormCounts}
 use Rattle.node_table.proofs.BeginLaws.{begins_append}
 use Rattle.node_table.specs.Table.{NodeTable, node_at, pairs_at, nodes_at, node_info, IsTree}
@@ -54,6 +54,24 @@ module _ {P : Type 0} where
     root_nodes =
         let x = alone 7 in
         subst (λ l. nodes_at t l [] root ≡ node_info [] n ∷ []) eight x.2 ∙ ap (λ i. i ∷ []) info_is
+
+-- the root of any tree is counted
+counted_above : {P : Type 0} (t : NodeTable P) (root levels : ℕ) → IsTree t (suc levels) [] root → HasRoot t root → 0 < total (one N256) (nodes_at t (suc levels) [] root)
+counted_above t root levels h r =
+    let both : Some h.node ≡ Some r.node = sym h.here ∙ r.here in
+    let is : h.node ≡ r.node = cc in
+    let form : h.node.form ≡ N256 = ap (λ (n : TableNode _). n.form) is ∙ r.form in
+    rw h.here (rw form (omega arith))
+
+pub root_above : {P : Type 0} (t : NodeTable P) (root : ℕ) (forms : FormCounts) → IsTree t depth [] root → HasRoot t root → IsCounted forms (nodes_at t depth [] root) → 0 < count N256 forms
+root_above t root forms h r counted =
+    let eight : suc 7 ≡ depth = omega (arith, depth_is) in
+    let some = subst (λ l. IsTree t l [] root → 0 < total (one N256) (nodes_at t l [] root)) eight (λ tree. counted_above t root 7 tree r) h in
+    subst (λ n. 0 < n) (sym (counted N256)) some
+
+-- a charge that moves by what is counted moves by the nodes
+pub moved_by : {A : Type 0} (charge : A → Option Charge) (a b : A) (was now n m : ℕ) → was ≡ n → now ≡ m → MovesAlike (charge a) was (charge b) now → MovesAlike (charge a) n (charge b) m
+moved_by charge a b was now n m e f h = subst (λ x. MovesAlike (charge a) x (charge b) m) e (subst (λ x. MovesAlike (charge a) was (charge b) x) f h)
 
 -- that node is all that is counted and charged
 module _ {P : Type 0} (t : NodeTable P) (root : ℕ) (n : TableNode P) (there : node_at t root ≡ Some n) (node_is : n ≡ record { form = N256; prefix = []; children = [] }) where

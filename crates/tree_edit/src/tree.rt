@@ -11,12 +11,14 @@
 //!
 //! Tested in `test_owned` and `tools/dev/try-commands`.
 
-ghost use Rattle.std.specs.Prelude.{◌≡◌, length, IfOk, option_copied};
+ghost use Rattle.std.specs.Prelude.{◌≡◌, [], false, length, IfOk, IsTrue, Some, option_copied};
 ghost use Rattle.tree_path.specs.inner.Root.{HasTree, tree_pairs, tree_nodes};
 ghost use Rattle.tree_edit.specs.TreeCalls.{IsNew, IsChargeOf, ReadsPath};
 ghost use Rattle.tree_path.specs.Charge.{charge_of};
 ghost use Rattle.node_table.specs.Charge.{Covers};
-ghost use Rattle.tree_edit.specs.Tree.{payload_at};
+ghost use Rattle.tree_edit.specs.Tree.{payload_at, root_alone, ChargesForNodes};
+ghost use Rattle.node_table.specs.Table.{node_at};
+ghost use Rattle.node_base.specs.declared.base_node.NodeType.TheVariants.{N256};
 ghost use Rattle.tree_links.specs.SeenTable.{name_of};
 
 use node_base::base_node::NodeType;
@@ -65,16 +67,25 @@ impl<P: Drop, A: Allocator> Model for Tree<P, A> {
     ghost invariant = { λ t. IsWhole t.nodes.table (name_of t.root) t.supply.forms t.count };
 }
 
+// A table with an empty root, and its slot.
+fn bare_table<P: Drop>(alloc: Global) -> Result<(Nodes<P>, usize), OOMError>
+    ensures { IfOk result (λ made. node_at made.0.table (name_of made.1)
+        ≡ Some (record { form = N256; prefix = []; children = [] })) }
+{
+    let mut nodes = Links::new(alloc);
+    nodes.reserve(1)?;
+    let root = nodes.add(TreeNode::root(alloc)?);
+    Ok((nodes, root))
+}
+
 impl<P: Drop, A: Allocator> Tree<P, A> {
     /// An empty tree, or `OOMError` where the budget or the machine has no memory for its root.
     pub fn new(alloc: Global, budget: A) -> Result<Self, OOMError>
         ensures { IfOk result (λ tree. IsNew A.charge budget tree) }
     {
-        let mut nodes = Links::new(alloc);
-        nodes.reserve(1)?;
         let mut supply = Supply::new(alloc, budget);
         supply.charge(NodeType::N256)?;
-        let root = nodes.add(TreeNode::root(alloc)?);
+        let (nodes, root) = bare_table(alloc)?;
         Ok(Tree {
             nodes,
             supply,
@@ -117,6 +128,24 @@ impl<P: Drop, A: Allocator> Tree<P, A> {
     /// The machine's memory, from which the nodes are taken.
     pub fn memory(&self) -> Global {
         self.supply.memory()
+    }
+
+    /// Puts an empty root in place of all nodes, and frees those node by node. Returns whether it did: not without the
+    /// machine's memory for that root, which isn't charged beside the old one. Then it changes nothing.
+    pub fn clear_at_once(&mut self) -> bool
+        ensures pairs { IsTrue result → self.new.pairs ≡ [] }
+        ensures nodes { IsTrue result → self.new.nodes ≡ root_alone }
+        ensures same { result ≡ false → self.new ≡ self.old }
+        ensures charge { ChargesForNodes A.charge self.old self.new }
+    {
+        let Ok((nodes, root)) = bare_table(self.supply.memory()) else {
+            return false;
+        };
+        self.supply.keep_root();
+        self.nodes = nodes;
+        self.root = root;
+        self.count = 0;
+        true
     }
 
     /// Gives the slots of former nodes back to the machine once no pair is left.

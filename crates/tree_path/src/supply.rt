@@ -24,6 +24,18 @@ pub struct FormCounts {
 }
 
 impl FormCounts {
+    // No node.
+    fn none() -> Self
+        ensures { result ≡ no_forms }
+    {
+        FormCounts {
+            n4: 0,
+            n16: 0,
+            n48: 0,
+            n256: 0,
+        }
+    }
+
     // One node of a form more.
     fn with(self, form: NodeType) -> Self
         requires { count form self < 2 ^ 63 }
@@ -84,20 +96,16 @@ impl<A: Allocator> Model for Supply<A> {
 }
 
 impl<A: Allocator> Supply<A> {
+    ghost use Rattle.node_base.specs.declared.base_node.NodeType.TheVariants.{N256};
+
     /// A supply from which nothing was taken.
     pub fn new(alloc: Global, budget: A) -> Self
         ensures { result ≡ record { budget = budget; forms = no_forms } }
     {
-        let forms = FormCounts {
-            n4: 0,
-            n16: 0,
-            n48: 0,
-            n256: 0,
-        };
         Supply {
             alloc,
             budget,
-            forms,
+            forms: FormCounts::none(),
         }
     }
 
@@ -140,6 +148,20 @@ impl<A: Allocator> Supply<A> {
     {
         self.forms = self.forms.without(form);
         self.budget.deallocate(NodeSize::of(form));
+    }
+
+    /// Uncharges the sizes of all nodes but one of the largest form.
+    pub fn keep_root(&mut self)
+        requires { 0 < count N256 self.old.forms }
+        ensures forms { self.new.forms ≡ with_form N256 no_forms }
+        ensures alike { Alike A.charge self.old self.new }
+    {
+        let forms = self.forms;
+        give_back_all(&mut self.budget, NodeType::N4, forms.n4);
+        give_back_all(&mut self.budget, NodeType::N16, forms.n16);
+        give_back_all(&mut self.budget, NodeType::N48, forms.n48);
+        give_back_all(&mut self.budget, NodeType::N256, forms.n256 - 1);
+        self.forms = FormCounts::none().with(NodeType::N256);
     }
 }
 
