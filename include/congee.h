@@ -343,8 +343,8 @@ static inline size_t congee_insert_many(struct congee *map, const struct congee_
     return done;
 }
 
-/* Removes all pairs, one by one. Of the nodes the root stays. Takes no memory, and never fails. To empty a large map, free
- * it and make a new one: that is many times faster, and returns its memory to malloc. */
+/* Removes all pairs, and never fails. Its memory goes back to malloc. It frees node by node where malloc has 2104 bytes for a
+ * new root, which aren't charged. Else it reads one path for each pair. */
 static inline void congee_clear(struct congee *map) {
     struct congee_handle handle = {map};
     congee_c_clear(&handle);

@@ -18,8 +18,9 @@ use std::marker::Brand;
 use std::sync::ledger::Blank;
 
 impl<K: Word, P: Payload, A: Allocator> PayloadCongee<K, P, A> {
-    /// Removes all pairs, and drops their payloads: the nodes of the map are those of a new one. Takes no memory. Reads
-    /// one path through the tree for each pair.
+    /// Removes all pairs, and drops their payloads: the nodes of the map are those of a new one. Never fails. Frees node
+    /// by node where the machine has memory for a new root beside the old one, which isn't charged. Else it reads one
+    /// path for each pair.
     pub fn clear(&mut self)
         ensures pairs { self.new.pairs ≡ [] }
         ensures nodes { self.new.nodes ≡ root_alone }

@@ -20,7 +20,8 @@ use std::sync::ledger::Blank;
 
 impl<K: Word, V: Word, A: Allocator, D: Drainer<K, V>> Congee<K, V, A, D> {
     /// Removes all pairs: the nodes of the map are those of a new one. Its drainer isn't called, now or later, since a
-    /// pair that is removed is none that is left. Takes no memory. Reads one path through the tree for each pair.
+    /// pair that is removed is none that is left. Never fails. Frees node by node where the machine has memory for a new
+    /// root beside the old one, which isn't charged. Else it reads one path through the tree for each pair.
     pub fn clear(&mut self)
         ensures pairs { self.new.pairs ≡ [] }
         ensures nodes { self.new.nodes ≡ root_alone }

@@ -15,8 +15,8 @@ use node_table::allocator::Allocator;
 use spec_map::traits::Word;
 
 impl<V: Word, A: Allocator> U64Congee<V, A> {
-    /// Removes all pairs: the nodes of the map are those of a new one. Takes no memory. Reads one path through the
-    /// tree for each pair.
+    /// Removes all pairs: the nodes of the map are those of a new one. Never fails. Frees node by node where the machine
+    /// has memory for a new root beside the old one, which isn't charged. Else it reads one path for each pair.
     pub fn clear(&mut self)
         ensures pairs { self.new.pairs ≡ [] }
         ensures nodes { self.new.nodes ≡ root_alone }

@@ -165,7 +165,7 @@ impl<L: Ledger, K: Word, V: Word, M: Ordered, D: Drainer<K, V>> Congee<L, K, V, 
         self.raw.is_empty_recorded(rt, guard)
     }
 
-    /// Removes all pairs in one hold. The map's drainer isn't called, now or later. Reads one path for each pair.
+    /// Removes all pairs in one hold. The map's drainer isn't called, now or later.
     pub fn clear<R: Wait>(&self, rt: &R, guard: &mut Guard<'_, L, M>)
         requires map { guard.old.table ≡ self.now }
         ensures map { guard.new.table ≡ guard.old.table }

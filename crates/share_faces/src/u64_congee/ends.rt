@@ -197,7 +197,7 @@ impl<L: Ledger, V: Word, M: Ordered> U64Congee<L, V, M> {
         self.map.is_empty_recorded(rt, guard)
     }
 
-    /// Removes all pairs in one hold. Reads one path for each.
+    /// Removes all pairs in one hold.
     pub fn clear<R: Wait>(&self, rt: &R, guard: &mut Guard<'_, L, M>)
         requires map { guard.old.table ≡ self.now }
         ensures map { guard.new.table ≡ guard.old.table }
