@@ -1,7 +1,7 @@
 /* congee.h: an ordered map from uint64_t to uint64_t, in an adaptive radix tree. C11 and C++11. MIT license.
  *
  * A map has pairs of a key and a value, each key once, in the order of the keys. Each call reads one path of at most eight
- * nodes, unless its comment names another cost. What a removal frees is kept for later insertions, until the map is freed.
+ * nodes, unless its comment names another cost. What a removal frees is kept for later insertions, until the map is empty.
  *
  * What the library's own functions return, and what the map is afterwards, is proved of their code. They are the exports
  * (congee_exports.h), whose names begin with congee_c_. The functions for use are plain C around them, and are tested. So

@@ -34,7 +34,7 @@
 //! since values are returned and not lent.
 //!
 //! A limit bounds the stated sizes of the map's nodes ([`Map::charged`]). `malloc` lends up to 1.8 times that. What removals
-//! free is kept for later insertions, until the map is dropped. So to empty a large map, drop it and make a new one.
+//! free is kept for later insertions, until the map is empty.
 //!
 //! # Cost
 //!
