@@ -9,3 +9,6 @@ pub mod Linked
 pub mod Trunks
 pub mod Ready
 pub mod Pairs
+pub mod Compared
+pub mod Seeks
+pub mod Replaced

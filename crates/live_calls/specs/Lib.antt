@@ -2,3 +2,4 @@ pub mod Ways
 pub mod Calls
 pub mod Holds
 pub mod Rooms
+pub mod Exchanges

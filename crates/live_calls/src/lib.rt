@@ -6,6 +6,7 @@
 //! Tested in `test_live_calls`.
 #![tactic(auto)]
 
+pub mod exchange;
 mod get;
 pub mod held;
 mod insert;
