@@ -1,7 +1,7 @@
 //! An exchange: a key's value is replaced, if it is the expected one.
 //!
 //! Where it isn't, the check of a reader decides it, and nothing is locked.
-ghost use Rattle.std.specs.Prelude.{◌≡◌, ℕ, ◌+◌, ◌<◌, ◌≤◌, List, [], length};
+ghost use Rattle.std.specs.Prelude.{◌≡◌, ℕ, ◌+◌, ◌<◌, ◌≤◌, List, [], length, Some, IfSome, IfOk};
 ghost use Rattle.node_table.specs.TableNode.{TableNode};
 ghost use Rattle.live_cells.specs.Words.{Stays};
 ghost use Rattle.live_encodes.specs.Encodes.{words_of, Encodes};
@@ -201,6 +201,7 @@ pub(crate) fn exchange_once<X: Swaps>(
     ensures told { (pass.new.book ≡ pass.old.book) × (pass.new.id ≡ pass.old.id)
         × ((start left : ℕ) → IsReady pass.old.view start left → IsReady pass.new.view start left)
         × Exchanges X.swap result pass.old.view pass.new.view }
+    ensures stored { IfSome result (λ answer. IfOk answer (λ stored. stored ≡ Some new)) }
 {
     let name = match leaf_with::<X>(nodes, key, old, pass)? {
         Ok(name) => name,

@@ -1,5 +1,5 @@
 //! The map, and its callers.
-ghost use Rattle.std.specs.Prelude.{◌≡◌, ℕ, [], IfOk, OnErr};
+ghost use Rattle.std.specs.Prelude.{◌≡◌, ℕ, [], Some, IfOk, OnErr};
 ghost use Rattle.live_law.specs.Views.{ask, got, inserted};
 ghost use Rattle.live_law.specs.Known.{MadeCall};
 ghost use Rattle.live_calls.specs.Exchanges.{exchange_of, compared};
@@ -137,6 +137,7 @@ impl Congee {
         requires { guard.old.book ≡ self.now }
         ensures made { IfOk result (λ answer. MadeCall guard.old
             (compared (exchange_of guard.old.caller key old new) answer) guard.new) }
+        ensures stored { IfOk result (λ answer. IfOk answer (λ stored. stored ≡ Some new)) }
         ensures busy { OnErr result (guard.new ≡ guard.old) }
     {
         for _ in 0..TRIES {
