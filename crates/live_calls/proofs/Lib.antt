@@ -12,3 +12,4 @@ pub mod Pairs
 pub mod Compared
 pub mod Seeks
 pub mod Replaced
+pub mod Meetings

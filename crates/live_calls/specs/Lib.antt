@@ -3,3 +3,4 @@ pub mod Calls
 pub mod Holds
 pub mod Rooms
 pub mod Exchanges
+pub mod Meetings

@@ -12,6 +12,7 @@ pub mod held;
 mod insert;
 pub mod link;
 pub mod map;
+pub mod meeting;
 pub mod plant;
 pub mod room;
 pub mod way;

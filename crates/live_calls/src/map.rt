@@ -1,13 +1,15 @@
 //! The map, and its callers.
-ghost use Rattle.std.specs.Prelude.{◌≡◌, ℕ, [], Some, IfOk, OnErr};
+ghost use Rattle.std.specs.Prelude.{◌≡◌, ◌≢◌, ℕ, [], Some, IfOk, OnErr};
 ghost use Rattle.live_law.specs.Views.{ask, got, inserted};
 ghost use Rattle.live_law.specs.Known.{MadeCall};
 ghost use Rattle.live_calls.specs.Exchanges.{exchange_of, compared};
+ghost use Rattle.live_calls.specs.Meetings.{SeenMore};
 
 use crate::exchange::exchange_once;
 use crate::get::get_once;
 use crate::insert::{insert_once, reserve};
 use crate::link::Room;
+use crate::meeting::meet;
 use crate::plant::plant;
 use crate::way::{Nodes, Pass};
 use live_nodes::heap::Heap;
@@ -60,6 +62,19 @@ impl Model for Guard {
     ghost view = { λ g. known_of g.pass.book g.pass.id g.pass.view };
 
     ghost invariant = { λ g. IsReady g.pass.view g.room.start g.room.left };
+}
+
+impl Guard {
+    /// Two callers of one map meet. Both have then seen one legal history, which begins with what each had seen.
+    pub fn meet(&mut self, other: &mut Guard)
+        requires map { self.old.book ≡ other.old.book }
+        ensures first { SeenMore self.old self.new }
+        ensures second { SeenMore other.old other.new }
+        ensures one { self.new.seen ≡ other.new.seen }
+        ensures differ { self.old.caller ≢ other.old.caller }
+    {
+        meet::<Brand>(&mut self.pass, &mut other.pass)
+    }
 }
 
 impl Congee {

@@ -1,10 +1,11 @@
 //! `Congee`, the map from keys to values that numbers represent, which threads read without a lock.
 //!
 //! Tested in `test_live_faces`.
-ghost use Rattle.std.specs.Prelude.{◌≡◌, ℕ, [], IfOk, OnErr};
+ghost use Rattle.std.specs.Prelude.{◌≡◌, ◌≢◌, ℕ, [], IfOk, OnErr};
 ghost use Rattle.std.specs.Option.{option_map};
 ghost use Rattle.live_law.specs.Views.{ask, got, inserted};
 ghost use Rattle.live_calls.specs.Exchanges.{exchange_of};
+ghost use Rattle.live_calls.specs.Meetings.{SeenMore};
 ghost use Rattle.live_faces.specs.Returned.{ReturnsOld, ReturnsExchanged};
 
 use crossbeam_utils::Backoff;
@@ -199,4 +200,15 @@ impl<K: Word, V: Word> Congee<K, V> {
         }
         unreachable!()
     }
+}
+
+/// Both guards, of one map, whose callers are two, have then seen one legal history, which begins with what each had seen.
+pub fn meet(a: &mut Guard, b: &mut Guard)
+    requires map { b.old.book ≡ a.old.book }
+    ensures first { SeenMore a.old a.new }
+    ensures second { SeenMore b.old b.new }
+    ensures one { a.new.seen ≡ b.new.seen }
+    ensures differ { a.old.caller ≢ b.old.caller }
+{
+    a.meet(b);
 }

@@ -2,7 +2,7 @@
 
 ghost use Rattle.std.specs.Prelude.{◌*◌, ◌/◌, ◌%◌, ◌^◌, ◌≡◌};
 
-use live_faces::live::{Congee, Guard};
+use live_faces::live::{Congee, Guard, meet};
 use spec_map::traits::Word;
 use std::sync::Wait;
 use std::test::Fail;
@@ -84,5 +84,21 @@ fn the_forms_that_go_on_return_the_same(rt: HostRuntime) -> Result<(), Fail> {
     let mut guard = map.pin();
     assert!(rt; map.insert(&rt, rt.alloc(), &mut guard, Tens(12), Tens(70)) == Ok(None));
     assert!(rt; all_as_wanted(&rt, &map, &mut guard));
+    Ok(())
+}
+
+#[test]
+fn what_two_guards_do_once_they_have_met(rt: HostRuntime) -> Result<(), Fail> {
+    let map: Congee<u64, Tens> = Congee::new(rt.alloc())?;
+    let mut a = map.pin();
+    let mut b = map.pin();
+    assert!(rt; map.try_insert(rt.alloc(), &mut a, 7, Tens(30)) == Ok(None));
+    meet(&mut a, &mut b);
+    assert!(rt; map.try_get(&mut b, &7) == Ok(Some(Tens(30))));
+    assert!(rt;
+        map.try_compare_exchange(&mut b, &7, &Tens(30), Tens(40)) == Ok(Ok(Some(Tens(40))))
+    );
+    meet(&mut b, &mut a);
+    assert!(rt; map.try_get(&mut a, &7) == Ok(Some(Tens(40))));
     Ok(())
 }
