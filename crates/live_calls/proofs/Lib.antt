@@ -9,3 +9,7 @@ pub mod Linked
 pub mod Trunks
 pub mod Ready
 pub mod Pairs
+pub mod Compared
+pub mod Seeks
+pub mod Replaced
+pub mod Meetings

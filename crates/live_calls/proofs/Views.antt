@@ -50,7 +50,7 @@ in_more : {A : Type 0} (x : A) (ys xs : List A) → IsIn x xs → IsIn x (ys ++ 
 in_more x [] xs h = h
 in_more x (y ∷ ys) xs h = inr (in_more x ys xs h)
 
-learned_keeps : (v w : Seen) (ps : List Place) (c : View) (rs : List Read) → w ≡ seat_view c (ps ++ v.places) rs v.holds v.room → ((a : Spot) → IsIn a v.client.met → IsIn a c.met) → c.own ≡ v.client.own → Keeps v w
+pub learned_keeps : (v w : Seen) (ps : List Place) (c : View) (rs : List Read) → w ≡ seat_view c (ps ++ v.places) rs v.holds v.room → ((a : Spot) → IsIn a v.client.met → IsIn a c.met) → c.own ≡ v.client.own → Keeps v w
 learned_keeps v w ps c rs e met own = record {
   places = λ p h. subst (λ (z : Seen). IsIn p z.places) (sym e) (in_more p ps v.places h);
   met = λ a h. subst (λ (z : Seen). IsIn a z.client.met) (sym e) (met a h);

@@ -6,11 +6,13 @@
 //! Tested in `test_live_calls`.
 #![tactic(auto)]
 
+pub mod exchange;
 mod get;
 pub mod held;
 mod insert;
 pub mod link;
 pub mod map;
+pub mod meeting;
 pub mod plant;
 pub mod room;
 pub mod way;

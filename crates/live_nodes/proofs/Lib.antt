@@ -2,3 +2,4 @@ pub mod Faces
 pub mod Frames
 pub mod Rooms
 pub mod Steps
+pub mod Meets

@@ -1,5 +1,5 @@
 -- What a client owes at a step: its seat has a new view, with which its rule holds again.
-use Rattle.std.specs.Prelude.{◌≡◌, ℕ, ◌+◌, ◌<◌, List, [], ◌∷◌, ◌++◌, length, slice_set, Some, None}
+use Rattle.std.specs.Prelude.{◌≡◌, ◌≢◌, ℕ, ◌+◌, ◌<◌, List, [], ◌∷◌, ◌++◌, length, slice_set, Some, None}
 use mathlib.Core.Option.{some}
 use lib.ListN.{get_elem?}
 use Rattle.live_nodes.specs.Nodes.{Content, Node, node, node_at}
@@ -45,3 +45,8 @@ module _ {V : Type 0} (P : List Node → List V → Type 0) (id : ℕ) (v : V) w
 -- A new seat may come.
 abbrev pub Admits : {V : Type 0} → (List Node → List V → Type 0) → V → Type 0
 Admits {V} P v = (ns : List Node) (vs : List V) → P ns vs → P ns (vs ++ v ∷ [])
+
+-- Two seats meet, and both views are chosen.
+abbrev pub Meets : {V : Type 0} → (List Node → List V → Type 0) → ℕ → V → ℕ → V → (V → V → Type 0) → Type 0
+Meets {V} P i v j w told = (ns : List Node) (vs : List V) → P ns vs → get_elem? vs i ≡ some v → get_elem? vs j ≡ some w → i ≢ j
+    → (c : V) × (d : V) × P ns (slice_set (slice_set vs j d) i c) × told c d

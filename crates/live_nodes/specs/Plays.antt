@@ -35,6 +35,9 @@ module _ {V : Type 0} where
   abbrev pub learned : SeatView V → List Place → V → SeatView V
   learned v ps c = seat_view c (ps ++ v.places) v.reads v.holds v.room
 
+  abbrev pub met : SeatView V → V → SeatView V
+  met v c = seat_view c v.places v.reads v.holds v.room
+
   abbrev pub locked : SeatView V → V → ℕ → ℕ → Content → SeatView V
   locked v c k word content = seat_view c v.places v.reads (hold k word content ∷ v.holds) v.room
 
@@ -153,3 +156,7 @@ module _ {V : Type 0} where
   Grows root (writes key new) v n more w = ⊥
   Grows root (compares key old new) v n more w = (n ≢ old → w ≡ v)
       × (n ≡ old → (more.first ≡ first_key root old) × (more.count ≡ size old) × (w ≡ given v more.first more.count))
+
+  -- Two seats meet, and their clients learn of each other.
+  abbrev pub Meets : (V → V → V → V → Type 0) → SeatView V → SeatView V → SeatView V → SeatView V → Type 0
+  Meets told v w v' w' = (c : V) × (d : V) × (v' ≡ met v c) × (w' ≡ met w d) × told v.client w.client c d

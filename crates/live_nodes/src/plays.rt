@@ -1,8 +1,9 @@
 //! What the steps tell, and what a caller picks of it.
-ghost use Rattle.live_nodes.specs.Plays.{Takes, Sees, Looks, Idles, Checks, Locks, Writes, Frees, Keeps, Puts, Makes, Grows};
+ghost use Rattle.live_nodes.specs.Plays.{Takes, Sees, Looks, Idles, Checks, Locks, Writes, Frees, Keeps, Puts, Makes, Grows, Meets};
 
 use crate::law::{NodeLaw, View};
 use std::marker::PhantomData;
+use word_book::seat::Meeting;
 use word_book::word::Play;
 
 /// What a caller learns at a check: of its view before, the node, its word, what was read of it, where other nodes lie, and
@@ -29,6 +30,11 @@ pub trait Birth<V> {
     ghost use Rattle.live_nodes.specs.Nodes.{Content};
 
     ghost told: { V → ℕ → Content → ℕ → V → Type 0 };
+}
+
+/// What two callers learn as they meet: of the views of both before, and of both after.
+pub trait Encounter<V> {
+    ghost told: { V → V → V → V → Type 0 };
 }
 
 pub struct Take;
@@ -111,4 +117,12 @@ pub struct Grow;
 
 impl<V, L: NodeLaw<V>> Play<View<V, L>> for Grow {
     ghost then = { Grows L.root };
+}
+
+pub struct Meet<M> {
+    of: PhantomData<M>,
+}
+
+impl<V, L: NodeLaw<V>, M: Encounter<V>> Meeting<View<V, L>> for Meet<M> {
+    ghost then = { Meets M.told };
 }

@@ -1,14 +1,15 @@
 //! A book with its root, seats at it, and the room of a seat for new nodes.
-ghost use Rattle.std.specs.Prelude.{◌≡◌, ℕ, ◌+◌, ◌<◌, ◌^◌, ◌↔◌, IsTrue, [], ◌∷◌, replicate, None};
+ghost use Rattle.std.specs.Prelude.{◌≡◌, ◌≢◌, ℕ, ◌+◌, ◌<◌, ◌^◌, ◌↔◌, IsTrue, [], ◌∷◌, replicate, None};
 ghost use Rattle.word_book.specs.Book.{writes, compares, none_joined, joined};
 ghost use Rattle.live_nodes.specs.Nodes.{node_at};
 ghost use Rattle.live_nodes.specs.Seats.{seat_view, place, no_room};
+ghost use Rattle.live_nodes.specs.Acts as acts;
 ghost use Rattle.live_nodes.specs.Acts.{Admits};
-ghost use Rattle.live_nodes.specs.Plays.{Puts, Makes, Grows};
+ghost use Rattle.live_nodes.specs.Plays.{Puts, Makes, Grows, Meets};
 ghost use Rattle.live_nodes.specs.Calls.{InRoom, MayMake};
 
 use crate::law::{NodeLaw, Seat, Word};
-use crate::plays::{Birth, Grow, Make, Put};
+use crate::plays::{Birth, Encounter, Grow, Make, Meet, Put};
 use word_book::seat::Pens;
 
 /// A new book: the count of segments, which is 0, and the root, whose content is all 0.
@@ -28,6 +29,19 @@ pub fn enter<V, L: NodeLaw<V>>(seat: &Seat<V, L>) -> Seat<V, L>
     ensures view { result.view ≡ seat_view L.first (place 0 1 L.root ∷ []) [] [] no_room }
 {
     seat.enter()
+}
+
+/// Two seats of one book meet, and learn of each other.
+pub fn meet<V, L: NodeLaw<V>, M: Encounter<V>>(a: &mut Seat<V, L>, b: &mut Seat<V, L>)
+    requires book { a.old.book ≡ b.old.book }
+    requires meets { acts.Meets L.holds a.old.id a.old.view.client b.old.id b.old.view.client
+        (M.told a.old.view.client b.old.view.client) }
+    ensures first { (a.new.book ≡ a.old.book) × (a.new.id ≡ a.old.id) }
+    ensures second { (b.new.book ≡ b.old.book) × (b.new.id ≡ b.old.id) }
+    ensures differ { a.old.id ≢ b.old.id }
+    ensures told { Meets M.told a.old.view b.old.view a.new.view b.new.view }
+{
+    a.meet::<Meet<M>>(b)
 }
 
 /// Counts one more segment, and adds its words. They are the seat's room, and what was left of its old room is lost.

@@ -2,4 +2,6 @@
 #![tactic(auto)]
 
 #[cfg(test)]
+mod exchanges;
+#[cfg(test)]
 mod tests;

@@ -73,6 +73,9 @@ module _ {M : Type 1} {𝓤 : Ura M} (𝓛 : Logic 𝓤) {A B : Type 0} (a : A) 
   pub three_facts : {C : Type 0} → C → ent 𝓤 (emp 𝓤) (sep 𝓤 (fact 𝓤 A) (sep 𝓤 (fact 𝓤 B) (fact 𝓤 C)))
   three_facts {C} c = qed 𝓛 [] ∵ use0 𝓛 (raw (fact 𝓤 C)) (fact_i 𝓤 C (emp 𝓤) c) $ use0 𝓛 (raw (fact 𝓤 B)) (fact_i 𝓤 B (emp 𝓤) b) $ use0 𝓛 (raw (fact 𝓤 A)) (fact_i 𝓤 A (emp 𝓤) a) $ done !
 
+  pub four_facts : {C D : Type 0} → C → D → ent 𝓤 (emp 𝓤) (sep 𝓤 (fact 𝓤 A) (sep 𝓤 (fact 𝓤 B) (sep 𝓤 (fact 𝓤 C) (fact 𝓤 D))))
+  four_facts {C} {D} c d = qed 𝓛 [] ∵ use0 𝓛 (raw (fact 𝓤 D)) (fact_i 𝓤 D (emp 𝓤) d) $ use0 𝓛 (raw (fact 𝓤 C)) (fact_i 𝓤 C (emp 𝓤) c) $ use0 𝓛 (raw (fact 𝓤 B)) (fact_i 𝓤 B (emp 𝓤) b) $ use0 𝓛 (raw (fact 𝓤 A)) (fact_i 𝓤 A (emp 𝓤) a) $ done !
+
 -- ghost state may lie with any thread
 pub beside_keyless : (w : Name) (n : ℕ) → Keyless (beside w n)
 beside_keyless w n = entry_keyless halved w.book.words_name w.key _

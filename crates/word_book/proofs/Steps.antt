@@ -1,5 +1,5 @@
 -- The ghost side of a step, of a new seat and of a new book. Assumes `Logic`.
-use Rattle.std.proofs.Common.{◌≡◌, ℕ, ◌+◌, ◌<◌, ◌≤◌, List, [], ◌∷◌, ◌++◌, length, set, arith, length-set}
+use Rattle.std.proofs.Common.{◌≡◌, ◌≢◌, ℕ, ◌+◌, ◌<◌, ◌≤◌, List, [], ◌∷◌, ◌++◌, length, set, sym, refl, arith, length-set}
 use mathlib.Core.Option as maybe
 use lib.ListN.{get_elem?, replicate}
 use seplogic.Ra.Ura.{Ura}
@@ -11,15 +11,16 @@ use base.Fml.{Lft, Share, Fml, ftrue, fsep, fex, flft, fbor, finv, fnamed}
 use types.Logic.{Logic, sem}
 use types.Owned.{basic, named_past}
 use types.Keyed.{entries_new, entries_take}
-use types.Kit.{‵, raw, ◌⊛◌, some, given, later, mean, ◌$◌, ◌∵◌, !, qed, by, move, drop, split, fsplit, fsplit3, fjoin, fjoin3, fpick, fpack, pick, learn, show, frame, each, assume, suffices, settle, done, use0, use1, use2, updating, await, now}
+use types.Kit.{‵, raw, ◌⊛◌, some, given, later, mean, ◌$◌, ◌∵◌, !, qed, by, move, drop, split, fsplit, fsplit3, fjoin, fjoin3, fpick, fpack, pick, learn, show, frame, each, assume, suffices, settle, done, use0, use1, use2, rewrite, updating, await, now}
 use denote.RawPtr.{block_ptr}
 use denote.Steps.{nothing}
 use Rattle.core.specs.Sync.RawAtomic.{word, asks, always}
 use Rattle.core.proofs.raw_atomic.Asked.{borrowed_with, LiesWith, AgainWith}
 use Rattle.atomic_table.specs.Seated.{halved, seen, unused, roster, seal}
-use Rattle.atomic_table.proofs.Roster.{resets, Moved, moves, Joined, joins}
+use Rattle.atomic_table.proofs.Lists.{set_again}
+use Rattle.atomic_table.proofs.Roster.{resets, apart, Moved, moves, Joined, joins}
 use Rattle.word_book.specs.Book as book
-use Rattle.word_book.specs.Book.{Book, Name, name, State, joined, grown, Enters}
+use Rattle.word_book.specs.Book.{Book, Name, name, State, joined, grown, Enters, Meets}
 use Rattle.word_book.specs.inner.Owned.{part, numbers, pens_own, standing, contents, view_at, stands, seat_owns, seat_shows, lies, reading}
 use Rattle.word_book.proofs.Asks.{Moves}
 use Rattle.word_book.proofs.Cells.{first_words, more_words, rights_at}
@@ -77,6 +78,43 @@ module _ {M : Type 1} {𝓤 : Ura M} (𝓛 : Logic 𝓤) {V : Type 0} (cv : Code
         let t : State V = record { words = s.words; views = s.views ++ v ∷ [] } in
         suffices ! _ (upd_i 𝓤 (sep 𝓤 (sem 𝓛 J) Z)) $ nothing ! $ fpack ! (holds t) (λ _. ftrue) (law s so) $ move ! (3 ∷ 1 ∷ 0 ∷ []) $ fjoin3 ! $
         fpack ! (State V) (standing cv.code holds γ δ) t $ frame ! $ show ! (Come v) j $ move ! (1 ∷ 0 ∷ []) $ by ! (seated j v))))
+
+    -- two seats, by what each knows now
+    abbrev both : ℕ → ℕ → (V → V → Type 0) → V × V → Fml
+    both i j told t = fsep (Rattle.atomic_table.specs.Seated.fact (told t.0 t.1)) (fsep (K i t.0) (K j t.1))
+
+    abbrev pub Both : ℕ → ℕ → (V → V → Type 0) → Fml
+    Both i j told = fex (V × V) (both i j told)
+
+    abbrev pub met : ℕ → ℕ → V → V → (V → V → V → V → Type 0) → V → V → Type 0
+    met i j v w then v' w' = (i ≢ j) × then v w v' w'
+
+    module _ (i j : ℕ) (v w : V) (then : V → V → V → V → Type 0) where
+      abbrev views_of : List V → ℕ → SProp 𝓤
+      views_of vs k = all 𝓤 (Moved 𝓛 cv γ 0 vs k k)
+
+      pub meets : Meets holds then i v j w → ent 𝓤 (sep 𝓤 (sem 𝓛 (K i v)) (sem 𝓛 (K j w))) (H.⇛ (sem 𝓛 (Both i j (met i j v w then))))
+      meets law =
+          let Z : SProp 𝓤 = sem 𝓛 (Both i j (met i j v w then)) in let Y : SProp 𝓤 = sep 𝓤 (sem 𝓛 J) Z in
+          qed 𝓛 (‵ (K i v) ∷ ‵ (K j w) ∷ []) ∵ use1 𝓛 (‵ N ⊛ ‵ (view i v)) (parted i v) $ split ! $ move ! (2 ∷ []) $ use1 𝓛 (‵ N ⊛ ‵ (view j w)) (parted j w) $ split ! $
+          use1 𝓛 (‵ N ⊛ ‵ N) (𝓛.invs.named_dup b.number J) $ split ! $ use1 𝓛 (‵ (finv J)) (𝓛.invs.named_inv b.number J) $
+          suffices ! _ (𝓛.invs.inv_acc J Z) $ frame ! $ assume ! (‵ J) $ fpick ! (λ s. fsplit3 ! $ move ! (2 ∷ []) $ fpick ! (λ so. drop ! $
+          -- [the numbers; the views; that the book stands; the second view; that it stands; the first view]
+          move ! (5 ∷ 3 ∷ []) $ use2 𝓛 (given (¬ (j ≡ i)) (‵ (view i v) ⊛ ‵ (view j w))) (apart 𝓛 cv γ i j v w) $ learn ! (λ ne. split ! $
+          move ! (3 ∷ 0 ∷ []) $ use2 𝓛 (given (get_elem? s.views i ≡ maybe.some v) (raw (views_of s.views i))) (moves 𝓛 cv γ s.views 0 i i v (omega arith)) $ learn ! (λ first.
+          use1 𝓛 (raw (Moved 𝓛 cv γ 0 s.views i i v)) (all_e 𝓤 (Moved 𝓛 cv γ 0 s.views i i) v) $ settle 𝓛 Y (‵ (roster cv.code γ 0 (set s.views i v)) ⊛ ‵ (view i v)) $ split ! $
+          rewrite ! 0 (λ (l : List V). ‵ (roster cv.code γ 0 l)) (set_again s.views i v first) refl $
+          -- [the views; the first view; the second; the numbers; that the book stands, twice]
+          move ! (0 ∷ 2 ∷ []) $ use2 𝓛 (given (get_elem? s.views j ≡ maybe.some w) (raw (views_of s.views j))) (moves 𝓛 cv γ s.views 0 j j w (omega arith)) $ learn ! (λ second.
+          let r = law s so first second (λ e. ne (sym e)) in let v' : V = r.0 in let w' : V = r.1 in let vs : List V = set s.views j w' in
+          let t : State V = record { words = s.words; views = set vs i v' } in
+          use1 𝓛 (raw (Moved 𝓛 cv γ 0 s.views j j w')) (all_e 𝓤 (Moved 𝓛 cv γ 0 s.views j j) w') $ settle 𝓛 Y (‵ (roster cv.code γ 0 vs) ⊛ ‵ (view j w')) $ split ! $
+          move ! (0 ∷ 2 ∷ []) $ use2 𝓛 (given (get_elem? vs i ≡ maybe.some v) (raw (views_of vs i))) (moves 𝓛 cv γ vs 0 i i v (omega arith)) $ learn ! (λ _.
+          use1 𝓛 (raw (Moved 𝓛 cv γ 0 vs i i v')) (all_e 𝓤 (Moved 𝓛 cv γ 0 vs i i) v') $ settle 𝓛 Y (‵ (roster cv.code γ 0 (set vs i v')) ⊛ ‵ (view i v')) $ split ! $
+          -- [the views; the first view; the second; the numbers; that the book stands, twice]
+          suffices ! _ (upd_i 𝓤 Y) $ nothing ! $ fpack ! (holds t) (λ _. ftrue) r.2 $ move ! (4 ∷ 1 ∷ 0 ∷ []) $ fjoin3 ! $ fpack ! (State V) (standing cv.code holds γ δ) t $ frame ! $
+          move ! (2 ∷ 0 ∷ []) $ use2 𝓛 (‵ (K i v')) (seated i v') $ move ! (2 ∷ 1 ∷ []) $ use2 𝓛 (‵ (K j w')) (seated j w') $ move ! (1 ∷ 0 ∷ []) $
+          nothing ! $ fpack ! (met i j v w then v' w') (λ _. ftrue) ((λ e. ne (sym e)), r.3) $ fjoin3 ! $ fpack ! (V × V) (both i j (met i j v w then)) (v', w') $ done !))))))
 
     module _ (k bl of : ℕ) (κ : Lft) (q : Share) (i : ℕ) (id : ℕ) (v : V) (f : ℕ → ℕ) (then : ℕ → book.Joined → V → Type 0) where
       abbrev I : Fml

@@ -1,5 +1,5 @@
 -- A book as plain data, and what its rule has to allow before a seat makes a step.
-use Rattle.std.specs.Prelude.{◌≡◌, ℕ, List, [], ◌∷◌, ◌++◌, length, replicate, slice_set}
+use Rattle.std.specs.Prelude.{◌≡◌, ◌≢◌, ℕ, List, [], ◌∷◌, ◌++◌, length, replicate, slice_set}
 use mathlib.Core.Option.{some}
 use lib.ListN.{get_elem?}
 use base.Stored.{Coded, coded×, coded_ℕ, coded_via}
@@ -95,3 +95,8 @@ module _ {V : Type 0} where
   -- A new seat may have the view w at any time.
   abbrev pub Enters : (State V → Type 0) → V → Type 0
   Enters holds w = (s : State V) → holds s → holds record { words = s.words; views = s.views ++ w ∷ [] }
+
+  -- Two seats of one book meet, and their views may change together.
+  abbrev pub Meets : (State V → Type 0) → (V → V → V → V → Type 0) → ℕ → V → ℕ → V → Type 0
+  Meets holds then i v j w = (s : State V) → holds s → get_elem? s.views i ≡ some v → get_elem? s.views j ≡ some w → i ≢ j
+      → (v' : V) × (w' : V) × holds record { words = s.words; views = slice_set (slice_set s.views j w') i v' } × then v w v' w'

@@ -1,6 +1,6 @@
 //! Seats, and the rights to make words. Neither takes any bytes.
-ghost use Rattle.std.specs.Prelude.{◌≡◌, ℕ, replicate, [], ◌∷◌};
-ghost use Rattle.word_book.specs.Book.{State, Book, book_coded, Enters};
+ghost use Rattle.std.specs.Prelude.{◌≡◌, ◌≢◌, ℕ, replicate, [], ◌∷◌};
+ghost use Rattle.word_book.specs.Book.{State, Book, book_coded, Enters, Meets};
 ghost use Rattle.word_book.specs.inner.Owned.{pens_own, seat_owns, seat_shows};
 
 use std::marker::{Model, PhantomData};
@@ -11,6 +11,11 @@ pub trait Rule<V> {
     ghost holds: { State V → Type 0 };
     // What a new seat knows.
     ghost first: { V };
+}
+
+/// What two seats learn as they meet: of the views of both before, and of both after.
+pub trait Meeting<V> {
+    ghost then: { V → V → V → V → Type 0 };
 }
 
 /// A place at a book, from which a thread makes its steps.
@@ -59,6 +64,18 @@ impl<V, P: Rule<V>> Seat<V, P> {
                 marker: PhantomData,
             },
         )
+    }
+
+    /// Two seats of one book meet, and learn of each other. It touches no word.
+    pub fn meet<M: Meeting<V>>(&mut self, other: &mut Seat<V, P>)
+        requires book { self.old.book ≡ other.old.book }
+        requires rule { Meets P.holds M.then self.old.id self.old.view other.old.id other.old.view }
+        ensures first { (self.new.book ≡ self.old.book) × (self.new.id ≡ self.old.id) }
+        ensures second { (other.new.book ≡ other.old.book) × (other.new.id ≡ other.old.id) }
+        ensures differ { self.old.id ≢ other.old.id }
+        ensures told { M.then self.old.view other.old.view self.new.view other.new.view }
+    {
+        let _ = other;
     }
 
     /// One more seat at the same book, as for another thread. It touches no word.

@@ -1,0 +1,3 @@
+//! What users of the map name: `congee::live`.
+
+pub use crate::typed_congee::{Busy, Congee, Guard, Refusal, meet};

@@ -1,0 +1,214 @@
+//! `Congee`, the map from keys to values that numbers represent, which threads read without a lock.
+//!
+//! Tested in `test_live_faces`.
+ghost use Rattle.std.specs.Prelude.{◌≡◌, ◌≢◌, ℕ, [], IfOk, OnErr};
+ghost use Rattle.std.specs.Option.{option_map};
+ghost use Rattle.live_law.specs.Views.{ask, got, inserted};
+ghost use Rattle.live_calls.specs.Exchanges.{exchange_of};
+ghost use Rattle.live_calls.specs.Meetings.{SeenMore};
+ghost use Rattle.live_faces.specs.Returned.{ReturnsOld, ReturnsExchanged};
+
+use crossbeam_utils::Backoff;
+use live_calls::map;
+pub use live_calls::map::{Busy, Guard, Refusal};
+use spec_map::error::OOMError;
+use spec_map::traits::Word;
+use std::alloc::Global;
+use std::marker::{Model, PhantomData};
+use std::sync::Wait;
+
+/// An ordered map from keys to values, both of types that are written as 64-bit numbers, which threads share. Two keys
+/// with one number are one key.
+///
+/// A look-up takes no lock, and writes nothing that other threads read. A writer locks single nodes. Each call has a form
+/// that gives up where too many writers come in between (`try_get` and the like, with `Busy`), and one that pauses and goes
+/// on. That this one returns isn't claimed.
+///
+/// Contracts see which map it is. Each call is made by a guard of the map. What the guard has seen after a call is one
+/// legal history of the map: it begins with what the guard had seen before, and ends with the call and its reply.
+#[derive(Drop)]
+pub struct Congee<K: Word, V: Word> {
+    numbers: map::Congee,
+    of: PhantomData<(K, V)>,
+}
+
+impl<K: Word, V: Word> Model for Congee<K, V> {
+    ghost use Rattle.word_book.specs.Book.{Book, book_coded};
+
+    ghost Value = { Book };
+
+    ghost coded = { book_coded };
+
+    ghost view = { λ m. m.numbers };
+}
+
+fn read_back<V: Word>(number: Option<u64>) -> Option<V>
+    ensures { result ≡ option_map V.of_number number }
+{
+    match number {
+        Some(number) => Some(V::from_u64(number)),
+        None => None,
+    }
+}
+
+impl<K: Word, V: Word> Congee<K, V> {
+    /// An empty map. It has a root of 2,104 bytes. `OOMError` if there is no memory for it.
+    pub fn new(alloc: Global) -> Result<Self, OOMError> {
+        Ok(Congee {
+            numbers: map::Congee::new(alloc)?,
+            of: PhantomData,
+        })
+    }
+
+    /// A guard that has seen nothing. It takes no memory, and waits for nobody.
+    pub fn pin(&self) -> Guard
+        ensures { (result.book ≡ self.now) × (result.seen ≡ []) }
+    {
+        self.numbers.pin()
+    }
+
+    /// Drops a guard. Nobody waits for one that is kept.
+    pub fn unpin(&self, guard: Guard) {
+        drop(guard);
+    }
+
+    /// The current value of the key, read back from its number. `Busy` if too many writers came in between: then nothing has
+    /// changed.
+    pub fn try_get(&self, guard: &mut Guard, key: &K) -> Result<Option<V>, Busy>
+        requires map { guard.old.book ≡ self.now }
+        ensures map { guard.new.book ≡ guard.old.book }
+        ensures made { IfOk result (λ value. ReturnsOld V.of_number guard.old
+            (got (ask guard.old.caller (K.number key.now) 0 0)) value guard.new) }
+        ensures busy { OnErr result (guard.new ≡ guard.old) }
+    {
+        let number = self.numbers.get(guard, key.into_u64())?;
+        Ok(read_back(number))
+    }
+
+    /// The same, which pauses where `try_get` is busy, and goes on.
+    pub fn get<R: Wait>(&self, rt: &R, guard: &mut Guard, key: &K) -> Option<V>
+        requires map { guard.old.book ≡ self.now }
+        ensures map { guard.new.book ≡ guard.old.book }
+        ensures made { ReturnsOld V.of_number guard.old
+            (got (ask guard.old.caller (K.number key.now) 0 0)) result guard.new }
+    {
+        let pause = Backoff::new();
+        for _ in rt.forever() {
+            if let Ok(value) = self.try_get(guard, key) {
+                return value;
+            }
+            pause.snooze();
+        }
+        unreachable!()
+    }
+
+    /// Stores a value at the key, and returns the previous one, read back from its number. `Refusal::Busy` if too many
+    /// writers came in between, and `Refusal::OutOfMemory` if memory was missing: then the pairs are as they were.
+    pub fn try_insert(
+        &self,
+        alloc: Global,
+        guard: &mut Guard,
+        key: K,
+        value: V,
+    ) -> Result<Option<V>, Refusal>
+        requires map { guard.old.book ≡ self.now }
+        ensures map { guard.new.book ≡ guard.old.book }
+        ensures made { IfOk result (λ before. ReturnsOld V.of_number guard.old
+            (inserted (ask guard.old.caller (K.number key) (V.number value) 1)) before guard.new) }
+        ensures refused { OnErr result (guard.new ≡ guard.old) }
+    {
+        let number = self
+            .numbers
+            .insert(alloc, guard, key.into_u64(), value.into_u64())?;
+        Ok(read_back(number))
+    }
+
+    /// The same, which pauses where `try_insert` is busy, and goes on. `OOMError` if memory was missing: then the pairs are
+    /// as they were.
+    pub fn insert<R: Wait>(
+        &self,
+        rt: &R,
+        alloc: Global,
+        guard: &mut Guard,
+        key: K,
+        value: V,
+    ) -> Result<Option<V>, OOMError>
+        requires map { guard.old.book ≡ self.now }
+        ensures map { guard.new.book ≡ guard.old.book }
+        ensures made { IfOk result (λ before. ReturnsOld V.of_number guard.old
+            (inserted (ask guard.old.caller (K.number key) (V.number value) 1)) before guard.new) }
+        ensures refused { OnErr result (guard.new ≡ guard.old) }
+    {
+        let pause = Backoff::new();
+        for _ in rt.forever() {
+            match self.try_insert(alloc, guard, key, value) {
+                Ok(before) => return Ok(before),
+                Err(Refusal::OutOfMemory) => return Err(OOMError::new()),
+                Err(Refusal::Busy) => pause.snooze(),
+            }
+        }
+        unreachable!()
+    }
+
+    /// If the number of `old` is stored at the key, stores `new`, and returns `Ok` with `new` itself. Otherwise changes
+    /// nothing, and returns `Err` with the current value, read back from its number, or with `None` if the key is absent.
+    /// Takes no memory. `Busy` if too many writers came in between: then nothing has changed.
+    pub fn try_compare_exchange(
+        &self,
+        guard: &mut Guard,
+        key: &K,
+        old: &V,
+        new: V,
+    ) -> Result<Result<Option<V>, Option<V>>, Busy>
+        requires map { guard.old.book ≡ self.now }
+        ensures map { guard.new.book ≡ guard.old.book }
+        ensures made { IfOk result (λ answer. ReturnsExchanged V.of_number guard.old
+            (exchange_of guard.old.caller (K.number key.now) (V.number old.now) (V.number new))
+            new answer guard.new) }
+        ensures busy { OnErr result (guard.new ≡ guard.old) }
+    {
+        let answer = self
+            .numbers
+            .compare_exchange(guard, key.into_u64(), old.into_u64(), new.into_u64())?;
+        match answer {
+            Ok(_) => Ok(Ok(Some(new))),
+            Err(current) => Ok(Err(read_back(current))),
+        }
+    }
+
+    /// The same, which pauses where `try_compare_exchange` is busy, and goes on.
+    pub fn compare_exchange<R: Wait>(
+        &self,
+        rt: &R,
+        guard: &mut Guard,
+        key: &K,
+        old: &V,
+        new: V,
+    ) -> Result<Option<V>, Option<V>>
+        requires map { guard.old.book ≡ self.now }
+        ensures map { guard.new.book ≡ guard.old.book }
+        ensures made { ReturnsExchanged V.of_number guard.old
+            (exchange_of guard.old.caller (K.number key.now) (V.number old.now) (V.number new))
+            new result guard.new }
+    {
+        let pause = Backoff::new();
+        for _ in rt.forever() {
+            if let Ok(answer) = self.try_compare_exchange(guard, key, old, new) {
+                return answer;
+            }
+            pause.snooze();
+        }
+        unreachable!()
+    }
+}
+
+/// Both guards, of one map, whose callers are two, have then seen one legal history, which begins with what each had seen.
+pub fn meet(a: &mut Guard, b: &mut Guard)
+    requires map { b.old.book ≡ a.old.book }
+    ensures first { SeenMore a.old a.new }
+    ensures second { SeenMore b.old b.new }
+    ensures one { a.new.seen ≡ b.new.seen }
+    ensures differ { a.old.caller ≢ b.old.caller }
+{
+    a.meet(b);
+}

@@ -1,0 +1,7 @@
+//! Tests of the face with typed keys and values of the map that threads read without a lock.
+#![tactic(auto)]
+
+#[cfg(test)]
+mod chains;
+#[cfg(test)]
+mod words;

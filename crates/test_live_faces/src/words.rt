@@ -1,0 +1,104 @@
+//! Keys and values of types of their own, by one thread.
+
+ghost use Rattle.std.specs.Prelude.{◌*◌, ◌/◌, ◌%◌, ◌^◌, ◌≡◌};
+
+use live_faces::live::{Congee, Guard, meet};
+use spec_map::traits::Word;
+use std::sync::Wait;
+use std::test::Fail;
+
+/// Written as its value divided by ten; n is read back as 10n.
+#[derive(Clone, Copy, Debug, PartialEq, Eq)]
+struct Tens(u64);
+
+impl Word for Tens {
+    ghost number = { λ t. t.0 / 10 };
+
+    ghost of_number = { λ n. record { 0 = (n * 10) % 2 ^ 64 } };
+
+    fn from_u64(n: u64) -> Tens {
+        Tens(n.wrapping_mul(10))
+    }
+
+    fn into_u64(self) -> u64 {
+        self.0 / 10
+    }
+}
+
+// Keys, values, and what an insertion of them returns in turn.
+const ROWS: [(Tens, Tens, Option<Tens>); 5] = [
+    (Tens(12), Tens(70), None),
+    (Tens(17), Tens(89), Some(Tens(70))),
+    (Tens(20), Tens(5), None),
+    (Tens(29), Tens(5), Some(Tens(0))),
+    (Tens(10), Tens(11), Some(Tens(80))),
+];
+
+#[test]
+fn keys_with_one_number_are_one_key(rt: HostRuntime) -> Result<(), Fail> {
+    let map: Congee<Tens, Tens> = Congee::new(rt.alloc())?;
+    let mut guard = map.pin();
+    for (key, value, before) in ROWS {
+        assert!(rt; map.try_insert(rt.alloc(), &mut guard, key, value) == Ok(before));
+    }
+    assert!(rt; map.try_get(&mut guard, &Tens(19)) == Ok(Some(Tens(10))));
+    assert!(rt; map.try_get(&mut guard, &Tens(30)) == Ok(None));
+    map.unpin(guard);
+    Ok(())
+}
+
+// A key, the value that is expected, the one to replace it, and what the exchange returns. At first 12 has 70.
+const EXCHANGES: [(Tens, Tens, Tens, Result<Option<Tens>, Option<Tens>>); 5] = [
+    (Tens(12), Tens(60), Tens(99), Err(Some(Tens(70)))),
+    (Tens(15), Tens(79), Tens(99), Ok(Some(Tens(99)))),
+    (Tens(12), Tens(70), Tens(1), Err(Some(Tens(90)))),
+    (Tens(22), Tens(70), Tens(1), Err(None)),
+    (Tens(12), Tens(90), Tens(0), Ok(Some(Tens(0)))),
+];
+
+#[test]
+fn values_with_one_number_are_exchanged_alike(rt: HostRuntime) -> Result<(), Fail> {
+    let map: Congee<Tens, Tens> = Congee::new(rt.alloc())?;
+    let mut guard = map.pin();
+    assert!(rt; map.try_insert(rt.alloc(), &mut guard, Tens(12), Tens(70)) == Ok(None));
+    for (key, old, new, wanted) in EXCHANGES {
+        assert!(rt; map.try_compare_exchange(&mut guard, &key, &old, new) == Ok(wanted));
+    }
+    Ok(())
+}
+
+// The same by the forms that go on, in turn: whether all rows return what they have to.
+fn all_as_wanted<R: Wait>(rt: &R, map: &Congee<Tens, Tens>, guard: &mut Guard) -> bool
+    requires { guard.old.book ≡ map.now }
+{
+    let mut all = true;
+    for (key, old, new, wanted) in EXCHANGES {
+        all = all && map.compare_exchange(rt, guard, &key, &old, new) == wanted;
+    }
+    all && map.get(rt, guard, &Tens(12)) == Some(Tens(0))
+}
+
+#[test]
+fn the_forms_that_go_on_return_the_same(rt: HostRuntime) -> Result<(), Fail> {
+    let map: Congee<Tens, Tens> = Congee::new(rt.alloc())?;
+    let mut guard = map.pin();
+    assert!(rt; map.insert(&rt, rt.alloc(), &mut guard, Tens(12), Tens(70)) == Ok(None));
+    assert!(rt; all_as_wanted(&rt, &map, &mut guard));
+    Ok(())
+}
+
+#[test]
+fn what_two_guards_do_once_they_have_met(rt: HostRuntime) -> Result<(), Fail> {
+    let map: Congee<u64, Tens> = Congee::new(rt.alloc())?;
+    let mut a = map.pin();
+    let mut b = map.pin();
+    assert!(rt; map.try_insert(rt.alloc(), &mut a, 7, Tens(30)) == Ok(None));
+    meet(&mut a, &mut b);
+    assert!(rt; map.try_get(&mut b, &7) == Ok(Some(Tens(30))));
+    assert!(rt;
+        map.try_compare_exchange(&mut b, &7, &Tens(30), Tens(40)) == Ok(Ok(Some(Tens(40))))
+    );
+    meet(&mut b, &mut a);
+    assert!(rt; map.try_get(&mut a, &7) == Ok(Some(Tens(40))));
+    Ok(())
+}
