@@ -96,6 +96,27 @@ fn a_reader_finds_what_a_writer_inserts(rt: HostRuntime) {
     assert!(rt; far == Some((60, 0)));
 }
 
+// How far keys lie apart that differ in one byte. A leaf has the last byte, and each inner node one of the others.
+const STEPS: [u64; 8] = [
+    1,
+    0x100,
+    0x10000,
+    0x1000000,
+    0x100000000,
+    0x10000000000,
+    0x1000000000000,
+    0x100000000000000,
+];
+
+// At each height a node has children for all bytes one after another, and so all sizes, while another thread reads them.
+#[test]
+fn a_node_grows_beside_readers(rt: HostRuntime) {
+    for step in STEPS {
+        let all = by_two(&rt, rt.alloc(), step, 256);
+        assert!(rt; all == Some((256, 0)));
+    }
+}
+
 // Two threads insert keys that lie between one another.
 fn by_writers<R: Threads + Sync>(rt: &R, alloc: Global) -> Option<(u32, u32, u32)> {
     let map = Congee::new(alloc).ok()?;
