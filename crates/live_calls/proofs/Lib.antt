@@ -7,6 +7,7 @@ pub mod Rooms
 pub mod Grips
 pub mod Linked
 pub mod Trunks
+pub mod Ends
 pub mod Ready
 pub mod Pairs
 pub mod Compared

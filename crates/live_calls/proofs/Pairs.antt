@@ -1,5 +1,5 @@
 -- Two nodes are held: one, and the node above it.
-use Rattle.std.proofs.Common.{◌≡◌, ◌≢◌, ℕ, zero, suc, ◌+◌, ◌*◌, ◌<◌, ◌≤◌, Bool, true, false, cond, nat_eq, List, [], ◌∷◌, ◌++◌, length, get_or, Option, Some, None, IfSome, refl, sym, ap, ◌∙◌, subst, inl, inr, arith, eq-eqb, ne_eqb}
+use Rattle.std.proofs.Common.{◌≡◌, ◌≢◌, ℕ, ◌+◌, ◌<◌, ◌≤◌, Bool, true, false, cond, nat_eq, List, [], ◌∷◌, ◌++◌, length, Option, Some, None, IfSome, refl, sym, ap, ◌∙◌, subst, inr, arith, eq-eqb, ne_eqb}
 use Rattle.node_base.specs.declared.base_node.NodeType.{NodeType}
 use Rattle.node_base.specs.declared.base_node.NodeType.TheVariants.{N4, N16, N48, N256}
 use Rattle.node_base.specs.Form.{limit, next_form}
@@ -25,7 +25,6 @@ use Rattle.live_law.specs.Views.{View, view_of, Own, locked, fresh, rest_of, Ask
 use Rattle.live_law.specs.Tree.{IsMap, IsApart, leads_on, left_over}
 use Rattle.live_calls.specs.Rooms.{HasMade, HasGrown}
 use Rattle.live_calls.proofs.Locks.{hold_head}
-use Rattle.live_calls.proofs.Grips.{Grips}
 
 abbrev Seen : Type 0
 Seen = SeatView View

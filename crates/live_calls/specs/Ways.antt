@@ -1,5 +1,5 @@
 -- What a seat knows on the way of a key.
-use Rattle.std.specs.Prelude.{◌≡◌, ℕ, zero, suc, Bool, true, false, List, Option, Some, None}
+use Rattle.std.specs.Prelude.{◌≡◌, ℕ, zero, suc, ◌+◌, ◌<◌, ◌≤◌, Bool, true, false, List, Option, Some, None}
 use Rattle.node_table.specs.declared.child.Child.TheVariants.{Node}
 use Rattle.word_book.specs.Book.{Book, Name}
 use Rattle.live_nodes.specs.Seats.{Place, place, SeatView, IsIn}
@@ -20,6 +20,13 @@ pub record Names (v : SeatView View) (name key height : ℕ) : Type 0 where
   pub named : name ≡ name_of spot.shape
   pub high : spot.shape.height ≡ height
   pub covers : Covers spot.shape key
+
+-- A key's way ends as yet at a node of that height. Unless that is the root, the other is the node above it.
+pub record Ends (v : SeatView View) (key above name height : ℕ) : Type 0 where
+  pub named : Names v name key height
+  pub upper : height < 8 → Names v above key (height + 1)
+  pub low : 1 ≤ height
+  pub high : height ≤ 8
 
 -- These are its words.
 abbrev pub AreNamed : Book → ℕ → List Name → Type 0

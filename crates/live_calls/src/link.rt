@@ -20,8 +20,8 @@ use live_nodes::node;
 use live_rows::rows::Held;
 use node_base::base_node::NodeType;
 
-/// The form of a new node.
-pub const NEW: NodeType = NodeType::N256;
+/// The form of a new node: the smallest.
+pub const NEW: NodeType = NodeType::N4;
 
 /// A seat's room: the first of its words, and how many there are at least.
 #[derive(Clone, Copy, Debug, PartialEq, Eq)]

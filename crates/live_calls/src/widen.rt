@@ -1,5 +1,4 @@
-//! A full node grows: a larger one takes its place below the node above. `insert` doesn't call it yet, as its nodes have the
-//! largest form.
+//! A full node grows: a larger one takes its place below the node above.
 ghost use Rattle.std.specs.Prelude.{◌≡◌, ◌≢◌, ℕ, ◌+◌, ◌<◌, ◌≤◌, ◌^◌, [], length, None, IsTrue};
 ghost use Rattle.node_table.specs.TableNode.{TableNode};
 ghost use Rattle.spec_map.specs.Map.{lookup};

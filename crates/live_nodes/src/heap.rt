@@ -16,6 +16,13 @@ use word_book::seat::Pens;
 use word_segments::place::{before_of, size_of};
 use word_segments::segments::{Segments, filled};
 
+/// A segment that a seat has as its room: the key of its first word, and how many words it has.
+#[derive(Clone, Copy, Debug, PartialEq, Eq)]
+pub struct Grown {
+    pub start: u64,
+    pub count: usize,
+}
+
 /// The words of all nodes. `door` lets threads enter.
 #[derive(Drop)]
 pub struct Heap<V, L: NodeLaw<V>> {
@@ -89,13 +96,12 @@ impl<V, L: NodeLaw<V>> Heap<V, L> {
         Some(&self.trunk[at..at + count])
     }
 
-    /// One more segment, which is the seat's room from then on: the key of its first word. `None` where another thread is
-    /// just making one.
-    pub fn grow(&self, alloc: Global, seat: &mut Seat<V, L>) -> Result<Option<u64>, AllocError>
+    /// One more segment, whose words are the seat's room from then on. `None` where another thread is just making one.
+    pub fn grow(&self, alloc: Global, seat: &mut Seat<V, L>) -> Result<Option<Grown>, AllocError>
         requires { seat.old.book ≡ self.now }
         ensures seat { (seat.new.book ≡ seat.old.book) × (seat.new.id ≡ seat.old.id) }
-        ensures room { IfOk result (λ grown. IfSome grown (λ key. (n : ℕ)
-            × (1024 ≤ n) × (key < 2 ^ 62) × (seat.new.view ≡ given seat.old.view key n))) }
+        ensures room { IfOk result (λ grown. IfSome grown (λ g. (1024 ≤ g.count)
+            × (g.start < 2 ^ 62) × (seat.new.view ≡ given seat.old.view g.start g.count))) }
         ensures lost { IfOk result (λ grown. IfNone grown (seat.new.view ≡ seat.old.view)) }
         ensures refused { OnErr result (seat.new.view ≡ seat.old.view) }
     {
@@ -112,8 +118,10 @@ impl<V, L: NodeLaw<V>> Heap<V, L> {
         if !grown {
             return Ok(None);
         }
-        let segment = filled(words, size_of(number), pens);
+        let count = size_of(number);
+        let start = first + before_of(number);
+        let segment = filled(words, count, pens);
         drop(self.segments.set(number, segment));
-        Ok(Some(first + before_of(number)))
+        Ok(Some(Grown { start, count }))
     }
 }

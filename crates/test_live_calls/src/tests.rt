@@ -96,6 +96,64 @@ fn a_reader_finds_what_a_writer_inserts(rt: HostRuntime) {
     assert!(rt; far == Some((60, 0)));
 }
 
+// A map, also where memory is refused once.
+fn made(alloc: Global) -> Option<Congee> {
+    match Congee::new(alloc) {
+        Ok(map) => Some(map),
+        Err(_) => Congee::new(alloc).ok(),
+    }
+}
+
+// Inserts as many keys, each once more where memory is refused. Returns how many were new.
+fn filled_again(map: &Congee, alloc: Global, count: u32) -> u32 {
+    let mut guard = map.pin();
+    let mut key = 0u64;
+    let mut new = 0u32;
+    for _ in 0..count {
+        let mut done = map.insert(alloc, &mut guard, key, key ^ 1);
+        if done == Err(Refusal::OutOfMemory) {
+            done = map.insert(alloc, &mut guard, key, key ^ 1);
+        }
+        if done == Ok(None) {
+            new = new.wrapping_add(1);
+        }
+        key = key.wrapping_add(0x0001000200030005);
+    }
+    new
+}
+
+// It passes whichever allocation is refused: nothing was inserted then, and what was there before is still there.
+#[test]
+fn refused_memory_loses_nothing(rt: HostRuntime) {
+    if let Some(map) = made(rt.alloc()) {
+        assert!(rt; filled_again(&map, rt.alloc(), 300) == 300);
+        assert!(rt; wrong_reads(&map, 0, 0x0001000200030005, 300) == 0);
+    } else {
+        assert!(rt; false);
+    }
+}
+
+// How far keys lie apart that differ in one byte. A leaf has the last byte, and each inner node one of the others.
+const STEPS: [u64; 8] = [
+    1,
+    0x100,
+    0x10000,
+    0x1000000,
+    0x100000000,
+    0x10000000000,
+    0x1000000000000,
+    0x100000000000000,
+];
+
+// At each height a node has children for all bytes one after another, and so all sizes, while another thread reads them.
+#[test]
+fn a_node_grows_beside_readers(rt: HostRuntime) {
+    for step in STEPS {
+        let all = by_two(&rt, rt.alloc(), step, 256);
+        assert!(rt; all == Some((256, 0)));
+    }
+}
+
 // Two threads insert keys that lie between one another.
 fn by_writers<R: Threads + Sync>(rt: &R, alloc: Global) -> Option<(u32, u32, u32)> {
     let map = Congee::new(alloc).ok()?;

@@ -6,6 +6,7 @@ use Rattle.word_book.specs.Book.{reads, writes, compares, none_joined, Joined}
 use Rattle.live_nodes.specs.Nodes.{Content}
 use Rattle.live_nodes.specs.Seats.{Place, place, Read, read, Hold, hold, IsIn, SeatView, seat_view, room_at, with_draft, with_word}
 use Rattle.live_nodes.specs.Acts.{Frees}
+use Rattle.live_nodes.specs.declared.heap.Grown.{Grown}
 use Rattle.live_nodes.specs.Plays as plays
 use Rattle.live_nodes.specs.Plays.{read_of, hold_of, saw_in, took, saw, learned, wrote, put, given, Checked, Tried, Takes, Sees, Checks, Locks, Writes, Keeps, Puts, Makes}
 use Rattle.live_nodes.specs.Calls.{MayCheck, MayLock, MayFree, MayKeep, MayMake, HoldsCell}
@@ -204,8 +205,11 @@ three_more (suc (suc (suc m))) long = (m, refl)
 abbrev pub HasRoom : View → View → ℕ → Type 0
 HasRoom v w key = (n : ℕ) × (1024 ≤ n) × (key < 2 ^ 62) × (w ≡ given v key n)
 
-pub room_in : (o : Option ℕ) (key : ℕ) (v w : View) → o ≡ Some key → IfSome o (HasRoom v w) → HasRoom v w key
-room_in o key v w is r = subst (λ (z : Option ℕ). IfSome z (HasRoom v w)) is r
+abbrev pub HasGot : View → View → Grown → Type 0
+HasGot v w g = (1024 ≤ g.count) × (g.start < 2 ^ 62) × (w ≡ given v g.start g.count)
+
+pub room_in : (o : Option Grown) (g : Grown) (v w : View) → o ≡ Some g → IfSome o (HasGot v w) → HasRoom v w g.start
+room_in o g v w is r = let got = subst (λ (z : Option Grown). IfSome z (HasGot v w)) is r in (g.count, got.0, got.1, got.2)
 
 module _ (v : View) (key n x : ℕ) (long : 1024 ≤ n) where
   -- its first number is written

@@ -84,9 +84,10 @@ pub fn new_leaf(
     ensures root { KnowsRoot seat.new.view }
     ensures leaf { IfOk result (λ made. IfSome made (λ key. KnowsLeafAt seat.new.view key × (seat.new.view.client ≡ key) × (key < 2 ^ 62))) }
 {
-    let Some(key) = nodes.grow(alloc, seat)? else {
+    let Some(grown) = nodes.grow(alloc, seat)? else {
         return Ok(None);
     };
+    let key = grown.start;
     let Some(first) = nodes.word(key + 1) else {
         return Ok(None);
     };

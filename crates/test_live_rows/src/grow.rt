@@ -46,9 +46,10 @@ pub fn new_leaf(nodes: &Nodes, alloc: Global, seat: &mut Guest) -> Result<Option
     ensures root { KnowsRoot seat.new.view }
     ensures leaf { IfOk result (λ made. IfSome made (λ leaf. KnowsLeaf seat.new.view leaf)) }
 {
-    let Some(key) = nodes.grow(alloc, seat)? else {
+    let Some(grown) = nodes.grow(alloc, seat)? else {
         return Ok(None);
     };
+    let key = grown.start;
     if key >= 1 << 56 {
         return Ok(None);
     }
@@ -122,9 +123,10 @@ pub fn widen(nodes: &Nodes, alloc: Global, leaf: u64, seat: &mut Guest) -> Resul
     if form == NodeType::N256 {
         return Ok(false);
     }
-    let Some(key) = nodes.grow(alloc, seat)? else {
+    let Some(grown) = nodes.grow(alloc, seat)? else {
         return Ok(false);
     };
+    let key = grown.start;
     if key >= 1 << 56 {
         return Ok(false);
     }

@@ -1,6 +1,6 @@
-use Rattle.std.proofs.Common.{◌≡◌, ◌≤◌, false}
+use Rattle.std.proofs.Common.{◌≡◌, false}
 use Rattle.live_law.specs.Views.{ask}
-use Rattle.live_calls.specs.Ways.{Names, Keeps}
+use Rattle.live_calls.specs.Ways.{Ends, Keeps}
 use Rattle.live_calls.proofs.insert.descend.Given as goal
 
 abbrev pub ghosts-look : goal.ghosts-look
@@ -12,9 +12,7 @@ invariant-loop-height l = record {
   id : l.pass.id ≡ l.fn.pass.id;
   keeps : Keeps l.fn.pass.view l.pass.view;
   seen : l.pass.view.client.seen ≡ l.fn.pass.view.client.seen;
-  low : 1 ≤ l.height;
-  high : l.height ≤ 8;
-  names : Names l.pass.view l.name l.key l.height;
+  ends : Ends l.pass.view l.key l.above l.name l.height;
 }
 
 abbrev pub decreases-loop-height : goal.decreases-loop-height

@@ -1,4 +1,4 @@
-use Rattle.std.proofs.Common.{rules, ◌≡◌, None, sym, ap}
+use Rattle.std.proofs.Common.{rules, sym, ap}
 use Rattle.spec_map.specs.Map.{lookup}
 use Rattle.live_calls.proofs.Values.{child_found}
 use Rattle.live_calls.proofs.widen.has_child.Goals as goal

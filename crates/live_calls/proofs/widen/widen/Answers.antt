@@ -1,9 +1,9 @@
-use Rattle.std.proofs.Common.{rules, arith, sym, ap, subst, length, refl, ℕ, Some, None, List, [], ◌∷◌, ◌≡◌, ◌+◌, ◌-◌, ◌/◌, ◌≤◌, ◌∙◌}
+use Rattle.std.proofs.Common.{rules, arith, sym, ap, subst, length, refl, ℕ, Some, List, [], ◌∷◌, ◌≡◌, ◌+◌, ◌-◌, ◌/◌, ◌≤◌, ◌∙◌}
 use Rattle.node_base.specs.Form.{next_form}
 use Rattle.live_nodes.specs.Seats.{SeatView, Place, IsIn, hold}
 use Rattle.live_rows.specs.Rows.{AreOf, draft_of, nth}
 use Rattle.live_encodes.specs.Encodes.{words_of, Encodes, IsCounted, in_form}
-use Rattle.live_law.specs.Levels.{up, digit, Spot, place_at}
+use Rattle.live_law.specs.Levels.{up, digit, place_at}
 use Rattle.live_law.specs.Views.{View, Own, locked, fresh}
 use Rattle.node_table.specs.TableNode.{TableNode}
 use Rattle.live_law.specs.Tree.{Links, StaysSame, left_over}
@@ -12,10 +12,9 @@ use Rattle.live_law.proofs.Writes.{node_retires}
 use Rattle.live_calls.proofs.Grips.{Grips, grip_frees, grip_freed}
 use Rattle.live_calls.specs.Ways.{AreNamed}
 use Rattle.live_calls.specs.Holds.{HasLocked, HoldsOne}
-use Rattle.live_calls.specs.Rooms.{HasRoom}
 use Rattle.live_calls.proofs.Views.{first_word}
 use Rattle.live_calls.proofs.Locks.{taken_by, holds_one, may_hold, draft_is}
-use Rattle.live_calls.proofs.Pairs.{Pair, pair_locked, pair_first, pair_second, pair_made, pair_wrote, pair_frees, pair_freed, first_draft, second_draft, change_done, grown_changes, widened, at_result, few_counted, small_next}
+use Rattle.live_calls.proofs.Pairs.{pair_locked, pair_first, pair_second, pair_made, pair_wrote, pair_frees, pair_freed, first_draft, second_draft, change_done, grown_changes, widened, at_result, few_counted, small_next}
 use Rattle.live_calls.proofs.Linked.{room_after}
 use Rattle.live_calls.proofs.widen.widen.Goals as goal
 
