@@ -1,6 +1,9 @@
 pub mod Holding
 pub mod Listing
+pub mod Nearing
 pub mod Numbers
+pub mod OneShard
 pub mod Splitting
+pub mod Turning
 pub mod Visiting
 pub mod Writing

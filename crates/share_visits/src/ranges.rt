@@ -1,19 +1,20 @@
 //! The pairs of a range, of all shards that one hold has: those of one moment.
 //!
 //! Keys that differ in their last eight bits alone are of one shard. So a range is listed a run of keys after another,
-//! each by its shard, and between two runs all shards are asked for the next key.
+//! each by its shard. Before the second run all shards are asked for their next pairs, and after each run its shard alone.
 //!
 //! Tested in `tools/c-library`.
 
-ghost use Rattle.std.specs.Prelude.{◌≡◌, ◌≤◌, ◌<◌, ◌+◌, ◌++◌, ℕ, [], List, None, IfSome, length, reverse};
+ghost use Rattle.std.specs.Prelude.{◌≡◌, ◌≤◌, ◌<◌, ◌+◌, ◌++◌, ℕ, List, length, reverse};
 ghost use Rattle.share_visits.specs.Whole.{Contains, IsCount, shard_of};
 ghost use Rattle.share_visits.specs.Written.{AreWritten, listed};
 ghost use Rattle.spec_map.specs.Map.{Pairs, between};
 
 use crate::near::Near;
-use crate::part::{MapShard, Pages, PartLock, PartSeat, shard_of_key};
+use crate::next::{nearest_in, nearest_of_each};
+use crate::one::{nearest_at, visit_one};
+use crate::part::{Pages, PartLock, PartSeat, shard_of_key};
 use crate::visits::Page;
-use crate::whole::{all_shards, nearest};
 
 // The last key up to `last` of the run from `key` on that is of one shard.
 fn run_end(key: u64, last: u64, shards: usize) -> u64
@@ -65,14 +66,14 @@ fn page_at<E, M: Pages<E> + Drop>(
         → AreWritten M.entry (listed back (between all start (last + 1)))
         buffer.old result buffer.new }
 {
+    let shard = shard_of_key(start, lock.shards());
     let mut page = Page {
-        shard: shard_of_key(start, lock.shards()),
         start,
         last,
         back,
         written: 0,
     };
-    lock.each::<E, Page>(all_shards::<M>(lock), seat, &mut page, buffer);
+    visit_one::<E, M, Page>(lock, seat, shard, &mut page, buffer);
     page.written
 }
 
@@ -104,52 +105,90 @@ fn page_rest<E, M: Pages<E> + Drop>(
     written + page_at(lock, seat, start, last, back, &mut buffer[written..])
 }
 
-// The least key above `key` and up to `last`.
-fn key_after<M: MapShard + Drop>(
+// Writes the first pairs with keys above `key` and up to `last` to what is left of a buffer in which so many are written,
+// ascending. Returns how many are written then.
+fn list_above<E, M: Pages<E> + Drop>(
     lock: &PartLock<M>,
     seat: &mut PartSeat<M>,
     key: u64,
     last: u64,
-) -> Option<u64>
+    written: usize,
+    buffer: &mut [E],
+) -> usize
     requires table { seat.old.table_id ≡ lock.now }
     requires shards { IsCount lock.now.slots }
+    requires order { key < last }
     requires all { (all : Pairs ℕ) × Contains M.pairs lock.now.slots all seat.old.me.1 }
+    requires within { written ≤ length buffer.old }
     ensures table { seat.new.table_id ≡ seat.old.table_id }
     ensures same { seat.new.me ≡ seat.old.me }
-    ensures order { IfSome result (λ next. (key < next) × (next ≤ last)) }
-    ensures some { IfSome result (λ next. (all : Pairs ℕ)
-        → Contains M.pairs lock.now.slots all seat.old.me.1 → between all (key + 1) next ≡ []) }
-    ensures none { result ≡ None → (all : Pairs ℕ)
-        → Contains M.pairs lock.now.slots all seat.old.me.1
-        → between all (key + 1) (last + 1) ≡ [] }
+    ensures written { (all : Pairs ℕ) → Contains M.pairs lock.now.slots all seat.old.me.1
+        → (done : Pairs ℕ) (before : List E) → AreWritten M.entry done before written buffer.old
+        → written ≡ length done
+        → AreWritten M.entry (done ++ between all (key + 1) (last + 1)) before result buffer.new }
 {
-    match nearest(lock, seat, Near::Above(key)) {
-        None => None,
-        Some((next, _)) => if next <= last { Some(next) } else { None },
+    let shards = lock.shards();
+    let mut key = key;
+    let mut written = written;
+    let mut next_pairs = nearest_of_each(lock, seat, Near::Above(key));
+    'runs: loop {
+        let Some((from, _)) = nearest_in(Near::Above(key), &next_pairs, shards) else {
+            return written;
+        };
+        if last < from {
+            return written;
+        }
+        let end = run_end(from, last, shards);
+        written = page_rest(lock, seat, from, end, false, written, buffer);
+        if written == buffer.len() || end == last {
+            return written;
+        }
+        let shard = shard_of_key(from, shards);
+        next_pairs[shard] = nearest_at(lock, seat, shard, Near::Above(end));
+        key = end;
     }
 }
 
-// The greatest key below `key` and from `start` on.
-fn key_before<M: MapShard + Drop>(
+// The same with the last pairs with keys below `key` and from `start` on, descending.
+fn list_under<E, M: Pages<E> + Drop>(
     lock: &PartLock<M>,
     seat: &mut PartSeat<M>,
     key: u64,
     start: u64,
-) -> Option<u64>
+    written: usize,
+    buffer: &mut [E],
+) -> usize
     requires table { seat.old.table_id ≡ lock.now }
     requires shards { IsCount lock.now.slots }
+    requires order { start < key }
     requires all { (all : Pairs ℕ) × Contains M.pairs lock.now.slots all seat.old.me.1 }
+    requires within { written ≤ length buffer.old }
     ensures table { seat.new.table_id ≡ seat.old.table_id }
     ensures same { seat.new.me ≡ seat.old.me }
-    ensures order { IfSome result (λ next. (next < key) × (start ≤ next)) }
-    ensures some { IfSome result (λ next. (all : Pairs ℕ)
-        → Contains M.pairs lock.now.slots all seat.old.me.1 → between all (next + 1) key ≡ []) }
-    ensures none { result ≡ None → (all : Pairs ℕ)
-        → Contains M.pairs lock.now.slots all seat.old.me.1 → between all start key ≡ [] }
+    ensures written { (all : Pairs ℕ) → Contains M.pairs lock.now.slots all seat.old.me.1
+        → (done : Pairs ℕ) (before : List E) → AreWritten M.entry done before written buffer.old
+        → written ≡ length done
+        → AreWritten M.entry (done ++ reverse (between all start key)) before result buffer.new }
 {
-    match nearest(lock, seat, Near::Below(key)) {
-        None => None,
-        Some((next, _)) => if start <= next { Some(next) } else { None },
+    let shards = lock.shards();
+    let mut key = key;
+    let mut written = written;
+    let mut next_pairs = nearest_of_each(lock, seat, Near::Below(key));
+    'runs: loop {
+        let Some((to, _)) = nearest_in(Near::Below(key), &next_pairs, shards) else {
+            return written;
+        };
+        if to < start {
+            return written;
+        }
+        let first = run_start(to, start, shards);
+        written = page_rest(lock, seat, first, to, true, written, buffer);
+        if written == buffer.len() || first == start {
+            return written;
+        }
+        let shard = shard_of_key(to, shards);
+        next_pairs[shard] = nearest_at(lock, seat, shard, Near::Below(first));
+        key = first;
     }
 }
 
@@ -173,19 +212,12 @@ pub fn list<E, M: Pages<E> + Drop>(
     if last < start {
         return 0;
     }
-    let mut from = start;
-    let mut written = 0;
-    'runs: loop {
-        let end = run_end(from, last, lock.shards());
-        written = page_rest(lock, seat, from, end, false, written, buffer);
-        if written == buffer.len() || end == last {
-            return written;
-        }
-        match key_after(lock, seat, end, last) {
-            None => return written,
-            Some(next) => from = next,
-        }
+    let end = run_end(start, last, lock.shards());
+    let written = page_at(lock, seat, start, end, false, buffer);
+    if written == buffer.len() || end == last {
+        return written;
     }
+    list_above(lock, seat, end, last, written, buffer)
 }
 
 /// The same, with keys below `end`.
@@ -229,17 +261,10 @@ pub fn list_back<E, M: Pages<E> + Drop>(
     if last < start {
         return 0;
     }
-    let mut to = last;
-    let mut written = 0;
-    'runs: loop {
-        let first = run_start(to, start, lock.shards());
-        written = page_rest(lock, seat, first, to, true, written, buffer);
-        if written == buffer.len() || first == start {
-            return written;
-        }
-        match key_before(lock, seat, first, start) {
-            None => return written,
-            Some(next) => to = next,
-        }
+    let first = run_start(last, start, lock.shards());
+    let written = page_at(lock, seat, first, last, true, buffer);
+    if written == buffer.len() || first == start {
+        return written;
     }
+    list_under(lock, seat, first, start, written, buffer)
 }
