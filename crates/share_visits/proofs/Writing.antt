@@ -1,6 +1,6 @@
 -- What is written to a buffer, a run after another.
-use Rattle.std.proofs.Common.{◌≡◌, ◌≢◌, ℕ, ◌+◌, ◌-◌, ◌<◌, ◌≤◌, List, [], ◌++◌, length, map, take, drop, reverse, append-nil, append_assoc, refl, sym, ap, subst, ◌∙◌, arith}
-use Rattle.std.proofs.lemmas.List.{drop-drop, drop_at, length-append, length-drop, length-take, length-map, map-append, reverse-append, take-append-drop, take-append-le, take-take, take_all, take_at}
+use Rattle.std.proofs.Common.{◌≡◌, ◌≢◌, ℕ, suc, ◌+◌, ◌-◌, ◌<◌, ◌≤◌, List, [], ◌∷◌, ◌++◌, length, map, set, take, drop, reverse, append-nil, append_assoc, refl, sym, ap, subst, ◌∙◌, arith}
+use Rattle.std.proofs.lemmas.List.{drop-drop, drop_at, length-append, length-drop, length-take, length-map, map-append, reverse-append, set_split, take-append-drop, take-append-le, take-take, take_all, take_at}
 use Rattle.std.proofs.lemmas.Slice.{between_is}
 use Rattle.share_parts.specs.Parts.{Ascends}
 use Rattle.share_visits.specs.Written.{AreWritten}
@@ -67,6 +67,18 @@ module _ {E : Type 0} (entry : ℕ → ℕ → E) where
         entries = (λ i. first i ++ tail_is i) ∙ (sym (append_assoc (entries_of l) (take k (entries_of r)) (drop (n + k) before)) ∙ ap (λ (t : List E). t ++ drop (n + k) before) (sym taken));
       }
 
+  -- one pair more is written behind what was
+  pub one_more : (l : Pairs ℕ) (before : List E) (n : ℕ) (mid : List E) (key value : ℕ) → W l before n mid → n ≡ length l → n < length mid → W (l ++ (key, value) ∷ []) before (n + 1) (set mid n (entry key value))
+  one_more l before n mid key value h is room =
+      let e : E = entry key value in
+      let left = length-drop n mid in
+      let one : W ((key, value) ∷ []) (drop n mid) 1 (e ∷ drop 1 (drop n mid)) = record { as_many = omega (arith, left, room); entries = refl } in
+      let later : suc n ≡ n + 1 = omega arith in
+      subst (λ (t : List E). W (l ++ (key, value) ∷ []) before (n + 1) t)
+      (ap (λ (t : List E). take n mid ++ t) (append-nil (e ∷ drop 1 (drop n mid)))
+      ∙ ((λ i. take n mid ++ e ∷ (drop-drop 1 n mid ∙ ap (λ (k : ℕ). drop k mid) (sym later)) i) ∙ sym (set_split mid n e room)))
+      (more l ((key, value) ∷ []) before mid (drop n mid) (e ∷ drop 1 (drop n mid)) [] n 1 h is refl refl one)
+
   pub as_long : (l : Pairs ℕ) (before : List E) (n : ℕ) (after : List E) → W l before n after → length after ≡ length before
   as_long l before n after h =
       let many = h.as_many in
@@ -119,8 +131,8 @@ module _ {E : Type 0} (entry : ℕ → ℕ → E) where
         append_assoc done (reverse (between m b last)) (reverse (between m a b))
         ∙ ap (λ (l : Pairs ℕ). done ++ l) (behind_back m up a b last low high)
 
-    pub run_down : (first to n : ℕ) (after : List E) → first ≤ to → to < last → W ((done ++ reverse (between m (to + 1) last)) ++ reverse (between m first (to + 1))) before n after → Down first n after
-    run_down first to n after low high w = subst (λ (l : Pairs ℕ). W l before n after) (under first (to + 1) (omega (arith, low)) (omega (arith, high))) w
+    pub run_down : (first to n : ℕ) (after : List E) → first ≤ to → to ≤ last → W ((done ++ reverse (between m to last)) ++ reverse (between m first to)) before n after → Down first n after
+    run_down first to n after low high w = subst (λ (l : Pairs ℕ). W l before n after) (under first to low high) w
 
     pub down_full : (from n : ℕ) (after : List E) → start ≤ from → from ≤ last → Down from n after → n ≡ length before → Down start n after
     down_full from n after low high w is =

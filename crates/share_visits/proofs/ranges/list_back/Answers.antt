@@ -25,11 +25,12 @@ returns-then-written-buffer-clause-written g c = λ all h.
           subst (λ k. AreWritten g.M.Pages.entry (reverse (between all k (c.args.last + 1))) before n after) b.if-first-start.true listed
     ]
 
-pub list_under-requires-clause-within : goal.list_under-requires-clause-within
-list_under-requires-clause-within g c =
+pub list_under-requires-clause-room : goal.list_under-requires-clause-room
+list_under-requires-clause-room g c =
     let many = (c.page_at-written.ensures.written c.requires.all.0 c.requires.all.1).as_many in
     let new = c.page_at-written.auto.buffer in
-    omega (arith, many, new)
+    let ne = c.if-written-buffer.false in
+    omega (arith, many, new, ne)
 
 pub returns-clause-written : goal.returns-clause-written
 returns-clause-written g c = λ all h.

@@ -9,7 +9,7 @@ use Rattle.share_visits.proofs.ranges.list_under.Given as goal
 
 abbrev pub invariant-runs : goal.invariant-runs
 invariant-runs g l =
-    (l.seat.table_id ≡ l.fn.seat.table_id) × (l.seat.me ≡ l.fn.seat.me) × (l.key ≤ l.fn.key) × (l.start < l.key) × (l.written ≤ length l.buffer)
+    (l.seat.table_id ≡ l.fn.seat.table_id) × (l.seat.me ≡ l.fn.seat.me) × (l.key ≤ l.fn.key) × (l.start < l.key) × (l.written < length l.buffer)
     × ((all : Pairs ℕ) → Contains g.M.MapShard.pairs l.lock.slots all l.fn.seat.me.1 → AreNearest l.lock.slots (below l.key) all l.next_pairs)
     × ((all : Pairs ℕ) → Contains g.M.MapShard.pairs l.lock.slots all l.fn.seat.me.1
     → (done : Pairs ℕ) (before : List g.row.E.Denot) → AreWritten g.M.Pages.entry done before l.fn.written l.fn.buffer → l.fn.written ≡ length done
