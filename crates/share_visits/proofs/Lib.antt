@@ -3,6 +3,7 @@ pub mod Listing
 pub mod Nearing
 pub mod Numbers
 pub mod OneShard
+pub mod Removing
 pub mod Running
 pub mod Splitting
 pub mod Turning

@@ -14,7 +14,8 @@ ghost use Rattle.spec_map.specs.Map.{Pairs, without};
 ghost use Rattle.spec_map.specs.Near.{pair_near, without_pair};
 
 use crate::near::Near;
-use crate::part::{MapShard, PartLock, PartSeat};
+use crate::one::visit_one;
+use crate::part::{MapShard, PartLock, PartSeat, shard_of_key};
 use crate::visits::{Charge, Clear, Find, Remove, Tally};
 use share_shards::rule::Done;
 
@@ -137,8 +138,9 @@ fn remove_key<M: MapShard + Drop>(lock: &PartLock<M>, seat: &mut PartSeat<M>, ke
     ensures left { (all : Pairs ℕ) → Contains M.pairs lock.now.slots all seat.old.me.1
         → Contains M.pairs lock.now.slots (without all key) seat.new.me.1 }
 {
+    let shard = shard_of_key(key, lock.shards());
     let mut remove = Remove { key };
-    lock.each::<(), Remove>(all_shards::<M>(lock), seat, &mut remove, &mut []);
+    visit_one::<(), M, Remove>(lock, seat, shard, &mut remove, &mut []);
 }
 
 /// Removes the pair there, if there is one, and returns it.
