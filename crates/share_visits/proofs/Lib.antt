@@ -4,6 +4,7 @@ pub mod Nearing
 pub mod Numbers
 pub mod OneShard
 pub mod Removing
+pub mod RunNear
 pub mod Running
 pub mod Splitting
 pub mod Turning
