@@ -57,6 +57,10 @@ impl MapShard for State {
 impl<E: RangeEntry> Pages<E> for State {
     ghost entry = { E.entry };
 
+    fn entry_of(key: u64, value: u64) -> E {
+        E::from_pair(key, value)
+    }
+
     fn page(&self, start: u64, last: u64, buffer: &mut [E]) -> usize {
         self.map.range_inclusive_of(start, last, buffer)
     }

@@ -1,6 +1,12 @@
 pub mod Holding
 pub mod Listing
+pub mod Nearing
 pub mod Numbers
+pub mod OneShard
+pub mod Removing
+pub mod RunNear
+pub mod Running
 pub mod Splitting
+pub mod Turning
 pub mod Visiting
 pub mod Writing

@@ -13,7 +13,7 @@ covers (suc n) k lt =
       | inr ne ↦ ap (λ (b : Bool). cond b true (is_in (down n) k)) (ne_eqb n k ne) ∙ covers n k (omega (arith, lt, ne))
     ]
 
-fresh : (n k : ℕ) → n ≤ k → is_in (down n) k ≡ false
+pub fresh : (n k : ℕ) → n ≤ k → is_in (down n) k ≡ false
 fresh zero k from = refl
 fresh (suc n) k from =
     ap (λ (b : Bool). cond b true (is_in (down n) k)) (ne_eqb n k (λ is. absurd (omega (arith, from, is)))) ∙ fresh n k (omega (arith, from))

@@ -54,7 +54,7 @@ module _ (m : Pairs ℕ) (up : Ascends m) where
   between-split a b c ab bc = split 0 up.0 a b c m up.1 ab bc
 
   -- a key that was found in a range is in it
-  in_range : (a b : ℕ) (p : ℕ × ℕ) → lookup (between m a b) p.0 ≡ Some p.1 → (a ≤ p.0) × (p.0 < b)
+  pub in_range : (a b : ℕ) (p : ℕ × ℕ) → lookup (between m a b) p.0 ≡ Some p.1 → (a ≤ p.0) × (p.0 < b)
   in_range a b p is =
       elim (cases_lt p.0 a) [
         | inl less ↦ absurd (let clash : ◌≡◌ {A = Option ℕ} None (Some p.1) = sym (lookup-between_outside m a b p.0 (inl less)) ∙ is in cc)

@@ -1,26 +1,24 @@
 -- What visits of all shards come to.
-use Rattle.std.proofs.Common.{◌≡◌, ℕ, ◌+◌, ◌*◌, ◌-◌, ◌<◌, ◌≤◌, ◌^◌, true, List, [], ◌∷◌, ◌++◌, reverse, append-nil, length, map, min, refl, sym, ap, subst, ◌∙◌, arith}
+use Rattle.std.proofs.Common.{◌≡◌, ℕ, ◌+◌, ◌*◌, ◌-◌, ◌<◌, ◌≤◌, ◌^◌, List, [], ◌∷◌, ◌++◌, reverse, append-nil, length, map, min, refl, sym, ap, subst, ◌∙◌, arith}
 use Rattle.std.proofs.lemmas.List.{length-map}
 use Rattle.std.specs.Prelude.{Option, None}
 use Rattle.share_parts.specs.Nearest.{nearer}
 use Rattle.share_parts.specs.Parts.{kept}
-use Rattle.share_parts.proofs.OnKeys.{ascends_answer}
-use Rattle.share_parts.proofs.Parts.{kept-all, kept-without}
-use Rattle.share_shards.specs.Held.{keys_at, keys_of, numbers, slots_of, AreDistinct, Visited}
-use Rattle.share_shards.proofs.Whole.{nearest_visited, parts_count, sum_sizes, tallied, visited_all, visited_each, visited_numbers, visited_same}
+use Rattle.share_parts.proofs.Parts.{kept-all}
+use Rattle.share_shards.specs.Held.{keys_of, numbers, slots_of, AreDistinct, Visited}
+use Rattle.share_shards.proofs.Whole.{nearest_visited, parts_count, sum_sizes, tallied, visited_all, visited_numbers, visited_same}
 use Rattle.share_visits.specs.Charged.{AreCharges, IsChargeOfAll, sum_of}
 use Rattle.share_visits.specs.Near.{near_of}
-use Rattle.share_visits.specs.Visits.{Charges, Clears, Finds, Removes, Tallies}
+use Rattle.share_visits.specs.Visits.{Charges, Clears, Finds, Tallies}
 use Rattle.share_visits.specs.Whole.{Contains, IsCount, down, shard_of}
 use Rattle.share_visits.specs.declared.near.Near.{Near}
 use Rattle.share_visits.specs.declared.part.Part.{Part}
 use Rattle.share_visits.specs.declared.visits.Charge.{Charge}
 use Rattle.share_visits.specs.declared.visits.Clear.{Clear}
 use Rattle.share_visits.specs.declared.visits.Find.{Find}
-use Rattle.share_visits.specs.declared.visits.Remove.{Remove}
 use Rattle.share_visits.specs.declared.visits.Tally.{Tally}
 use Rattle.share_visits.proofs.Numbers.{all_keys, distinct, few_shards, length-down}
-use Rattle.spec_map.specs.Map.{Pairs, without}
+use Rattle.spec_map.specs.Map.{Pairs}
 use Rattle.spec_map.specs.Near.{pair_near}
 
 module _ {M : Type 0} (pairs : M → Pairs ℕ) (count : ℕ) where
@@ -139,21 +137,6 @@ module _ {M : Type 0} (pairs : M → Pairs ℕ) (count : ℕ) where
         (knowing (Finds pairs) (λ f. f.near ≡ near) (λ v b i x w a y d k. d.near ∙ k) v w before after c.held values is t)
         (subst (λ (l : List ℕ). AreDistinct l) (sym c.numbered) (distinct count)) (within_all all slots c some)
         (λ i x e. ap (λ (l : Pairs ℕ). pair_near l (near_of near)) (sym (c.parts i x e))) start
-
-    -- what is left without a key
-    pub removed_key : {E : Type 0} (key : ℕ) (v w : Remove) (before after : List E) (values : Held) (later : Slots) → v.key ≡ key → later ≡ slots_of values → Visited (Removes pairs) v before c.held w after values
-        → Contains pairs count (without all key) later
-    removed_key {E} key v w before after values later is on t = record {
-      held = values;
-      is = on;
-      numbered = visited_numbers (Removes pairs) v w before after c.held values t ∙ c.numbered;
-      ordered = ascends_answer (λ a b. true) all key None c.ordered;
-      parts = λ i y e.
-          let made = visited_each (Removes pairs) (λ (r : Remove). r.key ≡ key) (λ (x z : Part M). pairs z.map ≡ without (pairs x.map) key)
-          (λ v b j x w a z d k. (d.key ∙ k, d.left ∙ ap (λ (n : ℕ). without (pairs x.map) n) k)) v w before after c.held values is t i y e
-          in
-          kept-without (keys_at (shard_of count) i) all key c.ordered ∙ (ap (λ (l : Pairs ℕ). without l key) (c.parts i made.0 made.1) ∙ sym made.2);
-    }
 
     pub cleared : {E : Type 0} (v w : Clear) (before after : List E) (values : Held) (later : Slots) → later ≡ slots_of values → Visited (Clears pairs) v before c.held w after values → Contains pairs count [] later
     cleared {E} v w before after values later on t = record {

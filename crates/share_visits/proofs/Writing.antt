@@ -1,11 +1,15 @@
 -- What is written to a buffer, a run after another.
-use Rattle.std.proofs.Common.{◌≡◌, ◌≢◌, ℕ, ◌+◌, ◌-◌, ◌<◌, ◌≤◌, List, [], ◌++◌, length, map, take, drop, reverse, append-nil, append_assoc, refl, sym, ap, subst, ◌∙◌, arith}
-use Rattle.std.proofs.lemmas.List.{drop-drop, drop_at, length-append, length-drop, length-map, map-append, reverse-append, take-append-drop, take-append-le, take-take, take_all, take_at}
+use Rattle.std.proofs.Common.{◌≡◌, ◌≢◌, ℕ, suc, ◌+◌, ◌-◌, ◌<◌, ◌≤◌, List, [], ◌∷◌, ◌++◌, length, map, set, take, drop, reverse, append-nil, append_assoc, refl, sym, ap, subst, ◌∙◌, arith}
+use Rattle.std.proofs.lemmas.List.{drop-drop, drop_at, length-append, length-drop, length-take, length-map, map-append, reverse-append, set_split, take-append-drop, take-append-le, take-take, take_all, take_at}
 use Rattle.std.proofs.lemmas.Slice.{between_is}
 use Rattle.share_parts.specs.Parts.{Ascends}
 use Rattle.share_visits.specs.Written.{AreWritten}
 use Rattle.share_visits.proofs.Splitting.{between-split, between_none}
 use Rattle.spec_map.specs.Map.{Pairs, between}
+
+-- two ranges beside one another, descending
+pub behind_back : (m : Pairs ℕ) → Ascends m → (a b c : ℕ) → a ≤ b → b ≤ c → reverse (between m b c) ++ reverse (between m a b) ≡ reverse (between m a c)
+behind_back m up a b c low high = sym (ap (λ (l : Pairs ℕ). reverse l) (between-split m up a b c low high) ∙ reverse-append (between m a b) (between m b c))
 
 module _ {E : Type 0} (entry : ℕ → ℕ → E) where
   abbrev entries_of : Pairs ℕ → List E
@@ -63,55 +67,86 @@ module _ {E : Type 0} (entry : ℕ → ℕ → E) where
         entries = (λ i. first i ++ tail_is i) ∙ (sym (append_assoc (entries_of l) (take k (entries_of r)) (drop (n + k) before)) ∙ ap (λ (t : List E). t ++ drop (n + k) before) (sym taken));
       }
 
-  module _ (m : Pairs ℕ) (up : Ascends m) (start last : ℕ) (before : List E) where
-    -- ascending: the pairs from the start on, up to the end of a run
-    abbrev Up : ℕ → ℕ → List E → Type 0
-    Up to n after = W (between m start to) before n after
+  -- one pair more is written behind what was
+  pub one_more : (l : Pairs ℕ) (before : List E) (n : ℕ) (mid : List E) (key value : ℕ) → W l before n mid → n ≡ length l → n < length mid → W (l ++ (key, value) ∷ []) before (n + 1) (set mid n (entry key value))
+  one_more l before n mid key value h is room =
+      let e : E = entry key value in
+      let left = length-drop n mid in
+      let one : W ((key, value) ∷ []) (drop n mid) 1 (e ∷ drop 1 (drop n mid)) = record { as_many = omega (arith, left, room); entries = refl } in
+      let later : suc n ≡ n + 1 = omega arith in
+      subst (λ (t : List E). W (l ++ (key, value) ∷ []) before (n + 1) t)
+      (ap (λ (t : List E). take n mid ++ t) (append-nil (e ∷ drop 1 (drop n mid)))
+      ∙ ((λ i. take n mid ++ e ∷ (drop-drop 1 n mid ∙ ap (λ (k : ℕ). drop k mid) (sym later)) i) ∙ sym (set_split mid n e room)))
+      (more l ((key, value) ∷ []) before mid (drop n mid) (e ∷ drop 1 (drop n mid)) [] n 1 h is refl refl one)
 
-    pub run_up : (from end n : ℕ) (after : List E) → start ≤ from → from ≤ end → W (between m start from ++ between m from (end + 1)) before n after → Up (end + 1) n after
-    run_up from end n after low high w = subst (λ (l : Pairs ℕ). W l before n after) (sym (between-split m up start from (end + 1) low (omega (arith, high)))) w
+  pub as_long : (l : Pairs ℕ) (before : List E) (n : ℕ) (after : List E) → W l before n after → length after ≡ length before
+  as_long l before n after h =
+      let many = h.as_many in
+      let all = ap (λ (t : List E). length t) h.entries in
+      let parts = length-append (take n (entries_of l)) (drop n before) in
+      let first = length-take n (entries_of l) in
+      let rest = length-drop n before in
+      let fits = length-map l (λ (pair : ℕ × ℕ). entry pair.0 pair.1) in
+      omega (arith, many, all, parts, first, rest, fits)
 
-    pub up_full : (end n : ℕ) (after : List E) → start ≤ end → end ≤ last → Up (end + 1) n after → n ≡ length before → Up (last + 1) n after
-    up_full end n after low high w is =
-        subst (λ (l : Pairs ℕ). W l before n after) (sym (between-split m up start (end + 1) (last + 1) (omega (arith, low)) (omega (arith, high))))
-        (full (between m start (end + 1)) (between m (end + 1) (last + 1)) before n after w is)
+  -- no more pairs
+  pub no_more : (done l : Pairs ℕ) (before : List E) (n : ℕ) (after : List E) → l ≡ [] → W done before n after → n ≡ length done → W (done ++ l) before n after × (n ≡ length (done ++ l))
+  no_more done l before n after none w is =
+      let same : done ≡ done ++ l = sym (append-nil done) ∙ ap (λ (t : Pairs ℕ). done ++ t) (sym none) in
+      (subst (λ (t : Pairs ℕ). W t before n after) same w, is ∙ ap (λ (t : Pairs ℕ). length t) same)
 
-    past : (end next : ℕ) → start ≤ end → end < next → between m (end + 1) next ≡ [] → between m start (end + 1) ≡ between m start next
-    past end next low less none =
-        sym (between-split m up start (end + 1) next (omega (arith, low)) (omega (arith, less)) ∙ (ap (λ (l : Pairs ℕ). between m start (end + 1) ++ l) none ∙ append-nil (between m start (end + 1))))
+  pub no_more_back : (done l : Pairs ℕ) (before : List E) (n : ℕ) (after : List E) → l ≡ [] → W done before n after → n ≡ length done → W (done ++ reverse l) before n after × (n ≡ length (done ++ reverse l))
+  no_more_back done l before n after none w is = no_more done (reverse l) before n after (ap (λ (t : Pairs ℕ). reverse t) none) w is
 
-    pub up_none : (end n : ℕ) (after : List E) → start ≤ end → end ≤ last → between m (end + 1) (last + 1) ≡ [] → Up (end + 1) n after → Up (last + 1) n after
-    up_none end n after low high none w = subst (λ (l : Pairs ℕ). W l before n after) (past end (last + 1) low (omega (arith, high)) none) w
+  -- behind what was written before
+  module _ (m : Pairs ℕ) (up : Ascends m) (done : Pairs ℕ) (start last : ℕ) (before : List E) where
+    -- ascending: the pairs from the start on, up to here
+    abbrev pub Up : ℕ → ℕ → List E → Type 0
+    Up to n after = W (done ++ between m start to) before n after
 
-    pub up_next : (end next n : ℕ) (after : List E) → start ≤ end → end < next → between m (end + 1) next ≡ [] → n ≢ length before → Up (end + 1) n after
-        → Up next n after × (n ≡ length (between m start next))
-    up_next end next n after low less none ne w =
-        let is = past end next low less none in
-        (subst (λ (l : Pairs ℕ). W l before n after) is w, all_of (between m start (end + 1)) before n after w ne ∙ ap (λ (l : Pairs ℕ). length l) is)
+    beside : (a b : ℕ) → start ≤ a → a ≤ b → (done ++ between m start a) ++ between m a b ≡ done ++ between m start b
+    beside a b low high = append_assoc done (between m start a) (between m a b) ∙ ap (λ (l : Pairs ℕ). done ++ l) (sym (between-split m up start a b low high))
 
-    -- descending: the pairs up to the last, from the start of a run on
-    abbrev Down : ℕ → ℕ → List E → Type 0
-    Down from n after = W (reverse (between m from (last + 1))) before n after
+    pub run_up : (from end n : ℕ) (after : List E) → start ≤ from → from ≤ end → W ((done ++ between m start from) ++ between m from (end + 1)) before n after → Up (end + 1) n after
+    run_up from end n after low high w = subst (λ (l : Pairs ℕ). W l before n after) (beside from (end + 1) low (omega (arith, high))) w
 
-    joined : (a b : ℕ) → a ≤ b → b ≤ last + 1 → reverse (between m b (last + 1)) ++ reverse (between m a b) ≡ reverse (between m a (last + 1))
-    joined a b low high = sym (ap (λ (l : Pairs ℕ). reverse l) (between-split m up a b (last + 1) low high) ∙ reverse-append (between m a b) (between m b (last + 1)))
+    pub up_full : (to n : ℕ) (after : List E) → start ≤ to → to ≤ last → Up to n after → n ≡ length before → Up last n after
+    up_full to n after low high w is = subst (λ (l : Pairs ℕ). W l before n after) (beside to last low high) (full (done ++ between m start to) (between m to last) before n after w is)
 
-    pub run_down : (first to n : ℕ) (after : List E) → first ≤ to → to ≤ last → W (reverse (between m (to + 1) (last + 1)) ++ reverse (between m first (to + 1))) before n after → Down first n after
-    run_down first to n after low high w = subst (λ (l : Pairs ℕ). W l before n after) (joined first (to + 1) (omega (arith, low)) (omega (arith, high))) w
+    past : (to next : ℕ) → start ≤ to → to ≤ next → between m to next ≡ [] → done ++ between m start to ≡ done ++ between m start next
+    past to next low high none = sym (append-nil (done ++ between m start to)) ∙ (ap (λ (l : Pairs ℕ). (done ++ between m start to) ++ l) (sym none) ∙ beside to next low high)
 
-    pub down_full : (first n : ℕ) (after : List E) → start ≤ first → first ≤ last → Down first n after → n ≡ length before → Down start n after
-    down_full first n after low high w is =
-        subst (λ (l : Pairs ℕ). W l before n after) (joined start first low (omega (arith, high))) (full (reverse (between m first (last + 1))) (reverse (between m start first)) before n after w is)
+    -- no key was passed over
+    pub up_to : (to next n : ℕ) (after : List E) → start ≤ to → to ≤ next → between m to next ≡ [] → Up to n after → n ≡ length (done ++ between m start to) → Up next n after × (n ≡ length (done ++ between m start next))
+    up_to to next n after low high none w is =
+        let same = past to next low high none in
+        (subst (λ (l : Pairs ℕ). W l before n after) same w, is ∙ ap (λ (l : Pairs ℕ). length l) same)
 
-    pub down_to : (next first n : ℕ) (after : List E) → next ≤ first → first ≤ last → between m next first ≡ [] → Down first n after → Down next n after
-    down_to next first n after low high none w =
-        subst (λ (l : Pairs ℕ). W l before n after) (sym (append-nil (reverse (between m first (last + 1)))) ∙ (ap (λ (l : Pairs ℕ). reverse (between m first (last + 1)) ++ reverse l) (sym none) ∙ joined next first low (omega (arith, high)))) w
+    -- descending: the pairs below the last, from here on
+    abbrev pub Down : ℕ → ℕ → List E → Type 0
+    Down from n after = W (done ++ reverse (between m from last)) before n after
 
-    pub down_next : (next first n : ℕ) (after : List E) → next < first → first ≤ last → between m (next + 1) first ≡ [] → n ≢ length before → Down first n after
-        → Down (next + 1) n after × (n ≡ length (reverse (between m (next + 1) (last + 1))))
-    down_next next first n after less high none ne w =
-        let on = down_to (next + 1) first n after (omega (arith, less)) high none w in
-        (on, all_of (reverse (between m (next + 1) (last + 1))) before n after on ne)
+    under : (a b : ℕ) → a ≤ b → b ≤ last → (done ++ reverse (between m b last)) ++ reverse (between m a b) ≡ done ++ reverse (between m a last)
+    under a b low high =
+        append_assoc done (reverse (between m b last)) (reverse (between m a b))
+        ∙ ap (λ (l : Pairs ℕ). done ++ l) (behind_back m up a b last low high)
+
+    pub run_down : (first to n : ℕ) (after : List E) → first ≤ to → to ≤ last → W ((done ++ reverse (between m to last)) ++ reverse (between m first to)) before n after → Down first n after
+    run_down first to n after low high w = subst (λ (l : Pairs ℕ). W l before n after) (under first to low high) w
+
+    pub down_full : (from n : ℕ) (after : List E) → start ≤ from → from ≤ last → Down from n after → n ≡ length before → Down start n after
+    down_full from n after low high w is =
+        subst (λ (l : Pairs ℕ). W l before n after) (under start from low high) (full (done ++ reverse (between m from last)) (reverse (between m start from)) before n after w is)
+
+    below : (next from : ℕ) → next ≤ from → from ≤ last → between m next from ≡ [] → done ++ reverse (between m from last) ≡ done ++ reverse (between m next last)
+    below next from low high none =
+        sym (append-nil (done ++ reverse (between m from last))) ∙ (ap (λ (l : Pairs ℕ). (done ++ reverse (between m from last)) ++ reverse l) (sym none) ∙ under next from low high)
+
+    pub down_to : (next from n : ℕ) (after : List E) → next ≤ from → from ≤ last → between m next from ≡ [] → Down from n after → n ≡ length (done ++ reverse (between m from last))
+        → Down next n after × (n ≡ length (done ++ reverse (between m next last)))
+    down_to next from n after low high none w is =
+        let same = below next from low high none in
+        (subst (λ (l : Pairs ℕ). W l before n after) same w, is ∙ ap (λ (l : Pairs ℕ). length l) same)
 
   -- where a range has no keys
   pub none_up : (m : Pairs ℕ) (start last : ℕ) (before : List E) → last < start → W (between m start (last + 1)) before 0 before
@@ -119,16 +154,6 @@ module _ {E : Type 0} (entry : ℕ → ℕ → E) where
 
   pub none_down : (m : Pairs ℕ) (start last : ℕ) (before : List E) → last < start → W (reverse (between m start (last + 1))) before 0 before
   none_down m start last before less = subst (λ (l : Pairs ℕ). W (reverse l) before 0 before) (sym (between_none m start (last + 1) (omega (arith, less)))) (nothing before)
-
-  pub begin_up : (m : Pairs ℕ) (at : ℕ) (before : List E) → W (between m at at) before 0 before × (0 ≡ length (between m at at))
-  begin_up m at before =
-      let none = between_none m at at (omega arith) in
-      (subst (λ (l : Pairs ℕ). W l before 0 before) (sym none) (nothing before), ap (λ (l : Pairs ℕ). length l) (sym none))
-
-  pub begin_down : (m : Pairs ℕ) (at : ℕ) (before : List E) → W (reverse (between m at at)) before 0 before × (0 ≡ length (reverse (between m at at)))
-  begin_down m at before =
-      let none = between_none m at at (omega arith) in
-      (subst (λ (l : Pairs ℕ). W (reverse l) before 0 before) (sym none) (nothing before), ap (λ (l : Pairs ℕ). length (reverse l)) (sym none))
 
   pub below_zero : (m : Pairs ℕ) (start end : ℕ) (before : List E) → end ≡ 0 → W (between m start end) before 0 before
   below_zero m start end before is = subst (λ (l : Pairs ℕ). W l before 0 before) (sym (between_none m start end (omega (arith, is)))) (nothing before)

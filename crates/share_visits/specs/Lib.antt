@@ -3,3 +3,4 @@ pub mod Near
 pub mod Visits
 pub mod Whole
 pub mod Written
+pub mod inner

@@ -1,5 +1,5 @@
 -- What is done at each shard, in a visit of all.
-use Rattle.std.specs.Prelude.{◌≡◌, ◌≢◌, ℕ, ◌+◌, ◌-◌, ◌<◌, ◌≤◌, ◌^◌, min, List, [], length}
+use Rattle.std.specs.Prelude.{◌≡◌, ℕ, ◌+◌, ◌-◌, ◌<◌, ◌≤◌, ◌^◌, min, List, [], length}
 use Rattle.share_parts.specs.Nearest.{nearer}
 use Rattle.share_visits.specs.Near.{near_of}
 use Rattle.share_visits.specs.Written.{AreWritten, listed}
@@ -42,9 +42,7 @@ module _ {M E : Type 0} (pairs : M → Pairs ℕ) where
   pub record Clears (old : Clear) (before : List E) (shard : ℕ) (part : Part M) (new : Clear) (after : List E) (value : Part M) : Type 0 where
     pub empty : pairs value.map ≡ []
 
-  -- pairs of one shard are listed
+  -- pairs of the shard are listed
   pub record Lists (entry : ℕ → ℕ → E) (old : Page) (before : List E) (shard : ℕ) (part : Part M) (new : Page) (after : List E) (value : Part M) : Type 0 where
     pub stays : value ≡ part
-    pub same : (new.shard ≡ old.shard) × (new.start ≡ old.start) × (new.last ≡ old.last) × (new.back ≡ old.back)
-    pub here : shard ≡ old.shard → AreWritten entry (listed old.back (between (pairs part.map) old.start (old.last + 1))) before new.written after
-    pub there : shard ≢ old.shard → (new.written ≡ old.written) × (after ≡ before)
+    pub written : AreWritten entry (listed old.back (between (pairs part.map) old.start (old.last + 1))) before new.written after

@@ -5,6 +5,8 @@
 #![tactic(auto)]
 
 pub mod near;
+mod next;
+mod one;
 pub mod part;
 pub mod ranges;
 pub mod visits;

@@ -4,7 +4,7 @@
 
 ghost use Rattle.std.specs.Prelude.{◌≡◌};
 ghost use Rattle.share_parts.specs.Nearest.{greater, lesser, nearer};
-ghost use Rattle.share_visits.specs.Near.{near_of};
+ghost use Rattle.share_visits.specs.Near.{key_at, near_of};
 
 /// Where a pair is looked for.
 #[derive(Clone, Copy, Drop)]
@@ -21,6 +21,16 @@ pub enum Near {
     Ceiling(u64),
     /// The least key above this one.
     Above(u64),
+}
+
+/// The key next to which it is looked for. The ends of a map have none.
+pub fn key_of(near: Near) -> Option<u64>
+    ensures { result ≡ key_at near }
+{
+    match near {
+        Near::First | Near::Last => None,
+        Near::Floor(key) | Near::Below(key) | Near::Ceiling(key) | Near::Above(key) => Some(key),
+    }
 }
 
 // The pair with the lesser key.

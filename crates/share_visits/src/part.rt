@@ -53,6 +53,10 @@ pub trait Pages<E>: MapShard {
     // The entry of a key and a value.
     ghost entry: { ℕ → ℕ → E };
 
+    /// The entry of a pair.
+    fn entry_of(key: u64, value: u64) -> E
+        ensures { result ≡ entry key value };
+
     /// Writes the first pairs with keys from `start` to `last` to the buffer, ascending, as many as fit.
     fn page(&self, start: u64, last: u64, buffer: &mut [E]) -> usize
         ensures { AreWritten entry (between (Self.pairs self.now) start (last + 1))

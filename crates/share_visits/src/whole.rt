@@ -2,7 +2,7 @@
 //!
 //! Tested in `tools/c-library`.
 
-ghost use Rattle.std.specs.Prelude.{◌≡◌, ◌==◌, ℕ, [], List, IsTrue, IsFalse, length, reverse};
+ghost use Rattle.std.specs.Prelude.{◌≡◌, ◌==◌, ℕ, [], List, Some, IfSome, IsTrue, IsFalse, length, reverse};
 ghost use Rattle.share_rule.specs.inner.Hold.{StepsBy};
 ghost use Rattle.share_shards.specs.inner.SeatView.{ShardSeat};
 ghost use Rattle.share_shards.specs.inner.Steps.{HeldBy, IsIdle, pairs_of};
@@ -13,8 +13,9 @@ ghost use Rattle.share_visits.specs.declared.part.Part.{Part};
 ghost use Rattle.spec_map.specs.Map.{Pairs, without};
 ghost use Rattle.spec_map.specs.Near.{pair_near, without_pair};
 
-use crate::near::Near;
-use crate::part::{MapShard, PartLock, PartSeat};
+use crate::near::{Near, key_of};
+use crate::one::{nearest_at, visit_one};
+use crate::part::{MapShard, PartLock, PartSeat, shard_of_key};
 use crate::visits::{Charge, Clear, Find, Remove, Tally};
 use share_shards::rule::Done;
 
@@ -108,8 +109,32 @@ pub fn charged<M: MapShard + Drop>(lock: &PartLock<M>, seat: &mut PartSeat<M>) -
     charge.bytes
 }
 
-/// The pair there.
-pub fn nearest<M: MapShard + Drop>(
+// The pair there, if only keys of its shard are as near. So no other shard is asked for it.
+fn nearest_in_run<M: MapShard + Drop>(
+    lock: &PartLock<M>,
+    seat: &mut PartSeat<M>,
+    near: Near,
+) -> Option<(u64, u64)>
+    requires table { seat.old.table_id ≡ lock.now }
+    requires shards { IsCount lock.now.slots }
+    requires all { (all : Pairs ℕ) × Contains M.pairs lock.now.slots all seat.old.me.1 }
+    ensures table { seat.new.table_id ≡ seat.old.table_id }
+    ensures same { seat.new.me ≡ seat.old.me }
+    ensures found { IfSome result (λ pair. (all : Pairs ℕ)
+        → Contains M.pairs lock.now.slots all seat.old.me.1
+        → pair_near all (near_of near) ≡ Some pair) }
+{
+    let key = key_of(near)?;
+    let pair = nearest_at(lock, seat, shard_of_key(key, lock.shards()), near)?;
+    if pair.0 / 256 == key / 256 {
+        Some(pair)
+    } else {
+        None
+    }
+}
+
+// The same, by a look into each shard.
+fn nearest_of_all<M: MapShard + Drop>(
     lock: &PartLock<M>,
     seat: &mut PartSeat<M>,
     near: Near,
@@ -127,6 +152,29 @@ pub fn nearest<M: MapShard + Drop>(
     find.pair
 }
 
+/// The pair there.
+pub fn nearest<M: MapShard + Drop>(
+    lock: &PartLock<M>,
+    seat: &mut PartSeat<M>,
+    near: Near,
+) -> Option<(u64, u64)>
+    requires table { seat.old.table_id ≡ lock.now }
+    requires shards { IsCount lock.now.slots }
+    requires all { (all : Pairs ℕ) × Contains M.pairs lock.now.slots all seat.old.me.1 }
+    ensures table { seat.new.table_id ≡ seat.old.table_id }
+    ensures same { seat.new.me ≡ seat.old.me }
+    ensures pair { (all : Pairs ℕ) → Contains M.pairs lock.now.slots all seat.old.me.1
+        → result ≡ pair_near all (near_of near) }
+{
+    if lock.shards() > 1 {
+        let found = nearest_in_run(lock, seat, near);
+        if found.is_some() {
+            return found;
+        }
+    }
+    nearest_of_all(lock, seat, near)
+}
+
 // Removes the pair at the key, if there is one.
 fn remove_key<M: MapShard + Drop>(lock: &PartLock<M>, seat: &mut PartSeat<M>, key: u64)
     requires table { seat.old.table_id ≡ lock.now }
@@ -137,8 +185,9 @@ fn remove_key<M: MapShard + Drop>(lock: &PartLock<M>, seat: &mut PartSeat<M>, ke
     ensures left { (all : Pairs ℕ) → Contains M.pairs lock.now.slots all seat.old.me.1
         → Contains M.pairs lock.now.slots (without all key) seat.new.me.1 }
 {
+    let shard = shard_of_key(key, lock.shards());
     let mut remove = Remove { key };
-    lock.each::<(), Remove>(all_shards::<M>(lock), seat, &mut remove, &mut []);
+    visit_one::<(), M, Remove>(lock, seat, shard, &mut remove, &mut []);
 }
 
 /// Removes the pair there, if there is one, and returns it.

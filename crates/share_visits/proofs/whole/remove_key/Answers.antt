@@ -1,10 +1,9 @@
-use Rattle.std.proofs.Common.{refl}
-use Rattle.share_visits.specs.Visits.{Removes}
-use Rattle.share_visits.proofs.Visiting.{removed_key, visited}
+use Rattle.std.proofs.Common.{ap, refl, ◌∙◌, ℕ}
+use Rattle.share_visits.specs.Whole.{shard_of}
+use Rattle.share_visits.proofs.Removing.{removed_key}
 use Rattle.share_visits.proofs.whole.remove_key.Goals as goal
 
 pub returns-clause-left : goal.returns-clause-left
 returns-clause-left g c = λ all h.
-    let P = g.M.MapShard.pairs in
-    let t = visited P c.args.lock.now.slots (Removes P) _ _ _ _ _ _ c.all_shards.result.now all h c.all_shards.ensures c.each.ensures.visited in
-    removed_key P c.args.lock.now.slots all _ h c.requires.shards c.args.key _ _ _ _ t.0 _ refl t.1 t.2
+    removed_key g.M.MapShard.pairs c.args.lock.now.slots c.shard_of_key-shard.result c.args.key all _ _ _ _ _ _ h (c.shard_of_key-shard.ensures.shard ∙ ap (λ (n : ℕ). shard_of n c.args.key) c.shards.ensures) refl
+    (c.visit_one.ensures.visited all h)

@@ -1,7 +1,7 @@
 use Rattle.std.proofs.Common.{refl}
 use Rattle.share_visits.specs.Visits.{Finds}
 use Rattle.share_visits.proofs.Visiting.{found_all, looked}
-use Rattle.share_visits.proofs.whole.nearest.Goals as goal
+use Rattle.share_visits.proofs.whole.nearest_of_all.Goals as goal
 
 pub returns-clause-same : goal.returns-clause-same
 returns-clause-same g c =
