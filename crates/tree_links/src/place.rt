@@ -29,6 +29,7 @@ pub enum Place<P> {
 pub type Linked<P> = TreeNode<P, Place<P>>;
 
 // A link as a child of a node.
+#[inline(always)]
 fn child_of<P>(link: Link<P>) -> Child<P, Place<P>>
     ensures { as_link result ≡ link }
 {
@@ -40,6 +41,7 @@ fn child_of<P>(link: Link<P>) -> Child<P, Place<P>>
 }
 
 // A child of a node as a link.
+#[inline(always)]
 fn link_of<P>(child: Child<P, Place<P>>) -> Link<P>
     ensures { result ≡ as_link child }
 {
@@ -134,6 +136,7 @@ impl<P: Drop> LinkedNode<P> for TreeNode<P, Place<P>> {
         self.children_between(from, to)
     }
 
+    #[inline(always)]
     fn insert(&mut self, byte: u8, link: Link<P>)
         requires absent { lookup (as_linked self.old).links byte ≡ None }
         requires room { Fits (as_linked self.old).form (length (as_linked self.old).links + 1) }
@@ -143,6 +146,8 @@ impl<P: Drop> LinkedNode<P> for TreeNode<P, Place<P>> {
         self.insert(byte, child_of(link));
     }
 
+    // (inline, so that a payload is none but a payload on its way to a leaf)
+    #[inline(always)]
     fn exchange(&mut self, byte: u8, link: Link<P>) -> Result<Link<P>, Link<P>>
         requires { MayLink (as_linked self.old).prefix link }
         ensures before { IfOk result (λ c. lookup (as_linked self.old).links byte ≡ Some c) }
@@ -158,6 +163,7 @@ impl<P: Drop> LinkedNode<P> for TreeNode<P, Place<P>> {
         }
     }
 
+    #[inline(always)]
     fn take(&mut self, byte: u8) -> Option<Link<P>> {
         match self.take(byte) {
             Some(child) => Some(link_of(child)),
