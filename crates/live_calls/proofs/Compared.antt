@@ -25,8 +25,8 @@ use Rattle.live_law.specs.Views.{View, view_of, locked}
 use Rattle.live_law.specs.Tree.{Plan, home_of, LeadsTo, HasValue, IsUnder, IsCurrent, IsFree, IsMet, IsOwn, IsLocked, IsSpot, Knows, IsMap, IsOfKind, LearnsNode}
 use Rattle.live_law.proofs.Changes.{with_map, nodes_stay, met_stays, own_stays, tree_stays}
 use Rattle.live_law.proofs.Histories.{others_alike, sees_all, sees_less}
-use Rattle.live_law.proofs.Looks.{with_view, met, is_current, one_met, of_kind, at_leaf, at_inner, next_spot}
-use Rattle.live_law.proofs.Plans.{digit-low, joined, none_there}
+use Rattle.live_law.proofs.Looks.{with_view, at_leaf, at_inner, same_met, node_learns}
+use Rattle.live_law.proofs.Plans.{joined, none_there, missed}
 use Rattle.live_law.proofs.Writes.{current_at}
 use Rattle.live_calls.specs.Exchanges.{Exchange, compared, asked_by, Fails, Seeks, Swaps}
 
@@ -54,6 +54,9 @@ pub swap_legal : (history : History) (m : Pairs ℕ) (x : Exchange) → IsHistor
 swap_legal history m x run is =
     let e : exchange nat_eq (lookup m x.key) x.old (Some x.new) ≡ Ok (Some x.new) = succeeds_by (lookup m x.key) x.old (Some x.new) is in
     legal-append [] m (put m x.key x.new) history (compared x (Ok (Some x.new)) ∷ []) run ((refl, ap exchanged (sym e)), sym (ap (after_exchange m x.key) e))
+
+no_value : (z : ℕ) → None ≡ Some z → ⊥
+no_value z e = cc
 
 -- A seat's call ends, and the map stays.
 module _ (ns : List Node) (vs : List View) (id : ℕ) (p : IsMap ns vs) (v : View) (seat : get_elem? vs id ≡ some v) where
@@ -96,14 +99,11 @@ module _ (ns : List Node) (vs : List View) (id : ℕ) (p : IsMap ns vs) (v : Vie
           ),
         )
 
-    none_some : (z : ℕ) → None ≡ Some z → ⊥
-    none_some z e = cc
-
     same_some : (y z : ℕ) → Some y ≡ Some z → y ≡ z
     same_some y z e = cc
 
     pub ends : (current : Option ℕ) → lookup p.pairs x.key ≡ current → Ends current
-    ends None is = ended None is (none_some x.old)
+    ends None is = ended None is (no_value x.old)
     ends (Some y) is = dite (ℕ_discrete y x.old)
         (λ e. (v, same_view, ((λ _. refl), (λ ne. absurd (ne (ap (λ (z : ℕ). Some z) e))))))
         (λ ne. ended (Some y) is (λ e. ne (same_some y x.old e)))
@@ -114,28 +114,6 @@ module _ (x : Exchange) (id : ℕ) (by : x.caller ≡ id) (v : View) (a : Spot) 
   Owes ns vs o = (ps : List Place) × Each (PlaceFits ns) ps × ((w : View) × IsMap ns (set vs id w) × Seeks x (asked_by x) v a o ps w)
 
   module _ (ns : List Node) (vs : List View) (p : IsMap ns vs) (seat : get_elem? vs id ≡ some v) where
-    goes_to : (h s : ℕ) → suc (suc h) ≡ a.shape.height → LeadsTo p.plan (Some (Below s)) (p.plan.home (suc h) (up (suc h) x.key)) → Owes ns vs (Some (Below s))
-    goes_to h s is leads =
-        let n = next_spot p.plan ns p.pairs p.tree x.key h s leads in
-        let b : Spot = n.0 in
-        let k = p.each_view id v seat in
-        let w : View = view_of v.seen (b ∷ v.met) v.own in (
-          place_at b ∷ [],
-          ((n.4.spot.low, p.nodes.placed b.number n.4.spot.below_trunk n.4.spot.low ∙ ap (λ (z : Shape). z.key) n.4.spot.shaped, p.nodes.long b.number n.4.spot.below_trunk n.4.spot.low ∙ ap (λ (z : Shape). words_of z.form) n.4.spot.shaped), tt),
-          (
-            w,
-            with_view ns vs id p w record { seen = k.seen; met = (n.4, k.met); own = k.own },
-            record {
-              spot = b;
-              place = refl;
-              is = refl;
-              named = n.1;
-              height = ap suc n.2 ∙ is;
-              covers = ap (λ (z : ℕ). up z x.key) n.2 ∙ n.3;
-            },
-          ),
-        )
-
     seeks : (height top : ℕ) (o : Option (Child ℕ)) → height ≡ a.shape.height → height < 9 → up height x.key ≡ top → IsUnder p.plan p.pairs height top (digit height x.key) o → Owes ns vs o
     seeks zero top o at_h l is u = absurd u
     seeks (suc zero) top None at_h l is u = ([], tt, ends ns vs id p v seat x by None (at_leaf p.plan ns p.pairs p.tree x.key top None is u))
@@ -144,32 +122,16 @@ module _ (x : Exchange) (id : ℕ) (by : x.caller ≡ id) (v : View) (a : Spot) 
     seeks (suc (suc h)) top None at_h l is u =
         ([], tt, ends ns vs id p v seat x by None (none_there p.plan ns p.pairs p.tree h x.key (omega (arith, l)) (at_inner p.plan ns p.pairs p.tree x.key h top None is u)))
     seeks (suc (suc h)) top (Some (Payload y)) at_h l is u = absurd u
-    seeks (suc (suc h)) top (Some (Below s)) at_h l is u = goes_to h s at_h (at_inner p.plan ns p.pairs p.tree x.key h top (Some (Below s)) is u)
+    seeks (suc (suc h)) top (Some (Below s)) at_h l is u =
+        let leads = at_inner p.plan ns p.pairs p.tree x.key h top (Some (Below s)) is u in
+        let j : ℕ = p.plan.home (suc h) (up (suc h) x.key) in
+        let house = p.tree.housed (suc h) (up (suc h) x.key) leads.0 in
+        dite (ℕ_discrete (up (p.plan.shape j).height x.key) (p.plan.shape j).top)
+        (λ covers. ([], tt, (v, same_view ns vs id p v seat, (λ b known named never. absurd (never (subst (λ (z : Shape). Covers z x.key) (sym (same_met (asked_by x) id by v a mine word saw m even ns vs p seat b known j leads.0 house.low (sym named ∙ leads.1))) covers))))))
+        (λ ne. let r = ended ns vs id p v seat x by None (missed p.plan ns p.pairs p.tree h x.key j (omega (arith, l)) leads.0 refl ne) (no_value x.old) in ([], tt, (r.0, r.1, (λ b known named never. r.2.1 (no_value x.old)))))
 
-  pub node_seeks : Covers a.shape x.key → acts.Learns IsMap id v a.number word saw (LearnsNode (Seeks x) (asked_by x) v a.number word saw)
-  node_seeks covers ns vs p seat low is free agree =
-      let there = met ns vs id v p seat a mine in
-      let c = is_current ns vs id v p seat a mine (there.current (free, (m, is ∙ even))) in
-      let o : Option (Child ℕ) = lookup c.its.children (digit a.shape.height x.key) in
-      let r = seeks ns vs p seat a.shape.height a.shape.top o refl (let deep = c.deep in omega (arith, deep)) covers (c.under (digit a.shape.height x.key) (digit-low a.shape.height x.key)) in (
-        r.0,
-        r.1,
-        (
-          r.2.0,
-          r.2.1,
-          (λ b known same cover. record {
-            content = (node ns a.number).content;
-            its = c.its;
-            agrees = agree;
-            encodes = c.encodes;
-            in_form = c.in_form ∙ ap (λ (z : Spot). z.shape.form) (one_met ns vs id v p seat a mine b known same);
-            deep = subst (λ (z : Spot). length c.its.prefix + z.shape.height ≡ 8) (one_met ns vs id v p seat a mine b known same) c.deep;
-            of_kind = subst (λ (z : Spot). IsOfKind z.shape.height (lookup c.its.children (digit z.shape.height x.key))) (one_met ns vs id v p seat a mine b known same)
-                (of_kind p.plan p.pairs a.shape.height a.shape.top (digit a.shape.height x.key) o (c.under (digit a.shape.height x.key) (digit-low a.shape.height x.key)));
-            then = subst (λ (z : Spot). Seeks x (asked_by x) v z (lookup c.its.children (digit z.shape.height x.key)) r.0 r.2.0) (one_met ns vs id v p seat a mine b known same) r.2.2;
-          }),
-        ),
-      )
+  pub node_seeks : acts.Learns IsMap id v a.number word saw (LearnsNode (Seeks x) (asked_by x) v a.number word saw)
+  node_seeks = node_learns (asked_by x) id by v a mine word saw m even (Seeks x) seeks
 
 -- A LEAF HAS ANOTHER VALUE
 not_some : {A : Type 0} (x : A) → Some x ≡ None → ⊥
@@ -233,6 +195,7 @@ leaf_swaps x id by v a c is leaf covers word d long changes ns vs p seat low hel
       encodes = change.1;
       in_form = old.in_form;
       deep = old.deep;
+      prefixed = old.prefixed;
       under = λ y lo. under_there p.plan p.pairs x.key x.new a.shape.height a.shape.top old.its.children leaf top_is y (old.under y lo);
     } in
     let home_1 : p.plan.home 1 (x.key / 256) ≡ k = ap (p.plan.home 1) top_is ∙ (ap (λ (h : ℕ). p.plan.home h a.shape.top) (sym leaf) ∙ l.current) in
@@ -245,6 +208,7 @@ leaf_swaps x id by v a c is leaf covers word d long changes ns vs p seat low hel
       encodes = cur.encodes;
       in_form = cur.in_form;
       deep = cur.deep;
+      prefixed = cur.prefixed;
       under = λ y lo. under_else p.plan p.pairs x.key x.new (p.plan.shape j).height (p.plan.shape j).top (lookup cur.its.children y)
           (λ one e. ne (sym here ∙ (ap (λ (h : ℕ). p.plan.home h (p.plan.shape j).top) one ∙ (ap (p.plan.home 1) (sym e) ∙ home_1)))) y lo (cur.under y lo);
     })

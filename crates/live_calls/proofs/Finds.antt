@@ -1,5 +1,5 @@
 -- What look-ups have found.
-use Rattle.std.proofs.Common.{◌≡◌, ℕ, ◌-◌, ◌≤◌, zero, suc, Bool, true, false, List, Option, Some, None, ap, ◌∙◌, subst, arith, IfSome, sym}
+use Rattle.std.proofs.Common.{◌≡◌, ℕ, ◌≤◌, zero, suc, Bool, true, false, List, Option, Some, None, ap, ◌∙◌, subst, arith, IfSome, sym}
 use Rattle.node_table.specs.declared.child.Child.TheVariants.{Node as Below}
 use Rattle.share_rule.specs.History.{Entry}
 use Rattle.live_nodes.specs.Seats.{SeatView}
@@ -7,7 +7,7 @@ use Rattle.live_encodes.specs.Encodes.{IsWord}
 use Rattle.live_law.specs.Levels.{place_at}
 use Rattle.live_law.specs.Views.{View, Ask, ask, got, inserted}
 use Rattle.live_law.specs.Tree.{Answers}
-use Rattle.live_calls.specs.Ways.{Names, Keeps, Looked, Found}
+use Rattle.live_calls.specs.Ways.{Names, Sights, Keeps, Ended, Looked, Found}
 
 abbrev Seen : Type 0
 Seen = SeatView View
@@ -35,11 +35,10 @@ looked_none look q h (Some x) v w l e = absurd (some_none e)
 pub looked_end : (look : Bool) (q : Ask) (h : ℕ) (o : Option (Option ℕ)) (v w : Seen) → look ≡ true → Looked look q h o v w → o ≡ Some None → Found q (Some None) v w
 looked_end look q h o v w is l e = (subst (λ (t : Bool × Option (Option ℕ)). Looked t.0 q h t.1 v w) (λ i. (is i, e i)) l).answers
 
-pub looked_below : (look : Bool) (q : Ask) (h : ℕ) (o : Option (Option ℕ)) (x : ℕ) (v w : Seen) → 2 ≤ h → Looked look q h o v w → o ≡ Some (Some x) → (w.client.seen ≡ v.client.seen) × ((name : ℕ) × IsWord x (Below name) × Names w name q.key (h - 1))
+pub looked_below : (look : Bool) (q : Ask) (h : ℕ) (o : Option (Option ℕ)) (x : ℕ) (v w : Seen) → 2 ≤ h → Looked look q h o v w → o ≡ Some (Some x) → (w.client.seen ≡ v.client.seen) × ((name : ℕ) × IsWord x (Below name) × Sights w name)
 looked_below look q zero o x v w high l e = absurd (omega (arith, high))
 looked_below look q (suc zero) o x v w high l e = absurd (omega (arith, high))
-looked_below look q (suc (suc h)) o x v w high l e = let t = subst (λ (z : Option (Option ℕ)). Looked look q (suc (suc h)) z v w) e l in
-    (t.0, (t.1.0, t.1.1, subst (Names w t.1.0 q.key) (let n : suc h ≡ suc (suc h) - 1 = omega arith in n) t.1.2))
+looked_below look q (suc (suc h)) o x v w high l e = subst (λ (z : Option (Option ℕ)). Looked look q (suc (suc h)) z v w) e l
 
 pub looked_leaf : (look : Bool) (q : Ask) (o : Option (Option ℕ)) (v w : Seen) → look ≡ true → Looked look q 1 o v w → Found q o v w
 looked_leaf look q None v w is l = ap (λ (z : View). z.seen) l
@@ -71,3 +70,7 @@ answers_by c d key found v w e a = subst (λ (z : ℕ). Answers z (got (ask z ke
 
 pub inserted_by : (c d key value : ℕ) (found : Option ℕ) (v w : Seen) → c ≡ d → Answers c (inserted (ask c key value 1) found) v.client.seen w.client.seen → Answers d (inserted (ask d key value 1) found) v.client.seen w.client.seen
 inserted_by c d key value found v w e a = subst (λ (z : ℕ). Answers z (inserted (ask z key value 1) found) v.client.seen w.client.seen) e a
+
+-- a look-up that ends at a node
+pub ended_none : (look : Bool) (q : Ask) (v w : Seen) → look ≡ true → Ended look q None v w → Found q (Some None) v w
+ended_none look q v w is e = (subst (λ (b : Bool). Ended b q None v w) is e).answers

@@ -7,7 +7,8 @@ pub mod Rooms
 pub mod Grips
 pub mod Linked
 pub mod Trunks
-pub mod Ends
+pub mod Sights
+pub mod Stood
 pub mod Ready
 pub mod Pairs
 pub mod Compared

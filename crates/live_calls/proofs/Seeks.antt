@@ -16,10 +16,11 @@ use Rattle.live_rows.specs.Rows.{last_saw, without_reads}
 use Rattle.live_encodes.specs.Encodes.{IsBelow, IsWord, Encodes}
 use Rattle.live_law.specs.Levels.{up, digit, Spot, Covers, place_at}
 use Rattle.live_law.specs.Views.{View}
-use Rattle.live_law.specs.Tree.{IsMap, LearnsNode, GoesTo, IsOfKind, Answers}
+use Rattle.live_law.specs.Tree.{IsMap, LearnsNode, IsOfKind, Answers}
 use Rattle.live_calls.specs.Ways.{Names, AreNamed, Keeps}
-use Rattle.live_calls.specs.Exchanges.{Exchange, compared, asked_by, HasFailed, Fails, Seeks, Sought, MaySeek, Meets}
+use Rattle.live_calls.specs.Exchanges.{Exchange, compared, asked_by, HasFailed, Fails, Seeks, MayEnd, IsNoWay, MayLeave, Meets}
 use Rattle.live_calls.proofs.Views.{head_read, reading, reading_keeps, learned_keeps, reads_on, node_taken}
+use Rattle.live_calls.proofs.Sights.{leaves_none}
 use Rattle.live_calls.proofs.Compared.{node_seeks}
 
 abbrev Seen : Type 0
@@ -45,35 +46,25 @@ module _ (x : Exchange) (v w : Seen) (a : Spot) (ps : List Place) (rs : List Rea
     subst (λ (z : Seen). Fails x current v.client z.client) (sym is) f,
   )
 
-  goes : (h s y : ℕ) → a.shape.height ≡ suc (suc h) → IsWord y (Below s) → GoesTo x.key v.client a s ps c → Keeps v w × ((w.client.seen ≡ v.client.seen) × ((name : ℕ) × IsWord y (Below name) × Names w name x.key (suc h)))
-  goes h s y at_h word g = let b : Spot = g.spot in (
-    learned_keeps v w ps c rs is (λ z in_it. subst (λ (t : View). IsIn z t.met) (sym g.is) (inr in_it)) (ap (λ (t : View). t.own) g.is),
-    (
-      ap (λ (z : Seen). z.client.seen) is ∙ ap (λ (z : View). z.seen) g.is,
-      (
-        s,
-        word,
-        record {
-          spot = b;
-          met = subst (λ (z : Seen). IsIn b z.client.met) (sym is) (subst (λ (z : View). IsIn b z.met) (sym g.is) (inl refl));
-          placed = subst (λ (z : Seen). IsIn (place_at b) z.places) (sym is) (subst (λ (z : List Place). IsIn (place_at b) (z ++ v.places)) (sym g.place) (inl refl));
-          named = g.named;
-          high = (let e = g.height in omega (arith, e, at_h));
-          covers = g.covers;
-        },
-      ),
-    ),
-  )
+  at_end : (o : Option (Child ℕ)) (found : Option ℕ) → IsOfKind 1 o → IsBelow o found → Seeks x (asked_by x) v.client a o ps c → Keeps v w × Fails x found v.client w.client
+  at_end None None kind below then = failed None then
+  at_end None (Some y) kind below then = absurd below
+  at_end (Some z) None kind below then = absurd below
+  at_end (Some (Payload z)) (Some y) kind below then = subst (λ (t : ℕ). Keeps v w × Fails x (Some t) v.client w.client) (sym below) (failed (Some z) then)
+  at_end (Some (Below s)) (Some y) kind below then = absurd kind
 
-  sought : (height : ℕ) (o : Option (Child ℕ)) (found : Option ℕ) → a.shape.height ≡ height → IsOfKind height o → IsBelow o found → Seeks x (asked_by x) v.client a o ps c → Keeps v w × Sought x height found v w
-  sought height None None high kind below then = failed None then
-  sought height None (Some y) high kind below then = absurd below
-  sought height (Some z) None high kind below then = absurd below
-  sought zero (Some z) (Some y) high kind below then = absurd kind
-  sought (suc zero) (Some (Payload z)) (Some y) high kind below then = subst (λ (t : ℕ). Keeps v w × Fails x (Some t) v.client w.client) (sym below) (failed (Some z) then)
-  sought (suc zero) (Some (Below s)) (Some y) high kind below then = absurd kind
-  sought (suc (suc h)) (Some (Payload z)) (Some y) high kind below then = absurd kind
-  sought (suc (suc h)) (Some (Below s)) (Some y) high kind below then = goes h s y high below then
+  -- nothing is there, or a node whose way the key leaves
+  absent : (o : Option (Child ℕ)) (found below : Option ℕ) (height : ℕ) → 2 ≤ height → IsOfKind height o → IsBelow o found → IsNoWay found below → MayLeave v x.key below → Seeks x (asked_by x) v.client a o ps c → Keeps v w × Fails x None v.client w.client
+  absent None found below height high kind is none leaves then = failed None then
+  absent (Some z) None below height high kind is none leaves then = absurd is
+  absent (Some z) (Some y) None height high kind is none leaves then = absurd none
+  absent (Some z) (Some y) (Some b) zero high kind is none leaves then = absurd kind
+  absent (Some z) (Some y) (Some b) (suc zero) high kind is none leaves then = absurd (omega (arith, high))
+  absent (Some (Payload z)) (Some y) (Some b) (suc (suc h)) high kind is none leaves then = absurd kind
+  absent (Some (Below s)) (Some y) (Some b) (suc (suc h)) high kind is none leaves then =
+      let l = leaves.2 in
+      let failure = then l.sighted.spot l.sighted.met (none s is ∙ l.sighted.named) (leaves_none v b x.key leaves.0 leaves.1 l) in
+      failed None ((λ e. absurd (none_some e)), (λ _. failure))
 
 module _ (v : Seen) (name key height : ℕ) (n : Names v name key height) (b : Book) (words : List Name) (are : AreNamed b name words) (k : ℕ) (at_k : (place_at n.spot).key ≡ k) (v₁ : Seen) (t : ℕ) (took_it : Takes (reads k) v t none_joined v₁) (v₂ : Seen) (rest : without_reads v₂ ≡ without_reads v₁) where
   abbrev its : Spot
@@ -85,6 +76,9 @@ module _ (v : Seen) (name key height : ℕ) (n : Names v name key height) (b : B
   node_read : v₂ ≡ reading v its.number t saw_it
   node_read = reads_on v v₂ its.number t (rest ∙ ap without_reads (node_taken v name key height n b words are k at_k v₁ t took_it))
 
+  pub seek_read : Keeps v v₂ × (v₂.client ≡ v.client)
+  seek_read = reading_keeps v v₂ its.number t saw_it node_read
+
   module _ (k' : ℕ) (at_k' : (place_at n.spot).key ≡ k') (x : Exchange) (asked : x.key ≡ key) where
     abbrev Then : View → ℕ → ℕ → List (ℕ × ℕ) → List Place → View → Type 0
     Then = LearnsNode (Seeks x) (asked_by x)
@@ -94,7 +88,7 @@ module _ (v : Seen) (name key height : ℕ) (n : Names v name key height) (b : B
 
     pub may_seek_node : (id m : ℕ) → x.caller ≡ id → t ≡ 4 * m → MayCheck v₂ k' IsMap id Then t
     may_seek_node id m by even = subst (λ (z : Seen). MayCheck z k' IsMap id Then t) (sym node_read)
-        (place_at its, read its.number t saw_it, (n.placed, at_k'), head_read its.number t saw_it v.reads, refl, node_seeks x id by v.client its n.met t saw_it m even covers)
+        (place_at its, read its.number t saw_it, (n.placed, at_k'), head_read its.number t saw_it v.reads, refl, node_seeks x id by v.client its n.met t saw_it m even)
 
     module _ (w : Seen) (m : ℕ) (told : Checks Then (reads k') v₂ m none_joined w) where
       node_checked : Plays.Checked (Then v.client its.number t saw_it) t (reading v its.number t saw_it) m w
@@ -103,37 +97,37 @@ module _ (v : Seen) (name key height : ℕ) (n : Names v name key height) (b : B
       pub seek_missed : m ≢ t → Keeps v w × (w.client ≡ v.client)
       seek_missed ne = reading_keeps v w its.number t saw_it (node_checked.miss ne)
 
-      pub seek_ends : m ≡ t → (found : Option ℕ)
+      pub seek_ends : m ≡ t → height ≡ 1 → (found : Option ℕ)
           → ((c : Content) (o : TableNode ℕ) → Agree c saw_it → Encodes c o → o.form ≡ its.shape.form → IsBelow (lookup o.children (digit height key)) found)
-          → Keeps v w × Sought x height found v w
-      seek_ends hit found finds =
+          → Keeps v w × Fails x found v.client w.client
+      seek_ends hit leaf found finds =
           let h = node_checked.hit hit in
-          let r = h.3 its n.met refl covers in
+          let r = h.3 its n.met refl in
           let below : IsBelow (lookup r.its.children (digit its.shape.height x.key)) found =
           subst (λ (z : ℕ × ℕ). IsBelow (lookup r.its.children (digit z.0 z.1)) found) (λ i. (sym n.high i, sym asked i)) (finds r.content r.its r.agrees r.encodes r.in_form) in
-          sought x v w its h.0 (read its.number t saw_it ∷ v.reads) h.1 h.2 height (lookup r.its.children (digit its.shape.height x.key)) found n.high
-          (subst (λ (z : ℕ). IsOfKind z (lookup r.its.children (digit its.shape.height x.key))) n.high r.of_kind) below r.then
+          at_end x v w its h.0 (read its.number t saw_it ∷ v.reads) h.1 h.2 (lookup r.its.children (digit its.shape.height x.key)) found
+          (subst (λ (z : ℕ). IsOfKind z (lookup r.its.children (digit its.shape.height x.key))) (n.high ∙ leaf) r.of_kind) below (r.on_way covers)
+
+      pub seek_absent : m ≡ t → 2 ≤ height → (found below : Option ℕ) → IsNoWay found below → MayLeave v key below
+          → ((c : Content) (o : TableNode ℕ) → Agree c saw_it → Encodes c o → o.form ≡ its.shape.form → IsBelow (lookup o.children (digit height key)) found)
+          → Keeps v w × Fails x None v.client w.client
+      seek_absent hit high found below none leaves finds =
+          let h = node_checked.hit hit in
+          let r = h.3 its n.met refl in
+          let is : IsBelow (lookup r.its.children (digit its.shape.height x.key)) found =
+          subst (λ (z : ℕ × ℕ). IsBelow (lookup r.its.children (digit z.0 z.1)) found) (λ i. (sym n.high i, sym asked i)) (finds r.content r.its r.agrees r.encodes r.in_form) in
+          absent x v w its h.0 (read its.number t saw_it ∷ v.reads) h.1 h.2 (lookup r.its.children (digit its.shape.height x.key)) found below height high
+          (subst (λ (z : ℕ). IsOfKind z (lookup r.its.children (digit its.shape.height x.key))) n.high r.of_kind) is none (subst (λ (z : ℕ). MayLeave v z below) (sym asked) leaves) (r.on_way covers)
 
 -- by what was found
-pub sought_none : (x : Exchange) (h : ℕ) (o : Option (Option ℕ)) (v w : Seen) → MaySeek x h o v w → o ≡ None → w.client ≡ v.client
-sought_none x h None v w s e = s
-sought_none x h (Some y) v w s e = absurd (none_some (sym e))
+pub ended_some : (x : Exchange) (o : Option (Option ℕ)) (current : Option ℕ) (v w : Seen) → MayEnd x o v w → o ≡ Some current → Fails x current v.client w.client
+ended_some x o current v w s e = subst (λ (z : Option (Option ℕ)). MayEnd x z v w) e s
 
-pub sought_absent : (x : Exchange) (h : ℕ) (o : Option (Option ℕ)) (v w : Seen) → MaySeek x h o v w → o ≡ Some None → Meets x (Some (Err None)) v w
-sought_absent x h o v w s e = let f = subst (λ (z : Option (Option ℕ)). MaySeek x h z v w) e s in let failed : HasFailed x None v.client w.client = f.1 none_some in failed.answers
+pub ended_none : (x : Exchange) (o : Option (Option ℕ)) (v w : Seen) → MayEnd x o v w → o ≡ None → w.client ≡ v.client
+ended_none x o v w s e = subst (λ (z : Option (Option ℕ)). MayEnd x z v w) e s
 
-pub sought_below : (x : Exchange) (h : ℕ) (o : Option (Option ℕ)) (y : ℕ) (v w : Seen) → 2 ≤ h → MaySeek x h o v w → o ≡ Some (Some y) → (w.client.seen ≡ v.client.seen) × ((name : ℕ) × IsWord y (Below name) × Names w name x.key (h - 1))
-sought_below x zero o y v w high s e = absurd (omega (arith, high))
-sought_below x (suc zero) o y v w high s e = absurd (omega (arith, high))
-sought_below x (suc (suc h)) o y v w high s e = let t = subst (λ (z : Option (Option ℕ)). MaySeek x (suc (suc h)) z v w) e s in
-    (t.0, (t.1.0, t.1.1, subst (Names w t.1.0 x.key) (let n : suc h ≡ suc (suc h) - 1 = omega arith in n) t.1.2))
-
-leaf_fails : (x : Exchange) (current : Option ℕ) (v w : Seen) → Sought x 1 current v w → Fails x current v.client w.client
-leaf_fails x None v w s = s
-leaf_fails x (Some y) v w s = s
-
-pub sought_leaf : (x : Exchange) (o : Option (Option ℕ)) (current : Option ℕ) (v w : Seen) → MaySeek x 1 o v w → o ≡ Some current → Fails x current v.client w.client
-sought_leaf x o current v w s e = leaf_fails x current v w (subst (λ (z : Option (Option ℕ)). MaySeek x 1 z v w) e s)
+pub absent_meets : (x : Exchange) (v w : Seen) → Fails x None v.client w.client → Meets x (Some (Err None)) v w
+absent_meets x v w f = let failure : HasFailed x None v.client w.client = f.1 none_some in failure.answers
 
 pub meets_more : (x : Exchange) (o : Option (Result ℕ (Option ℕ))) (u v w : Seen) → v.client.seen ≡ u.client.seen → Meets x o v w → Meets x o u w
 meets_more x None u v w e m = m ∙ e

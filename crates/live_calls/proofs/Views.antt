@@ -1,5 +1,7 @@
 -- What a seat knows, step by step.
-use Rattle.std.proofs.Common.{◌≡◌, ◌≢◌, ℕ, ◌+◌, ◌*◌, ◌<◌, ◌^◌, zero, suc, Bool, true, false, cond, List, [], ◌∷◌, ◌++◌, get_or, Option, Some, None, IfSome, refl, sym, ap, ◌∙◌, subst, inl, inr, arith, eq-eqb}
+use Rattle.std.proofs.Common.{◌≡◌, ◌≢◌, ℕ, ◌+◌, ◌*◌, ◌<◌, ◌≤◌, ◌^◌, zero, suc, Bool, true, false, cond, List, [], ◌∷◌, ◌++◌, length, get_or, Option, Some, None, IfSome, refl, sym, ap, ◌∙◌, subst, inl, inr, arith, eq-eqb}
+use mathlib.Core.Logic.{dite}
+use native.Mathlib.Decide.{ℕ_discrete}
 use Rattle.node_table.specs.TableNode.{TableNode, Child}
 use Rattle.node_table.specs.declared.child.Child.TheVariants.{Payload, Node as Below}
 use Rattle.spec_map.specs.Map.{lookup}
@@ -15,10 +17,10 @@ use Rattle.live_encodes.specs.Encodes.{IsBelow, IsWord, Encodes}
 use Rattle.live_encodes.proofs.StandLaws.{few_forms}
 use Rattle.live_law.specs.Levels.{up, digit, Spot, name_of, Covers, place_at}
 use Rattle.live_law.specs.Views.{View, Ask}
-use Rattle.live_law.specs.Tree.{IsMap, LearnsRoot, IsRoot, LearnsNode, Looks, GoesTo, HasAnswer, IsOfKind}
+use Rattle.live_law.specs.Tree.{IsMap, HasPrefix, LearnsRoot, IsRoot, LearnsNode, Heads, Misses, Looks, GoesTo, HasAnswer, IsOfKind}
 use Rattle.live_law.proofs.Plans.{root-top}
-use Rattle.live_law.proofs.Looks.{root_learns, node_looks}
-use Rattle.live_calls.specs.Ways.{KnowsTrunk, Names, AreNamed, Keeps, Told}
+use Rattle.live_law.proofs.Looks.{root_learns, node_looks, node_heads, node_misses}
+use Rattle.live_calls.specs.Ways.{KnowsTrunk, Names, Sights, AreNamed, Keeps, Told}
 
 abbrev Seen : Type 0
 Seen = SeatView View
@@ -26,8 +28,8 @@ Seen = SeatView View
 pub head_read : (k n : ℕ) (s : List (ℕ × ℕ)) (rs : List Read) → read_of k (read k n s ∷ rs) ≡ Some (read k n s)
 head_read k n s rs = ap (λ (b : Bool). cond b (Some (read k n s)) (read_of k rs)) (eq-eqb k k refl)
 
-saw_head : (k n : ℕ) (x : ℕ × ℕ) (s : List (ℕ × ℕ)) (rs : List Read) → saw_in k x (read k n s ∷ rs) ≡ read k n (x ∷ s) ∷ rs
-saw_head k n x s rs = ap (λ (b : Bool). cond b (read k n (x ∷ s) ∷ rs) (read k n s ∷ saw_in k x rs)) (eq-eqb k k refl)
+saw_first : (k n : ℕ) (x : ℕ × ℕ) (s : List (ℕ × ℕ)) (rs : List Read) → saw_in k x (read k n s ∷ rs) ≡ read k n (x ∷ s) ∷ rs
+saw_first k n x s rs = ap (λ (b : Bool). cond b (read k n (x ∷ s) ∷ rs) (read k n s ∷ saw_in k x rs)) (eq-eqb k k refl)
 
 -- a node's word was taken, and since then so much was read of it
 abbrev pub reading : Seen → ℕ → ℕ → List (ℕ × ℕ) → Seen
@@ -78,7 +80,7 @@ module _ (v : Seen) (known : KnowsTrunk v) (k₁ : ℕ) (at₁ : 1 ≡ k₁) whe
       module _ (v₂ : Seen) (x : ℕ) (saw_it : Sees (reads k₂) v₁ x none_joined v₂) where
         pub trunk_read : v₂ ≡ reading v 0 n ((0, x) ∷ [])
         trunk_read = saw_it trunk 0 (subst KnowsTrunk (sym trunk_taken) known) (let l : 0 < 1 = omega arith in l) at₂
-            ∙ (ap (λ (z : Seen). saw z 0 (0, x)) trunk_taken ∙ ap (λ (rs : List Read). seat_view v.client v.places rs v.holds v.room) (saw_head 0 n (0, x) [] v.reads))
+            ∙ (ap (λ (z : Seen). saw z 0 (0, x)) trunk_taken ∙ ap (λ (rs : List Read). seat_view v.client v.places rs v.holds v.room) (saw_first 0 n (0, x) [] v.reads))
 
         module _ (k₃ : ℕ) (at₃ : 1 ≡ k₃) where
           pub may_check_trunk : (id : ℕ) → MayCheck v₂ k₃ IsMap id LearnsRoot n
@@ -158,7 +160,7 @@ ends : (look : Bool) (q : Ask) (height : ℕ) (v w : Seen) (a : Spot) (ps : List
     → IsOfKind height o → IsBelow o found → Looks look q v.client a o ps c → Keeps v w × Told look q height found v w
 ends look q height v w a ps rs c o (Some x) high is kind below then = some_there height o high kind below then
   where
-    goes : (h : ℕ) (s : ℕ) → a.shape.height ≡ suc (suc h) → IsWord x (Below s) → GoesTo q.key v.client a s ps c → Keeps v w × ((w.client.seen ≡ v.client.seen) × ((name : ℕ) × IsWord x (Below name) × Names w name q.key (suc h)))
+    goes : (h : ℕ) (s : ℕ) → a.shape.height ≡ suc (suc h) → IsWord x (Below s) → GoesTo v.client a s ps c → Keeps v w × ((w.client.seen ≡ v.client.seen) × ((name : ℕ) × IsWord x (Below name) × Sights w name))
     goes h s at_h word g = let b : Spot = g.spot in (
       learned_keeps v w ps c rs is (λ z in_it. subst (λ (y : View). IsIn z y.met) (sym g.is) (inr in_it)) (ap (λ (y : View). y.own) g.is),
       (
@@ -171,8 +173,6 @@ ends look q height v w a ps rs c o (Some x) high is kind below then = some_there
             met = subst (λ (z : Seen). IsIn b z.client.met) (sym is) (subst (λ (z : View). IsIn b z.met) (sym g.is) (inl refl));
             placed = subst (λ (z : Seen). IsIn (place_at b) z.places) (sym is) (subst (λ (z : List Place). IsIn (place_at b) (z ++ v.places)) (sym g.place) (inl refl));
             named = g.named;
-            high = (let e = g.height in omega (arith, e, at_h));
-            covers = g.covers;
           },
         ),
       ),
@@ -263,7 +263,7 @@ module _ (v : Seen) (name key height : ℕ) (n : Names v name key height) (b : B
 
         pub may_check_node : (id m : ℕ) → q.caller ≡ id → t ≡ 4 * m → MayCheck v₂ k' IsMap id Then t
         may_check_node id m by even = subst (λ (z : Seen). MayCheck z k' IsMap id Then t) (sym node_read)
-            (p, read its.number t saw_it, (n.placed, at_k'), head_read its.number t saw_it v.reads, refl, node_looks q id by v.client its n.met t saw_it m even reads_it covers)
+            (p, read its.number t saw_it, (n.placed, at_k'), head_read its.number t saw_it v.reads, refl, node_looks q id by v.client its n.met t saw_it m even reads_it)
 
         module _ (w : Seen) (m : ℕ) (told : Checks Then (reads k') v₂ m none_joined w) where
           node_checked : Plays.Checked (Then v.client its.number t saw_it) t (reading v its.number t saw_it) m w
@@ -277,8 +277,115 @@ module _ (v : Seen) (name key height : ℕ) (n : Names v name key height) (b : B
               → Keeps v w × Told reads_it q height found v w
           node_ends hit found finds =
               let h = node_checked.hit hit in
-              let x = h.3 its n.met refl covers in
+              let x = h.3 its n.met refl in
               let below : IsBelow (lookup x.its.children (digit its.shape.height q.key)) found =
               subst (λ (z : ℕ × ℕ). IsBelow (lookup x.its.children (digit z.0 z.1)) found) (λ i. (sym n.high i, sym asked i)) (finds x.content x.its x.agrees x.encodes x.in_form) in
               ends reads_it q height v w its h.0 (read its.number t saw_it ∷ v.reads) h.1 (lookup x.its.children (digit its.shape.height q.key)) found n.high h.2
-              (subst (λ (z : ℕ). IsOfKind z (lookup x.its.children (digit its.shape.height q.key))) n.high x.of_kind) below x.then
+              (subst (λ (z : ℕ). IsOfKind z (lookup x.its.children (digit its.shape.height q.key))) n.high x.of_kind) below (x.on_way covers)
+
+-- What was found leads on to a node that has no such keys.
+module _ (q : Ask) (v w : Seen) (a : Spot) (ps : List Place) (rs : List Read) (c : View) (is : w ≡ seat_view c (ps ++ v.places) rs v.holds v.room) (b : Spot) (known : IsIn b v.client.met) (never : Covers b.shape q.key → ⊥) where
+  ends_beside : (height : ℕ) (o : Option (Child ℕ)) (word : ℕ) → 2 ≤ height → IsOfKind height o → IsBelow o (Some word) → ((s : ℕ) → IsWord word (Below s) → s ≡ name_of b.shape) → Misses q v.client a o ps c → Keeps v w × HasAnswer q None v.client w.client
+  ends_beside height None word high kind below spells then = absurd below
+  ends_beside zero (Some x) word high kind below spells then = absurd kind
+  ends_beside (suc zero) (Some x) word high kind below spells then = absurd (omega (arith, high))
+  ends_beside (suc (suc h)) (Some (Payload x)) word high kind below spells then = absurd kind
+  ends_beside (suc (suc h)) (Some (Below s)) word high kind below spells then =
+      let g : HasAnswer q None v.client c = then b known (spells s below) never in (
+        learned_keeps v w ps c rs is (λ z in_it. subst (λ (y : View). IsIn z y.met) (sym g.is) in_it) (ap (λ (y : View). y.own) g.is),
+        subst (λ (z : Seen). HasAnswer q None v.client z.client) (sym is) g,
+      )
+
+module _ (v : Seen) (name key height : ℕ) (n : Names v name key height) (b : Book) (words : List Name) (are : AreNamed b name words) (k : ℕ) (at_k : (place_at n.spot).key ≡ k) (v₁ : Seen) (t : ℕ) (took_it : Takes (reads k) v t none_joined v₁) (v₂ : Seen) (rest : without_reads v₂ ≡ without_reads v₁) (k' : ℕ) (at_k' : (place_at n.spot).key ≡ k') (q : Ask) (asked : q.key ≡ key) where
+  abbrev Missing : View → ℕ → ℕ → List (ℕ × ℕ) → List Place → View → Type 0
+  Missing = LearnsNode Misses q
+
+  abbrev pub saw_there : List (ℕ × ℕ)
+  saw_there = last_saw v₂.reads
+
+  as_read : v₂ ≡ reading v n.spot.number t (last_saw v₂.reads)
+  as_read = reads_on v v₂ n.spot.number t (rest ∙ ap without_reads (node_taken v name key height n b words are k at_k v₁ t took_it))
+
+  pub read_keeps : Keeps v v₂ × (v₂.client ≡ v.client)
+  read_keeps = reading_keeps v v₂ n.spot.number t saw_there as_read
+
+  pub may_miss_node : (id m : ℕ) → q.caller ≡ id → t ≡ 4 * m → MayCheck v₂ k' IsMap id Missing t
+  may_miss_node id m by even = subst (λ (z : Seen). MayCheck z k' IsMap id Missing t) (sym as_read)
+      (place_at n.spot, read n.spot.number t saw_there, (n.placed, at_k'), head_read n.spot.number t saw_there v.reads, refl, node_misses q id by v.client n.spot n.met t saw_there m even)
+
+  module _ (w : Seen) (m : ℕ) (told : Checks Missing (reads k') v₂ m none_joined w) where
+    missing_checked : Plays.Checked (Missing v.client n.spot.number t saw_there) t (reading v n.spot.number t saw_there) m w
+    missing_checked = subst (λ (z : Seen). Checks Missing (reads k') z m none_joined w) as_read told (place_at n.spot) (read n.spot.number t saw_there) n.placed at_k' (head_read n.spot.number t saw_there v.reads)
+
+    pub missing_missed : m ≢ t → Keeps v w × (w.client ≡ v.client)
+    missing_missed ne = reading_keeps v w n.spot.number t saw_there (missing_checked.miss ne)
+
+    pub missing_ends : m ≡ t → (x : Spot) → IsIn x v.client.met → (Covers x.shape key → ⊥) → (word : ℕ) → ((s : ℕ) → IsWord word (Below s) → s ≡ name_of x.shape) → 2 ≤ height
+        → ((c : Content) (o : TableNode ℕ) → Agree c saw_there → Encodes c o → o.form ≡ n.spot.shape.form → IsBelow (lookup o.children (digit height key)) (Some word))
+        → Keeps v w × HasAnswer q None v.client w.client
+    missing_ends hit x known never word spells high finds =
+        let h = missing_checked.hit hit in
+        let m' = h.3 n.spot n.met refl in
+        let at_digit : digit n.spot.shape.height q.key ≡ digit height key = λ i. digit (n.high i) (asked i) in
+        let below : IsBelow (lookup m'.its.children (digit n.spot.shape.height q.key)) (Some word) =
+        subst (λ (z : ℕ). IsBelow (lookup m'.its.children z) (Some word)) (sym at_digit) (finds m'.content m'.its m'.agrees m'.encodes m'.in_form) in
+        let covers : Covers n.spot.shape q.key = ap (up n.spot.shape.height) asked ∙ n.covers in
+        ends_beside q v w n.spot h.0 (read n.spot.number t saw_there ∷ v.reads) h.1 h.2 x known (λ z. never (ap (up x.shape.height) (sym asked) ∙ z))
+        height (lookup m'.its.children (digit n.spot.shape.height q.key)) word high (subst (λ (z : ℕ). IsOfKind z (lookup m'.its.children (digit n.spot.shape.height q.key))) n.high m'.of_kind) below spells (m'.on_way covers)
+
+-- A NODE of which only its name is known, and a look at its head
+module _ (v : Seen) (name : ℕ) (n : Sights v name) (b : Book) (words : List Name) (are : AreNamed b name words) where
+  abbrev pub seen_spot : Spot
+  seen_spot = n.spot
+
+  abbrev pub seen_place : Place
+  seen_place = place_at seen_spot
+
+  pub seen_of : AreOf seen_place b words
+  seen_of = are seen_spot n.named
+
+  pub seen_at : (k : ℕ) → seen_place.key ≡ k → KnowsPlace v k
+  seen_at k at_k = (seen_place, (n.placed, at_k))
+
+  module _ (k : ℕ) (at_k : seen_place.key ≡ k) (v₁ : Seen) (t : ℕ) (took_it : Takes (reads k) v t none_joined v₁) where
+    seen_taken : v₁ ≡ reading v seen_spot.number t []
+    seen_taken = took_it seen_place n.placed at_k
+
+    pub seen_keeps : Keeps v v₁ × (v₁.client ≡ v.client)
+    seen_keeps = reading_keeps v v₁ seen_spot.number t [] seen_taken
+
+    pub may_read_seen : MayRead words b v₁
+    may_read_seen = subst (MayRead words b) (sym seen_taken) (seen_place, read seen_spot.number t [], v.reads, n.placed, seen_of, refl, refl)
+
+    module _ (v₂ : Seen) (rest : without_reads v₂ ≡ without_reads v₁) where
+      seen_read : v₂ ≡ reading v seen_spot.number t (last_saw v₂.reads)
+      seen_read = reads_on v v₂ seen_spot.number t (rest ∙ ap without_reads seen_taken)
+
+      module _ (k' : ℕ) (at_k' : seen_place.key ≡ k') (q : Ask) where
+        abbrev Only : View → ℕ → ℕ → List (ℕ × ℕ) → List Place → View → Type 0
+        Only = LearnsNode Heads q
+
+        abbrev saw_head : List (ℕ × ℕ)
+        saw_head = last_saw v₂.reads
+
+        pub may_check_seen : (id m : ℕ) → q.caller ≡ id → t ≡ 4 * m → MayCheck v₂ k' IsMap id Only t
+        may_check_seen id m by even = subst (λ (z : Seen). MayCheck z k' IsMap id Only t) (sym seen_read)
+            (seen_place, read seen_spot.number t saw_head, (n.placed, at_k'), head_read seen_spot.number t saw_head v.reads, refl, node_heads q id by v.client seen_spot n.met t saw_head m even)
+
+        module _ (w : Seen) (m : ℕ) (told : Checks Only (reads k') v₂ m none_joined w) where
+          seen_checked : Plays.Checked (Only v.client seen_spot.number t saw_head) t (reading v seen_spot.number t saw_head) m w
+          seen_checked = subst (λ (z : Seen). Checks Only (reads k') z m none_joined w) seen_read told seen_place (read seen_spot.number t saw_head) n.placed at_k' (head_read seen_spot.number t saw_head v.reads)
+
+          pub seen_missed : m ≢ t → Keeps v w × (w.client ≡ v.client)
+          seen_missed ne = reading_keeps v w seen_spot.number t saw_head (seen_checked.miss ne)
+
+          -- its prefix is that of some content which agrees with what was read
+          pub seen_head : m ≡ t → Keeps v w × (w.client ≡ v.client) × ((c : Content) × (o : TableNode ℕ) × Agree c saw_head × Encodes c o × (length o.prefix + seen_spot.shape.height ≡ 8) × HasPrefix o.prefix seen_spot.shape)
+          seen_head hit =
+              let h = seen_checked.hit hit in
+              let x = h.3 seen_spot n.met refl in
+              let same : h.1 ≡ v.client = dite (ℕ_discrete (up seen_spot.shape.height q.key) seen_spot.shape.top) x.on_way x.beside in (
+                learned_keeps v w h.0 h.1 (read seen_spot.number t saw_head ∷ v.reads) h.2 (λ z in_it. subst (λ (y : View). IsIn z y.met) (sym same) in_it) (ap (λ (y : View). y.own) same),
+                ap (λ (z : Seen). z.client) h.2 ∙ same,
+                (x.content, x.its, x.agrees, x.encodes, x.deep, x.prefixed),
+              )

@@ -1,17 +1,17 @@
 -- Exchanges: what one asks, how it ends, and what its caller learns on the way.
-use Rattle.std.specs.Prelude.{◌≡◌, ◌≢◌, ℕ, zero, suc, Bool, true, false, List, [], Option, Some, None, Result, Ok, Err}
+use Rattle.std.specs.Prelude.{◌≡◌, ◌≢◌, ℕ, Bool, true, false, List, [], Option, Some, None, Result, Ok, Err}
 use Rattle.spec_map.specs.Call.{compare_exchange, exchanged, replied}
 use Rattle.node_table.specs.TableNode.{TableNode, Child}
 use Rattle.node_table.specs.declared.child.Child.TheVariants.{Payload, Node}
 use Rattle.spec_map.specs.Map.{lookup}
 use Rattle.share_rule.specs.History.{Entry, entry}
 use Rattle.live_nodes.specs.Nodes.{Content}
-use Rattle.live_nodes.specs.Seats.{Place, SeatView}
+use Rattle.live_nodes.specs.Seats.{Place, SeatView, IsIn}
 use Rattle.live_encodes.specs.Encodes.{IsWord, Encodes, with_child}
-use Rattle.live_law.specs.Levels.{Spot}
+use Rattle.live_law.specs.Levels.{Spot, name_of, Covers}
 use Rattle.live_law.specs.Views.{View, view_of, Ask, ask}
-use Rattle.live_law.specs.Tree.{HasValue, Answers, GoesTo}
-use Rattle.live_calls.specs.Ways.{Names}
+use Rattle.live_law.specs.Tree.{HasValue, Answers}
+use Rattle.live_calls.specs.Ways.{Names, Leaves}
 
 -- who calls, with which key, the value that it expects there, and the one that replaces it
 pub record Exchange : Type 0 where
@@ -40,23 +40,27 @@ pub record HasFailed (x : Exchange) (current : Option ℕ) (v w : View) : Type 0
 abbrev pub Fails : Exchange → Option ℕ → View → View → Type 0
 Fails x current v w = (current ≡ Some x.old → w ≡ v) × (current ≢ Some x.old → HasFailed x current v w)
 
--- A NODE was read: the way goes on below, or the key's value is known.
+-- A NODE was read where the way ends: in a leaf, where nothing is below, or above a node without such keys.
 abbrev pub Seeks : Exchange → Ask → View → Spot → Option (Child ℕ) → List Place → View → Type 0
 Seeks x q v a None ps w = Fails x None v w
 Seeks x q v a (Some (Payload y)) ps w = Fails x (Some y) v w
-Seeks x q v a (Some (Node s)) ps w = GoesTo q.key v a s ps w
+Seeks x q v a (Some (Node s)) ps w = (b : Spot) → IsIn b v.met → s ≡ name_of b.shape → (Covers b.shape q.key → ⊥) → HasFailed x None v w
 
--- What was found under the key's digit in a node of this height.
-abbrev pub Sought : Exchange → ℕ → Option ℕ → SeatView View → SeatView View → Type 0
-Sought x height None v w = Fails x None v.client w.client
-Sought x zero (Some y) v w = Fails x (Some y) v.client w.client
-Sought x (suc zero) (Some y) v w = Fails x (Some y) v.client w.client
-Sought x (suc (suc h)) (Some y) v w = (w.client.seen ≡ v.client.seen) × ((name : ℕ) × IsWord y (Node name) × Names w name x.key (suc h))
+-- By the key's current value the exchange has failed, or the caller knows no more. A writer may have come in between.
+abbrev pub MayEnd : Exchange → Option (Option ℕ) → SeatView View → SeatView View → Type 0
+MayEnd x None v w = w.client ≡ v.client
+MayEnd x (Some current) v w = Fails x current v.client w.client
 
--- The same, where a writer may have come in between.
-abbrev pub MaySeek : Exchange → ℕ → Option (Option ℕ) → SeatView View → SeatView View → Type 0
-MaySeek x height None v w = w.client ≡ v.client
-MaySeek x height (Some found) v w = Sought x height found v w
+-- Nothing was found, or the node that the key leaves.
+abbrev pub IsNoWay : Option ℕ → Option ℕ → Type 0
+IsNoWay None below = Unit {0}
+IsNoWay (Some w) None = ⊥
+IsNoWay (Some w) (Some b) = (s : ℕ) → IsWord w (Node s) → s ≡ b
+
+-- The key leaves the way of that node, if there is one.
+abbrev pub MayLeave : SeatView View → ℕ → Option ℕ → Type 0
+MayLeave v key None = Unit {0}
+MayLeave v key (Some b) = (h : ℕ) × (byte : ℕ) × Leaves v b key h byte
 
 -- A LEAF was unlocked, which has the new value in the place of the expected one.
 pub record Swapped (x : Exchange) (v w : View) : Type 0 where

@@ -1,13 +1,14 @@
 -- What a seat has locked.
 use Rattle.std.specs.Prelude.{◌≡◌, ℕ, ◌+◌, ◌%◌, ◌<◌, ◌^◌, List, [], ◌∷◌, length, Option, Some, None}
+use Rattle.node_base.specs.declared.base_node.NodeType.{NodeType}
 use Rattle.node_table.specs.TableNode.{TableNode}
-use Rattle.node_table.specs.declared.child.Child.TheVariants.{Payload}
+use Rattle.node_table.specs.declared.child.Child.TheVariants.{Payload, Node}
 use Rattle.spec_map.specs.Map.{lookup}
 use Rattle.word_book.specs.Book.{Book, Name}
 use Rattle.live_nodes.specs.Nodes.{Content}
 use Rattle.live_nodes.specs.Seats.{hold, SeatView, IsIn, Each}
 use Rattle.live_rows.specs.Rows.{AreOf}
-use Rattle.live_encodes.specs.Encodes.{words_of, Encodes, with_child}
+use Rattle.live_encodes.specs.Encodes.{words_of, Encodes, IsBelow, IsWord, with_child}
 use Rattle.live_law.specs.Levels.{Spot, place_at}
 use Rattle.live_law.specs.Views.{View, locked, Ask, inserted}
 use Rattle.live_law.specs.Tree.{HasValue, IsApart, Answers}
@@ -57,3 +58,8 @@ IsWritten b x (Some old) c d n = Encodes d (with_child n b (Some (Payload x))) �
 -- An insertion is done, which has found this.
 abbrev pub IsDone : Ask → Option ℕ → SeatView View → SeatView View → Type 0
 IsDone q found v w = Answers q.caller (inserted q found) v.client.seen w.client.seen
+
+-- A byte has the node with this name as its child, by its word.
+abbrev pub HasWordOf : Content → NodeType → ℕ → ℕ → Type 0
+HasWordOf c form byte name = (w : ℕ) × ((n : TableNode ℕ) → Encodes c n → n.form ≡ form → IsBelow (lookup n.children byte) (Some w))
+    × ((s : ℕ) → IsWord w (Node s) → s ≡ name)

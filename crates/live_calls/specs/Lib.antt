@@ -1,4 +1,6 @@
 pub mod Ways
+pub mod Sees
+pub mod Stands
 pub mod Calls
 pub mod Holds
 pub mod Rooms

@@ -3,7 +3,10 @@ use Rattle.std.specs.Prelude.{◌≡◌, ℕ, ◌+◌, ◌<◌, ◌≤◌, ◌^�
 use mathlib.Core.Option.{some}
 use lib.ListN.{get_elem?}
 use Rattle.node_base.specs.declared.base_node.NodeType.{NodeType}
+use Rattle.node_base.specs.declared.base_node.NodeType.TheVariants.{N4}
 use Rattle.node_table.specs.TableNode.{TableNode}
+use Rattle.node_table.specs.declared.child.Child.TheVariants.{Node}
+use Rattle.spec_map.specs.Map.{put}
 use Rattle.word_book.specs.Book.{Book, Name}
 use Rattle.live_nodes.specs.Nodes.{Content}
 use Rattle.live_nodes.specs.Seats.{Place, room_at, SeatView, IsIn}
@@ -11,6 +14,7 @@ use Rattle.live_rows.specs.Rows.{MayFill}
 use Rattle.live_encodes.specs.Encodes.{words_of, Encodes}
 use Rattle.live_law.specs.Levels.{Spot, name_of, Covers, place_at}
 use Rattle.live_law.specs.Views.{View, view_of, fresh, Ask}
+use Rattle.live_law.specs.Tree.{HasPrefix}
 
 -- Its room begins with that word, and has at least so many, which are 0.
 pub record HasRoom (v : SeatView View) (start left : ℕ) : Type 0 where
@@ -48,7 +52,19 @@ pub record HasLaid (q : Ask) (v w : SeatView View) (form : NodeType) (name : ℕ
   pub encodes : Encodes content its
   pub its_form : its.form ≡ form
   pub deep : length its.prefix + q.height ≡ 8
+  pub prefixed : HasPrefix its.prefix made.spot.shape
   pub empty : its.children ≡ []
+
+-- A node was made with one child: that node, under that byte.
+pub record HasForked (q : Ask) (v w : SeatView View) (below byte name : ℕ) : Type 0 where
+  pub content : Content
+  pub made : HasMade q v w content N4 name
+  pub its : TableNode ℕ
+  pub encodes : Encodes content its
+  pub its_form : its.form ≡ N4
+  pub deep : length its.prefix + q.height ≡ 8
+  pub prefixed : HasPrefix its.prefix made.spot.shape
+  pub one : its.children ≡ put [] byte (Node below)
 
 -- It has nothing to itself but its room. Nodes may have come to those that it has met, and it has seen no more.
 pub record HasGrown (v w : SeatView View) : Type 0 where

@@ -1,11 +1,11 @@
 -- What a seat knows on the way of a key.
-use Rattle.std.specs.Prelude.{◌≡◌, ℕ, zero, suc, ◌+◌, ◌<◌, ◌≤◌, Bool, true, false, List, Option, Some, None}
+use Rattle.std.specs.Prelude.{◌≡◌, ◌≢◌, ℕ, zero, suc, ◌+◌, ◌-◌, ◌*◌, ◌<◌, ◌≤◌, Bool, true, false, List, Option, Some, None}
 use Rattle.node_table.specs.declared.child.Child.TheVariants.{Node}
 use Rattle.word_book.specs.Book.{Book, Name}
 use Rattle.live_nodes.specs.Seats.{Place, place, SeatView, IsIn}
 use Rattle.live_rows.specs.Rows.{AreOf}
 use Rattle.live_encodes.specs.Encodes.{IsWord}
-use Rattle.live_law.specs.Levels.{Spot, name_of, Covers, place_at}
+use Rattle.live_law.specs.Levels.{up, digit, way, Spot, name_of, Covers, place_at}
 use Rattle.live_law.specs.Views.{View, Ask, got}
 use Rattle.live_law.specs.Tree.{HasAnswer, Answers}
 
@@ -21,12 +21,23 @@ pub record Names (v : SeatView View) (name key height : ℕ) : Type 0 where
   pub high : spot.shape.height ≡ height
   pub covers : Covers spot.shape key
 
--- A key's way ends as yet at a node of that height. Unless that is the root, the other is the node above it.
-pub record Ends (v : SeatView View) (key above name height : ℕ) : Type 0 where
-  pub named : Names v name key height
-  pub upper : height < 8 → Names v above key (height + 1)
-  pub low : 1 ≤ height
-  pub high : height ≤ 8
+-- This names a node that the seat has met.
+pub record Sights (v : SeatView View) (name : ℕ) : Type 0 where
+  pub spot : Spot
+  pub met : IsIn spot v.client.met
+  pub placed : IsIn (place_at spot) v.places
+  pub named : name ≡ name_of spot.shape
+
+-- The bytes above that node are the key's down to this height, and then this byte, which the key hasn't there.
+pub record Leaves (v : SeatView View) (name key height byte : ℕ) : Type 0 where
+  pub sighted : Sights v name
+  pub some_height : 1 ≤ sighted.spot.shape.height
+  pub lower : sighted.spot.shape.height < height
+  pub level : height ≤ 8
+  pub top : way sighted.spot.shape height ≡ up height key
+  pub low : byte < 256
+  pub byte_is : way sighted.spot.shape (height - 1) ≡ 256 * up height key + byte
+  pub other : byte ≢ digit height key
 
 -- These are its words.
 abbrev pub AreNamed : Book → ℕ → List Name → Type 0
@@ -50,7 +61,7 @@ abbrev pub Told : Bool → Ask → ℕ → Option ℕ → SeatView View → Seat
 Told looks q height None v w = Ended looks q None v w
 Told looks q zero (Some x) v w = Ended looks q (Some x) v w
 Told looks q (suc zero) (Some x) v w = Ended looks q (Some x) v w
-Told looks q (suc (suc h)) (Some x) v w = (w.client.seen ≡ v.client.seen) × ((name : ℕ) × IsWord x (Node name) × Names w name q.key (suc h))
+Told looks q (suc (suc h)) (Some x) v w = (w.client.seen ≡ v.client.seen) × ((name : ℕ) × IsWord x (Node name) × Sights w name)
 
 abbrev pub Looked : Bool → Ask → ℕ → Option (Option ℕ) → SeatView View → SeatView View → Type 0
 Looked looks q height None v w = w.client ≡ v.client

@@ -1,16 +1,17 @@
 //! An exchange: a key's value is replaced, if it is the expected one.
 //!
 //! Where it isn't, the check of a reader decides it, and nothing is locked.
-ghost use Rattle.std.specs.Prelude.{◌≡◌, ℕ, ◌+◌, ◌<◌, ◌≤◌, List, [], length, Some, IfSome, IfOk};
+ghost use Rattle.std.specs.Prelude.{◌≡◌, ℕ, ◌+◌, ◌<◌, ◌≤◌, List, [], length, true, false, Some, None, IfSome, IfOk, IsTrue};
 ghost use Rattle.node_table.specs.TableNode.{TableNode};
 ghost use Rattle.live_cells.specs.Words.{Stays};
 ghost use Rattle.live_encodes.specs.Encodes.{words_of, Encodes};
 ghost use Rattle.live_calls.specs.Ways.{KnowsTrunk, Names, Keeps};
 ghost use Rattle.live_calls.specs.Holds.{HasRest};
 ghost use Rattle.live_calls.specs.Calls.{IsReady};
-ghost use Rattle.live_calls.specs.Exchanges.{IsReplaced, MaySeek, Meets, Succeeds, Exchanges};
+ghost use Rattle.live_calls.specs.Exchanges.{Fails, IsReplaced, MayEnd, IsNoWay, MayLeave, Meets, Succeeds, Exchanges};
 
 use crate::held::{lock_node, unlock_same};
+use crate::sight::{Next, follow};
 use crate::way::{Nodes, Pass, byte_at, root, words_at};
 use live_cells::words::{Draft, Drafted};
 use live_encodes::change::change;
@@ -59,25 +60,18 @@ impl<X: Swaps> Change<Mine> for Swap<X> {
     ghost told = { Swaps X.swap };
 }
 
-/// What a node of this height has under the key's digit. `None` where a writer came in between.
-pub fn next_below<X: Swaps>(
-    nodes: &Nodes,
-    name: u64,
-    height: usize,
-    key: u64,
-    pass: &mut Pass,
-) -> Option<Option<u64>>
+/// What a leaf has under the key's digit. `None` where a writer came in between.
+pub fn ends_in<X: Swaps>(nodes: &Nodes, name: u64, key: u64, pass: &mut Pass) -> Option<Option<u64>>
     requires book { pass.old.book ≡ nodes.now }
     requires asks { (X.swap.key ≡ key) × (X.swap.caller ≡ pass.old.id) }
-    requires named { Names pass.old.view name key height }
-    requires height { (1 ≤ height) × (height ≤ 8) }
+    requires named { Names pass.old.view name key 1 }
     ensures told { (pass.new.book ≡ pass.old.book) × (pass.new.id ≡ pass.old.id)
         × Keeps pass.old.view pass.new.view
-        × MaySeek X.swap height result pass.old.view pass.new.view }
+        × MayEnd X.swap result pass.old.view pass.new.view }
 {
     let words = words_at(nodes, name)?;
     let form = form_below(name);
-    let byte = byte_at(key, height);
+    let byte = byte_at(key, 1);
     let taken = node::take(&words[0], pass);
     if taken % 4 != 0 {
         return None;
@@ -88,6 +82,83 @@ pub fn next_below<X: Swaps>(
         return None;
     }
     Some(found)
+}
+
+// Whether a way ends at what was found: nothing, or the node that the key leaves.
+fn is_end(found: Option<u64>, below: Option<u64>) -> bool
+    ensures { result ≡ true → IsNoWay found below }
+{
+    let Some(word) = found else {
+        return true;
+    };
+    let Some(below) = below else {
+        return false;
+    };
+    if slot_below(word) != below {
+        return false;
+    }
+    true
+}
+
+/// Whether the key is absent, as an inner node has no child for it, or leads on to a node that the key leaves. `false` where
+/// a writer came in between.
+pub fn is_absent<X: Swaps>(
+    nodes: &Nodes,
+    name: u64,
+    height: usize,
+    below: Option<u64>,
+    key: u64,
+    pass: &mut Pass,
+) -> bool
+    requires book { pass.old.book ≡ nodes.now }
+    requires asks { (X.swap.key ≡ key) × (X.swap.caller ≡ pass.old.id) }
+    requires named { Names pass.old.view name key height }
+    requires height { (2 ≤ height) × (height ≤ 8) }
+    requires leaves { MayLeave pass.old.view key below }
+    ensures told { (pass.new.book ≡ pass.old.book) × (pass.new.id ≡ pass.old.id)
+        × Keeps pass.old.view pass.new.view }
+    ensures ends { IsTrue result → Fails X.swap None pass.old.view.client pass.new.view.client }
+    ensures busy { result ≡ false → pass.new.view.client ≡ pass.old.view.client }
+{
+    let Some(words) = words_at(nodes, name) else {
+        return false;
+    };
+    let form = form_below(name);
+    let byte = byte_at(key, height);
+    let taken = node::take(&words[0], pass);
+    if taken % 4 != 0 {
+        return false;
+    }
+    let row = Row { words };
+    let found = find(&row, form, byte, pass);
+    if !is_end(found, below) {
+        return false;
+    }
+    node::check::<Mine, Levels, Seek<X>>(&words[0], taken, pass)
+}
+
+// The exchange has failed at a node where the key's way ends. `None` where a writer came in between.
+fn failed_at<X: Swaps>(
+    nodes: &Nodes,
+    name: u64,
+    height: usize,
+    below: Option<u64>,
+    key: u64,
+    pass: &mut Pass,
+) -> Option<Result<u64, Option<u64>>>
+    requires book { pass.old.book ≡ nodes.now }
+    requires asks { (X.swap.key ≡ key) × (X.swap.caller ≡ pass.old.id) }
+    requires named { Names pass.old.view name key height }
+    requires height { (2 ≤ height) × (height ≤ 8) }
+    requires leaves { MayLeave pass.old.view key below }
+    ensures told { (pass.new.book ≡ pass.old.book) × (pass.new.id ≡ pass.old.id)
+        × Keeps pass.old.view pass.new.view
+        × Meets X.swap result pass.old.view pass.new.view }
+{
+    if is_absent::<X>(nodes, name, height, below, key, pass) {
+        return Some(Err(None));
+    }
+    None
 }
 
 /// The name of the leaf where the key has the expected value, or `Err` with its current value. `None` where a writer came
@@ -108,13 +179,18 @@ pub fn leaf_with<X: Swaps>(
     let mut name = root(nodes, key, pass)?;
     let mut height = 8usize;
     while height > 1 {
-        match next_below::<X>(nodes, name, height, key, pass)? {
-            Some(word) => name = slot_below(word),
-            None => return Some(Err(None)),
+        match follow::<Brand>(nodes, name, height, key, pass)? {
+            Next::Ends => return failed_at::<X>(nodes, name, height, None, key, pass),
+            Next::Goes(below, lower) => {
+                name = below;
+                height = lower;
+            }
+            Next::Forks(fork) => {
+                return failed_at::<X>(nodes, name, height, Some(fork.below), key, pass);
+            }
         }
-        height -= 1;
     }
-    let current = next_below::<X>(nodes, name, 1, key, pass)?;
+    let current = ends_in::<X>(nodes, name, key, pass)?;
     if current == Some(old) {
         return Some(Ok(name));
     }

@@ -3,8 +3,8 @@ ghost use Rattle.std.specs.Prelude.{◌≡◌, ℕ, ◌+◌, ◌<◌, ◌≤◌,
 ghost use Rattle.live_law.specs.Tree.{HasAnswer};
 ghost use Rattle.live_calls.specs.Ways.{KnowsTrunk, Names, Keeps, Found};
 
+use crate::sight::{Next, ends_above, follow};
 use crate::way::{Nodes, Pass, look, root};
-use live_encodes::form::slot_below;
 use live_law::law::Asks;
 
 /// The value of a key. `None` where a writer came in between.
@@ -19,11 +19,19 @@ pub(crate) fn get_once<A: Asks>(nodes: &Nodes, key: u64, pass: &mut Pass) -> Opt
     let mut name = root(nodes, key, pass)?;
     let mut height = 8usize;
     while height > 1 {
-        match look::<A>(nodes, name, height, key, pass)? {
-            Some(word) => name = slot_below(word),
-            None => return Some(None),
+        match follow::<A>(nodes, name, height, key, pass)? {
+            Next::Ends => return Some(None),
+            Next::Goes(below, lower) => {
+                name = below;
+                height = lower;
+            }
+            Next::Forks(fork) => {
+                if ends_above::<A>(nodes, name, height, fork.below, key, pass) {
+                    return Some(None);
+                }
+                return None;
+            }
         }
-        height -= 1;
     }
     look::<A>(nodes, name, 1, key, pass)
 }

@@ -1,23 +1,33 @@
 //! An insertion.
 ghost use Rattle.std.specs.Prelude.{◌≡◌, ℕ, ◌+◌, ◌<◌, ◌≤◌, IfOk, OnErr, IfSome};
 ghost use Rattle.live_law.specs.Views.{ask};
-ghost use Rattle.live_calls.specs.Ways.{KnowsTrunk, Ends, Keeps};
+ghost use Rattle.live_calls.specs.Ways.{KnowsTrunk, Keeps};
+ghost use Rattle.live_calls.specs.Stands.{Stands, IsEnd};
 ghost use Rattle.live_calls.specs.Calls.{IsReady, Inserts};
 
 use crate::link::{Room, link};
-use crate::way::{Nodes, Pass, look, root};
+use crate::sight::{Fork, Next, follow};
+use crate::split::split;
+use crate::way::{Nodes, Pass, root};
 use crate::widen::widen;
 use crate::write::{Hindrance, insert_here};
-use live_encodes::form::slot_below;
 use std::alloc::{AllocError, Global};
 use std::marker::Brand;
 
-/// Where a key's way ends as yet: a node with its height, and the node above it. The root is its own.
+/// A node that a key has come to, with its height, and the node above it with its height. The root is its own.
 #[derive(Clone, Copy)]
-pub(crate) struct End {
+pub(crate) struct Stand {
     pub(crate) above: u64,
+    pub(crate) level: usize,
     pub(crate) name: u64,
     pub(crate) height: usize,
+}
+
+/// Where a key's way ends as yet. There may be a node below whose way the key leaves.
+#[derive(Clone, Copy)]
+pub(crate) struct End {
+    pub(crate) stand: Stand,
+    pub(crate) fork: Option<Fork>,
 }
 
 /// Where a key's way ends as yet. `None` where a writer came in between.
@@ -27,32 +37,35 @@ fn descend(nodes: &Nodes, key: u64, pass: &mut Pass) -> Option<End>
     ensures told { (pass.new.book ≡ pass.old.book) × (pass.new.id ≡ pass.old.id)
         × Keeps pass.old.view pass.new.view
         × (pass.new.view.client.seen ≡ pass.old.view.client.seen)
-        × IfSome result (λ end. Ends pass.new.view key end.above end.name end.height) }
+        × IfSome result (λ end. IsEnd pass.new.view key end) }
 {
-    let mut name = root(nodes, key, pass)?;
-    let mut above = name;
-    let mut height = 8usize;
-    while height > 1 {
-        match look::<Brand>(nodes, name, height, key, pass)? {
-            Some(word) => {
-                above = name;
-                name = slot_below(word);
-            }
-            None => {
-                return Some(End {
-                    above,
+    let name = root(nodes, key, pass)?;
+    let mut stand = Stand {
+        above: name,
+        level: 8,
+        name,
+        height: 8,
+    };
+    while stand.height > 1 {
+        match follow::<Brand>(nodes, stand.name, stand.height, key, pass)? {
+            Next::Ends => return Some(End { stand, fork: None }),
+            Next::Goes(name, height) => {
+                stand = Stand {
+                    above: stand.name,
+                    level: stand.height,
                     name,
                     height,
+                };
+            }
+            Next::Forks(fork) => {
+                return Some(End {
+                    stand,
+                    fork: Some(fork),
                 });
             }
         }
-        height -= 1;
     }
-    Some(End {
-        above,
-        name,
-        height: 1,
-    })
+    Some(End { stand, fork: None })
 }
 
 /// More room, where there is little. `false` where another thread is just making some.
@@ -80,38 +93,66 @@ pub fn reserve(
 }
 
 /// Puts a larger node in the place of a full one. The root has the largest form, and stays.
-fn enlarge(nodes: &Nodes, end: End, key: u64, room: &mut Room, pass: &mut Pass)
+fn enlarge(nodes: &Nodes, stand: Stand, key: u64, room: &mut Room, pass: &mut Pass)
     requires book { pass.old.book ≡ nodes.now }
     requires ready { IsReady pass.old.view room.old.start room.old.left }
-    requires ends { Ends pass.old.view key end.above end.name end.height }
+    requires stands { Stands pass.old.view key stand }
     ensures told { (pass.new.book ≡ pass.old.book) × (pass.new.id ≡ pass.old.id)
         × IsReady pass.new.view room.new.start room.new.left
         × (pass.new.view.client.seen ≡ pass.old.view.client.seen) }
 {
-    let End {
+    let Stand {
         above,
+        level,
         name,
         height,
-    } = end;
+    } = stand;
     if height < 8 {
-        let _ = widen::<Brand>(nodes, above, name, height, key, room, pass);
+        let _ = widen::<Brand>(nodes, above, level, name, height, key, room, pass);
     }
 }
 
-/// Brings a key's way nearer to its leaf: by a new node below its end, or by room there for one.
-fn extend(nodes: &Nodes, end: End, key: u64, room: &mut Room, pass: &mut Pass)
+/// Brings a key's way nearer to its leaf: by a new leaf, or by room for one.
+fn extend(nodes: &Nodes, stand: Stand, key: u64, room: &mut Room, pass: &mut Pass)
     requires book { pass.old.book ≡ nodes.now }
     requires ready { IsReady pass.old.view room.old.start room.old.left }
-    requires ends { Ends pass.old.view key end.above end.name end.height }
-    requires inner { 2 ≤ end.height }
+    requires stands { Stands pass.old.view key stand }
+    requires inner { 2 ≤ stand.height }
     ensures told { (pass.new.book ≡ pass.old.book) × (pass.new.id ≡ pass.old.id)
         × IsReady pass.new.view room.new.start room.new.left
         × (pass.new.view.client.seen ≡ pass.old.view.client.seen) }
 {
-    match link::<Brand>(nodes, end.name, end.height, key, room, pass) {
+    match link::<Brand>(nodes, stand.name, stand.height, key, room, pass) {
         Ok(()) => {}
-        Err(Hindrance::Full) => enlarge(nodes, end, key, room, pass),
+        Err(Hindrance::Full) => enlarge(nodes, stand, key, room, pass),
         Err(Hindrance::Busy) => {}
+    }
+}
+
+/// Gives a leaf's key a value, or makes room there for it: `None`. So it is too where a writer came in between.
+fn insert_at(
+    nodes: &Nodes,
+    stand: Stand,
+    key: u64,
+    value: u64,
+    room: &mut Room,
+    pass: &mut Pass,
+) -> Option<Option<u64>>
+    requires book { pass.old.book ≡ nodes.now }
+    requires ready { IsReady pass.old.view room.old.start room.old.left }
+    requires stands { Stands pass.old.view key stand }
+    requires leaf { stand.height ≡ 1 }
+    ensures told { (pass.new.book ≡ pass.old.book) × (pass.new.id ≡ pass.old.id)
+        × IsReady pass.new.view room.new.start room.new.left
+        × Inserts (ask pass.old.id key value 1) result pass.old.view pass.new.view }
+{
+    match insert_here::<Brand>(nodes, stand.name, key, value, pass) {
+        Ok(old) => Some(old),
+        Err(Hindrance::Full) => {
+            enlarge(nodes, stand, key, room, pass);
+            None
+        }
+        Err(Hindrance::Busy) => None,
     }
 }
 
@@ -129,17 +170,14 @@ pub(crate) fn insert_once(
         × IsReady pass.new.view room.new.start room.new.left
         × Inserts (ask pass.old.id key value 1) result pass.old.view pass.new.view }
 {
-    let end = descend(nodes, key, pass)?;
-    if end.height > 1 {
-        extend(nodes, end, key, room, pass);
+    let End { stand, fork } = descend(nodes, key, pass)?;
+    if let Some(fork) = fork {
+        let _ = split::<Brand>(nodes, stand.name, stand.height, fork, key, room, pass);
         return None;
     }
-    match insert_here::<Brand>(nodes, end.name, key, value, pass) {
-        Ok(old) => Some(old),
-        Err(Hindrance::Full) => {
-            enlarge(nodes, end, key, room, pass);
-            None
-        }
-        Err(Hindrance::Busy) => None,
+    if stand.height > 1 {
+        extend(nodes, stand, key, room, pass);
+        return None;
     }
+    insert_at(nodes, stand, key, value, room, pass)
 }

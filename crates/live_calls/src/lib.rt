@@ -15,6 +15,8 @@ pub mod map;
 pub mod meeting;
 pub mod plant;
 pub mod room;
+pub mod sight;
+pub mod split;
 pub mod way;
 pub mod widen;
 pub mod write;

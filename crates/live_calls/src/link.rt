@@ -55,7 +55,7 @@ fn obstacle<S, D: Draft<S>>(
     None
 }
 
-/// Makes an empty node below this one, on the way of a key, where there is none.
+/// Makes an empty leaf for a key below this node, where there is none.
 pub fn link<A: Asks>(
     nodes: &Nodes,
     name: u64,
@@ -65,7 +65,7 @@ pub fn link<A: Asks>(
     pass: &mut Pass,
 ) -> Result<(), Hindrance>
     requires book { pass.old.book ≡ nodes.now }
-    requires asks { (A.ask.key ≡ key) × (A.ask.height + 1 ≡ height) }
+    requires asks { (A.ask.key ≡ key) × (A.ask.height ≡ 1) }
     requires named { Names pass.old.view name key height }
     requires height { (2 ≤ height) × (height ≤ 8) }
     requires rests { (pass.old.view.client.own ≡ []) × (pass.old.view.holds ≡ []) }
@@ -93,7 +93,7 @@ pub fn link<A: Asks>(
         unlock_same(words, free, pass);
         return end;
     }
-    let child = make_empty::<A>(others, room.start, NEW, key, height - 1, pass);
+    let child = make_empty::<A>(others, room.start, NEW, key, 1, pass);
     room.start += words_in(NEW) as u64 + 1;
     room.left -= words_in(NEW) as u64 + 1;
     put(&held, form, byte, word_below(child, NEW), pass);

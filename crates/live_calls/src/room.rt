@@ -7,12 +7,14 @@ ghost use Rattle.live_nodes.specs.Nodes.{Content};
 ghost use Rattle.word_segments.specs.Segments.{AreWords};
 ghost use Rattle.live_rows.specs.Rows.{MayHold, filled, draft_of, nth};
 ghost use Rattle.live_encodes.specs.Encodes.{words_of, IsCounted, Encodes, in_form};
-ghost use Rattle.live_calls.specs.Rooms.{HasRoom, IsFilled, HasMade, HasLaid};
+ghost use Rattle.live_calls.specs.Rooms.{HasRoom, IsFilled, HasMade, HasLaid, HasForked};
 
-use crate::way::{Cell, Pass};
+use crate::sight::Fork;
+use crate::way::{Cell, Pass, bytes_of};
 use live_cells::words::Draft;
+use live_encodes::change::put;
 use live_encodes::fill::{grow, lay};
-use live_encodes::form::{next_of, word_below, words_in};
+use live_encodes::form::{form_below, next_of, word_below, words_in};
 use live_law::law::{Asks, Levels, Mine, New};
 use live_nodes::room;
 use live_rows::rows::{Fresh, Held};
@@ -49,17 +51,38 @@ pub fn make_empty<A: Asks>(
     requires words { (length words.now ≡ words_of form + 1)
         × AreWords start pass.old.book words.now }
     requires start { start < 2 ^ 48 }
-    requires asks { A.ask.height ≡ height }
+    requires asks { (A.ask.key ≡ key) × (A.ask.height ≡ height) }
     requires height { (1 ≤ height) × (height ≤ 8) }
     ensures told { (pass.new.book ≡ pass.old.book) × (pass.new.id ≡ pass.old.id)
         × HasLaid A.ask pass.old.view pass.new.view form result }
     ensures room { (left : ℕ) → HasRoom pass.old.view start left → words_of form + 1 ≤ left
         → HasRoom pass.new.view (start + words_of form + 1) (left - (words_of form + 1)) }
 {
-    let bytes = key.to_be_bytes();
+    let bytes = bytes_of(key);
     let fresh: Fresh<'_, Mine, Levels> = Fresh { words };
     lay(&fresh, form, &bytes[..8 - height], pass);
     make::<A>(words, start, form, pass)
+}
+
+/// Makes a node for the way of a key, with one child: the node below, under its byte. Its name.
+pub fn make_fork<A: Asks>(words: &[Cell], start: u64, key: u64, fork: Fork, pass: &mut Pass) -> u64
+    requires room { (left : ℕ) × HasRoom pass.old.view start left × (words_of N4 + 1 ≤ left) }
+    requires words { (length words.now ≡ words_of N4 + 1)
+        × AreWords start pass.old.book words.now }
+    requires start { (start < 2 ^ 48) × (fork.below < 2 ^ 56) }
+    requires asks { (A.ask.key ≡ key) × (A.ask.height ≡ fork.at) }
+    requires height { (2 ≤ fork.at) × (fork.at ≤ 8) }
+    ensures told { (pass.new.book ≡ pass.old.book) × (pass.new.id ≡ pass.old.id)
+        × HasForked A.ask pass.old.view pass.new.view fork.below fork.byte result }
+    ensures room { (left : ℕ) → HasRoom pass.old.view start left → words_of N4 + 1 ≤ left
+        → HasRoom pass.new.view (start + words_of N4 + 1) (left - (words_of N4 + 1)) }
+{
+    let bytes = bytes_of(key);
+    let fresh: Fresh<'_, Mine, Levels> = Fresh { words };
+    lay(&fresh, NodeType::N4, &bytes[..8 - fork.at], pass);
+    let child = word_below(fork.below, form_below(fork.below));
+    put(&fresh, NodeType::N4, fork.byte, child, pass);
+    make::<A>(words, start, NodeType::N4, pass)
 }
 
 /// Makes a node of the next form, with the children of the node that the seat locked last. Its name.

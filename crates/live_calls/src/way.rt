@@ -1,5 +1,5 @@
 //! The way of a key: from the trunk to the root, and from a node to the one below.
-ghost use Rattle.std.specs.Prelude.{◌≡◌, ℕ, ◌+◌, ◌<◌, ◌≤◌, ◌^◌, IfSome, IfNone};
+ghost use Rattle.std.specs.Prelude.{◌≡◌, ℕ, ◌+◌, ◌-◌, ◌<◌, ◌≤◌, ◌^◌, length, slice_index, IfSome, IfNone};
 ghost use Rattle.node_base.specs.Form.{form_place};
 ghost use Rattle.node_base.specs.declared.base_node.NodeType.{NodeType};
 ghost use Rattle.live_law.specs.Levels.{digit, up};
@@ -34,6 +34,23 @@ pub fn byte_at(key: u64, height: usize) -> u8
         7 => (key / 256 / 256 / 256 / 256 / 256 / 256 % 256) as u8,
         _ => (key / 256 / 256 / 256 / 256 / 256 / 256 / 256 % 256) as u8,
     }
+}
+
+/// The bytes of a key, the highest first.
+pub fn bytes_of(key: u64) -> [u8; 8]
+    ensures long { length result ≡ 8 }
+    ensures is { (i : ℕ) → i < 8 → slice_index result i ≡ digit (8 - i) key }
+{
+    [
+        byte_at(key, 8),
+        byte_at(key, 7),
+        byte_at(key, 6),
+        byte_at(key, 5),
+        byte_at(key, 4),
+        byte_at(key, 3),
+        byte_at(key, 2),
+        byte_at(key, 1),
+    ]
 }
 
 /// The name of the root. `None` where there is none yet, or a writer came in between.

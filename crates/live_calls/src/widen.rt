@@ -1,10 +1,9 @@
 //! A full node grows: a larger one takes its place below the node above.
-ghost use Rattle.std.specs.Prelude.{◌≡◌, ◌≢◌, ℕ, ◌+◌, ◌<◌, ◌≤◌, ◌^◌, [], length, None, IsTrue};
-ghost use Rattle.node_table.specs.TableNode.{TableNode};
-ghost use Rattle.spec_map.specs.Map.{lookup};
+ghost use Rattle.std.specs.Prelude.{◌≡◌, ℕ, ◌+◌, ◌<◌, ◌≤◌, ◌^◌, [], length, IsTrue};
 ghost use Rattle.live_cells.specs.Words.{Looks};
-ghost use Rattle.live_encodes.specs.Encodes.{words_of, Encodes};
+ghost use Rattle.live_encodes.specs.Encodes.{words_of};
 ghost use Rattle.live_calls.specs.Ways.{Names};
+ghost use Rattle.live_calls.specs.Holds.{HasWordOf};
 ghost use Rattle.live_calls.specs.Rooms.{HasRoom, HasGrown};
 
 use crate::held::{lock_node, unlock_same};
@@ -13,24 +12,32 @@ use crate::room::make_grown;
 use crate::way::{Nodes, Pass, byte_at, words_at};
 use live_cells::words::{Draft, Drafted};
 use live_encodes::change::change;
-use live_encodes::form::{form_below, next_of, word_below, words_in};
+use live_encodes::form::{form_below, next_of, slot_below, word_below, words_in};
 use live_encodes::search::find;
 use live_law::law::{Asks, Levels, Link, Mine, Same};
 use live_nodes::node;
 use live_rows::rows::Held;
 use node_base::base_node::NodeType;
 
-/// Whether a byte has a child.
-fn has_child<S, D: Draft<S>>(draft: &D, form: NodeType, byte: u8, seat: &mut S) -> bool
+/// Whether a byte has the node with this name as its child.
+pub fn leads_to<S, D: Draft<S>>(
+    draft: &D,
+    form: NodeType,
+    byte: u8,
+    name: u64,
+    seat: &mut S,
+) -> bool
     requires may { D.may_write draft.now seat.old }
     requires long { length (D.words draft.now seat.old) ≡ words_of form }
     ensures seat { Looks D.may_write D.words draft.now seat.old seat.new }
-    ensures some { IsTrue result → (n : TableNode ℕ) → Encodes (D.words draft.now seat.old) n
-        → n.form ≡ form → lookup n.children byte ≢ None }
+    ensures some { IsTrue result → HasWordOf (D.words draft.now seat.old) form byte name }
 {
     let long = words_in(form);
     let cells = Drafted { draft, long };
-    find(&cells, form, byte, seat).is_some()
+    match find(&cells, form, byte, seat) {
+        Some(word) => slot_below(word) == name,
+        None => false,
+    }
 }
 
 /// Puts a larger node in the place of this one, below the node above, on the way of a key. `false` where it is the largest,
@@ -38,6 +45,7 @@ fn has_child<S, D: Draft<S>>(draft: &D, form: NodeType, byte: u8, seat: &mut S) 
 pub fn widen<A: Asks>(
     nodes: &Nodes,
     above: u64,
+    level: usize,
     name: u64,
     height: usize,
     key: u64,
@@ -46,9 +54,9 @@ pub fn widen<A: Asks>(
 ) -> bool
     requires book { pass.old.book ≡ nodes.now }
     requires asks { (A.ask.key ≡ key) × (A.ask.height ≡ height) }
-    requires above { Names pass.old.view above key (height + 1) }
+    requires above { Names pass.old.view above key level }
     requires named { Names pass.old.view name key height }
-    requires height { (1 ≤ height) × (height < 8) }
+    requires height { (1 ≤ height) × (height < level) × (level ≤ 8) }
     requires rests { (pass.old.view.client.own ≡ []) × (pass.old.view.holds ≡ []) }
     requires room { HasRoom pass.old.view room.old.start room.old.left }
     ensures told { (pass.new.book ≡ pass.old.book) × (pass.new.id ≡ pass.old.id)
@@ -69,12 +77,12 @@ pub fn widen<A: Asks>(
     let Some(others) = nodes.span(room.start, words_in(wider) + 1) else {
         return false;
     };
-    let byte = byte_at(key, height + 1);
-    let Some(free_above) = lock_node(words_above, above, height + 1, key, pass) else {
+    let byte = byte_at(key, level);
+    let Some(free_above) = lock_node(words_above, above, level, key, pass) else {
         return false;
     };
     let parent: Held<'_, Mine, Levels, 0> = Held { words: words_above };
-    if !has_child(&parent, form_below(above), byte, pass) {
+    if !leads_to(&parent, form_below(above), byte, name, pass) {
         unlock_same(words_above, free_above, pass);
         return false;
     }

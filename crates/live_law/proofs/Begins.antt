@@ -53,11 +53,14 @@ begins = record {
     trunk_long = refl;
     placed = λ k some_node low. absurd (omega (arith, some_node, low));
     long = λ k some_node low. absurd (omega (arith, some_node, low));
+    apart = λ j k some_j some_k low lower. absurd (omega (arith, some_j, low));
   };
   tree = record {
     root = inl (refl, refl);
+    rooted = λ some_node. absurd (omega (arith, some_node));
     housed = λ h t some_node. absurd (omega (arith, some_node));
     upward = λ h t l some_node. absurd (omega (arith, some_node));
+    skips = λ h t x l some_node low. absurd (omega (arith, some_node));
     current = λ k some_node here. absurd (let e : 0 ≡ k = here in omega (arith, some_node, e));
     absent = λ k none. refl;
   };

@@ -65,6 +65,7 @@ module _ (d : Plan) (ns : List Node) (k : ℕ) (b : Node) (low : k < length ns) 
     trunk_long = long_stays 0 ∙ n.trunk_long;
     placed = λ j some_node l. place_stays j ∙ n.placed j some_node (omega (arith, l, length-set ns k b));
     long = λ j some_node l. long_stays j ∙ n.long j some_node (omega (arith, l, length-set ns k b));
+    apart = λ i j some_i some_j l m. n.apart i j some_i some_j (omega (arith, l, length-set ns k b)) (omega (arith, m, length-set ns k b));
   }
 
   pub spot_stays : (a : Spot) → IsSpot d ns a → IsSpot d changed a
@@ -120,8 +121,10 @@ module _ (d : Plan) (ns : List Node) (k : ℕ) (b : Node) (low : k < length ns) 
     root = dite (ℕ_discrete 0 k)
         (λ e. subst (λ (z : Node). NamesRoot d (at z.content 0)) (sym (is_here 0 e)) (root (sym e)))
         (λ ne. subst (λ (z : Node). NamesRoot d (at z.content 0)) (sym (is_else 0 ne)) t.root);
-    housed = λ h s some_node. let w = t.housed h s some_node in (low_stays (d.home h s) w.0, w.1, w.2, w.3);
+    rooted = t.rooted;
+    housed = λ h s some_node. let w = t.housed h s some_node in record { low = low_stays (d.home h s) w.low; linked = w.linked; level = w.level; some_height = w.some_height; below = w.below };
     upward = t.upward;
+    skips = t.skips;
     current = λ j some_node here. dite (ℕ_discrete j k)
         (λ e. subst (λ (z : Node). IsCurrent d m' (d.shape j) z.content) (sym (is_here j e)) (subst (λ (z : ℕ). IsCurrent d m' (d.shape z) b.content) (sym e) (its (subst (λ (z : ℕ). 1 ≤ z) e some_node) (subst (λ (z : ℕ). home_of d (d.shape z) ≡ z) e here))))
         (λ ne. subst (λ (z : Node). IsCurrent d m' (d.shape j) z.content) (sym (is_else j ne)) (else j some_node ne here (t.current j some_node here)));

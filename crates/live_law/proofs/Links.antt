@@ -1,5 +1,6 @@
 -- A new node becomes current, by the step that unlocks the node above it.
-use Rattle.std.proofs.Common.{◌≡◌, ◌≢◌, ◌⊎◌, ⊎_elim, ℕ, zero, suc, ◌+◌, ◌*◌, ◌/◌, ◌<◌, ◌≤◌, Bool, cond, nat_eq, List, ◌∷◌, length, set, Option, Some, None, refl, sym, ap, ◌∙◌, subst, inl, inr, arith, eq-eqb, ne_eqb}
+use Rattle.std.proofs.Common.{◌≡◌, ◌≢◌, ◌⊎◌, ⊎_elim, ℕ, zero, suc, ◌+◌, ◌*◌, ◌/◌, ◌<◌, ◌≤◌, Bool, cond, nat_eq, nat_lt, List, ◌∷◌, length, set, Option, Some, None, refl, sym, ap, ◌∙◌, subst, inl, inr, arith, eq-eqb, ne_eqb}
+use Rattle.std.proofs.lemmas.Bool.{cases_order, lt-ltb, le-ltb}
 use mathlib.Core.Option.{some}
 use mathlib.Core.Logic.{dite}
 use native.Mathlib.Decide.{ℕ_discrete}
@@ -9,9 +10,10 @@ use Rattle.node_table.specs.declared.child.Child.TheVariants.{Payload, Node as B
 use Rattle.live_nodes.proofs.Frames.{each_map}
 use Rattle.live_nodes.specs.Nodes.{Content, at, Node, node}
 use Rattle.live_nodes.specs.Seats.{Each}
-use Rattle.live_law.specs.Levels.{Shape, name_of, Spot}
+use Rattle.live_law.specs.Levels.{Shape, name_of, way, IsBelow, Spot}
 use Rattle.live_law.specs.Views.{View, view_of, Own, locked, fresh, outgrown, trunk}
-use Rattle.live_law.specs.Tree.{Plan, home_of, IsFree, LeadsTo, IsCurrent, NamesRoot, IsSpot, IsMet, IsFresh, IsOwn, IsTree, IsMap}
+use Rattle.live_law.specs.Tree.{Plan, home_of, IsFree, LeadsTo, IsHouse, Skips, IsCurrent, NamesRoot, IsSpot, IsMet, IsFresh, IsOwn, IsTree, IsMap}
+use Rattle.live_law.proofs.Plans.{way-suc, way-own, none_below, at_home}
 use Rattle.live_law.proofs.Changes.{with_map, nodes_stay, is_here, is_else, low_stays}
 use Rattle.live_law.proofs.Makes.{current_alike}
 
@@ -21,37 +23,63 @@ not_some x e = cc
 one_seat : (i j : ℕ) → Some i ≡ Some j → i ≡ j
 one_seat i j e = cc
 
--- THE PLAN, in which y is current where it was made for
-module _ (d : Plan) (y : Spot) where
+pub le_or : (a b : ℕ) → (a ≤ b) ⊎ (b < a)
+le_or a b = ⊎_elim (λ e. inl (omega (arith, e))) (λ o. ⊎_elim (λ l. inl (omega (arith, l))) (λ l. inr l) o) (cases_order a b)
+
+-- THE PLAN, in which y is current, and the highest below the level above g
+module _ (d : Plan) (y : Spot) (g : ℕ) where
   abbrev h₀ : ℕ
   h₀ = y.shape.height
-
-  abbrev t₀ : ℕ
-  t₀ = y.shape.top
 
   abbrev pub linked : Plan
   linked = record {
     shape = d.shape;
-    home = λ h t. cond (nat_eq h h₀) (cond (nat_eq t t₀) y.number (d.home h t)) (d.home h t);
+    home = λ h t. cond (nat_lt g h) (d.home h t) (cond (nat_lt h h₀) (d.home h t) (cond (nat_eq (way y.shape h) t) y.number (d.home h t)));
     maker = λ j. cond (nat_eq j y.number) None (d.maker j);
   }
 
-  pub home_new : (h t : ℕ) → h ≡ h₀ → t ≡ t₀ → linked.home h t ≡ y.number
-  home_new h t e f = ap (λ (b : Bool). cond b (cond (nat_eq t t₀) y.number (d.home h t)) (d.home h t)) (eq-eqb h h₀ e) ∙ ap (λ (b : Bool). cond b y.number (d.home h t)) (eq-eqb t t₀ f)
+  -- y is at this level
+  abbrev pub IsOn : ℕ → ℕ → Type 0
+  IsOn h t = (h ≤ g) × IsBelow y.shape h t
 
-  pub home_height : (h t : ℕ) → h ≢ h₀ → linked.home h t ≡ d.home h t
-  home_height h t ne = ap (λ (b : Bool). cond b (cond (nat_eq t t₀) y.number (d.home h t)) (d.home h t)) (ne_eqb h h₀ ne)
+  abbrev middle : ℕ → ℕ → ℕ
+  middle h t = cond (nat_lt h h₀) (d.home h t) (cond (nat_eq (way y.shape h) t) y.number (d.home h t))
 
-  home_top : (h t : ℕ) → t ≢ t₀ → linked.home h t ≡ d.home h t
-  home_top h t ne = dite (ℕ_discrete h h₀)
-      (λ e. ap (λ (b : Bool). cond b (cond (nat_eq t t₀) y.number (d.home h t)) (d.home h t)) (eq-eqb h h₀ e) ∙ ap (λ (b : Bool). cond b y.number (d.home h t)) (ne_eqb t t₀ ne))
-      (λ no. home_height h t no)
+  abbrev last : ℕ → ℕ → ℕ
+  last h t = cond (nat_eq (way y.shape h) t) y.number (d.home h t)
+
+  home_low : (h t : ℕ) → h ≤ g → linked.home h t ≡ middle h t
+  home_low h t low = ap (λ (b : Bool). cond b (d.home h t) (middle h t)) (le-ltb g h low)
+
+  home_tall : (h t : ℕ) → h ≤ g → h₀ ≤ h → linked.home h t ≡ last h t
+  home_tall h t low tall = home_low h t low ∙ ap (λ (b : Bool). cond b (d.home h t) (last h t)) (le-ltb h h₀ tall)
+
+  pub home_new : (h t : ℕ) → IsOn h t → linked.home h t ≡ y.number
+  home_new h t on = home_tall h t on.0 on.1.0 ∙ ap (λ (b : Bool). cond b y.number (d.home h t)) (eq-eqb (way y.shape h) t on.1.1)
+
+  pub home_old : (h t : ℕ) → (IsOn h t → ⊥) → linked.home h t ≡ d.home h t
+  home_old h t off = ⊎_elim
+      (λ low. ⊎_elim
+      (λ tall. dite (ℕ_discrete (way y.shape h) t)
+      (λ e. absurd (off (low, (tall, e))))
+      (λ ne. home_tall h t low tall ∙ ap (λ (b : Bool). cond b y.number (d.home h t)) (ne_eqb (way y.shape h) t ne)))
+      (λ short. home_low h t low ∙ ap (λ (b : Bool). cond b (d.home h t) (last h t)) (lt-ltb h h₀ short))
+      (le_or h₀ h))
+      (λ high. ap (λ (b : Bool). cond b (d.home h t) (middle h t)) (lt-ltb g h high))
+      (le_or h g)
+
+  on_or : (h t : ℕ) → IsOn h t ⊎ (IsOn h t → ⊥)
+  on_or h t = ⊎_elim
+      (λ low. ⊎_elim
+      (λ tall. dite (ℕ_discrete (way y.shape h) t) (λ e. inl (low, (tall, e))) (λ ne. inr (λ on. ne on.1.1)))
+      (λ short. inr (λ on. let l = on.1.0 in omega (arith, short, l)))
+      (le_or h₀ h))
+      (λ high. inr (λ on. let l = on.0 in omega (arith, high, l)))
+      (le_or h g)
 
   -- either it is where y is, or the home is the same
-  home_either : (h t : ℕ) → ((h ≡ h₀) × (t ≡ t₀) × (linked.home h t ≡ y.number)) ⊎ (linked.home h t ≡ d.home h t)
-  home_either h t = dite (ℕ_discrete h h₀)
-      (λ e. dite (ℕ_discrete t t₀) (λ f. inl (e, f, home_new h t e f)) (λ no. inr (home_top h t no)))
-      (λ no. inr (home_height h t no))
+  home_either : (h t : ℕ) → (IsOn h t × (linked.home h t ≡ y.number)) ⊎ ((IsOn h t → ⊥) × (linked.home h t ≡ d.home h t))
+  home_either h t = ⊎_elim (λ on. inl (on, home_new h t on)) (λ off. inr (off, home_old h t off)) (on_or h t)
 
   maker_here : linked.maker y.number ≡ None
   maker_here = ap (λ (b : Bool). cond b None (d.maker y.number)) (eq-eqb y.number y.number refl)
@@ -63,31 +91,31 @@ module _ (d : Plan) (y : Spot) where
   maker_none j e = dite (ℕ_discrete j y.number) (λ s. ap linked.maker s ∙ maker_here) (λ ne. maker_else j ne ∙ e)
 
   more_homes : 1 ≤ y.number → (h t : ℕ) → 1 ≤ d.home h t → 1 ≤ linked.home h t
-  more_homes some_node h t there = ⊎_elim (λ w. let e = w.2 in omega (arith, e, some_node)) (λ e. omega (arith, e, there)) (home_either h t)
+  more_homes some_node h t there = ⊎_elim (λ w. let e = w.1 in omega (arith, e, some_node)) (λ w. let e = w.1 in omega (arith, e, there)) (home_either h t)
 
-  pub leads_height : (o : Option (Child ℕ)) (h t : ℕ) → h ≢ h₀ → LeadsTo d o (d.home h t) → LeadsTo linked o (linked.home h t)
-  leads_height None h t ne l = home_height h t ne ∙ l
-  leads_height (Some (Payload w)) h t ne l = l
-  leads_height (Some (Below w)) h t ne l = let e = home_height h t ne in (subst (λ (z : ℕ). 1 ≤ z) (sym e) l.0, l.1 ∙ ap (λ (z : ℕ). name_of (d.shape z)) (sym e))
+  pub leads_old : (o : Option (Child ℕ)) (h t : ℕ) → (IsOn h t → ⊥) → LeadsTo d o (d.home h t) → LeadsTo linked o (linked.home h t)
+  leads_old None h t off l = home_old h t off ∙ l
+  leads_old (Some (Payload w)) h t off l = l
+  leads_old (Some (Below w)) h t off l = let e = home_old h t off in (subst (λ (z : ℕ). 1 ≤ z) (sym e) l.0, l.1 ∙ ap (λ (z : ℕ). name_of (d.shape z)) (sym e))
 
-  pub leads_top : (o : Option (Child ℕ)) (h t : ℕ) → t ≢ t₀ → LeadsTo d o (d.home h t) → LeadsTo linked o (linked.home h t)
-  leads_top None h t ne l = home_top h t ne ∙ l
-  leads_top (Some (Payload w)) h t ne l = l
-  leads_top (Some (Below w)) h t ne l = let e = home_top h t ne in (subst (λ (z : ℕ). 1 ≤ z) (sym e) l.0, l.1 ∙ ap (λ (z : ℕ). name_of (d.shape z)) (sym e))
-
--- THE STEP: node k becomes b, and y is current from then on.
+-- THE STEP: node k becomes b, and y is current from then on. Where y is, o was, or nothing. Node k is above.
 module _ (id : ℕ) (v : View) (y : Spot) (cy : Content) (k : ℕ) (b : Node) (ns : List Node) (vs : List View) (p : IsMap ns vs) (seat : get_elem? vs id ≡ some v) (low : k < length ns) (there : b.place ≡ (node ns k).place) (long : length b.content ≡ length (node ns k).content)
     (held : (node ns k).holder ≡ Some id) (made : IsFresh p.plan ns id y cy) (no_maker : 1 ≤ k → p.plan.maker k ≡ None)
-    (occupied : (p.plan.home y.shape.height y.shape.top ≡ 0) ⊎ ((node ns (p.plan.home y.shape.height y.shape.top)).holder ≡ Some id))
-    (above : (a : Spot) → IsSpot p.plan ns a → a.number ≡ k → (a.shape.height ≢ y.shape.height) × (home_of p.plan a.shape ≡ a.number)) where
+    (g : ℕ) (level : g ≤ 8) (tall : 1 ≤ y.shape.height) (reach : y.shape.height ≤ g)
+    (o : ℕ) (was : (h : ℕ) → y.shape.height ≤ h → h ≤ g → p.plan.home h (way y.shape h) ≡ o)
+    (occupied : (o ≡ 0) ⊎ (((p.plan.shape o).height ≤ y.shape.height) × (((node ns o).holder ≡ Some id) ⊎ ((p.plan.shape o).height < y.shape.height))))
+    (roof : p.plan.home (suc g) (way y.shape (suc g)) ≡ k) (roof_high : 1 ≤ k → (p.plan.shape k).height ≡ suc g) (roofed : g < 8 → 1 ≤ k) where
   abbrev d : Plan
   d = p.plan
 
   abbrev d' : Plan
-  d' = linked d y
+  d' = linked d y g
 
   abbrev ns' : List Node
   ns' = set ns k b
+
+  abbrev hy : ℕ
+  hy = y.shape.height
 
   some_y : 1 ≤ y.number
   some_y = made.spot.below_trunk
@@ -98,28 +126,42 @@ module _ (id : ℕ) (v : View) (y : Spot) (cy : Content) (k : ℕ) (b : Node) (n
   y_not_k : y.number ≢ k
   y_not_k e = not_some id (sym made.maker ∙ (ap d.maker e ∙ no_maker (omega (arith, e, some_y))))
 
-  -- no other seat's node is where y will be, nor a free one
-  no_other : (a : Spot) → IsSpot d ns a → (j : Option ℕ) → (node ns a.number).holder ≡ j → j ≢ Some id → d.home y.shape.height y.shape.top ≢ a.number
-  no_other a s j h ne e = ⊎_elim
-      (λ zero_is. let n = s.below_trunk in omega (arith, zero_is, e, n))
-      (λ mine. ne (sym h ∙ (ap (λ (z : ℕ). (node ns z).holder) (sym e) ∙ mine)))
-      occupied
+  k_current : 1 ≤ k → home_of d (d.shape k) ≡ k
+  k_current some_node = subst (λ (z : ℕ). home_of d (d.shape z) ≡ z) roof (at_home d ns p.pairs p.tree (suc g) (way y.shape (suc g)) (subst (λ (z : ℕ). 1 ≤ z) (sym roof) some_node))
 
   none_not_mine : None ≢ Some id
   none_not_mine e = not_some id (sym e)
 
+  -- what another seat holds, or none, isn't where y will be
   home_met : (a : Spot) → IsSpot d ns a → (j : Option ℕ) → (node ns a.number).holder ≡ j → j ≢ Some id → home_of d a.shape ≡ a.number → home_of d' a.shape ≡ a.number
   home_met a s j h ne here = ⊎_elim
-      (λ w. absurd (no_other a s j h ne (ap (λ (z : ℕ × ℕ). d.home z.0 z.1) (λ i. (sym w.0 i, sym w.1 i)) ∙ here)))
-      (λ e. e ∙ here)
-      (home_either d y a.shape.height a.shape.top)
+      (λ w.
+      let on = w.0 in
+      let is_o : o ≡ a.number = sym (was a.shape.height on.1.0 on.0) ∙ (ap (d.home a.shape.height) on.1.1 ∙ here) in
+      let high : (d.shape o).height ≡ a.shape.height = ap (λ (z : ℕ). (d.shape z).height) is_o ∙ ap (λ (z : Shape). z.height) s.shaped in
+      absurd (⊎_elim
+      (λ zero_is. let n = s.below_trunk in omega (arith, zero_is, is_o, n))
+      (λ z. ⊎_elim
+      (λ mine. ne (sym h ∙ (ap (λ (x : ℕ). (node ns x).holder) (sym is_o) ∙ mine)))
+      (λ lower. let l = on.1.0 in omega (arith, lower, high, l))
+      z.1)
+      occupied))
+      (λ w. w.1 ∙ here)
+      (home_either d y g a.shape.height a.shape.top)
+
+  k_stays : (a : Spot) → IsSpot d ns a → a.number ≡ k → home_of d' a.shape ≡ a.number
+  k_stays a s e =
+      let some_k : 1 ≤ k = (let n = s.below_trunk in omega (arith, n, e)) in
+      let as_k : a.shape ≡ d.shape k = sym s.shaped ∙ ap d.shape e in
+      let high : a.shape.height ≡ suc g = ap (λ (z : Shape). z.height) as_k ∙ roof_high some_k in
+      home_old d y g a.shape.height a.shape.top (λ on. let l = on.0 in omega (arith, l, high)) ∙ (ap (home_of d) as_k ∙ (k_current some_k ∙ sym e))
 
   pub met_links : (a : Spot) → IsMet d ns a → IsMet d' ns' a
   met_links a m = record {
     spot = spot_links a m.spot;
-    linked = maker_none d y a.number m.linked;
+    linked = maker_none d y g a.number m.linked;
     current = dite (ℕ_discrete a.number k)
-        (λ e f. let u = above a m.spot e in home_height d y a.shape.height a.shape.top u.0 ∙ u.1)
+        (λ e f. k_stays a m.spot e)
         (λ ne f. let g : IsFree (node ns a.number) = subst IsFree (is_else d ns k b low there long a.number ne) f in home_met a m.spot None g.0 none_not_mine (m.current g));
   }
     where
@@ -139,14 +181,14 @@ module _ (id : ℕ) (v : View) (y : Spot) (cy : Content) (k : ℕ) (b : Node) (n
   own_links j ne (fresh a c) h =
       let not_k : a.number ≢ k = λ e. not_some j (sym h.maker ∙ (ap d.maker e ∙ no_maker (let s = h.spot.below_trunk in omega (arith, s, e)))) in record {
         spot = record { below_trunk = h.spot.below_trunk; low = low_stays d ns k b low there long a.number h.spot.low; shaped = h.spot.shaped };
-        maker = maker_else d y a.number (λ e. ne (one_seat j id (sym h.maker ∙ (ap d.maker e ∙ made.maker)))) ∙ h.maker;
+        maker = maker_else d y g a.number (λ e. ne (one_seat j id (sym h.maker ∙ (ap d.maker e ∙ made.maker)))) ∙ h.maker;
         content = ap (λ (z : Node). z.content) (is_else d ns k b low there long a.number not_k) ∙ h.content;
       }
   own_links j ne (outgrown a) h =
       let other : a.number ≢ k = λ e. ne (one_seat j id (sym h.holder ∙ (ap (λ (z : ℕ). (node ns z).holder) e ∙ held))) in record {
         met = met_links a h.met;
         holder = ap (λ (z : Node). z.holder) (is_else d ns k b low there long a.number other) ∙ h.holder;
-        replaced = λ here. ⊎_elim (λ w. not_y a.number h.met.linked (sym here ∙ w.2)) (λ e. h.replaced (sym e ∙ here)) (home_either d y a.shape.height a.shape.top);
+        replaced = λ here. ⊎_elim (λ w. not_y a.number h.met.linked (sym here ∙ w.1)) (λ w. h.replaced (sym w.1 ∙ here)) (home_either d y g a.shape.height a.shape.top);
       }
   own_links j ne (trunk c) h =
       let other : 0 ≢ k = λ e. ne (one_seat j id (sym h.0 ∙ (ap (λ (z : ℕ). (node ns z).holder) e ∙ held))) in
@@ -155,49 +197,138 @@ module _ (id : ℕ) (v : View) (y : Spot) (cy : Content) (k : ℕ) (b : Node) (n
   y_met : IsMet d' ns' y
   y_met = record {
     spot = record { below_trunk = some_y; low = low_stays d ns k b low there long y.number made.spot.low; shaped = made.spot.shaped };
-    linked = maker_here d y;
-    current = λ _. home_new d y y.shape.height y.shape.top refl refl;
+    linked = maker_here d y g;
+    current = λ _. home_new d y g hy y.shape.top (reach, ((let e : hy ≤ hy = omega arith in e), way-own y.shape));
   }
 
   y_content : (node ns' y.number).content ≡ cy
   y_content = ap (λ (z : Node). z.content) (is_else d ns k b low there long y.number y_not_k) ∙ made.content
 
+  -- the level above y is node k's
+  at_roof : (h t : ℕ) → g < suc h → IsOn d y g h t → d.home (suc h) (t / 256) ≡ k
+  at_roof h t high on =
+      let same : h ≡ g = (let l = on.0 in omega (arith, l, high)) in
+      ap (λ (z : ℕ × ℕ). d.home z.0 z.1) (λ i. (suc (same i), (ap (λ (z : ℕ). z / 256) (sym on.1.1) ∙ (sym (way-suc y.shape h on.1.0) ∙ ap (λ (z : ℕ). way y.shape (suc z)) same)) i)) ∙ roof
+
+  on_above : (h t : ℕ) → suc h ≤ g → IsOn d y g h t → IsOn d y g (suc h) (t / 256)
+  on_above h t low on = (low, ((let l = on.1.0 in omega (arith, l)), way-suc y.shape h on.1.0 ∙ ap (λ (z : ℕ). z / 256) on.1.1))
+
+  upward_links : (h t : ℕ) → h < 8 → 1 ≤ d'.home h t → 1 ≤ d'.home (suc h) (t / 256)
+  upward_links h t l some_node = ⊎_elim
+      (λ w. ⊎_elim
+      (λ in_it. subst (λ (z : ℕ). 1 ≤ z) (sym (home_new d y g (suc h) (t / 256) (on_above h t in_it w.0))) some_y)
+      (λ out. more_homes d y g some_y (suc h) (t / 256) (subst (λ (z : ℕ). 1 ≤ z) (sym (at_roof h t out w.0)) (roofed (let low = w.0.0 in omega (arith, low, out, l)))))
+      (le_or (suc h) g))
+      (λ w. more_homes d y g some_y (suc h) (t / 256) (p.tree.upward h t l (subst (λ (z : ℕ). 1 ≤ z) w.1 some_node)))
+      (home_either d y g h t)
+
+  -- beside y nothing was where o was
+  was_gone : (h t x : ℕ) → x < 256 → IsOn d y g (suc h) t → hy ≤ h → (IsBelow y.shape h (256 * t + x) → ⊥) → d.home h (256 * t + x) ≡ 0
+  was_gone h t x lo on tall_h off =
+      let above : d.home (suc h) t ≡ o = ap (d.home (suc h)) (sym on.1.1) ∙ was (suc h) on.1.0 on.0 in
+      let here : d.home h (way y.shape h) ≡ o = was h tall_h (let l = on.0 in omega (arith, l)) in
+      ⊎_elim
+      (λ zero_is. none_below d ns p.pairs p.tree h t x (let l = on.0 in omega (arith, l, level)) lo (above ∙ zero_is))
+      (λ z. dite (ℕ_discrete o 0)
+      (λ zero_is. none_below d ns p.pairs p.tree h t x (let l = on.0 in omega (arith, l, level)) lo (above ∙ zero_is))
+      (λ ne.
+      let some_o : 1 ≤ o = some_of o ne in
+      let lower : (d.shape o).height ≤ h = (let l = z.0 in omega (arith, l, tall_h)) in
+      let ways : way (d.shape o) h ≡ way y.shape h = subst (λ (j : ℕ). way (d.shape j) h ≡ way y.shape h) here (p.tree.housed h (way y.shape h) (subst (λ (j : ℕ). 1 ≤ j) (sym here) some_o)).below.1 in
+      (p.tree.skips h t x lo (subst (λ (j : ℕ). 1 ≤ j) (sym above) some_o) (subst (λ (j : ℕ). (d.shape j).height ≤ h) (sym above) lower)).1
+      (λ bl. off (tall_h, sym ways ∙ (subst (λ (j : ℕ). IsBelow (d.shape j) h (256 * t + x)) above bl).1))))
+      occupied
+    where
+      some_of : (j : ℕ) → j ≢ 0 → 1 ≤ j
+      some_of zero ne = absurd (ne refl)
+      some_of (suc j) ne = omega arith
+
+  skips_links : (h t x : ℕ) → x < 256 → 1 ≤ d'.home (suc h) t → (d'.shape (d'.home (suc h) t)).height ≤ h → Skips d' h (256 * t + x) (d'.home (suc h) t)
+  skips_links h t x lo some_node lower = ⊎_elim
+      (λ w.
+      let sh = made.spot.shaped in
+      let tall_h : hy ≤ h = subst (λ (z : Shape). z.height ≤ h) sh (subst (λ (z : ℕ). (d.shape z).height ≤ h) w.1 lower) in
+      let low_h : h ≤ g = (let l = w.0.0 in omega (arith, l)) in
+      subst (λ (z : ℕ). Skips d' h (256 * t + x) z) (sym w.1) (
+        (λ bl. home_new d y g h (256 * t + x) (low_h, subst (λ (z : Shape). IsBelow z h (256 * t + x)) sh bl)),
+        (λ off. let gone : IsBelow y.shape h (256 * t + x) → ⊥ = λ bl. off (subst (λ (z : Shape). IsBelow z h (256 * t + x)) (sym sh) bl) in
+            home_old d y g h (256 * t + x) (λ on. gone on.1) ∙ was_gone h t x lo w.0 tall_h gone),
+      ))
+      (λ w.
+      let some' : 1 ≤ d.home (suc h) t = subst (λ (z : ℕ). 1 ≤ z) w.1 some_node in
+      let lower' : (d.shape (d.home (suc h) t)).height ≤ h = subst (λ (z : ℕ). (d.shape z).height ≤ h) w.1 lower in
+      let sk = p.tree.skips h t x lo some' lower' in
+      let up_is : (256 * t + x) / 256 ≡ t = omega (arith, lo) in
+      let not_on : IsOn d y g h (256 * t + x) → ⊥ = λ on. ⊎_elim
+      (λ in_it. w.0 (subst (IsOn d y g (suc h)) up_is (on_above h (256 * t + x) in_it on)))
+      (λ out.
+      let is_k : d.home (suc h) t ≡ k = ap (d.home (suc h)) (sym up_is) ∙ at_roof h (256 * t + x) out on in
+      let some_k : 1 ≤ k = subst (λ (z : ℕ). 1 ≤ z) is_k some' in
+      let high = roof_high some_k in
+      let short : (d.shape k).height ≤ h = subst (λ (z : ℕ). (d.shape z).height ≤ h) is_k lower' in
+      let l = on.0 in omega (arith, high, short, l, out))
+      (le_or (suc h) g) in
+      subst (λ (z : ℕ). Skips d' h (256 * t + x) z) (sym w.1) (
+        (λ bl. home_old d y g h (256 * t + x) not_on ∙ sk.0 bl),
+        (λ nb. home_old d y g h (256 * t + x) not_on ∙ sk.1 nb),
+      ))
+      (home_either d y g (suc h) t)
+
+  -- no other node leads to y
+  only_one : (j : ℕ) → j ≢ k → home_of d (d.shape j) ≡ j → (IsOn d y g (d.shape j).height (d.shape j).top → ⊥) → (h x : ℕ) → x < 256 → (d.shape j).height ≡ suc (suc h) → IsOn d y g (suc h) (256 * (d.shape j).top + x) → ⊥
+  only_one j ne here out h x lo high on =
+      let top : ℕ = (d.shape j).top in
+      let up_is : (256 * top + x) / 256 ≡ top = omega (arith, lo) in
+      ⊎_elim
+      (λ in_it. out (subst (λ (z : ℕ). IsOn d y g z top) (sym high) (subst (IsOn d y g (suc (suc h))) up_is (on_above (suc h) (256 * top + x) in_it on))))
+      (λ above. ne (sym here ∙ (ap (λ (z : ℕ × ℕ). d.home z.0 z.1) (λ i. (high i, sym up_is i)) ∙ at_roof (suc h) (256 * top + x) above on)))
+      (le_or (suc (suc h)) g)
+
   module _ (root : NamesRoot d' (at (node ns' 0).content 0))
-      (up_there : y.shape.height < 8 → 1 ≤ d.home (suc y.shape.height) (y.shape.top / 256))
+      (at_root : IsOn d y g 8 0 → y.shape.height ≡ 8)
       (of_y : IsCurrent d' p.pairs y.shape cy)
-      (of_k : 1 ≤ k → home_of d (d.shape k) ≡ k → IsCurrent d' p.pairs (d.shape k) b.content)
-      (only : (j : ℕ) → 1 ≤ j → j ≢ k → home_of d (d.shape j) ≡ j → (h x : ℕ) → x < 256 → (d.shape j).height ≡ suc (suc h) → suc h ≡ y.shape.height → 256 * (d.shape j).top + x ≢ y.shape.top) where
+      (of_k : 1 ≤ k → home_of d (d.shape k) ≡ k → IsCurrent d' p.pairs (d.shape k) b.content) where
     links_tree : IsTree d' ns' p.pairs
     links_tree = let t = p.tree in record {
       root = root;
+      rooted = λ some_node. ⊎_elim
+          (λ w. subst (λ (z : ℕ). (d.shape z).height ≡ 8) (sym w.1) (ap (λ (z : Shape). z.height) made.spot.shaped ∙ at_root w.0))
+          (λ w. subst (λ (z : ℕ). (d.shape z).height ≡ 8) (sym w.1) (t.rooted (subst (λ (z : ℕ). 1 ≤ z) w.1 some_node)))
+          (home_either d y g 8 0);
       housed = λ h s some_node. ⊎_elim
-          (λ w. let e = w.2 in let sh = made.spot.shaped in
-          subst (λ (z : ℕ). (z < length ns') × ((d.shape z).height ≡ h) × ((d.shape z).top ≡ s) × (d'.maker z ≡ None)) (sym e)
-          (y_met.spot.low, ap (λ (z : Shape). z.height) sh ∙ sym w.0, ap (λ (z : Shape). z.top) sh ∙ sym w.1, maker_here d y))
-          (λ e. let o = t.housed h s (subst (λ (z : ℕ). 1 ≤ z) e some_node) in
-          subst (λ (z : ℕ). (z < length ns') × ((d.shape z).height ≡ h) × ((d.shape z).top ≡ s) × (d'.maker z ≡ None)) (sym e)
-          (low_stays d ns k b low there long (d.home h s) o.0, o.1, o.2, maker_none d y (d.home h s) o.3))
-          (home_either d y h s);
-      upward = λ h s l some_node. more_homes d y some_y (suc h) (s / 256) (⊎_elim
-          (λ w. subst (λ (z : ℕ × ℕ). 1 ≤ d.home (suc z.0) (z.1 / 256)) (λ i. (sym w.0 i, sym w.1 i)) (up_there (let e = w.0 in omega (arith, e, l))))
-          (λ e. t.upward h s l (subst (λ (z : ℕ). 1 ≤ z) e some_node))
-          (home_either d y h s));
+          (λ w. let sh = made.spot.shaped in
+          subst (λ (z : ℕ). IsHouse d' ns' h s z) (sym w.1) record {
+            low = y_met.spot.low;
+            linked = maker_here d y g;
+            level = (let l = w.0.0 in omega (arith, l, level));
+            some_height = subst (λ (z : Shape). 1 ≤ z.height) (sym sh) tall;
+            below = subst (λ (z : Shape). IsBelow z h s) (sym sh) w.0.1;
+          })
+          (λ w. let o = t.housed h s (subst (λ (z : ℕ). 1 ≤ z) w.1 some_node) in
+          subst (λ (z : ℕ). IsHouse d' ns' h s z) (sym w.1) record {
+            low = low_stays d ns k b low there long (d.home h s) o.low;
+            linked = maker_none d y g (d.home h s) o.linked;
+            level = o.level;
+            some_height = o.some_height;
+            below = o.below;
+          })
+          (home_either d y g h s);
+      upward = upward_links;
+      skips = skips_links;
       current = λ j some_node here. dite (ℕ_discrete j y.number)
           (λ e. subst (λ (z : ℕ). IsCurrent d' p.pairs (d.shape z) (node ns' z).content) (sym e)
           (subst (λ (z : Shape × Content). IsCurrent d' p.pairs z.0 z.1) (λ i. (sym made.spot.shaped i, sym y_content i)) of_y))
           (λ not_it. ⊎_elim
-          (λ w. absurd (not_it (sym here ∙ w.2)))
-          (λ same. let at_home = sym same ∙ here in dite (ℕ_discrete j k)
+          (λ w. absurd (not_it (sym here ∙ w.1)))
+          (λ w. let at_home' = sym w.1 ∙ here in dite (ℕ_discrete j k)
           (λ e. subst (λ (z : Node). IsCurrent d' p.pairs (d.shape j) z.content) (sym (is_here d ns k b low there long j e))
-          (subst (λ (z : ℕ). IsCurrent d' p.pairs (d.shape z) b.content) (sym e) (of_k (subst (λ (z : ℕ). 1 ≤ z) e some_node) (subst (λ (z : ℕ). home_of d (d.shape z) ≡ z) e at_home))))
+          (subst (λ (z : ℕ). IsCurrent d' p.pairs (d.shape z) b.content) (sym e) (of_k (subst (λ (z : ℕ). 1 ≤ z) e some_node) (subst (λ (z : ℕ). home_of d (d.shape z) ≡ z) e at_home'))))
           (λ ne. subst (λ (z : Node). IsCurrent d' p.pairs (d.shape j) z.content) (sym (is_else d ns k b low there long j ne))
           (current_alike d d' p.pairs (d.shape j) (node ns j).content
-          (λ o h x l at_h. dite (ℕ_discrete (suc h) y.shape.height)
-          (λ eh. leads_top d y o (suc h) (256 * (d.shape j).top + x) (only j some_node ne at_home h x l at_h eh))
-          (λ nh. leads_height d y o (suc h) (256 * (d.shape j).top + x) nh))
-          (t.current j some_node at_home))))
-          (home_either d y (d.shape j).height (d.shape j).top));
-      absent = λ x none. t.absent x (zero_of (d.home 1 (x / 256)) (λ some_node. let m = more_homes d y some_y 1 (x / 256) some_node in omega (arith, m, none)));
+          (λ o h x l at_h. leads_old d y g o (suc h) (256 * (d.shape j).top + x) (only_one j ne at_home' w.0 h x l at_h))
+          (t.current j some_node at_home'))))
+          (home_either d y g (d.shape j).height (d.shape j).top));
+      absent = λ x none. t.absent x (zero_of (d.home 1 (x / 256)) (λ some_node. let m = more_homes d y g some_y 1 (x / 256) some_node in omega (arith, m, none)));
     }
       where
         zero_of : (j : ℕ) → (1 ≤ j → ⊥) → j ≡ 0
@@ -207,7 +338,7 @@ module _ (id : ℕ) (v : View) (y : Spot) (cy : Content) (k : ℕ) (b : Node) (n
     pub links_map : (os : List Own) → Each (IsOwn d' ns' id) os → IsMap ns' (set vs id (view_of v.seen (y ∷ v.met) os))
     links_map os own = let kn = p.each_view id v seat in
         with_map ns vs id p ns' (view_of v.seen (y ∷ v.met) os) d' p.history p.pairs p.legal
-        (let n = nodes_stay d ns k b low there long p.nodes in record { some_trunk = n.some_trunk; trunk_long = n.trunk_long; placed = n.placed; long = n.long })
+        (let n = nodes_stay d ns k b low there long p.nodes in record { some_trunk = n.some_trunk; trunk_long = n.trunk_long; placed = n.placed; long = n.long; apart = n.apart })
         links_tree met_links own_links (λ j ne s h. h) p.unborn record {
           seen = kn.seen;
           met = (y_met, each_map (IsMet d ns) (IsMet d' ns') v.met met_links kn.met);

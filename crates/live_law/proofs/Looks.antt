@@ -1,6 +1,8 @@
 -- What a check teaches, and that only the history and one view_of change.
-use Rattle.std.proofs.Common.{◌≡◌, ⊎_elim, ℕ, Bool, true, false, zero, suc, ◌+◌, ◌*◌, ◌<◌, ◌≤◌, List, [], ◌∷◌, ◌++◌, length, length-set, set, Option, Some, None, refl, sym, ap, ◌∙◌, subst, arith}
+use Rattle.std.proofs.Common.{◌≡◌, ⊎_elim, ℕ, Bool, true, false, zero, suc, ◌-◌, ◌*◌, ◌<◌, ◌≤◌, List, [], ◌∷◌, ◌++◌, length, length-set, set, Option, Some, None, refl, sym, ap, ◌∙◌, subst, arith}
 use mathlib.Core.Option.{some}
+use mathlib.Core.Logic.{dite}
+use native.Mathlib.Decide.{ℕ_discrete}
 use lib.ListN.{get_elem?}
 use Rattle.atomic_table.proofs.Lists.{at_set, set_again}
 use Rattle.node_table.specs.TableNode.{Child}
@@ -16,9 +18,9 @@ use Rattle.live_nodes.specs.Acts as acts
 use Rattle.live_encodes.specs.Encodes.{words_of}
 use Rattle.live_law.specs.Levels.{up, digit, Shape, name_of, Covers, Spot, spot, place_at}
 use Rattle.live_law.specs.Views.{View, view_of, Ask, got}
-use Rattle.live_law.specs.Tree.{Plan, home_of, LeadsTo, HasValue, IsUnder, IsCurrent, IsMet, Knows, IsTree, IsMap, LearnsRoot, GoesTo, HasAnswer, Gets, Finds, Looks, IsOfKind, LearnsNode}
+use Rattle.live_law.specs.Tree.{Plan, home_of, LeadsTo, HasValue, IsUnder, IsCurrent, IsMet, Knows, IsTree, IsMap, LearnsRoot, GoesTo, HasAnswer, Gets, Finds, Heads, Misses, Looks, IsOfKind, Meets, LearnsNode}
 use Rattle.live_law.proofs.Histories.{get_legal, others_alike, sees_all, sees_less}
-use Rattle.live_law.proofs.Plans.{digit-low, joined, none_there}
+use Rattle.live_law.proofs.Plans.{digit-low, joined, at_home, missed, none_there, same_name}
 
 module _ (ns : List Node) (vs : List View) (id : ℕ) (p : IsMap ns vs) where
   -- ONE VIEW CHANGES
@@ -65,12 +67,12 @@ root_learns id v word x ns vs p seat low is free agree = ⊎_elim
     let k : ℕ = p.plan.home 8 0 in
     let h = p.tree.housed 8 0 there.0 in
     let a : Spot = spot k (p.plan.shape k) in
-    let here : home_of p.plan a.shape ≡ k = ap (λ (t : ℕ × ℕ). p.plan.home t.0 t.1) (λ i. (h.1 i, h.2 i)) in
-    let met : IsMet p.plan ns a = record { spot = record { below_trunk = there.0; low = h.0; shaped = refl }; linked = h.3; current = λ _. here } in
+    let here : home_of p.plan a.shape ≡ k = at_home p.plan ns p.pairs p.tree 8 0 there.0 in
+    let met : IsMet p.plan ns a = record { spot = record { below_trunk = there.0; low = h.low; shaped = refl }; linked = h.linked; current = λ _. here } in
     let w : View = view_of v.seen (a ∷ v.met) v.own in
     let knows = p.each_view id v seat in (
       place_at a ∷ [],
-      ((h.0, p.nodes.placed k there.0 h.0, p.nodes.long k there.0 h.0), tt),
+      ((h.low, p.nodes.placed k there.0 h.low, p.nodes.long k there.0 h.low), tt),
       (
         w,
         with_view ns vs id p w record { seen = knows.seen; met = (met, knows.met); own = knows.own },
@@ -80,8 +82,8 @@ root_learns id v word x ns vs p seat low is free agree = ⊎_elim
             place = refl;
             is = refl;
             named = sym (ap first_of e) ∙ (sym agree.0 ∙ there.2);
-            height = h.1;
-            top = h.2;
+            height = p.tree.rooted there.0;
+            top = sym (ap (λ (z : ℕ). up (8 - z) a.shape.top) (p.tree.rooted there.0)) ∙ h.below.1;
           }),
           (λ zero_is. absurd (let same : x ≡ x' = ap first_of e in let was : at (node ns 0).content 0 ≡ x = agree.0 in let some_root = there.1 in omega (arith, same, some_root, was, zero_is))),
         )),
@@ -123,19 +125,18 @@ module _ (d : Plan) (ns : List Node) (m : Pairs ℕ) (t : IsTree d ns m) (k : �
   at_inner h top o is u = subst (λ (x : ℕ). LeadsTo d o (d.home (suc h) x)) (joined (suc h) k top is) u
 
   -- the node that is led to
-  pub next_spot : (h s : ℕ) → LeadsTo d (Some (Below s)) (d.home (suc h) (up (suc h) k)) → (a : Spot) × (s ≡ name_of a.shape) × (a.shape.height ≡ suc h) × (up (suc h) k ≡ a.shape.top) × IsMet d ns a
+  pub next_spot : (h s : ℕ) → LeadsTo d (Some (Below s)) (d.home (suc h) (up (suc h) k)) → (a : Spot) × (s ≡ name_of a.shape) × (a.shape.height ≤ suc h) × IsMet d ns a
   next_spot h s leads =
       let j : ℕ = d.home (suc h) (up (suc h) k) in
-      let at_home = t.housed (suc h) (up (suc h) k) leads.0 in
+      let house = t.housed (suc h) (up (suc h) k) leads.0 in
       let a : Spot = spot j (d.shape j) in (
         a,
         leads.1,
-        at_home.1,
-        sym at_home.2,
+        house.below.0,
         record {
-          spot = record { below_trunk = leads.0; low = at_home.0; shaped = refl };
-          linked = at_home.3;
-          current = λ _. ap (λ (x : ℕ × ℕ). d.home x.0 x.1) (λ i. (at_home.1 i, at_home.2 i));
+          spot = record { below_trunk = leads.0; low = house.low; shaped = refl };
+          linked = house.linked;
+          current = λ _. at_home d ns m t (suc h) (up (suc h) k) leads.0;
         },
       )
 
@@ -147,24 +148,23 @@ module _ (q : Ask) (id : ℕ) (by : q.caller ≡ id) (v : View) (a : Spot) (mine
   Owes ns vs then o = (ps : List Place) × Each (PlaceFits ns) ps × ((w : View) × IsMap ns (set vs id w) × then o ps w)
 
   module _ (ns : List Node) (vs : List View) (p : IsMap ns vs) (seat : get_elem? vs id ≡ some v) where
-    goes_to : (h s : ℕ) → suc (suc h) ≡ a.shape.height → LeadsTo p.plan (Some (Below s)) (p.plan.home (suc h) (up (suc h) q.key)) → Owes ns vs (λ o ps w. GoesTo q.key v a s ps w) (Some (Below s))
+    goes_to : (h s : ℕ) → suc (suc h) ≡ a.shape.height → LeadsTo p.plan (Some (Below s)) (p.plan.home (suc h) (up (suc h) q.key)) → Owes ns vs (λ o ps w. GoesTo v a s ps w) (Some (Below s))
     goes_to h s is leads =
         let n = next_spot p.plan ns p.pairs p.tree q.key h s leads in
         let b : Spot = n.0 in
         let k = p.each_view id v seat in
         let w : View = view_of v.seen (b ∷ v.met) v.own in (
           place_at b ∷ [],
-          ((n.4.spot.low, p.nodes.placed b.number n.4.spot.below_trunk n.4.spot.low ∙ ap (λ (z : Shape). z.key) n.4.spot.shaped, p.nodes.long b.number n.4.spot.below_trunk n.4.spot.low ∙ ap (λ (z : Shape). words_of z.form) n.4.spot.shaped), tt),
+          ((n.3.spot.low, p.nodes.placed b.number n.3.spot.below_trunk n.3.spot.low ∙ ap (λ (z : Shape). z.key) n.3.spot.shaped, p.nodes.long b.number n.3.spot.below_trunk n.3.spot.low ∙ ap (λ (z : Shape). words_of z.form) n.3.spot.shaped), tt),
           (
             w,
-            with_view ns vs id p w record { seen = k.seen; met = (n.4, k.met); own = k.own },
+            with_view ns vs id p w record { seen = k.seen; met = (n.3, k.met); own = k.own },
             record {
               spot = b;
               place = refl;
               is = refl;
               named = n.1;
-              height = ap suc n.2 ∙ is;
-              covers = ap (λ (z : ℕ). up z q.key) n.2 ∙ n.3;
+              lower = (let l = n.2 in omega (arith, l, is));
             },
           ),
         )
@@ -189,69 +189,73 @@ module _ (q : Ask) (id : ℕ) (by : q.caller ≡ id) (v : View) (a : Spot) (mine
     gets (suc (suc h)) top (Some (Payload x)) at_h l is u = absurd u
     gets (suc (suc h)) top (Some (Below s)) at_h l is u = goes_to h s at_h (at_inner p.plan ns p.pairs p.tree q.key h top (Some (Below s)) is u)
 
-  pub node_gets : Covers a.shape q.key → acts.Learns IsMap id v a.number word saw (LearnsNode Gets q v a.number word saw)
-  node_gets covers ns vs p seat low is free agree =
-      let there = met ns vs id v p seat a mine in
-      let c = is_current ns vs id v p seat a mine (there.current (free, (m, is ∙ even))) in
-      let o : Option (Child ℕ) = lookup c.its.children (digit a.shape.height q.key) in
-      let r = gets ns vs p seat a.shape.height a.shape.top o refl (let deep = c.deep in omega (arith, deep)) covers (c.under (digit a.shape.height q.key) (digit-low a.shape.height q.key)) in (
-        r.0,
-        r.1,
-        (
-          r.2.0,
-          r.2.1,
-          (λ b known same cover. record {
-            content = (node ns a.number).content;
-            its = c.its;
-            agrees = agree;
-            encodes = c.encodes;
-            in_form = c.in_form ∙ ap (λ (z : Spot). z.shape.form) (one_met ns vs id v p seat a mine b known same);
-            deep = subst (λ (z : Spot). length c.its.prefix + z.shape.height ≡ 8) (one_met ns vs id v p seat a mine b known same) c.deep;
-            of_kind = subst (λ (z : Spot). IsOfKind z.shape.height (lookup c.its.children (digit z.shape.height q.key))) (one_met ns vs id v p seat a mine b known same)
-                (of_kind p.plan p.pairs a.shape.height a.shape.top (digit a.shape.height q.key) o (c.under (digit a.shape.height q.key) (digit-low a.shape.height q.key)));
-            then = subst (λ (z : Spot). Gets q v z (lookup c.its.children (digit z.shape.height q.key)) r.0 r.2.0) (one_met ns vs id v p seat a mine b known same) r.2.2;
-          }),
-        ),
-      )
-
-  module _ (ns : List Node) (vs : List View) (p : IsMap ns vs) (seat : get_elem? vs id ≡ some v) where
     same_view : IsMap ns (set vs id v)
     same_view = subst (IsMap ns) (sym (set_again vs id v seat)) p
 
-    finds : (height top : ℕ) (o : Option (Child ℕ)) → height ≡ a.shape.height → up height q.key ≡ top → IsUnder p.plan p.pairs height top (digit height q.key) o → Owes ns vs (Finds q v a) o
-    finds zero top o at_h is u = absurd u
-    finds (suc zero) top None at_h is u = ([], tt, (v, same_view, refl))
-    finds (suc zero) top (Some (Payload x)) at_h is u = ([], tt, (v, same_view, refl))
-    finds (suc zero) top (Some (Below s)) at_h is u = absurd u
-    finds (suc (suc h)) top None at_h is u = ([], tt, (v, same_view, refl))
-    finds (suc (suc h)) top (Some (Payload x)) at_h is u = absurd u
-    finds (suc (suc h)) top (Some (Below s)) at_h is u = goes_to ns vs p seat h s at_h (at_inner p.plan ns p.pairs p.tree q.key h top (Some (Below s)) is u)
+    finds : (height top : ℕ) (o : Option (Child ℕ)) → height ≡ a.shape.height → height < 9 → up height q.key ≡ top → IsUnder p.plan p.pairs height top (digit height q.key) o → Owes ns vs (Finds q v a) o
+    finds zero top o at_h l is u = absurd u
+    finds (suc zero) top None at_h l is u = ([], tt, (v, same_view, refl))
+    finds (suc zero) top (Some (Payload x)) at_h l is u = ([], tt, (v, same_view, refl))
+    finds (suc zero) top (Some (Below s)) at_h l is u = absurd u
+    finds (suc (suc h)) top None at_h l is u = ([], tt, (v, same_view, refl))
+    finds (suc (suc h)) top (Some (Payload x)) at_h l is u = absurd u
+    finds (suc (suc h)) top (Some (Below s)) at_h l is u = goes_to h s at_h (at_inner p.plan ns p.pairs p.tree q.key h top (Some (Below s)) is u)
 
-  pub node_finds : Covers a.shape q.key → acts.Learns IsMap id v a.number word saw (LearnsNode Finds q v a.number word saw)
-  node_finds covers ns vs p seat low is free agree =
+    -- the node below is no other than one that the seat has met
+    pub same_met : (b : Spot) → IsIn b v.met → (j : ℕ) → 1 ≤ j → j < length ns → name_of b.shape ≡ name_of (p.plan.shape j) → b.shape ≡ p.plan.shape j
+    same_met b known j some_node low named =
+        let s = (each_in (IsMet p.plan ns) v.met b known (p.each_view id v seat).met).spot in
+        sym s.shaped ∙ ap p.plan.shape (same_name p.plan ns p.nodes b s j some_node low named)
+
+    misses : (height top : ℕ) (o : Option (Child ℕ)) → height ≡ a.shape.height → height < 9 → up height q.key ≡ top → IsUnder p.plan p.pairs height top (digit height q.key) o → Owes ns vs (Misses q v a) o
+    misses zero top o at_h l is u = absurd u
+    misses (suc zero) top None at_h l is u = ([], tt, (v, same_view, refl))
+    misses (suc zero) top (Some (Payload x)) at_h l is u = ([], tt, (v, same_view, refl))
+    misses (suc zero) top (Some (Below s)) at_h l is u = absurd u
+    misses (suc (suc h)) top None at_h l is u = ([], tt, (v, same_view, refl))
+    misses (suc (suc h)) top (Some (Payload x)) at_h l is u = absurd u
+    misses (suc (suc h)) top (Some (Below s)) at_h l is u =
+        let leads = at_inner p.plan ns p.pairs p.tree q.key h top (Some (Below s)) is u in
+        let j : ℕ = p.plan.home (suc h) (up (suc h) q.key) in
+        let house = p.tree.housed (suc h) (up (suc h) q.key) leads.0 in
+        dite (ℕ_discrete (up (p.plan.shape j).height q.key) (p.plan.shape j).top)
+        (λ covers. ([], tt, (v, same_view, (λ b known named never. absurd (never (subst (λ (z : Shape). Covers z q.key) (sym (same_met b known j leads.0 house.low (sym named ∙ leads.1))) covers))))))
+        (λ ne. let r = has_answer None (missed p.plan ns p.pairs p.tree h q.key j (omega (arith, l)) leads.0 refl ne) in ([], tt, (r.0, r.1, (λ b known named never. r.2))))
+
+  -- what was read, by what is done then
+  pub node_learns : (then : Ask → View → Spot → Option (Child ℕ) → List Place → View → Type 0)
+      → ((ns : List Node) (vs : List View) (p : IsMap ns vs) → get_elem? vs id ≡ some v → (height top : ℕ) (o : Option (Child ℕ)) → height ≡ a.shape.height → height < 9 → up height q.key ≡ top → IsUnder p.plan p.pairs height top (digit height q.key) o → Owes ns vs (then q v a) o)
+      → acts.Learns IsMap id v a.number word saw (LearnsNode then q v a.number word saw)
+  node_learns then owes ns vs p seat low is free agree =
       let there = met ns vs id v p seat a mine in
       let c = is_current ns vs id v p seat a mine (there.current (free, (m, is ∙ even))) in
-      let o : Option (Child ℕ) = lookup c.its.children (digit a.shape.height q.key) in
-      let r = finds ns vs p seat a.shape.height a.shape.top o refl covers (c.under (digit a.shape.height q.key) (digit-low a.shape.height q.key)) in (
-        r.0,
-        r.1,
-        (
-          r.2.0,
-          r.2.1,
-          (λ b known same cover. record {
-            content = (node ns a.number).content;
-            its = c.its;
-            agrees = agree;
-            encodes = c.encodes;
-            in_form = c.in_form ∙ ap (λ (z : Spot). z.shape.form) (one_met ns vs id v p seat a mine b known same);
-            deep = subst (λ (z : Spot). length c.its.prefix + z.shape.height ≡ 8) (one_met ns vs id v p seat a mine b known same) c.deep;
-            of_kind = subst (λ (z : Spot). IsOfKind z.shape.height (lookup c.its.children (digit z.shape.height q.key))) (one_met ns vs id v p seat a mine b known same)
-                (of_kind p.plan p.pairs a.shape.height a.shape.top (digit a.shape.height q.key) o (c.under (digit a.shape.height q.key) (digit-low a.shape.height q.key)));
-            then = subst (λ (z : Spot). Finds q v z (lookup c.its.children (digit z.shape.height q.key)) r.0 r.2.0) (one_met ns vs id v p seat a mine b known same) r.2.2;
-          }),
-        ),
-      )
+      let x : ℕ = digit a.shape.height q.key in
+      let o : Option (Child ℕ) = lookup c.its.children x in
+      let under = c.under x (digit-low a.shape.height q.key) in
+      let tell : (ps : List Place) (w : View) → (Covers a.shape q.key → then q v a o ps w) → ((Covers a.shape q.key → ⊥) → w ≡ v) → LearnsNode then q v a.number word saw ps w =
+      λ ps w on_way beside b known same. subst (λ (z : Spot). Meets then q v z saw ps w) (one_met ns vs id v p seat a mine b known same) record {
+        content = (node ns a.number).content;
+        its = c.its;
+        agrees = agree;
+        encodes = c.encodes;
+        in_form = c.in_form;
+        deep = c.deep;
+        prefixed = c.prefixed;
+        of_kind = of_kind p.plan p.pairs a.shape.height a.shape.top x o under;
+        on_way = on_way;
+        beside = beside;
+      } in
+      dite (ℕ_discrete (up a.shape.height q.key) a.shape.top)
+      (λ covers. let r = owes ns vs p seat a.shape.height a.shape.top o refl (let deep = c.deep in omega (arith, deep)) covers under in
+      (r.0, r.1, (r.2.0, r.2.1, tell r.0 r.2.0 (λ _. r.2.2) (λ ne. absurd (ne covers)))))
+      (λ ne. ([], tt, (v, same_view ns vs p seat, tell [] v (λ covers. absurd (ne covers)) (λ _. refl))))
 
-  pub node_looks : (reads : Bool) → Covers a.shape q.key → acts.Learns IsMap id v a.number word saw (LearnsNode (Looks reads) q v a.number word saw)
-  node_looks true covers = node_gets covers
-  node_looks false covers = node_finds covers
+  pub node_looks : (reads : Bool) → acts.Learns IsMap id v a.number word saw (LearnsNode (Looks reads) q v a.number word saw)
+  node_looks true = node_learns Gets gets
+  node_looks false = node_learns Finds finds
+
+  pub node_heads : acts.Learns IsMap id v a.number word saw (LearnsNode Heads q v a.number word saw)
+  node_heads = node_learns Heads (λ ns vs p seat height top o at_h l is u. ([], tt, (v, same_view ns vs p seat, refl)))
+
+  pub node_misses : acts.Learns IsMap id v a.number word saw (LearnsNode Misses q v a.number word saw)
+  node_misses = node_learns Misses misses

@@ -14,7 +14,7 @@ use Rattle.live_nodes.specs.Acts as acts
 use Rattle.live_cells.specs.Words as cells
 use Rattle.live_cells.specs.Head.{IsHead}
 use Rattle.live_encodes.specs.Encodes.{words_of, long_for, HasChildren, Encodes}
-use Rattle.live_law.specs.Levels.{up, Shape, name_of, Spot, spot}
+use Rattle.live_law.specs.Levels.{up, Shape, name_of, IsBelow, Spot, spot}
 use Rattle.live_law.specs.Views.{View, view_of, Own, locked, fresh, outgrown, trunk, Ask}
 use Rattle.live_law.specs.Tree.{Plan, home_of, IsFree, LeadsTo, IsUnder, IsCurrent, NamesRoot, IsSpot, IsMet, IsOwn, AreNodes, IsTree, IsMap, IsMade}
 use Rattle.live_law.proofs.Changes.{with_map}
@@ -65,6 +65,7 @@ current_alike d d' m s c f cur = record {
   encodes = cur.encodes;
   in_form = cur.in_form;
   deep = cur.deep;
+  prefixed = cur.prefixed;
   under = λ x l. under_alike d d' m s.height s.top x (lookup cur.its.children x) (λ h e. f (lookup cur.its.children x) h x l e) (cur.under x l);
 }
 
@@ -142,8 +143,8 @@ module _ (d : Plan) (id : ℕ) (s : Shape) (ns : List Node) (content : Content) 
     }
     own_old (trunk c) h = (ap (λ (z : Node). z.holder) (node_old 0 some_trunk) ∙ h.0, ap (λ (z : Node). z.content) (node_old 0 some_trunk) ∙ h.1)
 
-  nodes_longer : length content ≡ words_of s.form → AreNodes d ns → AreNodes d' longer
-  nodes_longer long n = record {
+  nodes_longer : length content ≡ words_of s.form → ((k : ℕ) → k < length ns → (node ns k).place ≢ s.key) → AreNodes d ns → AreNodes d' longer
+  nodes_longer long elsewhere n = record {
     some_trunk = (let l = n.some_trunk in omega (arith, l, more));
     trunk_long = ap (λ (z : Node). length z.content) (node_old 0 n.some_trunk) ∙ n.trunk_long;
     placed = λ k some_node l. dite (ℕ_discrete k last)
@@ -152,11 +153,18 @@ module _ (d : Plan) (id : ℕ) (s : Shape) (ns : List Node) (content : Content) 
     long = λ k some_node l. dite (ℕ_discrete k last)
         (λ e. ap (λ (z : ℕ). length (node longer z).content) e ∙ (ap (λ (z : Node). length z.content) node_new ∙ (long ∙ sym (ap (λ (z : ℕ). words_of (d'.shape z).form) e ∙ ap (λ (z : Shape). words_of z.form) shape_new))))
         (λ ne. let l' : k < last = omega (arith, l, more, ne) in ap (λ (z : Node). length z.content) (node_old k l') ∙ (n.long k some_node l' ∙ sym (ap (λ (z : Shape). words_of z.form) (shape_old k ne))));
+    apart = λ j k some_j some_k l m same. dite (ℕ_discrete j last)
+        (λ e. dite (ℕ_discrete k last)
+        (λ f. e ∙ sym f)
+        (λ nf. absurd (let m' : k < last = omega (arith, m, more, nf) in elsewhere k m' (n.placed k some_k m' ∙ (ap (λ (z : Shape). z.key) (sym (shape_old k nf)) ∙ (sym same ∙ (ap (λ (z : ℕ). (d'.shape z).key) e ∙ ap (λ (z : Shape). z.key) shape_new)))))))
+        (λ ne. let l' : j < last = omega (arith, l, more, ne) in dite (ℕ_discrete k last)
+        (λ f. absurd (elsewhere j l' (n.placed j some_j l' ∙ (ap (λ (z : Shape). z.key) (sym (shape_old j ne)) ∙ (same ∙ (ap (λ (z : ℕ). (d'.shape z).key) f ∙ ap (λ (z : Shape). z.key) shape_new))))))
+        (λ nf. n.apart j k some_j some_k l' (omega (arith, m, more, nf)) (ap (λ (z : Shape). z.key) (sym (shape_old j ne)) ∙ (same ∙ ap (λ (z : Shape). z.key) (shape_old k nf)))));
   }
 
   module _ (m : Pairs ℕ) (t : IsTree d ns m) where
     home_low : (h x : ℕ) → 1 ≤ d.home h x → d.home h x ≢ last
-    home_low h x some_node = lower (d.home h x) (t.housed h x some_node).0
+    home_low h x some_node = lower (d.home h x) (t.housed h x some_node).low
 
     leads_old : (o : Option (Child ℕ)) (h x : ℕ) → LeadsTo d o (d.home h x) → LeadsTo d' o (d.home h x)
     leads_old None h x l = l
@@ -169,12 +177,22 @@ module _ (d : Plan) (id : ℕ) (s : Shape) (ns : List Node) (content : Content) 
           (λ no. inl no)
           (λ there. inr (there.0, there.1, there.2 ∙ sym (ap name_of (shape_old (d.home 8 0) (home_low 8 0 there.0)))))
           t.root);
+      rooted = λ some_node. subst (λ (z : Shape). z.height ≡ 8) (sym (shape_old (d.home 8 0) (home_low 8 0 some_node))) (t.rooted some_node);
       housed = λ h x some_node. let w = t.housed h x some_node in let same = shape_old (d.home h x) (home_low h x some_node) in
-          ((let l = w.0 in omega (arith, l, more)), ap (λ (z : Shape). z.height) same ∙ w.1, ap (λ (z : Shape). z.top) same ∙ w.2, maker_old (d.home h x) (home_low h x some_node) ∙ w.3);
+          record {
+            low = (let l = w.low in omega (arith, l, more));
+            linked = maker_old (d.home h x) (home_low h x some_node) ∙ w.linked;
+            level = w.level;
+            some_height = subst (λ (z : Shape). 1 ≤ z.height) (sym same) w.some_height;
+            below = subst (λ (z : Shape). IsBelow z h x) (sym same) w.below;
+          };
       upward = t.upward;
+      skips = λ h x b lo some_node lower'. let same = shape_old (d.home (suc h) x) (home_low (suc h) x some_node) in
+          subst (λ (z : Shape). (IsBelow z h (256 * x + b) → d.home h (256 * x + b) ≡ d.home (suc h) x) × ((IsBelow z h (256 * x + b) → ⊥) → d.home h (256 * x + b) ≡ 0)) (sym same)
+          (t.skips h x b lo some_node (subst (λ (z : Shape). z.height ≤ h) same lower'));
       current = λ k some_node here.
           let at_home : 1 ≤ home_of d (d'.shape k) = subst (λ (z : ℕ). 1 ≤ z) (sym here) some_node in
-          let low : k < last = subst (λ (z : ℕ). z < last) here (t.housed (d'.shape k).height (d'.shape k).top at_home).0 in
+          let low : k < last = subst (λ (z : ℕ). z < last) here (t.housed (d'.shape k).height (d'.shape k).top at_home).low in
           let same = shape_old k (lower k low) in
           subst (λ (z : Shape × Node). IsCurrent d' m z.0 z.1.content) (λ i. (sym same i, sym (node_old k low) i))
           (current_alike d d' m (d.shape k) (node ns k).content (λ o h x l e. leads_old o (suc h) (256 * (d.shape k).top + x)) (t.current k some_node (ap (home_of d) (sym same) ∙ here)));
@@ -182,7 +200,7 @@ module _ (d : Plan) (id : ℕ) (s : Shape) (ns : List Node) (content : Content) 
     }
 
 pub node_makes : (q : Ask) (id : ℕ) (v : View) (key : ℕ) (content : Content) (n : TableNode ℕ) → Encodes content n → acts.Makes IsMap id v key content (IsMade q v key content)
-node_makes q id v key content n encodes ns vs p seat =
+node_makes q id v key content n encodes ns vs p seat elsewhere =
     let s : Shape = record { key = key; form = n.form; height = q.height; top = up q.height q.key } in
     let a : Spot = spot (length ns) s in
     let kn = p.each_view id v seat in
@@ -191,7 +209,7 @@ node_makes q id v key content n encodes ns vs p seat =
     let own_ok : (j : ℕ) (o : Own) → IsOwn p.plan ns j o → IsOwn (d' p.plan id s ns content) (longer p.plan id s ns content) j o = λ j o. own_old p.plan id s ns content nodes.some_trunk j o in (
       w,
       with_map ns vs id p (longer p.plan id s ns content) w (d' p.plan id s ns content) p.history p.pairs p.legal
-          (nodes_longer p.plan id s ns content (encodes-long content n encodes) nodes)
+          (nodes_longer p.plan id s ns content (encodes-long content n encodes) elsewhere nodes)
           (tree_longer p.plan id s ns content p.pairs p.tree nodes)
           (met_old p.plan id s ns content)
           (λ j ne o. own_ok j o)

@@ -1,9 +1,12 @@
 -- Heights, digits and homes.
-use Rattle.std.proofs.Common.{◌≡◌, ℕ, zero, suc, ◌+◌, ◌*◌, ◌<◌, ◌≤◌, ◌^◌, List, None, refl, arith}
+use Rattle.std.proofs.Common.{◌≡◌, ℕ, zero, suc, ◌+◌, ◌-◌, ◌*◌, ◌/◌, ◌%◌, ◌<◌, ◌≤◌, ◌^◌, List, length, None, refl, sym, ap, ◌∙◌, subst, arith}
+use mathlib.Core.Logic.{dite}
+use native.Mathlib.Decide.{ℕ_discrete}
 use Rattle.spec_map.specs.Map.{Pairs, lookup}
 use Rattle.live_nodes.specs.Nodes.{Node}
-use Rattle.live_law.specs.Levels.{up, digit}
-use Rattle.live_law.specs.Tree.{Plan, IsTree}
+use Rattle.live_encodes.proofs.StandLaws.{few_forms}
+use Rattle.live_law.specs.Levels.{up, digit, Shape, name_of, Covers, way, IsBelow, Spot}
+use Rattle.live_law.specs.Tree.{Plan, home_of, IsSpot, AreNodes, IsTree}
 
 pub digit-low : (h k : ℕ) → digit h k < 256
 digit-low zero k = omega arith
@@ -13,7 +16,7 @@ digit-low (suc h) k = omega arith
 pub joined : (h k t : ℕ) → up (suc h) k ≡ t → 256 * t + digit (suc h) k ≡ up h k
 joined h k t is = omega (arith, is)
 
-up-small : (h k n : ℕ) → up h k < 256 * n → up (suc h) k < n
+pub up-small : (h k n : ℕ) → up h k < 256 * n → up (suc h) k < n
 up-small h k n l = omega (arith, l)
 
 pub root-top : (k : ℕ) → k < 2 ^ 64 → up 8 k ≡ 0
@@ -28,11 +31,98 @@ root-top k l =
     let h = up-small 7 k 1 g in
     omega (arith, h)
 
--- Where no node is current, none is below, and no key is there.
-pub none_there : (d : Plan) (ns : List Node) (m : Pairs ℕ) → IsTree d ns m → (h k : ℕ) → suc h < 9 → d.home (suc h) (up (suc h) k) ≡ 0 → lookup m k ≡ None
-none_there d ns m t zero k l none = t.absent k none
-none_there d ns m t (suc h) k l none = none_there d ns m t h k (omega (arith, l)) (no_home (d.home (suc h) (up (suc h) k)) (λ some_there. let above = t.upward (suc h) (up (suc h) k) (omega (arith, l)) some_there in omega (arith, above, none)))
-  where
-    no_home : (j : ℕ) → (1 ≤ j → ⊥) → j ≡ 0
-    no_home zero never = refl
-    no_home (suc j) never = absurd (never (omega arith))
+pub up-up : (a b k : ℕ) → up a (up b k) ≡ up (a + b) k
+up-up zero b k = ap (λ (z : ℕ). up z k) (let e : b ≡ 0 + b = omega arith in e)
+up-up (suc a) b k = ap (λ (z : ℕ). z / 256) (up-up a b k) ∙ ap (λ (z : ℕ). up z k) (let e : suc (a + b) ≡ suc a + b = omega arith in e)
+
+-- the ways of a node that has a key
+pub way-key : (s : Shape) (h k : ℕ) → Covers s k → s.height ≤ h → way s h ≡ up h k
+way-key s h k covers low = ap (up (h - s.height)) (sym covers) ∙ (up-up (h - s.height) s.height k ∙ ap (λ (z : ℕ). up z k) (let e : h - s.height + s.height ≡ h = omega (arith, low) in e))
+
+pub way-suc : (s : Shape) (h : ℕ) → s.height ≤ h → way s (suc h) ≡ way s h / 256
+way-suc s h low = ap (λ (z : ℕ). up z s.top) (let e : suc h - s.height ≡ suc (h - s.height) = omega (arith, low) in e)
+
+pub way-own : (s : Shape) → way s s.height ≡ s.top
+way-own s = ap (λ (z : ℕ). up z s.top) (let e : s.height - s.height ≡ 0 = omega arith in e)
+
+-- a way is what is above, and a byte
+pub way-joins : (s : Shape) (h : ℕ) → s.height ≤ h → 256 * way s (suc h) + way s h % 256 ≡ way s h
+way-joins s h low = let e = way-suc s h low in omega (arith, e)
+
+zero_of : (j : ℕ) → (1 ≤ j → ⊥) → j ≡ 0
+zero_of zero never = refl
+zero_of (suc j) never = absurd (never (omega arith))
+
+module _ (d : Plan) (ns : List Node) (m : Pairs ℕ) (t : IsTree d ns m) where
+  -- Where no node is, none is below,
+  pub none_below : (h x b : ℕ) → h < 8 → b < 256 → d.home (suc h) x ≡ 0 → d.home h (256 * x + b) ≡ 0
+  none_below h x b l lo none = zero_of (d.home h (256 * x + b)) (λ there.
+      let u = t.upward h (256 * x + b) l there in
+      let above : (256 * x + b) / 256 ≡ x = omega (arith, lo) in
+      let same : d.home (suc h) ((256 * x + b) / 256) ≡ 0 = ap (d.home (suc h)) above ∙ none in
+      omega (arith, u, same))
+
+  pub none_way : (s : Shape) (n h : ℕ) → n + h < 9 → s.height ≤ h → d.home (n + h) (way s (n + h)) ≡ 0 → d.home h (way s h) ≡ 0
+  none_way s zero h l low none = subst (λ (z : ℕ). d.home z (way s z) ≡ 0) (let e : 0 + h ≡ h = omega arith in e) none
+  none_way s (suc n) h l low none = none_way s n h (omega (arith, l)) low
+      (let one = subst (λ (z : ℕ). d.home z (way s z) ≡ 0) (let e : suc n + h ≡ suc (n + h) = omega arith in e) none in
+      let low' : s.height ≤ n + h = omega (arith, low) in
+      ap (d.home (n + h)) (sym (way-joins s (n + h) low')) ∙ none_below (n + h) (way s (suc (n + h))) (way s (n + h) % 256) (omega (arith, l)) (omega arith) one)
+
+  -- and no key is there.
+  pub none_there : (h k : ℕ) → suc h < 9 → d.home (suc h) (up (suc h) k) ≡ 0 → lookup m k ≡ None
+  none_there zero k l none = t.absent k none
+  none_there (suc h) k l none = none_there h k (omega (arith, l)) (ap (d.home (suc h)) (sym (joined (suc h) k (up (suc (suc h)) k) refl)) ∙ none_below (suc h) (up (suc (suc h)) k) (digit (suc (suc h)) k) (omega (arith, l)) (digit-low (suc (suc h)) k) none)
+
+  -- A node is at each level from the highest on down to its own.
+  pub descends : (n h j : ℕ) → 1 ≤ j → (d.shape j).height ≤ h → d.home (n + h) (way (d.shape j) (n + h)) ≡ j → d.home h (way (d.shape j) h) ≡ j
+  descends zero h j some_node low here = subst (λ (z : ℕ). d.home z (way (d.shape j) z) ≡ j) (let e : 0 + h ≡ h = omega arith in e) here
+  descends (suc n) h j some_node low here =
+      let s : Shape = d.shape j in
+      let one : d.home (suc (n + h)) (way s (suc (n + h))) ≡ j = subst (λ (z : ℕ). d.home z (way s z) ≡ j) (let e : suc n + h ≡ suc (n + h) = omega arith in e) here in
+      let low' : s.height ≤ n + h = omega (arith, low) in
+      let joins = way-joins s (n + h) low' in
+      let k = t.skips (n + h) (way s (suc (n + h))) (way s (n + h) % 256) (omega arith) (subst (λ (z : ℕ). 1 ≤ z) (sym one) some_node) (subst (λ (z : ℕ). (d.shape z).height ≤ n + h) (sym one) low') in
+      descends n h j some_node low (ap (d.home (n + h)) (sym joins) ∙ (k.0 (subst (λ (z : ℕ). IsBelow (d.shape z) (n + h) (256 * way s (suc (n + h)) + way s (n + h) % 256)) (sym one) (low', sym joins)) ∙ one))
+
+  -- So it is current.
+  pub at_home : (h x : ℕ) → 1 ≤ d.home h x → home_of d (d.shape (d.home h x)) ≡ d.home h x
+  at_home h x there =
+      let j : ℕ = d.home h x in
+      let s : Shape = d.shape j in
+      let b = (t.housed h x there).below in
+      let low = b.0 in
+      ap (d.home s.height) (sym (way-own s)) ∙ descends (h - s.height) s.height j there (omega arith) (subst (λ (z : ℕ). d.home z (way s z) ≡ j) (let e : h ≡ h - s.height + s.height = omega (arith, low) in e) (ap (d.home h) b.1))
+
+  -- Where a node is that has no such keys, the key isn't there.
+  covers_there : (h k j : ℕ) → j ≡ d.home (suc h) (up (suc h) k) → IsBelow (d.shape j) (suc h) (up (suc h) k) → (d.shape j).height ≡ suc h → Covers (d.shape j) k
+  covers_there h k j here below e = ap (λ (z : ℕ). up z k) e ∙ (sym below.1 ∙ (ap (way (d.shape j)) (sym e) ∙ way-own (d.shape j)))
+
+  pub missed : (h k j : ℕ) → suc h < 9 → 1 ≤ j → d.home (suc h) (up (suc h) k) ≡ j → (Covers (d.shape j) k → ⊥) → lookup m k ≡ None
+  missed zero k j l some_node here never =
+      let house = t.housed 1 (up 1 k) (subst (λ (z : ℕ). 1 ≤ z) (sym here) some_node) in
+      let below : IsBelow (d.shape j) 1 (up 1 k) = subst (λ (z : ℕ). IsBelow (d.shape z) 1 (up 1 k)) here house.below in
+      let tall : 1 ≤ (d.shape j).height = subst (λ (z : ℕ). 1 ≤ (d.shape z).height) here house.some_height in
+      let low = below.0 in
+      absurd (never (covers_there 0 k j (sym here) below (omega (arith, low, tall))))
+  missed (suc h) k j l some_node here never =
+      let house = t.housed (suc (suc h)) (up (suc (suc h)) k) (subst (λ (z : ℕ). 1 ≤ z) (sym here) some_node) in
+      let below : IsBelow (d.shape j) (suc (suc h)) (up (suc (suc h)) k) = subst (λ (z : ℕ). IsBelow (d.shape z) (suc (suc h)) (up (suc (suc h)) k)) here house.below in
+      let low = below.0 in
+      dite (ℕ_discrete (d.shape j).height (suc (suc h)))
+      (λ e. absurd (never (covers_there (suc h) k j (sym here) below e)))
+      (λ ne.
+      let down : (d.shape j).height ≤ suc h = omega (arith, low, ne) in
+      let joins = joined (suc h) k (up (suc (suc h)) k) refl in
+      let s = t.skips (suc h) (up (suc (suc h)) k) (digit (suc (suc h)) k) (digit-low (suc (suc h)) k) (subst (λ (z : ℕ). 1 ≤ z) (sym here) some_node) (subst (λ (z : ℕ). (d.shape z).height ≤ suc h) (sym here) down) in
+      dite (ℕ_discrete (way (d.shape j) (suc h)) (up (suc h) k))
+      (λ e. missed h k j (omega (arith, l)) some_node
+      (ap (d.home (suc h)) (sym joins) ∙ (s.0 (subst (λ (z : ℕ). IsBelow (d.shape z) (suc h) (256 * up (suc (suc h)) k + digit (suc (suc h)) k)) (sym here) (down, e ∙ sym joins)) ∙ here)) never)
+      (λ no. none_there h k (omega (arith, l)) (ap (d.home (suc h)) (sym joins) ∙ s.1 (λ b. no ((subst (λ (z : ℕ). IsBelow (d.shape z) (suc h) (256 * up (suc (suc h)) k + digit (suc (suc h)) k)) here b).1 ∙ joins)))))
+
+-- a name is of one node
+pub same_key : (s t : Shape) → name_of s ≡ name_of t → s.key ≡ t.key
+same_key s t e = let f = few_forms s.form in let g = few_forms t.form in omega (arith, e, f, g)
+
+pub same_name : (d : Plan) (ns : List Node) → AreNodes d ns → (b : Spot) → IsSpot d ns b → (j : ℕ) → 1 ≤ j → j < length ns → name_of b.shape ≡ name_of (d.shape j) → b.number ≡ j
+same_name d ns n b s j some_node low named = n.apart b.number j s.below_trunk some_node s.low low (ap (λ (z : Shape). z.key) s.shaped ∙ same_key b.shape (d.shape j) named)

@@ -167,6 +167,7 @@ leaf_inserts q id by v a c is leaf covers word d long changes ns vs p seat low h
       encodes = changes old.its encodes old.in_form (let deep = old.deep in omega (arith, deep, leaf));
       in_form = old.in_form;
       deep = old.deep;
+      prefixed = old.prefixed;
       under = λ x lo. under_there p.plan p.pairs q.key q.value a.shape.height a.shape.top old.its.children leaf top_is x (old.under x lo);
     } in
     let home_1 : p.plan.home 1 (q.key / 256) ≡ k = ap (p.plan.home 1) top_is ∙ (ap (λ (h : ℕ). p.plan.home h a.shape.top) (sym leaf) ∙ l.current) in
@@ -178,6 +179,7 @@ leaf_inserts q id by v a c is leaf covers word d long changes ns vs p seat low h
       encodes = cur.encodes;
       in_form = cur.in_form;
       deep = cur.deep;
+      prefixed = cur.prefixed;
       under = λ x lo. under_else p.plan p.pairs q.key q.value (p.plan.shape j).height (p.plan.shape j).top (lookup cur.its.children x)
           (λ one e. ne (sym here ∙ (ap (λ (h : ℕ). p.plan.home h (p.plan.shape j).top) one ∙ (ap (p.plan.home 1) (sym e) ∙ home_1)))) x lo (cur.under x lo);
     })

@@ -1,7 +1,7 @@
 -- Where a node is in the map: its height, and the bytes above it.
 --
--- A leaf has height 1, and the root height 8. The children of a node are one lower.
-use Rattle.std.specs.Prelude.{◌≡◌, ℕ, zero, suc, ◌+◌, ◌*◌, ◌/◌, ◌%◌}
+-- A leaf has height 1, and the root height 8. A child of a node is lower, by one or by more.
+use Rattle.std.specs.Prelude.{◌≡◌, ℕ, zero, suc, ◌+◌, ◌-◌, ◌*◌, ◌/◌, ◌%◌, ◌≤◌}
 use Rattle.node_base.specs.Form.{form_place}
 use Rattle.node_base.specs.declared.base_node.NodeType.{NodeType}
 use Rattle.live_nodes.specs.Seats.{Place, place}
@@ -31,6 +31,14 @@ name_of s = 256 * s.key + form_place s.form
 -- The node has keys that begin like this one.
 abbrev pub Covers : Shape → ℕ → Type 0
 Covers s k = up s.height k ≡ s.top
+
+-- the bytes above a level that isn't below the node, which all its keys have
+abbrev pub way : Shape → ℕ → ℕ
+way s h = up (h - s.height) s.top
+
+-- The node is on that level or below it, and those bytes are these.
+abbrev pub IsBelow : Shape → ℕ → ℕ → Type 0
+IsBelow s h t = (s.height ≤ h) × (way s h ≡ t)
 
 -- a node, by its number among all nodes
 pub record Spot : Type 0 where

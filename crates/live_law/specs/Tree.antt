@@ -1,6 +1,6 @@
 -- THE LAW. Node 0 is the trunk, and its one number names the root, or is 0. All others are nodes of the map: they were,
 -- are, or are going to be.
-use Rattle.std.specs.Prelude.{◌≡◌, ◌≢◌, ◌⊎◌, ℕ, zero, suc, ◌+◌, ◌*◌, ◌/◌, ◌<◌, ◌≤◌, nat_eq, Bool, true, false, List, [], ◌∷◌, ◌++◌, length, Option, Some, None}
+use Rattle.std.specs.Prelude.{◌≡◌, ◌≢◌, ◌⊎◌, ℕ, zero, suc, ◌+◌, ◌-◌, ◌*◌, ◌/◌, ◌^◌, ◌<◌, ◌≤◌, nat_eq, Bool, true, false, List, [], ◌∷◌, ◌++◌, length, slice_index, Option, Some, None}
 use mathlib.Core.Option.{some}
 use lib.ListN.{get_elem?}
 use Rattle.spec_map.specs.Map.{Pairs, lookup}
@@ -11,10 +11,11 @@ use Rattle.share_rule.specs.inner.Rule.{HasSeen}
 use Rattle.live_nodes.specs.Nodes.{Content, at, Node, node}
 use Rattle.live_nodes.specs.Seats.{Place, Each, IsIn, Agree}
 use Rattle.live_encodes.specs.Encodes.{words_of, Encodes}
-use Rattle.live_law.specs.Levels.{digit, Shape, name_of, Covers, Spot, place_at}
+use Rattle.live_law.specs.Levels.{digit, Shape, name_of, Covers, IsBelow, Spot, place_at}
 use Rattle.live_law.specs.Views.{Own, locked, fresh, outgrown, trunk, View, view_of, rest_of, content_of, Ask, got, inserted}
 
--- what each node is, which one is current where, and who has made one that nobody else knows
+-- what each node is, which one is current where, and who has made one that nobody else knows. A node that is current is at
+-- its own height, and at each level above it up to its parent's, which has no other node there
 pub record Plan : Type 0 where
   pub shape : ℕ → Shape
   pub home : ℕ → ℕ → ℕ
@@ -29,6 +30,13 @@ abbrev pub HasValue : Option (Child ℕ) → Option ℕ → Type 0
 HasValue None v = v ≡ None
 HasValue (Some (below.Payload x)) v = v ≡ Some x
 HasValue (Some (below.Node s)) v = ⊥
+
+-- It has the highest bytes of its keys as its prefix.
+pub record HasPrefix (prefix : List ℕ) (s : Shape) : Type 0 where
+  pub key : ℕ
+  pub fits : key < 2 ^ 64
+  pub covers : Covers s key
+  pub bytes : (i : ℕ) → i < length prefix → slice_index prefix i ≡ digit (8 - i) key
 
 module _ (d : Plan) where
   abbrev pub home_of : Shape → ℕ
@@ -46,12 +54,25 @@ module _ (d : Plan) where
   IsUnder m (suc zero) t b o = HasValue o (lookup m (256 * t + b))
   IsUnder m (suc (suc h)) t b o = LeadsTo o (d.home (suc h) (256 * t + b))
 
+  -- A node that is on this level, or is the highest below it: those bytes are above it there.
+  pub record IsHouse (ns : List Node) (h t j : ℕ) : Type 0 where
+    pub low : j < length ns
+    pub linked : d.maker j ≡ None
+    pub level : h ≤ 8
+    pub some_height : 1 ≤ (d.shape j).height
+    pub below : IsBelow (d.shape j) h t
+
+  -- One level down it is there too, or nothing is.
+  abbrev pub Skips : ℕ → ℕ → ℕ → Type 0
+  Skips h t j = (IsBelow (d.shape j) h t → d.home h t ≡ j) × ((IsBelow (d.shape j) h t → ⊥) → d.home h t ≡ 0)
+
   -- This is the content of a node of that shape, which is current.
   pub record IsCurrent (m : Pairs ℕ) (s : Shape) (c : Content) : Type 0 where
     pub its : TableNode ℕ
     pub encodes : Encodes c its
     pub in_form : its.form ≡ s.form
     pub deep : length its.prefix + s.height ≡ 8
+    pub prefixed : HasPrefix its.prefix s
     pub under : (b : ℕ) → b < 256 → IsUnder m s.height s.top b (lookup its.children b)
 
   -- The trunk's number names the root.
@@ -103,13 +124,15 @@ module _ (d : Plan) where
       pub trunk_long : length (node ns 0).content ≡ 1
       pub placed : (k : ℕ) → 1 ≤ k → k < length ns → (node ns k).place ≡ (d.shape k).key
       pub long : (k : ℕ) → 1 ≤ k → k < length ns → length (node ns k).content ≡ words_of (d.shape k).form
+      pub apart : (j k : ℕ) → 1 ≤ j → 1 ≤ k → j < length ns → k < length ns → (d.shape j).key ≡ (d.shape k).key → j ≡ k
 
     -- the nodes as they are current. Where one is, so are those above it
     pub record IsTree (m : Pairs ℕ) : Type 0 where
       pub root : NamesRoot (at (node ns 0).content 0)
-      pub housed : (h t : ℕ) → 1 ≤ d.home h t
-          → (d.home h t < length ns) × ((d.shape (d.home h t)).height ≡ h) × ((d.shape (d.home h t)).top ≡ t) × (d.maker (d.home h t) ≡ None)
+      pub rooted : 1 ≤ d.home 8 0 → (d.shape (d.home 8 0)).height ≡ 8
+      pub housed : (h t : ℕ) → 1 ≤ d.home h t → IsHouse ns h t (d.home h t)
       pub upward : (h t : ℕ) → h < 8 → 1 ≤ d.home h t → 1 ≤ d.home (suc h) (t / 256)
+      pub skips : (h t x : ℕ) → x < 256 → 1 ≤ d.home (suc h) t → (d.shape (d.home (suc h) t)).height ≤ h → Skips h (256 * t + x) (d.home (suc h) t)
       pub current : (k : ℕ) → 1 ≤ k → home_of (d.shape k) ≡ k → IsCurrent m (d.shape k) (node ns k).content
       pub absent : (k : ℕ) → d.home 1 (k / 256) ≡ 0 → lookup m k ≡ None
 
@@ -144,14 +167,13 @@ abbrev pub LearnsRoot : View → ℕ → ℕ → List (ℕ × ℕ) → List Plac
 LearnsRoot v k word saw ps w = (x : ℕ) → saw ≡ (0, x) ∷ []
     → (0 < x → IsRoot v x ps w) × (x ≡ 0 → (ps ≡ []) × (w ≡ v))
 
--- The way of a key goes on at this node.
-pub record GoesTo (key : ℕ) (v : View) (a : Spot) (name : ℕ) (ps : List Place) (w : View) : Type 0 where
+-- The way of a key goes on at this node, if the node has keys that begin like it.
+pub record GoesTo (v : View) (a : Spot) (name : ℕ) (ps : List Place) (w : View) : Type 0 where
   pub spot : Spot
   pub place : ps ≡ place_at spot ∷ []
   pub is : w ≡ view_of v.seen (spot ∷ v.met) v.own
   pub named : name ≡ name_of spot.shape
-  pub height : suc spot.shape.height ≡ a.shape.height
-  pub covers : Covers spot.shape key
+  pub lower : spot.shape.height < a.shape.height
 
 pub record HasAnswer (a : Ask) (found : Option ℕ) (v w : View) : Type 0 where
   pub is : w ≡ view_of w.seen v.met v.own
@@ -161,13 +183,23 @@ pub record HasAnswer (a : Ask) (found : Option ℕ) (v w : View) : Type 0 where
 abbrev pub Gets : Ask → View → Spot → Option (Child ℕ) → List Place → View → Type 0
 Gets q v a None ps w = HasAnswer q None v w
 Gets q v a (Some (below.Payload x)) ps w = HasAnswer q (Some x) v w
-Gets q v a (Some (below.Node s)) ps w = GoesTo q.key v a s ps w
+Gets q v a (Some (below.Node s)) ps w = GoesTo v a s ps w
 
 -- The same in another call: it goes on below, or nothing is known.
 abbrev pub Finds : Ask → View → Spot → Option (Child ℕ) → List Place → View → Type 0
 Finds q v a None ps w = w ≡ v
 Finds q v a (Some (below.Payload x)) ps w = w ≡ v
-Finds q v a (Some (below.Node s)) ps w = GoesTo q.key v a s ps w
+Finds q v a (Some (below.Node s)) ps w = GoesTo v a s ps w
+
+-- Nothing is learnt but what was read.
+abbrev pub Heads : Ask → View → Spot → Option (Child ℕ) → List Place → View → Type 0
+Heads q v a o ps w = w ≡ v
+
+-- The same at the node above one that has no such keys: there is no value.
+abbrev pub Misses : Ask → View → Spot → Option (Child ℕ) → List Place → View → Type 0
+Misses q v a None ps w = w ≡ v
+Misses q v a (Some (below.Payload x)) ps w = w ≡ v
+Misses q v a (Some (below.Node s)) ps w = (b : Spot) → IsIn b v.met → s ≡ name_of b.shape → (Covers b.shape q.key → ⊥) → HasAnswer q None v w
 
 abbrev pub Looks : Bool → Ask → View → Spot → Option (Child ℕ) → List Place → View → Type 0
 Looks true = Gets
@@ -182,7 +214,7 @@ IsOfKind (suc zero) (Some (below.Node s)) = ⊥
 IsOfKind (suc (suc h)) (Some (below.Payload x)) = ⊥
 IsOfKind (suc (suc h)) (Some (below.Node s)) = Unit {0}
 
--- What was read is of a node that is on the way of the key.
+-- What was read is of this node. It may be on the way of the key, or not.
 pub record Meets (Then : Ask → View → Spot → Option (Child ℕ) → List Place → View → Type 0) (q : Ask) (v : View) (a : Spot) (saw : List (ℕ × ℕ)) (ps : List Place) (w : View) : Type 0 where
   pub content : Content
   pub its : TableNode ℕ
@@ -190,11 +222,13 @@ pub record Meets (Then : Ask → View → Spot → Option (Child ℕ) → List P
   pub encodes : Encodes content its
   pub in_form : its.form ≡ a.shape.form
   pub deep : length its.prefix + a.shape.height ≡ 8
+  pub prefixed : HasPrefix its.prefix a.shape
   pub of_kind : IsOfKind a.shape.height (lookup its.children (digit a.shape.height q.key))
-  pub then : Then q v a (lookup its.children (digit a.shape.height q.key)) ps w
+  pub on_way : Covers a.shape q.key → Then q v a (lookup its.children (digit a.shape.height q.key)) ps w
+  pub beside : (Covers a.shape q.key → ⊥) → w ≡ v
 
 abbrev pub LearnsNode : (Ask → View → Spot → Option (Child ℕ) → List Place → View → Type 0) → Ask → View → ℕ → ℕ → List (ℕ × ℕ) → List Place → View → Type 0
-LearnsNode Then q v k word saw ps w = (a : Spot) → IsIn a v.met → a.number ≡ k → Covers a.shape q.key → Meets Then q v a saw ps w
+LearnsNode Then q v k word saw ps w = (a : Spot) → IsIn a v.met → a.number ≡ k → Meets Then q v a saw ps w
 
 -- A node that the seat has locked is another one.
 abbrev pub IsApart : ℕ → Own → Type 0

@@ -71,6 +71,28 @@ impl<A: Asks> Lesson<Mine> for Look<A> {
     ghost told = { LearnsNode (Looks A.reads) A.ask };
 }
 
+/// A node was read, and nothing else is learnt.
+pub struct Head<A> {
+    of: PhantomData<A>,
+}
+
+impl<A: Asks> Lesson<Mine> for Head<A> {
+    ghost use Rattle.live_law.specs.Tree.{LearnsNode, Heads};
+
+    ghost told = { LearnsNode Heads A.ask };
+}
+
+/// A look-up ends at a node that leads on to one without such keys.
+pub struct Miss<A> {
+    of: PhantomData<A>,
+}
+
+impl<A: Asks> Lesson<Mine> for Miss<A> {
+    ghost use Rattle.live_law.specs.Tree.{LearnsNode, Misses};
+
+    ghost told = { LearnsNode Misses A.ask };
+}
+
 /// A node was locked.
 pub struct Locked;
 

@@ -1,5 +1,5 @@
 -- Each step on a seat's own room keeps the rule: new words for it, a number written there, a new node made of it.
-use Rattle.std.proofs.Common.{◌≡◌, ℕ, suc, zero, ◌+◌, ◌-◌, ◌<◌, ◌≤◌, List, [], ◌∷◌, ◌++◌, map, length, set, take, drop, sym, refl, ap, ◌∙◌, subst, inl, ⊎_elim, arith, length-set, length-append, None}
+use Rattle.std.proofs.Common.{◌≡◌, ◌≢◌, ℕ, suc, zero, ◌+◌, ◌-◌, ◌<◌, ◌≤◌, List, [], ◌∷◌, ◌++◌, map, length, set, take, drop, sym, refl, ap, ◌∙◌, subst, inl, ⊎_elim, arith, length-set, length-append, None}
 use mathlib.Core.Logic.{dite}
 use mathlib.Core.Option.{some, some-injective, some-ne-none}
 use native.Mathlib.Decide.{ℕ_discrete, dec_le}
@@ -145,7 +145,8 @@ module _ {V : Type 0} (root : ℕ) (P : List Node → List V → Type 0) where
         cells_are = λ i h. inside r.owner p (p + len) (in_node k) (p + i + 1) (omega arith) (omega (arith, h, many));
         bits = (0, inl refl);
       } in
-      let g = makes r.nodes (map client s.views) r.agreed (client_at root P s id v seat) in let w : View = made v g.0 k len in
+      let elsewhere : (j : ℕ) → j < k → (node r.nodes j).place ≢ p = λ j h e. no_room_node id j (sym (mine p (omega arith) (omega arith)) ∙ (ap r.owner (sym e) ∙ (r.each_node j h).version_is)) in
+      let g = makes r.nodes (map client s.views) r.agreed (client_at root P s id v seat) elsewhere in let w : View = made v g.0 k len in
       let longer : List Node = r.nodes ++ b ∷ [] in let ds' : ℕ → Content = put_at r.drafts k content in let more : length longer ≡ k + 1 = one_more r.nodes r.drafts b content in let last : node longer k ≡ b = node_last r.nodes r.drafts b content in (
         w,
         record {

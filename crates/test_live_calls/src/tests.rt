@@ -154,6 +154,40 @@ fn a_node_grows_beside_readers(rt: HostRuntime) {
     }
 }
 
+// Keys that part from those before them at each byte in turn, the highest last, and at the lowest again.
+const PARTING: [u64; 10] = [
+    0x0101010101010101,
+    0x0101010101010102,
+    0x0101010101010201,
+    0x0101010101020101,
+    0x0101010102010101,
+    0x0101010201010101,
+    0x0101020101010101,
+    0x0102010101010101,
+    0x0201010101010101,
+    0x0201010101010102,
+];
+
+// A node comes above another where the way of a new key leaves it, and both ways are found.
+#[test]
+fn a_key_parts_from_others_at_each_byte(rt: HostRuntime) -> Result<(), Fail> {
+    let map = Congee::new(rt.alloc())?;
+    let mut absent = 0u32;
+    for key in PARTING {
+        if looked(&map, key) == Ok(None) {
+            absent = absent.wrapping_add(1);
+        }
+        assert!(rt; put(&map, rt.alloc(), key, key ^ 3) == Ok(None));
+    }
+    assert!(rt; absent == 10);
+    for key in PARTING {
+        assert!(rt; looked(&map, key) == Ok(Some(key ^ 3)));
+        assert!(rt; looked(&map, key ^ 0x0400) == Ok(None));
+        assert!(rt; looked(&map, key ^ (1 << 60)) == Ok(None));
+    }
+    Ok(())
+}
+
 // Two threads insert keys that lie between one another.
 fn by_writers<R: Threads + Sync>(rt: &R, alloc: Global) -> Option<(u32, u32, u32)> {
     let map = Congee::new(alloc).ok()?;

@@ -99,7 +99,7 @@ root_frees id v word d one named ns vs p seat low held rises =
 
 -- A LEAF IS MADE
 pub leaf_makes : (id v key : ℕ) (content : Content) → IsPair content → acts.Makes ArePairs id v key content (KnowsLeaf v key content)
-leaf_makes id v key content pair ns vs p seat =
+leaf_makes id v key content pair ns vs p seat elsewhere =
     let b : Node = node_at key 0 content None in let longer : List Node = ns ++ b ∷ [] in let ds : ℕ → Content = λ _. [] in let more : length longer ≡ length ns + 1 = one_more ns ds b content in
     let last : node longer (length ns) ≡ b = node_last ns ds b content in let before : (j : ℕ) → j < length ns → node longer j ≡ node ns j = λ j h. node_before ns ds b content j h in
     let leads : (key' : ℕ) → LeadsTo ns key' → LeadsTo longer key' = λ key'. ⊎_elim (λ none. inl none) (λ leaf. inr (leaf.0, (leaf.1.0, omega (arith, leaf.1.1, more), ap (λ (z : Node). z.place) (before leaf.0 leaf.1.1) ∙ leaf.1.2))) in

@@ -1,6 +1,10 @@
-use Rattle.std.proofs.Common.{◌≡◌, ◌≤◌}
+use Rattle.std.proofs.Common.{◌≡◌, ◌≤◌, false}
+use Rattle.live_law.specs.Views.{ask}
 use Rattle.live_calls.specs.Ways.{Names, Keeps}
 use Rattle.live_calls.proofs.exchange.leaf_with.Given as goal
+
+abbrev pub ghosts-follow : goal.ghosts-follow
+ghosts-follow g a = record { ask = ask a.pass.now.id a.key 0 0; reads = false }
 
 abbrev pub invariant-loop-height : goal.invariant-loop-height
 invariant-loop-height g l = record {

@@ -1,19 +1,20 @@
 use Rattle.std.proofs.Common.{◌≡◌, false}
 use Rattle.live_law.specs.Views.{ask}
-use Rattle.live_calls.specs.Ways.{Ends, Keeps}
+use Rattle.live_calls.specs.Ways.{Keeps}
+use Rattle.live_calls.specs.Stands.{Stands}
 use Rattle.live_calls.proofs.insert.descend.Given as goal
 
-abbrev pub ghosts-look : goal.ghosts-look
-ghosts-look a = record { ask = ask a.pass.now.id a.key 0 0; reads = false }
+abbrev pub ghosts-follow : goal.ghosts-follow
+ghosts-follow a = record { ask = ask a.pass.now.id a.key 0 0; reads = false }
 
-abbrev pub invariant-loop-height : goal.invariant-loop-height
-invariant-loop-height l = record {
+abbrev pub invariant-loop-stand : goal.invariant-loop-stand
+invariant-loop-stand l = record {
   book : l.pass.book ≡ l.fn.pass.book;
   id : l.pass.id ≡ l.fn.pass.id;
   keeps : Keeps l.fn.pass.view l.pass.view;
   seen : l.pass.view.client.seen ≡ l.fn.pass.view.client.seen;
-  ends : Ends l.pass.view l.key l.above l.name l.height;
+  stands : Stands l.pass.view l.key l.stand;
 }
 
-abbrev pub decreases-loop-height : goal.decreases-loop-height
-decreases-loop-height l = l.height
+abbrev pub decreases-loop-stand : goal.decreases-loop-stand
+decreases-loop-stand l = l.stand.height

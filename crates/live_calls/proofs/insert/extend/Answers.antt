@@ -1,5 +1,5 @@
 use Rattle.live_calls.proofs.Ready.{ready_grown}
-use Rattle.live_calls.proofs.Ends.{ends_grown}
+use Rattle.live_calls.proofs.Stood.{stands_grown}
 use Rattle.live_calls.proofs.insert.extend.Goals as goal
 
 pub enlarge-requires-clause-ready : goal.enlarge-requires-clause-ready
@@ -8,10 +8,8 @@ enlarge-requires-clause-ready c =
     let l = c.link.new in
     ready_grown c.args.pass.now.view l.pass.view c.args.room.now.start c.args.room.now.left l.room.start l.room.left c.requires.ready t.2 t.3
 
-pub enlarge-requires-clause-ends : goal.enlarge-requires-clause-ends
-enlarge-requires-clause-ends c =
-    let e = c.args.end in
-    ends_grown c.args.pass.now.view c.link.new.pass.view c.args.key e.above e.name e.height c.link.ensures.told.2 c.requires.ends
+pub enlarge-requires-clause-stands : goal.enlarge-requires-clause-stands
+enlarge-requires-clause-stands c = stands_grown c.args.pass.now.view c.link.new.pass.view c.args.key c.args.stand c.link.ensures.told.2 c.requires.stands
 
 pub returns-in-Ok : goal.returns-in-Ok
 returns-in-Ok c =

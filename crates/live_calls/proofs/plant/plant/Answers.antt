@@ -253,7 +253,7 @@ unlock-requires-2-clause-frees g c =
     let u_client = ap (λ (z : SeatView View). z.client) (ap (λ s. s.view) r) in
     let m_own = ap (λ (z : View). z.own) laid.made.client ∙ ap (λ (os : List Own). fresh y laid.content ∷ os) own in
     let u_own = ap (λ (z : View). z.own) u_client ∙ m_own in
-    let empty : IsEmptyNode y laid.content = record { its = laid.its; encodes = laid.encodes; in_form = laid.its_form ∙ sym laid.made.in_form; deep = ap (λ z. length laid.its.prefix + z) laid.made.high ∙ laid.deep; empty = laid.empty } in
+    let empty : IsEmptyNode y laid.content = record { its = laid.its; encodes = laid.encodes; in_form = laid.its_form ∙ sym laid.made.in_form; deep = ap (λ z. length laid.its.prefix + z) laid.made.high ∙ laid.deep; prefixed = laid.prefixed; empty = laid.empty } in
     let was = grip_draft m mb words free p h.content gripped in
     let d_is = c.set.ensures.is ∙ ap (λ (z : List ℕ). set z 0 c.make_empty-root.result) was in
     let l = h.long in
@@ -343,7 +343,7 @@ returns g c =
     let u_client = ap (λ (z : SeatView View). z.client) (ap (λ s. s.view) r) in
     let m_own = ap (λ (z : View). z.own) laid.made.client ∙ ap (λ (os : List Own). fresh y laid.content ∷ os) own in
     let u_own = ap (λ (z : View). z.own) u_client ∙ m_own in
-    let empty : IsEmptyNode y laid.content = record { its = laid.its; encodes = laid.encodes; in_form = laid.its_form ∙ sym laid.made.in_form; deep = ap (λ z. length laid.its.prefix + z) laid.made.high ∙ laid.deep; empty = laid.empty } in
+    let empty : IsEmptyNode y laid.content = record { its = laid.its; encodes = laid.encodes; in_form = laid.its_form ∙ sym laid.made.in_form; deep = ap (λ z. length laid.its.prefix + z) laid.made.high ∙ laid.deep; prefixed = laid.prefixed; empty = laid.empty } in
     let was = grip_draft m mb words free p h.content gripped in
     let d_is = c.set.ensures.is ∙ ap (λ (z : List ℕ). set z 0 c.make_empty-root.result) was in
     let l = h.long in

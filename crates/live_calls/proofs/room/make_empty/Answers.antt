@@ -1,6 +1,8 @@
-use Rattle.std.proofs.Common.{arith, ap, refl, length, length-take, List, ℕ, ◌+◌, ◌-◌, ◌∙◌}
+use Rattle.std.proofs.Common.{arith, ap, sym, refl, length, length-take, take, ◌≡◌, ◌+◌, ◌-◌, ◌∙◌}
+use Rattle.std.proofs.lemmas.List.{get_or-take}
 use Rattle.live_rows.specs.Rows.{filled}
-use Rattle.live_encodes.specs.Encodes.{words_of}
+use Rattle.live_encodes.specs.Encodes.{words_of, empty_node}
+use Rattle.live_law.specs.Levels.{up}
 use Rattle.live_calls.proofs.Rooms.{may_fill, words_long, is_filled, made_before}
 use Rattle.live_calls.proofs.room.make_empty.Goals as goal
 
@@ -49,16 +51,26 @@ returns-clause-told g c =
     let may = c.lay.ensures.seat.still in
     let rest = ap (λ s. s.view) c.lay.ensures.seat.others in
     let t = c.make.ensures.told in
-    let s = c.lay.ensures.seat.others in (
+    let s = c.lay.ensures.seat.others in
+    let h = c.requires.height in
+    let short : length (take (8 - c.args.height) c.bytes_of-bytes.result) ≡ 8 - c.args.height = (let l = length-take (8 - c.args.height) c.bytes_of-bytes.result in let m = c.bytes_of-bytes.ensures.long in omega (arith, l, m)) in
+    let deep : length (take (8 - c.args.height) c.bytes_of-bytes.result) + g.A.Asks.ask.height ≡ 8 = (let a = c.requires.asks.1 in omega (arith, short, a, h)) in
+    let made = made_before g.A.Asks.ask v u.view c.make.new.pass.view (filled (length words) u.view.room) form c.make.result (length words) rest t.2 in (
       t.0 ∙ ap (λ s. s.book) s,
       t.1 ∙ ap (λ s. s.id) s,
       record {
         content = filled (length words) u.view.room;
-        made = made_before g.A.Asks.ask v u.view c.make.new.pass.view (filled (length words) u.view.room) form c.make.result (length words) rest t.2;
-        its = _;
+        made = made;
+        its = empty_node form (take (8 - c.args.height) c.bytes_of-bytes.result);
         encodes = c.lay.ensures.is;
         its_form = refl;
-        deep = (let l = length-take (8 - c.args.height) c.to_be_bytes-bytes.result in let m = ap (λ (z : List ℕ). length z) c.to_be_bytes-bytes.ensures in let h = c.requires.height in omega (arith, l, m, c.requires.asks, h));
+        deep = deep;
+        prefixed = record {
+          key = c.args.key;
+          fits = c.ranges.key.fits;
+          covers = ap (up made.spot.shape.height) (sym c.requires.asks.0) ∙ made.covers;
+          bytes = λ i l. get_or-take (8 - c.args.height) c.bytes_of-bytes.result i 0 (omega (arith, l, short)) ∙ c.bytes_of-bytes.ensures.is i (omega (arith, l, short));
+        };
         empty = refl;
       },
     )

@@ -1,11 +1,13 @@
-use Rattle.std.proofs.Common.{rules, arith, sym, ap, subst, length, refl, ℕ, Some, List, [], ◌∷◌, ◌≡◌, ◌+◌, ◌-◌, ◌/◌, ◌≤◌, ◌∙◌}
+use Rattle.std.proofs.Common.{rules, arith, sym, ap, subst, length, refl, ℕ, Option, Some, None, List, [], ◌∷◌, ◌≡◌, ◌+◌, ◌-◌, ◌/◌, ◌≤◌, ◌∙◌}
 use Rattle.node_base.specs.Form.{next_form}
 use Rattle.live_nodes.specs.Seats.{SeatView, Place, IsIn, hold}
 use Rattle.live_rows.specs.Rows.{AreOf, draft_of, nth}
-use Rattle.live_encodes.specs.Encodes.{words_of, Encodes, IsCounted, in_form}
+use Rattle.live_encodes.specs.Encodes.{words_of, Encodes, IsCounted, IsBelow, IsWord, in_form}
 use Rattle.live_law.specs.Levels.{up, digit, place_at}
 use Rattle.live_law.specs.Views.{View, Own, locked, fresh}
-use Rattle.node_table.specs.TableNode.{TableNode}
+use Rattle.spec_map.specs.Map.{lookup}
+use Rattle.node_table.specs.TableNode.{TableNode, Child}
+use Rattle.node_table.specs.declared.child.Child.TheVariants.{Node}
 use Rattle.live_law.specs.Tree.{Links, StaysSame, left_over}
 use Rattle.live_law.proofs.Joins.{link_grown}
 use Rattle.live_law.proofs.Writes.{node_retires}
@@ -18,8 +20,8 @@ use Rattle.live_calls.proofs.Pairs.{pair_locked, pair_first, pair_second, pair_m
 use Rattle.live_calls.proofs.Linked.{room_after}
 use Rattle.live_calls.proofs.widen.widen.Goals as goal
 
-pub has_child-requires-clause-may : goal.has_child-requires-clause-may
-has_child-requires-clause-may g c =
+pub leads_to-requires-clause-may : goal.leads_to-requires-clause-may
+leads_to-requires-clause-may g c =
     let v = c.args.pass.now.view in
     let key = c.args.key in
     let height = c.args.height in
@@ -28,16 +30,16 @@ has_child-requires-clause-may g c =
     let w = c.lock_node.new.pass.view in
     let t = c.lock_node.ensures.told in
     let locked_p : c.lock_node.result ≡ Some free_p = search rules in
-    let hp = taken_by c.lock_node.result free_p locked_p (HasLocked v w c.args.above key (height + 1)) t.2 in
+    let hp = taken_by c.lock_node.result free_p locked_p (HasLocked v w c.args.above key c.args.level) t.2 in
     let b = c.lock_node.new.pass.book in
     let are_p = subst (λ z. AreNamed z c.args.above words_p) (sym (t.0 ∙ c.requires.book)) c.in-Some.ensures in
-    let one = holds_one v w c.args.above key (height + 1) free_p hp b words_p are_p c.requires.rests.0 c.requires.rests.1 in
+    let one = holds_one v w c.args.above key c.args.level free_p hp b words_p are_p c.requires.rests.0 c.requires.rests.1 in
     let p = hp.names.spot in
     let form_p = c.form_below.ensures p.shape.key p.shape.form hp.names.named in
     may_hold w b words_p free_p p hp.content hp.content one hp.long
 
-pub has_child-requires-clause-long : goal.has_child-requires-clause-long
-has_child-requires-clause-long g c =
+pub leads_to-requires-clause-long : goal.leads_to-requires-clause-long
+leads_to-requires-clause-long g c =
     let v = c.args.pass.now.view in
     let key = c.args.key in
     let height = c.args.height in
@@ -46,10 +48,10 @@ has_child-requires-clause-long g c =
     let w = c.lock_node.new.pass.view in
     let t = c.lock_node.ensures.told in
     let locked_p : c.lock_node.result ≡ Some free_p = search rules in
-    let hp = taken_by c.lock_node.result free_p locked_p (HasLocked v w c.args.above key (height + 1)) t.2 in
+    let hp = taken_by c.lock_node.result free_p locked_p (HasLocked v w c.args.above key c.args.level) t.2 in
     let b = c.lock_node.new.pass.book in
     let are_p = subst (λ z. AreNamed z c.args.above words_p) (sym (t.0 ∙ c.requires.book)) c.in-Some.ensures in
-    let one = holds_one v w c.args.above key (height + 1) free_p hp b words_p are_p c.requires.rests.0 c.requires.rests.1 in
+    let one = holds_one v w c.args.above key c.args.level free_p hp b words_p are_p c.requires.rests.0 c.requires.rests.1 in
     let p = hp.names.spot in
     let form_p = c.form_below.ensures p.shape.key p.shape.form hp.names.named in
     ap (λ (z : List ℕ). length z) (draft_is w b words_p free_p p hp.content hp.content one) ∙ (hp.long ∙ ap words_of (sym form_p))
@@ -64,13 +66,13 @@ unlock_same-requires-clause-holds g c =
     let w = c.lock_node.new.pass.view in
     let t = c.lock_node.ensures.told in
     let locked_p : c.lock_node.result ≡ Some free_p = search rules in
-    let hp = taken_by c.lock_node.result free_p locked_p (HasLocked v w c.args.above key (height + 1)) t.2 in
+    let hp = taken_by c.lock_node.result free_p locked_p (HasLocked v w c.args.above key c.args.level) t.2 in
     let b = c.lock_node.new.pass.book in
     let are_p = subst (λ z. AreNamed z c.args.above words_p) (sym (t.0 ∙ c.requires.book)) c.in-Some.ensures in
-    let one = holds_one v w c.args.above key (height + 1) free_p hp b words_p are_p c.requires.rests.0 c.requires.rests.1 in
+    let one = holds_one v w c.args.above key c.args.level free_p hp b words_p are_p c.requires.rests.0 c.requires.rests.1 in
     let p = hp.names.spot in
     let form_p = c.form_below.ensures p.shape.key p.shape.form hp.names.named in
-    let same = c.has_child.ensures.seat.same in
+    let same = c.leads_to.ensures.seat.same in
     (p, hp.content, subst (λ z. HoldsOne z.view z.book words_p free_p p hp.content hp.content) (sym same) one)
 
 pub make_grown-new-requires-clause-held : goal.make_grown-new-requires-clause-held
@@ -83,16 +85,16 @@ make_grown-new-requires-clause-held g c =
     let w = c.lock_node.new.pass.view in
     let t = c.lock_node.ensures.told in
     let locked_p : c.lock_node.result ≡ Some free_p = search rules in
-    let hp = taken_by c.lock_node.result free_p locked_p (HasLocked v w c.args.above key (height + 1)) t.2 in
+    let hp = taken_by c.lock_node.result free_p locked_p (HasLocked v w c.args.above key c.args.level) t.2 in
     let b = c.lock_node.new.pass.book in
     let are_p = subst (λ z. AreNamed z c.args.above words_p) (sym (t.0 ∙ c.requires.book)) c.in-Some.ensures in
-    let one = holds_one v w c.args.above key (height + 1) free_p hp b words_p are_p c.requires.rests.0 c.requires.rests.1 in
+    let one = holds_one v w c.args.above key c.args.level free_p hp b words_p are_p c.requires.rests.0 c.requires.rests.1 in
     let p = hp.names.spot in
     let form_p = c.form_below.ensures p.shape.key p.shape.form hp.names.named in
-    let same = c.has_child.ensures.seat.same in
+    let same = c.leads_to.ensures.seat.same in
     let words = c.in-Some-words_at.words.now in
     let free = c.in-Some-lock_node-2.free in
-    let s = c.has_child.new.seat.view in
+    let s = c.leads_to.new.seat.view in
     let u = c.lock_node-2.new.pass.view in
     let t2 = c.lock_node-2.ensures.told in
     let locked_x : c.lock_node-2.result ≡ Some free = search rules in
@@ -102,7 +104,7 @@ make_grown-new-requires-clause-held g c =
     let ub = c.lock_node-2.new.pass.book in
     let book_u = t2.0 ∙ (ap (λ z. z.book) same ∙ t.0) in
     let one_s = subst (λ z. HoldsOne z.view z.book words_p free_p p hp.content hp.content) (sym same) one in
-    let pair = pair_locked s u c.has_child.new.seat.book ub words words_p free free_p c.args.name key height hx p hp.content t2.0 one_s (subst (λ z. AreNamed z c.args.name words) (sym (book_u ∙ c.requires.book)) c.in-Some-words_at.ensures) in
+    let pair = pair_locked s u c.leads_to.new.seat.book ub words words_p free free_p c.args.name key height hx p hp.content t2.0 one_s (subst (λ z. AreNamed z c.args.name words) (sym (book_u ∙ c.requires.book)) c.in-Some-words_at.ensures) in
     let own_u = hx.own ∙ ap (λ (os : List Own). locked x hx.content ∷ os) one_s.own in
     pair_first u ub words words_p free free_p x p hx.content hp.content pair hx.long
 
@@ -116,16 +118,16 @@ make_grown-new-requires-clause-node g c =
     let w = c.lock_node.new.pass.view in
     let t = c.lock_node.ensures.told in
     let locked_p : c.lock_node.result ≡ Some free_p = search rules in
-    let hp = taken_by c.lock_node.result free_p locked_p (HasLocked v w c.args.above key (height + 1)) t.2 in
+    let hp = taken_by c.lock_node.result free_p locked_p (HasLocked v w c.args.above key c.args.level) t.2 in
     let b = c.lock_node.new.pass.book in
     let are_p = subst (λ z. AreNamed z c.args.above words_p) (sym (t.0 ∙ c.requires.book)) c.in-Some.ensures in
-    let one = holds_one v w c.args.above key (height + 1) free_p hp b words_p are_p c.requires.rests.0 c.requires.rests.1 in
+    let one = holds_one v w c.args.above key c.args.level free_p hp b words_p are_p c.requires.rests.0 c.requires.rests.1 in
     let p = hp.names.spot in
     let form_p = c.form_below.ensures p.shape.key p.shape.form hp.names.named in
-    let same = c.has_child.ensures.seat.same in
+    let same = c.leads_to.ensures.seat.same in
     let words = c.in-Some-words_at.words.now in
     let free = c.in-Some-lock_node-2.free in
-    let s = c.has_child.new.seat.view in
+    let s = c.leads_to.new.seat.view in
     let u = c.lock_node-2.new.pass.view in
     let t2 = c.lock_node-2.ensures.told in
     let locked_x : c.lock_node-2.result ≡ Some free = search rules in
@@ -135,7 +137,7 @@ make_grown-new-requires-clause-node g c =
     let ub = c.lock_node-2.new.pass.book in
     let book_u = t2.0 ∙ (ap (λ z. z.book) same ∙ t.0) in
     let one_s = subst (λ z. HoldsOne z.view z.book words_p free_p p hp.content hp.content) (sym same) one in
-    let pair = pair_locked s u c.has_child.new.seat.book ub words words_p free free_p c.args.name key height hx p hp.content t2.0 one_s (subst (λ z. AreNamed z c.args.name words) (sym (book_u ∙ c.requires.book)) c.in-Some-words_at.ensures) in
+    let pair = pair_locked s u c.leads_to.new.seat.book ub words words_p free free_p c.args.name key height hx p hp.content t2.0 one_s (subst (λ z. AreNamed z c.args.name words) (sym (book_u ∙ c.requires.book)) c.in-Some-words_at.ensures) in
     let own_u = hx.own ∙ ap (λ (os : List Own). locked x hx.content ∷ os) one_s.own in
     (hx.its, subst (λ z. Encodes z hx.its) (sym (first_draft u ub words words_p free free_p x p hx.content hp.content pair)) hx.encodes, hx.in_form ∙ sym form)
 
@@ -149,16 +151,16 @@ make_grown-new-requires-clause-long g c =
     let w = c.lock_node.new.pass.view in
     let t = c.lock_node.ensures.told in
     let locked_p : c.lock_node.result ≡ Some free_p = search rules in
-    let hp = taken_by c.lock_node.result free_p locked_p (HasLocked v w c.args.above key (height + 1)) t.2 in
+    let hp = taken_by c.lock_node.result free_p locked_p (HasLocked v w c.args.above key c.args.level) t.2 in
     let b = c.lock_node.new.pass.book in
     let are_p = subst (λ z. AreNamed z c.args.above words_p) (sym (t.0 ∙ c.requires.book)) c.in-Some.ensures in
-    let one = holds_one v w c.args.above key (height + 1) free_p hp b words_p are_p c.requires.rests.0 c.requires.rests.1 in
+    let one = holds_one v w c.args.above key c.args.level free_p hp b words_p are_p c.requires.rests.0 c.requires.rests.1 in
     let p = hp.names.spot in
     let form_p = c.form_below.ensures p.shape.key p.shape.form hp.names.named in
-    let same = c.has_child.ensures.seat.same in
+    let same = c.leads_to.ensures.seat.same in
     let words = c.in-Some-words_at.words.now in
     let free = c.in-Some-lock_node-2.free in
-    let s = c.has_child.new.seat.view in
+    let s = c.leads_to.new.seat.view in
     let u = c.lock_node-2.new.pass.view in
     let t2 = c.lock_node-2.ensures.told in
     let locked_x : c.lock_node-2.result ≡ Some free = search rules in
@@ -168,7 +170,7 @@ make_grown-new-requires-clause-long g c =
     let ub = c.lock_node-2.new.pass.book in
     let book_u = t2.0 ∙ (ap (λ z. z.book) same ∙ t.0) in
     let one_s = subst (λ z. HoldsOne z.view z.book words_p free_p p hp.content hp.content) (sym same) one in
-    let pair = pair_locked s u c.has_child.new.seat.book ub words words_p free free_p c.args.name key height hx p hp.content t2.0 one_s (subst (λ z. AreNamed z c.args.name words) (sym (book_u ∙ c.requires.book)) c.in-Some-words_at.ensures) in
+    let pair = pair_locked s u c.leads_to.new.seat.book ub words words_p free free_p c.args.name key height hx p hp.content t2.0 one_s (subst (λ z. AreNamed z c.args.name words) (sym (book_u ∙ c.requires.book)) c.in-Some-words_at.ensures) in
     let own_u = hx.own ∙ ap (λ (os : List Own). locked x hx.content ∷ os) one_s.own in
     ap (λ (z : List ℕ). length z) (first_draft u ub words words_p free free_p x p hx.content hp.content pair) ∙ (hx.long ∙ ap words_of (sym form))
 
@@ -182,16 +184,16 @@ make_grown-new-requires-clause-few g c =
     let w = c.lock_node.new.pass.view in
     let t = c.lock_node.ensures.told in
     let locked_p : c.lock_node.result ≡ Some free_p = search rules in
-    let hp = taken_by c.lock_node.result free_p locked_p (HasLocked v w c.args.above key (height + 1)) t.2 in
+    let hp = taken_by c.lock_node.result free_p locked_p (HasLocked v w c.args.above key c.args.level) t.2 in
     let b = c.lock_node.new.pass.book in
     let are_p = subst (λ z. AreNamed z c.args.above words_p) (sym (t.0 ∙ c.requires.book)) c.in-Some.ensures in
-    let one = holds_one v w c.args.above key (height + 1) free_p hp b words_p are_p c.requires.rests.0 c.requires.rests.1 in
+    let one = holds_one v w c.args.above key c.args.level free_p hp b words_p are_p c.requires.rests.0 c.requires.rests.1 in
     let p = hp.names.spot in
     let form_p = c.form_below.ensures p.shape.key p.shape.form hp.names.named in
-    let same = c.has_child.ensures.seat.same in
+    let same = c.leads_to.ensures.seat.same in
     let words = c.in-Some-words_at.words.now in
     let free = c.in-Some-lock_node-2.free in
-    let s = c.has_child.new.seat.view in
+    let s = c.leads_to.new.seat.view in
     let u = c.lock_node-2.new.pass.view in
     let t2 = c.lock_node-2.ensures.told in
     let locked_x : c.lock_node-2.result ≡ Some free = search rules in
@@ -201,7 +203,7 @@ make_grown-new-requires-clause-few g c =
     let ub = c.lock_node-2.new.pass.book in
     let book_u = t2.0 ∙ (ap (λ z. z.book) same ∙ t.0) in
     let one_s = subst (λ z. HoldsOne z.view z.book words_p free_p p hp.content hp.content) (sym same) one in
-    let pair = pair_locked s u c.has_child.new.seat.book ub words words_p free free_p c.args.name key height hx p hp.content t2.0 one_s (subst (λ z. AreNamed z c.args.name words) (sym (book_u ∙ c.requires.book)) c.in-Some-words_at.ensures) in
+    let pair = pair_locked s u c.leads_to.new.seat.book ub words words_p free free_p c.args.name key height hx p hp.content t2.0 one_s (subst (λ z. AreNamed z c.args.name words) (sym (book_u ∙ c.requires.book)) c.in-Some-words_at.ensures) in
     let own_u = hx.own ∙ ap (λ (os : List Own). locked x hx.content ∷ os) one_s.own in
     subst (IsCounted c.form_below-form.result) (sym (first_draft u ub words words_p free free_p x p hx.content hp.content pair)) (few_counted c.form_below-form.result hx.content hx.its hx.encodes (hx.in_form ∙ sym form))
 
@@ -215,16 +217,16 @@ make_grown-new-requires-clause-room g c =
     let w = c.lock_node.new.pass.view in
     let t = c.lock_node.ensures.told in
     let locked_p : c.lock_node.result ≡ Some free_p = search rules in
-    let hp = taken_by c.lock_node.result free_p locked_p (HasLocked v w c.args.above key (height + 1)) t.2 in
+    let hp = taken_by c.lock_node.result free_p locked_p (HasLocked v w c.args.above key c.args.level) t.2 in
     let b = c.lock_node.new.pass.book in
     let are_p = subst (λ z. AreNamed z c.args.above words_p) (sym (t.0 ∙ c.requires.book)) c.in-Some.ensures in
-    let one = holds_one v w c.args.above key (height + 1) free_p hp b words_p are_p c.requires.rests.0 c.requires.rests.1 in
+    let one = holds_one v w c.args.above key c.args.level free_p hp b words_p are_p c.requires.rests.0 c.requires.rests.1 in
     let p = hp.names.spot in
     let form_p = c.form_below.ensures p.shape.key p.shape.form hp.names.named in
-    let same = c.has_child.ensures.seat.same in
+    let same = c.leads_to.ensures.seat.same in
     let words = c.in-Some-words_at.words.now in
     let free = c.in-Some-lock_node-2.free in
-    let s = c.has_child.new.seat.view in
+    let s = c.leads_to.new.seat.view in
     let u = c.lock_node-2.new.pass.view in
     let t2 = c.lock_node-2.ensures.told in
     let locked_x : c.lock_node-2.result ≡ Some free = search rules in
@@ -234,7 +236,7 @@ make_grown-new-requires-clause-room g c =
     let ub = c.lock_node-2.new.pass.book in
     let book_u = t2.0 ∙ (ap (λ z. z.book) same ∙ t.0) in
     let one_s = subst (λ z. HoldsOne z.view z.book words_p free_p p hp.content hp.content) (sym same) one in
-    let pair = pair_locked s u c.has_child.new.seat.book ub words words_p free free_p c.args.name key height hx p hp.content t2.0 one_s (subst (λ z. AreNamed z c.args.name words) (sym (book_u ∙ c.requires.book)) c.in-Some-words_at.ensures) in
+    let pair = pair_locked s u c.leads_to.new.seat.book ub words words_p free free_p c.args.name key height hx p hp.content t2.0 one_s (subst (λ z. AreNamed z c.args.name words) (sym (book_u ∙ c.requires.book)) c.in-Some-words_at.ensures) in
     let own_u = hx.own ∙ ap (λ (os : List Own). locked x hx.content ∷ os) one_s.own in
     let left = c.args.room.now.left in
     let start = c.args.room.now.start in
@@ -251,16 +253,16 @@ change-requires-clause-may g c =
     let w = c.lock_node.new.pass.view in
     let t = c.lock_node.ensures.told in
     let locked_p : c.lock_node.result ≡ Some free_p = search rules in
-    let hp = taken_by c.lock_node.result free_p locked_p (HasLocked v w c.args.above key (height + 1)) t.2 in
+    let hp = taken_by c.lock_node.result free_p locked_p (HasLocked v w c.args.above key c.args.level) t.2 in
     let b = c.lock_node.new.pass.book in
     let are_p = subst (λ z. AreNamed z c.args.above words_p) (sym (t.0 ∙ c.requires.book)) c.in-Some.ensures in
-    let one = holds_one v w c.args.above key (height + 1) free_p hp b words_p are_p c.requires.rests.0 c.requires.rests.1 in
+    let one = holds_one v w c.args.above key c.args.level free_p hp b words_p are_p c.requires.rests.0 c.requires.rests.1 in
     let p = hp.names.spot in
     let form_p = c.form_below.ensures p.shape.key p.shape.form hp.names.named in
-    let same = c.has_child.ensures.seat.same in
+    let same = c.leads_to.ensures.seat.same in
     let words = c.in-Some-words_at.words.now in
     let free = c.in-Some-lock_node-2.free in
-    let s = c.has_child.new.seat.view in
+    let s = c.leads_to.new.seat.view in
     let u = c.lock_node-2.new.pass.view in
     let t2 = c.lock_node-2.ensures.told in
     let locked_x : c.lock_node-2.result ≡ Some free = search rules in
@@ -270,7 +272,7 @@ change-requires-clause-may g c =
     let ub = c.lock_node-2.new.pass.book in
     let book_u = t2.0 ∙ (ap (λ z. z.book) same ∙ t.0) in
     let one_s = subst (λ z. HoldsOne z.view z.book words_p free_p p hp.content hp.content) (sym same) one in
-    let pair = pair_locked s u c.has_child.new.seat.book ub words words_p free free_p c.args.name key height hx p hp.content t2.0 one_s (subst (λ z. AreNamed z c.args.name words) (sym (book_u ∙ c.requires.book)) c.in-Some-words_at.ensures) in
+    let pair = pair_locked s u c.leads_to.new.seat.book ub words words_p free free_p c.args.name key height hx p hp.content t2.0 one_s (subst (λ z. AreNamed z c.args.name words) (sym (book_u ∙ c.requires.book)) c.in-Some-words_at.ensures) in
     let own_u = hx.own ∙ ap (λ (os : List Own). locked x hx.content ∷ os) one_s.own in
     let q = g.A.Asks.ask in
     let m = c.make_grown-new.new.pass.view in
@@ -294,16 +296,16 @@ change-requires-clause-long g c =
     let w = c.lock_node.new.pass.view in
     let t = c.lock_node.ensures.told in
     let locked_p : c.lock_node.result ≡ Some free_p = search rules in
-    let hp = taken_by c.lock_node.result free_p locked_p (HasLocked v w c.args.above key (height + 1)) t.2 in
+    let hp = taken_by c.lock_node.result free_p locked_p (HasLocked v w c.args.above key c.args.level) t.2 in
     let b = c.lock_node.new.pass.book in
     let are_p = subst (λ z. AreNamed z c.args.above words_p) (sym (t.0 ∙ c.requires.book)) c.in-Some.ensures in
-    let one = holds_one v w c.args.above key (height + 1) free_p hp b words_p are_p c.requires.rests.0 c.requires.rests.1 in
+    let one = holds_one v w c.args.above key c.args.level free_p hp b words_p are_p c.requires.rests.0 c.requires.rests.1 in
     let p = hp.names.spot in
     let form_p = c.form_below.ensures p.shape.key p.shape.form hp.names.named in
-    let same = c.has_child.ensures.seat.same in
+    let same = c.leads_to.ensures.seat.same in
     let words = c.in-Some-words_at.words.now in
     let free = c.in-Some-lock_node-2.free in
-    let s = c.has_child.new.seat.view in
+    let s = c.leads_to.new.seat.view in
     let u = c.lock_node-2.new.pass.view in
     let t2 = c.lock_node-2.ensures.told in
     let locked_x : c.lock_node-2.result ≡ Some free = search rules in
@@ -313,7 +315,7 @@ change-requires-clause-long g c =
     let ub = c.lock_node-2.new.pass.book in
     let book_u = t2.0 ∙ (ap (λ z. z.book) same ∙ t.0) in
     let one_s = subst (λ z. HoldsOne z.view z.book words_p free_p p hp.content hp.content) (sym same) one in
-    let pair = pair_locked s u c.has_child.new.seat.book ub words words_p free free_p c.args.name key height hx p hp.content t2.0 one_s (subst (λ z. AreNamed z c.args.name words) (sym (book_u ∙ c.requires.book)) c.in-Some-words_at.ensures) in
+    let pair = pair_locked s u c.leads_to.new.seat.book ub words words_p free free_p c.args.name key height hx p hp.content t2.0 one_s (subst (λ z. AreNamed z c.args.name words) (sym (book_u ∙ c.requires.book)) c.in-Some-words_at.ensures) in
     let own_u = hx.own ∙ ap (λ (os : List Own). locked x hx.content ∷ os) one_s.own in
     let q = g.A.Asks.ask in
     let m = c.make_grown-new.new.pass.view in
@@ -337,16 +339,16 @@ unlock-requires-clause-frees g c =
     let w = c.lock_node.new.pass.view in
     let t = c.lock_node.ensures.told in
     let locked_p : c.lock_node.result ≡ Some free_p = search rules in
-    let hp = taken_by c.lock_node.result free_p locked_p (HasLocked v w c.args.above key (height + 1)) t.2 in
+    let hp = taken_by c.lock_node.result free_p locked_p (HasLocked v w c.args.above key c.args.level) t.2 in
     let b = c.lock_node.new.pass.book in
     let are_p = subst (λ z. AreNamed z c.args.above words_p) (sym (t.0 ∙ c.requires.book)) c.in-Some.ensures in
-    let one = holds_one v w c.args.above key (height + 1) free_p hp b words_p are_p c.requires.rests.0 c.requires.rests.1 in
+    let one = holds_one v w c.args.above key c.args.level free_p hp b words_p are_p c.requires.rests.0 c.requires.rests.1 in
     let p = hp.names.spot in
     let form_p = c.form_below.ensures p.shape.key p.shape.form hp.names.named in
-    let same = c.has_child.ensures.seat.same in
+    let same = c.leads_to.ensures.seat.same in
     let words = c.in-Some-words_at.words.now in
     let free = c.in-Some-lock_node-2.free in
-    let s = c.has_child.new.seat.view in
+    let s = c.leads_to.new.seat.view in
     let u = c.lock_node-2.new.pass.view in
     let t2 = c.lock_node-2.ensures.told in
     let locked_x : c.lock_node-2.result ≡ Some free = search rules in
@@ -356,7 +358,7 @@ unlock-requires-clause-frees g c =
     let ub = c.lock_node-2.new.pass.book in
     let book_u = t2.0 ∙ (ap (λ z. z.book) same ∙ t.0) in
     let one_s = subst (λ z. HoldsOne z.view z.book words_p free_p p hp.content hp.content) (sym same) one in
-    let pair = pair_locked s u c.has_child.new.seat.book ub words words_p free free_p c.args.name key height hx p hp.content t2.0 one_s (subst (λ z. AreNamed z c.args.name words) (sym (book_u ∙ c.requires.book)) c.in-Some-words_at.ensures) in
+    let pair = pair_locked s u c.leads_to.new.seat.book ub words words_p free free_p c.args.name key height hx p hp.content t2.0 one_s (subst (λ z. AreNamed z c.args.name words) (sym (book_u ∙ c.requires.book)) c.in-Some-words_at.ensures) in
     let own_u = hx.own ∙ ap (λ (os : List Own). locked x hx.content ∷ os) one_s.own in
     let q = g.A.Asks.ask in
     let m = c.make_grown-new.new.pass.view in
@@ -378,10 +380,15 @@ unlock-requires-clause-frees g c =
     let own_n = ap (λ (z : View). z.own) n_client ∙ own_m in
     let asks = c.requires.asks in
     let digit_is = c.byte_at-byte.ensures ∙ ap (λ (z : ℕ × ℕ). digit z.0 z.1) (λ i. (sym hp.names.high i, sym asks.0 i)) in
-    let there = c.has_child.ensures.some (search rules) hp.its (subst (λ z. Encodes z hp.its) (sym (draft_is w b words_p free_p p hp.content hp.content one)) hp.encodes) (hp.in_form ∙ sym form_p) in
+    let has = c.leads_to.ensures.some (search rules) in
+    let drafted = draft_is w b words_p free_p p hp.content hp.content one in
+    let under = has.1 hp.its (subst (λ z. Encodes z hp.its) (sym drafted) hp.encodes) (hp.in_form ∙ sym form_p) in
+    let there = λ (none : lookup hp.its.children c.byte_at-byte.result ≡ None). subst (λ (z : Option (Child ℕ)). IsBelow z (Some has.0)) none under in
+    let named = λ (n : TableNode ℕ) (encodes : Encodes hp.content n) (formed : n.form ≡ p.shape.form). subst (λ z. IsBelow (lookup n.children z) (Some has.0)) digit_is (has.1 n (subst (λ z. Encodes z n) (sym drafted) encodes) (formed ∙ sym form_p)) in
+    let spells = λ (s : ℕ) (e : IsWord has.0 (Node s)). has.2 s e ∙ hx.names.named in
     let changed = change_done c.change.result hp.content (draft_of (nth 1 m.holds)) was hp.its hp.encodes c.form_below-2.result (hp.in_form ∙ sym form_q) c.byte_at-byte.result there c.change.ensures.was in
     let wider_is = c.next_of-wider.ensures in
-    let changes = grown_changes q hp.content (draft_of (nth 1 m.holds)) was d c.form_below-2.result p y c.byte_at-byte.result digit_is form_q c.word_below.result c.make_grown-new.result c.word_below.ensures.child made.named (height + 1) hp.names.high (let lo = c.requires.height.0 in omega (arith, lo)) (at_result c.change.result changed c.change.ensures.is) in
+    let changes = grown_changes q hp.content (draft_of (nth 1 m.holds)) was d c.form_below-2.result p y c.byte_at-byte.result digit_is form_q c.word_below.result c.make_grown-new.result c.word_below.ensures.child made.named c.args.level hp.names.high (let ht = c.requires.height in omega (arith, ht)) (at_result c.change.result changed c.change.ensures.is) in
     let covers_p = ap (up p.shape.height) asks.0 ∙ hp.names.covers in
     let covers_x = ap (up x.shape.height) asks.0 ∙ hx.names.covers in
     let long = c.change.ensures.long ∙ ap words_of form_q in
@@ -391,7 +398,7 @@ unlock-requires-clause-frees g c =
     let hx_high = hx.names.high in
     let first = c.index-words_above-0.result in
     let at_p = (first_word (place_at p) nb words_p pair_n.are_p first first (sym c.index-words_above-0.is)).0 in
-    let frees = link_grown c.change.new.seat.id n.client q.key y x p cy hx.content hp.content own_n (free_p + 4) d (omega (arith, high_y, hp_high)) (let lo = c.requires.height.0 in omega (arith, high_y, lo)) made.covers covers_p (hx_high ∙ sym high_y) covers_x long changes grows in
+    let frees = link_grown c.change.new.seat.id n.client q.key y x p cy hx.content hp.content own_n (free_p + 4) d (let ht = c.requires.height in omega (arith, high_y, hp_high, ht)) (let lo = c.requires.height.0 in omega (arith, high_y, lo)) made.covers covers_p (hx_high ∙ sym high_y) covers_x long changes has.0 named spells grows in
     pair_frees n nb words words_p free free_p x p hx.content d pair_n first.key at_p Links c.change.new.seat.id (free_p + 4) frees
 
 pub retire-requires-clause-frees : goal.retire-requires-clause-frees
@@ -404,16 +411,16 @@ retire-requires-clause-frees g c =
     let w = c.lock_node.new.pass.view in
     let t = c.lock_node.ensures.told in
     let locked_p : c.lock_node.result ≡ Some free_p = search rules in
-    let hp = taken_by c.lock_node.result free_p locked_p (HasLocked v w c.args.above key (height + 1)) t.2 in
+    let hp = taken_by c.lock_node.result free_p locked_p (HasLocked v w c.args.above key c.args.level) t.2 in
     let b = c.lock_node.new.pass.book in
     let are_p = subst (λ z. AreNamed z c.args.above words_p) (sym (t.0 ∙ c.requires.book)) c.in-Some.ensures in
-    let one = holds_one v w c.args.above key (height + 1) free_p hp b words_p are_p c.requires.rests.0 c.requires.rests.1 in
+    let one = holds_one v w c.args.above key c.args.level free_p hp b words_p are_p c.requires.rests.0 c.requires.rests.1 in
     let p = hp.names.spot in
     let form_p = c.form_below.ensures p.shape.key p.shape.form hp.names.named in
-    let same = c.has_child.ensures.seat.same in
+    let same = c.leads_to.ensures.seat.same in
     let words = c.in-Some-words_at.words.now in
     let free = c.in-Some-lock_node-2.free in
-    let s = c.has_child.new.seat.view in
+    let s = c.leads_to.new.seat.view in
     let u = c.lock_node-2.new.pass.view in
     let t2 = c.lock_node-2.ensures.told in
     let locked_x : c.lock_node-2.result ≡ Some free = search rules in
@@ -423,7 +430,7 @@ retire-requires-clause-frees g c =
     let ub = c.lock_node-2.new.pass.book in
     let book_u = t2.0 ∙ (ap (λ z. z.book) same ∙ t.0) in
     let one_s = subst (λ z. HoldsOne z.view z.book words_p free_p p hp.content hp.content) (sym same) one in
-    let pair = pair_locked s u c.has_child.new.seat.book ub words words_p free free_p c.args.name key height hx p hp.content t2.0 one_s (subst (λ z. AreNamed z c.args.name words) (sym (book_u ∙ c.requires.book)) c.in-Some-words_at.ensures) in
+    let pair = pair_locked s u c.leads_to.new.seat.book ub words words_p free free_p c.args.name key height hx p hp.content t2.0 one_s (subst (λ z. AreNamed z c.args.name words) (sym (book_u ∙ c.requires.book)) c.in-Some-words_at.ensures) in
     let own_u = hx.own ∙ ap (λ (os : List Own). locked x hx.content ∷ os) one_s.own in
     let q = g.A.Asks.ask in
     let m = c.make_grown-new.new.pass.view in
@@ -445,10 +452,15 @@ retire-requires-clause-frees g c =
     let own_n = ap (λ (z : View). z.own) n_client ∙ own_m in
     let asks = c.requires.asks in
     let digit_is = c.byte_at-byte.ensures ∙ ap (λ (z : ℕ × ℕ). digit z.0 z.1) (λ i. (sym hp.names.high i, sym asks.0 i)) in
-    let there = c.has_child.ensures.some (search rules) hp.its (subst (λ z. Encodes z hp.its) (sym (draft_is w b words_p free_p p hp.content hp.content one)) hp.encodes) (hp.in_form ∙ sym form_p) in
+    let has = c.leads_to.ensures.some (search rules) in
+    let drafted = draft_is w b words_p free_p p hp.content hp.content one in
+    let under = has.1 hp.its (subst (λ z. Encodes z hp.its) (sym drafted) hp.encodes) (hp.in_form ∙ sym form_p) in
+    let there = λ (none : lookup hp.its.children c.byte_at-byte.result ≡ None). subst (λ (z : Option (Child ℕ)). IsBelow z (Some has.0)) none under in
+    let named = λ (n : TableNode ℕ) (encodes : Encodes hp.content n) (formed : n.form ≡ p.shape.form). subst (λ z. IsBelow (lookup n.children z) (Some has.0)) digit_is (has.1 n (subst (λ z. Encodes z n) (sym drafted) encodes) (formed ∙ sym form_p)) in
+    let spells = λ (s : ℕ) (e : IsWord has.0 (Node s)). has.2 s e ∙ hx.names.named in
     let changed = change_done c.change.result hp.content (draft_of (nth 1 m.holds)) was hp.its hp.encodes c.form_below-2.result (hp.in_form ∙ sym form_q) c.byte_at-byte.result there c.change.ensures.was in
     let wider_is = c.next_of-wider.ensures in
-    let changes = grown_changes q hp.content (draft_of (nth 1 m.holds)) was d c.form_below-2.result p y c.byte_at-byte.result digit_is form_q c.word_below.result c.make_grown-new.result c.word_below.ensures.child made.named (height + 1) hp.names.high (let lo = c.requires.height.0 in omega (arith, lo)) (at_result c.change.result changed c.change.ensures.is) in
+    let changes = grown_changes q hp.content (draft_of (nth 1 m.holds)) was d c.form_below-2.result p y c.byte_at-byte.result digit_is form_q c.word_below.result c.make_grown-new.result c.word_below.ensures.child made.named c.args.level hp.names.high (let ht = c.requires.height in omega (arith, ht)) (at_result c.change.result changed c.change.ensures.is) in
     let covers_p = ap (up p.shape.height) asks.0 ∙ hp.names.covers in
     let covers_x = ap (up x.shape.height) asks.0 ∙ hx.names.covers in
     let long = c.change.ensures.long ∙ ap words_of form_q in
@@ -458,7 +470,7 @@ retire-requires-clause-frees g c =
     let hx_high = hx.names.high in
     let first = c.index-words_above-0.result in
     let at_p = (first_word (place_at p) nb words_p pair_n.are_p first first (sym c.index-words_above-0.is)).0 in
-    let frees = link_grown c.change.new.seat.id n.client q.key y x p cy hx.content hp.content own_n (free_p + 4) d (omega (arith, high_y, hp_high)) (let lo = c.requires.height.0 in omega (arith, high_y, lo)) made.covers covers_p (hx_high ∙ sym high_y) covers_x long changes grows in
+    let frees = link_grown c.change.new.seat.id n.client q.key y x p cy hx.content hp.content own_n (free_p + 4) d (let ht = c.requires.height in omega (arith, high_y, hp_high, ht)) (let lo = c.requires.height.0 in omega (arith, high_y, lo)) made.covers covers_p (hx_high ∙ sym high_y) covers_x long changes has.0 named spells grows in
     let z = c.unlock.new.seat.view in
     let zb = c.unlock.new.seat.book in
     let zs = c.unlock.ensures.seat in
@@ -485,16 +497,16 @@ returns g c =
     let w = c.lock_node.new.pass.view in
     let t = c.lock_node.ensures.told in
     let locked_p : c.lock_node.result ≡ Some free_p = search rules in
-    let hp = taken_by c.lock_node.result free_p locked_p (HasLocked v w c.args.above key (height + 1)) t.2 in
+    let hp = taken_by c.lock_node.result free_p locked_p (HasLocked v w c.args.above key c.args.level) t.2 in
     let b = c.lock_node.new.pass.book in
     let are_p = subst (λ z. AreNamed z c.args.above words_p) (sym (t.0 ∙ c.requires.book)) c.in-Some.ensures in
-    let one = holds_one v w c.args.above key (height + 1) free_p hp b words_p are_p c.requires.rests.0 c.requires.rests.1 in
+    let one = holds_one v w c.args.above key c.args.level free_p hp b words_p are_p c.requires.rests.0 c.requires.rests.1 in
     let p = hp.names.spot in
     let form_p = c.form_below.ensures p.shape.key p.shape.form hp.names.named in
-    let same = c.has_child.ensures.seat.same in
+    let same = c.leads_to.ensures.seat.same in
     let words = c.in-Some-words_at.words.now in
     let free = c.in-Some-lock_node-2.free in
-    let s = c.has_child.new.seat.view in
+    let s = c.leads_to.new.seat.view in
     let u = c.lock_node-2.new.pass.view in
     let t2 = c.lock_node-2.ensures.told in
     let locked_x : c.lock_node-2.result ≡ Some free = search rules in
@@ -504,7 +516,7 @@ returns g c =
     let ub = c.lock_node-2.new.pass.book in
     let book_u = t2.0 ∙ (ap (λ z. z.book) same ∙ t.0) in
     let one_s = subst (λ z. HoldsOne z.view z.book words_p free_p p hp.content hp.content) (sym same) one in
-    let pair = pair_locked s u c.has_child.new.seat.book ub words words_p free free_p c.args.name key height hx p hp.content t2.0 one_s (subst (λ z. AreNamed z c.args.name words) (sym (book_u ∙ c.requires.book)) c.in-Some-words_at.ensures) in
+    let pair = pair_locked s u c.leads_to.new.seat.book ub words words_p free free_p c.args.name key height hx p hp.content t2.0 one_s (subst (λ z. AreNamed z c.args.name words) (sym (book_u ∙ c.requires.book)) c.in-Some-words_at.ensures) in
     let own_u = hx.own ∙ ap (λ (os : List Own). locked x hx.content ∷ os) one_s.own in
     let q = g.A.Asks.ask in
     let m = c.make_grown-new.new.pass.view in
@@ -526,10 +538,15 @@ returns g c =
     let own_n = ap (λ (z : View). z.own) n_client ∙ own_m in
     let asks = c.requires.asks in
     let digit_is = c.byte_at-byte.ensures ∙ ap (λ (z : ℕ × ℕ). digit z.0 z.1) (λ i. (sym hp.names.high i, sym asks.0 i)) in
-    let there = c.has_child.ensures.some (search rules) hp.its (subst (λ z. Encodes z hp.its) (sym (draft_is w b words_p free_p p hp.content hp.content one)) hp.encodes) (hp.in_form ∙ sym form_p) in
+    let has = c.leads_to.ensures.some (search rules) in
+    let drafted = draft_is w b words_p free_p p hp.content hp.content one in
+    let under = has.1 hp.its (subst (λ z. Encodes z hp.its) (sym drafted) hp.encodes) (hp.in_form ∙ sym form_p) in
+    let there = λ (none : lookup hp.its.children c.byte_at-byte.result ≡ None). subst (λ (z : Option (Child ℕ)). IsBelow z (Some has.0)) none under in
+    let named = λ (n : TableNode ℕ) (encodes : Encodes hp.content n) (formed : n.form ≡ p.shape.form). subst (λ z. IsBelow (lookup n.children z) (Some has.0)) digit_is (has.1 n (subst (λ z. Encodes z n) (sym drafted) encodes) (formed ∙ sym form_p)) in
+    let spells = λ (s : ℕ) (e : IsWord has.0 (Node s)). has.2 s e ∙ hx.names.named in
     let changed = change_done c.change.result hp.content (draft_of (nth 1 m.holds)) was hp.its hp.encodes c.form_below-2.result (hp.in_form ∙ sym form_q) c.byte_at-byte.result there c.change.ensures.was in
     let wider_is = c.next_of-wider.ensures in
-    let changes = grown_changes q hp.content (draft_of (nth 1 m.holds)) was d c.form_below-2.result p y c.byte_at-byte.result digit_is form_q c.word_below.result c.make_grown-new.result c.word_below.ensures.child made.named (height + 1) hp.names.high (let lo = c.requires.height.0 in omega (arith, lo)) (at_result c.change.result changed c.change.ensures.is) in
+    let changes = grown_changes q hp.content (draft_of (nth 1 m.holds)) was d c.form_below-2.result p y c.byte_at-byte.result digit_is form_q c.word_below.result c.make_grown-new.result c.word_below.ensures.child made.named c.args.level hp.names.high (let ht = c.requires.height in omega (arith, ht)) (at_result c.change.result changed c.change.ensures.is) in
     let covers_p = ap (up p.shape.height) asks.0 ∙ hp.names.covers in
     let covers_x = ap (up x.shape.height) asks.0 ∙ hx.names.covers in
     let long = c.change.ensures.long ∙ ap words_of form_q in
@@ -539,7 +556,7 @@ returns g c =
     let hx_high = hx.names.high in
     let first = c.index-words_above-0.result in
     let at_p = (first_word (place_at p) nb words_p pair_n.are_p first first (sym c.index-words_above-0.is)).0 in
-    let frees = link_grown c.change.new.seat.id n.client q.key y x p cy hx.content hp.content own_n (free_p + 4) d (omega (arith, high_y, hp_high)) (let lo = c.requires.height.0 in omega (arith, high_y, lo)) made.covers covers_p (hx_high ∙ sym high_y) covers_x long changes grows in
+    let frees = link_grown c.change.new.seat.id n.client q.key y x p cy hx.content hp.content own_n (free_p + 4) d (let ht = c.requires.height in omega (arith, high_y, hp_high, ht)) (let lo = c.requires.height.0 in omega (arith, high_y, lo)) made.covers covers_p (hx_high ∙ sym high_y) covers_x long changes has.0 named spells grows in
     let z = c.unlock.new.seat.view in
     let zb = c.unlock.new.seat.book in
     let zs = c.unlock.ensures.seat in

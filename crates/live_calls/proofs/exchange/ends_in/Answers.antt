@@ -1,11 +1,11 @@
-use Rattle.std.proofs.Common.{rules, arith, sym, ap, subst, ◌/◌, ◌∙◌}
+use Rattle.std.proofs.Common.{rules, arith, refl, sym, ap, subst, ℕ, ◌/◌, ◌∙◌}
 use Rattle.live_encodes.specs.Encodes.{words_of, IsBelow}
 use Rattle.spec_map.specs.Map.{lookup}
 use Rattle.live_law.specs.Levels.{place_at}
 use Rattle.live_calls.specs.Ways.{AreNamed}
 use Rattle.live_calls.proofs.Views.{of, first_word, at_place, taken_keeps, may_read_node}
 use Rattle.live_calls.proofs.Seeks.{may_seek_node, seek_missed, seek_ends}
-use Rattle.live_calls.proofs.exchange.next_below.Goals as goal
+use Rattle.live_calls.proofs.exchange.ends_in.Goals as goal
 
 pub take-taken-requires-clause-known : goal.take-taken-requires-clause-known
 take-taken-requires-clause-known g c =
@@ -14,7 +14,7 @@ take-taken-requires-clause-known g c =
     let named = c.requires.named in
     let name = c.args.name in
     let key = c.args.key in
-    let height = c.args.height in
+    let height : ℕ = 1 in
     let b = c.args.nodes.now in
     let words = c.in_ok-words.words.now in
     let are = c.in_ok-words.ensures in
@@ -30,7 +30,7 @@ returns-then-taken-ne0 g c =
     let named = c.requires.named in
     let name = c.args.name in
     let key = c.args.key in
-    let height = c.args.height in
+    let height : ℕ = 1 in
     let b = c.args.nodes.now in
     let words = c.in_ok-words.words.now in
     let are = c.in_ok-words.ensures in
@@ -50,7 +50,7 @@ find-found-requires g c =
     let named = c.requires.named in
     let name = c.args.name in
     let key = c.args.key in
-    let height = c.args.height in
+    let height : ℕ = 1 in
     let b = c.args.nodes.now in
     let words = c.in_ok-words.words.now in
     let are = c.in_ok-words.ensures in
@@ -71,7 +71,7 @@ check-requires-clause-learns g c =
     let named = c.requires.named in
     let name = c.args.name in
     let key = c.args.key in
-    let height = c.args.height in
+    let height : ℕ = 1 in
     let b = c.args.nodes.now in
     let words = c.in_ok-words.words.now in
     let are = c.in_ok-words.ensures in
@@ -95,7 +95,7 @@ returns-then-not-check g c =
     let named = c.requires.named in
     let name = c.args.name in
     let key = c.args.key in
-    let height = c.args.height in
+    let height : ℕ = 1 in
     let b = c.args.nodes.now in
     let words = c.in_ok-words.words.now in
     let are = c.in_ok-words.ensures in
@@ -126,7 +126,7 @@ returns g c =
     let named = c.requires.named in
     let name = c.args.name in
     let key = c.args.key in
-    let height = c.args.height in
+    let height : ℕ = 1 in
     let b = c.args.nodes.now in
     let words = c.in_ok-words.words.now in
     let are = c.in_ok-words.ensures in
@@ -148,6 +148,6 @@ returns g c =
     let book = s.0 ∙ (ap (λ s. s.book) r ∙ u.0) in
     let id = s.1 ∙ (ap (λ s. s.id) r ∙ u.1) in
     let form = c.form_below-form.ensures named.spot.shape.key named.spot.shape.form named.named in
-    let ends = seek_ends v name key height named b words are first.key at_k v₁ n took_it v₂ rest again.key at_again x c.requires.asks.0 w t.0 t.2 (search rules) c.find-found.result
+    let ends = seek_ends v name key height named b words are first.key at_k v₁ n took_it v₂ rest again.key at_again x c.requires.asks.0 w t.0 t.2 (search rules) refl c.find-found.result
     (λ content o agrees encodes formed. subst (λ z. IsBelow (lookup o.children z) c.find-found.result) c.byte_at-byte.ensures (c.find-found.ensures.is content o agrees encodes (formed ∙ sym form))) in
     record { told = (book, id, ends.0, ends.1) }

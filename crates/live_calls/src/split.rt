@@ -1,0 +1,65 @@
+//! A key leaves the way of a node: a new node comes above that, where both ways part.
+ghost use Rattle.std.specs.Prelude.{◌≡◌, ℕ, ◌+◌, ◌<◌, ◌≤◌, ◌^◌, []};
+ghost use Rattle.live_calls.specs.Ways.{Names, Leaves};
+ghost use Rattle.live_calls.specs.Rooms.{HasRoom, HasGrown};
+
+use crate::held::{lock_node, unlock_same};
+use crate::link::{NEW, Room};
+use crate::room::make_fork;
+use crate::sight::Fork;
+use crate::way::{Nodes, Pass, byte_at, words_at};
+use crate::widen::leads_to;
+use live_encodes::change::change;
+use live_encodes::form::{form_below, word_below, words_in};
+use live_law::law::{Asks, Levels, Link, Mine};
+use live_nodes::node;
+use live_rows::rows::Held;
+
+/// Puts a new node between a node and one below it whose way the key leaves. That one stays as it is. `false` where a writer
+/// came in between.
+pub fn split<A: Asks>(
+    nodes: &Nodes,
+    above: u64,
+    height: usize,
+    fork: Fork,
+    key: u64,
+    room: &mut Room,
+    pass: &mut Pass,
+) -> bool
+    requires book { pass.old.book ≡ nodes.now }
+    requires asks { (A.ask.key ≡ key) × (A.ask.height ≡ fork.at) }
+    requires named { Names pass.old.view above key height }
+    requires height { (2 ≤ height) × (height ≤ 8) }
+    requires leaves { Leaves pass.old.view fork.below key fork.at fork.byte }
+    requires rests { (pass.old.view.client.own ≡ []) × (pass.old.view.holds ≡ []) }
+    requires room { HasRoom pass.old.view room.old.start room.old.left }
+    ensures told { (pass.new.book ≡ pass.old.book) × (pass.new.id ≡ pass.old.id)
+        × HasGrown pass.old.view pass.new.view
+        × HasRoom pass.new.view room.new.start room.new.left }
+{
+    if fork.at >= height || fork.below >= 1 << 56 || room.start >= 1 << 48 || room.left < 263 {
+        return false;
+    }
+    let Some(words) = words_at(nodes, above) else {
+        return false;
+    };
+    let Some(others) = nodes.span(room.start, words_in(NEW) + 1) else {
+        return false;
+    };
+    let form = form_below(above);
+    let byte = byte_at(key, height);
+    let Some(free) = lock_node(words, above, height, key, pass) else {
+        return false;
+    };
+    let held: Held<'_, Mine, Levels, 0> = Held { words };
+    if !leads_to(&held, form, byte, fork.below, pass) {
+        unlock_same(words, free, pass);
+        return false;
+    }
+    let new = make_fork::<A>(others, room.start, key, fork, pass);
+    room.start += words_in(NEW) as u64 + 1;
+    room.left -= words_in(NEW) as u64 + 1;
+    let _ = change(&held, form, byte, word_below(new, NEW), pass);
+    node::unlock::<Mine, Levels, Link>(&words[0], free, pass);
+    true
+}
