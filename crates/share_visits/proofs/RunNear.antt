@@ -3,10 +3,11 @@ use Rattle.std.proofs.Common.{◌≡◌, ℕ, ◌+◌, ◌/◌, ◌%◌, ◌<◌
 use Rattle.share_parts.specs.Parts.{kept, Ascends}
 use Rattle.share_parts.proofs.Parts.{ascends_kept, between-kept, lookup-kept}
 use Rattle.share_shards.specs.Held.{keys_at}
-use Rattle.share_visits.specs.Near.{key_at, near_of}
+use Rattle.share_visits.specs.Near.{near_of}
 use Rattle.share_visits.specs.Whole.{shard_of}
 use Rattle.share_visits.specs.declared.near.Near.{Near}
 use Rattle.share_visits.specs.declared.near.Near.TheVariants.{First, Last, Floor, Below, Ceiling, Above}
+use Rattle.share_visits.specs.inner.Place.{key_at}
 use Rattle.share_visits.proofs.Running.{single}
 use Rattle.share_visits.proofs.Splitting.{between-split, in_range}
 use Rattle.spec_map.proofs.MapLaws.{lookup-between_inside, Rises-between}

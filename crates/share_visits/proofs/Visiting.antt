@@ -28,12 +28,7 @@ module _ {M : Type 0} (pairs : M → Pairs ℕ) (count : ℕ) where
   abbrev Slots : Type 0
   Slots = List (ℕ × Option (Part M))
 
-  -- what a visit of all needs
-  pub to_visit : (all : Pairs ℕ) (slots : Slots) (shards : List ℕ) → Contains pairs count all slots → reverse shards ≡ down count
-      → (held : Held) × (others : Slots) × (slots ≡ slots_of held ++ others) × (numbers held ≡ reverse shards)
-  to_visit all slots shards c is = (c.held, [], c.is ∙ sym (append-nil (slots_of c.held)), c.numbered ∙ sym is)
-
-  -- and what it gives
+  -- what a visit of all gives
   module _ {V E : Type 0} (does : V → List E → ℕ → Part M → V → List E → Part M → Type 0) (v w : V) (before after : List E) (slots later : Slots) (shards : List ℕ) where
     abbrev pub Visits : Type 0
     Visits = (held : Held) (others : Slots) → slots ≡ slots_of held ++ others → numbers held ≡ reverse shards → (values : Held) × (later ≡ others ++ slots_of values) × Visited does v before held w after values

@@ -4,7 +4,8 @@
 
 ghost use Rattle.std.specs.Prelude.{◌≡◌};
 ghost use Rattle.share_parts.specs.Nearest.{greater, lesser, nearer};
-ghost use Rattle.share_visits.specs.Near.{key_at, near_of};
+ghost use Rattle.share_visits.specs.Near.{near_of};
+ghost use Rattle.share_visits.specs.inner.Place.{key_at};
 
 /// Where a pair is looked for.
 #[derive(Clone, Copy, Drop)]
@@ -24,7 +25,7 @@ pub enum Near {
 }
 
 /// The key next to which it is looked for. The ends of a map have none.
-pub fn key_of(near: Near) -> Option<u64>
+pub(crate) fn key_of(near: Near) -> Option<u64>
     ensures { result ≡ key_at near }
 {
     match near {

@@ -1,7 +1,8 @@
 //! The pairs of a range, of all shards that one hold has: those of one moment.
 //!
 //! Keys that differ in their last eight bits alone are of one shard. So a range is listed a run of keys after another,
-//! each by its shard. Before the second run all shards are asked for their next pairs, and after each run its shard alone.
+//! each by its shard. While the next run has pairs too, its shard alone is asked for them. From the first run without on,
+//! all shards are asked for their next pairs, and then after each run its shard alone.
 //!
 //! Tested in `tools/c-library`.
 
@@ -19,6 +20,7 @@ use crate::next::{nearest_in, nearest_of_each};
 use crate::one::{nearest_at, visit_one};
 use crate::part::{Pages, PartLock, PartSeat, shard_of_key};
 use crate::visits::Page;
+use crate::whole::nearest_in_run;
 
 // The last key up to `last` of the run from `key` on that is of one shard.
 fn run_end(key: u64, last: u64, shards: usize) -> u64
@@ -304,12 +306,22 @@ pub fn list<E: Drop, M: Pages<E> + Drop>(
     if last < start {
         return 0;
     }
-    let end = run_end(start, last, lock.shards());
-    let written = page_at(lock, seat, start, end, false, buffer);
-    if written == buffer.len() || end == last {
-        return written;
+    let mut from = start;
+    let mut written = 0;
+    'runs: loop {
+        let end = run_end(from, last, lock.shards());
+        written = page_rest(lock, seat, from, end, false, written, buffer);
+        if written == buffer.len() || end == last {
+            return written;
+        }
+        let Some((next, _)) = nearest_in_run(lock, seat, Near::Ceiling(end + 1)) else {
+            return list_above(lock, seat, end, last, written, buffer);
+        };
+        if last < next {
+            return written;
+        }
+        from = next;
     }
-    list_above(lock, seat, end, last, written, buffer)
 }
 
 /// The same, with keys below `end`.
@@ -353,10 +365,20 @@ pub fn list_back<E: Drop, M: Pages<E> + Drop>(
     if last < start {
         return 0;
     }
-    let first = run_start(last, start, lock.shards());
-    let written = page_at(lock, seat, first, last, true, buffer);
-    if written == buffer.len() || first == start {
-        return written;
+    let mut to = last;
+    let mut written = 0;
+    'runs: loop {
+        let first = run_start(to, start, lock.shards());
+        written = page_rest(lock, seat, first, to, true, written, buffer);
+        if written == buffer.len() || first == start {
+            return written;
+        }
+        let Some((next, _)) = nearest_in_run(lock, seat, Near::Floor(first - 1)) else {
+            return list_under(lock, seat, first, start, written, buffer);
+        };
+        if next < start {
+            return written;
+        }
+        to = next;
     }
-    list_under(lock, seat, first, start, written, buffer)
 }

@@ -109,8 +109,8 @@ pub fn charged<M: MapShard + Drop>(lock: &PartLock<M>, seat: &mut PartSeat<M>) -
     charge.bytes
 }
 
-// The pair there, if only keys of its shard are as near. So no other shard is asked for it.
-fn nearest_in_run<M: MapShard + Drop>(
+/// The pair there, if it is in the run of 256 keys that the place is in. No other shard is asked for it.
+pub(crate) fn nearest_in_run<M: MapShard + Drop>(
     lock: &PartLock<M>,
     seat: &mut PartSeat<M>,
     near: Near,
