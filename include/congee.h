@@ -78,7 +78,7 @@ static inline uint32_t congee_version(void) {
  * *out, or CONGEE_OOM with null there.
  *
  * The limit bounds these sizes, not the memory that malloc lends: with a million random keys 88 bytes a key are charged,
- * and 155 lent. When a node grows, the larger one is charged while the smaller still is. So a map near its limit may
+ * and 144 lent. When a node grows, the larger one is charged while the smaller still is. So a map near its limit may
  * fail at a key that would fit afterwards. */
 static inline int congee_new_with_limit(struct congee **out, uint64_t bytes) {
     struct congee_handle made = {NULL};
