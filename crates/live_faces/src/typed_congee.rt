@@ -61,6 +61,9 @@ impl<K: Word, V: Word> Congee<K, V> {
     }
 
     /// A guard that has seen nothing. It takes no memory, and waits for nobody.
+    ///
+    /// One that has inserted has room for nodes, of 512 KiB at most, which is free again with the map alone. So keep it for
+    /// a thread's further calls.
     pub fn pin(&self) -> Guard
         ensures { (result.book ≡ self.now) × (result.seen ≡ []) }
     {
