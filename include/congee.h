@@ -350,7 +350,15 @@ static inline void congee_clear(struct congee *map) {
     congee_c_clear(&handle);
 }
 
-/* Removes the pairs with start <= key <= last, and returns how many. Reads two paths for each of them. Never fails. */
+/* Gives memory back to malloc that is held for nodes that are gone: what is free behind the last node. Not while a pair is
+ * alone under the first seven bytes of its key: a place for a node is kept for each such pair. Pairs and charge stay. Never
+ * fails. An empty map has done it already. */
+static inline void congee_shrink_to_fit(struct congee *map) {
+    struct congee_handle handle = {map};
+    congee_c_shrink_to_fit(&handle);
+}
+
+/* Removes the pairs with start <= key <= last, and returns how many. Reads two paths for each leaf among them. Never fails. */
 static inline uint64_t congee_remove_range_inclusive(struct congee *map, uint64_t start, uint64_t last) {
     struct congee_handle handle = {map};
     return congee_c_remove_range_inclusive(&handle, start, last);

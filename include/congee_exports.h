@@ -1,10 +1,10 @@
-/* congee_exports.h: what libcongee.a exports, for congee.h and congee_shared.h, which have the functions for use.
- * MIT license.
+/* congee_exports.h: what libcongee.a exports, for congee.h, congee_shared.h and congee_live.h, which have the functions for
+ * use. MIT license.
  *
- * What each of these functions returns and leaves is proved of its code. crates/congee_c and crates/congee_shared_c have the
- * contracts. They take a map, a reader or a handle by the place of its address. A place for a value, a pair or a number
- * isn't null and is initialised, and so are the n pairs of a buffer. Where a call only reads, that address is const here.
- * To the archive both are one word. */
+ * What each of these functions returns and leaves is proved of its code. crates/congee_c, congee_shared_c and
+ * congee_live_c have the contracts. They take a map, a reader or a handle by the place of its address. A place for a
+ * value, a pair or a number isn't null and is initialised, and so are the n pairs of a buffer. Where a call only reads,
+ * that address is const here. To the archive both are one word. */
 #ifndef CONGEE_EXPORTS_H
 #define CONGEE_EXPORTS_H
 
@@ -19,6 +19,7 @@ extern "C" {
 struct congee;
 struct congee_frozen;
 struct congee_shared;
+struct congee_live;
 struct congee_pair;
 
 struct congee_handle {
@@ -45,6 +46,14 @@ struct congee_const_shared_handle {
     const struct congee_shared *guard;
 };
 
+struct congee_live_handle {
+    struct congee_live *guard;
+};
+
+struct congee_const_live_handle {
+    const struct congee_live *guard;
+};
+
 uint32_t congee_c_version(void);
 int32_t congee_c_new(uint64_t limit, struct congee_handle *out);
 void congee_c_free(struct congee_handle handle);
@@ -67,6 +76,7 @@ int32_t congee_c_above(struct congee_const_handle *handle, uint64_t key, struct 
 int32_t congee_c_pop_first(struct congee_handle *handle, struct congee_pair *pair);
 int32_t congee_c_pop_last(struct congee_handle *handle, struct congee_pair *pair);
 void congee_c_clear(struct congee_handle *handle);
+void congee_c_shrink_to_fit(struct congee_handle *handle);
 size_t congee_c_range_inclusive(struct congee_const_handle *handle, uint64_t start, uint64_t last,
                                 struct congee_pair *buffer, size_t n);
 size_t congee_c_range_descending(struct congee_const_handle *handle, uint64_t start, uint64_t last,
@@ -122,6 +132,14 @@ int32_t congee_c_shared_clear(struct congee_shared_handle *handle);
 int32_t congee_c_shared_is_empty(struct congee_const_shared_handle *handle, uint64_t *out);
 int32_t congee_c_shared_count(struct congee_const_shared_handle *handle, uint64_t *out);
 int32_t congee_c_shared_charged(struct congee_const_shared_handle *handle, uint64_t *out);
+
+int32_t congee_c_live_new(struct congee_live_handle *out);
+int32_t congee_c_live_another(struct congee_live_handle *handle, struct congee_live_handle *out);
+void congee_c_live_free(struct congee_live_handle handle);
+int32_t congee_c_live_get(struct congee_const_live_handle *handle, uint64_t key, uint64_t *value);
+int32_t congee_c_live_insert(struct congee_live_handle *handle, uint64_t key, uint64_t value, uint64_t *before);
+int32_t congee_c_live_compare_exchange(struct congee_live_handle *handle, uint64_t key, uint64_t expected,
+                                       uint64_t desired, uint64_t *found);
 
 #ifdef __cplusplus
 }

@@ -583,4 +583,7 @@ static inline size_t congee_shared_insert_many(struct congee_shared *map, const 
 #ifdef __cplusplus
 }
 #endif
+
+#include "congee_live.h"
+
 #endif

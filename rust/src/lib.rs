@@ -44,7 +44,8 @@
 //!
 //! # Threads
 //!
-//! Threads share a [`SharedMap`], each by a [`Guard`] of its own, under one lock of the library.
+//! Threads share a [`SharedMap`], each by a [`Guard`] of its own, under one lock of the library. Or a [`LiveMap`], each by a
+//! [`LiveGuard`]: its look-ups take no lock, and it has no removals and no ranges yet.
 //!
 //! A [`Map`] can move to another thread. Threads can't share it by `&`, since the library takes a map as its own during
 //! each call, reads included. So it isn't `Sync`, and a `RwLock` or an `Arc` alone doesn't help. Put it into a `Mutex`, or
@@ -76,22 +77,31 @@
 //! is_shared::<proved_congee::Guard>();
 //! ```
 //!
+//! ```compile_fail
+//! fn is_shared<T: Sync>() {}
+//! is_shared::<proved_congee::LiveGuard>();
+//! ```
+//!
 //! ```
 //! fn is_shared<T: Send + Sync>() {}
 //! fn may_move<T: Send>() {}
 //! is_shared::<proved_congee::SharedMap>();
+//! is_shared::<proved_congee::LiveMap>();
 //! may_move::<proved_congee::Guard>();
+//! may_move::<proved_congee::LiveGuard>();
 //! ```
 
 #![warn(missing_docs, missing_debug_implementations)]
 
 mod frozen;
+mod live;
 mod map;
 mod pages;
 mod shared;
 mod sys;
 
 pub use frozen::{Frozen, Readers};
+pub use live::{LiveGuard, LiveMap};
 pub use map::{ExtendError, FreezeError, Map};
 pub use pages::{IntoIter, Keys, Range, Values};
 pub use shared::{Busy, Guard, SharedMap, TryError};

@@ -430,6 +430,24 @@ impl Map {
         unsafe { congee_c_clear(&mut self.handle()) }
     }
 
+    /// Gives memory back that is held for nodes that are gone: what is free behind the last node. Not while a pair is alone under
+    /// the first seven bytes of its key: a place for a node is kept for each such pair. Pairs and charge stay. Never fails. An
+    /// empty map has done it already.
+    ///
+    /// ```
+    /// # fn main() -> Result<(), proved_congee::OutOfMemory> {
+    /// let mut map = proved_congee::Map::try_from_iter((0..100_000).map(|k| (k, 2 * k)))?;
+    /// assert_eq!(map.remove_range(1_000..), 99_000);
+    /// let charged = map.charged();
+    /// map.shrink_to_fit();
+    /// assert!(map.len() == 1_000 && map.get(999) == Some(1_998) && map.charged() == charged);
+    /// # Ok(())
+    /// # }
+    /// ```
+    pub fn shrink_to_fit(&mut self) {
+        unsafe { congee_c_shrink_to_fit(&mut self.handle()) }
+    }
+
     /// Calls `keep` with each pair, keys ascending, and removes those for which it returns false. Reads pages of 64 pairs,
     /// and removes each pair for itself. Is never refused.
     ///

@@ -238,7 +238,7 @@ unsafe impl Send for Guard {}
 const BUSY: i32 = -2;
 
 // Makes the call until it isn't busy.
-fn waiting<T>(mut call: impl FnMut() -> Result<T, Busy>) -> T {
+pub(crate) fn waiting<T>(mut call: impl FnMut() -> Result<T, Busy>) -> T {
     loop {
         match call() {
             Ok(it) => return it,
@@ -248,7 +248,9 @@ fn waiting<T>(mut call: impl FnMut() -> Result<T, Busy>) -> T {
 }
 
 // The same of a call that may be refused.
-fn waiting_for_memory<T>(call: impl Fn() -> Result<T, TryError>) -> Result<T, OutOfMemory> {
+pub(crate) fn waiting_for_memory<T>(
+    call: impl Fn() -> Result<T, TryError>,
+) -> Result<T, OutOfMemory> {
     loop {
         match call() {
             Ok(it) => return Ok(it),
@@ -259,7 +261,7 @@ fn waiting_for_memory<T>(call: impl Fn() -> Result<T, TryError>) -> Result<T, Ou
 }
 
 // What a call that needs no memory returns by its code.
-fn unless_busy<T>(code: i32, of: impl FnOnce(i32) -> T) -> Result<T, Busy> {
+pub(crate) fn unless_busy<T>(code: i32, of: impl FnOnce(i32) -> T) -> Result<T, Busy> {
     match code {
         BUSY => Err(Busy),
         code => Ok(of(code)),
@@ -267,7 +269,7 @@ fn unless_busy<T>(code: i32, of: impl FnOnce(i32) -> T) -> Result<T, Busy> {
 }
 
 // What a call that may take memory returns by its code: the value that it wrote, none, or why it wasn't made.
-fn if_made(code: i32, written: u64) -> Result<Option<u64>, TryError> {
+pub(crate) fn if_made(code: i32, written: u64) -> Result<Option<u64>, TryError> {
     match code {
         0 => Ok(None),
         1 => Ok(Some(written)),

@@ -1,4 +1,4 @@
-//! What `crates/congee_c` exports, written by hand: `Global` and ghost fields are no bytes, and a slice is a pointer and a
+//! What `crates/congee_c`, `congee_shared_c` and `congee_live_c` export, written by hand: `Global` and ghost fields are no bytes, and a slice is a pointer and a
 //! length.
 
 use crate::Pair;
@@ -21,6 +21,12 @@ pub(crate) struct OneGuardForEachThread {
     _private: [u8; 0],
 }
 
+/// What the address of a guard of a live map points to, named as above.
+#[repr(C)]
+pub(crate) struct OneLiveGuardForEachThread {
+    _private: [u8; 0],
+}
+
 /// What the library takes: the address of a map.
 #[repr(C)]
 pub(crate) struct Handle {
@@ -37,6 +43,12 @@ pub(crate) struct FrozenHandle {
 #[repr(C)]
 pub(crate) struct SharedHandle {
     pub(crate) guard: *mut OneGuardForEachThread,
+}
+
+/// The address of a guard of a map that threads read without a lock.
+#[repr(C)]
+pub(crate) struct LiveHandle {
+    pub(crate) guard: *mut OneLiveGuardForEachThread,
 }
 
 impl Handle {
@@ -61,6 +73,15 @@ impl SharedHandle {
     /// A place for a guard.
     pub(crate) fn none() -> SharedHandle {
         SharedHandle {
+            guard: std::ptr::null_mut(),
+        }
+    }
+}
+
+impl LiveHandle {
+    /// A place for a guard.
+    pub(crate) fn none() -> LiveHandle {
+        LiveHandle {
             guard: std::ptr::null_mut(),
         }
     }
@@ -111,6 +132,7 @@ extern "C" {
     pub(crate) fn congee_c_pop_first(handle: *mut Handle, pair: *mut Pair) -> i32;
     pub(crate) fn congee_c_pop_last(handle: *mut Handle, pair: *mut Pair) -> i32;
     pub(crate) fn congee_c_clear(handle: *mut Handle);
+    pub(crate) fn congee_c_shrink_to_fit(handle: *mut Handle);
     pub(crate) fn congee_c_floor(handle: *mut Handle, key: u64, pair: *mut Pair) -> i32;
     pub(crate) fn congee_c_ceiling(handle: *mut Handle, key: u64, pair: *mut Pair) -> i32;
     pub(crate) fn congee_c_below(handle: *mut Handle, key: u64, pair: *mut Pair) -> i32;
@@ -265,4 +287,21 @@ extern "C" {
     pub(crate) fn congee_c_shared_is_empty(handle: *mut SharedHandle, out: *mut u64) -> i32;
     pub(crate) fn congee_c_shared_count(handle: *mut SharedHandle, out: *mut u64) -> i32;
     pub(crate) fn congee_c_shared_charged(handle: *mut SharedHandle, out: *mut u64) -> i32;
+    pub(crate) fn congee_c_live_new(out: *mut LiveHandle) -> i32;
+    pub(crate) fn congee_c_live_another(handle: *mut LiveHandle, out: *mut LiveHandle) -> i32;
+    pub(crate) fn congee_c_live_free(handle: LiveHandle);
+    pub(crate) fn congee_c_live_get(handle: *mut LiveHandle, key: u64, value: *mut u64) -> i32;
+    pub(crate) fn congee_c_live_insert(
+        handle: *mut LiveHandle,
+        key: u64,
+        value: u64,
+        before: *mut u64,
+    ) -> i32;
+    pub(crate) fn congee_c_live_compare_exchange(
+        handle: *mut LiveHandle,
+        key: u64,
+        expected: u64,
+        desired: u64,
+        found: *mut u64,
+    ) -> i32;
 }

@@ -1,4 +1,5 @@
-/* What malloc lends to a map: little once no pair is left, after congee_clear, removals one by one and pops, and again and again. */
+/* What malloc lends to a map: little once no pair is left, after congee_clear, removals one by one and pops, and again and again.
+ * A map of dense keys that is left small holds little after congee_shrink_to_fit. */
 #include "congee.h"
 #include <inttypes.h>
 #include <malloc.h>
@@ -29,6 +30,11 @@ static size_t lent(void) {
 static void fill(struct congee *map, bool dense) {
     for (uint64_t i = 0; i < KEYS; i++)
         need(congee_insert(map, dense ? i : key_of(i), i, NULL) == 0, "a new key");
+}
+
+static void fill_again(struct congee *map, uint64_t from) {
+    for (uint64_t i = from; i < KEYS; i++)
+        need(congee_insert(map, i, i, NULL) == 0, "a key that was removed");
 }
 
 static void remove_each(struct congee *map, bool dense) {
@@ -71,6 +77,29 @@ static void empty_it(const char *how, bool dense, void (*empty)(struct congee *,
     need(lent() < before + LEFT, "a freed map holds nothing");
 }
 
+/* Most pairs of a map of dense keys go. What it held for them does where it is told to shrink, and nothing else. */
+static void shrink_it(void) {
+    enum { KEPT = 1000 };
+    size_t before = lent();
+    struct congee *map;
+    need(congee_new(&map) == 0, "a map");
+    fill(map, true);
+    need(congee_remove_range_inclusive(map, KEPT, UINT64_MAX) == KEYS - KEPT, "the pairs of a range");
+    size_t held = lent() - before, charged = congee_charged(map);
+    congee_shrink_to_fit(map);
+    size_t left = lent() - before;
+    printf("shrunk, dense: %d keys held %zu bytes, then %zu\n", KEPT, held, left);
+    need(left + KEYS / 10 < held, "a map that shrinks gives back what it held for other pairs");
+    need(congee_count(map) == KEPT && congee_charged(map) == charged, "the pairs and the charge stay");
+    for (uint64_t i = 0; i < KEPT; i++) {
+        uint64_t value = 0;
+        need(congee_get(map, i, &value) && value == i, "each pair is there");
+    }
+    fill_again(map, KEPT);
+    congee_free(map);
+    need(lent() < before + LEFT, "a freed map holds nothing");
+}
+
 int main(void) {
     printf("warm\n"); /* (the buffer of stdout) */
     for (int dense = 0; dense < 2; dense++) {
@@ -78,5 +107,6 @@ int main(void) {
         empty_it("removed one by one", dense, remove_each);
         empty_it("popped", dense, pop_each);
     }
+    shrink_it();
     return 0;
 }

@@ -9,10 +9,14 @@ pub use Rattle.live_calls.specs.Exchanges
 pub use Rattle.live_faces.specs.Returned
 pub use Rattle.live_law.specs.Known as LiveKnown
 pub use Rattle.live_law.specs.Views as LiveViews
+pub use Rattle.share_calls.specs.Computed
 pub use Rattle.share_guards.specs.Operations
 pub use Rattle.share_laws.specs.Keys
 pub use Rattle.share_rule.specs.History
 pub use Rattle.share_rule.specs.Known
+pub use Rattle.share_sharded.specs.Counts
+pub use Rattle.share_sharded.specs.Returned as ShardedReturned
+pub use Rattle.share_visits.specs.Charged
 pub use Rattle.share_works.specs.Ends
 pub use Rattle.share_works.specs.Listed
 pub use Rattle.share_works.specs.Made

@@ -1,7 +1,7 @@
 //! The map for its users: all of `congee_owned`, the forms that threads share, what their callers may conclude
 //! (`guard_laws`), and calls as data.
 //!
-//! Tested in `test_owned`, `share_maps`, `test_share_hostile` and `test_live_faces`.
+//! Tested in `test_owned`, `share_maps`, `test_share_hostile`, `test_share_sharded` and `test_live_faces`.
 #![tactic(auto)]
 
 pub use congee_owned::{
@@ -14,3 +14,4 @@ pub use live_faces::live;
 pub use share_laws::laws as guard_laws;
 pub use share_maps::shared::{Guard, Kind, Report};
 pub use share_maps::{locked, shared};
+pub use share_sharded::sharded;

@@ -1,4 +1,4 @@
-//! Calls that remove many pairs.
+//! Calls that remove many pairs, and one that gives their memory back.
 //!
 //! Tested in `tools/c-library`.
 
@@ -21,6 +21,16 @@ pub extern "C" fn congee_c_clear(handle: &mut Handle)
     ensures place { handle.new.ptr ≡ handle.old.ptr }
 {
     handle.as_mut().map.clear();
+}
+
+/// Gives memory back that is held for nodes that are gone, as `Congee::shrink_to_fit`. The map has the same pairs, nodes and
+/// charge. Is never refused.
+#[unsafe(no_mangle)]
+pub extern "C" fn congee_c_shrink_to_fit(handle: &mut Handle)
+    ensures same { handle.new.held.map ≡ handle.old.held.map }
+    ensures place { handle.new.ptr ≡ handle.old.ptr }
+{
+    handle.as_mut().map.shrink_to_fit();
 }
 
 /// Removes the pairs with keys from `start` to `last`, both included, and answers how many; saturates at `u64::MAX`. Is

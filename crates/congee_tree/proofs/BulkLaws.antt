@@ -1,5 +1,5 @@
 -- Removing a range of pairs, and the pairs that a closure keeps.
-use Rattle.std.proofs.Common.{◌≡◌, ℕ, ◌+◌, ◌-◌, ◌<◌, ◌≤◌, ◌^◌, ◌&&◌, ◌≢◌, cond, leb, ltb, not, Bool, true, false, [], ◌∷◌, ◌++◌, length, Bor, Option, Some, None, IfSome, IfNone, option_map, refl, ap, sym, subst, ◌∙◌, append_assoc, arith, inl, inr, eqb}
+use Rattle.std.proofs.Common.{◌≡◌, ℕ, ◌+◌, ◌-◌, ◌<◌, ◌≤◌, ◌^◌, ◌&&◌, ◌≢◌, cond, leb, ltb, not, Bool, true, false, [], ◌∷◌, ◌++◌, length, Bor, Option, Some, None, IsSome, IfSome, IfNone, option_map, refl, ap, sym, subst, ◌∙◌, append_assoc, arith, inl, inr}
 use Rattle.std.proofs.lemmas.Bool.{lt-ltb, le-ltb, le-leb, lt-leb, eq-eqb, ne_eqb, cases_lt, cases_eq, cases_order}
 use Rattle.std.proofs.lemmas.List.Elements.{filter-append}
 use Rattle.spec_map.specs.Map.{Pairs, lookup, without, between, Rises, IsMap}
@@ -8,6 +8,7 @@ use Rattle.spec_map.proofs.NearLaws.{no_first, first_rest}
 use Rattle.spec_map.proofs.MapLaws.{Rises-wider, Rises-without}
 use Rattle.spec_map.proofs.RangeLaws.{between-all, between-above}
 use Rattle.spec_map.proofs.JoinLaws.{Rises-append}
+use Rattle.tree_edit.proofs.RunLaws.{outside-without}
 use Rattle.tree_walk.specs.Scan.{from_key, first_number, first_pair}
 use Rattle.congee_tree.specs.Bulk.{outside, Retains}
 use Rattle.congee_tree.specs.inner.Step.{Asks, Extracts}
@@ -88,14 +89,20 @@ module _ {P : Type 0} where
         | inr from ↦ absurd (let here : None ≡ Some x.0 = rw (le-leb s x.0 from, lt-ltb x.0 (2 ^ 64) h.1) at is in cc)
       ]
 
-  -- a removal between two keys leaves the pairs outside
-  pub outside-without : (m : Pairs P) (s e k : ℕ) → s ≤ k → k < e → outside (without m k) s e ≡ outside m s e
-  outside-without [] s e k p q = refl
-  outside-without (x ∷ xs) s e k p q =
-      elim (cases_eq x.0 k) [
-        | inl same ↦ rw (eq-eqb x.0 k same, le-leb s x.0 (omega (arith, same)), lt-ltb x.0 e (omega (arith, same))) refl
-        | inr other ↦ rw (ne_eqb x.0 k other) (ap (λ (t : Pairs P). cond (not (leb s x.0 && ltb x.0 e)) (x ∷ t) t) (outside-without xs s e k p q))
+  -- those outside a part of what lies between two keys are outside that, too
+  outside-wider : (m : Pairs P) (s k e : ℕ) → s ≤ k → outside (outside m k e) s e ≡ outside m s e
+  outside-wider [] s k e p = refl
+  outside-wider (x ∷ xs) s k e p =
+      elim (cases_lt x.0 k) [
+        | inl less ↦ rw (lt-leb k x.0 less) (ap (λ (t : Pairs P). cond (not (leb s x.0 && ltb x.0 e)) (x ∷ t) t) (outside-wider xs s k e p))
+        | inr from ↦ elim (cases_lt x.0 e) [
+          | inl below ↦ rw (le-leb k x.0 from, lt-ltb x.0 e below, le-leb s x.0 (omega (arith, p, from))) (outside-wider xs s k e p)
+          | inr past ↦ rw (le-leb k x.0 from, le-ltb x.0 e past, le-leb s x.0 (omega (arith, p, from)), le-ltb x.0 e past) (ap (λ t. x ∷ t) (outside-wider xs s k e p))
+        ]
       ]
+
+  pub same_outside : (m n : Pairs P) (s k e : ℕ) → s ≤ k → outside n k e ≡ outside m k e → outside n s e ≡ outside m s e
+  same_outside m n s k e p h = sym (outside-wider n s k e p) ∙ ap (λ l. outside l s e) h ∙ outside-wider m s k e p
 
   -- where none is between them, all are outside
   pub all_outside : (m : Pairs P) (s e : ℕ) → between m s e ≡ [] → outside m s e ≡ m
@@ -157,6 +164,13 @@ module _ {P : Type 0} where
           ]
         ]
       ]
+
+  pub is_present : (m : Pairs P) (s e k : ℕ) → Some k ≡ first_number (between m s e) → IsSome (lookup m k)
+  is_present m s e k is = at (lookup m k) refl
+    where
+      at : (o : Option P) → lookup m k ≡ o → IsSome (lookup m k)
+      at None none = absurd (present m s e k is (sym none))
+      at (Some v) some = rw some refl
 
   -- the first pair between two keys, and those that its removal leaves there
   pub between_taken : (a : ℕ) (m : Pairs P) (s e k : ℕ) (v : P) → Rises a (2 ^ 64) m → Some k ≡ first_number (between m s e) → Some v ≡ lookup m k → between m s e ≡ (k, v) ∷ between (without m k) s e

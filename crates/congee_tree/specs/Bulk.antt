@@ -1,12 +1,9 @@
 -- Calls that change many pairs at once.
-use Rattle.std.specs.Prelude.{◌≡◌, ℕ, ◌+◌, Bool, ◌&&◌, not, List, [], ◌∷◌, Option, Some, None, if◌then◌else◌, nat_lt, nat_le, filter, fold}
+use Rattle.std.specs.Prelude.{◌≡◌, ℕ, ◌+◌, Bool, List, [], ◌∷◌, Option, Some, None, if◌then◌else◌, fold}
 use Rattle.std.specs.Fn.{Mut, Called}
 use Rattle.spec_map.specs.Map.{Pairs, put, between}
+pub use Rattle.tree_edit.specs.Outside.{outside}
 use denote.Ref.{Bor}
-
--- the pairs with keys below low, or from high on: those that aren't between the two
-abbrev pub outside : {V : Type 0} → Pairs V → ℕ → ℕ → Pairs V
-outside es low high = filter (λ e. not (nat_le low e.0 && nat_lt e.0 high)) es
 
 -- the map after insertions of these pairs, one after another, each key and value written as its number
 abbrev pub put_all : {K V : Type 0} → (K → ℕ) → (V → ℕ) → Pairs ℕ → List (K × V) → Pairs ℕ

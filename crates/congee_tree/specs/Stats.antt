@@ -13,5 +13,5 @@ pub record AreStatsOf {P A : Type 0} (tree : TreeView P A) (stats : NodeStats) :
   pub levels : IsTally (visits_below 0 tree.nodes) stats.levels
   pub pairs : stats.kv_pairs ≡ capped (length tree.pairs)
   -- each entry of a node is a pair or leads to a node, and none leads to the root
-  pub entries : NoCountSaturates stats.levels → stats.kv_pairs + 1 < 2 ^ 64
+  pub entries : NoCountSaturates (visits_below 0 tree.nodes) → length tree.pairs < 2 ^ 64
       → all_entries stats.levels + 1 ≡ stats.kv_pairs + all_nodes stats.levels

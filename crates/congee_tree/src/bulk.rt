@@ -9,7 +9,7 @@ ghost use Rattle.spec_map.specs.Refusal.{NeedsNode};
 ghost use Rattle.tree_edit.specs.Tree.{root_alone, ChargesForNodes};
 ghost use Rattle.tree_walk.specs.Scan.{from_key, first_number, first_pair};
 
-use crate::by_number::remove;
+use crate::by_number::{remove, remove_run};
 use crate::tree::RawCongee;
 use node_table::allocator::Allocator;
 use spec_map::payload::Payload;
@@ -32,8 +32,16 @@ impl<P: Payload, A: Allocator> RawCongee<P, A> {
         self.law_empty();
     }
 
-    /// Removes the pairs with `start <= key < end`, each as a removal does, and returns how many. Never fails. Reads
-    /// two paths for each of them, and one more.
+    /// Gives memory back to the machine that is held for nodes that are gone: the free slots past the last node. Not
+    /// while a pair is alone under the first seven bytes of its key: a slot is kept for each such pair. Never fails.
+    pub fn shrink_to_fit(&mut self)
+        ensures { self.new ≡ self.old }
+    {
+        self.tree.shrink_to_fit();
+    }
+
+    /// Removes the pairs with `start <= key < end`, each as a removal does, and returns how many. Never fails. Reads two
+    /// paths for each leaf among them, and one more.
     pub fn remove_range(&mut self, start: u64, end: u64) -> u128
         ensures count { result ≡ length (between self.old.pairs start end) }
         ensures pairs { self.new.pairs ≡ outside self.old.pairs start end }
@@ -42,7 +50,7 @@ impl<P: Payload, A: Allocator> RawCongee<P, A> {
         self.law_ordered();
         let before = self.value_count();
         while let Some(key) = self.key_between(start, end) {
-            let _ = remove::<Brand, P, A>(self, key, Blank::new(1));
+            remove_run::<Brand, P, A>(self, key, end, Blank::new(1));
         }
         before - self.value_count()
     }
@@ -71,8 +79,8 @@ impl<P: Payload, A: Allocator> RawCongee<P, A> {
         }
     }
 
-    /// Removes the pairs with `start <= key <= last`, each as a removal does, and returns how many. Never fails. Reads
-    /// two paths for each of them, and two more.
+    /// Removes the pairs with `start <= key <= last`, as `remove_range`, and returns how many. Never fails. Reads two
+    /// paths for each leaf among them, and two more.
     pub fn remove_range_inclusive(&mut self, start: u64, last: u64) -> u128
         ensures count { result ≡ length (between self.old.pairs start (last + 1)) }
         ensures pairs { self.new.pairs ≡ outside self.old.pairs start (last + 1) }

@@ -6,7 +6,7 @@ ghost use Rattle.std.specs.Prelude.{◌≡◌, ◌<◌, option_copied};
 ghost use Rattle.std.specs.Fn.{TakesAt};
 ghost use Rattle.std.specs.Int.{to_be_bytes, w64};
 ghost use Rattle.std.specs.Option.{ForSome};
-ghost use Rattle.tree_edit.specs.TreeCalls.{Removes, Inserts, ComputesOrInserts, ComputesIfPresent};
+ghost use Rattle.tree_edit.specs.TreeCalls.{Removes, Inserts, ComputesOrInserts, ComputesIfPresent, RemovesRun};
 ghost use Rattle.tree_edit.specs.Closure.{TakesOption};
 ghost use Rattle.spec_map.specs.Map.{lookup, IsMap};
 
@@ -61,6 +61,23 @@ pub fn remove<L: Ledger, P: Payload, A: Allocator>(
 {
     let mut reads = ReadCount::<L>::new(blank);
     tree.remove(&key.to_be_bytes(), &mut reads)
+}
+
+/// Removes the pair at the key, if it is there, and those that follow it in its leaf, below `end`.
+pub fn remove_run<L: Ledger, P: Payload, A: Allocator>(
+    tree: &mut RawCongee<P, A>,
+    key: u64,
+    end: u64,
+    blank: Blank,
+)
+    requires name { blank.name ≡ L.name }
+    requires parts { blank.parts ≡ L.parts }
+    requires some { 0 < blank.parts }
+    requires below { key < end }
+    ensures { RemovesRun A.charge tree.old key end tree.new }
+{
+    let mut reads = ReadCount::<L>::new(blank);
+    tree.tree.remove_run(key, end, &mut reads);
 }
 
 /// Where the key is present, calls the closure, once, and stores what it returns; `None` removes the key. Returns the

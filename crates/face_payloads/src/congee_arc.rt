@@ -12,6 +12,7 @@ ghost use Rattle.tree_edit.specs.TreeCalls.{IsNew, IsChargeOf, Removes, Inserts,
 ghost use Rattle.tree_edit.specs.Tree.{root_alone};
 
 mod bulk;
+pub mod iter;
 mod near;
 
 use congee_tree::by_number;

@@ -16,22 +16,22 @@ use std::marker::Brand;
 
 /// A node that a key has come to, with its height, and the node above it with its height. The root is its own.
 #[derive(Clone, Copy)]
-pub(crate) struct Stand {
-    pub(crate) above: u64,
-    pub(crate) level: usize,
-    pub(crate) name: u64,
-    pub(crate) height: usize,
+pub struct Stand {
+    pub above: u64,
+    pub level: usize,
+    pub name: u64,
+    pub height: usize,
 }
 
 /// Where a key's way ends as yet. There may be a node below whose way the key leaves.
 #[derive(Clone, Copy)]
-pub(crate) struct End {
-    pub(crate) stand: Stand,
-    pub(crate) fork: Option<Fork>,
+pub struct End {
+    pub stand: Stand,
+    pub fork: Option<Fork>,
 }
 
 /// Where a key's way ends as yet. `None` where a writer came in between.
-fn descend(nodes: &Nodes, key: u64, pass: &mut Pass) -> Option<End>
+pub fn descend(nodes: &Nodes, key: u64, pass: &mut Pass) -> Option<End>
     requires book { pass.old.book ≡ nodes.now }
     requires trunk { KnowsTrunk pass.old.view }
     ensures told { (pass.new.book ≡ pass.old.book) × (pass.new.id ≡ pass.old.id)
@@ -93,7 +93,7 @@ pub fn reserve(
 }
 
 /// Puts a larger node in the place of a full one. The root has the largest form, and stays.
-fn enlarge(nodes: &Nodes, stand: Stand, key: u64, room: &mut Room, pass: &mut Pass)
+pub fn enlarge(nodes: &Nodes, stand: Stand, key: u64, room: &mut Room, pass: &mut Pass)
     requires book { pass.old.book ≡ nodes.now }
     requires ready { IsReady pass.old.view room.old.start room.old.left }
     requires stands { Stands pass.old.view key stand }
@@ -113,7 +113,7 @@ fn enlarge(nodes: &Nodes, stand: Stand, key: u64, room: &mut Room, pass: &mut Pa
 }
 
 /// Brings a key's way nearer to its leaf: by a new leaf, or by room for one.
-fn extend(nodes: &Nodes, stand: Stand, key: u64, room: &mut Room, pass: &mut Pass)
+pub fn extend(nodes: &Nodes, stand: Stand, key: u64, room: &mut Room, pass: &mut Pass)
     requires book { pass.old.book ≡ nodes.now }
     requires ready { IsReady pass.old.view room.old.start room.old.left }
     requires stands { Stands pass.old.view key stand }

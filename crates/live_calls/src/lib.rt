@@ -9,7 +9,7 @@
 pub mod exchange;
 mod get;
 pub mod held;
-mod insert;
+pub mod insert;
 pub mod link;
 pub mod map;
 pub mod meeting;

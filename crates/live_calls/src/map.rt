@@ -17,7 +17,7 @@ use std::alloc::{AllocError, Global};
 use std::marker::{Brand, Model};
 
 /// How often a call is tried before it gives up.
-const TRIES: u32 = 1000;
+pub const TRIES: u32 = 1000;
 
 /// Too many writers came in between.
 #[derive(Clone, Copy, Debug, PartialEq, Eq)]
@@ -30,10 +30,11 @@ pub enum Refusal {
     OutOfMemory,
 }
 
-/// A map from keys to values, of 64 bits each. Threads share it.
+/// A map from keys to values, of 64 bits each. Threads share it. Its nodes are for the crates that add calls.
 #[derive(Drop)]
 pub struct Congee {
-    nodes: Nodes,
+    /// Its nodes, for the crates that read them on their own.
+    pub nodes: Nodes,
 }
 
 impl Model for Congee {
@@ -46,11 +47,14 @@ impl Model for Congee {
     ghost view = { λ m. m.nodes };
 }
 
-/// A caller of a map. Clauses see which map, the caller's number, and the history that it has seen.
+/// A caller of a map. Clauses see which map, the caller's number, and the history that it has seen. Its seat and its room for
+/// nodes are for the crates that add calls.
 #[derive(Drop)]
 pub struct Guard {
-    pass: Pass,
-    room: Room,
+    /// Its seat, which knows the trunk and has nothing locked.
+    pub pass: Pass,
+    /// Where it makes new nodes.
+    pub room: Room,
 }
 
 impl Model for Guard {

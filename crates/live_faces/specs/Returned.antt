@@ -1,10 +1,12 @@
 -- WHAT A CALL RETURNS, and the entry with which the history ends that its guard has then seen. Keys and values are written
 -- as numbers, and values are read back from them.
-use Rattle.std.specs.Prelude.{◌≡◌, ℕ, Option, Result, Some, Ok, Err}
+use Rattle.std.specs.Prelude.{◌≡◌, ℕ, Option, Result, Ok, Err}
 use Rattle.std.specs.Option.{option_map}
 use Rattle.share_rule.specs.History.{Entry}
 use Rattle.live_law.specs.Known.{Known, MadeCall}
-use Rattle.live_calls.specs.Exchanges.{Exchange, compared}
+use Rattle.live_updates.specs.Entries.{swapped}
+use Rattle.live_scans.specs.Scans.{HasNext}
+use Rattle.live_computes.specs.Entries.{inserted_with}
 
 -- A CALL, by a guard that knew k
 module _ {V : Type 0} (of_number : ℕ → V) (k : Known) where
@@ -13,7 +15,23 @@ module _ {V : Type 0} (of_number : ℕ → V) (k : Known) where
   ReturnsOld entry before n = (number : Option ℕ) × (before ≡ option_map of_number number) × MadeCall k (entry number) n
 
   -- compare_exchange returned the new value itself, or the current one, which isn't the expected one
-  abbrev pub ReturnsExchanged : Exchange → V → Result (Option V) (Option V) → Known → Type 0
-  ReturnsExchanged x new (Ok stored) n = (stored ≡ Some new) × MadeCall k (compared x (Ok (Some x.new))) n
-  ReturnsExchanged x new (Err current) n =
-      (found : Option ℕ) × (current ≡ option_map of_number found) × MadeCall k (compared x (Err found)) n
+  abbrev pub ReturnsExchanged : (V → ℕ) → ℕ → ℕ → Option V → Result (Option V) (Option V) → Known → Type 0
+  ReturnsExchanged number key old new (Ok stored) n =
+      (stored ≡ new) × MadeCall k (swapped k.caller key old (option_map number new) (Ok (option_map number new))) n
+  ReturnsExchanged number key old new (Err current) n =
+      (found : Option ℕ) × (current ≡ option_map of_number found) × MadeCall k (swapped k.caller key old (option_map number new) (Err found)) n
+
+  -- compute_or_insert returned the previous value. `step` are the calls of its closure, of which the last one, from the
+  -- previous value's number to the new one, left it as `last`
+  abbrev pub ReturnsInserted : {F : Type 0} → (F → Option ℕ → ℕ → F → Type 0) → F → ℕ → Option V → Known → Type 0
+  ReturnsInserted {F} step last key before n =
+      (old : Option ℕ) × (new : ℕ) × (before ≡ option_map of_number old) × MadeCall k (inserted_with k.caller key old new) n
+      × ((state : F) × step state old new last)
+
+-- a pair, by its numbers
+abbrev pub pair_of : {K V : Type 0} → (ℕ → K) → (ℕ → V) → ℕ × ℕ → K × V
+pair_of of_key of_value p = (of_key p.0, of_value p.1)
+
+-- A READER by a guard that knew k returned the next pair from a key on, or none
+abbrev pub ReturnsNext : {P : Type 0} → (ℕ × ℕ → P) → Known → ℕ → Option P → Known → Type 0
+ReturnsNext of_pair k low found n = (pair : Option (ℕ × ℕ)) × (found ≡ option_map of_pair pair) × HasNext k low pair n

@@ -4,9 +4,12 @@
 ghost use Rattle.std.specs.Prelude.{◌≡◌, ◌≢◌, ℕ, [], IfOk, OnErr};
 ghost use Rattle.std.specs.Option.{option_map};
 ghost use Rattle.live_law.specs.Views.{ask, got, inserted};
-ghost use Rattle.live_calls.specs.Exchanges.{exchange_of};
 ghost use Rattle.live_calls.specs.Meetings.{SeenMore};
-ghost use Rattle.live_faces.specs.Returned.{ReturnsOld, ReturnsExchanged};
+ghost use Rattle.live_faces.specs.Returned.{ReturnsOld};
+
+mod computes;
+mod scans;
+mod updates;
 
 use crossbeam_utils::Backoff;
 use live_calls::map;
@@ -149,57 +152,6 @@ impl<K: Word, V: Word> Congee<K, V> {
                 Err(Refusal::OutOfMemory) => return Err(OOMError::new()),
                 Err(Refusal::Busy) => pause.snooze(),
             }
-        }
-        unreachable!()
-    }
-
-    /// If the number of `old` is stored at the key, stores `new`, and returns `Ok` with `new` itself. Otherwise changes
-    /// nothing, and returns `Err` with the current value, read back from its number, or with `None` if the key is absent.
-    /// Takes no memory. `Busy` if too many writers came in between: then nothing has changed.
-    pub fn try_compare_exchange(
-        &self,
-        guard: &mut Guard,
-        key: &K,
-        old: &V,
-        new: V,
-    ) -> Result<Result<Option<V>, Option<V>>, Busy>
-        requires map { guard.old.book ≡ self.now }
-        ensures map { guard.new.book ≡ guard.old.book }
-        ensures made { IfOk result (λ answer. ReturnsExchanged V.of_number guard.old
-            (exchange_of guard.old.caller (K.number key.now) (V.number old.now) (V.number new))
-            new answer guard.new) }
-        ensures busy { OnErr result (guard.new ≡ guard.old) }
-    {
-        let answer = self
-            .numbers
-            .compare_exchange(guard, key.into_u64(), old.into_u64(), new.into_u64())?;
-        match answer {
-            Ok(_) => Ok(Ok(Some(new))),
-            Err(current) => Ok(Err(read_back(current))),
-        }
-    }
-
-    /// The same, which pauses where `try_compare_exchange` is busy, and goes on.
-    pub fn compare_exchange<R: Wait>(
-        &self,
-        rt: &R,
-        guard: &mut Guard,
-        key: &K,
-        old: &V,
-        new: V,
-    ) -> Result<Option<V>, Option<V>>
-        requires map { guard.old.book ≡ self.now }
-        ensures map { guard.new.book ≡ guard.old.book }
-        ensures made { ReturnsExchanged V.of_number guard.old
-            (exchange_of guard.old.caller (K.number key.now) (V.number old.now) (V.number new))
-            new result guard.new }
-    {
-        let pause = Backoff::new();
-        for _ in rt.forever() {
-            if let Ok(answer) = self.try_compare_exchange(guard, key, old, new) {
-                return answer;
-            }
-            pause.snooze();
         }
         unreachable!()
     }

@@ -1,5 +1,5 @@
 -- The sums over all levels of a tally are those over its nodes.
-use Rattle.std.proofs.Common.{◌≡◌, ℕ, zero, suc, ◌+◌, ◌<◌, ◌≤◌, Bool, true, false, ◌&&◌, ◌==◌, if◌then◌else◌, List, [], ◌∷◌, length, get_or, refl, ap, sym, subst, ◌∙◌, arith, nat_eq, add-zero, zero-add, ◌^◌}
+use Rattle.std.proofs.Common.{◌≡◌, ℕ, zero, suc, ◌+◌, ◌<◌, ◌≤◌, Bool, true, false, ◌&&◌, ◌==◌, if◌then◌else◌, List, [], ◌∷◌, length, get_or, refl, ap, sym, ◌∙◌, arith, nat_eq, add-zero, zero-add, ◌^◌}
 use Rattle.std.specs.Prelude.{sum_by}
 use Rattle.std.proofs.lemmas.List.Sums.{sum_by-cons}
 use Rattle.std.proofs.lemmas.Bool.{cases_Bool, cases_eq, ne_eqb}
@@ -162,42 +162,36 @@ entries_complete nodes levels tally few =
     entries_here N48 level = entries-is nodes N48 level few
     entries_here N256 level = entries-is nodes N256 level few
 
--- the same from the counts themselves, if none saturates
+-- the same, if none of the counts saturates
 
-count-told : (nodes : List Visit) (form : NodeType) (level : ℕ) → capped (count_at level nodes form) + 1 < 2 ^ 64
+count-stays : (nodes : List Visit) (form : NodeType) (level : ℕ) → count_at level nodes form < 2 ^ 64
     → capped (count_at level nodes form) ≡ part (λ n. 1) level nodes form
 unfolding count_at
-count-told nodes form level below = omega arith
+count-stays nodes form level below = omega arith
 
-entries-told : (nodes : List Visit) (form : NodeType) (level : ℕ) → capped (entries_at level nodes form) + 1 < 2 ^ 64
+entries-stay : (nodes : List Visit) (form : NodeType) (level : ℕ) → entries_at level nodes form < 2 ^ 64
     → capped (entries_at level nodes form) ≡ part (λ n. n.entries) level nodes form
 unfolding entries_at
-entries-told nodes form level below = omega arith
+entries-stay nodes form level below = omega arith
 
-pub nodes_told : (nodes : List Visit) (levels : List LevelStats) → IsTally nodes levels → NoCountSaturates levels
+pub nodes_told : (nodes : List Visit) (levels : List LevelStats) → IsTally nodes levels → NoCountSaturates nodes
     → all_nodes levels ≡ length nodes
 nodes_told nodes levels tally stays =
     sums-of-parts (λ n. 1) node_count nodes levels tally nodes_at ∙ sum_by-ones nodes
   where
-    below : (form : NodeType) (level : ℕ) → node_count form (level_of level nodes) + 1 < 2 ^ 64
-    below form level = subst (λ l. node_count form l + 1 < 2 ^ 64) (tally.sums level) (stays.nodes level form)
-
     nodes_at : (form : NodeType) (level : ℕ) → node_count form (level_of level nodes) ≡ part (λ n. 1) level nodes form
-    nodes_at N4 level = count-told nodes N4 level (below N4 level)
-    nodes_at N16 level = count-told nodes N16 level (below N16 level)
-    nodes_at N48 level = count-told nodes N48 level (below N48 level)
-    nodes_at N256 level = count-told nodes N256 level (below N256 level)
+    nodes_at N4 level = count-stays nodes N4 level (stays.nodes_fit level N4)
+    nodes_at N16 level = count-stays nodes N16 level (stays.nodes_fit level N16)
+    nodes_at N48 level = count-stays nodes N48 level (stays.nodes_fit level N48)
+    nodes_at N256 level = count-stays nodes N256 level (stays.nodes_fit level N256)
 
-pub entries_told : (nodes : List Visit) (levels : List LevelStats) → IsTally nodes levels → NoCountSaturates levels
+pub entries_told : (nodes : List Visit) (levels : List LevelStats) → IsTally nodes levels → NoCountSaturates nodes
     → all_entries levels ≡ sum_by (λ n. n.entries) nodes
 entries_told nodes levels tally stays =
     sums-of-parts (λ n. n.entries) entry_count nodes levels tally entries_here
   where
-    below : (form : NodeType) (level : ℕ) → entry_count form (level_of level nodes) + 1 < 2 ^ 64
-    below form level = subst (λ l. entry_count form l + 1 < 2 ^ 64) (tally.sums level) (stays.entries level form)
-
     entries_here : (form : NodeType) (level : ℕ) → entry_count form (level_of level nodes) ≡ part (λ n. n.entries) level nodes form
-    entries_here N4 level = entries-told nodes N4 level (below N4 level)
-    entries_here N16 level = entries-told nodes N16 level (below N16 level)
-    entries_here N48 level = entries-told nodes N48 level (below N48 level)
-    entries_here N256 level = entries-told nodes N256 level (below N256 level)
+    entries_here N4 level = entries-stay nodes N4 level (stays.entries_fit level N4)
+    entries_here N16 level = entries-stay nodes N16 level (stays.entries_fit level N16)
+    entries_here N48 level = entries-stay nodes N48 level (stays.entries_fit level N48)
+    entries_here N256 level = entries-stay nodes N256 level (stays.entries_fit level N256)

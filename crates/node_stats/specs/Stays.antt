@@ -1,12 +1,9 @@
--- Levels whose counts are the whole numbers.
-use Rattle.std.specs.Prelude.{ℕ, ◌+◌, ◌<◌, ◌^◌, List}
+-- Nodes whose counts are given whole.
+use Rattle.std.specs.Prelude.{ℕ, ◌<◌, ◌^◌, List}
 use Rattle.node_base.specs.declared.base_node.NodeType.{NodeType}
-use Rattle.node_stats.specs.declared.levels.LevelStats.{LevelStats}
-use Rattle.node_stats.specs.LevelCounts.{node_count, entry_count}
-use Rattle.node_stats.specs.Stats.{counts_at}
+use Rattle.node_stats.specs.Stats.{Visit, count_at, entries_at}
 
--- no count of a level saturates
-pub record NoCountSaturates (levels : List LevelStats) : Type 0 where
-  pub nodes : (level : ℕ) (form : NodeType) → node_count form (counts_at level levels) + 1 < 2 ^ 64
-  pub entries : (level : ℕ) (form : NodeType)
-      → entry_count form (counts_at level levels) + 1 < 2 ^ 64
+-- no count of these nodes is above 2^64 - 1, on any level and of any form
+pub record NoCountSaturates (nodes : List Visit) : Type 0 where
+  pub nodes_fit : (level : ℕ) (form : NodeType) → count_at level nodes form < 2 ^ 64
+  pub entries_fit : (level : ℕ) (form : NodeType) → entries_at level nodes form < 2 ^ 64

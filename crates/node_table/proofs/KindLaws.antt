@@ -1,6 +1,7 @@
 -- What a node's children are, where each is made of another.
-use Rattle.std.proofs.Common.{◌≡◌, ℕ, ◌+◌, ◌<◌, ◌≤◌, List, [], ◌∷◌, length, Option, Some, None, IsSome, refl, ap, ◌∙◌, sym, subst, arith, inl, inr}
+use Rattle.std.proofs.Common.{◌≡◌, ℕ, ◌+◌, ◌<◌, ◌≤◌, List, [], ◌∷◌, length, Option, Some, None, IsSome, Result, Ok, Err, IfOk, OnOk, OnErr, refl, ap, ◌∙◌, sym, subst, arith, inl, inr}
 use Rattle.std.proofs.lemmas.Bool.{lt-ltb, le-ltb, lt-leb, le-leb, eq-eqb, ne_eqb, cases_order, cases_eq, cases_lt}
+use Rattle.std.specs.Option.{option_map}
 use Rattle.spec_map.specs.Map.{lookup, put, without, between, Rises}
 use Rattle.spec_map.proofs.RangeLaws.{between-next}
 use Rattle.node_base.specs.Form.{Fits}
@@ -48,6 +49,11 @@ module _ {C D : Type 0} (f : C → D) where
       at : (o : Option C) → lookup es k ≡ o → IsSome (lookup es k)
       at None is = absurd (let none = lookup-mapped_none es k is in let g = rw none at h in cc)
       at (Some c) is = rw is refl
+
+  -- a look-up that found so among what they are made of, found it here
+  pub lookup-mapped : (es : List (ℕ × C)) (k : ℕ) (o : Option C) → lookup es k ≡ o → lookup (mapped f es) k ≡ option_map f o
+  lookup-mapped es k None h = lookup-mapped_none es k h
+  lookup-mapped es k (Some c) h = lookup-mapped_some es k c h
 
   pub put-mapped : (es : List (ℕ × C)) (k : ℕ) (c : C) → mapped f (put es k c) ≡ put (mapped f es) k (f c)
   put-mapped [] k c = refl
@@ -103,3 +109,16 @@ module _ {D P C : Type 0} (f : D → ChildOf P C) where
 -- as many children, whatever they are made of
 pub one_more : {C D : Type 0} (f : C → D) (es : List (ℕ × C)) (most : ℕ) → length es < most → length (mapped f es) + 1 ≤ most
 one_more f es most h = omega (arith, length-mapped f es, h)
+
+-- A CALL WITH TWO OUTCOMES
+pub if_ok : {A E : Type 0} {F G : A → Type 0} (r : Result A E) → ((a : A) → F a → G a) → IfOk r F → IfOk r G
+if_ok (Ok a) f h = f a h
+if_ok (Err e) f h = h
+
+pub on_ok : {A E X Y : Type 0} (r : Result A E) → (X → Y) → OnOk r X → OnOk r Y
+on_ok (Ok a) f h = f h
+on_ok (Err e) f h = h
+
+pub on_err : {A E X Y : Type 0} (r : Result A E) → (X → Y) → OnErr r X → OnErr r Y
+on_err (Ok a) f h = h
+on_err (Err e) f h = f h

@@ -14,8 +14,10 @@ ghost use Rattle.node_table.specs.Children.{children_left, MayYield};
 ghost use Rattle.node_table.specs.inner.Kinds.{inner_node, leaf_node, places, payloads, with_child, without_child};
 ghost use Rattle.node_table.specs.Meeting.{IsMet, met_at};
 ghost use Rattle.node_table.specs.TableNode.{MayHave, TableNodeOf, looked_at_ref};
+ghost use Rattle.node_table.specs.declared.child.Child.TheVariants.{Payload};
 
 use crate::child::{Child, ChildIter, ChildRef, Meeting};
+use crate::setting::set_child;
 use node_base::base_node::BaseNode;
 use node_base::head::Head;
 use node_base::iter::{Node16Iter, NodeIter};
@@ -132,6 +134,38 @@ pub trait InTable<P, C>: Sized {
         ensures kind { IsOfKind self.new row.new }
         ensures before { result ≡ lookup (node self.old row.old).children byte }
         ensures after { node self.new row.new ≡ without_child (node self.old row.old) byte };
+}
+
+/// What a leaf does with its payloads, which go through no `Child`.
+pub trait HasPayloads<P, C>: InTable<P, C> {
+    /// Sets the payload under a byte of a leaf, where there is one or room for one more, and returns the previous one.
+    /// Otherwise `Err` returns the new payload.
+    fn set_payload(&mut self, row: &mut Self::Row, byte: u8, payload: P) -> Result<Option<P>, P>
+        requires kind { Self.IsOfKind self.old row.old }
+        requires leaf { length (Self.node self.old row.old).prefix ≡ 7 }
+        ensures kind { Self.IsOfKind self.new row.new }
+        ensures before { IfOk result (λ before.
+            lookup (Self.node self.old row.old).children byte ≡ option_map (λ v. Payload v) before) }
+        ensures room { IfOk result (λ before. before ≡ None
+            → Fits (Self.node self.old row.old).form
+            (length (Self.node self.old row.old).children + 1)) }
+        ensures after { OnOk result
+            (Self.node self.new row.new
+            ≡ with_child (Self.node self.old row.old) byte (Payload payload)) }
+        ensures absent { OnErr result (lookup (Self.node self.old row.old).children byte ≡ None) }
+        ensures full { OnErr result (Fits (Self.node self.old row.old).form
+            (length (Self.node self.old row.old).children + 1) → ⊥) }
+        ensures back { IfErr result (λ back. back ≡ payload) }
+        ensures same { OnErr result (Self.node self.new row.new ≡ Self.node self.old row.old) };
+
+    /// Takes out the payload under a byte of a leaf, if there is one, and returns it.
+    fn take_payload(&mut self, row: &mut Self::Row, byte: u8) -> Option<P>
+        requires kind { Self.IsOfKind self.old row.old }
+        requires leaf { length (Self.node self.old row.old).prefix ≡ 7 }
+        ensures kind { Self.IsOfKind self.new row.new }
+        ensures before { option_map (λ v. Payload v) result
+            ≡ lookup (Self.node self.old row.old).children byte }
+        ensures after { Self.node self.new row.new ≡ without_child (Self.node self.old row.old) byte };
 }
 
 // The children of a node with `from <= byte < to`.
@@ -390,5 +424,17 @@ impl<P, C, H: Head<P>> InTable<P, C> for Leaf<H> {
             Some(payload) => Some(Child::Payload(payload)),
             None => None,
         }
+    }
+}
+
+impl<P, C, H: Head<P>> HasPayloads<P, C> for Leaf<H> {
+    #[inline(always)]
+    fn set_payload(&mut self, row: &mut H::Row, byte: u8, payload: P) -> Result<Option<P>, P> {
+        set_child(&mut self.head, row, byte, payload)
+    }
+
+    #[inline(always)]
+    fn take_payload(&mut self, row: &mut H::Row, byte: u8) -> Option<P> {
+        self.head.take(row, byte)
     }
 }

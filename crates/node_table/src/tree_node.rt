@@ -16,6 +16,7 @@ ghost use Rattle.node_table.specs.TableNode.{MayHave, seen, looked_at, looked_at
 
 use crate::child::{Child, ChildIter, ChildRef, Meeting};
 use crate::kinds::{InTable, InnerHead, Leaf};
+use crate::setting::has_no_room;
 use node_base::base_node::{BaseNode, NodeType};
 use node_base::few::Few;
 use node_base::head::{Own, Whole};
@@ -27,6 +28,8 @@ use node_forms::smaller::{smaller_4, smaller_16, smaller_48};
 use spec_map::error::OOMError;
 use std::alloc::Global;
 use std::marker::Model;
+
+mod payloads;
 
 /// A node of a tree in one table. Below seven bytes it is a leaf, whose children are payloads, and below fewer an inner
 /// node, which has a `C` in the place of each child: by default the slot of another node. So no child takes more than a
@@ -163,14 +166,7 @@ impl<P: Drop, C: Drop> TreeNode<P, C> {
         ensures full { IsTrue result → Fits self.now.form (length self.now.children + 1) → ⊥ }
         ensures room { result ≡ false → Fits self.now.form (length self.now.children + 1) }
     {
-        let base = self.base();
-        let count = base.value_count();
-        match base.get_type() {
-            NodeType::N4 => count >= 4,
-            NodeType::N16 => count >= 16,
-            NodeType::N48 => count >= 48,
-            NodeType::N256 => false,
-        }
+        has_no_room(self.base())
     }
 
     /// Whether the node has few children for its form, or none: at most 36, 12, 3 or 0.

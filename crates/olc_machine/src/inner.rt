@@ -377,7 +377,9 @@ impl<P: HasMeaning, A: Allocator> Inner<P, A> {
             (reachable (state_of (meant_in P.meaning A.charge self.now)))) stats.levels) }
         ensures pairs { IfOk result (λ stats. stats.kv_pairs ≡ capped self.now.stock.entries) }
         ensures entries { IfOk result (λ stats.
-            NoCountSaturates stats.levels → stats.kv_pairs + 1 < 2 ^ 64
+            NoCountSaturates (visits_below 0
+            (reachable (state_of (meant_in P.meaning A.charge self.now))))
+            → self.now.stock.entries < 2 ^ 64
             → all_entries stats.levels + 1 ≡ stats.kv_pairs + all_nodes stats.levels) }
     {
         let mut stats = count(&self.stock.store, self.stock.alloc)?;

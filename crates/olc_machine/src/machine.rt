@@ -268,7 +268,8 @@ impl<P: HasMeaning, A: Allocator> Machine<P, A> {
             IsTally (visits_below 0 (reachable (meant P.meaning self.now))) stats.levels) }
         ensures pairs { IfOk result (λ stats. stats.kv_pairs ≡ capped self.now.entries) }
         ensures entries { IfOk result (λ stats.
-            NoCountSaturates stats.levels → stats.kv_pairs + 1 < 2 ^ 64
+            NoCountSaturates (visits_below 0 (reachable (meant P.meaning self.now)))
+            → self.now.entries < 2 ^ 64
             → all_entries stats.levels + 1 ≡ stats.kv_pairs + all_nodes stats.levels) }
     {
         self.inner.stats()

@@ -2,29 +2,22 @@
 //!
 //! Tested in `tools/c-library`.
 
-ghost use Rattle.std.specs.Prelude.{◌≡◌, ℕ, [], ◌∷◌, IfOk, IsFalse, IsTrue};
+ghost use Rattle.std.specs.Prelude.{◌≡◌, ◌≢◌, [], IfOk, IsFalse, IsTrue};
 ghost use Rattle.spec_olc.specs.Runs.{same_number};
 ghost use Rattle.share_rule.specs.Known.{SeenMore};
-ghost use Rattle.share_shards.specs.inner.Steps.{IsIdle};
-ghost use Rattle.share_visits.specs.Whole.{IsCount, shard_of};
+ghost use Rattle.share_visits.specs.Whole.{shard_of};
 ghost use Rattle.share_visits.specs.declared.part.Part.{Part};
 ghost use Rattle.share_works.specs.Made.{KnowsBy};
-ghost use Rattle.share_calls.specs.inner.Filled.{Filled};
 ghost use Rattle.share_moments.specs.declared.state.State.{State};
 
-use face_typed::typed_congee::Congee;
-use node_table::allocator::Budget;
+use crate::map::Map;
 use share_moments::state::{MapLock, MapSeat, State, TRIES};
-use share_shards::lock::ShardLock;
 use share_shards::work::Work;
 use share_visits::part::{Part, shard_of_key};
 use spec_map::error::OOMError;
 use std::alloc::Global;
 use std::marker::Model;
 use std::sync::Arc;
-
-// Eight words for each shard, so that each lock has a cache line of its own.
-const WORDS: [u64; 512] = [0; 512];
 
 /// Why a call wasn't made. Nothing has changed.
 #[derive(Clone, Copy, PartialEq, Eq, Drop)]
@@ -59,53 +52,19 @@ impl Model for Guard {
         × IsIdle g.seat.me × IsLegalHistory same_number (seen_of g.seat.me.0) };
 }
 
-// The slots of an empty map with so many shards, whose maps have this limit each.
-fn slots(alloc: Global, limit: u64, shards: usize) -> Result<Vec<Option<Part<State>>>, OOMError>
-    ensures { IfOk result (λ slots.
-        Filled (λ (part : Part State). part.map.map.pairs ≡ []) shards slots.items) }
-{
-    let mut slots = Vec::with_capacity(alloc, shards)?;
-    for _ in 0..shards {
-        let part = Part {
-            map: State {
-                map: Congee::new(alloc, Budget::new(limit))?,
-            },
-            apart: [0; 8],
-        };
-        slots.push_reserved(Some(part));
-    }
-    Ok(slots)
-}
-
 impl Guard {
-    /// The first caller of a new, empty map under one lock. It has seen nothing. The stated sizes of the map's nodes are
-    /// charged to a limit in bytes. `OOMError` if memory is missing, or the limit is below the size of the first node.
+    /// The first caller of a new, empty map under one lock, as `Map::new` makes it. It has seen nothing.
     pub fn first(alloc: Global, limit: u64) -> Result<Guard, OOMError>
         ensures { IfOk result (λ guard. (guard.seen ≡ []) × (guard.table.slots ≡ 1)) }
     {
-        Guard::first_of(alloc, limit, 1)
+        Map::new(alloc, limit)?.pin()
     }
 
-    /// The same with 64 shards, each a map under a lock of its own, for many threads. Keys that differ in their last
-    /// eight bits alone are of one shard. Each shard has a 64th of the limit, rounded down.
+    /// The same with 64 shards, as `Map::sharded` makes it.
     pub fn first_sharded(alloc: Global, limit: u64) -> Result<Guard, OOMError>
         ensures { IfOk result (λ guard. (guard.seen ≡ []) × (guard.table.slots ≡ 64)) }
     {
-        Guard::first_of(alloc, limit / 64, 64)
-    }
-
-    fn first_of(alloc: Global, limit: u64, shards: usize) -> Result<Guard, OOMError>
-        requires { IsCount shards }
-        ensures { IfOk result (λ guard. (guard.seen ≡ []) × (guard.table.slots ≡ shards)) }
-    {
-        let made = ShardLock::new(alloc, &WORDS, slots(alloc, limit, shards)?)?;
-        let Ok(lock) = Arc::new(alloc, made) else {
-            return Err(OOMError::new());
-        };
-        match lock.seat() {
-            Some(seat) => Ok(Guard { lock, seat }),
-            None => Err(OOMError::new()),
-        }
+        Map::sharded(alloc, limit)?.pin()
     }
 
     /// One more caller of the map. Both have then seen one history, which begins with what this one had seen.
@@ -119,9 +78,21 @@ impl Guard {
         let Ok(lock) = Arc::try_clone(&self.lock) else {
             return Err(OOMError::new());
         };
-        let mut seat = lock.seat_beside(&mut self.seat);
+        let mut seat = lock.seat();
         lock.meet(&mut self.seat, &mut seat);
         Ok(Guard { lock, seat })
+    }
+
+    /// Two callers of one map meet. Both have then seen one legal history, which begins with what each had seen.
+    #[tactic(auto, using(crate::proofs::Knowing::seen_more))]
+    pub fn meet(&mut self, other: &mut Guard)
+        requires map { other.old.table ≡ self.old.table }
+        ensures first { SeenMore same_number self.old self.new }
+        ensures second { SeenMore same_number other.old other.new }
+        ensures one { self.new.seen ≡ other.new.seen }
+        ensures differ { self.old.caller ≢ other.old.caller }
+    {
+        self.lock.meet(&mut self.seat, &mut other.seat);
     }
 
     /// Does this work in one hold of the lock of the key's shard. `false` if the lock was taken at each try, and changes

@@ -7,6 +7,7 @@
 pub mod computed;
 pub mod ends;
 pub mod guard;
+pub mod map;
 pub mod points;
 pub mod ranges;
 pub mod whole;

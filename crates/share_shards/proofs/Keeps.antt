@@ -8,7 +8,7 @@ use mathlib.Core.Option.{none, some, some-injective, some-ne-none}
 use native.Mathlib.Decide.{ℕ_discrete}
 use lib.ListN.{get_elem?}
 use prog.Atomic.{either}
-use Rattle.atomic_table.specs.Table.{State, Me, step, keeps, takes, gives, stepped, Allows, Splits, Joins, opening}
+use Rattle.atomic_table.specs.Table.{State, Me, step, keeps, takes, gives, stepped, Allows, Enters, Splits, Joins, opening}
 use Rattle.atomic_table.proofs.Lists.{at_set, set_here, set_else}
 use Rattle.share_parts.specs.Parts.{kept, Ascends, AreApart, RunsOnWhole}
 use Rattle.share_parts.proofs.Parts.{ascends_kept, kept-kept, kept-none, part_runs}
@@ -399,25 +399,42 @@ module _ {T S : Type 0} (same : T → T → Bool) (content : S → Pairs T → T
   none_there : {A : Type 0} (i : ℕ) (y : S) → ◌≡◌ {A = Option S} None (Some y) → A
   none_there i y e = absurd (let clash : ◌≡◌ {A = Option S} None (Some y) = e in cc)
 
-  -- a blank seat gets a caller of its own
-  pub enters : (slots id : ℕ) (cs : List (ℕ × Option S)) (then : ℕ → M → Type 0) → ((n c : ℕ) → then n (Caller c [] [] [], cs)) → Allows Rule slots id (Blank, cs) 0 (λ n. n) then
-  enters slots id cs then learned s r wide at small = let o = with_at r.owner r.next id in (
-    Caller r.next [] [] [],
-    keeps,
-    tt,
-    looked s r o (r.next + 1) 0 id cs (Caller r.next [] [] [])
-        (λ j c other k. let b = k.born in record { owned = with_else r.owner r.next id c (λ is. omega (arith, is, b)) ∙ k.owned; born = omega (arith, b) })
-        (record { owned = with_now r.owner r.next id; born = omega arith }, record { begins = (r.history, refl); own = r.unborn r.next (omega arith) }, none_held r.whole, λ i y e. none_there i y e)
-        (λ c le. r.unborn c (omega (arith, le))),
-    learned (get_or s.words 0 0) r.next,
-  )
-
   -- a new seat comes last
   at_new : (l : List D) (a b : D) (j : ℕ) → get_elem? (l ++ a ∷ []) j ≡ some b → (get_elem? l j ≡ some b) ⊎ ((j ≡ length l) × (a ≡ b))
   at_new [] a b zero e = inr (refl, some-injective a b e)
   at_new [] a b (suc j) e = absurd (some-ne-none b (sym e))
   at_new (x ∷ xs) a b zero e = inl e
   at_new (x ∷ xs) a b (suc j) e = ⊎_elim (λ t. inl t) (λ (t : (j ≡ length xs) × (a ≡ b)). inr (ap suc t.0, t.1)) (at_new xs a b j e)
+
+  -- a new seat has a caller of its own, which has seen nothing
+  pub comes : (slots : ℕ) (then : ℕ → D → Type 0) → ((n c : ℕ) → then n (Caller c [] [] [])) → Enters Rule slots 0 then
+  comes slots then learned s r many small = let end : ℕ = length s.views in let o = with_at r.owner r.next end in let W : D = Caller r.next [] [] [] in
+      let K = Fits shard count o (r.next + 1) r.history r.whole r.holder r.value s.words in (
+        W,
+        record {
+          history = r.history;
+          whole = r.whole;
+          owner = o;
+          next = r.next + 1;
+          holder = r.holder;
+          value = r.value;
+          wide = r.wide;
+          many = r.many;
+          run = r.run;
+          ordered = r.ordered;
+          parts = r.parts;
+          home = r.home;
+          each_seat = λ j e p. ⊎_elim
+              (λ h. other_fits r.owner o r.next (r.next + 1) r.history r.history r.whole r.whole r.holder r.holder r.value r.value s.words s.words j (starts_same r.history)
+              (λ c k. let b = k.born in (record { owned = with_else r.owner r.next end c (λ is. omega (arith, is, b)) ∙ k.owned; born = omega (arith, b) }, refl))
+              (λ i y k. k) (λ held k. refl) e (r.each_seat j e h))
+              (λ (t : (j ≡ end) × (W ≡ e)). subst (λ (z : ℕ × D). K z.0 z.1) (λ i. (sym t.0 i, t.1 i))
+              (record { owned = with_now r.owner r.next end; born = omega arith }, record { begins = (r.history, refl); own = r.unborn r.next (omega arith) }, none_held r.whole, λ i y h. none_there i y h))
+              (at_new s.views W e j p);
+          unborn = λ c le. r.unborn c (omega (arith, le));
+        },
+        learned (get_or s.words 0 0) r.next,
+      )
 
   -- one seat takes in what another knows
   pub joins : (id c : ℕ) (a : List (Entry T)) (other d : ℕ) (b : List (Entry T)) → Joins Rule id (Caller c a [] []) other (Caller d b [] []) (Paired c d a b) Blank
@@ -452,14 +469,14 @@ module _ {T S : Type 0} (same : T → T → Bool) (content : S → Pairs T → T
 
   -- two callers at one seat see the whole history
   pub meets : (slots id c d : ℕ) (a b : List (Entry T)) (cs : List (ℕ × Option S)) (then : ℕ → M → Type 0)
-      → ((n : ℕ) (history : List (Entry T)) → IsLegalHistory same history → HasSeen history c a → HasSeen history d b → then n (Paired c d history history, cs))
+      → ((n : ℕ) (history : List (Entry T)) → IsLegalHistory same history → c ≢ d → HasSeen history c a → HasSeen history d b → then n (Paired c d history history, cs))
       → Allows Rule slots id (Paired c d a b, cs) 0 (λ n. n) then
   meets slots id c d a b cs then learned s r wide here small = let k = r.each_seat id (Paired c d a b) here in let all : (e : ℕ) → HasSeen r.history e r.history = λ e. record { begins = starts_same r.history; own = refl } in (
     Paired c d r.history r.history,
     keeps,
     tt,
     looked s r r.owner r.next 0 id cs (Paired c d r.history r.history) (λ j c other h. h) (k.0, k.1, k.2, all c, all d) r.unborn,
-    learned (get_or s.words 0 0) r.history (r.whole, r.run) k.3 k.4,
+    learned (get_or s.words 0 0) r.history (r.whole, r.run) k.2 k.3 k.4,
   )
 
   -- and gives the other back to a seat of its own

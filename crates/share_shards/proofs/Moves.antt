@@ -4,14 +4,14 @@ use Rattle.std.proofs.lemmas.List.{length-map}
 use Rattle.std.specs.Prelude.{Option, Some, IsFalse}
 use mathlib.Core.Option.{none}
 use prog.Atomic.{either}
-use Rattle.atomic_table.specs.Table.{State, Me, Step, step, opening, Allows, Splits, Joins}
+use Rattle.atomic_table.specs.Table.{State, Me, Step, step, opening, Allows, Enters as Admits, Splits, Joins}
 use Rattle.share_rule.specs.History.{Entry, IsLegalHistory}
 use Rattle.share_rule.specs.inner.Rule.{HasSeen}
 use Rattle.share_shards.specs.Held.{is_in, numbers, slots_of}
 use Rattle.share_shards.specs.inner.SeatView.{ShardView, Blank, Caller, Paired}
 use Rattle.share_shards.specs.inner.Rule.{ShardRule, TableRule}
 use Rattle.share_shards.specs.inner.Steps.{caller_of, seen_of, pairs_of, held_of, IsIdle, Tries, MayAppend, Appended, Appends, Releases, Enters, both_of, first_of, second_of, Met, Meets, SeesMore}
-use Rattle.share_shards.proofs.Keeps.{tries, appends, releases, enters, cuts, joins, meets, splits_both, opens}
+use Rattle.share_shards.proofs.Keeps.{tries, appends, releases, comes, cuts, joins, meets, splits_both, opens}
 use Rattle.share_shards.proofs.Lists.{values-slots}
 use Rattle.spec_map.specs.Call.{Operation}
 use Rattle.spec_map.specs.Map.{Pairs}
@@ -68,11 +68,10 @@ module _ {T S : Type 0} (same : T → T → Bool) (content : S → Pairs T → T
   pub may_cut : (id : ℕ) (v : ShardView T S) → Splits Rule id v v Blank
   may_cut id v s r is = to_rule (length s.homes) _ (cuts same content (shard (length s.homes)) (length s.homes) id v s r is)
 
-  pub may_enter : (slots id : ℕ) (m : V) → m ≡ (Blank, []) → Allows Rule slots id m 0 (λ n. n) (Enters (step slots 0 0 0 none) m)
-  may_enter slots id m is =
-      let P : V → Type 0 = λ x. Allows (RuleOf slots) slots id x 0 (λ n. n) (Enters (step slots 0 0 0 none) x) in
-      allows slots id m 0 (λ n. n) (Enters (step slots 0 0 0 none) m)
-      (subst P (sym is) (enters same content (shard slots) slots slots id [] (Enters (step slots 0 0 0 none) (Blank, [])) (λ n c. (c, refl))))
+  pub may_come : (slots : ℕ) → Admits Rule slots 0 (λ n w. Enters (step slots 0 0 0 none) (Blank, []) n (w, []))
+  may_come slots s r many small =
+      let t = comes same content (shard slots) slots slots (λ n w. Enters (step slots 0 0 0 none) (Blank, []) n (w, [])) (λ n c. (c, refl)) s (subst (λ (k : ℕ). RuleOf k s) many r) many small in
+      (t.0, to_rule slots _ t.1, t.2)
 
   pub may_join : (id : ℕ) (m : V) (other : ℕ) (n : V) → IsIdle m → IsIdle n → Joins Rule id m.0 other n.0 (both_of m.0 n.0) Blank
   may_join id m other n idle idle2 =
@@ -85,7 +84,7 @@ module _ {T S : Type 0} (same : T → T → Bool) (content : S → Pairs T → T
       let P : V → Type 0 = λ x. Allows (RuleOf slots) slots id x 0 (λ n. n) (Meets same (step slots 0 0 0 none) x) in
       allows slots id m 0 (λ n. n) (Meets same (step slots 0 0 0 none) m)
       (subst P (sym is) (meets same content (shard slots) slots slots id c d a b [] (Meets same (step slots 0 0 0 none) (Paired c d a b, []))
-      (λ n history legal first second. record { history = history; is = refl; legal = legal; first = first; second = second })))
+      (λ n history legal differ first second. record { history = history; is = refl; legal = legal; differ = differ; first = first; second = second })))
 
   pub may_part : (id : ℕ) (v : ShardView T S) (c d : ℕ) (a b : List (Entry T)) → v ≡ Paired c d a b → Splits Rule id v (first_of v) (second_of v)
   may_part id v c d a b is =

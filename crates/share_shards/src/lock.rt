@@ -2,16 +2,15 @@
 //!
 //! Tested in `test_share_shards`.
 
-ghost use Rattle.std.specs.Prelude.{◌≡◌, ◌<◌, ◌≤◌, ◌*◌, ◌++◌, ℕ, List, [], ◌∷◌, map, reverse, Option, Some, None, IfOk, IfSome, IsTrue, IsFalse, All, length};
+ghost use Rattle.std.specs.Prelude.{◌≡◌, ◌≢◌, ◌<◌, ◌≤◌, ◌*◌, ◌++◌, ℕ, List, [], ◌∷◌, map, reverse, Option, Some, None, IfOk, IsTrue, IsFalse, All, length};
 ghost use Rattle.atomic_table.specs.Table.{rest};
 ghost use Rattle.share_shards.specs.Held.{Visited, numbers, slots_of, values_of};
-ghost use Rattle.share_shards.specs.inner.SeatView.{Blank};
 ghost use Rattle.share_shards.specs.inner.Steps.{Appended, HeldBy, Holds, IsIdle, MayAppend, SeesMore, Took, Won, caller_of, held_of, seen_of, without_last};
 
 use crate::rule::{Append, Cut, Done, Enter, Law, Meet, Pair, Release, Sharded, Try};
 use crate::view::View;
 use crate::work::{Visit, Work};
-use atomic_table::{Perch, Seat, Table};
+use atomic_table::{Seat, Table};
 use spec_map::error::OOMError;
 use std::alloc::Global;
 use std::hint::spin_loop;
@@ -23,11 +22,6 @@ const FREE: u64 = 0;
 
 const TAKEN: u64 = 1;
 
-// The perch's word: a seat rests there, or none.
-const EMPTY: u64 = 0;
-
-const RESTING: u64 = 2;
-
 /// A seat at the lock's table. It has no bytes.
 pub type LockSeat<T, S> = Seat<Option<S>, View<T, S>>;
 
@@ -38,14 +32,12 @@ type Board<T, S> = Table<Option<S>, View<T, S>, (), Law<T, S>, Global>;
 #[derive(Drop)]
 pub struct ShardLock<T, S: Sharded<T>> {
     board: Board<T, S>,
-    perch: Perch<Option<S>, View<T, S>>,
     shards: usize,
 }
 
 impl<T, S: Sharded<T>> Model for ShardLock<T, S> {
     ghost use Rattle.std.specs.Prelude.{◌≡◌, ◌<◌, ◌≤◌, ◌*◌};
     ghost use Rattle.atomic_table.specs.Seated.{TableId, table_id_coded};
-    ghost use Rattle.share_shards.specs.inner.SeatView.{Blank};
 
     ghost Value = { TableId };
 
@@ -54,8 +46,7 @@ impl<T, S: Sharded<T>> Model for ShardLock<T, S> {
     ghost view = { λ l. l.board.shared.table_id };
 
     ghost invariant = { λ l. (8 * l.board.shared.table_id.slots ≤ l.board.shared.table_id.words)
-        × (l.board.shared.table_id.slots ≤ 1024) × (l.perch.table_id ≡ l.board.shared.table_id)
-        × (l.perch.view ≡ Blank) × (0 < l.board.shared.table_id.slots)
+        × (l.board.shared.table_id.slots ≤ 1024) × (0 < l.board.shared.table_id.slots)
         × (l.shards ≡ l.board.shared.table_id.slots) };
 }
 
@@ -71,18 +62,10 @@ impl<T, S: Sharded<T> + Drop> ShardLock<T, S> {
         ensures shards { IfOk result (λ lock. lock.slots ≡ length slots.items) }
     {
         let shards = slots.len();
-        let Ok((board, seat)) = Board::new(alloc, words, slots, &()) else {
+        let Ok((board, _)) = Board::new(alloc, words, slots, &()) else {
             return Err(OOMError::new());
         };
-        let perch = Perch::new(&seat, EMPTY);
-        match perch.give(seat, EMPTY, RESTING) {
-            Ok(()) => Ok(ShardLock {
-                board,
-                perch,
-                shards,
-            }),
-            Err(_) => Err(OOMError::new()),
-        }
+        Ok(ShardLock { board, shards })
     }
 
     /// How many shards there are.
@@ -92,34 +75,17 @@ impl<T, S: Sharded<T> + Drop> ShardLock<T, S> {
         self.shards
     }
 
-    /// A seat with a caller of its own, which has seen nothing. `None` if another thread is just being given one.
-    pub fn seat(&self) -> Option<LockSeat<T, S>>
-        ensures { IfSome result (λ s. (s.table_id ≡ self.now) × IsIdle s.me
-            × (seen_of s.me.0 ≡ [])) }
+    /// A seat with a caller of its own, which has seen nothing.
+    pub fn seat(&self) -> LockSeat<T, S>
+        ensures table { result.table_id ≡ self.now }
+        ensures idle { IsIdle result.me }
+        ensures nothing { seen_of result.me.0 ≡ [] }
     {
-        let (_, lent) = self.perch.take(EMPTY);
-        let mut base = lent?;
-        let mut seat = self.board.shared.split_seat::<Cut>(&mut base);
-        let _ = self.perch.give(base, EMPTY, RESTING);
-        self.board.shared.load::<Enter>(&mut seat, 0);
-        Some(seat)
+        let (_, seat) = self.board.shared.load_new_seat::<Enter>(0);
+        seat
     }
 
-    /// One more seat, with a caller of its own, which has seen nothing.
-    pub fn seat_beside(&self, seat: &mut LockSeat<T, S>) -> LockSeat<T, S>
-        requires table { seat.old.table_id ≡ self.now }
-        requires idle { IsIdle seat.old.me }
-        ensures table { seat.new.table_id ≡ seat.old.table_id }
-        ensures same { seat.new.me ≡ seat.old.me }
-        ensures other { (result.table_id ≡ self.now) × IsIdle result.me
-            × (seen_of result.me.0 ≡ []) }
-    {
-        let mut other = self.board.shared.split_seat::<Cut>(seat);
-        self.board.shared.load::<Enter>(&mut other, 0);
-        other
-    }
-
-    /// Both callers have then seen the same, which begins with what each had seen.
+    /// Both callers, which are two, have then seen the same, which begins with what each had seen.
     pub fn meet(&self, a: &mut LockSeat<T, S>, b: &mut LockSeat<T, S>)
         requires first_table { a.old.table_id ≡ self.now }
         requires first_idle { IsIdle a.old.me }
@@ -130,6 +96,7 @@ impl<T, S: Sharded<T> + Drop> ShardLock<T, S> {
         ensures second_table { b.new.table_id ≡ b.old.table_id }
         ensures second { SeesMore S.same b.old.me b.new.me }
         ensures one { seen_of a.new.me.0 ≡ seen_of b.new.me.0 }
+        ensures differ { caller_of a.old.me.0 ≢ caller_of b.old.me.0 }
     {
         let spare = self.board.shared.split_seat::<Cut>(a);
         let other = mem::replace(b, spare);

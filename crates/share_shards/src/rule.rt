@@ -75,7 +75,7 @@ impl<T, S: Sharded<T>> Play<Option<S>, View<T, S>> for Release {
     ghost then = { λ step. Releases (S.shard step.slots) step };
 }
 
-/// A blank seat gets a caller of its own.
+/// A new seat has a caller of its own.
 pub struct Enter;
 
 impl<T, S> Play<Option<S>, View<T, S>> for Enter {

@@ -83,7 +83,8 @@ fn counted_up(map: &Congee, key: u64, times: u32) -> u32 {
                 expected = expected.wrapping_add(1);
             }
             Ok(Err(Some(current))) => expected = current,
-            _ => {}
+            Ok(Err(None)) => return done,
+            Err(_) => {}
         }
     }
     done

@@ -5,3 +5,5 @@
 mod exchanges;
 #[cfg(test)]
 mod tests;
+#[cfg(test)]
+mod updates;

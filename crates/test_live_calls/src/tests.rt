@@ -1,6 +1,8 @@
 //! One thread, and several threads at one map.
 
-use live_calls::map::{Busy, Congee, Refusal};
+ghost use Rattle.std.specs.Prelude.{◌≡◌};
+
+use live_calls::map::{Busy, Congee, Guard, Refusal};
 use std::alloc::Global;
 use std::test::Fail;
 use std::thread::{Threads, join};
@@ -42,13 +44,35 @@ fn a_key_has_the_value_that_was_inserted_last(rt: HostRuntime) -> Result<(), Fai
     Ok(())
 }
 
-// Inserts as many keys, each with a value of its own. Returns how many were new.
+// A map, also where memory is refused once.
+fn made(alloc: Global) -> Option<Congee> {
+    match Congee::new(alloc) {
+        Ok(map) => Some(map),
+        Err(_) => Congee::new(alloc).ok(),
+    }
+}
+
+// Inserts a key with a value of its own, again where memory is refused or another writer is in the way. Returns whether it
+// was new.
+fn is_new(map: &Congee, alloc: Global, guard: &mut Guard, key: u64) -> bool
+    requires { guard.old.book ≡ map.now }
+    ensures { guard.new.book ≡ map.now }
+{
+    for _ in 0..1_000_000u32 {
+        if let Ok(before) = map.insert(alloc, guard, key, key ^ 1) {
+            return before.is_none();
+        }
+    }
+    false
+}
+
+// Inserts as many keys. Returns how many were new.
 fn filled(map: &Congee, alloc: Global, first: u64, step: u64, count: u32) -> u32 {
     let mut guard = map.pin();
     let mut key = first;
     let mut new = 0u32;
     for _ in 0..count {
-        if map.insert(alloc, &mut guard, key, key ^ 1) == Ok(None) {
+        if is_new(map, alloc, &mut guard, key) {
             new = new.wrapping_add(1);
         }
         key = key.wrapping_add(step);
@@ -79,7 +103,7 @@ fn wrong_reads(map: &Congee, first: u64, step: u64, count: u32) -> u32 {
 
 // One thread inserts keys, and another reads them as they come.
 fn by_two<R: Threads + Sync>(rt: &R, alloc: Global, step: u64, count: u32) -> Option<(u32, u32)> {
-    let map = Congee::new(alloc).ok()?;
+    let map = made(alloc)?;
     let shared = &map;
     Some(join(
         rt,
@@ -96,37 +120,11 @@ fn a_reader_finds_what_a_writer_inserts(rt: HostRuntime) {
     assert!(rt; far == Some((60, 0)));
 }
 
-// A map, also where memory is refused once.
-fn made(alloc: Global) -> Option<Congee> {
-    match Congee::new(alloc) {
-        Ok(map) => Some(map),
-        Err(_) => Congee::new(alloc).ok(),
-    }
-}
-
-// Inserts as many keys, each once more where memory is refused. Returns how many were new.
-fn filled_again(map: &Congee, alloc: Global, count: u32) -> u32 {
-    let mut guard = map.pin();
-    let mut key = 0u64;
-    let mut new = 0u32;
-    for _ in 0..count {
-        let mut done = map.insert(alloc, &mut guard, key, key ^ 1);
-        if done == Err(Refusal::OutOfMemory) {
-            done = map.insert(alloc, &mut guard, key, key ^ 1);
-        }
-        if done == Ok(None) {
-            new = new.wrapping_add(1);
-        }
-        key = key.wrapping_add(0x0001000200030005);
-    }
-    new
-}
-
 // It passes whichever allocation is refused: nothing was inserted then, and what was there before is still there.
 #[test]
 fn refused_memory_loses_nothing(rt: HostRuntime) {
     if let Some(map) = made(rt.alloc()) {
-        assert!(rt; filled_again(&map, rt.alloc(), 300) == 300);
+        assert!(rt; filled(&map, rt.alloc(), 0, 0x0001000200030005, 300) == 300);
         assert!(rt; wrong_reads(&map, 0, 0x0001000200030005, 300) == 0);
     } else {
         assert!(rt; false);
@@ -188,9 +186,66 @@ fn a_key_parts_from_others_at_each_byte(rt: HostRuntime) -> Result<(), Fail> {
     Ok(())
 }
 
+// Two hundred keys, ten at a time as above, under another highest byte each time.
+fn parting(number: u32) -> u64 {
+    let first = PARTING[(number % 10) as usize];
+    first ^ u64::from(number / 10 % 32) << 58
+}
+
+// Inserts these keys. Returns how many were new.
+fn parted(map: &Congee, alloc: Global) -> u32 {
+    let mut guard = map.pin();
+    let mut new = 0u32;
+    for number in 0..200u32 {
+        let key = parting(number);
+        if is_new(map, alloc, &mut guard, key) {
+            new = new.wrapping_add(1);
+        }
+    }
+    new
+}
+
+// Reads each of these keys until it is there, and the first once more. Returns how many reads found another value, or lost
+// what was there.
+fn wrong_ways(map: &Congee) -> u32 {
+    let mut guard = map.pin();
+    let mut number = 0u32;
+    let mut wrong = 0u32;
+    for _ in 0..100_000_000u32 {
+        if number >= 200 {
+            return wrong;
+        }
+        let key = parting(number);
+        if let Ok(Some(value)) = map.get(&mut guard, key) {
+            let first = map.get(&mut guard, PARTING[0]);
+            if value != key ^ 1 || first == Ok(None) {
+                wrong = wrong.wrapping_add(1);
+            }
+            number += 1;
+        }
+    }
+    u32::MAX
+}
+
+// One thread inserts them, and two read.
+fn beside_readers<R: Threads + Sync>(rt: &R, alloc: Global) -> Option<(u32, (u32, u32))> {
+    let map = made(alloc)?;
+    let shared = &map;
+    Some(join(
+        rt,
+        || parted(shared, alloc),
+        || join(rt, || wrong_ways(shared), || wrong_ways(shared)),
+    ))
+}
+
+#[test]
+fn ways_part_beside_readers(rt: HostRuntime) {
+    assert!(rt; beside_readers(&rt, rt.alloc()) == Some((200, (0, 0))));
+}
+
 // Two threads insert keys that lie between one another.
 fn by_writers<R: Threads + Sync>(rt: &R, alloc: Global) -> Option<(u32, u32, u32)> {
-    let map = Congee::new(alloc).ok()?;
+    let map = made(alloc)?;
     let shared = &map;
     let (even, odd) = join(
         rt,

@@ -26,7 +26,7 @@ fn exchanged<R: Wait>(rt: &R, map: &Map, guard: &mut Guard, value: u64) -> Optio
 {
     let mut old = 0u64;
     for _ in 0..u64::MAX {
-        match map.compare_exchange(rt, guard, &KEY, &old, value) {
+        match map.compare_exchange(rt, guard, &KEY, &old, Some(value)) {
             Ok(_) => return Some(old),
             Err(Some(current)) => old = current,
             Err(None) => return None,

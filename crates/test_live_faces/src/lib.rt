@@ -4,4 +4,6 @@
 #[cfg(test)]
 mod chains;
 #[cfg(test)]
+mod guards;
+#[cfg(test)]
 mod words;

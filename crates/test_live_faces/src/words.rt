@@ -47,13 +47,18 @@ fn keys_with_one_number_are_one_key(rt: HostRuntime) -> Result<(), Fail> {
     Ok(())
 }
 
-// A key, the value that is expected, the one to replace it, and what the exchange returns. At first 12 has 70.
-const EXCHANGES: [(Tens, Tens, Tens, Result<Option<Tens>, Option<Tens>>); 5] = [
-    (Tens(12), Tens(60), Tens(99), Err(Some(Tens(70)))),
-    (Tens(15), Tens(79), Tens(99), Ok(Some(Tens(99)))),
-    (Tens(12), Tens(70), Tens(1), Err(Some(Tens(90)))),
-    (Tens(22), Tens(70), Tens(1), Err(None)),
-    (Tens(12), Tens(90), Tens(0), Ok(Some(Tens(0)))),
+// A key, the value that is expected, what replaces it, and what the exchange returns.
+type Exchange = (Tens, Tens, Option<Tens>, Result<Option<Tens>, Option<Tens>>);
+
+// At first 12 has 70.
+const EXCHANGES: [Exchange; 7] = [
+    (Tens(12), Tens(60), Some(Tens(99)), Err(Some(Tens(70)))),
+    (Tens(15), Tens(79), Some(Tens(99)), Ok(Some(Tens(99)))),
+    (Tens(12), Tens(70), None, Err(Some(Tens(90)))),
+    (Tens(22), Tens(70), Some(Tens(1)), Err(None)),
+    (Tens(12), Tens(90), Some(Tens(0)), Ok(Some(Tens(0)))),
+    (Tens(19), Tens(9), None, Ok(None)),
+    (Tens(12), Tens(0), None, Err(None)),
 ];
 
 #[test]
@@ -75,7 +80,7 @@ fn all_as_wanted<R: Wait>(rt: &R, map: &Congee<Tens, Tens>, guard: &mut Guard) -
     for (key, old, new, wanted) in EXCHANGES {
         all = all && map.compare_exchange(rt, guard, &key, &old, new) == wanted;
     }
-    all && map.get(rt, guard, &Tens(12)) == Some(Tens(0))
+    all && map.get(rt, guard, &Tens(12)).is_none()
 }
 
 #[test]
@@ -88,6 +93,43 @@ fn the_forms_that_go_on_return_the_same(rt: HostRuntime) -> Result<(), Fail> {
 }
 
 #[test]
+fn a_key_is_removed_by_its_number(rt: HostRuntime) -> Result<(), Fail> {
+    let map: Congee<Tens, Tens> = Congee::new(rt.alloc())?;
+    let mut guard = map.pin();
+    assert!(rt; map.try_remove(&mut guard, &Tens(12)) == Ok(None));
+    assert!(rt; map.try_insert(rt.alloc(), &mut guard, Tens(12), Tens(75)) == Ok(None));
+    assert!(rt; map.try_remove(&mut guard, &Tens(22)) == Ok(None));
+    assert!(rt; map.try_remove(&mut guard, &Tens(17)) == Ok(Some(Tens(70))));
+    assert!(rt; map.try_get(&mut guard, &Tens(12)) == Ok(None));
+    assert!(rt; map.insert(&rt, rt.alloc(), &mut guard, Tens(12), Tens(80)) == Ok(None));
+    assert!(rt; map.remove(&rt, &mut guard, &Tens(10)) == Some(Tens(80)));
+    assert!(rt; map.remove(&rt, &mut guard, &Tens(12)).is_none());
+    Ok(())
+}
+
+#[test]
+fn a_closure_is_called_with_numbers(rt: HostRuntime) -> Result<(), Fail> {
+    let map: Congee<Tens, Tens> = Congee::new(rt.alloc())?;
+    let mut guard = map.pin();
+    assert!(rt; map.try_insert(rt.alloc(), &mut guard, Tens(12), Tens(70)) == Ok(None));
+    let mut up = |n: u64| -> Option<u64> { Some(n.wrapping_add(1)) };
+    let done = map.try_compute_if_present(&mut guard, &Tens(15), &mut up);
+    assert!(rt; done == Ok(Some((7, Some(8)))));
+    assert!(rt;
+        map.compute_if_present(&rt, &mut guard, &Tens(25), &mut up)
+            .is_none()
+    );
+    let mut next = |n: Option<u64>| -> u64 { n.unwrap_or(0).wrapping_add(2) };
+    let before = map.try_compute_or_insert(rt.alloc(), &mut guard, Tens(12), &mut next);
+    assert!(rt; before == Ok(Some(Tens(80))));
+    let none = map.compute_or_insert(&rt, rt.alloc(), &mut guard, Tens(30), &mut next);
+    assert!(rt; none == Ok(None));
+    assert!(rt; map.try_get(&mut guard, &Tens(12)) == Ok(Some(Tens(100))));
+    assert!(rt; map.try_get(&mut guard, &Tens(30)) == Ok(Some(Tens(20))));
+    Ok(())
+}
+
+#[test]
 fn what_two_guards_do_once_they_have_met(rt: HostRuntime) -> Result<(), Fail> {
     let map: Congee<u64, Tens> = Congee::new(rt.alloc())?;
     let mut a = map.pin();
@@ -96,7 +138,7 @@ fn what_two_guards_do_once_they_have_met(rt: HostRuntime) -> Result<(), Fail> {
     meet(&mut a, &mut b);
     assert!(rt; map.try_get(&mut b, &7) == Ok(Some(Tens(30))));
     assert!(rt;
-        map.try_compare_exchange(&mut b, &7, &Tens(30), Tens(40)) == Ok(Ok(Some(Tens(40))))
+        map.try_compare_exchange(&mut b, &7, &Tens(30), Some(Tens(40))) == Ok(Ok(Some(Tens(40))))
     );
     meet(&mut b, &mut a);
     assert!(rt; map.try_get(&mut a, &7) == Ok(Some(Tens(40))));

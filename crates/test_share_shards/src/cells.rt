@@ -256,9 +256,10 @@ impl Cells {
         })
     }
 
-    /// A seat of a caller of its own. `None` if another thread is just being given one.
-    pub fn seat(&self) -> Option<CellSeat>
-        ensures { IfSome result (λ s. (s.table_id ≡ self.now.lock) × IsIdle s.me) }
+    /// A seat of a caller of its own.
+    pub fn seat(&self) -> CellSeat
+        ensures table { result.table_id ≡ self.now.lock }
+        ensures idle { IsIdle result.me }
     {
         self.lock.seat()
     }

@@ -1,18 +1,17 @@
 //! One thread, and several threads, at the calls of the map.
 
-ghost use Rattle.std.specs.Prelude.{◌≡◌, IfSome};
+ghost use Rattle.std.specs.Prelude.{◌≡◌};
 ghost use Rattle.share_shards.specs.inner.Steps.{IsIdle};
 
 use crate::cells::{CellSeat, Cells};
 use std::alloc::Global;
-use std::hint::spin_loop;
 use std::thread::{Threads, join};
 
 // What a few calls of one thread return: counts, the least pair, whether a value is found, the least pair is popped, a
 // key without a cell is refused and all is cleared.
 fn by_one(alloc: Global) -> Option<(u64, u64, Option<(u64, u64)>, bool, u64)> {
     let cells = Cells::new(alloc).ok()?;
-    let mut seat = cells.seat()?;
+    let mut seat = cells.seat();
     let none = cells.count(&mut seat)?;
     cells.put(&mut seat, 3, 30)?;
     cells.put(&mut seat, 2, 20)?;
@@ -38,27 +37,13 @@ fn one_thread_sees_its_own_calls(rt: HostRuntime) {
     assert!(rt; seen == Some((0, 2, Some((2, 20)), true, 0)));
 }
 
-// A seat, as soon as no other thread is just being given one.
-fn enter(cells: &Cells) -> Option<CellSeat>
-    ensures { IfSome result (λ s. (s.table_id ≡ cells.now.lock) × IsIdle s.me) }
-{
-    for _ in 0..1_000_000 {
-        if let Some(seat) = cells.seat() {
-            return Some(seat);
-        }
-        spin_loop();
-    }
-    None
-}
-
 // Puts a value at the key in so many rounds, and as often as it takes. Returns how many values were put.
 fn put_often(cells: &Cells, key: u64, rounds: u64) -> u64 {
     let mut done = 0u64;
-    if let Some(mut seat) = enter(cells) {
-        for x in 0..rounds {
-            if put_once(cells, &mut seat, key, x) {
-                done = done.wrapping_add(1);
-            }
+    let mut seat = cells.seat();
+    for x in 0..rounds {
+        if put_once(cells, &mut seat, key, x) {
+            done = done.wrapping_add(1);
         }
     }
     done
@@ -83,16 +68,15 @@ fn put_once(cells: &Cells, seat: &mut CellSeat, key: u64, value: u64) -> bool
 fn count_often(cells: &Cells, rounds: u64) -> (u64, u64) {
     let mut had = 0u64;
     let mut less = 0u64;
-    if let Some(mut seat) = enter(cells) {
-        let mut last = 0;
-        for _ in 0..rounds {
-            if let Some(count) = cells.count(&mut seat) {
-                had = had.wrapping_add(1);
-                if count < last {
-                    less = less.wrapping_add(1);
-                }
-                last = count;
+    let mut seat = cells.seat();
+    let mut last = 0;
+    for _ in 0..rounds {
+        if let Some(count) = cells.count(&mut seat) {
+            had = had.wrapping_add(1);
+            if count < last {
+                less = less.wrapping_add(1);
             }
+            last = count;
         }
     }
     (had, less)
@@ -115,7 +99,7 @@ fn by_four<R: Threads + Sync>(rt: &R, alloc: Global) -> Option<((u64, u64), bool
             || count_often(shared, 20_000),
         ),
     );
-    let mut seat = cells.seat()?;
+    let mut seat = cells.seat();
     let all = cells.count(&mut seat)?;
     let had = one.0.wrapping_add(two.0) > 0;
     Some(((zero, three), had, one.1.wrapping_add(two.1), all))

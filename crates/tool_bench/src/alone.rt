@@ -1,6 +1,6 @@
 //! The machine alone: calls by one owner, event after event, without a lock.
 
-use crate::work::{Times, hundredths, tenths};
+use crate::work::{NONE, Times, hundredths, tenths};
 use node_table::allocator::DefaultAllocator;
 use olc_machine::machine::Machine;
 use spec_olc::types::{Env, Op, Outcome, Seen};
@@ -157,11 +157,9 @@ fn times<C: Clock>(
             remove: (remove, 0, 0),
         },
         event: Times {
-            fill: 0,
-            new: (0, 0, 0),
             get: (per_event(get, events, order.len()), 0, 0),
-            over: (0, 0, 0),
             remove: (reclaim, 0, 0),
+            ..NONE
         },
     })
 }

@@ -1,6 +1,6 @@
 //! The map with one owner, alone and in a mutex by hand, and a mutex alone.
 
-use crate::work::{Loops, Times, Work, all_times, hundredths, tenths, walls};
+use crate::work::{Loops, NONE, Times, Work, all_times, hundredths, tenths, walls};
 use crossbeam_utils::Backoff;
 use face_typed::typed_congee::Congee;
 use node_table::allocator::DefaultAllocator;
@@ -57,10 +57,7 @@ impl<'a> Work for Gets<'a> {
         let mut sum = 0u64;
         for key in keys {
             let found = held(rt, self.map).get(key);
-            match found {
-                Some(value) => sum = sum.wrapping_add(value),
-                None => sum = sum.wrapping_add(1),
-            }
+            sum = sum.wrapping_add(found.unwrap_or(1));
         }
         sum
     }
@@ -122,13 +119,7 @@ impl<'a> Work for Holds<'a> {
 pub fn bare_holds<R: Threads + Wait + Clock + Sync>(rt: &R, order: &[u64]) -> Result<Times, Fail> {
     let under = Mutex::new(0u64);
     let get = walls(rt, &Holds { under: &under }, order)?;
-    Ok(Times {
-        fill: 0,
-        new: (0, 0, 0),
-        get,
-        over: (0, 0, 0),
-        remove: (0, 0, 0),
-    })
+    Ok(Times { get, ..NONE })
 }
 
 #[inline(never)]
@@ -148,10 +139,7 @@ fn insert_all(map: &mut Map, keys: &[u64], mask: u64) -> u64 {
 fn get_all(map: &Map, keys: &[u64]) -> u64 {
     let mut sum = 0u64;
     for key in keys {
-        match map.get(key) {
-            Some(value) => sum = sum.wrapping_add(value),
-            None => sum = sum.wrapping_add(1),
-        }
+        sum = sum.wrapping_add(map.get(key).unwrap_or(1));
     }
     sum
 }

@@ -3,7 +3,8 @@
 //! A line is: the kind of the keys, the form, and then, in hundredths of a nanosecond a call of one thread: filling the first seven
 //! tenths by one thread; a tenth of new keys each by one, two and four threads; `get` by one, two and four; overwriting and
 //! removing likewise. The form `alone` is the machine without a lock, by one thread, and `events` an event of its `get` and, as a
-//! removal, a `reclaim_next` that finds nothing. Without an argument nothing is measured (the gate runs the program so); `tools/dev/bench-threads` makes a table.
+//! removal, a `reclaim_next` that finds nothing. The form `live` has no removals. Without an argument nothing is measured (the
+//! gate runs the program so); `tools/dev/bench-threads` makes a table.
 #![tactic(auto)]
 
 ghost use Rattle.std.specs.Prelude.{◌≡◌, ◌+◌, ◌^◌};
@@ -11,12 +12,14 @@ ghost use Rattle.std.specs.Prelude.{◌≡◌, ◌+◌, ◌^◌};
 mod alone;
 mod hand;
 mod keys;
+mod live;
 mod shares;
 mod work;
 
 use crate::alone::alone;
 use crate::hand::{bare_holds, by_hand, owned};
 use crate::keys::{dense, random, shuffled};
+use crate::live::live;
 use crate::shares::shared;
 use crate::work::Times;
 use node_table::allocator::DefaultAllocator;
@@ -40,24 +43,14 @@ const KEYS: usize = 1_000_000;
 
 const FEW: usize = 100_000;
 
+const ROUNDS: u32 = 5;
+
 fn print_times<W: Write>(out: &mut W, kind: &str, form: &str, t: Times) -> Result<(), Fail> {
-    writeln!(
-        out,
-        "{kind} {form} {} {} {} {} {} {} {} {} {} {} {} {} {}",
-        t.fill,
-        t.new.0,
-        t.new.1,
-        t.new.2,
-        t.get.0,
-        t.get.1,
-        t.get.2,
-        t.over.0,
-        t.over.1,
-        t.over.2,
-        t.remove.0,
-        t.remove.1,
-        t.remove.2
-    )?;
+    write!(out, "{kind} {form} {}", t.fill)?;
+    for (one, two, four) in [t.new, t.get, t.over, t.remove] {
+        write!(out, " {one} {two} {four}")?;
+    }
+    writeln!(out)?;
     Ok(())
 }
 
@@ -66,8 +59,7 @@ fn rounds<R: Threads + Wait + Clock + Sync, W: Write>(
     alloc: Global,
     out: &mut W,
     is_random: bool,
-    count: u32,
-    with_machine: bool,
+    form: &str,
 ) -> Result<(), Fail> {
     let kind = if is_random { "random" } else { "dense" };
     let fill = if is_random {
@@ -77,8 +69,11 @@ fn rounds<R: Threads + Wait + Clock + Sync, W: Write>(
     };
     let order = shuffled(alloc, fill.as_slice())?;
     let few = order.as_slice().get(..FEW).ok_or("few keys")?;
-    for _ in 0..count {
-        if with_machine {
+    for _ in 0..ROUNDS {
+        if form == "live" {
+            let t = live(rt, alloc, fill.as_slice(), order.as_slice())?;
+            print_times(out, kind, "live", t)?;
+        } else if form == "shared" {
             let t = shared::<Brand, Machine, _>(
                 rt,
                 alloc,
@@ -113,19 +108,17 @@ fn rounds<R: Threads + Wait + Clock + Sync, W: Write>(
 fn main(rt: HostRuntime) -> Result<(), Fail> {
     let mut words = env::args(&rt)?;
     let _ = words.next();
-    let Some(form) = words.next() else {
+    let Some(word) = words.next() else {
         return Ok(());
     };
-    let is_all = form.as_str() == "all";
+    let is_all = word.as_str() == "all";
     let alloc = rt.alloc();
     let mut out = rt.stdout();
-    if is_all || form.as_str() == "locked" {
-        rounds(&rt, alloc, &mut out, false, 5, false)?;
-        rounds(&rt, alloc, &mut out, true, 5, false)?;
-    }
-    if is_all || form.as_str() == "shared" {
-        rounds(&rt, alloc, &mut out, false, 5, true)?;
-        rounds(&rt, alloc, &mut out, true, 5, true)?;
+    for form in ["locked", "live", "shared"] {
+        if is_all || word.as_str() == form {
+            rounds(&rt, alloc, &mut out, false, form)?;
+            rounds(&rt, alloc, &mut out, true, form)?;
+        }
     }
     Ok(())
 }

@@ -51,10 +51,8 @@ impl<'a, L: Ledger, M: Pages> Work for Gets<'a, L, M> {
         };
         let mut sum = 0u64;
         for key in keys {
-            match self.map.get(rt, &mut guard, key) {
-                Some(value) => sum = sum.wrapping_add(value),
-                None => sum = sum.wrapping_add(1),
-            }
+            let found = self.map.get(rt, &mut guard, key);
+            sum = sum.wrapping_add(found.unwrap_or(1));
         }
         self.map.unpin(rt, guard);
         sum

@@ -1,10 +1,10 @@
 -- The leaf where one key's descent ended is on the path of each key with the same first seven bytes, also once that leaf
 -- alone has changed.
-use Rattle.std.proofs.Common.{◌≡◌, ◌≢◌, ℕ, zero, suc, ◌+◌, ◌<◌, List, [], ◌∷◌, ◌++◌, length, take, fold, get_or, Option, Some, None, refl, ap, sym, subst, ◌∙◌}
+use Rattle.std.proofs.Common.{◌≡◌, ◌≢◌, ℕ, zero, suc, ◌+◌, ◌<◌, ◌≤◌, List, [], ◌∷◌, ◌++◌, length, length-append, take, fold, get_or, Option, Some, None, refl, ap, sym, subst, ◌∙◌, arith}
 use Rattle.std.proofs.lemmas.List.Sums.{fold_more}
 use Rattle.std.specs.Int.{from_be_bytes, w64}
 use Rattle.node_table.specs.Charge.{Charge}
-use Rattle.node_table.proofs.BeginLaws.{begins_append}
+use Rattle.node_table.proofs.BeginLaws.{after, begins_append}
 use Rattle.node_table.proofs.DownLaws.{Begins-trans, one_byte}
 use Rattle.node_table.proofs.KeyLaws.{goes_on}
 use Rattle.node_table.proofs.NodesLaws.{none_below_seven}
@@ -77,6 +77,25 @@ module _ {P : Type 0} (s : NodeTable P) (root : ℕ) where
           sum = w.sum;
         }
 
+    short_way : (levels : ℕ) (q : List ℕ) (slot : ℕ) → IsTree s levels q slot → length q ≤ 7
+    short_way zero q slot h = absurd h
+    short_way (suc levels) q slot h = let a = after h.begins in omega (arith, ap length a.is, length-append q a.rest, h.sound.short)
+
+    -- the same for each node above a leaf, if the keys have the same first seven bytes
+    pub leads_alike : ((q : List ℕ) → length q ≤ 7 → Begins q key → Begins q other) → (above slot parent : ℕ) → LeadsTo s root key above slot parent → LeadsTo s root other above slot parent
+    leads_alike alike above slot parent w =
+        let below = alike w.q (short_way w.levels w.q slot w.tree) w.begins in
+        record {
+          levels = w.levels;
+          q = w.q;
+          path = path_for above w.levels w.q slot w.path below;
+          up = parent_for above w.levels w.q slot w.path below parent w.up;
+          tree = w.tree;
+          begins = below;
+          deep = w.deep;
+          sum = w.sum;
+        }
+
   -- the remembered node is the key's leaf
   pub seeks_beside : (last : PathEnd) → IsReached s root last → (key : List ℕ) → AreBytes key → length key ≡ 8 → (n : TableNode P) → node_at s last.slot ≡ Some n → Begins n.prefix key → length n.prefix ≡ 7
       → (b : ℕ) → b ≡ next_byte n.prefix key → SeeksTo s root key (record { slot = last.slot; parent = last.parent; above = last.above; stop = stops.Leaf b })
@@ -134,7 +153,7 @@ module _ {P : Type 0} (s t : NodeTable P) (root leaf : ℕ) (n : TableNode P) (h
   parent_kept zero levels q slot path parent up = tt
   parent_kept (suc above) levels q slot path parent up = up
 
-  leads_kept : (above slot parent : ℕ) → LeadsTo s root key above slot parent → LeadsTo t root key above slot parent
+  pub leads_kept : (above slot parent : ℕ) → LeadsTo s root key above slot parent → LeadsTo t root key above slot parent
   leads_kept above slot parent w =
       let k = kept above w.levels w.q slot w.path in
       record {

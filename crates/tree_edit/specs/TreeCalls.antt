@@ -1,5 +1,5 @@
 -- What a call of a tree returns, and what it does to the tree. A key is given as its number.
-use Rattle.std.specs.Prelude.{◌≡◌, ℕ, ◌+◌, ◌≤◌, List, [], Option, None, Result, IfOk, OnOk, OnErr}
+use Rattle.std.specs.Prelude.{◌≡◌, ℕ, ◌+◌, ◌<◌, ◌≤◌, List, [], length, Option, None, IsSome, Result, IfOk, OnOk, OnErr}
 use Rattle.std.specs.Fn.{Mut, CalledAt}
 use Rattle.std.specs.Int.{to_be_bytes, w64}
 use Rattle.std.specs.Option.{ForSome}
@@ -11,6 +11,7 @@ use Rattle.node_table.specs.Table.{NodeInfo}
 use Rattle.tree_path.specs.Charge.{charge_of}
 use Rattle.tree_path.specs.Path.{on_path}
 use Rattle.tree_edit.specs.Closure.{CalledAtOption}
+use Rattle.tree_edit.specs.Outside.{outside}
 use Rattle.tree_edit.specs.Reduce.{AreFilled, Reduces, Recomputes}
 use Rattle.tree_edit.specs.Tree.{TreeView, root_alone, ChargesForNodes, StoresSame}
 use denote.Ref.{Bor}
@@ -73,3 +74,10 @@ module _ {P A : Type 0} (charge : A → Option Charge) (old : TreeView P A) (key
 pub record ReadsPath (nodes : List NodeInfo) (key : List ℕ) (old new : ℕ) : Type 0 where
   pub reads : new ≡ old + on_path nodes key
   pub few : on_path nodes key ≤ 8
+
+-- A REMOVAL OF PAIRS from start on, below an end: the one at start is among them, if it is there, and all of them are
+-- between the two
+pub record RemovesRun {P A : Type 0} (charge : A → Option Charge) (old : TreeView P A) (start end : ℕ) (new : TreeView P A) : Type 0 where
+  pub others : outside new.pairs start end ≡ outside old.pairs start end
+  pub fewer : IsSome (lookup old.pairs start) → length new.pairs < length old.pairs
+  pub charged : ChargesForNodes charge old new

@@ -1,4 +1,4 @@
-//! A tree as one value, and the calls that change one pair of it.
+//! A tree as one value, and the calls that change pairs of it.
 //!
 //! A pair that is alone in its leaf is in its parent. Contracts speak of the table in which it has a leaf of its own.
 //!
@@ -9,5 +9,6 @@ pub mod beside;
 pub mod computation;
 pub mod ends;
 pub mod insertion;
+pub mod leaf_run;
 pub mod removal;
 pub mod tree;

@@ -79,9 +79,9 @@ fn shrink<P: Drop, A: Allocator>(
     shrunk
 }
 
-// Puts the node in a slot into its next smaller form if it has few children left and nodes are to shrink. Without
-// memory for that it is unchanged.
-fn shrink_if_due<P: Drop, A: Allocator>(
+/// Puts the node in a slot into its next smaller form if it has few children left and nodes are to shrink. Without
+/// memory for that it is unchanged.
+pub(crate) fn shrink_if_due<P: Drop, A: Allocator>(
     nodes: &mut Nodes<P>,
     supply: &mut Supply<A>,
     slot: usize,

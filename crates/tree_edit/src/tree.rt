@@ -148,12 +148,20 @@ impl<P: Drop, A: Allocator> Tree<P, A> {
         true
     }
 
+    /// Gives the memory of free slots past the last node back to the machine, where each pair is in a leaf that has a
+    /// slot. For each other pair a free slot is kept, and then all of them are.
+    pub fn shrink_to_fit(&mut self)
+        ensures { self.new ≡ self.old }
+    {
+        self.nodes.shrink_to_fit();
+    }
+
     /// Gives the slots of former nodes back to the machine once no pair is left.
     pub(crate) fn release_slots(&mut self)
         ensures { self.new ≡ self.old }
     {
         if self.count == 0 {
-            self.nodes.shrink_to_fit();
+            self.shrink_to_fit();
         }
     }
 

@@ -6,58 +6,31 @@ use Rattle.spec_map.specs.Map.{lookup}
 use Rattle.spec_map.proofs.MapLaws.{lookup-put_same, lookup-without_same}
 use Rattle.node_base.specs.Form.{Fits}
 use Rattle.node_base.specs.declared.base_node.NodeType.{NodeType}
-use Rattle.node_table.specs.TableNode.{TableNode, MayHave}
+use Rattle.node_table.specs.TableNode.{TableNode}
 use Rattle.node_table.specs.declared.child.Child.TheVariants as children
-use Rattle.tree_path.specs.inner.Descent.{IsOfOneKind}
 use Rattle.tree_links.specs.LeafCalls.{HasLeafAt, HasRoomFor, SetsPayload, HasNothing, IsFullFor, TakesPayload}
-use Rattle.tree_links.specs.LinkNode.{LinkNode, MayLink, with_link, without_link}
+use Rattle.tree_links.specs.LinkNode.{LinkNode, with_link, without_link}
 use Rattle.tree_links.specs.LosesNode.{IsEmptyAt, LosesNode}
 use Rattle.tree_links.specs.SeenTable.{LinkTable, width, name_of, link_at, seen_link, seen_links, seen_node, pair_at, pair_in, seen_table}
 use Rattle.tree_links.specs.declared.link.Link.{Link}
-use Rattle.tree_links.specs.declared.link.Link.TheVariants.{Payload, Slot, Pair}
-use Rattle.tree_links.specs.inner.Slots.{SameSlots, IsPayload, IsLeafAt, SetsAt, IsAbsentAt, IsFullAt, LacksLink, PutsLink, TakesLink}
+use Rattle.tree_links.specs.declared.link.Link.TheVariants.{Payload, Slot}
+use Rattle.tree_links.specs.inner.Slots.{SameSlots, IsLeafAt, SetsAt, IsAbsentAt, IsFullAt, LacksLink, PutsLink, TakesLink}
 use Rattle.tree_links.specs.inner.Pairs.{pairs_in_table}
 use Rattle.tree_links.proofs.PairSums.{pairs-set, pairs-taken}
 use Rattle.tree_links.proofs.SeenLaws.{seen_in, seen_slot, at_slot, slot_at, lookup-seen, put-seen, none_under, without-seen, length-seen, seen-put, seen-without, same_one}
 
 module _ {P : Type 0} where
-  may_link : (i : ℕ) (p : List ℕ) (b : ℕ) (c : Link P) → MayHave p (seen_link i b c) → MayLink p c
-  may_link i p b (Payload v) h = h
-  may_link i p b (Slot j) h = h
-  may_link i p b (Pair rest v) h = h
-
   -- A LEAF that is seen is there
   pub leaf_is : (t : LinkTable P) (i : ℕ) → HasLeafAt (seen_table t) (name_of i) → IsLeafAt t i
   leaf_is t i h =
       let n = slot_at t i h.node h.here in
-      let kind : IsOfOneKind (seen_node i n.node) = subst (λ (m : TableNode P). IsOfOneKind m) n.is h.kind in
-      record {
-        node = n.node;
-        here = n.here;
-        seven = subst (λ (m : TableNode P). length m.prefix ≡ 7) n.is h.seven;
-        kind = λ b c found. may_link i n.node.prefix b c (kind b (seen_link i b c) (lookup-seen i n.node.links b ∙ ap (option_map (λ d. seen_link i b d)) found));
-      }
-
-  -- it has nothing but payloads
-  only_payload : (t : LinkTable P) (i b : ℕ) (c : Link P) (n : LinkNode P) → IsLeafAt t i → link_at t i ≡ Some n → lookup n.links b ≡ Some c → MayLink n.prefix c
-  only_payload t i b c n h here found =
-      let both : Some h.node ≡ Some n = sym h.here ∙ here in
-      let is : h.node ≡ n = cc in
-      subst (λ (m : LinkNode P). MayLink m.prefix c) is (h.kind b c (subst (λ (m : LinkNode P). lookup m.links b ≡ Some c) (sym is) found))
+      record { node = n.node; here = n.here; seven = subst (λ (m : TableNode P). length m.prefix ≡ 7) n.is h.seven }
 
   pub seven_at : (t : LinkTable P) (i : ℕ) (n : LinkNode P) → IsLeafAt t i → link_at t i ≡ Some n → length n.prefix ≡ 7
   seven_at t i n h here =
       let both : Some h.node ≡ Some n = sym h.here ∙ here in
       let is : h.node ≡ n = cc in
       subst (λ (m : LinkNode P). length m.prefix ≡ 7) is h.seven
-
-  of_leaf : (p : List ℕ) (c : Link P) → length p ≡ 7 → MayLink p c → IsPayload c
-  of_leaf p (Payload v) seven may = tt
-  of_leaf p (Slot j) seven may = absurd (omega (arith, seven, may))
-  of_leaf p (Pair rest v) seven may = absurd (omega (arith, seven, may))
-
-  pub payload_at : (t : LinkTable P) (i b : ℕ) (c : Link P) (n : LinkNode P) → IsLeafAt t i → link_at t i ≡ Some n → lookup n.links b ≡ Some c → IsPayload c
-  payload_at t i b c n h here found = of_leaf n.prefix c (seven_at t i n h here) (only_payload t i b c n h here found)
 
   -- a payload isn't seen as a leaf in a place of its own
   no_leaf : (p : List ℕ) (b : ℕ) (before : Option P) → pair_at p b (option_map (λ v. Payload v) before) ≡ None
@@ -233,14 +206,6 @@ module _ {P : Type 0} where
       in_old (suc d) off = ap (λ x. pair_in x d) none ∙ sym (ap (λ x. pair_in x d) was ∙ ap (λ es. pair_at n.prefix d (lookup es d)) empty)
 
 -- A CALL WITH TWO OUTCOMES
-pub if_ok : {A E : Type 0} {F G : A → Type 0} (r : Result A E) → ((a : A) → F a → G a) → IfOk r F → IfOk r G
-if_ok (Ok a) f h = f a h
-if_ok (Err e) f h = h
-
-pub on_err : {A E X Y : Type 0} (r : Result A E) → (X → Y) → OnErr r X → OnErr r Y
-on_err (Ok a) f h = h
-on_err (Err e) f h = f h
-
 pub if_some : {A : Type 0} {F G : A → Type 0} (o : Option A) → ((a : A) → F a → G a) → IfSome o F → IfSome o G
 if_some None f h = h
 if_some (Some a) f h = f a h

@@ -1,13 +1,16 @@
 -- What a node has as links, where its children change.
-use Rattle.std.proofs.Common.{◌≡◌, ℕ, ◌+◌, List, ◌∷◌, ap, sym, ◌∙◌}
-use Rattle.spec_map.specs.Map.{put, without, between}
+use Rattle.std.proofs.Common.{◌≡◌, ℕ, ◌+◌, List, ◌∷◌, Option, Some, None, ap, sym, ◌∙◌}
+use Rattle.std.specs.Option.{option_map}
+use Rattle.spec_map.specs.Map.{lookup, put, without, between}
 use Rattle.node_table.specs.TableNode.{TableNodeOf}
 use Rattle.node_table.specs.declared.child.Child.{Child as ChildOf}
+use Rattle.node_table.specs.declared.child.Child.TheVariants as children
 use Rattle.node_table.specs.inner.Kinds.{mapped}
-use Rattle.node_table.proofs.KindLaws.{put-mapped, without-mapped, between-mapped}
+use Rattle.node_table.proofs.KindLaws.{put-mapped, without-mapped, between-mapped, lookup-mapped_none, lookup-mapped_some}
 use Rattle.tree_links.specs.LinkNode.{with_link, without_link}
 use Rattle.tree_links.specs.Places.{as_link, as_links, as_linked}
 use Rattle.tree_links.specs.declared.link.Link.{Link}
+use Rattle.tree_links.specs.declared.link.Link.TheVariants.{Payload}
 use Rattle.tree_links.specs.declared.place.Place.{Place}
 
 module _ {P : Type 0} where
@@ -30,3 +33,9 @@ module _ {P : Type 0} where
       ∙ ap (λ t. mapped as_link t) is
       ∙ ap (λ t. (byte, as_link c) ∷ t) (sym (between-mapped as_link es (byte + 1) 256))
       ∙ ap (λ x. (byte, x) ∷ between (as_links es) (byte + 1) 256) (sym same)
+
+  -- a payload under a byte is seen there
+  pub found_payload : (es : List (ℕ × ChildOf P (Place P))) (byte : ℕ) (before : Option P) → lookup es byte ≡ option_map (λ v. children.Payload v) before
+      → lookup (as_links es) byte ≡ option_map (λ v. Payload v) before
+  found_payload es byte None found = lookup-mapped_none as_link es byte found
+  found_payload es byte (Some v) found = lookup-mapped_some as_link es byte (children.Payload v) found

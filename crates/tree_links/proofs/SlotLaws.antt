@@ -1,12 +1,15 @@
 -- A table of links after a write of one node in its slot.
-use Rattle.std.proofs.Common.{◌≡◌, ◌≢◌, ℕ, zero, suc, ◌<◌, List, [], ◌∷◌, length, get_or, slice_set, Option, Some, None, IsSome, refl, ap, sym, ◌∙◌, arith}
+use Rattle.std.proofs.Common.{◌≡◌, ◌≢◌, ℕ, zero, suc, ◌+◌, ◌<◌, List, [], ◌∷◌, length, get_or, slice_set, Option, Some, None, IsSome, IfSome, IfNone, Result, Ok, Err, IfOk, OnOk, OnErr, refl, ap, sym, ◌∙◌, arith}
 use Rattle.std.proofs.lemmas.List.{get_or-set_same, get_or-set_other}
 use Rattle.std.specs.Option.{option_map}
 use Rattle.spec_map.specs.Map.{lookup, Rises}
+use Rattle.spec_map.proofs.MapLaws.{without-absent}
+use Rattle.node_base.specs.Form.{Fits}
 use Rattle.tree_links.specs.LinkNode.{LinkNode, with_link, without_link}
 use Rattle.tree_links.specs.SeenTable.{links_of, link_at}
 use Rattle.tree_links.specs.declared.link.Link.{Link}
-use Rattle.tree_links.specs.inner.Slots.{SameSlots, ExchangesLink, PutsLink, TakesLink}
+use Rattle.tree_links.specs.declared.link.Link.TheVariants.{Payload}
+use Rattle.tree_links.specs.inner.Slots.{SameSlots, ExchangesLink, PutsLink, TakesLink, SetsAt, IsFullAt, IsAbsentAt}
 use Rattle.tree_links.proofs.SeenLaws.{at_links_of}
 
 -- a slot that has a node is within the table
@@ -70,3 +73,30 @@ module _ {N P : Type 0} (f : N → LinkNode P) where
         at [] j h = refl
         at (x ∷ r) zero h = ap (λ y. y ∷ links_of f r) (ap (λ y. Some y) same ∙ sym (ap (option_map f) h))
         at (x ∷ r) (suc j) h = ap (λ l. option_map f x ∷ l) (at r j h)
+
+    -- where a payload of a leaf is set, or taken out
+    module _ (b : ℕ) (ordered : Rises 0 256 (f n).links) where
+      pub sets : (v : P) (r : Result (Option P) P) → IfOk r (λ before. lookup (f n).links b ≡ option_map (λ x. Payload x) before)
+          → IfOk r (λ before. before ≡ None → Fits (f n).form (length (f n).links + 1)) → OnOk r (f m ≡ with_link (f n) b (Payload v))
+          → IfOk r (λ before. SetsAt (links_of f s) (links_of f then) i b v before)
+      sets v (Ok before) was room is = record { node = f n; here = node_there s i n here; ordered = ordered; was = was; room = room; there = set_there ∙ ap (λ x. Some x) is; others = set_others }
+      sets v (Err back) was room is = tt
+
+      pub is_full : (r : Result (Option P) P) → OnErr r (lookup (f n).links b ≡ None) → OnErr r (Fits (f n).form (length (f n).links + 1) → ⊥)
+          → OnErr r (IsFullAt (links_of f s) i b)
+      is_full (Ok before) absent full = tt
+      is_full (Err back) absent full = record { node = f n; here = node_there s i n here; absent = absent; full = full }
+
+      pub takes_out : (o : Option P) → option_map (λ x. Payload x) o ≡ lookup (f n).links b → f m ≡ without_link (f n) b
+          → IfSome o (λ before. TakesLink (links_of f s) (links_of f then) i b (Payload before))
+      takes_out None found is = tt
+      takes_out (Some before) found is = takes b (Payload before) ordered (sym found) is
+
+      pub is_absent : (o : Option P) → option_map (λ x. Payload x) o ≡ lookup (f n).links b → IfNone o (IsAbsentAt (links_of f s) i b)
+      is_absent None found = record { node = f n; here = node_there s i n here; absent = sym found }
+      is_absent (Some before) found = tt
+
+      pub takes_none : (o : Option P) → option_map (λ x. Payload x) o ≡ lookup (f n).links b → f m ≡ without_link (f n) b
+          → IfNone o (links_of f then ≡ links_of f s)
+      takes_none None found is = set_same (is ∙ ap (λ es. record (f n) { links = es }) (without-absent (f n).links b (sym found)))
+      takes_none (Some before) found is = tt

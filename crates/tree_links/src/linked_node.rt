@@ -119,6 +119,28 @@ pub trait LinkedNode<P>: Drop + Sized {
         ensures before { result ≡ lookup (node self.old).links byte }
         ensures after { node self.new ≡ without_link (node self.old) byte };
 
+    /// Sets the payload under a byte of a leaf, where there is one or room for one more, and returns the previous one.
+    /// Otherwise `Err` returns the new payload.
+    fn set_payload(&mut self, byte: u8, payload: P) -> Result<Option<P>, P>
+        requires leaf { length (node self.old).prefix ≡ 7 }
+        ensures before { IfOk result (λ before.
+            lookup (node self.old).links byte ≡ option_map (λ v. Payload v) before) }
+        ensures room { IfOk result (λ before. before ≡ None
+            → Fits (node self.old).form (length (node self.old).links + 1)) }
+        ensures after { OnOk result
+            (node self.new ≡ with_link (node self.old) byte (Payload payload)) }
+        ensures absent { OnErr result (lookup (node self.old).links byte ≡ None) }
+        ensures full { OnErr result
+            (Fits (node self.old).form (length (node self.old).links + 1) → ⊥) }
+        ensures back { IfErr result (λ back. back ≡ payload) }
+        ensures same { OnErr result (node self.new ≡ node self.old) };
+
+    /// Takes out the payload under a byte of a leaf, if there is one, and returns it.
+    fn take_payload(&mut self, byte: u8) -> Option<P>
+        requires leaf { length (node self.old).prefix ≡ 7 }
+        ensures before { option_map (λ v. Payload v) result ≡ lookup (node self.old).links byte }
+        ensures after { node self.new ≡ without_link (node self.old) byte };
+
     /// Becomes the next form with the same prefix and links; the largest stays.
     ///
     /// All memory is taken before the first change, and refused only for lack of it.

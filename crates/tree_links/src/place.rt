@@ -146,7 +146,6 @@ impl<P: Drop> LinkedNode<P> for TreeNode<P, Place<P>> {
         self.insert(byte, child_of(link));
     }
 
-    // (inline, so that a payload is none but a payload on its way to a leaf)
     #[inline(always)]
     fn exchange(&mut self, byte: u8, link: Link<P>) -> Result<Link<P>, Link<P>>
         requires { MayLink (as_linked self.old).prefix link }
@@ -169,6 +168,16 @@ impl<P: Drop> LinkedNode<P> for TreeNode<P, Place<P>> {
             Some(child) => Some(link_of(child)),
             None => None,
         }
+    }
+
+    #[inline(always)]
+    fn set_payload(&mut self, byte: u8, payload: P) -> Result<Option<P>, P> {
+        self.set_payload(byte, payload)
+    }
+
+    #[inline(always)]
+    fn take_payload(&mut self, byte: u8) -> Option<P> {
+        self.take_payload(byte)
     }
 
     fn grow(&mut self, alloc: Global) -> Result<(), OOMError> {

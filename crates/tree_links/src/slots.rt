@@ -5,7 +5,7 @@
 ghost use Rattle.std.specs.Prelude.{◌≡◌, ◌≤◌, IfErr, IfNone, IfOk, IfSome, IsSome, OnErr, OnOk};
 ghost use Rattle.slab.specs.Slab.{slab_len, HasRoomFor};
 ghost use Rattle.tree_links.specs.SeenTable.{link_at, links_of};
-ghost use Rattle.tree_links.specs.inner.Slots.{HasLink, ExchangesLink, LacksLink, PutsLink, IsPresentAt, TakesLink, GrowsAt, IsFewAt, ShrinksAt, IsPayload, IsLeafAt, SetsAt, IsAbsentAt, IsFullAt};
+ghost use Rattle.tree_links.specs.inner.Slots.{HasLink, ExchangesLink, LacksLink, PutsLink, IsPresentAt, TakesLink, GrowsAt, IsFewAt, ShrinksAt, IsLeafAt, SetsAt, IsAbsentAt, IsFullAt};
 ghost use Rattle.tree_links.specs.declared.link.Link.TheVariants.{Payload};
 
 use crate::link::Link;
@@ -146,19 +146,6 @@ pub(crate) fn shrink_at<P: Drop, N: LinkedNode<P>>(
     Ok(())
 }
 
-// A link of a leaf as its payload.
-#[inline(always)]
-fn payload_of<P: Drop>(link: Link<P>) -> P
-    requires { IsPayload link }
-    ensures { link ≡ Payload result }
-{
-    match link {
-        Link::Payload(payload) => payload,
-        Link::Slot(_) => unreachable!(),
-        Link::Pair(_, _) => unreachable!(),
-    }
-}
-
 /// Sets the payload under a byte of the leaf in a slot, where there is one or the leaf has room, and returns the previous
 /// one. Otherwise returns the given payload as `Err`. The leaf is searched once.
 #[inline(always)]
@@ -183,16 +170,7 @@ pub(crate) fn set_at<P: Drop, N: LinkedNode<P>>(
     };
     // (for the proof: brings the order of the links into scope)
     let _ = node.base();
-    match node.exchange(byte, Link::Payload(payload)) {
-        Ok(before) => Ok(Some(payload_of(before))),
-        Err(back) => {
-            if node.is_full() {
-                return Err(payload_of(back));
-            }
-            node.insert(byte, back);
-            Ok(None)
-        }
-    }
+    node.set_payload(byte, payload)
 }
 
 /// Takes out the payload under a byte of the leaf in a slot, if there is one, and returns it.
@@ -216,8 +194,5 @@ pub(crate) fn take_payload_at<P: Drop, N: LinkedNode<P>>(
     };
     // (for the proof: brings the order of the links into scope)
     let _ = node.base();
-    match node.take(byte) {
-        None => None,
-        Some(link) => Some(payload_of(link)),
-    }
+    node.take_payload(byte)
 }

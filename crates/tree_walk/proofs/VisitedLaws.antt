@@ -160,7 +160,7 @@ entries_of_visits above all (n ∷ nodes) =
     ∙ sym (sum_by-cons (λ m. m.count) n nodes)
 
 pub whole_sums : (pairs kv : ℕ) (nodes : List NodeInfo) (levels : List LevelStats) → IsTally (visits_below 0 nodes) levels → sum_by (λ n. n.count) nodes + 1 ≡ pairs + length nodes → kv ≡ capped pairs
-    → NoCountSaturates levels → kv + 1 < 2 ^ 64 → all_entries levels + 1 ≡ kv + all_nodes levels
+    → NoCountSaturates (visits_below 0 nodes) → pairs < 2 ^ 64 → all_entries levels + 1 ≡ kv + all_nodes levels
 whole_sums pairs kv nodes levels tally counted cut stays few =
     let sum = entries_of_visits 0 nodes nodes in
     let as_many : length (visits_below 0 nodes) ≡ length nodes = length-map nodes (λ n. visit (0 + nodes_above nodes n) n.form n.count) in

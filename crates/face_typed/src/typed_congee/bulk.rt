@@ -30,8 +30,17 @@ impl<K: Word, V: Word, A: Allocator, D: Drainer<K, V>> Congee<K, V, A, D> {
         self.tree.clear();
     }
 
+    /// Gives memory back to the machine that is held for nodes that are gone: what is free behind the last node. Not
+    /// while a pair is alone under the first seven bytes of its key's number: a place for a node is kept for each such
+    /// pair. An empty map has done it already. Never fails.
+    pub fn shrink_to_fit(&mut self)
+        ensures { self.new ≡ self.old }
+    {
+        self.tree.shrink_to_fit();
+    }
+
     /// Removes the pairs with keys from `start` on and below `end`, each as `remove` does, and returns how many: 2 to
-    /// the 64 at most. Never fails. Reads two paths through the tree for each of them, and one more.
+    /// the 64 at most. Never fails. Reads two paths through the tree for each leaf among them, and one more.
     pub fn remove_range(&mut self, start: &K, end: &K) -> u128
         ensures count { result
             ≡ length (between self.old.pairs (K.number start.now) (K.number end.now)) }

@@ -25,8 +25,17 @@ impl<V: Word, A: Allocator> U64Congee<V, A> {
         self.map.clear();
     }
 
+    /// Gives memory back to the machine that is held for nodes that are gone: what is free behind the last node. Not
+    /// while a pair is alone under the first seven bytes of its key's number: a place for a node is kept for each such
+    /// pair. An empty map has done it already. Never fails.
+    pub fn shrink_to_fit(&mut self)
+        ensures { self.new ≡ self.old }
+    {
+        self.map.shrink_to_fit();
+    }
+
     /// Removes the pairs with keys from `start` on and below `end`, each as `remove` does, and returns how many: 2 to
-    /// the 64 at most. Never fails. Reads two paths through the tree for each of them, and one more.
+    /// the 64 at most. Never fails. Reads two paths through the tree for each leaf among them, and one more.
     pub fn remove_range(&mut self, start: u64, end: u64) -> u128
         ensures count { result ≡ length (between self.old.pairs start end) }
         ensures pairs { self.new.pairs ≡ outside self.old.pairs start end }

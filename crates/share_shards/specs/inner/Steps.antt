@@ -148,7 +148,7 @@ module _ {T S : Type 0} (shard : ℕ → ℕ) where
 
 -- COMING, GOING AND MEETING
 module _ {T S : Type 0} where
-  -- a blank seat has a caller of its own, which has seen nothing
+  -- a new seat has a caller of its own, which has seen nothing
   abbrev pub Enters : Step (Option S) → ShardSeat T S → ℕ → ShardSeat T S → Type 0
   Enters st m word n = (c : ℕ) × (n ≡ (Caller c [] [] [], m.1))
 
@@ -165,11 +165,12 @@ module _ {T S : Type 0} where
   second_of (Paired c d a b) = Caller d b [] []
   second_of v = Blank
 
-  -- both callers of a seat have seen the whole history
+  -- both callers of a seat, which are two, have seen the whole history
   pub record Met (same : T → T → Bool) (c d : ℕ) (a b : List (Entry T)) (n : ShardSeat T S) : Type 0 where
     pub history : List (Entry T)
     pub is : n ≡ (Paired c d history history, [])
     pub legal : IsLegalHistory same history
+    pub differ : c ≢ d
     pub first : HasSeen history c a
     pub second : HasSeen history d b
 

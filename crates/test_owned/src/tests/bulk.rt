@@ -99,7 +99,7 @@ fn the_drainer_has_what_is_left(rt: HostRuntime) -> Result<(), Fail> {
 /// A fill, and bounds.
 type Range = (Keys, u64, u64);
 
-const RANGES: [Range; 14] = [
+const RANGES: [Range; 16] = [
     ((0, 1), 0, u64::MAX),
     ((1, 1), 0, 0),
     ((1, 1), 0, 1),
@@ -109,6 +109,8 @@ const RANGES: [Range; 14] = [
     ((17, 1), 0, 17),
     ((300, 1), 200, 257),
     ((300, 1), 255, 300),
+    ((300, 1), 0, 256),
+    ((300, 1), 3, 299),
     ((5, 1 << 56), 1, 3 << 56),
     ((60, 1 << 32), 1 << 33, (1 << 33) + 1),
     ((200, 257 << 40), 0, u64::MAX),
@@ -157,10 +159,12 @@ fn take(map: &mut Limited, way: Way, start: u64, end: u64) -> u128 {
     }
 }
 
-// Whether so many pairs go as there are keys within the range, and these keys alone.
+// Whether so many pairs go as there are keys within the range, and these keys alone, and memory that goes back is none of
+// those that are left.
 fn takes(map: &mut Limited, way: Way, range: Range) -> bool {
     let (keys, start, end) = range;
     let taken = take(map, way, start, end);
+    map.shrink_to_fit();
     let mut wanted = 0u128;
     for i in 0..keys.0 {
         let key = key_at(keys, i);

@@ -2,7 +2,9 @@
 
 ghost use Rattle.std.specs.Iterator.{IsFinite};
 
-use congee_owned::{Congee, DefaultAllocator, OOMError, U64Congee};
+use congee_owned::{Congee, CongeeArc, DefaultAllocator, OOMError, U64Congee};
+use std::alloc::Global;
+use std::sync::Arc;
 use std::test::Fail;
 
 // The map has the keys 0, 7, .. and the greatest, as many as these, each with the key beside it as its value.
@@ -120,5 +122,35 @@ fn right_by_number(map: &mut U64Congee<u64>) -> Result<bool, OOMError> {
 #[test]
 fn numbers_are_iterated_over(rt: HostRuntime) -> Result<(), Fail> {
     assert!(rt; right_by_number(&mut U64Congee::new(rt.alloc())?)?);
+    Ok(())
+}
+
+// The values of these owners, as the digits of a number.
+fn digits<'a, I: Iterator<Item = (u64, &'a Arc<u64>)>>(pairs: I) -> u64
+    requires can { I.can_next pairs }
+    requires ends { IsFinite (I.remaining pairs) }
+{
+    let mut number = 0u64;
+    for (_, owner) in pairs {
+        number = number.wrapping_mul(10).wrapping_add(**owner);
+    }
+    number
+}
+
+fn right_by_owner(alloc: Global, map: &mut CongeeArc<u64, u64>) -> Result<bool, Fail> {
+    for (key, value) in [(u64::MAX, 1), (7, 2), (0, 3)] {
+        map.insert(key, Arc::new(alloc, value)?)?;
+    }
+    let all = digits(map.iter()) == 321 && digits((&*map).into_iter()) == 321;
+    let without = digits(map.iter_range(0, u64::MAX)) == 32 && digits(map.iter_range(1, 7)) == 0;
+    let with = digits(map.iter_range_inclusive(7, u64::MAX)) == 21
+        && digits(map.iter_range_inclusive(1, 7)) == 2
+        && digits(map.iter_range_inclusive(8, 7)) == 0;
+    Ok(all && without && with && digits(map.iter_range(0, 0)) == 0)
+}
+
+#[test]
+fn owners_are_iterated_over(rt: HostRuntime) -> Result<(), Fail> {
+    assert!(rt; right_by_owner(rt.alloc(), &mut CongeeArc::new(rt.alloc())?)?);
     Ok(())
 }

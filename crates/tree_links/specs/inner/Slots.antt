@@ -6,7 +6,7 @@ use Rattle.node_base.specs.Form.{Fits, next_form, smaller_form}
 use Rattle.tree_links.specs.LinkNode.{LinkNode, MayLink, with_link, without_link}
 use Rattle.tree_links.specs.SeenTable.{LinkTable, link_at}
 use Rattle.tree_links.specs.declared.link.Link.{Link}
-use Rattle.tree_links.specs.declared.link.Link.TheVariants.{Payload, Slot, Pair}
+use Rattle.tree_links.specs.declared.link.Link.TheVariants.{Payload}
 
 module _ {P : Type 0} where
   -- every slot but this one has what it had
@@ -88,18 +88,11 @@ module _ {P : Type 0} where
     pub there : link_at u i ≡ Some (record node { form = smaller_form node.form })
     pub others : SameSlots t u i
 
-  -- a link as leaves have it
-  abbrev pub IsPayload : Link P → Type 0
-  IsPayload (Payload v) = Unit {0}
-  IsPayload (Slot j) = ⊥
-  IsPayload (Pair rest v) = ⊥
-
   -- the slot has a leaf
   pub record IsLeafAt (t : LinkTable P) (i : ℕ) : Type 0 where
     pub node : LinkNode P
     pub here : link_at t i ≡ Some node
     pub seven : length node.prefix ≡ 7
-    pub kind : (b : ℕ) (c : Link P) → lookup node.links b ≡ Some c → MayLink node.prefix c
 
   -- it has this payload under the byte, in place of the previous one or, where it had room, of none
   pub record SetsAt (t u : LinkTable P) (i byte : ℕ) (payload : P) (before : Option P) : Type 0 where

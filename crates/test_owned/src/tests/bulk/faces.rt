@@ -20,6 +20,7 @@ fn by_number(map: &mut U64Congee<u64>) -> Result<[u128; 6], OOMError> {
     let (mut extracted, mut asked, mut left) = (0, 0, 0);
     map.insert_many(&PAIRS)?;
     let removed = map.remove_range(2, 3);
+    map.shrink_to_fit();
     map.extract_range(
         0,
         2,
@@ -55,6 +56,7 @@ fn fill(alloc: Global, map: &mut CongeeArc<u64, u64>) -> Result<(), OOMError> {
 fn by_owner(map: &mut CongeeArc<u64, u64>) -> [u128; 6] {
     let (mut extracted, mut asked, mut left) = (0, 0, 0);
     let removed = map.remove_range(2, 3);
+    map.shrink_to_fit();
     map.extract_range(
         0,
         2,

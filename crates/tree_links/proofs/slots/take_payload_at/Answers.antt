@@ -1,26 +1,26 @@
-use Rattle.std.proofs.Common.{◌≡◌, ◌∙◌, Some, ap, sym}
-use Rattle.spec_map.specs.Map.{without}
-use Rattle.spec_map.proofs.MapLaws.{without-absent}
-use Rattle.tree_links.proofs.PayloadLaws.{payload_at}
-use Rattle.tree_links.proofs.SlotLaws.{node_there, set_same, takes}
+use Rattle.std.proofs.Common.{sym}
+use Rattle.tree_links.proofs.PayloadLaws.{seven_at}
+use Rattle.tree_links.proofs.SlotLaws.{node_there, takes_out, is_absent, takes_none}
 use Rattle.tree_links.proofs.slots.take_payload_at.Goals as goal
 
-pub payload_of-requires : goal.payload_of-requires
-payload_of-requires g c =
+pub take_payload-requires : goal.take_payload-requires
+take_payload-requires g c =
     let f = g.N.LinkedNode.node in
-    let here = node_there f c.args.nodes.now.slots c.args.slot c.in-Some.node.now (sym c.in-Some.ensures.value) in
-    payload_at _ c.args.slot c.args.byte c.in-Some-take.link (f c.in-Some.node.now) c.requires here (sym c.in-Some-take.ensures.before)
+    record { leaf = seven_at _ c.args.slot (f c.in-Some.node.now) c.requires (node_there f c.args.nodes.now.slots c.args.slot c.in-Some.node.now (sym c.in-Some.ensures.value)) }
 
-pub returns-in-None-clause-same : goal.returns-in-None-clause-same
-returns-in-None-clause-same g c =
-    let f = g.N.LinkedNode.node in
-    let n = f c.in-Some.node.now in
-    let gone : without n.links c.args.byte ≡ n.links = without-absent n.links c.args.byte (sym c.in-None.ensures.before) in
-    set_same f c.args.nodes.now.slots c.args.slot c.in-Some.node.now c.take.new.self (sym c.in-Some.ensures.value)
-    (c.take.ensures.after ∙ ap (λ es. record n { links = es }) gone)
+pub returns-clause-takes : goal.returns-clause-takes
+returns-clause-takes g c =
+    let e = c.take_payload.ensures in
+    takes_out g.N.LinkedNode.node c.args.nodes.now.slots c.args.slot c.in-Some.node.now c.take_payload.new.self (sym c.in-Some.ensures.value) c.args.byte c.base.ensures.ascending
+    c.take_payload.result e.before e.after
 
-pub returns-in-Some-take-clause-takes : goal.returns-in-Some-take-clause-takes
-returns-in-Some-take-clause-takes g c =
-    let e = c.in-Some-take.ensures in
-    takes g.N.LinkedNode.node c.args.nodes.now.slots c.args.slot c.in-Some.node.now c.take.new.self (sym c.in-Some.ensures.value) c.args.byte _ c.base.ensures.ascending
-    (sym e.before ∙ ap (λ x. Some x) c.payload_of.ensures) e.after
+pub returns-clause-none : goal.returns-clause-none
+returns-clause-none g c =
+    is_absent g.N.LinkedNode.node c.args.nodes.now.slots c.args.slot c.in-Some.node.now c.take_payload.new.self (sym c.in-Some.ensures.value) c.args.byte c.base.ensures.ascending
+    c.take_payload.result c.take_payload.ensures.before
+
+pub returns-clause-same : goal.returns-clause-same
+returns-clause-same g c =
+    let e = c.take_payload.ensures in
+    takes_none g.N.LinkedNode.node c.args.nodes.now.slots c.args.slot c.in-Some.node.now c.take_payload.new.self (sym c.in-Some.ensures.value) c.args.byte c.base.ensures.ascending
+    c.take_payload.result e.before e.after

@@ -3,8 +3,8 @@ use Rattle.tree_edit.specs.Tree.{ChargesForNodes}
 use Rattle.congee_tree.specs.Bulk.{outside}
 use Rattle.congee_tree.proofs.tree.RawCongee.remove_range.Given as goal
 
-abbrev pub ghosts-remove : goal.ghosts-remove
-ghosts-remove g a = record { name = a.blank.name; parts = a.blank.parts }
+abbrev pub ghosts-remove_run : goal.ghosts-remove_run
+ghosts-remove_run g a = record { name = a.blank.name; parts = a.blank.parts }
 
 abbrev pub invariant-loop-key : goal.invariant-loop-key
 invariant-loop-key g l =

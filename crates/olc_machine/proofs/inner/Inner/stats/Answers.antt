@@ -1,4 +1,4 @@
-use Rattle.std.proofs.Common.{rules, ◌≡◌, ap, ◌∙◌}
+use Rattle.std.proofs.Common.{rules, ◌≡◌, ◌<◌, ◌^◌, ap, subst, ◌∙◌}
 use Rattle.node_table.specs.Table.{pairs_at}
 use Rattle.node_stats.specs.LevelCounts.{capped}
 use Rattle.olc_state.specs.inner.Shown.{state_of}
@@ -28,4 +28,4 @@ returns-clause-entries g c stays few =
     let counted = c.requires.sound.counted m (the_content meaning store.nodes.slots store.pins.slots store.root c.requires.sound.placed s shown_by) in
     whole_sums (length m) c.add_pairs.new.self.kv_pairs (reachable s) c.add_pairs.new.self.levels (returns-clause-levels g c)
     (entries_add_up meaning store.nodes.slots store.pins.slots store.root c.requires.sound.placed s shown_by)
-    (kept ∙ ap capped counted) stays few
+    (kept ∙ ap capped counted) stays (subst (λ k. k < 2 ^ 64) counted few)

@@ -6,7 +6,7 @@ use Rattle.share_shards.proofs.lock.ShardLock.release.Goals as goal
 pub append-requires-clause-within : goal.append-requires-clause-within
 append-requires-clause-within g c =
     let kept = c.self.invariant in let slots : ◌≡◌ {A = ℕ} c.args.self.now.slots c.self.inside.board.shared.table_id.slots = ap (λ t. t.slots) (sym c.self.view_is) in
-    omega (arith, kept.4, slots)
+    omega (arith, kept.2, slots)
 
 pub returns-clause-held : goal.returns-clause-held
 returns-clause-held g c =

@@ -3,7 +3,8 @@ use Rattle.tree_links.specs.Places.{as_linked}
 use Rattle.tree_links.specs.LeafCalls.{HasLeafAt, IsFullFor, SetsPayload}
 use Rattle.tree_links.specs.SeenTable.{links_of, name_of, seen_table}
 use Rattle.tree_links.proofs.CallLaws.{table_is}
-use Rattle.tree_links.proofs.PayloadLaws.{leaf_is, sets_payload, is_full_for, if_ok, on_err, pairs_if_set}
+use Rattle.node_table.proofs.KindLaws.{if_ok, on_err}
+use Rattle.tree_links.proofs.PayloadLaws.{leaf_is, sets_payload, is_full_for, pairs_if_set}
 use Rattle.tree_links.proofs.links.Links.set_payload.Goals as goal
 
 pub set_at-requires : goal.set_at-requires

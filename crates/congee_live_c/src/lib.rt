@@ -1,0 +1,175 @@
+//! A map from `u64` to `u64` that the threads of a C or Rust program share, each by a handle of its own. Look-ups take no lock.
+//!
+//! A call is tried a bounded number of times. If a writer came in between each time, the call answers `BUSY`, and nothing has
+//! changed. Else its reply is the map's at the end of one legal history, which begins with what this handle had seen
+//! (`MadeCall`). A call doesn't move what a handle holds (`place`), so C may keep its address alone.
+//!
+//! An answer is an `i32`: 0, 1 or 2 with the meaning that each call documents, `OOM` or `BUSY`.
+//!
+//! Tested in `tools/c-library`.
+#![tactic(auto)]
+
+ghost use Rattle.std.specs.Prelude.{◌≡◌, ◌≢◌, ◌⊎◌, [], Some, None, Ok, Err, IfSome, IsSome, pos};
+ghost use Rattle.live_law.specs.Views.{ask, got, inserted};
+ghost use Rattle.live_law.specs.Known.{MadeCall};
+ghost use Rattle.live_calls.specs.Exchanges.{exchange_of, compared};
+ghost use Rattle.live_calls.specs.Meetings.{SeenMore};
+ghost use Rattle.congee_live_c.specs.Answer.{oom, busy};
+
+mod handle;
+mod held;
+mod parts;
+mod room;
+
+pub use handle::Handle;
+use held::Held;
+use live_callers::caller::Caller;
+use live_calls::map::{Busy, Refusal};
+pub use room::Room;
+use std::alloc::Global;
+
+/// There was no memory.
+const OOM: i32 = -1;
+
+/// A writer came in between at each try.
+const BUSY: i32 = -2;
+
+/// Writes the first handle of a new, empty map to `out` and answers 0, or answers `OOM` and writes nothing.
+#[unsafe(no_mangle)]
+pub extern "C" fn congee_c_live_new(alloc: Global, out: &mut Room) -> i32
+    requires { out.old.held ≡ None }
+    ensures code { (result ≡ pos 0) ⊎ (result ≡ oom) }
+    ensures made { result ≡ pos 0 → IsSome out.new.held }
+    ensures unseen { result ≡ pos 0 → IfSome out.new.held (λ held. held.guard.seen ≡ []) }
+    ensures refused { result ≡ oom → out.new ≡ out.old }
+{
+    let Ok(guard) = Caller::first(alloc) else {
+        return OOM;
+    };
+    let Ok(handle) = Handle::new(alloc, Held { guard }) else {
+        return OOM;
+    };
+    *out = Room::of(handle);
+    0
+}
+
+/// Writes one more handle of the map to `out` and answers 0, or answers `OOM`, writes nothing and changes nothing. Both
+/// handles have then seen one history, which begins with what this one had seen.
+#[unsafe(no_mangle)]
+pub extern "C" fn congee_c_live_another(alloc: Global, handle: &mut Handle, out: &mut Room) -> i32
+    requires { out.old.held ≡ None }
+    ensures code { (result ≡ pos 0) ⊎ (result ≡ oom) }
+    ensures made { result ≡ pos 0 → IsSome out.new.held }
+    ensures map { result ≡ pos 0 → IfSome out.new.held (λ held.
+        (held.guard.book ≡ handle.old.held.guard.book)
+        × (held.guard.caller ≢ handle.old.held.guard.caller)
+        × (held.guard.seen ≡ handle.new.held.guard.seen)) }
+    ensures seen { result ≡ pos 0 → SeenMore handle.old.held.guard handle.new.held.guard }
+    ensures refused { result ≡ oom → (out.new ≡ out.old) × (handle.new.held ≡ handle.old.held) }
+    ensures place { handle.new.ptr ≡ handle.old.ptr }
+{
+    let Ok(guard) = handle.as_mut().guard.beside() else {
+        return OOM;
+    };
+    let Ok(mut other) = Handle::new(alloc, Held { guard }) else {
+        return OOM;
+    };
+    handle.as_mut().guard.meet(&mut other.as_mut().guard);
+    *out = Room::of(other);
+    0
+}
+
+/// Frees the handle, and the map with its last one.
+#[unsafe(no_mangle)]
+pub extern "C" fn congee_c_live_free(handle: Handle) {
+    handle.free();
+}
+
+/// Writes the value at the key to `value` and answers 1, or answers 0 or `BUSY`. Takes no memory and no lock.
+#[unsafe(no_mangle)]
+pub extern "C" fn congee_c_live_get(handle: &mut Handle, key: u64, value: &mut u64) -> i32
+    ensures code { (result ≡ pos 0) ⊎ (result ≡ pos 1) ⊎ (result ≡ busy) }
+    ensures present { result ≡ pos 1 → MadeCall handle.old.held.guard
+        (got (ask handle.old.held.guard.caller key 0 0) (Some value.new)) handle.new.held.guard }
+    ensures absent { result ≡ pos 0 → MadeCall handle.old.held.guard
+        (got (ask handle.old.held.guard.caller key 0 0) None) handle.new.held.guard }
+    ensures missed { result ≡ busy → handle.new.held ≡ handle.old.held }
+    ensures kept { result ≢ pos 1 → value.new ≡ value.old }
+    ensures place { handle.new.ptr ≡ handle.old.ptr }
+{
+    match handle.as_mut().guard.get(key) {
+        Ok(Some(found)) => {
+            *value = found;
+            1
+        }
+        Ok(None) => 0,
+        Err(Busy) => BUSY,
+    }
+}
+
+/// Sets the key's value. Answers 0 for a new key, and 1 for a present one, whose previous value is written to `before`;
+/// or `BUSY`; or `OOM`.
+#[unsafe(no_mangle)]
+pub extern "C" fn congee_c_live_insert(
+    alloc: Global,
+    handle: &mut Handle,
+    key: u64,
+    value: u64,
+    before: &mut u64,
+) -> i32
+    ensures code { (result ≡ pos 0) ⊎ (result ≡ pos 1) ⊎ (result ≡ busy) ⊎ (result ≡ oom) }
+    ensures present { result ≡ pos 1 → MadeCall handle.old.held.guard
+        (inserted (ask handle.old.held.guard.caller key value 1) (Some before.new))
+        handle.new.held.guard }
+    ensures absent { result ≡ pos 0 → MadeCall handle.old.held.guard
+        (inserted (ask handle.old.held.guard.caller key value 1) None) handle.new.held.guard }
+    ensures missed { (result ≡ busy) ⊎ (result ≡ oom) → handle.new.held ≡ handle.old.held }
+    ensures kept { result ≢ pos 1 → before.new ≡ before.old }
+    ensures place { handle.new.ptr ≡ handle.old.ptr }
+{
+    match handle.as_mut().guard.insert(alloc, key, value) {
+        Ok(Some(old)) => {
+            *before = old;
+            1
+        }
+        Ok(None) => 0,
+        Err(Refusal::Busy) => BUSY,
+        Err(Refusal::OutOfMemory) => OOM,
+    }
+}
+
+/// If the key's value is `expected`, replaces it by `desired` and answers 1. If it is another, writes it to `found` and
+/// answers 2. If the key is absent, answers 0. Or answers `BUSY`. Takes no memory.
+#[unsafe(no_mangle)]
+pub extern "C" fn congee_c_live_compare_exchange(
+    handle: &mut Handle,
+    key: u64,
+    expected: u64,
+    desired: u64,
+    found: &mut u64,
+) -> i32
+    ensures code { (result ≡ pos 0) ⊎ (result ≡ pos 1) ⊎ (result ≡ pos 2) ⊎ (result ≡ busy) }
+    ensures absent { result ≡ pos 0 → MadeCall handle.old.held.guard
+        (compared (exchange_of handle.old.held.guard.caller key expected desired) (Err None))
+        handle.new.held.guard }
+    ensures same { result ≡ pos 1 → MadeCall handle.old.held.guard
+        (compared (exchange_of handle.old.held.guard.caller key expected desired)
+        (Ok (Some desired))) handle.new.held.guard }
+    ensures other { result ≡ pos 2 → MadeCall handle.old.held.guard
+        (compared (exchange_of handle.old.held.guard.caller key expected desired)
+        (Err (Some found.new))) handle.new.held.guard }
+    ensures missed { result ≡ busy → handle.new.held ≡ handle.old.held }
+    ensures kept { result ≢ pos 2 → found.new ≡ found.old }
+    ensures place { handle.new.ptr ≡ handle.old.ptr }
+{
+    let guard = &mut handle.as_mut().guard;
+    match guard.compare_exchange(key, expected, desired) {
+        Ok(Ok(_)) => 1,
+        Ok(Err(None)) => 0,
+        Ok(Err(Some(current))) => {
+            *found = current;
+            2
+        }
+        Err(Busy) => BUSY,
+    }
+}

@@ -1,0 +1,107 @@
+//! A caller of a map. The map lives as long as its last caller.
+//!
+//! Tested in `tools/c-library`.
+
+ghost use Rattle.std.specs.Prelude.{◌≡◌, ◌≢◌, [], Some, IfOk, OnErr};
+ghost use Rattle.live_law.specs.Views.{ask, got, inserted};
+ghost use Rattle.live_law.specs.Known.{MadeCall};
+ghost use Rattle.live_calls.specs.Exchanges.{exchange_of, compared};
+ghost use Rattle.live_calls.specs.Meetings.{SeenMore};
+
+use live_calls::map::{Busy, Congee, Guard, Refusal};
+use spec_map::error::OOMError;
+use std::alloc::Global;
+use std::marker::Model;
+use std::sync::Arc;
+
+/// A caller of a map. Contracts see which map, the caller's number, and the history that it has seen.
+#[derive(Drop)]
+pub struct Caller {
+    map: Arc<Congee>,
+    guard: Guard,
+}
+
+impl Model for Caller {
+    ghost use Rattle.std.specs.Prelude.{◌≡◌};
+    ghost use Rattle.std.specs.Arc.{arc_value};
+    ghost use Rattle.live_law.specs.Known.{Known};
+
+    ghost Value = { Known };
+
+    ghost view = { λ c. c.guard };
+
+    ghost invariant = { λ c. c.guard.book ≡ arc_value c.map };
+}
+
+impl Caller {
+    /// The first caller of a new, empty map. It has seen nothing. `OOMError` if there is no memory for the map, whose root
+    /// has 2,104 bytes.
+    pub fn first(alloc: Global) -> Result<Caller, OOMError>
+        ensures { IfOk result (λ first. first.seen ≡ []) }
+    {
+        let made = Congee::new(alloc)?;
+        let Ok(map) = Arc::new(alloc, made) else {
+            return Err(OOMError::new());
+        };
+        let guard = map.pin();
+        Ok(Caller { map, guard })
+    }
+
+    /// One more caller of the map, which has seen nothing yet. `OOMError` where there are too many callers to count.
+    pub fn beside(&self) -> Result<Caller, OOMError>
+        ensures { IfOk result (λ other. (other.book ≡ self.now.book) × (other.seen ≡ [])) }
+    {
+        let Ok(map) = Arc::try_clone(&self.map) else {
+            return Err(OOMError::new());
+        };
+        let guard = map.pin();
+        Ok(Caller { map, guard })
+    }
+
+    /// Two callers of one map meet. Both have then seen one legal history, which begins with what each had seen.
+    pub fn meet(&mut self, other: &mut Caller)
+        requires map { self.old.book ≡ other.old.book }
+        ensures first { SeenMore self.old self.new }
+        ensures second { SeenMore other.old other.new }
+        ensures one { self.new.seen ≡ other.new.seen }
+        ensures differ { self.old.caller ≢ other.old.caller }
+    {
+        self.guard.meet(&mut other.guard);
+    }
+
+    /// The value of a key. `Busy` if too many writers came in between: then nothing has changed.
+    pub fn get(&mut self, key: u64) -> Result<Option<u64>, Busy>
+        ensures made { IfOk result (λ found. MadeCall self.old
+            (got (ask self.old.caller key 0 0) found) self.new) }
+        ensures busy { OnErr result (self.new ≡ self.old) }
+    {
+        self.map.get(&mut self.guard, key)
+    }
+
+    /// Gives a key a value, and returns the one before. `Busy` if too many writers came in between, and `OutOfMemory` if
+    /// memory was missing: then the pairs are as they were.
+    pub fn insert(&mut self, alloc: Global, key: u64, value: u64) -> Result<Option<u64>, Refusal>
+        ensures made { IfOk result (λ old. MadeCall self.old
+            (inserted (ask self.old.caller key value 1) old) self.new) }
+        ensures refused { OnErr result (self.new ≡ self.old) }
+    {
+        self.map.insert(alloc, &mut self.guard, key, value)
+    }
+
+    /// Replaces a key's value by `new`, if it is `old`. `Ok` with the new value, or `Err` with the current one, or with
+    /// `None` where the key is absent. Takes no memory. `Busy` if too many writers came in between: then nothing has
+    /// changed.
+    pub fn compare_exchange(
+        &mut self,
+        key: u64,
+        old: u64,
+        new: u64,
+    ) -> Result<Result<Option<u64>, Option<u64>>, Busy>
+        ensures made { IfOk result (λ answer. MadeCall self.old
+            (compared (exchange_of self.old.caller key old new) answer) self.new) }
+        ensures stored { IfOk result (λ answer. IfOk answer (λ stored. stored ≡ Some new)) }
+        ensures busy { OnErr result (self.new ≡ self.old) }
+    {
+        self.map.compare_exchange(&mut self.guard, key, old, new)
+    }
+}

@@ -1,0 +1,3 @@
+pub mod Closures
+pub mod Entries
+pub mod inner

@@ -1,0 +1,116 @@
+//! A key that is absent gets a value.
+ghost use Rattle.std.specs.Prelude.{◌≡◌, ℕ, Some, None, IfOk, OnErr};
+ghost use Rattle.live_calls.specs.Stands.{Stands};
+ghost use Rattle.live_calls.specs.Calls.{IsReady};
+ghost use Rattle.live_updates.specs.inner.Updates.{IsUpdate};
+ghost use Rattle.live_computes.specs.inner.Ends.{Tries, Enters};
+
+use live_calls::insert::{End, Stand, descend, enlarge, extend, reserve};
+use live_calls::link::Room;
+use live_calls::map::{Refusal, TRIES};
+use live_calls::split::split;
+use live_calls::way::{Nodes, Pass};
+use live_updates::leaf::{Missed, Updates, update_here};
+use std::alloc::Global;
+use std::marker::Brand;
+
+/// How a try ends: the key has the value, it has another one already, or it is to be tried again.
+#[derive(Clone, Copy, Debug, PartialEq, Eq)]
+pub enum Tried {
+    Entered,
+    Present,
+    Again,
+}
+
+/// Gives an absent key of a leaf a value, or makes room there for it.
+fn enter_at<U: Updates>(
+    nodes: &Nodes,
+    stand: Stand,
+    key: u64,
+    value: u64,
+    room: &mut Room,
+    pass: &mut Pass,
+) -> Tried
+    requires book { pass.old.book ≡ nodes.now }
+    requires asks { (U.update.key ≡ key) × (U.update.caller ≡ pass.old.id) }
+    requires values { (U.update.old ≡ None) × (U.update.new ≡ Some value) }
+    requires legal { IsUpdate U.update }
+    requires ready { IsReady pass.old.view room.old.start room.old.left }
+    requires stands { Stands pass.old.view key stand }
+    requires leaf { stand.height ≡ 1 }
+    ensures told { (pass.new.book ≡ pass.old.book) × (pass.new.id ≡ pass.old.id)
+        × IsReady pass.new.view room.new.start room.new.left
+        × Tries U.update result pass.old.view pass.new.view }
+{
+    match update_here::<U>(nodes, stand.name, key, None, Some(value), pass) {
+        None => Tried::Entered,
+        Some(Missed::Changed) => Tried::Present,
+        Some(Missed::Full) => {
+            enlarge(nodes, stand, key, room, pass);
+            Tried::Again
+        }
+        Some(Missed::Busy) => Tried::Again,
+    }
+}
+
+/// Gives an absent key a value, or comes nearer to it by a node.
+fn enter_once<U: Updates>(
+    nodes: &Nodes,
+    key: u64,
+    value: u64,
+    room: &mut Room,
+    pass: &mut Pass,
+) -> Tried
+    requires book { pass.old.book ≡ nodes.now }
+    requires asks { (U.update.key ≡ key) × (U.update.caller ≡ pass.old.id) }
+    requires values { (U.update.old ≡ None) × (U.update.new ≡ Some value) }
+    requires legal { IsUpdate U.update }
+    requires ready { IsReady pass.old.view room.old.start room.old.left }
+    ensures told { (pass.new.book ≡ pass.old.book) × (pass.new.id ≡ pass.old.id)
+        × IsReady pass.new.view room.new.start room.new.left
+        × Tries U.update result pass.old.view pass.new.view }
+{
+    let Some(End { stand, fork }) = descend(nodes, key, pass) else {
+        return Tried::Again;
+    };
+    if let Some(fork) = fork {
+        let _ = split::<Brand>(nodes, stand.name, stand.height, fork, key, room, pass);
+        return Tried::Again;
+    }
+    if stand.height > 1 {
+        extend(nodes, stand, key, room, pass);
+        return Tried::Again;
+    }
+    enter_at::<U>(nodes, stand, key, value, room, pass)
+}
+
+/// Gives an absent key a value. `false` where it has one already.
+pub fn enter<U: Updates>(
+    nodes: &Nodes,
+    alloc: Global,
+    key: u64,
+    value: u64,
+    room: &mut Room,
+    pass: &mut Pass,
+) -> Result<bool, Refusal>
+    requires book { pass.old.book ≡ nodes.now }
+    requires asks { (U.update.key ≡ key) × (U.update.caller ≡ pass.old.id) }
+    requires values { (U.update.old ≡ None) × (U.update.new ≡ Some value) }
+    requires legal { IsUpdate U.update }
+    requires ready { IsReady pass.old.view room.old.start room.old.left }
+    ensures told { (pass.new.book ≡ pass.old.book) × (pass.new.id ≡ pass.old.id)
+        × IsReady pass.new.view room.new.start room.new.left
+        × Enters U.update result pass.old.view pass.new.view }
+{
+    for _ in 0..TRIES {
+        if reserve(nodes, alloc, room, pass).is_err() {
+            return Err(Refusal::OutOfMemory);
+        }
+        match enter_once::<U>(nodes, key, value, room, pass) {
+            Tried::Entered => return Ok(true),
+            Tried::Present => return Ok(false),
+            Tried::Again => {}
+        }
+    }
+    Err(Refusal::Busy)
+}

@@ -1,0 +1,3 @@
+pub mod BestLaws
+pub mod ChildLaws
+pub mod PageLaws

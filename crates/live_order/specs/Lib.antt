@@ -1,0 +1,3 @@
+pub mod Order
+pub mod Page
+pub mod inner

@@ -1,0 +1,6 @@
+pub mod Uppers
+pub mod Wholes
+pub mod Composed
+pub mod Nones
+pub mod Passes
+pub mod Pages

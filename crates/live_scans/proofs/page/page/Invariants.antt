@@ -1,0 +1,21 @@
+use Rattle.std.proofs.Common.{◌≡◌, ◌⊎◌, ◌+◌, ◌-◌, ◌%◌, ◌<◌, ◌≤◌, true, take, length}
+use Rattle.share_rule.specs.inner.Rule.{HasSeen}
+use Rattle.live_calls.specs.Ways.{Keeps}
+use Rattle.live_scans.specs.Scans.{HasRead}
+use Rattle.live_scans.proofs.page.page.Given as goal
+
+abbrev pub invariant-loop-step : goal.invariant-loop-step
+invariant-loop-step l = record {
+  book : l.pass.book ≡ l.fn.pass.book;
+  id : l.pass.id ≡ l.fn.pass.id;
+  keeps : Keeps l.fn.pass.view l.pass.view;
+  seen : HasSeen l.pass.view.client.seen l.fn.pass.id l.fn.pass.view.client.seen;
+  room : l.count < length l.buffer;
+  low : l.key ≤ l.from;
+  high : l.from ≤ l.limit;
+  seam : (l.from % 256 ≡ 0) ⊎ (l.key ≡ l.from);
+  read : HasRead true l.fn.pass.view.client.seen l.pass.view.client.seen l.key l.from (take l.count l.buffer);
+}
+
+abbrev pub decreases-loop-step : goal.decreases-loop-step
+decreases-loop-step l = l.limit + 1 - l.from

@@ -1,0 +1,71 @@
+-- What a seat learns at one moment of many keys.
+use Rattle.std.specs.Prelude.{◌≡◌, ◌≢◌, ℕ, ◌+◌, ◌-◌, ◌*◌, ◌%◌, ◌<◌, ◌≤◌, true, nat_eq, List, [], length, Option, Some, None}
+use Rattle.spec_map.specs.Map.{Pairs, lookup}
+use Rattle.node_table.specs.TableNode.{TableNode, Child}
+use Rattle.node_table.specs.declared.child.Child.TheVariants as below
+use Rattle.share_rule.specs.History.{IsHistory, IsLegalHistory}
+use Rattle.share_rule.specs.inner.Rule.{HasSeen}
+use Rattle.live_nodes.specs.Nodes.{Content}
+use Rattle.live_nodes.specs.Seats.{Place, SeatView, IsIn, Agree}
+use Rattle.live_encodes.specs.Encodes.{Encodes}
+use Rattle.live_law.specs.Levels.{up, digit, name_of, Covers, Spot}
+use Rattle.live_law.specs.Views.{View, view_of}
+use Rattle.live_law.specs.Tree.{IsOfKind}
+use Rattle.live_scans.specs.Scans.{HasRead}
+
+-- What a map has at a key, by what a node has under the key's digit. If that is a node without such keys, it has nothing.
+abbrev pub HasUnder : List Spot → Pairs ℕ → ℕ → Option (Child ℕ) → Type 0
+HasUnder met m k None = lookup m k ≡ None
+HasUnder met m k (Some (below.Payload x)) = lookup m k ≡ Some x
+HasUnder met m k (Some (below.Node s)) = (b : Spot) → IsIn b met → s ≡ name_of b.shape → (Covers b.shape k → ⊥) → lookup m k ≡ None
+
+-- A NODE was read: the map has at this moment what the node has, at all keys that begin like it.
+pub record IsRead (caller : ℕ) (v : View) (a : Spot) (saw : List (ℕ × ℕ)) (w : View) : Type 0 where
+  pub content : Content
+  pub its : TableNode ℕ
+  pub agrees : Agree content saw
+  pub encodes : Encodes content its
+  pub in_form : its.form ≡ a.shape.form
+  pub deep : length its.prefix + a.shape.height ≡ 8
+  pub of_kind : (b : ℕ) → b < 256 → IsOfKind a.shape.height (lookup its.children b)
+  pub is : w ≡ view_of w.seen v.met v.own
+  pub fits : HasSeen w.seen caller v.seen
+  pub pairs : Pairs ℕ
+  pub legal : IsHistory nat_eq w.seen pairs
+  pub under : (k : ℕ) → Covers a.shape k → HasUnder v.met pairs k (lookup its.children (digit a.shape.height k))
+
+abbrev pub LearnsAll : ℕ → View → ℕ → ℕ → List (ℕ × ℕ) → List Place → View → Type 0
+LearnsAll caller v k word saw ps w = (a : Spot) → IsIn a v.met → a.number ≡ k → IsRead caller v a saw w
+
+-- Of these keys the map has none at this moment.
+pub record HasNone (caller : ℕ) (v w : SeatView View) (Is : ℕ → Type 0) : Type 0 where
+  pub fits : HasSeen w.client.seen caller v.client.seen
+  pub pairs : Pairs ℕ
+  pub legal : IsHistory nat_eq w.client.seen pairs
+  pub none : (k : ℕ) → Is k → lookup pairs k ≡ None
+
+-- Nothing was found up to that byte from the first on.
+abbrev pub IsByteBefore : Option (ℕ × ℕ) → ℕ → Option ℕ → Type 0
+IsByteBefore found first None = Unit {0}
+IsByteBefore None first (Some b) = b ≡ 255
+IsByteBefore (Some e) first (Some b) = (first < e.0) × (b + 1 ≡ e.0)
+
+-- keys that begin like this one down to a height, and have there a byte from its own up to this one
+abbrev pub IsWithin : ℕ → ℕ → ℕ → ℕ → Type 0
+IsWithin height key b k = (up height k ≡ up height key) × (digit height key ≤ digit height k) × (digit height k ≤ b)
+
+-- keys that begin like this one below a height, and don't have that byte at a lower one
+abbrev pub IsBeside : ℕ → ℕ → ℕ → ℕ → ℕ → Type 0
+IsBeside height key at b k = (up (height - 1) k ≡ up (height - 1) key) × (up (at - 1) k ≢ 256 * up at key + b)
+
+-- THE SEAT READ ON: these keys, and found these pairs.
+pub record ReadsOn (caller : ℕ) (v w : SeatView View) (low high : ℕ) (pairs : Pairs ℕ) : Type 0 where
+  pub fits : HasSeen w.client.seen caller v.client.seen
+  pub legal : IsLegalHistory nat_eq w.client.seen
+  pub read : HasRead true v.client.seen w.client.seen low high pairs
+
+-- It read on to a key, and found nothing. That is the last key of a leaf, whether there is one or not.
+pub record IsPassed (caller : ℕ) (v w : SeatView View) (key last : ℕ) : Type 0 where
+  pub low : key ≤ last
+  pub seam : (last + 1) % 256 ≡ 0
+  pub reads : ReadsOn caller v w key (last + 1) []

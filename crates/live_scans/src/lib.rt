@@ -1,0 +1,15 @@
+//! Readers of many keys of a map that threads read without a lock.
+//!
+//! A reader goes down from the root for each leaf. At the check of a node's version word it learns what the map has then at
+//! all keys that begin like the node. So a leaf gives its pairs, and a node above shows which keys aren't there.
+//!
+//! Tested in `test_live_scans`.
+#![tactic(auto)]
+
+pub mod keys;
+pub mod laws;
+pub mod lesson;
+pub mod page;
+pub mod scans;
+pub mod seek;
+pub mod steps;

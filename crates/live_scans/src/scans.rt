@@ -1,0 +1,79 @@
+//! The calls that read many keys. Each is made by a guard of the map, and enters nothing in the history.
+ghost use Rattle.std.specs.Prelude.{◌≡◌, ℕ, ◌+◌, ◌≤◌, length, take, IfOk, OnErr};
+ghost use Rattle.live_scans.specs.Scans.{EntersNothing, HasPage, HasNext};
+
+use crate::page::page;
+use live_calls::map::{Busy, Congee, Guard};
+
+/// Writes the pairs with keys from `first` to `last`, ascending, into the buffer, as many as there are or as fit. How many
+/// there are. It takes no memory, and what follows in the buffer is unspecified.
+pub fn range_inclusive(
+    map: &Congee,
+    guard: &mut Guard,
+    first: u64,
+    last: u64,
+    buffer: &mut [(u64, u64)],
+) -> Result<usize, Busy>
+    requires map { guard.old.book ≡ map.now }
+    ensures count { IfOk result (λ count. count ≤ length buffer.old) }
+    ensures page { IfOk result (λ count. HasPage guard.old first (last + 1) (length buffer.old)
+        (take count buffer.new) guard.new) }
+    ensures busy { OnErr result (EntersNothing guard.old guard.new) }
+{
+    if first > last {
+        return Ok(0);
+    }
+    if buffer.is_empty() {
+        return Ok(0);
+    }
+    match page(&map.nodes, first, last, buffer, &mut guard.pass) {
+        Some(step) => Ok(step.count),
+        None => Err(Busy),
+    }
+}
+
+/// The same without `end`.
+pub fn range(
+    map: &Congee,
+    guard: &mut Guard,
+    start: u64,
+    end: u64,
+    buffer: &mut [(u64, u64)],
+) -> Result<usize, Busy>
+    requires map { guard.old.book ≡ map.now }
+    ensures count { IfOk result (λ count. count ≤ length buffer.old) }
+    ensures page { IfOk result (λ count. HasPage guard.old start end (length buffer.old)
+        (take count buffer.new) guard.new) }
+    ensures busy { OnErr result (EntersNothing guard.old guard.new) }
+{
+    if end == 0 {
+        return Ok(0);
+    }
+    range_inclusive(map, guard, start, end - 1, buffer)
+}
+
+/// The pair with the least key that is at least this one.
+pub fn ceiling(map: &Congee, guard: &mut Guard, key: u64) -> Result<Option<(u64, u64)>, Busy>
+    requires map { guard.old.book ≡ map.now }
+    ensures next { IfOk result (λ found. HasNext guard.old key found guard.new) }
+    ensures busy { OnErr result (EntersNothing guard.old guard.new) }
+{
+    let mut one = [(0u64, 0u64)];
+    let count = range_inclusive(map, guard, key, u64::MAX, &mut one)?;
+    if count == 0 {
+        return Ok(None);
+    }
+    Ok(Some(one[0]))
+}
+
+/// The pair with the least key that is above this one.
+pub fn above(map: &Congee, guard: &mut Guard, key: u64) -> Result<Option<(u64, u64)>, Busy>
+    requires map { guard.old.book ≡ map.now }
+    ensures next { IfOk result (λ found. HasNext guard.old (key + 1) found guard.new) }
+    ensures busy { OnErr result (EntersNothing guard.old guard.new) }
+{
+    if key == u64::MAX {
+        return Ok(None);
+    }
+    ceiling(map, guard, key + 1)
+}

@@ -1,0 +1,68 @@
+-- What a look-up learns at a node by the law.
+use Rattle.std.proofs.Common.{◌≡◌, ℕ, zero, suc, ◌*◌, ◌<◌, List, [], ◌∷◌, ◌++◌, set, Option, Some, None, refl, sym, ◌∙◌, subst, arith}
+use mathlib.Core.Option.{some}
+use mathlib.Core.Logic.{dite}
+use native.Mathlib.Decide.{ℕ_discrete}
+use lib.ListN.{get_elem?}
+use Rattle.node_table.specs.TableNode.{Child}
+use Rattle.node_table.specs.declared.child.Child.TheVariants.{Payload, Node as Below}
+use Rattle.spec_map.specs.Map.{lookup}
+use Rattle.share_rule.specs.History.{Entry}
+use Rattle.share_rule.specs.inner.Rule.{HasSeen}
+use Rattle.live_nodes.specs.Acts as acts
+use Rattle.live_nodes.specs.Nodes.{Node}
+use Rattle.live_nodes.specs.Rule.{PlaceFits}
+use Rattle.live_nodes.specs.Seats.{Each, IsIn, Place}
+use Rattle.live_law.specs.Levels.{up, digit, Shape, Covers, Spot}
+use Rattle.live_law.specs.Views.{View, view_of}
+use Rattle.live_law.specs.Tree.{IsUnder, IsMap, LearnsNode}
+use Rattle.live_law.proofs.Looks.{at_leaf, at_inner, same_met, node_learns}
+use Rattle.live_law.proofs.Plans.{none_there, missed}
+use Rattle.live_calls.proofs.Compared.{same_view, with_entry}
+use Rattle.live_updates.specs.inner.Lookups.{Lookup, asked_by, IsLookup, MayEnd, Seeks}
+
+-- A seat's call may end by a value that is the key's.
+module _ (ns : List Node) (vs : List View) (id : ℕ) (p : IsMap ns vs) (v : View) (seat : get_elem? vs id ≡ some v) (q : Lookup) (is : IsLookup q) (by : q.caller ≡ id) (found : Option ℕ) (has : lookup p.pairs q.key ≡ found) where
+  abbrev Ends : Option (Entry ℕ) → Type 0
+  Ends o = (w : View) × IsMap ns (set vs id w) × MayEnd q.caller o v w
+
+  ends_by : (o : Option (Entry ℕ)) → q.entry found ≡ o → Ends o
+  ends_by None e = (v, same_view ns vs id p v seat, refl)
+  ends_by (Some x) e =
+      let k = p.each_view id v seat in
+      let legal = is.legal found x e p.history p.pairs p.legal has in (
+        view_of (p.history ++ x ∷ []) v.met v.own,
+        with_entry ns vs id p v seat x (is.by found x e ∙ by) legal,
+        record {
+          is = refl;
+          answers = record { whole = p.history; is = refl; fits = subst (λ (c : ℕ). HasSeen p.history c v.seen) (sym by) k.seen; legal = (p.pairs, legal) };
+        },
+      )
+
+  pub ends : Ends (q.entry found)
+  ends = ends_by (q.entry found) refl
+
+-- A NODE WAS READ on the way of a key
+module _ (q : Lookup) (law : IsLookup q) (id : ℕ) (by : q.caller ≡ id) (v : View) (a : Spot) (mine : IsIn a v.met) (word : ℕ) (saw : List (ℕ × ℕ)) (m : ℕ) (even : word ≡ 4 * m) where
+  abbrev Owes : List Node → List View → Option (Child ℕ) → Type 0
+  Owes ns vs o = (ps : List Place) × Each (PlaceFits ns) ps × ((w : View) × IsMap ns (set vs id w) × Seeks q (asked_by q) v a o ps w)
+
+  module _ (ns : List Node) (vs : List View) (p : IsMap ns vs) (seat : get_elem? vs id ≡ some v) where
+    seeks : (height top : ℕ) (o : Option (Child ℕ)) → height ≡ a.shape.height → height < 9 → up height q.key ≡ top → IsUnder p.plan p.pairs height top (digit height q.key) o → Owes ns vs o
+    seeks zero top o at_h l is u = absurd u
+    seeks (suc zero) top None at_h l is u = ([], tt, ends ns vs id p v seat q law by None (at_leaf p.plan ns p.pairs p.tree q.key top None is u))
+    seeks (suc zero) top (Some (Payload y)) at_h l is u = ([], tt, ends ns vs id p v seat q law by (Some y) (at_leaf p.plan ns p.pairs p.tree q.key top (Some (Payload y)) is u))
+    seeks (suc zero) top (Some (Below s)) at_h l is u = absurd u
+    seeks (suc (suc h)) top None at_h l is u =
+        ([], tt, ends ns vs id p v seat q law by None (none_there p.plan ns p.pairs p.tree h q.key (omega (arith, l)) (at_inner p.plan ns p.pairs p.tree q.key h top None is u)))
+    seeks (suc (suc h)) top (Some (Payload y)) at_h l is u = absurd u
+    seeks (suc (suc h)) top (Some (Below s)) at_h l is u =
+        let leads = at_inner p.plan ns p.pairs p.tree q.key h top (Some (Below s)) is u in
+        let j : ℕ = p.plan.home (suc h) (up (suc h) q.key) in
+        let house = p.tree.housed (suc h) (up (suc h) q.key) leads.0 in
+        dite (ℕ_discrete (up (p.plan.shape j).height q.key) (p.plan.shape j).top)
+        (λ covers. ([], tt, (v, same_view ns vs id p v seat, (λ b known named never. absurd (never (subst (λ (z : Shape). Covers z q.key) (sym (same_met (asked_by q) id by v a mine word saw m even ns vs p seat b known j leads.0 house.low (sym named ∙ leads.1))) covers))))))
+        (λ ne. let r = ends ns vs id p v seat q law by None (missed p.plan ns p.pairs p.tree h q.key j (omega (arith, l)) leads.0 refl ne) in ([], tt, (r.0, r.1, (λ b known named never. r.2))))
+
+  pub node_seeks : acts.Learns IsMap id v a.number word saw (LearnsNode (Seeks q) (asked_by q) v a.number word saw)
+  node_seeks = node_learns (asked_by q) id by v a mine word saw m even (Seeks q) seeks

@@ -1,0 +1,88 @@
+-- LOOK-UPS of a key, which may end a call.
+use Rattle.std.specs.Prelude.{◌≡◌, ℕ, nat_eq, List, [], ◌∷◌, ◌++◌, Option, Some, None, Result, Ok, Err}
+use Rattle.node_table.specs.TableNode.{Child}
+use Rattle.node_table.specs.declared.child.Child.TheVariants.{Payload, Node}
+use Rattle.spec_map.specs.Legal.{exchange}
+use Rattle.spec_map.specs.Map.{Pairs, lookup}
+use Rattle.share_rule.specs.History.{Entry, IsHistory}
+use Rattle.live_nodes.specs.Seats.{Place, SeatView, IsIn}
+use Rattle.live_law.specs.Levels.{Spot, name_of, Covers}
+use Rattle.live_law.specs.Views.{View, view_of, Ask, ask}
+use Rattle.live_law.specs.Tree.{Answers}
+use Rattle.live_calls.specs.Ways.{Names}
+use Rattle.live_updates.specs.Entries.{removed, swapped}
+use Rattle.live_updates.specs.declared.lookup.Site.{Site}
+use Rattle.live_updates.specs.declared.lookup.Site.TheVariants as sites
+
+-- who looks for which key, and by which entry the call ends that finds this value. There may be none: then it goes on
+pub record Lookup : Type 0 where
+  pub caller : ℕ
+  pub key : ℕ
+  pub entry : Option ℕ → Option (Entry ℕ)
+
+abbrev pub lookup_of : ℕ → ℕ → (Option ℕ → Option (Entry ℕ)) → Lookup
+lookup_of c k entry = record { caller = c; key = k; entry = entry }
+
+abbrev pub asked_by : Lookup → Ask
+asked_by q = ask q.caller q.key 0 1
+
+-- Its entries are the caller's, and leave a map as it is in which the key has that value.
+pub record IsLookup (q : Lookup) : Type 0 where
+  pub by : (found : Option ℕ) (e : Entry ℕ) → q.entry found ≡ Some e → e.caller ≡ q.caller
+  pub legal : (found : Option ℕ) (e : Entry ℕ) → q.entry found ≡ Some e → (history : List (Entry ℕ)) (m : Pairs ℕ) → IsHistory nat_eq history m → lookup m q.key ≡ found
+      → IsHistory nat_eq (history ++ e ∷ []) m
+
+-- The call has ended by this entry.
+pub record HasEnded (caller : ℕ) (e : Entry ℕ) (v w : View) : Type 0 where
+  pub is : w ≡ view_of w.seen v.met v.own
+  pub answers : Answers caller e v.seen w.seen
+
+-- It has ended, if it ends there, or the caller knows no more.
+abbrev pub MayEnd : ℕ → Option (Entry ℕ) → View → View → Type 0
+MayEnd c None v w = w ≡ v
+MayEnd c (Some e) v w = HasEnded c e v w
+
+-- A NODE was read where the way ends: in a leaf, where nothing is below, or above a node without such keys.
+abbrev pub Seeks : Lookup → Ask → View → Spot → Option (Child ℕ) → List Place → View → Type 0
+Seeks q a v s None ps w = MayEnd q.caller (q.entry None) v w
+Seeks q a v s (Some (Payload y)) ps w = MayEnd q.caller (q.entry (Some y)) v w
+Seeks q a v s (Some (Node n)) ps w = (b : Spot) → IsIn b v.met → n ≡ name_of b.shape → (Covers b.shape a.key → ⊥) → MayEnd q.caller (q.entry None) v w
+
+-- What a leaf has, or nothing, where a writer came in between.
+abbrev pub Found : Lookup → Option (Option ℕ) → SeatView View → SeatView View → Type 0
+Found q None v w = w.client ≡ v.client
+Found q (Some found) v w = MayEnd q.caller (q.entry found) v.client w.client
+
+-- The call has ended, if it ends there, or the seat has seen no more.
+abbrev pub EndsBy : ℕ → Option (Entry ℕ) → SeatView View → SeatView View → Type 0
+EndsBy c None v w = w.client.seen ≡ v.client.seen
+EndsBy c (Some e) v w = Answers c e v.client.seen w.client.seen
+
+-- The key is absent, or is in a leaf. Nothing is known where a writer came in between.
+abbrev pub Sought : Lookup → Option Site → SeatView View → SeatView View → Type 0
+Sought q None v w = w.client.seen ≡ v.client.seen
+Sought q (Some sites.Absent) v w = EndsBy q.caller (q.entry None) v w
+Sought q (Some (sites.At name x)) v w = EndsBy q.caller (q.entry (Some x)) v w × Names w name q.key 1
+
+-- A removal ends where the key is absent.
+abbrev pub removal : ℕ → ℕ → Option ℕ → Option (Entry ℕ)
+removal c k None = Some (removed c k None)
+removal c k (Some x) = None
+
+-- who calls, with which key, the value that it expects there, and what it gives for it
+pub record Swap : Type 0 where
+  pub caller : ℕ
+  pub key : ℕ
+  pub old : ℕ
+  pub new : Option ℕ
+
+abbrev pub swap_of : ℕ → ℕ → ℕ → Option ℕ → Swap
+swap_of c k old new = record { caller = c; key = k; old = old; new = new }
+
+-- An exchange ends where it fails.
+abbrev pub failure : (Result (Option ℕ) (Option ℕ) → Entry ℕ) → Result (Option ℕ) (Option ℕ) → Option (Entry ℕ)
+failure entry (Ok stored) = None
+failure entry (Err current) = Some (entry (Err current))
+
+abbrev pub exchange_fails : Swap → Option ℕ → Option (Entry ℕ)
+exchange_fails x found = failure (swapped x.caller x.key x.old x.new) (exchange nat_eq found x.old x.new)

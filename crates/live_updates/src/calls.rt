@@ -1,0 +1,120 @@
+//! Removals and exchanges.
+ghost use Rattle.std.specs.Prelude.{◌≡◌, ℕ, [], IfOk, IfSome, OnErr};
+ghost use Rattle.std.specs.Option.{option_map};
+ghost use Rattle.live_law.specs.Known.{MadeCall};
+ghost use Rattle.live_calls.specs.Ways.{KnowsTrunk};
+ghost use Rattle.live_calls.specs.Calls.{IsReady};
+ghost use Rattle.live_updates.specs.Entries.{removed, swapped};
+ghost use Rattle.live_updates.specs.inner.Lookups.{swap_of, EndsBy};
+
+use crate::leaf::update_here;
+use crate::lookup::{Site, seek};
+use live_calls::map::{Busy, Congee, Guard, TRIES};
+use live_calls::way::{Nodes, Pass};
+use std::marker::Brand;
+
+/// An exchange: who makes it, with which key and values. A caller picks it.
+pub trait Swaps {
+    ghost use Rattle.live_updates.specs.inner.Lookups.{Swap};
+
+    ghost swap: { Swap };
+}
+
+impl Swaps for Brand {
+    ghost use Rattle.std.specs.Prelude.{None};
+    ghost use Rattle.live_updates.specs.inner.Lookups.{swap_of};
+
+    ghost swap = { swap_of 0 0 0 None };
+}
+
+/// Removes a key: the value that it had. `None` where a writer came in between.
+fn remove_once(nodes: &Nodes, key: u64, pass: &mut Pass) -> Option<Option<u64>>
+    requires book { pass.old.book ≡ nodes.now }
+    requires trunk { KnowsTrunk pass.old.view }
+    requires rests { (pass.old.view.client.own ≡ []) × (pass.old.view.holds ≡ []) }
+    ensures told { (pass.new.book ≡ pass.old.book) × (pass.new.id ≡ pass.old.id)
+        × ((start left : ℕ) → IsReady pass.old.view start left → IsReady pass.new.view start left)
+        × EndsBy pass.old.id (option_map (removed pass.old.id key) result)
+        pass.old.view pass.new.view }
+{
+    match seek::<Brand>(nodes, key, pass)? {
+        Site::Absent => Some(None),
+        Site::At(leaf, value) => {
+            if update_here::<Brand>(nodes, leaf, key, Some(value), None, pass).is_some() {
+                return None;
+            }
+            Some(Some(value))
+        }
+    }
+}
+
+/// Replaces a key's value, or removes it, if it is the expected one. `None` where a writer came in between.
+fn exchange_once<X: Swaps>(
+    nodes: &Nodes,
+    key: u64,
+    old: u64,
+    new: Option<u64>,
+    pass: &mut Pass,
+) -> Option<Result<Option<u64>, Option<u64>>>
+    requires book { pass.old.book ≡ nodes.now }
+    requires swap { X.swap ≡ swap_of pass.old.id key old new }
+    requires trunk { KnowsTrunk pass.old.view }
+    requires rests { (pass.old.view.client.own ≡ []) × (pass.old.view.holds ≡ []) }
+    ensures told { (pass.new.book ≡ pass.old.book) × (pass.new.id ≡ pass.old.id)
+        × ((start left : ℕ) → IsReady pass.old.view start left → IsReady pass.new.view start left)
+        × EndsBy pass.old.id (option_map (swapped pass.old.id key old new) result)
+        pass.old.view pass.new.view }
+    ensures stored { IfSome result (λ answer. IfOk answer (λ stored. stored ≡ new)) }
+{
+    match seek::<Brand>(nodes, key, pass)? {
+        Site::Absent => Some(Err(None)),
+        Site::At(leaf, value) => {
+            if value != old {
+                return Some(Err(Some(value)));
+            }
+            if update_here::<Brand>(nodes, leaf, key, Some(old), new, pass).is_some() {
+                return None;
+            }
+            Some(Ok(new))
+        }
+    }
+}
+
+/// Removes a key: the value that it had. Takes no memory, and gives none back: a leaf that is empty is used by later
+/// insertions.
+pub fn remove(map: &Congee, guard: &mut Guard, key: u64) -> Result<Option<u64>, Busy>
+    requires { guard.old.book ≡ map.now }
+    ensures made { IfOk result (λ before. MadeCall guard.old
+        (removed guard.old.caller key before) guard.new) }
+    ensures busy { OnErr result (guard.new ≡ guard.old) }
+{
+    for _ in 0..TRIES {
+        if let Some(before) = remove_once(&map.nodes, key, &mut guard.pass) {
+            return Ok(before);
+        }
+    }
+    Err(Busy)
+}
+
+/// Replaces a key's value by `new`, or removes it for `None`, if it is `old`. `Ok` with `new`, or `Err` with the current value,
+/// or with `None` where the key is absent. Takes no memory.
+pub fn compare_exchange(
+    map: &Congee,
+    guard: &mut Guard,
+    key: u64,
+    old: u64,
+    new: Option<u64>,
+) -> Result<Result<Option<u64>, Option<u64>>, Busy>
+    requires { guard.old.book ≡ map.now }
+    ensures made { IfOk result (λ answer. MadeCall guard.old
+        (swapped guard.old.caller key old new answer) guard.new) }
+    ensures stored { IfOk result (λ answer. IfOk answer (λ stored. stored ≡ new)) }
+    ensures busy { OnErr result (guard.new ≡ guard.old) }
+{
+    for _ in 0..TRIES {
+        if let Some(answer) = exchange_once::<Brand>(&map.nodes, key, old, new, &mut guard.pass) {
+            return Ok(answer);
+        }
+    }
+    Err(Busy)
+}

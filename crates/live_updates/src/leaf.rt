@@ -1,0 +1,205 @@
+//! A leaf is locked, and a key there gets another value, or none.
+ghost use Rattle.std.specs.Prelude.{◌≡◌, ℕ, ◌+◌, ◌<◌, ◌≤◌, List, [], length, Some, None};
+ghost use Rattle.node_table.specs.TableNode.{TableNode};
+ghost use Rattle.live_cells.specs.Words.{Stays};
+ghost use Rattle.live_encodes.specs.Encodes.{words_of, IsCounted, Encodes};
+ghost use Rattle.live_calls.specs.Ways.{Names};
+ghost use Rattle.live_calls.specs.Holds.{HasRest};
+ghost use Rattle.live_updates.specs.inner.Updates.{IsUpdate, IsSet, Updated};
+
+use live_calls::held::{lock_node, unlock_same};
+use live_calls::way::{Nodes, Pass, byte_at, words_at};
+use live_cells::words::{Draft, Drafted};
+use live_encodes::change::{change, is_full, put, take};
+use live_encodes::form::{form_below, words_in};
+use live_encodes::search::find;
+use live_law::law::{Levels, Mine};
+use live_nodes::node;
+use live_nodes::plays::Change;
+use live_rows::rows::Held;
+use node_base::base_node::NodeType;
+use std::marker::{Brand, PhantomData};
+
+/// Why nothing was written: the key has another value than the expected one, the leaf has no room for another key, or another
+/// writer is busy there.
+#[derive(Clone, Copy, Debug, PartialEq, Eq)]
+pub enum Missed {
+    Changed,
+    Full,
+    Busy,
+}
+
+/// An update: who makes it, with which key and values, and its entry. A caller picks it.
+pub trait Updates {
+    ghost use Rattle.live_updates.specs.inner.Updates.{Update};
+
+    ghost update: { Update };
+}
+
+impl Updates for Brand {
+    ghost use Rattle.std.specs.Prelude.{None};
+    ghost use Rattle.live_updates.specs.inner.Updates.{update_of};
+    ghost use Rattle.live_updates.specs.Entries.{removed};
+
+    ghost update = { update_of 0 0 None None (removed 0 0 None) };
+}
+
+/// A leaf is unlocked, with a value in the place of the expected one.
+pub struct Write<U> {
+    of: PhantomData<U>,
+}
+
+impl<U: Updates> Change<Mine> for Write<U> {
+    ghost use Rattle.live_updates.specs.inner.Updates.{Writes};
+
+    ghost told = { Writes U.update };
+}
+
+/// Gives a byte of a leaf another value, if it has the expected one.
+fn replace<S, D: Draft<S>>(
+    draft: &D,
+    form: NodeType,
+    byte: u8,
+    old: u64,
+    new: u64,
+    seat: &mut S,
+) -> Option<Missed>
+    requires may { D.may_write draft.now seat.old }
+    requires long { length (D.words draft.now seat.old) ≡ words_of form }
+    ensures seat { Stays D.may_write D.rest draft.now seat.old seat.new }
+    ensures long { length (D.words draft.now seat.new) ≡ words_of form }
+    ensures is { (n : TableNode ℕ) → Encodes (D.words draft.now seat.old) n → n.form ≡ form
+        → length n.prefix ≡ 7
+        → IsSet byte (Some old) (Some new) result (D.words draft.now seat.old)
+        (D.words draft.now seat.new) n }
+{
+    let long = words_in(form);
+    let cells = Drafted { draft, long };
+    if find(&cells, form, byte, seat) != Some(old) {
+        return Some(Missed::Changed);
+    }
+    if change(draft, form, byte, new, seat).is_none() {
+        return Some(Missed::Changed);
+    }
+    None
+}
+
+/// Takes a byte's value out of a leaf, if it is the expected one.
+fn take_out<S, D: Draft<S>>(
+    draft: &D,
+    form: NodeType,
+    byte: u8,
+    old: u64,
+    seat: &mut S,
+) -> Option<Missed>
+    requires may { D.may_write draft.now seat.old }
+    requires long { length (D.words draft.now seat.old) ≡ words_of form }
+    requires few { IsCounted form (D.words draft.now seat.old) }
+    ensures seat { Stays D.may_write D.rest draft.now seat.old seat.new }
+    ensures long { length (D.words draft.now seat.new) ≡ words_of form }
+    ensures is { (n : TableNode ℕ) → Encodes (D.words draft.now seat.old) n → n.form ≡ form
+        → length n.prefix ≡ 7
+        → IsSet byte (Some old) None result (D.words draft.now seat.old)
+        (D.words draft.now seat.new) n }
+{
+    let long = words_in(form);
+    let cells = Drafted { draft, long };
+    if find(&cells, form, byte, seat) != Some(old) {
+        return Some(Missed::Changed);
+    }
+    if take(draft, form, byte, seat).is_none() {
+        return Some(Missed::Changed);
+    }
+    None
+}
+
+/// Gives a byte of a leaf a value, if it has none, and there is room.
+fn put_in<S, D: Draft<S>>(
+    draft: &D,
+    form: NodeType,
+    byte: u8,
+    new: u64,
+    seat: &mut S,
+) -> Option<Missed>
+    requires may { D.may_write draft.now seat.old }
+    requires long { length (D.words draft.now seat.old) ≡ words_of form }
+    ensures seat { Stays D.may_write D.rest draft.now seat.old seat.new }
+    ensures long { length (D.words draft.now seat.new) ≡ words_of form }
+    ensures is { (n : TableNode ℕ) → Encodes (D.words draft.now seat.old) n → n.form ≡ form
+        → length n.prefix ≡ 7
+        → IsSet byte None (Some new) result (D.words draft.now seat.old)
+        (D.words draft.now seat.new) n }
+{
+    let long = words_in(form);
+    let cells = Drafted { draft, long };
+    if find(&cells, form, byte, seat).is_some() {
+        return Some(Missed::Changed);
+    }
+    if is_full(draft, form, seat) {
+        return Some(Missed::Full);
+    }
+    put(draft, form, byte, new, seat);
+    None
+}
+
+/// Gives a byte of a leaf what it is to have, if it has what is expected. Where both are nothing, nothing is written.
+fn set<S, D: Draft<S>>(
+    draft: &D,
+    form: NodeType,
+    byte: u8,
+    old: Option<u64>,
+    new: Option<u64>,
+    seat: &mut S,
+) -> Option<Missed>
+    requires may { D.may_write draft.now seat.old }
+    requires long { length (D.words draft.now seat.old) ≡ words_of form }
+    requires few { IsCounted form (D.words draft.now seat.old) }
+    ensures seat { Stays D.may_write D.rest draft.now seat.old seat.new }
+    ensures long { length (D.words draft.now seat.new) ≡ words_of form }
+    ensures is { (n : TableNode ℕ) → Encodes (D.words draft.now seat.old) n → n.form ≡ form
+        → length n.prefix ≡ 7
+        → IsSet byte old new result (D.words draft.now seat.old) (D.words draft.now seat.new) n }
+{
+    match (old, new) {
+        (Some(old), Some(new)) => replace(draft, form, byte, old, new, seat),
+        (Some(old), None) => take_out(draft, form, byte, old, seat),
+        (None, Some(new)) => put_in(draft, form, byte, new, seat),
+        (None, None) => Some(Missed::Changed),
+    }
+}
+
+/// Gives a key of a leaf what it is to have, if it has what is expected. Otherwise nothing is written.
+pub fn update_here<U: Updates>(
+    nodes: &Nodes,
+    name: u64,
+    key: u64,
+    old: Option<u64>,
+    new: Option<u64>,
+    pass: &mut Pass,
+) -> Option<Missed>
+    requires book { pass.old.book ≡ nodes.now }
+    requires asks { (U.update.key ≡ key) × (U.update.caller ≡ pass.old.id) }
+    requires values { (U.update.old ≡ old) × (U.update.new ≡ new) }
+    requires legal { IsUpdate U.update }
+    requires named { Names pass.old.view name key 1 }
+    requires rests { (pass.old.view.client.own ≡ []) × (pass.old.view.holds ≡ []) }
+    ensures told { (pass.new.book ≡ pass.old.book) × (pass.new.id ≡ pass.old.id)
+        × HasRest pass.old.view pass.new.view
+        × Updated U.update result pass.old.view pass.new.view }
+{
+    let Some(words) = words_at(nodes, name) else {
+        return Some(Missed::Busy);
+    };
+    let form = form_below(name);
+    let byte = byte_at(key, 1);
+    let Some(free) = lock_node(words, name, 1, key, pass) else {
+        return Some(Missed::Busy);
+    };
+    let held: Held<'_, Mine, Levels, 0> = Held { words };
+    if let Some(missed) = set(&held, form, byte, old, new, pass) {
+        unlock_same(words, free, pass);
+        return Some(missed);
+    }
+    node::unlock::<Mine, Levels, Write<U>>(&words[0], free, pass);
+    None
+}

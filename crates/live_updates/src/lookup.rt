@@ -1,0 +1,188 @@
+//! A look-up of a key, which may end a call: the key's value, and its leaf.
+ghost use Rattle.std.specs.Prelude.{◌≡◌, ℕ, ◌+◌, ◌<◌, ◌≤◌, true, false, None, IsTrue};
+ghost use Rattle.live_calls.specs.Ways.{KnowsTrunk, Names, Keeps};
+ghost use Rattle.live_calls.specs.Exchanges.{IsNoWay, MayLeave};
+ghost use Rattle.live_updates.specs.inner.Lookups.{IsLookup, MayEnd, Found, Sought};
+
+use live_calls::sight::{Next, follow};
+use live_calls::way::{Nodes, Pass, byte_at, root, words_at};
+use live_encodes::form::{form_below, slot_below};
+use live_encodes::search::find;
+use live_law::law::{Levels, Mine};
+use live_nodes::node;
+use live_nodes::plays::Lesson;
+use live_rows::rows::Row;
+use std::marker::{Brand, PhantomData};
+
+/// A look-up: who makes it, of which key, and where its call ends. A caller picks it.
+pub trait Lookups {
+    ghost use Rattle.live_updates.specs.inner.Lookups.{Lookup};
+
+    ghost lookup: { Lookup };
+}
+
+impl Lookups for Brand {
+    ghost use Rattle.std.specs.Prelude.{None};
+    ghost use Rattle.live_updates.specs.inner.Lookups.{lookup_of};
+
+    ghost lookup = { lookup_of 0 0 (λ _. None) };
+}
+
+/// A key is absent, or it is in the leaf of that name and has that value.
+#[derive(Clone, Copy, Debug, PartialEq, Eq)]
+pub enum Site {
+    Absent,
+    At(u64, u64),
+}
+
+/// A call ends at a node, or goes on with what was found there.
+pub struct Learn<Q> {
+    of: PhantomData<Q>,
+}
+
+impl<Q: Lookups> Lesson<Mine> for Learn<Q> {
+    ghost use Rattle.live_law.specs.Tree.{LearnsNode};
+    ghost use Rattle.live_updates.specs.inner.Lookups.{Seeks, asked_by};
+
+    ghost told = { LearnsNode (Seeks Q.lookup) (asked_by Q.lookup) };
+}
+
+/// What a leaf has under the key's digit. `None` where a writer came in between.
+pub fn ends_in<Q: Lookups>(
+    nodes: &Nodes,
+    name: u64,
+    key: u64,
+    pass: &mut Pass,
+) -> Option<Option<u64>>
+    requires book { pass.old.book ≡ nodes.now }
+    requires asks { (Q.lookup.key ≡ key) × (Q.lookup.caller ≡ pass.old.id) }
+    requires legal { IsLookup Q.lookup }
+    requires named { Names pass.old.view name key 1 }
+    ensures told { (pass.new.book ≡ pass.old.book) × (pass.new.id ≡ pass.old.id)
+        × Keeps pass.old.view pass.new.view
+        × Found Q.lookup result pass.old.view pass.new.view }
+{
+    let words = words_at(nodes, name)?;
+    let form = form_below(name);
+    let byte = byte_at(key, 1);
+    let taken = node::take(&words[0], pass);
+    if taken % 4 != 0 {
+        return None;
+    }
+    let row = Row { words };
+    let found = find(&row, form, byte, pass);
+    if !node::check::<Mine, Levels, Learn<Q>>(&words[0], taken, pass) {
+        return None;
+    }
+    Some(found)
+}
+
+// Whether a way ends at what was found: nothing, or the node that the key leaves.
+fn is_end(found: Option<u64>, below: Option<u64>) -> bool
+    ensures { result ≡ true → IsNoWay found below }
+{
+    let Some(word) = found else {
+        return true;
+    };
+    let Some(below) = below else {
+        return false;
+    };
+    if slot_below(word) != below {
+        return false;
+    }
+    true
+}
+
+/// Whether the key is absent, as an inner node has no child for it, or leads on to a node that the key leaves. `false` where
+/// a writer came in between.
+pub fn is_absent<Q: Lookups>(
+    nodes: &Nodes,
+    name: u64,
+    height: usize,
+    below: Option<u64>,
+    key: u64,
+    pass: &mut Pass,
+) -> bool
+    requires book { pass.old.book ≡ nodes.now }
+    requires asks { (Q.lookup.key ≡ key) × (Q.lookup.caller ≡ pass.old.id) }
+    requires legal { IsLookup Q.lookup }
+    requires named { Names pass.old.view name key height }
+    requires height { (2 ≤ height) × (height ≤ 8) }
+    requires leaves { MayLeave pass.old.view key below }
+    ensures told { (pass.new.book ≡ pass.old.book) × (pass.new.id ≡ pass.old.id)
+        × Keeps pass.old.view pass.new.view }
+    ensures ends { IsTrue result
+        → MayEnd Q.lookup.caller (Q.lookup.entry None) pass.old.view.client pass.new.view.client }
+    ensures busy { result ≡ false → pass.new.view.client ≡ pass.old.view.client }
+{
+    let Some(words) = words_at(nodes, name) else {
+        return false;
+    };
+    let form = form_below(name);
+    let byte = byte_at(key, height);
+    let taken = node::take(&words[0], pass);
+    if taken % 4 != 0 {
+        return false;
+    }
+    let row = Row { words };
+    let found = find(&row, form, byte, pass);
+    if !is_end(found, below) {
+        return false;
+    }
+    node::check::<Mine, Levels, Learn<Q>>(&words[0], taken, pass)
+}
+
+// The key is absent at a node where its way ends. `None` where a writer came in between.
+fn absent_at<Q: Lookups>(
+    nodes: &Nodes,
+    name: u64,
+    height: usize,
+    below: Option<u64>,
+    key: u64,
+    pass: &mut Pass,
+) -> Option<Site>
+    requires book { pass.old.book ≡ nodes.now }
+    requires asks { (Q.lookup.key ≡ key) × (Q.lookup.caller ≡ pass.old.id) }
+    requires legal { IsLookup Q.lookup }
+    requires named { Names pass.old.view name key height }
+    requires height { (2 ≤ height) × (height ≤ 8) }
+    requires leaves { MayLeave pass.old.view key below }
+    ensures told { (pass.new.book ≡ pass.old.book) × (pass.new.id ≡ pass.old.id)
+        × Keeps pass.old.view pass.new.view
+        × Sought Q.lookup result pass.old.view pass.new.view }
+{
+    if is_absent::<Q>(nodes, name, height, below, key, pass) {
+        return Some(Site::Absent);
+    }
+    None
+}
+
+/// Where a key is. The call has ended there, if it ends by what was found. `None` where a writer came in between.
+pub fn seek<Q: Lookups>(nodes: &Nodes, key: u64, pass: &mut Pass) -> Option<Site>
+    requires book { pass.old.book ≡ nodes.now }
+    requires asks { (Q.lookup.key ≡ key) × (Q.lookup.caller ≡ pass.old.id) }
+    requires legal { IsLookup Q.lookup }
+    requires trunk { KnowsTrunk pass.old.view }
+    ensures told { (pass.new.book ≡ pass.old.book) × (pass.new.id ≡ pass.old.id)
+        × Keeps pass.old.view pass.new.view
+        × Sought Q.lookup result pass.old.view pass.new.view }
+{
+    let mut name = root(nodes, key, pass)?;
+    let mut height = 8usize;
+    while height > 1 {
+        match follow::<Brand>(nodes, name, height, key, pass)? {
+            Next::Ends => return absent_at::<Q>(nodes, name, height, None, key, pass),
+            Next::Goes(below, lower) => {
+                name = below;
+                height = lower;
+            }
+            Next::Forks(fork) => {
+                return absent_at::<Q>(nodes, name, height, Some(fork.below), key, pass);
+            }
+        }
+    }
+    match ends_in::<Q>(nodes, name, key, pass)? {
+        Some(value) => Some(Site::At(name, value)),
+        None => Some(Site::Absent),
+    }
+}

@@ -1,0 +1,104 @@
+//! The map itself, to which callers come.
+//!
+//! Tested in `test_share_sharded` and `tools/c-library`.
+
+ghost use Rattle.std.specs.Prelude.{◌≡◌, ℕ, [], IfOk};
+ghost use Rattle.share_visits.specs.Whole.{IsCount};
+ghost use Rattle.share_visits.specs.declared.part.Part.{Part};
+ghost use Rattle.share_calls.specs.inner.Filled.{Filled};
+ghost use Rattle.share_moments.specs.declared.state.State.{State};
+
+use crate::guard::Guard;
+use face_typed::typed_congee::Congee;
+use node_table::allocator::Budget;
+use share_moments::state::{MapLock, State};
+use share_shards::lock::ShardLock;
+use share_visits::part::Part;
+use spec_map::error::OOMError;
+use std::alloc::Global;
+use std::marker::Model;
+use std::sync::Arc;
+
+// Eight words for each shard, so that each lock has a cache line of its own.
+const WORDS: [u64; 512] = [0; 512];
+
+/// A map that threads share. Contracts see which map it is, with the number of its shards, `slots`.
+#[derive(Drop)]
+pub struct Map {
+    lock: Arc<MapLock>,
+}
+
+impl Model for Map {
+    ghost use Rattle.atomic_table.specs.Seated.{TableId, table_id_coded};
+    ghost use Rattle.std.specs.Arc.{arc_value};
+    ghost use Rattle.share_visits.specs.Whole.{IsCount};
+
+    ghost Value = { TableId };
+
+    ghost coded = { table_id_coded };
+
+    ghost view = { λ m. arc_value m.lock };
+
+    ghost invariant = { λ m. IsCount (arc_value m.lock).slots };
+}
+
+// The slots of an empty map with so many shards, whose maps have this limit each.
+fn slots(alloc: Global, limit: u64, shards: usize) -> Result<Vec<Option<Part<State>>>, OOMError>
+    ensures { IfOk result (λ slots.
+        Filled (λ (part : Part State). part.map.map.pairs ≡ []) shards slots.items) }
+{
+    let mut slots = Vec::with_capacity(alloc, shards)?;
+    for _ in 0..shards {
+        let part = Part {
+            map: State {
+                map: Congee::new(alloc, Budget::new(limit))?,
+            },
+            apart: [0; 8],
+        };
+        slots.push_reserved(Some(part));
+    }
+    Ok(slots)
+}
+
+impl Map {
+    /// A new, empty map under one lock. The stated sizes of the map's nodes are charged to a limit in bytes. `OOMError` if
+    /// memory is missing, or the limit is below the size of the first node.
+    pub fn new(alloc: Global, limit: u64) -> Result<Map, OOMError>
+        ensures { IfOk result (λ map. map.slots ≡ 1) }
+    {
+        Map::of(alloc, limit, 1)
+    }
+
+    /// The same with 64 shards, each a map under a lock of its own, for many threads. Keys that differ in their last
+    /// eight bits alone are of one shard. Each shard has a 64th of the limit, rounded down.
+    pub fn sharded(alloc: Global, limit: u64) -> Result<Map, OOMError>
+        ensures { IfOk result (λ map. map.slots ≡ 64) }
+    {
+        Map::of(alloc, limit / 64, 64)
+    }
+
+    fn of(alloc: Global, limit: u64, shards: usize) -> Result<Map, OOMError>
+        requires { IsCount shards }
+        ensures { IfOk result (λ map. map.slots ≡ shards) }
+    {
+        let made = ShardLock::new(alloc, &WORDS, slots(alloc, limit, shards)?)?;
+        match Arc::new(alloc, made) {
+            Ok(lock) => Ok(Map { lock }),
+            Err(_) => Err(OOMError::new()),
+        }
+    }
+
+    /// A caller of the map, which has seen nothing. It has a share of the map, which lives as long as it. It waits for
+    /// nobody and takes no memory. `OOMError` where there are 2 to the 63 callers.
+    pub fn pin(&self) -> Result<Guard, OOMError>
+        ensures { IfOk result (λ guard. (guard.table ≡ self.now) × (guard.seen ≡ [])) }
+    {
+        match Arc::try_clone(&self.lock) {
+            Ok(lock) => {
+                let seat = lock.seat();
+                Ok(Guard { lock, seat })
+            }
+            Err(_) => Err(OOMError::new()),
+        }
+    }
+}

@@ -1,0 +1,112 @@
+//! The calls on the whole map: its counts, what it is charged, and its removal.
+//!
+//! Tested in `test_share_sharded`.
+
+ghost use Rattle.std.specs.Prelude.{◌≡◌, ℕ, IfOk, OnErr, OnOk};
+ghost use Rattle.share_rule.specs.Known.{MadeCall, MadeCalls};
+ghost use Rattle.share_sharded.specs.Returned.{ReturnsCharged};
+ghost use Rattle.share_works.specs.Made.{clearing, returned};
+ghost use Rattle.spec_map.specs.Call.{count, counted, is_empty as is_empty_call, tested};
+ghost use Rattle.spec_map.specs.Map.{Pairs};
+ghost use Rattle.spec_olc.specs.Runs.{same_number};
+
+use super::{Busy, Congee, Guard};
+use crossbeam_utils::Backoff;
+use spec_map::traits::Word;
+use std::sync::Wait;
+
+impl<K: Word, V: Word> Congee<K, V> {
+    /// How many pairs there are: 2 to the 64 at most. Takes constant time.
+    pub fn try_value_count(&self, guard: &mut Guard) -> Result<u128, Busy>
+        requires map { guard.old.table ≡ self.now }
+        ensures map { guard.new.table ≡ guard.old.table }
+        ensures made { IfOk result (λ number. MadeCall same_number guard.old
+            (returned count (counted number)) guard.new) }
+        ensures busy { OnErr result (guard.new ≡ guard.old) }
+    {
+        match guard.count() {
+            Ok(answer) => Ok(answer),
+            Err(_) => Err(Busy),
+        }
+    }
+
+    /// The same, which pauses where `try_value_count` is busy, and goes on.
+    pub fn value_count<R: Wait>(&self, rt: &R, guard: &mut Guard) -> u128
+        requires map { guard.old.table ≡ self.now }
+        ensures map { guard.new.table ≡ guard.old.table }
+        ensures made { MadeCall same_number guard.old (returned count (counted result)) guard.new }
+    {
+        made!(rt, self.try_value_count(guard))
+    }
+
+    /// Whether there is no pair.
+    pub fn try_is_empty(&self, guard: &mut Guard) -> Result<bool, Busy>
+        requires map { guard.old.table ≡ self.now }
+        ensures map { guard.new.table ≡ guard.old.table }
+        ensures made { IfOk result (λ empty. MadeCall same_number guard.old
+            (returned is_empty_call (tested empty)) guard.new) }
+        ensures busy { OnErr result (guard.new ≡ guard.old) }
+    {
+        match guard.is_empty() {
+            Ok(answer) => Ok(answer),
+            Err(_) => Err(Busy),
+        }
+    }
+
+    /// The same, which pauses where `try_is_empty` is busy, and goes on.
+    pub fn is_empty<R: Wait>(&self, rt: &R, guard: &mut Guard) -> bool
+        requires map { guard.old.table ≡ self.now }
+        ensures map { guard.new.table ≡ guard.old.table }
+        ensures made { MadeCall same_number guard.old
+            (returned is_empty_call (tested result)) guard.new }
+    {
+        made!(rt, self.try_is_empty(guard))
+    }
+
+    /// The sum in bytes of the stated sizes of the map's nodes, which its limit is charged for. It saturates at `u128::MAX`.
+    /// Takes constant time.
+    pub fn try_charged(&self, guard: &mut Guard) -> Result<u128, Busy>
+        requires map { guard.old.table ≡ self.now }
+        ensures map { guard.new.table ≡ guard.old.table }
+        ensures made { IfOk result (λ bytes. ReturnsCharged guard.old bytes guard.new) }
+        ensures busy { OnErr result (guard.new ≡ guard.old) }
+    {
+        match guard.charged() {
+            Ok(answer) => Ok(answer),
+            Err(_) => Err(Busy),
+        }
+    }
+
+    /// The same, which pauses where `try_charged` is busy, and goes on.
+    pub fn charged<R: Wait>(&self, rt: &R, guard: &mut Guard) -> u128
+        requires map { guard.old.table ≡ self.now }
+        ensures map { guard.new.table ≡ guard.old.table }
+        ensures made { ReturnsCharged guard.old result guard.new }
+    {
+        made!(rt, self.try_charged(guard))
+    }
+
+    /// Removes all pairs. Of the nodes each shard's root stays.
+    pub fn try_clear(&self, guard: &mut Guard) -> Result<(), Busy>
+        requires map { guard.old.table ≡ self.now }
+        ensures map { guard.new.table ≡ guard.old.table }
+        ensures made { OnOk result ((pairs : Pairs ℕ)
+            × MadeCalls same_number guard.old (clearing pairs) guard.new) }
+        ensures busy { OnErr result (guard.new ≡ guard.old) }
+    {
+        match guard.clear() {
+            Ok(()) => Ok(()),
+            Err(_) => Err(Busy),
+        }
+    }
+
+    /// The same, which pauses where `try_clear` is busy, and goes on.
+    pub fn clear<R: Wait>(&self, rt: &R, guard: &mut Guard)
+        requires map { guard.old.table ≡ self.now }
+        ensures map { guard.new.table ≡ guard.old.table }
+        ensures made { (pairs : Pairs ℕ)
+            × MadeCalls same_number guard.old (clearing pairs) guard.new }
+    {
+        made!(rt, self.try_clear(guard))
+    }
+}

@@ -1,0 +1,3 @@
+mod numbers;
+mod rows;
+mod threads;

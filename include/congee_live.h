@@ -1,0 +1,142 @@
+/* congee_live.h: a map from uint64_t to uint64_t that threads share, and read without a lock. C11 and C++11. MIT license.
+ *
+ * congee.h includes this header. A handle is one caller of the map. A look-up takes no lock, and writes nothing that other
+ * threads read. A writer locks single nodes, one or two at a time, and calls nothing of the program meanwhile. There are no
+ * removals and no ranges yet. For these take congee_shared.h.
+ *
+ * A call is tried a bounded number of times. If a writer came in between each time, the call ends, and nothing has changed.
+ *
+ *   - congee_live_try_get and the others with `try` return CONGEE_BUSY then. They end whatever other threads do with the
+ *     map.
+ *   - congee_live_get and the others without it yield and try again. Nothing bounds how long that takes. CONGEE_YIELD() is
+ *     how they yield: sched_yield, unless the program defines it before it includes congee.h.
+ *
+ * What a call of the library's own functions returns is proved of their code (congee_exports.h). There is one order of
+ * the calls of all handles of a map, in which each reply is that of an ordered map. A handle's own calls are in it in
+ * their order, and each comes after all that its handle had seen before. A new handle has seen what its maker had. A
+ * call that is busy or finds no memory isn't in it. The functions for use are plain C around the exports, and are
+ * tested.
+ *
+ * What a program owes, beside the rules of congee.h on places, buffers, stack and malloc. Nothing checks it:
+ *
+ *   - A handle is used from when it was made until it is freed. One call at a time uses it. Different handles may be in
+ *     calls at once, those of one map too.
+ *   - A handle goes to another thread by a lock, by the start or the join of a thread, or by a sequentially consistent
+ *     atomic.
+ *   - No thread ends inside a call: it isn't cancelled at any place it may be at (PTHREAD_CANCEL_ASYNCHRONOUS). The nodes
+ *     that it had locked would stay so. A thread that is stopped inside a call that writes keeps these nodes busy until it
+ *     goes on. Calls that need no such node go on meanwhile. One that is stopped inside a look-up, or between two calls,
+ *     keeps nobody.
+ *   - No call is made in a signal handler, or in the forked child of a process with threads. A node may be locked there for
+ *     ever.
+ *
+ * tools/dev/make-pages makes the manual page from this file: from this comment, the headings and each function's
+ * comment.
+ */
+#ifndef CONGEE_LIVE_H
+#define CONGEE_LIVE_H
+
+#include "congee.h"
+
+#ifdef __cplusplus
+extern "C" {
+#endif
+
+/* A handle: one caller of a map that threads read without a lock. */
+struct congee_live;
+
+/* -- Live maps -- */
+
+/* Makes an empty map and its first handle. Its first node takes 2,104 bytes. There is no limit. Returns 0 with the handle
+ * in *out, or CONGEE_OOM with null there. */
+static inline int congee_live_new(struct congee_live **out) {
+    struct congee_live_handle made = {NULL};
+    int code = congee_c_live_new(&made);
+    *out = made.guard;
+    return code;
+}
+
+/* Makes one more handle of the map, for another thread. Takes a small block. A handle that has inserted has room for
+ * nodes, of 512 KB at most, which goes with the map alone. So a thread keeps its handle for many calls. Returns 0 with the
+ * handle in *out, or CONGEE_OOM with null there. */
+static inline int congee_live_another(struct congee_live *map, struct congee_live **out) {
+    struct congee_live_handle handle = {map}, made = {NULL};
+    int code = congee_c_live_another(&handle, &made);
+    *out = made.guard;
+    return code;
+}
+
+/* Frees the handle, and with its last handle the map. For null it does nothing. */
+static inline void congee_live_free(struct congee_live *map) {
+    struct congee_live_handle handle = {map};
+    if (map)
+        congee_c_live_free(handle);
+}
+
+/* -- One key -- */
+
+/* As congee_get, or CONGEE_BUSY. */
+static inline int congee_live_try_get(const struct congee_live *map, uint64_t key, uint64_t *value) {
+    struct congee_const_live_handle handle = {map};
+    uint64_t it = 0;
+    int code = congee_c_live_get(&handle, key, &it);
+    if (code == 1 && value)
+        *value = it;
+    return code;
+}
+
+/* The same. Waits while the key's nodes are busy. */
+static inline int congee_live_get(const struct congee_live *map, uint64_t key, uint64_t *value) {
+    uint64_t it = 0;
+    int code;
+    while ((code = congee_live_try_get(map, key, &it)) == CONGEE_BUSY)
+        CONGEE_YIELD();
+    if (code != 1)
+        return 0;
+    if (value)
+        *value = it;
+    return 1;
+}
+
+/* As congee_insert, or CONGEE_BUSY. It may be out of memory for a present key, too. */
+static inline int congee_live_try_insert(struct congee_live *map, uint64_t key, uint64_t value, uint64_t *old) {
+    struct congee_live_handle handle = {map};
+    uint64_t it = 0;
+    int code = congee_c_live_insert(&handle, key, value, &it);
+    if (code == 1 && old)
+        *old = it;
+    return code;
+}
+
+/* The same. Waits while the key's nodes are busy. */
+static inline int congee_live_insert(struct congee_live *map, uint64_t key, uint64_t value, uint64_t *old) {
+    int code;
+    while ((code = congee_live_try_insert(map, key, value, old)) == CONGEE_BUSY)
+        CONGEE_YIELD();
+    return code;
+}
+
+/* As congee_compare_exchange, or CONGEE_BUSY. */
+static inline int congee_live_try_compare_exchange(struct congee_live *map, uint64_t key, uint64_t expected,
+                                                   uint64_t desired, uint64_t *found) {
+    struct congee_live_handle handle = {map};
+    uint64_t it = 0;
+    int code = congee_c_live_compare_exchange(&handle, key, expected, desired, &it);
+    if (code == 2 && found)
+        *found = it;
+    return code;
+}
+
+/* The same. Waits while the key's nodes are busy. */
+static inline int congee_live_compare_exchange(struct congee_live *map, uint64_t key, uint64_t expected,
+                                               uint64_t desired, uint64_t *found) {
+    int code;
+    while ((code = congee_live_try_compare_exchange(map, key, expected, desired, found)) == CONGEE_BUSY)
+        CONGEE_YIELD();
+    return code;
+}
+
+#ifdef __cplusplus
+}
+#endif
+#endif

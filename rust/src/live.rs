@@ -1,0 +1,258 @@
+//! A map that threads read without a lock.
+
+use crate::map::if_expected;
+use crate::shared::{if_made, unless_busy, waiting, waiting_for_memory, Busy, TryError};
+use crate::sys::*;
+use crate::OutOfMemory;
+use std::borrow::Borrow;
+use std::fmt;
+use std::sync::{Mutex, PoisonError};
+
+/// A map that threads share, each by a [`LiveGuard`] of its own, whose look-ups take no lock. They write nothing that other
+/// threads read. A writer locks single nodes. There are no removals and no ranges yet: for these take a
+/// [`SharedMap`](crate::SharedMap).
+///
+/// There is one order of the calls of all guards in which each reply is that of an ordered map. A guard's own calls are in
+/// it in their order, and each comes after all that its guard had seen before.
+///
+/// ```
+/// use proved_congee::LiveMap;
+/// use std::thread;
+///
+/// # fn main() -> Result<(), proved_congee::OutOfMemory> {
+/// let squares = LiveMap::new()?;
+/// thread::scope(|scope| {
+///     for first in 0..4 {
+///         let squares = squares.pin()?;
+///         scope.spawn(move || {
+///             for number in (first..1000).step_by(4) {
+///                 squares.insert(number, number * number).unwrap();
+///             }
+///         });
+///     }
+///     Ok::<(), proved_congee::OutOfMemory>(())
+/// })?;
+/// assert_eq!(squares.pin()?.get(30), Some(900));
+/// # Ok(())
+/// # }
+/// ```
+#[derive(Debug)]
+pub struct LiveMap {
+    // (the library takes a guard as its own, also where it makes another)
+    first: Mutex<LiveGuard>,
+}
+
+impl LiveMap {
+    /// An empty map. Its first node takes 2,104 bytes.
+    ///
+    /// ```
+    /// # fn main() -> Result<(), proved_congee::OutOfMemory> {
+    /// assert_eq!(proved_congee::LiveMap::new()?.pin()?.get(7), None);
+    /// # Ok(())
+    /// # }
+    /// ```
+    pub fn new() -> Result<LiveMap, OutOfMemory> {
+        let mut made = LiveHandle::none();
+        match unsafe { congee_c_live_new(&mut made) } {
+            0 => Ok(LiveMap {
+                first: Mutex::new(LiveGuard { guard: made.guard }),
+            }),
+            _ => Err(OutOfMemory),
+        }
+    }
+
+    /// A guard, by which one thread at a time calls the map. It may go to another thread, and may outlive this value. It
+    /// takes a small block. One that has inserted has room for nodes, of 512 KB at most, which goes with the map alone. So
+    /// keep it for many calls. Waits while another thread takes one.
+    ///
+    /// ```
+    /// # fn main() -> Result<(), proved_congee::OutOfMemory> {
+    /// let map = proved_congee::LiveMap::new()?;
+    /// let (one, other) = (map.pin()?, map.pin()?);
+    /// one.insert(7, 70)?;
+    /// assert_eq!(other.get(7), Some(70));
+    /// # Ok(())
+    /// # }
+    /// ```
+    pub fn pin(&self) -> Result<LiveGuard, OutOfMemory> {
+        // (a call that panicked left the guard as it was)
+        self.first
+            .lock()
+            .unwrap_or_else(PoisonError::into_inner)
+            .try_clone()
+    }
+}
+
+/// One caller of a [`LiveMap`]: a thread's at a time. With the last guard of a map, and its `LiveMap`, the map is freed.
+///
+/// Each call has two forms. One waits while nodes of its key are busy: it yields (`std::thread::yield_now`) and tries
+/// again. The other begins with `try_`, and returns [`Busy`] then.
+///
+/// A thread that is stopped inside a call that writes keeps the nodes that it has locked busy, and no others. One that is
+/// cancelled there, which takes code beside Rust, leaves them so for ever. So does a fork inside another thread's call, in
+/// the child.
+pub struct LiveGuard {
+    guard: *mut OneLiveGuardForEachThread,
+}
+
+// SAFETY: the library proves that a handle may go to another thread (`unsafe impl Send` of its handle).
+unsafe impl Send for LiveGuard {}
+
+// SAFETY of the calls below. The address is one that the library returned and that `drop` hasn't freed. No other call is
+// made by it meanwhile: a `LiveGuard` isn't `Sync`, so no two threads are in a call on it, and the library calls nothing
+// back. The handle and each place that the library writes to are locals, and initialised.
+impl LiveGuard {
+    fn handle(&self) -> LiveHandle {
+        LiveHandle { guard: self.guard }
+    }
+
+    /// One more guard of the same map. It has seen what this one had. Takes a small block.
+    ///
+    /// ```
+    /// # fn main() -> Result<(), proved_congee::OutOfMemory> {
+    /// let guard = proved_congee::LiveMap::new()?.pin()?;
+    /// guard.insert(7, 70)?;
+    /// assert_eq!(guard.try_clone()?.get(7), Some(70));
+    /// # Ok(())
+    /// # }
+    /// ```
+    pub fn try_clone(&self) -> Result<LiveGuard, OutOfMemory> {
+        let mut made = LiveHandle::none();
+        match unsafe { congee_c_live_another(&mut self.handle(), &mut made) } {
+            0 => Ok(LiveGuard { guard: made.guard }),
+            _ => Err(OutOfMemory),
+        }
+    }
+
+    /// The value at the key.
+    ///
+    /// ```
+    /// # fn main() -> Result<(), proved_congee::OutOfMemory> {
+    /// let guard = proved_congee::LiveMap::new()?.pin()?;
+    /// guard.insert(7, 70)?;
+    /// assert_eq!((guard.get(7), guard.get(&8)), (Some(70), None));
+    /// # Ok(())
+    /// # }
+    /// ```
+    pub fn get(&self, key: impl Borrow<u64>) -> Option<u64> {
+        let key = *key.borrow();
+        waiting(|| self.try_get(key))
+    }
+
+    /// The same, which doesn't wait.
+    ///
+    /// ```
+    /// # fn main() -> Result<(), Box<dyn std::error::Error>> {
+    /// let guard = proved_congee::LiveMap::new()?.pin()?;
+    /// guard.insert(7, 70)?;
+    /// assert_eq!(guard.try_get(7)?, Some(70));
+    /// # Ok(())
+    /// # }
+    /// ```
+    pub fn try_get(&self, key: impl Borrow<u64>) -> Result<Option<u64>, Busy> {
+        let mut value = 0;
+        let code = unsafe { congee_c_live_get(&mut self.handle(), *key.borrow(), &mut value) };
+        unless_busy(code, |code| (code == 1).then_some(value))
+    }
+
+    /// Whether the key is there.
+    ///
+    /// ```
+    /// # fn main() -> Result<(), proved_congee::OutOfMemory> {
+    /// let guard = proved_congee::LiveMap::new()?.pin()?;
+    /// guard.insert(7, 70)?;
+    /// assert!(guard.contains_key(7) && !guard.contains_key(8));
+    /// # Ok(())
+    /// # }
+    /// ```
+    pub fn contains_key(&self, key: impl Borrow<u64>) -> bool {
+        self.get(key).is_some()
+    }
+
+    /// Sets the key's value, and returns the previous one. Refused where there is no memory.
+    ///
+    /// ```
+    /// # fn main() -> Result<(), proved_congee::OutOfMemory> {
+    /// let guard = proved_congee::LiveMap::new()?.pin()?;
+    /// assert_eq!(guard.insert(7, 70)?, None);
+    /// assert_eq!(guard.insert(7, 71)?, Some(70));
+    /// # Ok(())
+    /// # }
+    /// ```
+    pub fn insert(&self, key: u64, value: u64) -> Result<Option<u64>, OutOfMemory> {
+        waiting_for_memory(|| self.try_insert(key, value))
+    }
+
+    /// The same, which doesn't wait.
+    ///
+    /// ```
+    /// # fn main() -> Result<(), Box<dyn std::error::Error>> {
+    /// let guard = proved_congee::LiveMap::new()?.pin()?;
+    /// assert_eq!(guard.try_insert(7, 70)?, None);
+    /// # Ok(())
+    /// # }
+    /// ```
+    pub fn try_insert(&self, key: u64, value: u64) -> Result<Option<u64>, TryError> {
+        let mut before = 0;
+        let code = unsafe { congee_c_live_insert(&mut self.handle(), key, value, &mut before) };
+        if_made(code, before)
+    }
+
+    /// Replaces the key's value by `desired` if it is `expected`. Otherwise changes nothing, and returns as an error the
+    /// current value, or `None` if the key is absent.
+    ///
+    /// ```
+    /// # fn main() -> Result<(), proved_congee::OutOfMemory> {
+    /// let guard = proved_congee::LiveMap::new()?.pin()?;
+    /// guard.insert(7, 70)?;
+    /// assert_eq!(guard.compare_exchange(7, 70, 71), Ok(()));
+    /// assert_eq!(guard.compare_exchange(7, 70, 72), Err(Some(71)));
+    /// assert_eq!(guard.compare_exchange(8, 70, 72), Err(None));
+    /// # Ok(())
+    /// # }
+    /// ```
+    pub fn compare_exchange(
+        &self,
+        key: u64,
+        expected: u64,
+        desired: u64,
+    ) -> Result<(), Option<u64>> {
+        waiting(|| self.try_compare_exchange(key, expected, desired))
+    }
+
+    /// The same, which doesn't wait.
+    ///
+    /// ```
+    /// # fn main() -> Result<(), Box<dyn std::error::Error>> {
+    /// let guard = proved_congee::LiveMap::new()?.pin()?;
+    /// guard.insert(7, 70)?;
+    /// assert_eq!(guard.try_compare_exchange(7, 70, 71)?, Ok(()));
+    /// # Ok(())
+    /// # }
+    /// ```
+    pub fn try_compare_exchange(
+        &self,
+        key: u64,
+        expected: u64,
+        desired: u64,
+    ) -> Result<Result<(), Option<u64>>, Busy> {
+        let mut found = 0;
+        let code = unsafe {
+            congee_c_live_compare_exchange(&mut self.handle(), key, expected, desired, &mut found)
+        };
+        unless_busy(code, |code| if_expected(code, found))
+    }
+}
+
+impl Drop for LiveGuard {
+    fn drop(&mut self) {
+        // (the address isn't used again)
+        unsafe { congee_c_live_free(self.handle()) }
+    }
+}
+
+impl fmt::Debug for LiveGuard {
+    fn fmt(&self, f: &mut fmt::Formatter<'_>) -> fmt::Result {
+        f.debug_struct("LiveGuard").finish_non_exhaustive()
+    }
+}

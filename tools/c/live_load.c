@@ -1,0 +1,264 @@
+/* Threads write and read one map that is read without a lock, each by a handle of its own. Each stored value is stored once, and
+ * each thread notes what its calls returned. Afterwards:
+ *   - what is replaced at a key, and what is there at the end, is what was stored there, each value once. So the writes of
+ *     a key are one chain
+ *   - no thread sees a value of another thread at a key after it has seen a later one of that thread there
+ *   - keys of one thread lie between those of the others, and nodes grow and ways part beside readers: each of its own keys
+ *     has the thread's own value, and all are there at the end
+ *   - counters that are raised by compare_exchange lose nothing
+ *
+ *     live_load [CALLS] [THREADS]     so many calls a thread */
+#include "congee.h"
+#include <inttypes.h>
+#include <pthread.h>
+#include <stdio.h>
+#include <stdlib.h>
+#include <string.h>
+
+enum { MOST = 16, KEYS = 64, KINDS = 3 };
+
+static uint64_t calls = 100000, threads = 4;
+
+/* A write: what it took the place of, and what it stored. 0 is no value. */
+struct write {
+    uint64_t key, before, after;
+};
+
+struct worker {
+    pthread_t thread;
+    struct congee_live *map;
+    struct write *writes;
+    uint64_t id, count, number, busy;
+    uint64_t seen[KEYS][MOST]; /* of each key and thread the last number seen */
+    const char *wrong;
+};
+
+static uint64_t next(uint64_t *state) { /* splitmix64 */
+    uint64_t z = (*state += 0x9e3779b97f4a7c15u);
+    z = (z ^ (z >> 30)) * 0xbf58476d1ce4e5b9u;
+    z = (z ^ (z >> 27)) * 0x94d049bb133111ebu;
+    return z ^ (z >> 31);
+}
+
+/* Keys below, within and above one leaf. */
+static uint64_t key_of(uint64_t i) {
+    return i < 32 ? 240 + i : i == 63 ? UINT64_MAX : (i << 40) + (i << 8);
+}
+
+/* A value that no other call stores: which thread's, and the thread's number of it. */
+static uint64_t fresh(struct worker *worker) {
+    return ++worker->number * MOST + worker->id;
+}
+
+static void sees(struct worker *worker, uint64_t place, uint64_t value) {
+    uint64_t *last = &worker->seen[place][value % MOST];
+    if (value == 0 || value % MOST == worker->id)
+        return;
+    if (value / MOST < *last)
+        worker->wrong = "a value that is older than one that was seen";
+    *last = value / MOST;
+}
+
+static void writes(struct worker *worker, uint64_t place, uint64_t before, uint64_t after) {
+    worker->writes[worker->count++] = (struct write){place, before, after};
+    sees(worker, place, before);
+}
+
+/* One call at a key that all threads have. */
+static void call(struct worker *worker, uint64_t place, uint64_t kind) {
+    struct congee_live *map = worker->map;
+    uint64_t key = key_of(place), value = fresh(worker), found = 0, now = 0;
+    int code;
+    switch (kind) {
+    case 0:
+        code = congee_live_insert(map, key, value, &found);
+        writes(worker, place, code == 1 ? found : 0, value);
+        break;
+    case 1:
+        code = congee_live_try_insert(map, key, value, &found);
+        if (code == CONGEE_BUSY)
+            worker->busy++;
+        else
+            writes(worker, place, code == 1 ? found : 0, value);
+        break;
+    case 2:
+        if (congee_live_get(map, key, &found) == 1)
+            sees(worker, place, found);
+        break;
+    case 3:
+        code = congee_live_try_get(map, key, &found);
+        if (code == 1)
+            sees(worker, place, found);
+        worker->busy += code == CONGEE_BUSY;
+        break;
+    default:
+        if (congee_live_get(map, key, &found) == 0)
+            return;
+        code = congee_live_compare_exchange(map, key, found, value, &now);
+        if (code == 1)
+            writes(worker, place, found, value);
+        else if (code == 0 || now == found)
+            worker->wrong = "a comparison that fails with the expected value";
+        else
+            sees(worker, place, now);
+    }
+}
+
+static void *together(void *at) {
+    struct worker *worker = at;
+    uint64_t seed = worker->id;
+    for (uint64_t i = 0; i < calls && !worker->wrong; i++) {
+        uint64_t kind = next(&seed) % 5, place = next(&seed) % KEYS;
+        call(worker, place, kind);
+    }
+    return NULL;
+}
+
+/* The i-th key of a thread: beside those of others in leaves, in the nodes above, or far from all. */
+static uint64_t own_key(uint64_t kind, uint64_t id, uint64_t i) {
+    uint64_t number = i * MOST + id;
+    return kind == 0 ? 1 << 20 | number : kind == 1 ? 1ull << 56 | number << 8 : (number + 1) * 0x9e3779b97f4a7c15u;
+}
+
+/* Keys that no other thread writes. */
+static void *apart(void *at) {
+    struct worker *worker = at;
+    struct congee_live *map = worker->map;
+    uint64_t value = 0;
+    for (uint64_t i = 0; i < calls / 16; i++)
+        for (uint64_t kind = 0; kind < KINDS; kind++) {
+            uint64_t key = own_key(kind, worker->id, i), old = own_key(kind, worker->id, i / 2);
+            if (congee_live_insert(map, key, key ^ 5, NULL) != 0 || congee_live_get(map, key, &value) != 1 ||
+                value != (key ^ 5) || congee_live_compare_exchange(map, key, key ^ 5, key ^ 7, &value) != 1 ||
+                congee_live_get(map, old, &value) != 1 || value != (old ^ 7)) {
+                worker->wrong = "a reply at a key of one's own";
+                return NULL;
+            }
+            /* (a key of another thread, which may be there by now) */
+            old = own_key(kind, worker->id % threads + 1, i);
+            if (congee_live_get(map, old, &value) == 1 && value != (old ^ 5) && value != (old ^ 7))
+                worker->wrong = "a value that nobody wrote";
+        }
+    return NULL;
+}
+
+static void *raises(void *at) {
+    struct worker *worker = at;
+    for (uint64_t i = 0; i < calls; i++) {
+        uint64_t key = (1ull << 60) + i % 8, current = 0, now;
+        if (congee_live_get(worker->map, key, &current) != 1)
+            worker->wrong = "a counter that is gone";
+        int code;
+        while ((code = congee_live_compare_exchange(worker->map, key, current, current + 1, &now)) == 2) {
+            if (now <= current)
+                worker->wrong = "a counter that falls";
+            current = now;
+        }
+        if (code != 1 || worker->wrong)
+            return NULL;
+    }
+    return NULL;
+}
+
+static int by_key_and_value(const void *a, const void *b) {
+    const uint64_t *one = a, *other = b;
+    return one[0] != other[0] ? (one[0] < other[0] ? -1 : 1) : (one[1] > other[1]) - (one[1] < other[1]);
+}
+
+/* Whether at each key each value that was stored is replaced once, or is there at the end. */
+static bool is_chain(struct worker *workers, struct congee_live *map) {
+    uint64_t count = 0, at = 0;
+    for (uint64_t i = 0; i < threads; i++)
+        count += workers[i].count;
+    uint64_t(*stored)[2] = malloc((count + KEYS) * sizeof *stored), (*ended)[2] = malloc((count + KEYS) * sizeof *ended);
+    if (!stored || !ended)
+        return false;
+    for (uint64_t i = 0; i < threads; i++)
+        for (uint64_t j = 0; j < workers[i].count; j++, at++) {
+            const struct write *write = &workers[i].writes[j];
+            stored[at][0] = ended[at][0] = write->key;
+            stored[at][1] = write->after;
+            ended[at][1] = write->before;
+        }
+    /* (a key is absent at first, and at the end it is what the map has) */
+    for (uint64_t place = 0; place < KEYS; place++, at++) {
+        uint64_t value = 0;
+        congee_live_get(map, key_of(place), &value);
+        stored[at][0] = ended[at][0] = place;
+        stored[at][1] = 0;
+        ended[at][1] = value;
+    }
+    qsort(stored, at, sizeof *stored, by_key_and_value);
+    qsort(ended, at, sizeof *ended, by_key_and_value);
+    bool is_so = memcmp(stored, ended, at * sizeof *stored) == 0;
+    free(stored);
+    free(ended);
+    return is_so;
+}
+
+static bool all(struct worker *workers, void *(*work)(void *)) {
+    for (uint64_t i = 0; i < threads; i++)
+        if (pthread_create(&workers[i].thread, NULL, work, &workers[i]))
+            return false;
+    for (uint64_t i = 0; i < threads; i++)
+        pthread_join(workers[i].thread, NULL);
+    for (uint64_t i = 0; i < threads; i++)
+        if (workers[i].wrong) {
+            fprintf(stderr, "live_load: wrong: %s\n", workers[i].wrong);
+            return false;
+        }
+    return true;
+}
+
+/* Whether all keys of threads are there, and each counter was raised by all. */
+static bool is_whole(struct congee_live *map) {
+    uint64_t value, sum = 0;
+    for (uint64_t id = 1; id <= threads; id++)
+        for (uint64_t i = 0; i < calls / 16; i++)
+            for (uint64_t kind = 0; kind < KINDS; kind++) {
+                uint64_t key = own_key(kind, id, i);
+                if (congee_live_get(map, key, &value) != 1 || value != (key ^ 7))
+                    return false;
+            }
+    for (uint64_t i = 0; i < 8; i++)
+        sum += congee_live_get(map, (1ull << 60) + i, &value) == 1 ? value : 0;
+    return sum == threads * calls;
+}
+
+int main(int words, char **word) {
+    static struct worker workers[MOST];
+    struct congee_live *first;
+    uint64_t count = 0, busy = 0;
+    calls = words > 1 ? strtoull(word[1], NULL, 10) : calls;
+    threads = words > 2 ? strtoull(word[2], NULL, 10) : threads;
+    if (threads == 0 || threads >= MOST || congee_live_new(&first))
+        return 1;
+    for (uint64_t i = 0; i < threads; i++) {
+        workers[i].id = i + 1;
+        workers[i].writes = malloc((calls + 1) * sizeof *workers[i].writes);
+        if (!workers[i].writes || congee_live_another(first, &workers[i].map))
+            return 2;
+    }
+    for (uint64_t i = 0; i < 8; i++)
+        if (congee_live_insert(first, (1ull << 60) + i, 0, NULL) != 0)
+            return 3;
+    if (!all(workers, apart) || !all(workers, raises) || !all(workers, together))
+        return 4;
+    if (!is_whole(first)) {
+        fprintf(stderr, "live_load: wrong: a key or a raise is lost\n");
+        return 5;
+    }
+    if (!is_chain(workers, first)) {
+        fprintf(stderr, "live_load: wrong: the writes of a key aren't one chain\n");
+        return 6;
+    }
+    for (uint64_t i = 0; i < threads; i++) {
+        count += workers[i].count;
+        busy += workers[i].busy;
+        free(workers[i].writes);
+        congee_live_free(workers[i].map);
+    }
+    congee_live_free(first);
+    printf("%" PRIu64 " threads, the %" PRIu64 " writes of %d keys are chains, %" PRIu64 " busy\n", threads, count, KEYS, busy);
+    return 0;
+}

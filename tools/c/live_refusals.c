@@ -1,0 +1,100 @@
+/* Each request for memory of a map that is read without a lock, and of its handles, fails in turn, alone and with all after it:
+ * the call returns CONGEE_OOM, everything is as it was, no node stays locked, and no block is lost. Linked with --wrap for
+ * malloc, realloc and free. */
+#include "congee.h"
+#include <stdio.h>
+#include <stdlib.h>
+
+enum { KEYS = 12000 };
+
+static long left = -1; /* how many allocations succeed before one fails, or none for -1 */
+static bool all_after; /* whether those after it fail, too */
+static long failed;    /* how many have failed */
+static long live;      /* how many blocks are out */
+
+void *__real_malloc(size_t);
+void *__real_realloc(void *, size_t);
+void __real_free(void *);
+
+static bool is_refused(void) {
+    if (left != 0) {
+        left -= left > 0;
+        return false;
+    }
+    failed++;
+    left = all_after ? 0 : -1;
+    return true;
+}
+
+void *__wrap_malloc(size_t n) {
+    if (is_refused())
+        return NULL;
+    void *block = __real_malloc(n);
+    live += block != NULL;
+    return block;
+}
+
+void *__wrap_realloc(void *block, size_t n) {
+    if (is_refused())
+        return NULL;
+    void *made = __real_realloc(block, n);
+    live += made && !block;
+    return made;
+}
+
+void __wrap_free(void *block) {
+    live -= block != NULL;
+    __real_free(block);
+}
+
+static void need(bool holds, const char *what) {
+    if (!holds) {
+        fprintf(stderr, "live_refusals: wrong: %s\n", what);
+        exit(1);
+    }
+}
+
+static uint64_t key_of(uint64_t i) {
+    return i / 20 * 0x0100010001000100u + i % 20;
+}
+
+/* Makes a map and a second handle, and fills it by both, with so many requests granted. Returns whether one was refused. */
+static bool fill(long granted, bool all) {
+    struct congee_live *one = NULL, *other = NULL;
+    uint64_t value = 0;
+    static bool stored[KEYS];
+    left = granted;
+    all_after = all;
+    failed = 0;
+    if (congee_live_new(&one) == CONGEE_OOM)
+        need(one == NULL && failed > 0, "what a refused map leaves");
+    if (one && congee_live_another(one, &other) == CONGEE_OOM)
+        need(other == NULL && failed > 0, "what a refused handle leaves");
+    for (uint64_t i = 0; one && i < KEYS; i++) {
+        struct congee_live *map = other && i % 2 ? other : one;
+        uint64_t old = 99;
+        int code = congee_live_try_insert(map, key_of(i), i, &old);
+        need(old == 99, "the place of a new key");
+        need(code == 0 || (code == CONGEE_OOM && failed > 0), "an insertion");
+        stored[i] = code == 0;
+        need(congee_live_try_get(one, key_of(i), &value) == stored[i] && (!stored[i] || value == i), "its key");
+    }
+    for (uint64_t i = 0; one && i < KEYS; i++) {
+        need(congee_live_try_get(one, key_of(i), &value) == stored[i] && (!stored[i] || value == i), "a key at the end");
+        need(congee_live_try_compare_exchange(one, key_of(i), i, ~i, &value) == stored[i], "an exchange");
+    }
+    congee_live_free(one);
+    congee_live_free(other);
+    left = -1;
+    need(live == 0, "a block leaks");
+    return failed > 0;
+}
+
+int main(void) {
+    long tried = 0;
+    while (fill(tried, false) && fill(tried, true))
+        tried++;
+    need(tried > 10, "each segment takes memory");
+    printf("%ld requests refused, and all from each on, no block lost\n", tried);
+    return 0;
+}
