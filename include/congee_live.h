@@ -2,7 +2,8 @@
  *
  * congee.h includes this header. A handle is one caller of the map. A look-up takes no lock, and writes nothing that other
  * threads read. A writer locks single nodes, one or two at a time, and calls nothing of the program meanwhile. There are no
- * removals and no ranges yet. For these take congee_shared.h.
+ * ranges yet. For these take congee_shared.h. A node stays where its last pair is removed, for keys that are inserted
+ * later.
  *
  * A call is tried a bounded number of times. If a writer came in between each time, the call ends, and nothing has changed.
  *
@@ -116,6 +117,29 @@ static inline int congee_live_insert(struct congee_live *map, uint64_t key, uint
     return code;
 }
 
+/* As congee_remove, or CONGEE_BUSY. Takes no memory. */
+static inline int congee_live_try_remove(struct congee_live *map, uint64_t key, uint64_t *old) {
+    struct congee_live_handle handle = {map};
+    uint64_t it = 0;
+    int code = congee_c_live_remove(&handle, key, &it);
+    if (code == 1 && old)
+        *old = it;
+    return code;
+}
+
+/* The same. Waits while the key's nodes are busy. */
+static inline int congee_live_remove(struct congee_live *map, uint64_t key, uint64_t *old) {
+    uint64_t it = 0;
+    int code;
+    while ((code = congee_live_try_remove(map, key, &it)) == CONGEE_BUSY)
+        CONGEE_YIELD();
+    if (code != 1)
+        return 0;
+    if (old)
+        *old = it;
+    return 1;
+}
+
 /* As congee_compare_exchange, or CONGEE_BUSY. */
 static inline int congee_live_try_compare_exchange(struct congee_live *map, uint64_t key, uint64_t expected,
                                                    uint64_t desired, uint64_t *found) {
@@ -132,6 +156,61 @@ static inline int congee_live_compare_exchange(struct congee_live *map, uint64_t
                                                uint64_t desired, uint64_t *found) {
     int code;
     while ((code = congee_live_try_compare_exchange(map, key, expected, desired, found)) == CONGEE_BUSY)
+        CONGEE_YIELD();
+    return code;
+}
+
+/* As congee_compare_remove, or CONGEE_BUSY. Takes no memory. */
+static inline int congee_live_try_compare_remove(struct congee_live *map, uint64_t key, uint64_t expected,
+                                                 uint64_t *found) {
+    struct congee_live_handle handle = {map};
+    uint64_t it = 0;
+    int code = congee_c_live_compare_remove(&handle, key, expected, &it);
+    if (code == 2 && found)
+        *found = it;
+    return code;
+}
+
+/* The same. Waits while the key's nodes are busy. */
+static inline int congee_live_compare_remove(struct congee_live *map, uint64_t key, uint64_t expected, uint64_t *found) {
+    int code;
+    while ((code = congee_live_try_compare_remove(map, key, expected, found)) == CONGEE_BUSY)
+        CONGEE_YIELD();
+    return code;
+}
+
+/* As congee_add, or CONGEE_BUSY. */
+static inline int congee_live_try_add(struct congee_live *map, uint64_t key, uint64_t number, uint64_t *old) {
+    struct congee_live_handle handle = {map};
+    uint64_t it = 0;
+    int code = congee_c_live_add(&handle, key, number, &it);
+    if (code == 1 && old)
+        *old = it;
+    return code;
+}
+
+/* The same. Waits while the key's nodes are busy. */
+static inline int congee_live_add(struct congee_live *map, uint64_t key, uint64_t number, uint64_t *old) {
+    int code;
+    while ((code = congee_live_try_add(map, key, number, old)) == CONGEE_BUSY)
+        CONGEE_YIELD();
+    return code;
+}
+
+/* As congee_get_or_insert, or CONGEE_BUSY. For a present key it takes no lock. */
+static inline int congee_live_try_get_or_insert(struct congee_live *map, uint64_t key, uint64_t value, uint64_t *found) {
+    struct congee_live_handle handle = {map};
+    uint64_t it = 0;
+    int code = congee_c_live_get_or_insert(&handle, key, value, &it);
+    if (code == 1 && found)
+        *found = it;
+    return code;
+}
+
+/* The same. Waits while the key's nodes are busy. */
+static inline int congee_live_get_or_insert(struct congee_live *map, uint64_t key, uint64_t value, uint64_t *found) {
+    int code;
+    while ((code = congee_live_try_get_or_insert(map, key, value, found)) == CONGEE_BUSY)
         CONGEE_YIELD();
     return code;
 }

@@ -9,8 +9,8 @@ use std::fmt;
 use std::sync::{Mutex, PoisonError};
 
 /// A map that threads share, each by a [`LiveGuard`] of its own, whose look-ups take no lock. They write nothing that other
-/// threads read. A writer locks single nodes. There are no removals and no ranges yet: for these take a
-/// [`SharedMap`](crate::SharedMap).
+/// threads read. A writer locks single nodes. There are no ranges yet: for these take a [`SharedMap`](crate::SharedMap). A
+/// node stays where its last pair is removed, for keys that are inserted later.
 ///
 /// There is one order of the calls of all guards in which each reply is that of an ordered map. A guard's own calls are in
 /// it in their order, and each comes after all that its guard had seen before.
@@ -198,6 +198,99 @@ impl LiveGuard {
         if_made(code, before)
     }
 
+    /// Gives the key the value if it is absent, and returns the value that it has then. No lock is taken for a present key.
+    /// Refused as [`insert`](LiveGuard::insert).
+    ///
+    /// ```
+    /// # fn main() -> Result<(), proved_congee::OutOfMemory> {
+    /// let guard = proved_congee::LiveMap::new()?.pin()?;
+    /// assert_eq!(guard.get_or_insert(7, 70)?, 70);
+    /// assert_eq!(guard.get_or_insert(7, 71)?, 70);
+    /// # Ok(())
+    /// # }
+    /// ```
+    pub fn get_or_insert(&self, key: u64, value: u64) -> Result<u64, OutOfMemory> {
+        waiting_for_memory(|| self.try_get_or_insert(key, value))
+    }
+
+    /// The same, which doesn't wait.
+    ///
+    /// ```
+    /// # fn main() -> Result<(), Box<dyn std::error::Error>> {
+    /// let guard = proved_congee::LiveMap::new()?.pin()?;
+    /// assert_eq!(guard.try_get_or_insert(7, 70)?, 70);
+    /// # Ok(())
+    /// # }
+    /// ```
+    pub fn try_get_or_insert(&self, key: u64, value: u64) -> Result<u64, TryError> {
+        let mut found = 0;
+        let code =
+            unsafe { congee_c_live_get_or_insert(&mut self.handle(), key, value, &mut found) };
+        Ok(if_made(code, found)?.unwrap_or(value))
+    }
+
+    /// Adds the number to the key's value, as [`Map::add`](crate::Map::add), and returns the value before.
+    ///
+    /// ```
+    /// # fn main() -> Result<(), proved_congee::OutOfMemory> {
+    /// let guard = proved_congee::LiveMap::new()?.pin()?;
+    /// assert_eq!(guard.add(7, 70)?, None);
+    /// assert_eq!(guard.add(7, 1)?, Some(70));
+    /// assert_eq!(guard.get(7), Some(71));
+    /// # Ok(())
+    /// # }
+    /// ```
+    pub fn add(&self, key: u64, number: u64) -> Result<Option<u64>, OutOfMemory> {
+        waiting_for_memory(|| self.try_add(key, number))
+    }
+
+    /// The same, which doesn't wait.
+    ///
+    /// ```
+    /// # fn main() -> Result<(), Box<dyn std::error::Error>> {
+    /// let guard = proved_congee::LiveMap::new()?.pin()?;
+    /// guard.insert(7, 70)?;
+    /// assert_eq!(guard.try_add(7, 1)?, Some(70));
+    /// # Ok(())
+    /// # }
+    /// ```
+    pub fn try_add(&self, key: u64, number: u64) -> Result<Option<u64>, TryError> {
+        let mut before = 0;
+        let code = unsafe { congee_c_live_add(&mut self.handle(), key, number, &mut before) };
+        if_made(code, before)
+    }
+
+    /// Removes the key, and returns the value that it had.
+    ///
+    /// ```
+    /// # fn main() -> Result<(), proved_congee::OutOfMemory> {
+    /// let guard = proved_congee::LiveMap::new()?.pin()?;
+    /// guard.insert(7, 70)?;
+    /// assert_eq!((guard.remove(7), guard.remove(&7)), (Some(70), None));
+    /// # Ok(())
+    /// # }
+    /// ```
+    pub fn remove(&self, key: impl Borrow<u64>) -> Option<u64> {
+        let key = *key.borrow();
+        waiting(|| self.try_remove(key))
+    }
+
+    /// The same, which doesn't wait.
+    ///
+    /// ```
+    /// # fn main() -> Result<(), Box<dyn std::error::Error>> {
+    /// let guard = proved_congee::LiveMap::new()?.pin()?;
+    /// guard.insert(7, 70)?;
+    /// assert_eq!(guard.try_remove(7)?, Some(70));
+    /// # Ok(())
+    /// # }
+    /// ```
+    pub fn try_remove(&self, key: impl Borrow<u64>) -> Result<Option<u64>, Busy> {
+        let mut before = 0;
+        let code = unsafe { congee_c_live_remove(&mut self.handle(), *key.borrow(), &mut before) };
+        unless_busy(code, |code| (code == 1).then_some(before))
+    }
+
     /// Replaces the key's value by `desired` if it is `expected`. Otherwise changes nothing, and returns as an error the
     /// current value, or `None` if the key is absent.
     ///
@@ -240,6 +333,44 @@ impl LiveGuard {
         let code = unsafe {
             congee_c_live_compare_exchange(&mut self.handle(), key, expected, desired, &mut found)
         };
+        unless_busy(code, |code| if_expected(code, found))
+    }
+
+    /// Removes the key if its value is `expected`. Otherwise changes nothing, and returns as an error the current value, or
+    /// `None` if the key is absent.
+    ///
+    /// ```
+    /// # fn main() -> Result<(), proved_congee::OutOfMemory> {
+    /// let guard = proved_congee::LiveMap::new()?.pin()?;
+    /// guard.insert(7, 70)?;
+    /// assert_eq!(guard.compare_remove(7, 71), Err(Some(70)));
+    /// assert_eq!(guard.compare_remove(7, 70), Ok(()));
+    /// assert_eq!(guard.compare_remove(7, 70), Err(None));
+    /// # Ok(())
+    /// # }
+    /// ```
+    pub fn compare_remove(&self, key: u64, expected: u64) -> Result<(), Option<u64>> {
+        waiting(|| self.try_compare_remove(key, expected))
+    }
+
+    /// The same, which doesn't wait.
+    ///
+    /// ```
+    /// # fn main() -> Result<(), Box<dyn std::error::Error>> {
+    /// let guard = proved_congee::LiveMap::new()?.pin()?;
+    /// guard.insert(7, 70)?;
+    /// assert_eq!(guard.try_compare_remove(7, 70)?, Ok(()));
+    /// # Ok(())
+    /// # }
+    /// ```
+    pub fn try_compare_remove(
+        &self,
+        key: u64,
+        expected: u64,
+    ) -> Result<Result<(), Option<u64>>, Busy> {
+        let mut found = 0;
+        let code =
+            unsafe { congee_c_live_compare_remove(&mut self.handle(), key, expected, &mut found) };
         unless_busy(code, |code| if_expected(code, found))
     }
 }

@@ -297,11 +297,30 @@ extern "C" {
         value: u64,
         before: *mut u64,
     ) -> i32;
+    pub(crate) fn congee_c_live_remove(handle: *mut LiveHandle, key: u64, before: *mut u64) -> i32;
     pub(crate) fn congee_c_live_compare_exchange(
         handle: *mut LiveHandle,
         key: u64,
         expected: u64,
         desired: u64,
+        found: *mut u64,
+    ) -> i32;
+    pub(crate) fn congee_c_live_compare_remove(
+        handle: *mut LiveHandle,
+        key: u64,
+        expected: u64,
+        found: *mut u64,
+    ) -> i32;
+    pub(crate) fn congee_c_live_add(
+        handle: *mut LiveHandle,
+        key: u64,
+        number: u64,
+        before: *mut u64,
+    ) -> i32;
+    pub(crate) fn congee_c_live_get_or_insert(
+        handle: *mut LiveHandle,
+        key: u64,
+        value: u64,
         found: *mut u64,
     ) -> i32;
 }

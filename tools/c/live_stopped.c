@@ -70,11 +70,19 @@ static bool is_busy(struct congee_live *map) {
         need(congee_live_try_get(map, LEAF + 1, &value) == CONGEE_BUSY, "a look-up of a key of its leaf");
         need(congee_live_try_insert(map, LEAF + 9, 1, &old) == CONGEE_BUSY, "an insertion into its leaf");
         need(congee_live_try_compare_exchange(map, LEAF + 1, 0, 1, &found) == CONGEE_BUSY, "an exchange in its leaf");
+        need(congee_live_try_remove(map, LEAF + 1, &old) == CONGEE_BUSY, "a removal from its leaf");
+        need(congee_live_try_remove(map, LEAF + 8, &old) == CONGEE_BUSY, "a removal of an absent key of its leaf");
+        need(congee_live_try_compare_remove(map, LEAF + 1, 0, &found) == CONGEE_BUSY, "a removal by a value from its leaf");
+        need(congee_live_try_add(map, LEAF + 1, 1, &old) == CONGEE_BUSY, "a sum in its leaf");
+        need(congee_live_try_get_or_insert(map, LEAF + 9, 1, &found) == CONGEE_BUSY, "an absent key of its leaf");
         need(value == 99 && old == 99 && found == 99, "a busy call writes nothing");
     }
     need(congee_live_try_get(map, LEAF + 256, &value) == 1, "a look-up elsewhere");
     need(congee_live_try_insert(map, LEAF + 256, value + 1, &old) == 1 && old == value, "an insertion elsewhere");
     need(congee_live_try_compare_exchange(map, LEAF + 256, old + 1, old + 2, &found) == 1, "an exchange elsewhere");
+    need(congee_live_try_add(map, LEAF + 256, 1, &old) == 1 && old == value + 2, "a sum elsewhere");
+    need(congee_live_try_remove(map, LEAF + 256, &old) == 1 && old == value + 3, "a removal elsewhere");
+    need(congee_live_try_get_or_insert(map, LEAF + 256, old, &found) == 0, "an absent key elsewhere");
     return code == CONGEE_BUSY;
 }
 

@@ -2,13 +2,16 @@
 //!
 //! Tested in `tools/c-library`.
 
-ghost use Rattle.std.specs.Prelude.{◌≡◌, ◌≢◌, [], Some, IfOk, OnErr};
+ghost use Rattle.std.specs.Prelude.{◌≡◌, ◌≢◌, [], IfOk, OnErr, unwrap_or};
 ghost use Rattle.live_law.specs.Views.{ask, got, inserted};
 ghost use Rattle.live_law.specs.Known.{MadeCall};
-ghost use Rattle.live_calls.specs.Exchanges.{exchange_of, compared};
 ghost use Rattle.live_calls.specs.Meetings.{SeenMore};
+ghost use Rattle.live_updates.specs.Entries.{removed, swapped};
+ghost use Rattle.live_computes.specs.Entries.{inserted_with, sum_with};
 
 use live_calls::map::{Busy, Congee, Guard, Refusal};
+use live_computes::present;
+use live_updates::calls;
 use spec_map::error::OOMError;
 use std::alloc::Global;
 use std::marker::Model;
@@ -88,20 +91,55 @@ impl Caller {
         self.map.insert(alloc, &mut self.guard, key, value)
     }
 
-    /// Replaces a key's value by `new`, if it is `old`. `Ok` with the new value, or `Err` with the current one, or with
-    /// `None` where the key is absent. Takes no memory. `Busy` if too many writers came in between: then nothing has
-    /// changed.
+    /// Removes a key, and returns the value that it had. Takes no memory. `Busy` if too many writers came in between: then
+    /// nothing has changed.
+    pub fn remove(&mut self, key: u64) -> Result<Option<u64>, Busy>
+        ensures made { IfOk result (λ before. MadeCall self.old
+            (removed self.old.caller key before) self.new) }
+        ensures busy { OnErr result (self.new ≡ self.old) }
+    {
+        calls::remove(&self.map, &mut self.guard, key)
+    }
+
+    /// Replaces a key's value by `new`, or removes the key for `None`, if the value is `old`. `Ok` with `new`, or `Err` with
+    /// the current value, or with `None` where the key is absent. Takes no memory. `Busy` if too many writers came in
+    /// between: then nothing has changed.
     pub fn compare_exchange(
         &mut self,
         key: u64,
         old: u64,
-        new: u64,
+        new: Option<u64>,
     ) -> Result<Result<Option<u64>, Option<u64>>, Busy>
         ensures made { IfOk result (λ answer. MadeCall self.old
-            (compared (exchange_of self.old.caller key old new) answer) self.new) }
-        ensures stored { IfOk result (λ answer. IfOk answer (λ stored. stored ≡ Some new)) }
+            (swapped self.old.caller key old new answer) self.new) }
+        ensures stored { IfOk result (λ answer. IfOk answer (λ stored. stored ≡ new)) }
         ensures busy { OnErr result (self.new ≡ self.old) }
     {
-        self.map.compare_exchange(&mut self.guard, key, old, new)
+        calls::compare_exchange(&self.map, &mut self.guard, key, old, new)
+    }
+
+    /// Gives an absent key a value. Returns the value of a present one, which no lock is taken for. Refusals are those of
+    /// `insert`. For a present key no memory is taken.
+    pub fn get_or_insert(
+        &mut self,
+        alloc: Global,
+        key: u64,
+        value: u64,
+    ) -> Result<Option<u64>, Refusal>
+        ensures made { IfOk result (λ found. MadeCall self.old
+            (inserted_with self.old.caller key found (unwrap_or found value)) self.new) }
+        ensures refused { OnErr result (self.new ≡ self.old) }
+    {
+        present::get_or_insert(&self.map, alloc, &mut self.guard, key, value)
+    }
+
+    /// Adds a number to a key's value, modulo 2 to the 64. An absent key gets the number itself. Returns the value before.
+    /// Refusals are those of `insert`. For a present key no memory is taken.
+    pub fn add(&mut self, alloc: Global, key: u64, number: u64) -> Result<Option<u64>, Refusal>
+        ensures made { IfOk result (λ before. MadeCall self.old
+            (inserted_with self.old.caller key before (sum_with before number)) self.new) }
+        ensures refused { OnErr result (self.new ≡ self.old) }
+    {
+        present::add(&self.map, alloc, &mut self.guard, key, number)
     }
 }
