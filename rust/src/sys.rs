@@ -323,4 +323,23 @@ extern "C" {
         value: u64,
         found: *mut u64,
     ) -> i32;
+    pub(crate) fn congee_c_live_range(
+        handle: *mut LiveHandle,
+        start: u64,
+        end: u64,
+        buffer: *mut Pair,
+        n: usize,
+        out: *mut u64,
+    ) -> i32;
+    pub(crate) fn congee_c_live_range_inclusive(
+        handle: *mut LiveHandle,
+        start: u64,
+        last: u64,
+        buffer: *mut Pair,
+        n: usize,
+        out: *mut u64,
+    ) -> i32;
+    pub(crate) fn congee_c_live_first(handle: *mut LiveHandle, pair: *mut Pair) -> i32;
+    pub(crate) fn congee_c_live_ceiling(handle: *mut LiveHandle, key: u64, pair: *mut Pair) -> i32;
+    pub(crate) fn congee_c_live_above(handle: *mut LiveHandle, key: u64, pair: *mut Pair) -> i32;
 }

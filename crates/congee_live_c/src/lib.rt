@@ -6,7 +6,8 @@
 //!
 //! An answer is an `i32`: 0, 1 or 2 with the meaning that each call documents, `OOM` or `BUSY`.
 //!
-//! Here are the calls that make a map and its handles, and get, set and remove one key. `computed` has the others.
+//! Here are the calls that make a map and its handles, and get, set and remove one key. `computed`, `next_pair` and `ranges`
+//! have the others.
 //!
 //! Tested in `tools/c-library`.
 #![tactic(auto)]
@@ -21,13 +22,16 @@ ghost use Rattle.congee_live_c.specs.Answer.{oom, busy};
 mod computed;
 mod handle;
 mod held;
+mod next_pair;
 mod parts;
+mod ranges;
 mod room;
 
 pub use handle::Handle;
 use held::Held;
 use live_callers::caller::Caller;
 use live_calls::map::{Busy, Refusal};
+use live_order::page::RangeEntry;
 pub use room::Room;
 use std::alloc::Global;
 
@@ -36,6 +40,24 @@ const OOM: i32 = -1;
 
 /// A writer came in between at each try.
 const BUSY: i32 = -2;
+
+/// A key and its value: 16 bytes.
+#[repr(C)]
+#[derive(Clone, Copy, Drop)]
+pub struct Pair {
+    pub key: u64,
+    pub value: u64,
+}
+
+impl RangeEntry for Pair {
+    ghost use Rattle.congee_live_c.specs.Pairs.{pair_of};
+
+    ghost pair = { pair_of };
+
+    fn from_pair(key: u64, value: u64) -> Pair {
+        Pair { key, value }
+    }
+}
 
 /// Writes the first handle of a new, empty map to `out` and answers 0, or answers `OOM` and writes nothing.
 #[unsafe(no_mangle)]

@@ -2,15 +2,19 @@
 //!
 //! Tested in `tools/c-library`.
 
-ghost use Rattle.std.specs.Prelude.{◌≡◌, ◌≢◌, [], IfOk, OnErr, unwrap_or};
+ghost use Rattle.std.specs.Prelude.{◌≡◌, ◌≢◌, ◌+◌, ◌≤◌, [], length, take, IfOk, OnErr, unwrap_or};
 ghost use Rattle.live_law.specs.Views.{ask, got, inserted};
 ghost use Rattle.live_law.specs.Known.{MadeCall};
 ghost use Rattle.live_calls.specs.Meetings.{SeenMore};
 ghost use Rattle.live_updates.specs.Entries.{removed, swapped};
 ghost use Rattle.live_computes.specs.Entries.{inserted_with, sum_with};
+ghost use Rattle.live_order.specs.Page.{pairs_of};
+ghost use Rattle.live_scans.specs.Scans.{EntersNothing, HasPage, HasNext};
 
 use live_calls::map::{Busy, Congee, Guard, Refusal};
 use live_computes::present;
+use live_order::page::RangeEntry;
+use live_scans::scans;
 use live_updates::calls;
 use spec_map::error::OOMError;
 use std::alloc::Global;
@@ -141,5 +145,53 @@ impl Caller {
         ensures refused { OnErr result (self.new ≡ self.old) }
     {
         present::add(&self.map, alloc, &mut self.guard, key, number)
+    }
+
+    /// Writes the pairs with keys from `start` on and below `end` into the buffer, ascending, as many as there are or as fit,
+    /// and returns how many. What follows in the buffer is unspecified. Takes no memory. `Busy` if too many writers came in
+    /// between: then what is in the buffer is unspecified.
+    pub fn range<P: RangeEntry>(
+        &mut self,
+        start: u64,
+        end: u64,
+        buffer: &mut [P],
+    ) -> Result<usize, Busy>
+        ensures count { IfOk result (λ count. count ≤ length buffer.old) }
+        ensures page { IfOk result (λ count. HasPage self.old start end (length buffer.old)
+            (take count (pairs_of P.pair buffer.new)) self.new) }
+        ensures busy { OnErr result (EntersNothing self.old self.new) }
+    {
+        scans::range(&self.map, &mut self.guard, start, end, buffer)
+    }
+
+    /// The same with keys from `first` to `last`.
+    pub fn range_inclusive<P: RangeEntry>(
+        &mut self,
+        first: u64,
+        last: u64,
+        buffer: &mut [P],
+    ) -> Result<usize, Busy>
+        ensures count { IfOk result (λ count. count ≤ length buffer.old) }
+        ensures page { IfOk result (λ count. HasPage self.old first (last + 1) (length buffer.old)
+            (take count (pairs_of P.pair buffer.new)) self.new) }
+        ensures busy { OnErr result (EntersNothing self.old self.new) }
+    {
+        scans::range_inclusive(&self.map, &mut self.guard, first, last, buffer)
+    }
+
+    /// The pair with the least key that is at least this one. `Busy` if too many writers came in between.
+    pub fn ceiling(&mut self, key: u64) -> Result<Option<(u64, u64)>, Busy>
+        ensures next { IfOk result (λ found. HasNext self.old key found self.new) }
+        ensures busy { OnErr result (EntersNothing self.old self.new) }
+    {
+        scans::ceiling(&self.map, &mut self.guard, key)
+    }
+
+    /// The pair with the least key that is above this one. `Busy` if too many writers came in between.
+    pub fn above(&mut self, key: u64) -> Result<Option<(u64, u64)>, Busy>
+        ensures next { IfOk result (λ found. HasNext self.old (key + 1) found self.new) }
+        ensures busy { OnErr result (EntersNothing self.old self.new) }
+    {
+        scans::above(&self.map, &mut self.guard, key)
     }
 }
