@@ -4,7 +4,9 @@
  *     removal is followed by one insertion of an absent key, or is the last write. So the writes of a key are one chain
  *   - no thread sees a value of another thread at a key after it has seen a later one of that thread there
  *   - keys of one thread lie between those of the others, and nodes grow and ways part beside readers: each of its own keys
- *     has the thread's own value, is removed and stored again, and all are there at the end
+ *     has the thread's own value, is removed and stored again, and all are there at the end. A range over keys that stay has
+ *     them all, ascending, whatever comes and goes between them
+ *   - what a range or a next pair has at a key that all threads write is no older than what the thread has seen there
  *   - counters that are raised by compare_exchange and by add lose nothing
  *
  *     live_load [CALLS] [THREADS]     so many calls a thread */
@@ -62,6 +64,49 @@ static void sees(struct worker *worker, uint64_t place, uint64_t value) {
 static void writes(struct worker *worker, uint64_t place, uint64_t before, uint64_t after) {
     worker->writes[worker->count++] = (struct write){place, before, after};
     sees(worker, place, before);
+}
+
+static uint64_t place_of(uint64_t key) {
+    uint64_t place = 0;
+    while (place < KEYS && key_of(place) != key)
+        place++;
+    return place;
+}
+
+/* A pair that a reader of many keys has given, of a key from this one on. */
+static void gives(struct worker *worker, struct congee_pair pair, uint64_t from) {
+    uint64_t place = place_of(pair.key);
+    if (place < KEYS)
+        sees(worker, place, pair.value);
+    if (pair.key < from || (place < KEYS && pair.value == 0))
+        worker->wrong = "a pair that isn't one";
+}
+
+/* A page of a range, or a next pair, from a key on. */
+static void read_on(struct worker *worker, uint64_t key, uint64_t kind) {
+    struct congee_pair page[KEYS / 2];
+    struct congee_live *map = worker->map;
+    size_t n = 0;
+    int code;
+    switch (kind) {
+    case 0:
+        n = congee_live_range_inclusive(map, key, UINT64_MAX, page, KEYS / 2);
+        break;
+    case 1:
+        code = congee_live_try_range(map, key, UINT64_MAX, page, KEYS / 2, &n);
+        worker->busy += code == CONGEE_BUSY;
+        break;
+    case 2:
+        n = congee_live_ceiling(map, key, page);
+        break;
+    default:
+        n = congee_live_above(map, key, page);
+        key += n;
+    }
+    for (size_t i = 0; i < n; i++) {
+        gives(worker, page[i], key);
+        key = page[i].key + (i + 1 < n);
+    }
 }
 
 /* One call at a key that all threads have. */
@@ -127,8 +172,11 @@ static void *together(void *at) {
     struct worker *worker = at;
     uint64_t seed = worker->id;
     for (uint64_t i = 0; i < calls && !worker->wrong; i++) {
-        uint64_t kind = next(&seed) % 10, place = next(&seed) % KEYS;
-        call(worker, place, kind);
+        uint64_t kind = next(&seed) % 11, place = next(&seed) % KEYS;
+        if (kind < 10)
+            call(worker, place, kind);
+        else
+            read_on(worker, key_of(place), i % 4);
     }
     return NULL;
 }
@@ -148,6 +196,25 @@ static bool comes_back(struct congee_live *map, uint64_t key) {
            congee_live_add(map, key, key ^ 7, NULL) == 0;
 }
 
+/* Whether pages of a range have each key of the thread itself from one of its numbers to another, ascending. */
+static bool reads_through(struct worker *worker, uint64_t kind, uint64_t from, uint64_t to) {
+    struct congee_pair page[24];
+    uint64_t start = own_key(kind, worker->id, from), last = own_key(kind, worker->id, to), at = from;
+    size_t n;
+    do {
+        n = congee_live_range_inclusive(worker->map, start, last, page, 24);
+        for (size_t i = 0; i < n; i++) {
+            if (page[i].key < start || page[i].key > last)
+                return false;
+            start = page[i].key + (i + 1 < n);
+            if (at <= to && page[i].key == own_key(kind, worker->id, at) && page[i].value == (page[i].key ^ 7))
+                at++;
+        }
+        start++;
+    } while (n == 24);
+    return at == to + 1;
+}
+
 /* Keys that no other thread writes. */
 static void *apart(void *at) {
     struct worker *worker = at;
@@ -162,6 +229,8 @@ static void *apart(void *at) {
                 worker->wrong = "a reply at a key of one's own";
                 return NULL;
             }
+            if (i % 64 == 63 && kind < 2 && !reads_through(worker, kind, i - 63, i))
+                worker->wrong = "a range without a key that stays";
             /* (a key of another thread, which may be there by now) */
             old = own_key(kind, worker->id % threads + 1, i);
             if (congee_live_get(map, old, &value) == 1 && value != (old ^ 5) && value != (old ^ 7))

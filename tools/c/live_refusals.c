@@ -73,7 +73,12 @@ static int enter(struct congee_live *map, uint64_t i, uint64_t *old) {
 /* What needs no memory, of a key that is stored or not, while there may be none. In the end it is gone. */
 static void spare(struct congee_live *map, uint64_t i, bool is_stored) {
     uint64_t key = key_of(i), value = 99, old = 99;
+    struct congee_pair pair = {0, 0};
+    size_t n = 99;
     need(congee_live_try_get(map, key, &value) == is_stored && value == (is_stored ? i : 99), "a key at the end");
+    need(congee_live_try_range_inclusive(map, key, key, &pair, 1, &n) == 0 && n == is_stored, "a range of it alone");
+    need(!is_stored || (pair.key == key && pair.value == i), "its pair");
+    need(congee_live_try_ceiling(map, key, &pair) != CONGEE_OOM && (!is_stored || pair.key == key), "a ceiling");
     need(congee_live_try_compare_exchange(map, key, i, ~i, &value) == is_stored, "an exchange");
     need(congee_live_try_compare_remove(map, key, i, &old) == (is_stored ? 2 : 0), "a removal of another value");
     need(old == (is_stored ? ~i : 99), "the value that it finds");
