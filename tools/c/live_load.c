@@ -17,7 +17,7 @@
 #include <stdlib.h>
 #include <string.h>
 
-enum { MOST = 16, KEYS = 64, KINDS = 3 };
+enum { MOST = 16, KEYS = 64, KINDS = 3, PAGE = 8 };
 
 static uint64_t calls = 100000, threads = 4;
 
@@ -84,16 +84,16 @@ static void gives(struct worker *worker, struct congee_pair pair, uint64_t from)
 
 /* A page of a range, or a next pair, from a key on. */
 static void read_on(struct worker *worker, uint64_t key, uint64_t kind) {
-    struct congee_pair page[KEYS / 2];
+    struct congee_pair page[PAGE];
     struct congee_live *map = worker->map;
     size_t n = 0;
     int code;
     switch (kind) {
     case 0:
-        n = congee_live_range_inclusive(map, key, UINT64_MAX, page, KEYS / 2);
+        n = congee_live_range_inclusive(map, key, UINT64_MAX, page, PAGE);
         break;
     case 1:
-        code = congee_live_try_range(map, key, UINT64_MAX, page, KEYS / 2, &n);
+        code = congee_live_try_range(map, key, UINT64_MAX, page, PAGE, &n);
         worker->busy += code == CONGEE_BUSY;
         break;
     case 2:
