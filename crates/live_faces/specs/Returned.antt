@@ -6,6 +6,7 @@ use Rattle.share_rule.specs.History.{Entry}
 use Rattle.live_law.specs.Known.{Known, MadeCall}
 use Rattle.live_updates.specs.Entries.{swapped}
 use Rattle.live_scans.specs.Scans.{HasNext}
+use Rattle.live_floors.specs.Floors.{HasBefore}
 use Rattle.live_computes.specs.Entries.{inserted_with}
 
 -- A CALL, by a guard that knew k
@@ -35,3 +36,7 @@ pair_of of_key of_value p = (of_key p.0, of_value p.1)
 -- A READER by a guard that knew k returned the next pair from a key on, or none
 abbrev pub ReturnsNext : {P : Type 0} → (ℕ × ℕ → P) → Known → ℕ → Option P → Known → Type 0
 ReturnsNext of_pair k low found n = (pair : Option (ℕ × ℕ)) × (found ≡ option_map of_pair pair) × HasNext k low pair n
+
+-- The same of the last pair below a key
+abbrev pub ReturnsBefore : {P : Type 0} → (ℕ × ℕ → P) → Known → ℕ → Option P → Known → Type 0
+ReturnsBefore of_pair k high found n = (pair : Option (ℕ × ℕ)) × (found ≡ option_map of_pair pair) × HasBefore k high pair n

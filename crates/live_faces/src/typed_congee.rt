@@ -8,6 +8,7 @@ ghost use Rattle.live_calls.specs.Meetings.{SeenMore};
 ghost use Rattle.live_faces.specs.Returned.{ReturnsOld};
 
 mod computes;
+mod floors;
 mod scans;
 mod updates;
 

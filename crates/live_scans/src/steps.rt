@@ -62,9 +62,9 @@ fn last_byte<A: Asks>(
     byte_before(found, byte)
 }
 
-// Whether a node leads to one whose way the key leaves. So it leads to no other keys under that byte. `false` also where a
-// writer came in between.
-fn leads_aside<A: Asks>(
+/// Whether a node leads to one whose way the key leaves. So it leads to no other keys under that byte. `false` also where a
+/// writer came in between.
+pub fn leads_aside<A: Asks>(
     nodes: &Nodes,
     name: u64,
     height: usize,

@@ -1,4 +1,4 @@
-use Rattle.std.proofs.Common.{rules, arith, refl, inl, inr, None, ◌≡◌, ◌∙◌}
+use Rattle.std.proofs.Common.{rules, arith, refl, inl, inr, None, true, ◌≡◌, ◌∙◌}
 use Rattle.live_nodes.specs.Seats.{place}
 use Rattle.live_calls.proofs.Finds.{keeps_then, when_out}
 use Rattle.live_scans.specs.inner.Steps.{IsPage}
@@ -17,7 +17,7 @@ loop-step-init c =
       low = omega arith;
       high = c.requires.order;
       seam = inr refl;
-      read = nothing_read u.client.seen c.args.key c.args.key (omega arith);
+      read = nothing_read true u.client.seen c.args.key c.args.key (omega arith);
     }
 
 pub read_on-requires-clause-trunk : goal.read_on-requires-clause-trunk
