@@ -23,8 +23,8 @@ pub before_seat : (b b' : Book) (c c' : ℕ) (v w : Seen) (key : ℕ) (r : Optio
 before_seat b b' c c' v w key None book caller h f = (enters_seat b b' c c' v w book caller h, f.read)
 before_seat b b' c c' v w key (Some p) book caller h f = (enters_seat b b' c c' v w book caller h, f.2.read)
 
-pub none_before : (k : Known) → HasBefore k 0 None k
-none_before k = (enters_same k, nothing_read false k.seen 0 0 (omega arith))
+pub none_before : (k : Known) (key : ℕ) → key ≡ 0 → HasBefore k key None k
+none_before k key none = (enters_same k, nothing_read false k.seen 0 key (omega (arith, none)))
 
 -- by a guard that had seen less
 pub before_since : (k m n : Known) (high : ℕ) (r : Option (ℕ × ℕ)) → EntersNothing k m → HasBefore m high r n → HasBefore k high r n

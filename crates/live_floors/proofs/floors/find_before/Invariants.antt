@@ -4,8 +4,8 @@ use Rattle.live_calls.specs.Ways.{Keeps}
 use Rattle.live_scans.specs.Scans.{HasRead}
 use Rattle.live_floors.proofs.floors.find_before.Given as goal
 
-abbrev pub invariant-loop : goal.invariant-loop
-invariant-loop l = record {
+abbrev pub invariant-loop-found : goal.invariant-loop-found
+invariant-loop-found l = record {
   book : l.pass.book ≡ l.fn.pass.book;
   id : l.pass.id ≡ l.fn.pass.id;
   keeps : Keeps l.fn.pass.view l.pass.view;
@@ -15,5 +15,5 @@ invariant-loop l = record {
   read : HasRead false l.fn.pass.view.client.seen l.pass.view.client.seen (l.from + 1) (l.key + 1) [];
 }
 
-abbrev pub decreases-loop : goal.decreases-loop
-decreases-loop l = l.from
+abbrev pub decreases-loop-found : goal.decreases-loop-found
+decreases-loop-found l = l.from
