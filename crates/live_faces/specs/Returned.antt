@@ -15,6 +15,10 @@ module _ {V : Type 0} (of_number : ℕ → V) (k : Known) where
   abbrev pub ReturnsOld : (Option ℕ → Entry ℕ) → Option V → Known → Type 0
   ReturnsOld entry before n = (number : Option ℕ) × (before ≡ option_map of_number number) × MadeCall k (entry number) n
 
+  -- the same, where the new number was put together from the previous one
+  abbrev pub ReturnsComputed : ℕ → (Option ℕ → ℕ) → Option V → Known → Type 0
+  ReturnsComputed key new = ReturnsOld (λ number. inserted_with k.caller key number (new number))
+
   -- compare_exchange returned the new value itself, or the current one, which isn't the expected one
   abbrev pub ReturnsExchanged : (V → ℕ) → ℕ → ℕ → Option V → Result (Option V) (Option V) → Known → Type 0
   ReturnsExchanged number key old new (Ok stored) n =
