@@ -152,6 +152,9 @@ int32_t congee_c_live_range_inclusive(struct congee_const_live_handle *handle, u
 int32_t congee_c_live_first(struct congee_const_live_handle *handle, struct congee_pair *pair);
 int32_t congee_c_live_ceiling(struct congee_const_live_handle *handle, uint64_t key, struct congee_pair *pair);
 int32_t congee_c_live_above(struct congee_const_live_handle *handle, uint64_t key, struct congee_pair *pair);
+int32_t congee_c_live_floor(struct congee_const_live_handle *handle, uint64_t key, struct congee_pair *pair);
+int32_t congee_c_live_below(struct congee_const_live_handle *handle, uint64_t key, struct congee_pair *pair);
+int32_t congee_c_live_last(struct congee_const_live_handle *handle, struct congee_pair *pair);
 
 #ifdef __cplusplus
 }

@@ -333,6 +333,76 @@ static inline int congee_live_above(const struct congee_live *map, uint64_t key,
     return 1;
 }
 
+/* As congee_last, but for other threads' calls meanwhile: the pair was there at a moment of the call, and no key above it is
+ * there throughout. Or CONGEE_BUSY. */
+static inline int congee_live_try_last(const struct congee_live *map, struct congee_pair *pair) {
+    struct congee_const_live_handle handle = {map};
+    struct congee_pair it = {0, 0};
+    int code = congee_c_live_last(&handle, &it);
+    if (code == 1 && pair)
+        *pair = it;
+    return code;
+}
+
+/* The same. Waits while nodes on its way are busy. */
+static inline int congee_live_last(const struct congee_live *map, struct congee_pair *pair) {
+    struct congee_pair it = {0, 0};
+    int code;
+    while ((code = congee_live_try_last(map, &it)) == CONGEE_BUSY)
+        CONGEE_YIELD();
+    if (code != 1)
+        return 0;
+    if (pair)
+        *pair = it;
+    return 1;
+}
+
+/* As congee_floor, in the same way. Or CONGEE_BUSY. */
+static inline int congee_live_try_floor(const struct congee_live *map, uint64_t key, struct congee_pair *pair) {
+    struct congee_const_live_handle handle = {map};
+    struct congee_pair it = {0, 0};
+    int code = congee_c_live_floor(&handle, key, &it);
+    if (code == 1 && pair)
+        *pair = it;
+    return code;
+}
+
+/* The same. Waits while nodes on its way are busy. */
+static inline int congee_live_floor(const struct congee_live *map, uint64_t key, struct congee_pair *pair) {
+    struct congee_pair it = {0, 0};
+    int code;
+    while ((code = congee_live_try_floor(map, key, &it)) == CONGEE_BUSY)
+        CONGEE_YIELD();
+    if (code != 1)
+        return 0;
+    if (pair)
+        *pair = it;
+    return 1;
+}
+
+/* As congee_below, in the same way. Or CONGEE_BUSY. */
+static inline int congee_live_try_below(const struct congee_live *map, uint64_t key, struct congee_pair *pair) {
+    struct congee_const_live_handle handle = {map};
+    struct congee_pair it = {0, 0};
+    int code = congee_c_live_below(&handle, key, &it);
+    if (code == 1 && pair)
+        *pair = it;
+    return code;
+}
+
+/* The same. Waits while nodes on its way are busy. */
+static inline int congee_live_below(const struct congee_live *map, uint64_t key, struct congee_pair *pair) {
+    struct congee_pair it = {0, 0};
+    int code;
+    while ((code = congee_live_try_below(map, key, &it)) == CONGEE_BUSY)
+        CONGEE_YIELD();
+    if (code != 1)
+        return 0;
+    if (pair)
+        *pair = it;
+    return 1;
+}
+
 #ifdef __cplusplus
 }
 #endif

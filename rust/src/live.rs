@@ -479,6 +479,108 @@ impl LiveGuard {
         unless_busy(code, |code| (code == 1).then(|| pair.into()))
     }
 
+    /// The pair with the greatest key. It was there at a moment of the call, and no key above it is there throughout.
+    ///
+    /// ```
+    /// # fn main() -> Result<(), proved_congee::OutOfMemory> {
+    /// let guard = proved_congee::LiveMap::new()?.pin()?;
+    /// for key in [5, 7, 9] {
+    ///     guard.insert(key, 10 * key)?;
+    /// }
+    /// assert_eq!(guard.last(), Some((9, 90)));
+    /// # Ok(())
+    /// # }
+    /// ```
+    pub fn last(&self) -> Option<(u64, u64)> {
+        waiting(|| self.try_last())
+    }
+
+    /// The same, which doesn't wait.
+    ///
+    /// ```
+    /// # fn main() -> Result<(), Box<dyn std::error::Error>> {
+    /// let guard = proved_congee::LiveMap::new()?.pin()?;
+    /// for key in [5, 7, 9] {
+    ///     guard.insert(key, 10 * key)?;
+    /// }
+    /// assert_eq!(guard.try_last()?, Some((9, 90)));
+    /// # Ok(())
+    /// # }
+    /// ```
+    pub fn try_last(&self) -> Result<Option<(u64, u64)>, Busy> {
+        let mut pair = Pair::default();
+        let code = unsafe { congee_c_live_last(&mut self.handle(), &mut pair) };
+        unless_busy(code, |code| (code == 1).then(|| pair.into()))
+    }
+
+    /// The pair with the greatest key that is at most this one, in the same way.
+    ///
+    /// ```
+    /// # fn main() -> Result<(), proved_congee::OutOfMemory> {
+    /// let guard = proved_congee::LiveMap::new()?.pin()?;
+    /// for key in [5, 7, 9] {
+    ///     guard.insert(key, 10 * key)?;
+    /// }
+    /// assert_eq!((guard.floor(6), guard.floor(4)), (Some((5, 50)), None));
+    /// # Ok(())
+    /// # }
+    /// ```
+    pub fn floor(&self, key: u64) -> Option<(u64, u64)> {
+        waiting(|| self.try_floor(key))
+    }
+
+    /// The same, which doesn't wait.
+    ///
+    /// ```
+    /// # fn main() -> Result<(), Box<dyn std::error::Error>> {
+    /// let guard = proved_congee::LiveMap::new()?.pin()?;
+    /// for key in [5, 7, 9] {
+    ///     guard.insert(key, 10 * key)?;
+    /// }
+    /// assert_eq!(guard.try_floor(7)?, Some((7, 70)));
+    /// # Ok(())
+    /// # }
+    /// ```
+    pub fn try_floor(&self, key: u64) -> Result<Option<(u64, u64)>, Busy> {
+        let mut pair = Pair::default();
+        let code = unsafe { congee_c_live_floor(&mut self.handle(), key, &mut pair) };
+        unless_busy(code, |code| (code == 1).then(|| pair.into()))
+    }
+
+    /// The pair with the greatest key below this one, in the same way.
+    ///
+    /// ```
+    /// # fn main() -> Result<(), proved_congee::OutOfMemory> {
+    /// let guard = proved_congee::LiveMap::new()?.pin()?;
+    /// for key in [5, 7, 9] {
+    ///     guard.insert(key, 10 * key)?;
+    /// }
+    /// assert_eq!((guard.below(7), guard.below(5)), (Some((5, 50)), None));
+    /// # Ok(())
+    /// # }
+    /// ```
+    pub fn below(&self, key: u64) -> Option<(u64, u64)> {
+        waiting(|| self.try_below(key))
+    }
+
+    /// The same, which doesn't wait.
+    ///
+    /// ```
+    /// # fn main() -> Result<(), Box<dyn std::error::Error>> {
+    /// let guard = proved_congee::LiveMap::new()?.pin()?;
+    /// for key in [5, 7, 9] {
+    ///     guard.insert(key, 10 * key)?;
+    /// }
+    /// assert_eq!(guard.try_below(10)?, Some((9, 90)));
+    /// # Ok(())
+    /// # }
+    /// ```
+    pub fn try_below(&self, key: u64) -> Result<Option<(u64, u64)>, Busy> {
+        let mut pair = Pair::default();
+        let code = unsafe { congee_c_live_below(&mut self.handle(), key, &mut pair) };
+        unless_busy(code, |code| (code == 1).then(|| pair.into()))
+    }
+
     /// Writes the first pairs with `start <= key < end` to the buffer, keys ascending, as many as there are or as fit, and
     /// returns how many. They aren't those of one moment: each was there at a moment of the call, and a key that is there
     /// throughout is among them. What follows in the buffer is unspecified.

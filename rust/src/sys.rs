@@ -342,4 +342,7 @@ extern "C" {
     pub(crate) fn congee_c_live_first(handle: *mut LiveHandle, pair: *mut Pair) -> i32;
     pub(crate) fn congee_c_live_ceiling(handle: *mut LiveHandle, key: u64, pair: *mut Pair) -> i32;
     pub(crate) fn congee_c_live_above(handle: *mut LiveHandle, key: u64, pair: *mut Pair) -> i32;
+    pub(crate) fn congee_c_live_floor(handle: *mut LiveHandle, key: u64, pair: *mut Pair) -> i32;
+    pub(crate) fn congee_c_live_below(handle: *mut LiveHandle, key: u64, pair: *mut Pair) -> i32;
+    pub(crate) fn congee_c_live_last(handle: *mut LiveHandle, pair: *mut Pair) -> i32;
 }

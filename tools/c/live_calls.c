@@ -166,13 +166,15 @@ static const struct range {
     {1, UINT64_MAX, true, 0, 0, 0},
 };
 
-/* A key, and the places of its ceiling and of the first key above it. THERE is none. */
+/* A key, and the places of its ceiling, of the first key above it, of its floor, and of the last key below it. THERE is none. */
 static const struct near {
     uint64_t key;
-    size_t ceiling, above;
+    size_t ceiling, above, floor, below;
 } nears[] = {
-    {0, 0, 0}, {5, 0, 1}, {6, 1, 1}, {7, 1, 2}, {0x1fe, 3, 3}, {0x200, 4, 5}, {1ull << 40, 5, 6}, {(1ull << 40) + 1, 6, 6},
-    {UINT64_MAX - 1, 6, 6}, {UINT64_MAX, 6, THERE},
+    {0, 0, 0, THERE, THERE},          {5, 0, 1, 0, THERE},          {6, 1, 1, 0, 0},
+    {7, 1, 2, 1, 0},                  {0x1fe, 3, 3, 2, 2},          {0x200, 4, 5, 4, 3},
+    {1ull << 40, 5, 6, 5, 4},         {(1ull << 40) + 1, 6, 6, 5, 5}, {UINT64_MAX - 1, 6, 6, 5, 5},
+    {UINT64_MAX, 6, THERE, 6, 5},
 };
 
 static bool is_there(struct congee_pair pair, size_t place) {
@@ -211,18 +213,34 @@ static void call_near(struct congee_live *map, uint64_t key, size_t ceiling, siz
     need(is_there(c, above) && is_there(d, above), "the pair of above");
 }
 
-static void call_first(struct congee_live *map, bool is_some) {
-    struct congee_pair a = {1, 2}, b = {1, 2};
+/* The pairs before, in the same way. */
+static void call_before(struct congee_live *map, uint64_t key, size_t floor, size_t below) {
+    struct congee_pair a = {1, 2}, b = {1, 2}, c = {1, 2}, d = {1, 2};
+    int codes[] = {congee_live_floor(map, key, &a), congee_live_try_floor(map, key, &b), congee_live_floor(map, key, NULL)};
+    for (int i = 0; i < 3; i++)
+        need(codes[i] == (floor < THERE), "floor");
+    need(is_there(a, floor) && is_there(b, floor), "the pair of floor");
+    int others[] = {congee_live_below(map, key, &c), congee_live_try_below(map, key, &d), congee_live_try_below(map, key, NULL)};
+    for (int i = 0; i < 3; i++)
+        need(others[i] == (below < THERE), "below");
+    need(is_there(c, below) && is_there(d, below), "the pair of below");
+}
+
+static void call_ends(struct congee_live *map, bool is_some) {
+    struct congee_pair a = {1, 2}, b = {1, 2}, c = {1, 2}, d = {1, 2};
     need(congee_live_first(map, &a) == is_some && congee_live_try_first(map, &b) == is_some, "first");
     need(congee_live_first(map, NULL) == is_some, "first, with no place");
     need(is_there(a, is_some ? 0 : THERE) && is_there(b, is_some ? 0 : THERE), "the pair of first");
+    need(congee_live_last(map, &c) == is_some && congee_live_try_last(map, &d) == is_some, "last");
+    need(congee_live_last(map, NULL) == is_some, "last, with no place");
+    need(is_there(c, is_some ? THERE - 1 : THERE) && is_there(d, is_some ? THERE - 1 : THERE), "the pair of last");
 }
 
-/* Each range and each next pair, of the keys above, and of no keys. They are removed, so nodes without pairs are there. */
+/* Each range, each next pair and each one before, of the keys above, and of no keys. They are removed, so nodes without pairs are there. */
 static void call_ranges(void) {
     struct congee_live *map;
     need(congee_live_new(&map) == 0, "a map");
-    call_first(map, false);
+    call_ends(map, false);
     for (size_t i = 0; i < THERE; i++)
         need(congee_live_insert(map, there[THERE - 1 - i], 10 * there[THERE - 1 - i], NULL) == 0, "a key");
     for (size_t i = 0; i < sizeof ranges / sizeof *ranges; i++) {
@@ -231,12 +249,16 @@ static void call_ranges(void) {
     }
     for (size_t i = 0; i < sizeof nears / sizeof *nears; i++)
         call_near(map, nears[i].key, nears[i].ceiling, nears[i].above);
-    call_first(map, true);
+    for (size_t i = 0; i < sizeof nears / sizeof *nears; i++)
+        call_before(map, nears[i].key, nears[i].floor, nears[i].below);
+    call_ends(map, true);
     for (size_t i = 0; i < THERE; i++)
         need(congee_live_remove(map, there[i], NULL) == 1, "a removal");
     for (size_t i = 0; i < sizeof nears / sizeof *nears; i++)
         call_near(map, nears[i].key, THERE, THERE);
-    call_first(map, false);
+    for (size_t i = 0; i < sizeof nears / sizeof *nears; i++)
+        call_before(map, nears[i].key, THERE, THERE);
+    call_ends(map, false);
     need(congee_live_range_inclusive(map, 0, UINT64_MAX, (struct congee_pair[1]){{0, 0}}, 1) == 0, "a range of no keys");
     congee_live_free(map);
 }
@@ -250,11 +272,11 @@ static bool is_same(struct congee_pair a, struct congee_pair b) {
     return a.key == b.key && a.value == b.value;
 }
 
-/* A range, or a next pair. */
+/* A range, a next pair, or one before. */
 static void compare_pairs(struct congee *map, struct congee_live *live, uint64_t key, uint64_t *seed) {
     static struct congee_pair one[ROOM], other[ROOM];
     struct congee_pair a = {1, 2}, b = {1, 2};
-    uint64_t last = key_of(next(seed) % KEYS), kind = next(seed) % 5;
+    uint64_t last = key_of(next(seed) % KEYS), kind = next(seed) % 8;
     size_t n = next(seed) % (ROOM + 1), count, its;
     switch (kind) {
     case 0:
@@ -266,9 +288,18 @@ static void compare_pairs(struct congee *map, struct congee_live *live, uint64_t
     case 2:
         need(congee_above(map, key, &a) == congee_live_above(live, key, &b) && is_same(a, b), "above");
         break;
+    case 3:
+        need(congee_last(map, &a) == congee_live_last(live, &b) && is_same(a, b), "last");
+        break;
+    case 4:
+        need(congee_floor(map, key, &a) == congee_live_floor(live, key, &b) && is_same(a, b), "floor");
+        break;
+    case 5:
+        need(congee_below(map, key, &a) == congee_live_below(live, key, &b) && is_same(a, b), "below");
+        break;
     default:
-        count = kind == 3 ? congee_range(map, key, last, one, n) : congee_range_inclusive(map, key, last, one, n);
-        its = kind == 3 ? congee_live_range(live, key, last, other, n) : congee_live_range_inclusive(live, key, last, other, n);
+        count = kind == 6 ? congee_range(map, key, last, one, n) : congee_range_inclusive(map, key, last, one, n);
+        its = kind == 6 ? congee_live_range(live, key, last, other, n) : congee_live_range_inclusive(live, key, last, other, n);
         need(count == its && memcmp(one, other, count * sizeof *one) == 0, "a range");
     }
 }

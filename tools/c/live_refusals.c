@@ -79,6 +79,7 @@ static void spare(struct congee_live *map, uint64_t i, bool is_stored) {
     need(congee_live_try_range_inclusive(map, key, key, &pair, 1, &n) == 0 && n == is_stored, "a range of it alone");
     need(!is_stored || (pair.key == key && pair.value == i), "its pair");
     need(congee_live_try_ceiling(map, key, &pair) != CONGEE_OOM && (!is_stored || pair.key == key), "a ceiling");
+    need(congee_live_try_floor(map, key, &pair) != CONGEE_OOM && (!is_stored || pair.key == key), "a floor");
     need(congee_live_try_compare_exchange(map, key, i, ~i, &value) == is_stored, "an exchange");
     need(congee_live_try_compare_remove(map, key, i, &old) == (is_stored ? 2 : 0), "a removal of another value");
     need(old == (is_stored ? ~i : 99), "the value that it finds");

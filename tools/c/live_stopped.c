@@ -80,6 +80,8 @@ static bool is_busy(struct congee_live *map) {
         need(congee_live_try_first(map, &pair) == CONGEE_BUSY, "the first pair, which is in its leaf");
         need(congee_live_try_ceiling(map, LEAF, &pair) == CONGEE_BUSY, "a ceiling in its leaf");
         need(congee_live_try_above(map, LEAF + 2, &pair) == CONGEE_BUSY, "a pair above, in its leaf");
+        need(congee_live_try_floor(map, LEAF + 9, &pair) == CONGEE_BUSY, "a floor in its leaf");
+        need(congee_live_try_below(map, LEAF + 1, &pair) == CONGEE_BUSY, "a pair below, in its leaf");
         need(congee_live_try_range(map, LEAF, LEAF + 4, &page, 1, &n) == CONGEE_BUSY, "a range in its leaf");
         need(congee_live_try_range_inclusive(map, 0, LEAF, &page, 1, &n) == CONGEE_BUSY, "a range to its leaf");
         need(pair.key == 99 && n == 99, "a busy reader writes no pair and no number");
@@ -90,6 +92,8 @@ static bool is_busy(struct congee_live *map) {
     need(congee_live_try_compare_exchange(map, LEAF + 256, old + 1, old + 2, &found) == 1, "an exchange elsewhere");
     need(congee_live_try_ceiling(map, LEAF + 4, &pair) == (code == CONGEE_BUSY ? CONGEE_BUSY : 1), "a pair behind its leaf");
     need(congee_live_try_above(map, LEAF + 255, &pair) == 1 && pair.key == LEAF + 256, "a pair elsewhere");
+    need(congee_live_try_last(map, &pair) == 1 && pair.key == LEAF + 256, "the last pair, elsewhere");
+    need(congee_live_try_floor(map, LEAF + 256, &pair) == 1 && pair.key == LEAF + 256, "a floor elsewhere");
     need(congee_live_try_range(map, LEAF + 256, UINT64_MAX, &page, 1, &n) == 0 && n == 1, "a range elsewhere");
     need(page.key == LEAF + 256 && page.value == old + 2, "its pair");
     need(congee_live_try_add(map, LEAF + 256, 1, &old) == 1 && old == value + 2, "a sum elsewhere");

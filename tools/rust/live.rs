@@ -97,19 +97,22 @@ fn read(guard: &LiveGuard, plain: &Plain, at: u64, seed: &mut u64) {
     let last = key(seed);
     let mut page = [Pair::default(); 40];
     let above = plain.range(at..).find(|(key, _)| **key > at);
-    match next(seed) % 8 {
+    match next(seed) % 11 {
         0 => assert_eq!(guard.get(at), plain.get(&at).copied()),
         1 => assert_eq!(guard.contains_key(&at), plain.contains_key(&at)),
         2 => assert_eq!(guard.first(), pair(plain.first_key_value())),
         3 => assert_eq!(guard.try_ceiling(at), Ok(pair(plain.range(at..).next()))),
         4 => assert_eq!(guard.above(at), pair(above)),
-        5 => {
+        5 => assert_eq!(guard.last(), pair(plain.last_key_value())),
+        6 => assert_eq!(guard.try_floor(at), Ok(pair(plain.range(..=at).next_back()))),
+        7 => assert_eq!(guard.below(at), pair(plain.range(..at).next_back())),
+        8 => {
             let wanted = plain.range(at..).take_while(|(key, _)| **key < last);
             assert!(guard
                 .range(at..last.max(at))
                 .eq(wanted.map(|(k, v)| (*k, *v))));
         }
-        6 => {
+        9 => {
             let count = guard.read_range_inclusive(at, last, &mut page);
             let wanted = plain.range(at..).take_while(|(key, _)| **key <= last);
             let written = page[..count].iter().map(|pair| (pair.key, pair.value));

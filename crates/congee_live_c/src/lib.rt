@@ -23,6 +23,7 @@ mod computed;
 mod handle;
 mod held;
 mod next_pair;
+mod pair_before;
 mod parts;
 mod ranges;
 mod room;

@@ -67,7 +67,7 @@ pub extern "C" fn congee_c_live_above(handle: &mut Handle, key: u64, pair: &mut 
 }
 
 // 1 with the pair written to the place, or 0, or `BUSY`.
-fn answer_pair(found: Result<Option<(u64, u64)>, Busy>, place: &mut Pair) -> i32
+pub(crate) fn answer_pair(found: Result<Option<(u64, u64)>, Busy>, place: &mut Pair) -> i32
     ensures code { (result ≡ pos 0) ⊎ (result ≡ pos 1) ⊎ (result ≡ busy) }
     ensures present { result ≡ pos 1 → found ≡ Ok (Some (pair_of place.new)) }
     ensures absent { result ≡ pos 0 → found ≡ Ok None }

@@ -2,7 +2,7 @@
 //!
 //! Tested in `tools/c-library`.
 
-ghost use Rattle.std.specs.Prelude.{◌≡◌, ◌≢◌, ◌+◌, ◌≤◌, [], length, take, IfOk, OnErr, unwrap_or};
+ghost use Rattle.std.specs.Prelude.{◌≡◌, ◌≢◌, ◌+◌, ◌^◌, ◌≤◌, [], length, take, IfOk, OnErr, unwrap_or};
 ghost use Rattle.live_law.specs.Views.{ask, got, inserted};
 ghost use Rattle.live_law.specs.Known.{MadeCall};
 ghost use Rattle.live_calls.specs.Meetings.{SeenMore};
@@ -10,9 +10,11 @@ ghost use Rattle.live_updates.specs.Entries.{removed, swapped};
 ghost use Rattle.live_computes.specs.Entries.{inserted_with, sum_with};
 ghost use Rattle.live_order.specs.Page.{pairs_of};
 ghost use Rattle.live_scans.specs.Scans.{EntersNothing, HasPage, HasNext};
+ghost use Rattle.live_floors.specs.Floors.{HasBefore};
 
 use live_calls::map::{Busy, Congee, Guard, Refusal};
 use live_computes::present;
+use live_floors::floors;
 use live_order::page::RangeEntry;
 use live_scans::scans;
 use live_updates::calls;
@@ -193,5 +195,29 @@ impl Caller {
         ensures busy { OnErr result (EntersNothing self.old self.new) }
     {
         scans::above(&self.map, &mut self.guard, key)
+    }
+
+    /// The pair with the greatest key that is at most this one. `Busy` if too many writers came in between.
+    pub fn floor(&mut self, key: u64) -> Result<Option<(u64, u64)>, Busy>
+        ensures before { IfOk result (λ found. HasBefore self.old (key + 1) found self.new) }
+        ensures busy { OnErr result (EntersNothing self.old self.new) }
+    {
+        floors::floor(&self.map, &mut self.guard, key)
+    }
+
+    /// The pair with the greatest key that is below this one. `Busy` if too many writers came in between.
+    pub fn below(&mut self, key: u64) -> Result<Option<(u64, u64)>, Busy>
+        ensures before { IfOk result (λ found. HasBefore self.old key found self.new) }
+        ensures busy { OnErr result (EntersNothing self.old self.new) }
+    {
+        floors::below(&self.map, &mut self.guard, key)
+    }
+
+    /// The pair with the greatest key. `Busy` if too many writers came in between.
+    pub fn last(&mut self) -> Result<Option<(u64, u64)>, Busy>
+        ensures last { IfOk result (λ found. HasBefore self.old (2 ^ 64) found self.new) }
+        ensures busy { OnErr result (EntersNothing self.old self.new) }
+    {
+        floors::last(&self.map, &mut self.guard)
     }
 }
