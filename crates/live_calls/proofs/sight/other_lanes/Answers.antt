@@ -1,7 +1,6 @@
-use Rattle.std.proofs.Common.{rules, arith, ap, get_or, length, ◌≡◌, ◌≤◌, ◌<◌, ◌∷◌, [], ◌∙◌, sym}
-use Rattle.std.specs.Simd.Lanes.{zip2}
+use Rattle.std.proofs.Common.{rules, arith, ap, get_or, length, ◌≡◌, ◌∷◌, [], ◌∙◌, sym}
 use Rattle.live_cells.specs.Words.{lane}
-use Rattle.live_calls.proofs.Bytes.{seven, differs, lane_same, lane_differs}
+use Rattle.live_calls.proofs.Bytes.{seven, lane_same, lane_differs}
 use Rattle.live_calls.proofs.sight.other_lanes.Goals as goal
 
 pub returns-clause-same : goal.returns-clause-same

@@ -1,8 +1,5 @@
-use Rattle.std.proofs.Common.{rules, sym, ap, subst, ◌≡◌, ◌∙◌, Some, None}
-use Rattle.live_law.specs.Views.{View}
-use Rattle.live_calls.specs.Ways.{Sights, Ended}
-use Rattle.live_calls.specs.Sees.{Follows, HasMet}
-use Rattle.live_calls.specs.declared.sight.Sight.TheVariants as sights
+use Rattle.std.proofs.Common.{rules, sym, subst, ◌≡◌, ◌∙◌, Some}
+use Rattle.live_calls.specs.Ways.{Sights}
 use Rattle.live_calls.proofs.Finds.{keeps_then, looked_below}
 use Rattle.live_calls.proofs.sight.step.Goals as goal
 
