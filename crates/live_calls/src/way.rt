@@ -46,6 +46,7 @@ pub fn bytes_of(key: u64) -> [u8; 8]
 }
 
 /// The name of the root. `None` where there is none yet, or a writer came in between.
+#[inline(always)]
 pub fn root(nodes: &Nodes, key: u64, pass: &mut Pass) -> Option<u64>
     requires book { pass.old.book ≡ nodes.now }
     requires trunk { KnowsTrunk pass.old.view }
