@@ -138,8 +138,23 @@ int32_t congee_c_live_another(struct congee_live_handle *handle, struct congee_l
 void congee_c_live_free(struct congee_live_handle handle);
 int32_t congee_c_live_get(struct congee_const_live_handle *handle, uint64_t key, uint64_t *value);
 int32_t congee_c_live_insert(struct congee_live_handle *handle, uint64_t key, uint64_t value, uint64_t *before);
+int32_t congee_c_live_remove(struct congee_live_handle *handle, uint64_t key, uint64_t *before);
 int32_t congee_c_live_compare_exchange(struct congee_live_handle *handle, uint64_t key, uint64_t expected,
                                        uint64_t desired, uint64_t *found);
+int32_t congee_c_live_compare_remove(struct congee_live_handle *handle, uint64_t key, uint64_t expected,
+                                     uint64_t *found);
+int32_t congee_c_live_add(struct congee_live_handle *handle, uint64_t key, uint64_t number, uint64_t *before);
+int32_t congee_c_live_get_or_insert(struct congee_live_handle *handle, uint64_t key, uint64_t value, uint64_t *found);
+int32_t congee_c_live_range(struct congee_const_live_handle *handle, uint64_t start, uint64_t end,
+                            struct congee_pair *buffer, size_t n, uint64_t *out);
+int32_t congee_c_live_range_inclusive(struct congee_const_live_handle *handle, uint64_t start, uint64_t last,
+                                      struct congee_pair *buffer, size_t n, uint64_t *out);
+int32_t congee_c_live_first(struct congee_const_live_handle *handle, struct congee_pair *pair);
+int32_t congee_c_live_ceiling(struct congee_const_live_handle *handle, uint64_t key, struct congee_pair *pair);
+int32_t congee_c_live_above(struct congee_const_live_handle *handle, uint64_t key, struct congee_pair *pair);
+int32_t congee_c_live_floor(struct congee_const_live_handle *handle, uint64_t key, struct congee_pair *pair);
+int32_t congee_c_live_below(struct congee_const_live_handle *handle, uint64_t key, struct congee_pair *pair);
+int32_t congee_c_live_last(struct congee_const_live_handle *handle, struct congee_pair *pair);
 
 #ifdef __cplusplus
 }

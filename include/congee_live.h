@@ -1,8 +1,9 @@
 /* congee_live.h: a map from uint64_t to uint64_t that threads share, and read without a lock. C11 and C++11. MIT license.
  *
  * congee.h includes this header. A handle is one caller of the map. A look-up takes no lock, and writes nothing that other
- * threads read. A writer locks single nodes, one or two at a time, and calls nothing of the program meanwhile. There are no
- * removals and no ranges yet. For these take congee_shared.h.
+ * threads read. A writer locks single nodes, one or two at a time, and calls nothing of the program meanwhile. A node
+ * stays where its last pair is removed, for keys that are inserted later. For last, floor, below, pops, counts, limits
+ * and pages of one moment take congee_shared.h.
  *
  * A call is tried a bounded number of times. If a writer came in between each time, the call ends, and nothing has changed.
  *
@@ -14,8 +15,9 @@
  * What a call of the library's own functions returns is proved of their code (congee_exports.h). There is one order of
  * the calls of all handles of a map, in which each reply is that of an ordered map. A handle's own calls are in it in
  * their order, and each comes after all that its handle had seen before. A new handle has seen what its maker had. A
- * call that is busy or finds no memory isn't in it. The functions for use are plain C around the exports, and are
- * tested.
+ * call that is busy or finds no memory isn't in it. Ranges and the next pairs aren't in it either: each key that they pass or
+ * give has its value at a moment of the call, and no moment is before that of a lower key. The functions for use are
+ * plain C around the exports, and are tested.
  *
  * What a program owes, beside the rules of congee.h on places, buffers, stack and malloc. Nothing checks it:
  *
@@ -116,6 +118,29 @@ static inline int congee_live_insert(struct congee_live *map, uint64_t key, uint
     return code;
 }
 
+/* As congee_remove, or CONGEE_BUSY. Takes no memory. */
+static inline int congee_live_try_remove(struct congee_live *map, uint64_t key, uint64_t *old) {
+    struct congee_live_handle handle = {map};
+    uint64_t it = 0;
+    int code = congee_c_live_remove(&handle, key, &it);
+    if (code == 1 && old)
+        *old = it;
+    return code;
+}
+
+/* The same. Waits while the key's nodes are busy. */
+static inline int congee_live_remove(struct congee_live *map, uint64_t key, uint64_t *old) {
+    uint64_t it = 0;
+    int code;
+    while ((code = congee_live_try_remove(map, key, &it)) == CONGEE_BUSY)
+        CONGEE_YIELD();
+    if (code != 1)
+        return 0;
+    if (old)
+        *old = it;
+    return 1;
+}
+
 /* As congee_compare_exchange, or CONGEE_BUSY. */
 static inline int congee_live_try_compare_exchange(struct congee_live *map, uint64_t key, uint64_t expected,
                                                    uint64_t desired, uint64_t *found) {
@@ -134,6 +159,248 @@ static inline int congee_live_compare_exchange(struct congee_live *map, uint64_t
     while ((code = congee_live_try_compare_exchange(map, key, expected, desired, found)) == CONGEE_BUSY)
         CONGEE_YIELD();
     return code;
+}
+
+/* As congee_compare_remove, or CONGEE_BUSY. Takes no memory. */
+static inline int congee_live_try_compare_remove(struct congee_live *map, uint64_t key, uint64_t expected,
+                                                 uint64_t *found) {
+    struct congee_live_handle handle = {map};
+    uint64_t it = 0;
+    int code = congee_c_live_compare_remove(&handle, key, expected, &it);
+    if (code == 2 && found)
+        *found = it;
+    return code;
+}
+
+/* The same. Waits while the key's nodes are busy. */
+static inline int congee_live_compare_remove(struct congee_live *map, uint64_t key, uint64_t expected, uint64_t *found) {
+    int code;
+    while ((code = congee_live_try_compare_remove(map, key, expected, found)) == CONGEE_BUSY)
+        CONGEE_YIELD();
+    return code;
+}
+
+/* As congee_add, or CONGEE_BUSY. */
+static inline int congee_live_try_add(struct congee_live *map, uint64_t key, uint64_t number, uint64_t *old) {
+    struct congee_live_handle handle = {map};
+    uint64_t it = 0;
+    int code = congee_c_live_add(&handle, key, number, &it);
+    if (code == 1 && old)
+        *old = it;
+    return code;
+}
+
+/* The same. Waits while the key's nodes are busy. */
+static inline int congee_live_add(struct congee_live *map, uint64_t key, uint64_t number, uint64_t *old) {
+    int code;
+    while ((code = congee_live_try_add(map, key, number, old)) == CONGEE_BUSY)
+        CONGEE_YIELD();
+    return code;
+}
+
+/* As congee_get_or_insert, or CONGEE_BUSY. For a present key it takes no lock. */
+static inline int congee_live_try_get_or_insert(struct congee_live *map, uint64_t key, uint64_t value, uint64_t *found) {
+    struct congee_live_handle handle = {map};
+    uint64_t it = 0;
+    int code = congee_c_live_get_or_insert(&handle, key, value, &it);
+    if (code == 1 && found)
+        *found = it;
+    return code;
+}
+
+/* The same. Waits while the key's nodes are busy. */
+static inline int congee_live_get_or_insert(struct congee_live *map, uint64_t key, uint64_t value, uint64_t *found) {
+    int code;
+    while ((code = congee_live_try_get_or_insert(map, key, value, found)) == CONGEE_BUSY)
+        CONGEE_YIELD();
+    return code;
+}
+
+/* -- Ranges -- */
+
+/* As congee_range, but for other threads' calls meanwhile: the pairs aren't those of one moment. Each was there at a moment
+ * of the call. Keys ascend, and a key that is there throughout is given. The pairs of one node that has values are of one
+ * moment. The buffer's pairs behind those that are given are unspecified. Returns 0 with the number of pairs in *written,
+ * or CONGEE_BUSY, after which all of the buffer is unspecified. */
+static inline int congee_live_try_range(const struct congee_live *map, uint64_t start, uint64_t end,
+                                        struct congee_pair *buffer, size_t n, size_t *written) {
+    struct congee_const_live_handle handle = {map};
+    uint64_t it = 0;
+    int code = n == 0 ? 0 : congee_c_live_range(&handle, start, end, buffer, n, &it);
+    if (code == 0)
+        *written = it;
+    return code;
+}
+
+/* The same. Waits while nodes on its way are busy, and returns the number. */
+static inline size_t congee_live_range(const struct congee_live *map, uint64_t start, uint64_t end,
+                                       struct congee_pair *buffer, size_t n) {
+    size_t written = 0;
+    while (congee_live_try_range(map, start, end, buffer, n, &written) == CONGEE_BUSY)
+        CONGEE_YIELD();
+    return written;
+}
+
+/* As congee_range_inclusive, with what congee_live_try_range says of the pairs, the buffer and what it returns. */
+static inline int congee_live_try_range_inclusive(const struct congee_live *map, uint64_t start, uint64_t last,
+                                                  struct congee_pair *buffer, size_t n, size_t *written) {
+    struct congee_const_live_handle handle = {map};
+    uint64_t it = 0;
+    int code = n == 0 ? 0 : congee_c_live_range_inclusive(&handle, start, last, buffer, n, &it);
+    if (code == 0)
+        *written = it;
+    return code;
+}
+
+/* The same. Waits while nodes on its way are busy, and returns the number. */
+static inline size_t congee_live_range_inclusive(const struct congee_live *map, uint64_t start, uint64_t last,
+                                                 struct congee_pair *buffer, size_t n) {
+    size_t written = 0;
+    while (congee_live_try_range_inclusive(map, start, last, buffer, n, &written) == CONGEE_BUSY)
+        CONGEE_YIELD();
+    return written;
+}
+
+/* -- Ends and neighbours -- */
+
+/* As congee_first, but for other threads' calls meanwhile: the pair was there at a moment of the call, and no key below it is
+ * there throughout. Or CONGEE_BUSY. */
+static inline int congee_live_try_first(const struct congee_live *map, struct congee_pair *pair) {
+    struct congee_const_live_handle handle = {map};
+    struct congee_pair it = {0, 0};
+    int code = congee_c_live_first(&handle, &it);
+    if (code == 1 && pair)
+        *pair = it;
+    return code;
+}
+
+/* The same. Waits while nodes on its way are busy. */
+static inline int congee_live_first(const struct congee_live *map, struct congee_pair *pair) {
+    struct congee_pair it = {0, 0};
+    int code;
+    while ((code = congee_live_try_first(map, &it)) == CONGEE_BUSY)
+        CONGEE_YIELD();
+    if (code != 1)
+        return 0;
+    if (pair)
+        *pair = it;
+    return 1;
+}
+
+/* As congee_ceiling, in the same way. Or CONGEE_BUSY. */
+static inline int congee_live_try_ceiling(const struct congee_live *map, uint64_t key, struct congee_pair *pair) {
+    struct congee_const_live_handle handle = {map};
+    struct congee_pair it = {0, 0};
+    int code = congee_c_live_ceiling(&handle, key, &it);
+    if (code == 1 && pair)
+        *pair = it;
+    return code;
+}
+
+/* The same. Waits while nodes on its way are busy. */
+static inline int congee_live_ceiling(const struct congee_live *map, uint64_t key, struct congee_pair *pair) {
+    struct congee_pair it = {0, 0};
+    int code;
+    while ((code = congee_live_try_ceiling(map, key, &it)) == CONGEE_BUSY)
+        CONGEE_YIELD();
+    if (code != 1)
+        return 0;
+    if (pair)
+        *pair = it;
+    return 1;
+}
+
+/* As congee_above, in the same way. Or CONGEE_BUSY. */
+static inline int congee_live_try_above(const struct congee_live *map, uint64_t key, struct congee_pair *pair) {
+    struct congee_const_live_handle handle = {map};
+    struct congee_pair it = {0, 0};
+    int code = congee_c_live_above(&handle, key, &it);
+    if (code == 1 && pair)
+        *pair = it;
+    return code;
+}
+
+/* The same. Waits while nodes on its way are busy. */
+static inline int congee_live_above(const struct congee_live *map, uint64_t key, struct congee_pair *pair) {
+    struct congee_pair it = {0, 0};
+    int code;
+    while ((code = congee_live_try_above(map, key, &it)) == CONGEE_BUSY)
+        CONGEE_YIELD();
+    if (code != 1)
+        return 0;
+    if (pair)
+        *pair = it;
+    return 1;
+}
+
+/* As congee_last, but for other threads' calls meanwhile: the pair was there at a moment of the call, and no key above it is
+ * there throughout. Or CONGEE_BUSY. */
+static inline int congee_live_try_last(const struct congee_live *map, struct congee_pair *pair) {
+    struct congee_const_live_handle handle = {map};
+    struct congee_pair it = {0, 0};
+    int code = congee_c_live_last(&handle, &it);
+    if (code == 1 && pair)
+        *pair = it;
+    return code;
+}
+
+/* The same. Waits while nodes on its way are busy. */
+static inline int congee_live_last(const struct congee_live *map, struct congee_pair *pair) {
+    struct congee_pair it = {0, 0};
+    int code;
+    while ((code = congee_live_try_last(map, &it)) == CONGEE_BUSY)
+        CONGEE_YIELD();
+    if (code != 1)
+        return 0;
+    if (pair)
+        *pair = it;
+    return 1;
+}
+
+/* As congee_floor, in the same way. Or CONGEE_BUSY. */
+static inline int congee_live_try_floor(const struct congee_live *map, uint64_t key, struct congee_pair *pair) {
+    struct congee_const_live_handle handle = {map};
+    struct congee_pair it = {0, 0};
+    int code = congee_c_live_floor(&handle, key, &it);
+    if (code == 1 && pair)
+        *pair = it;
+    return code;
+}
+
+/* The same. Waits while nodes on its way are busy. */
+static inline int congee_live_floor(const struct congee_live *map, uint64_t key, struct congee_pair *pair) {
+    struct congee_pair it = {0, 0};
+    int code;
+    while ((code = congee_live_try_floor(map, key, &it)) == CONGEE_BUSY)
+        CONGEE_YIELD();
+    if (code != 1)
+        return 0;
+    if (pair)
+        *pair = it;
+    return 1;
+}
+
+/* As congee_below, in the same way. Or CONGEE_BUSY. */
+static inline int congee_live_try_below(const struct congee_live *map, uint64_t key, struct congee_pair *pair) {
+    struct congee_const_live_handle handle = {map};
+    struct congee_pair it = {0, 0};
+    int code = congee_c_live_below(&handle, key, &it);
+    if (code == 1 && pair)
+        *pair = it;
+    return code;
+}
+
+/* The same. Waits while nodes on its way are busy. */
+static inline int congee_live_below(const struct congee_live *map, uint64_t key, struct congee_pair *pair) {
+    struct congee_pair it = {0, 0};
+    int code;
+    while ((code = congee_live_try_below(map, key, &it)) == CONGEE_BUSY)
+        CONGEE_YIELD();
+    if (code != 1)
+        return 0;
+    if (pair)
+        *pair = it;
+    return 1;
 }
 
 #ifdef __cplusplus

@@ -45,7 +45,7 @@
 //! # Threads
 //!
 //! Threads share a [`SharedMap`], each by a [`Guard`] of its own, under one lock of the library. Or a [`LiveMap`], each by a
-//! [`LiveGuard`]: its look-ups take no lock, and it has no removals and no ranges yet.
+//! [`LiveGuard`]: its look-ups take no lock.
 //!
 //! A [`Map`] can move to another thread. Threads can't share it by `&`, since the library takes a map as its own during
 //! each call, reads included. So it isn't `Sync`, and a `RwLock` or an `Arc` alone doesn't help. Put it into a `Mutex`, or
@@ -103,7 +103,7 @@ mod sys;
 pub use frozen::{Frozen, Readers};
 pub use live::{LiveGuard, LiveMap};
 pub use map::{ExtendError, FreezeError, Map};
-pub use pages::{IntoIter, Keys, Range, Values};
+pub use pages::{IntoIter, Keys, LiveRange, Range, Values};
 pub use shared::{Busy, Guard, SharedMap, TryError};
 
 use std::fmt;

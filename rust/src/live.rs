@@ -1,19 +1,22 @@
 //! A map that threads read without a lock.
 
-use crate::map::if_expected;
+use crate::map::{as_length, if_expected};
+use crate::pages::LiveRange;
 use crate::shared::{if_made, unless_busy, waiting, waiting_for_memory, Busy, TryError};
 use crate::sys::*;
-use crate::OutOfMemory;
+use crate::{OutOfMemory, Pair};
 use std::borrow::Borrow;
 use std::fmt;
+use std::ops::RangeBounds;
 use std::sync::{Mutex, PoisonError};
 
 /// A map that threads share, each by a [`LiveGuard`] of its own, whose look-ups take no lock. They write nothing that other
-/// threads read. A writer locks single nodes. There are no removals and no ranges yet: for these take a
-/// [`SharedMap`](crate::SharedMap).
+/// threads read. A writer locks single nodes. A node stays where its last pair is removed, for keys that are inserted later.
+/// For `last`, `floor`, `below`, pops, counts, limits and pages of one moment take a [`SharedMap`](crate::SharedMap).
 ///
 /// There is one order of the calls of all guards in which each reply is that of an ordered map. A guard's own calls are in
-/// it in their order, and each comes after all that its guard had seen before.
+/// it in their order, and each comes after all that its guard had seen before. Ranges and the next pairs aren't in it: each
+/// key has its value at a moment of the call.
 ///
 /// ```
 /// use proved_congee::LiveMap;
@@ -100,7 +103,7 @@ unsafe impl Send for LiveGuard {}
 
 // SAFETY of the calls below. The address is one that the library returned and that `drop` hasn't freed. No other call is
 // made by it meanwhile: a `LiveGuard` isn't `Sync`, so no two threads are in a call on it, and the library calls nothing
-// back. The handle and each place that the library writes to are locals, and initialised.
+// back. The handle and each place that the library writes to are locals or borrowed as `&mut`, and initialised.
 impl LiveGuard {
     fn handle(&self) -> LiveHandle {
         LiveHandle { guard: self.guard }
@@ -198,6 +201,99 @@ impl LiveGuard {
         if_made(code, before)
     }
 
+    /// Gives the key the value if it is absent, and returns the value that it has then. No lock is taken for a present key.
+    /// Refused as [`insert`](LiveGuard::insert).
+    ///
+    /// ```
+    /// # fn main() -> Result<(), proved_congee::OutOfMemory> {
+    /// let guard = proved_congee::LiveMap::new()?.pin()?;
+    /// assert_eq!(guard.get_or_insert(7, 70)?, 70);
+    /// assert_eq!(guard.get_or_insert(7, 71)?, 70);
+    /// # Ok(())
+    /// # }
+    /// ```
+    pub fn get_or_insert(&self, key: u64, value: u64) -> Result<u64, OutOfMemory> {
+        waiting_for_memory(|| self.try_get_or_insert(key, value))
+    }
+
+    /// The same, which doesn't wait.
+    ///
+    /// ```
+    /// # fn main() -> Result<(), Box<dyn std::error::Error>> {
+    /// let guard = proved_congee::LiveMap::new()?.pin()?;
+    /// assert_eq!(guard.try_get_or_insert(7, 70)?, 70);
+    /// # Ok(())
+    /// # }
+    /// ```
+    pub fn try_get_or_insert(&self, key: u64, value: u64) -> Result<u64, TryError> {
+        let mut found = 0;
+        let code =
+            unsafe { congee_c_live_get_or_insert(&mut self.handle(), key, value, &mut found) };
+        Ok(if_made(code, found)?.unwrap_or(value))
+    }
+
+    /// Adds the number to the key's value, as [`Map::add`](crate::Map::add), and returns the value before.
+    ///
+    /// ```
+    /// # fn main() -> Result<(), proved_congee::OutOfMemory> {
+    /// let guard = proved_congee::LiveMap::new()?.pin()?;
+    /// assert_eq!(guard.add(7, 70)?, None);
+    /// assert_eq!(guard.add(7, 1)?, Some(70));
+    /// assert_eq!(guard.get(7), Some(71));
+    /// # Ok(())
+    /// # }
+    /// ```
+    pub fn add(&self, key: u64, number: u64) -> Result<Option<u64>, OutOfMemory> {
+        waiting_for_memory(|| self.try_add(key, number))
+    }
+
+    /// The same, which doesn't wait.
+    ///
+    /// ```
+    /// # fn main() -> Result<(), Box<dyn std::error::Error>> {
+    /// let guard = proved_congee::LiveMap::new()?.pin()?;
+    /// guard.insert(7, 70)?;
+    /// assert_eq!(guard.try_add(7, 1)?, Some(70));
+    /// # Ok(())
+    /// # }
+    /// ```
+    pub fn try_add(&self, key: u64, number: u64) -> Result<Option<u64>, TryError> {
+        let mut before = 0;
+        let code = unsafe { congee_c_live_add(&mut self.handle(), key, number, &mut before) };
+        if_made(code, before)
+    }
+
+    /// Removes the key, and returns the value that it had.
+    ///
+    /// ```
+    /// # fn main() -> Result<(), proved_congee::OutOfMemory> {
+    /// let guard = proved_congee::LiveMap::new()?.pin()?;
+    /// guard.insert(7, 70)?;
+    /// assert_eq!((guard.remove(7), guard.remove(&7)), (Some(70), None));
+    /// # Ok(())
+    /// # }
+    /// ```
+    pub fn remove(&self, key: impl Borrow<u64>) -> Option<u64> {
+        let key = *key.borrow();
+        waiting(|| self.try_remove(key))
+    }
+
+    /// The same, which doesn't wait.
+    ///
+    /// ```
+    /// # fn main() -> Result<(), Box<dyn std::error::Error>> {
+    /// let guard = proved_congee::LiveMap::new()?.pin()?;
+    /// guard.insert(7, 70)?;
+    /// assert_eq!(guard.try_remove(7)?, Some(70));
+    /// # Ok(())
+    /// # }
+    /// ```
+    pub fn try_remove(&self, key: impl Borrow<u64>) -> Result<Option<u64>, Busy> {
+        let mut before = 0;
+        let code = unsafe { congee_c_live_remove(&mut self.handle(), *key.borrow(), &mut before) };
+        unless_busy(code, |code| (code == 1).then_some(before))
+    }
+
     /// Replaces the key's value by `desired` if it is `expected`. Otherwise changes nothing, and returns as an error the
     /// current value, or `None` if the key is absent.
     ///
@@ -241,6 +337,368 @@ impl LiveGuard {
             congee_c_live_compare_exchange(&mut self.handle(), key, expected, desired, &mut found)
         };
         unless_busy(code, |code| if_expected(code, found))
+    }
+
+    /// Removes the key if its value is `expected`. Otherwise changes nothing, and returns as an error the current value, or
+    /// `None` if the key is absent.
+    ///
+    /// ```
+    /// # fn main() -> Result<(), proved_congee::OutOfMemory> {
+    /// let guard = proved_congee::LiveMap::new()?.pin()?;
+    /// guard.insert(7, 70)?;
+    /// assert_eq!(guard.compare_remove(7, 71), Err(Some(70)));
+    /// assert_eq!(guard.compare_remove(7, 70), Ok(()));
+    /// assert_eq!(guard.compare_remove(7, 70), Err(None));
+    /// # Ok(())
+    /// # }
+    /// ```
+    pub fn compare_remove(&self, key: u64, expected: u64) -> Result<(), Option<u64>> {
+        waiting(|| self.try_compare_remove(key, expected))
+    }
+
+    /// The same, which doesn't wait.
+    ///
+    /// ```
+    /// # fn main() -> Result<(), Box<dyn std::error::Error>> {
+    /// let guard = proved_congee::LiveMap::new()?.pin()?;
+    /// guard.insert(7, 70)?;
+    /// assert_eq!(guard.try_compare_remove(7, 70)?, Ok(()));
+    /// # Ok(())
+    /// # }
+    /// ```
+    pub fn try_compare_remove(
+        &self,
+        key: u64,
+        expected: u64,
+    ) -> Result<Result<(), Option<u64>>, Busy> {
+        let mut found = 0;
+        let code =
+            unsafe { congee_c_live_compare_remove(&mut self.handle(), key, expected, &mut found) };
+        unless_busy(code, |code| if_expected(code, found))
+    }
+
+    /// The pair with the least key. It was there at a moment of the call, and no key below it is there throughout.
+    ///
+    /// ```
+    /// # fn main() -> Result<(), proved_congee::OutOfMemory> {
+    /// let guard = proved_congee::LiveMap::new()?.pin()?;
+    /// for key in [5, 7, 9] {
+    ///     guard.insert(key, 10 * key)?;
+    /// }
+    /// assert_eq!(guard.first(), Some((5, 50)));
+    /// # Ok(())
+    /// # }
+    /// ```
+    pub fn first(&self) -> Option<(u64, u64)> {
+        waiting(|| self.try_first())
+    }
+
+    /// The same, which doesn't wait.
+    ///
+    /// ```
+    /// # fn main() -> Result<(), Box<dyn std::error::Error>> {
+    /// let guard = proved_congee::LiveMap::new()?.pin()?;
+    /// for key in [5, 7, 9] {
+    ///     guard.insert(key, 10 * key)?;
+    /// }
+    /// assert_eq!(guard.try_first()?, Some((5, 50)));
+    /// # Ok(())
+    /// # }
+    /// ```
+    pub fn try_first(&self) -> Result<Option<(u64, u64)>, Busy> {
+        let mut pair = Pair::default();
+        let code = unsafe { congee_c_live_first(&mut self.handle(), &mut pair) };
+        unless_busy(code, |code| (code == 1).then(|| pair.into()))
+    }
+
+    /// The pair with the least key that is at least this one, in the same way.
+    ///
+    /// ```
+    /// # fn main() -> Result<(), proved_congee::OutOfMemory> {
+    /// let guard = proved_congee::LiveMap::new()?.pin()?;
+    /// for key in [5, 7, 9] {
+    ///     guard.insert(key, 10 * key)?;
+    /// }
+    /// assert_eq!((guard.ceiling(6), guard.ceiling(10)), (Some((7, 70)), None));
+    /// # Ok(())
+    /// # }
+    /// ```
+    pub fn ceiling(&self, key: u64) -> Option<(u64, u64)> {
+        waiting(|| self.try_ceiling(key))
+    }
+
+    /// The same, which doesn't wait.
+    ///
+    /// ```
+    /// # fn main() -> Result<(), Box<dyn std::error::Error>> {
+    /// let guard = proved_congee::LiveMap::new()?.pin()?;
+    /// for key in [5, 7, 9] {
+    ///     guard.insert(key, 10 * key)?;
+    /// }
+    /// assert_eq!(guard.try_ceiling(7)?, Some((7, 70)));
+    /// # Ok(())
+    /// # }
+    /// ```
+    pub fn try_ceiling(&self, key: u64) -> Result<Option<(u64, u64)>, Busy> {
+        let mut pair = Pair::default();
+        let code = unsafe { congee_c_live_ceiling(&mut self.handle(), key, &mut pair) };
+        unless_busy(code, |code| (code == 1).then(|| pair.into()))
+    }
+
+    /// The pair with the least key above this one, in the same way.
+    ///
+    /// ```
+    /// # fn main() -> Result<(), proved_congee::OutOfMemory> {
+    /// let guard = proved_congee::LiveMap::new()?.pin()?;
+    /// for key in [5, 7, 9] {
+    ///     guard.insert(key, 10 * key)?;
+    /// }
+    /// assert_eq!((guard.above(7), guard.above(9)), (Some((9, 90)), None));
+    /// # Ok(())
+    /// # }
+    /// ```
+    pub fn above(&self, key: u64) -> Option<(u64, u64)> {
+        waiting(|| self.try_above(key))
+    }
+
+    /// The same, which doesn't wait.
+    ///
+    /// ```
+    /// # fn main() -> Result<(), Box<dyn std::error::Error>> {
+    /// let guard = proved_congee::LiveMap::new()?.pin()?;
+    /// for key in [5, 7, 9] {
+    ///     guard.insert(key, 10 * key)?;
+    /// }
+    /// assert_eq!(guard.try_above(4)?, Some((5, 50)));
+    /// # Ok(())
+    /// # }
+    /// ```
+    pub fn try_above(&self, key: u64) -> Result<Option<(u64, u64)>, Busy> {
+        let mut pair = Pair::default();
+        let code = unsafe { congee_c_live_above(&mut self.handle(), key, &mut pair) };
+        unless_busy(code, |code| (code == 1).then(|| pair.into()))
+    }
+
+    /// The pair with the greatest key. It was there at a moment of the call, and no key above it is there throughout.
+    ///
+    /// ```
+    /// # fn main() -> Result<(), proved_congee::OutOfMemory> {
+    /// let guard = proved_congee::LiveMap::new()?.pin()?;
+    /// for key in [5, 7, 9] {
+    ///     guard.insert(key, 10 * key)?;
+    /// }
+    /// assert_eq!(guard.last(), Some((9, 90)));
+    /// # Ok(())
+    /// # }
+    /// ```
+    pub fn last(&self) -> Option<(u64, u64)> {
+        waiting(|| self.try_last())
+    }
+
+    /// The same, which doesn't wait.
+    ///
+    /// ```
+    /// # fn main() -> Result<(), Box<dyn std::error::Error>> {
+    /// let guard = proved_congee::LiveMap::new()?.pin()?;
+    /// for key in [5, 7, 9] {
+    ///     guard.insert(key, 10 * key)?;
+    /// }
+    /// assert_eq!(guard.try_last()?, Some((9, 90)));
+    /// # Ok(())
+    /// # }
+    /// ```
+    pub fn try_last(&self) -> Result<Option<(u64, u64)>, Busy> {
+        let mut pair = Pair::default();
+        let code = unsafe { congee_c_live_last(&mut self.handle(), &mut pair) };
+        unless_busy(code, |code| (code == 1).then(|| pair.into()))
+    }
+
+    /// The pair with the greatest key that is at most this one, in the same way.
+    ///
+    /// ```
+    /// # fn main() -> Result<(), proved_congee::OutOfMemory> {
+    /// let guard = proved_congee::LiveMap::new()?.pin()?;
+    /// for key in [5, 7, 9] {
+    ///     guard.insert(key, 10 * key)?;
+    /// }
+    /// assert_eq!((guard.floor(6), guard.floor(4)), (Some((5, 50)), None));
+    /// # Ok(())
+    /// # }
+    /// ```
+    pub fn floor(&self, key: u64) -> Option<(u64, u64)> {
+        waiting(|| self.try_floor(key))
+    }
+
+    /// The same, which doesn't wait.
+    ///
+    /// ```
+    /// # fn main() -> Result<(), Box<dyn std::error::Error>> {
+    /// let guard = proved_congee::LiveMap::new()?.pin()?;
+    /// for key in [5, 7, 9] {
+    ///     guard.insert(key, 10 * key)?;
+    /// }
+    /// assert_eq!(guard.try_floor(7)?, Some((7, 70)));
+    /// # Ok(())
+    /// # }
+    /// ```
+    pub fn try_floor(&self, key: u64) -> Result<Option<(u64, u64)>, Busy> {
+        let mut pair = Pair::default();
+        let code = unsafe { congee_c_live_floor(&mut self.handle(), key, &mut pair) };
+        unless_busy(code, |code| (code == 1).then(|| pair.into()))
+    }
+
+    /// The pair with the greatest key below this one, in the same way.
+    ///
+    /// ```
+    /// # fn main() -> Result<(), proved_congee::OutOfMemory> {
+    /// let guard = proved_congee::LiveMap::new()?.pin()?;
+    /// for key in [5, 7, 9] {
+    ///     guard.insert(key, 10 * key)?;
+    /// }
+    /// assert_eq!((guard.below(7), guard.below(5)), (Some((5, 50)), None));
+    /// # Ok(())
+    /// # }
+    /// ```
+    pub fn below(&self, key: u64) -> Option<(u64, u64)> {
+        waiting(|| self.try_below(key))
+    }
+
+    /// The same, which doesn't wait.
+    ///
+    /// ```
+    /// # fn main() -> Result<(), Box<dyn std::error::Error>> {
+    /// let guard = proved_congee::LiveMap::new()?.pin()?;
+    /// for key in [5, 7, 9] {
+    ///     guard.insert(key, 10 * key)?;
+    /// }
+    /// assert_eq!(guard.try_below(10)?, Some((9, 90)));
+    /// # Ok(())
+    /// # }
+    /// ```
+    pub fn try_below(&self, key: u64) -> Result<Option<(u64, u64)>, Busy> {
+        let mut pair = Pair::default();
+        let code = unsafe { congee_c_live_below(&mut self.handle(), key, &mut pair) };
+        unless_busy(code, |code| (code == 1).then(|| pair.into()))
+    }
+
+    /// Writes the first pairs with `start <= key < end` to the buffer, keys ascending, as many as there are or as fit, and
+    /// returns how many. They aren't those of one moment: each was there at a moment of the call, and a key that is there
+    /// throughout is among them. What follows in the buffer is unspecified.
+    ///
+    /// ```
+    /// # fn main() -> Result<(), proved_congee::OutOfMemory> {
+    /// let guard = proved_congee::LiveMap::new()?.pin()?;
+    /// for key in [5, 7, 9] {
+    ///     guard.insert(key, 10 * key)?;
+    /// }
+    /// let mut page = [proved_congee::Pair::default(); 2];
+    /// assert_eq!(guard.read_range(6, 9, &mut page), 1);
+    /// assert_eq!(page[0].key, 7);
+    /// # Ok(())
+    /// # }
+    /// ```
+    pub fn read_range(&self, start: u64, end: u64, buffer: &mut [Pair]) -> usize {
+        waiting(|| self.try_read_range(start, end, buffer))
+    }
+
+    /// The same, which doesn't wait. After [`Busy`] all of the buffer is unspecified.
+    ///
+    /// ```
+    /// # fn main() -> Result<(), Box<dyn std::error::Error>> {
+    /// let guard = proved_congee::LiveMap::new()?.pin()?;
+    /// for key in [5, 7, 9] {
+    ///     guard.insert(key, 10 * key)?;
+    /// }
+    /// let mut page = [proved_congee::Pair::default(); 2];
+    /// assert_eq!(guard.try_read_range(6, 9, &mut page)?, 1);
+    /// # Ok(())
+    /// # }
+    /// ```
+    pub fn try_read_range(&self, start: u64, end: u64, buffer: &mut [Pair]) -> Result<usize, Busy> {
+        let (place, n) = (buffer.as_mut_ptr(), buffer.len());
+        let mut written = 0;
+        let code =
+            unsafe { congee_c_live_range(&mut self.handle(), start, end, place, n, &mut written) };
+        unless_busy(code, |_| as_length(written))
+    }
+
+    /// Writes the first pairs with `start <= key <= last` to the buffer, as [`read_range`](LiveGuard::read_range).
+    ///
+    /// ```
+    /// # fn main() -> Result<(), proved_congee::OutOfMemory> {
+    /// let guard = proved_congee::LiveMap::new()?.pin()?;
+    /// for key in [5, 7, 9] {
+    ///     guard.insert(key, 10 * key)?;
+    /// }
+    /// let mut page = [proved_congee::Pair::default(); 2];
+    /// assert_eq!(guard.read_range_inclusive(0, u64::MAX, &mut page), 2);
+    /// assert_eq!(page.map(|pair| pair.key), [5, 7]);
+    /// # Ok(())
+    /// # }
+    /// ```
+    pub fn read_range_inclusive(&self, start: u64, last: u64, buffer: &mut [Pair]) -> usize {
+        waiting(|| self.try_read_range_inclusive(start, last, buffer))
+    }
+
+    /// The same, which doesn't wait. After [`Busy`] all of the buffer is unspecified.
+    ///
+    /// ```
+    /// # fn main() -> Result<(), Box<dyn std::error::Error>> {
+    /// let guard = proved_congee::LiveMap::new()?.pin()?;
+    /// for key in [5, 7, 9] {
+    ///     guard.insert(key, 10 * key)?;
+    /// }
+    /// let mut page = [proved_congee::Pair::default(); 2];
+    /// assert_eq!(guard.try_read_range_inclusive(0, u64::MAX, &mut page)?, 2);
+    /// # Ok(())
+    /// # }
+    /// ```
+    pub fn try_read_range_inclusive(
+        &self,
+        start: u64,
+        last: u64,
+        buffer: &mut [Pair],
+    ) -> Result<usize, Busy> {
+        let (place, n) = (buffer.as_mut_ptr(), buffer.len());
+        let mut written = 0;
+        let code = unsafe {
+            congee_c_live_range_inclusive(&mut self.handle(), start, last, place, n, &mut written)
+        };
+        unless_busy(code, |_| as_length(written))
+    }
+
+    /// The pairs whose keys are within the bounds, keys ascending. They are read by pages of 4, then 16, and then 64, as
+    /// [`read_range`](LiveGuard::read_range). A key that stays throughout is among them.
+    ///
+    /// ```
+    /// # fn main() -> Result<(), proved_congee::OutOfMemory> {
+    /// let guard = proved_congee::LiveMap::new()?.pin()?;
+    /// for key in [5, 7, 9] {
+    ///     guard.insert(key, 10 * key)?;
+    /// }
+    /// assert!(guard.range(6..).eq([(7, 70), (9, 90)]));
+    /// assert_eq!(guard.range(..5).next(), None);
+    /// # Ok(())
+    /// # }
+    /// ```
+    pub fn range(&self, bounds: impl RangeBounds<u64>) -> LiveRange<'_> {
+        LiveRange::of(self, bounds)
+    }
+
+    /// All pairs, keys ascending, as [`range`](LiveGuard::range).
+    ///
+    /// ```
+    /// # fn main() -> Result<(), proved_congee::OutOfMemory> {
+    /// let guard = proved_congee::LiveMap::new()?.pin()?;
+    /// for key in [5, 7, 9] {
+    ///     guard.insert(key, 10 * key)?;
+    /// }
+    /// assert!(guard.iter().eq([(5, 50), (7, 70), (9, 90)]));
+    /// # Ok(())
+    /// # }
+    /// ```
+    pub fn iter(&self) -> LiveRange<'_> {
+        self.range(..)
     }
 }
 

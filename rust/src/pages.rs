@@ -1,6 +1,7 @@
 //! Iterators, which read a map by pages.
 
 use crate::frozen::Frozen;
+use crate::live::LiveGuard;
 use crate::map::Map;
 use crate::shared::Guard;
 use crate::Pair;
@@ -71,6 +72,23 @@ impl Page {
         (self.filled == room).then(|| self.pairs[room - 1])
     }
 
+    // The next pair upwards. Where none is left here, reads on from the first key of which nothing was read yet.
+    fn next(
+        &mut self,
+        unread: &mut Option<(u64, u64)>,
+        read: impl FnOnce(u64, u64, &mut [Pair]) -> usize,
+    ) -> Option<Pair> {
+        if self.len() == 0 {
+            if let Some((start, last)) = unread.take() {
+                *unread = self
+                    .fill(|page| read(start, last, page))
+                    .filter(|read| read.key < last)
+                    .map(|read| (read.key + 1, last));
+            }
+        }
+        self.take_first()
+    }
+
     fn take_first(&mut self) -> Option<Pair> {
         let pair = *self.pairs[..self.filled].get(self.at)?;
         self.at += 1;
@@ -119,17 +137,9 @@ impl Cursor {
     }
 
     fn next(&mut self, source: Source<'_>) -> Option<Pair> {
-        if self.front.len() == 0 {
-            if let Some((start, last)) = self.unread.take() {
-                self.unread = self
-                    .front
-                    .fill(|page| source.read_ascending(start, last, page))
-                    .filter(|read| read.key < last)
-                    .map(|read| (read.key + 1, last));
-            }
-        }
+        let read = |start, last, page: &mut [Pair]| source.read_ascending(start, last, page);
         self.front
-            .take_first()
+            .next(&mut self.unread, read)
             .or_else(|| self.back.as_mut()?.take_last())
     }
 
@@ -290,5 +300,46 @@ impl FusedIterator for IntoIter {}
 impl fmt::Debug for IntoIter {
     fn fmt(&self, f: &mut fmt::Formatter<'_>) -> fmt::Result {
         f.debug_struct("IntoIter").finish_non_exhaustive()
+    }
+}
+
+/// The pairs of a range of a [`LiveMap`](crate::LiveMap), keys ascending.
+#[derive(Clone)]
+pub struct LiveRange<'a> {
+    guard: &'a LiveGuard,
+    page: Page,
+    unread: Option<(u64, u64)>,
+}
+
+impl<'a> LiveRange<'a> {
+    pub(crate) fn of(guard: &'a LiveGuard, bounds: impl RangeBounds<u64>) -> LiveRange<'a> {
+        LiveRange {
+            guard,
+            page: Page::empty(),
+            unread: ends(bounds),
+        }
+    }
+}
+
+impl Iterator for LiveRange<'_> {
+    type Item = (u64, u64);
+
+    fn next(&mut self) -> Option<(u64, u64)> {
+        let guard = self.guard;
+        let read = |start, last, page: &mut [Pair]| guard.read_range_inclusive(start, last, page);
+        self.page.next(&mut self.unread, read).map(key_and_value)
+    }
+
+    fn size_hint(&self) -> (usize, Option<usize>) {
+        let read = self.page.len();
+        (read, self.unread.is_none().then_some(read))
+    }
+}
+
+impl FusedIterator for LiveRange<'_> {}
+
+impl fmt::Debug for LiveRange<'_> {
+    fn fmt(&self, f: &mut fmt::Formatter<'_>) -> fmt::Result {
+        f.debug_map().entries(self.clone()).finish()
     }
 }

@@ -297,6 +297,7 @@ extern "C" {
         value: u64,
         before: *mut u64,
     ) -> i32;
+    pub(crate) fn congee_c_live_remove(handle: *mut LiveHandle, key: u64, before: *mut u64) -> i32;
     pub(crate) fn congee_c_live_compare_exchange(
         handle: *mut LiveHandle,
         key: u64,
@@ -304,4 +305,44 @@ extern "C" {
         desired: u64,
         found: *mut u64,
     ) -> i32;
+    pub(crate) fn congee_c_live_compare_remove(
+        handle: *mut LiveHandle,
+        key: u64,
+        expected: u64,
+        found: *mut u64,
+    ) -> i32;
+    pub(crate) fn congee_c_live_add(
+        handle: *mut LiveHandle,
+        key: u64,
+        number: u64,
+        before: *mut u64,
+    ) -> i32;
+    pub(crate) fn congee_c_live_get_or_insert(
+        handle: *mut LiveHandle,
+        key: u64,
+        value: u64,
+        found: *mut u64,
+    ) -> i32;
+    pub(crate) fn congee_c_live_range(
+        handle: *mut LiveHandle,
+        start: u64,
+        end: u64,
+        buffer: *mut Pair,
+        n: usize,
+        out: *mut u64,
+    ) -> i32;
+    pub(crate) fn congee_c_live_range_inclusive(
+        handle: *mut LiveHandle,
+        start: u64,
+        last: u64,
+        buffer: *mut Pair,
+        n: usize,
+        out: *mut u64,
+    ) -> i32;
+    pub(crate) fn congee_c_live_first(handle: *mut LiveHandle, pair: *mut Pair) -> i32;
+    pub(crate) fn congee_c_live_ceiling(handle: *mut LiveHandle, key: u64, pair: *mut Pair) -> i32;
+    pub(crate) fn congee_c_live_above(handle: *mut LiveHandle, key: u64, pair: *mut Pair) -> i32;
+    pub(crate) fn congee_c_live_floor(handle: *mut LiveHandle, key: u64, pair: *mut Pair) -> i32;
+    pub(crate) fn congee_c_live_below(handle: *mut LiveHandle, key: u64, pair: *mut Pair) -> i32;
+    pub(crate) fn congee_c_live_last(handle: *mut LiveHandle, pair: *mut Pair) -> i32;
 }

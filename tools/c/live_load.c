@@ -1,11 +1,13 @@
 /* Threads write and read one map that is read without a lock, each by a handle of its own. Each stored value is stored once, and
  * each thread notes what its calls returned. Afterwards:
- *   - what is replaced at a key, and what is there at the end, is what was stored there, each value once. So the writes of
- *     a key are one chain
+ *   - what is replaced or removed at a key, and what is there at the end, is what was stored there, each value once. Each
+ *     removal is followed by one insertion of an absent key, or is the last write. So the writes of a key are one chain
  *   - no thread sees a value of another thread at a key after it has seen a later one of that thread there
  *   - keys of one thread lie between those of the others, and nodes grow and ways part beside readers: each of its own keys
- *     has the thread's own value, and all are there at the end
- *   - counters that are raised by compare_exchange lose nothing
+ *     has the thread's own value, is removed and stored again, and all are there at the end. A range over keys that stay has
+ *     them all, ascending, whatever comes and goes between them
+ *   - what a range or a next pair has at a key that all threads write is no older than what the thread has seen there
+ *   - counters that are raised by compare_exchange and by add lose nothing
  *
  *     live_load [CALLS] [THREADS]     so many calls a thread */
 #include "congee.h"
@@ -15,11 +17,11 @@
 #include <stdlib.h>
 #include <string.h>
 
-enum { MOST = 16, KEYS = 64, KINDS = 3 };
+enum { MOST = 16, KEYS = 64, KINDS = 3, PAGE = 8 };
 
 static uint64_t calls = 100000, threads = 4;
 
-/* A write: what it took the place of, and what it stored. 0 is no value. */
+/* A write: what it took the place of, and what it stored. 0 is no value, and what a removal stores. */
 struct write {
     uint64_t key, before, after;
 };
@@ -64,6 +66,49 @@ static void writes(struct worker *worker, uint64_t place, uint64_t before, uint6
     sees(worker, place, before);
 }
 
+static uint64_t place_of(uint64_t key) {
+    uint64_t place = 0;
+    while (place < KEYS && key_of(place) != key)
+        place++;
+    return place;
+}
+
+/* A pair that a reader of many keys has given, of a key from this one on. */
+static void gives(struct worker *worker, struct congee_pair pair, uint64_t from) {
+    uint64_t place = place_of(pair.key);
+    if (place < KEYS)
+        sees(worker, place, pair.value);
+    if (pair.key < from || (place < KEYS && pair.value == 0))
+        worker->wrong = "a pair that isn't one";
+}
+
+/* A page of a range, or a next pair, from a key on. */
+static void read_on(struct worker *worker, uint64_t key, uint64_t kind) {
+    struct congee_pair page[PAGE];
+    struct congee_live *map = worker->map;
+    size_t n = 0;
+    int code;
+    switch (kind) {
+    case 0:
+        n = congee_live_range_inclusive(map, key, UINT64_MAX, page, PAGE);
+        break;
+    case 1:
+        code = congee_live_try_range(map, key, UINT64_MAX, page, PAGE, &n);
+        worker->busy += code == CONGEE_BUSY;
+        break;
+    case 2:
+        n = congee_live_ceiling(map, key, page);
+        break;
+    default:
+        n = congee_live_above(map, key, page);
+        key += n;
+    }
+    for (size_t i = 0; i < n; i++) {
+        gives(worker, page[i], key);
+        key = page[i].key + (i + 1 < n);
+    }
+}
+
 /* One call at a key that all threads have. */
 static void call(struct worker *worker, uint64_t place, uint64_t kind) {
     struct congee_live *map = worker->map;
@@ -91,13 +136,32 @@ static void call(struct worker *worker, uint64_t place, uint64_t kind) {
             sees(worker, place, found);
         worker->busy += code == CONGEE_BUSY;
         break;
+    case 4:
+        if (congee_live_remove(map, key, &found) == 1)
+            writes(worker, place, found, 0);
+        break;
+    case 5:
+        code = congee_live_try_remove(map, key, &found);
+        if (code == 1)
+            writes(worker, place, found, 0);
+        worker->busy += code == CONGEE_BUSY;
+        break;
+    case 6:
+        code = congee_live_get_or_insert(map, key, value, &found);
+        if (code == 0)
+            writes(worker, place, 0, value);
+        else
+            sees(worker, place, found);
+        break;
     default:
         if (congee_live_get(map, key, &found) == 0)
             return;
-        code = congee_live_compare_exchange(map, key, found, value, &now);
+        bool removes = kind == 7;
+        code = removes ? congee_live_compare_remove(map, key, found, &now)
+                       : congee_live_compare_exchange(map, key, found, value, &now);
         if (code == 1)
-            writes(worker, place, found, value);
-        else if (code == 0 || now == found)
+            writes(worker, place, found, removes ? 0 : value);
+        else if (code == 2 && now == found)
             worker->wrong = "a comparison that fails with the expected value";
         else
             sees(worker, place, now);
@@ -108,8 +172,11 @@ static void *together(void *at) {
     struct worker *worker = at;
     uint64_t seed = worker->id;
     for (uint64_t i = 0; i < calls && !worker->wrong; i++) {
-        uint64_t kind = next(&seed) % 5, place = next(&seed) % KEYS;
-        call(worker, place, kind);
+        uint64_t kind = next(&seed) % 11, place = next(&seed) % KEYS;
+        if (kind < 10)
+            call(worker, place, kind);
+        else
+            read_on(worker, key_of(place), i % 4);
     }
     return NULL;
 }
@@ -118,6 +185,34 @@ static void *together(void *at) {
 static uint64_t own_key(uint64_t kind, uint64_t id, uint64_t i) {
     uint64_t number = i * MOST + id;
     return kind == 0 ? 1 << 20 | number : kind == 1 ? 1ull << 56 | number << 8 : (number + 1) * 0x9e3779b97f4a7c15u;
+}
+
+/* A key with its last value is removed, and stored again. */
+static bool comes_back(struct congee_live *map, uint64_t key) {
+    uint64_t value = 0;
+    return congee_live_remove(map, key, &value) == 1 && value == (key ^ 7) && congee_live_get(map, key, NULL) == 0 &&
+           congee_live_get_or_insert(map, key, key ^ 5, NULL) == 0 && congee_live_add(map, key, 0, &value) == 1 &&
+           value == (key ^ 5) && congee_live_compare_remove(map, key, key ^ 5, NULL) == 1 &&
+           congee_live_add(map, key, key ^ 7, NULL) == 0;
+}
+
+/* Whether pages of a range have each key of the thread itself from one of its numbers to another, ascending. */
+static bool reads_through(struct worker *worker, uint64_t kind, uint64_t from, uint64_t to) {
+    struct congee_pair page[24];
+    uint64_t start = own_key(kind, worker->id, from), last = own_key(kind, worker->id, to), at = from;
+    size_t n;
+    do {
+        n = congee_live_range_inclusive(worker->map, start, last, page, 24);
+        for (size_t i = 0; i < n; i++) {
+            if (page[i].key < start || page[i].key > last)
+                return false;
+            start = page[i].key + (i + 1 < n);
+            if (at <= to && page[i].key == own_key(kind, worker->id, at) && page[i].value == (page[i].key ^ 7))
+                at++;
+        }
+        start++;
+    } while (n == 24);
+    return at == to + 1;
 }
 
 /* Keys that no other thread writes. */
@@ -130,10 +225,12 @@ static void *apart(void *at) {
             uint64_t key = own_key(kind, worker->id, i), old = own_key(kind, worker->id, i / 2);
             if (congee_live_insert(map, key, key ^ 5, NULL) != 0 || congee_live_get(map, key, &value) != 1 ||
                 value != (key ^ 5) || congee_live_compare_exchange(map, key, key ^ 5, key ^ 7, &value) != 1 ||
-                congee_live_get(map, old, &value) != 1 || value != (old ^ 7)) {
+                congee_live_get(map, old, &value) != 1 || value != (old ^ 7) || !comes_back(map, old)) {
                 worker->wrong = "a reply at a key of one's own";
                 return NULL;
             }
+            if (i % 64 == 63 && kind < 2 && !reads_through(worker, kind, i - 63, i))
+                worker->wrong = "a range without a key that stays";
             /* (a key of another thread, which may be there by now) */
             old = own_key(kind, worker->id % threads + 1, i);
             if (congee_live_get(map, old, &value) == 1 && value != (old ^ 5) && value != (old ^ 7))
@@ -142,34 +239,46 @@ static void *apart(void *at) {
     return NULL;
 }
 
+/* Raises a counter by an exchange, which is tried until nobody comes in between. */
+static bool raise_once(struct worker *worker, uint64_t key) {
+    uint64_t current = 0, now;
+    if (congee_live_get(worker->map, key, &current) != 1)
+        worker->wrong = "a counter that is gone";
+    int code;
+    while ((code = congee_live_compare_exchange(worker->map, key, current, current + 1, &now)) == 2) {
+        if (now <= current)
+            worker->wrong = "a counter that falls";
+        current = now;
+    }
+    return code == 1;
+}
+
 static void *raises(void *at) {
     struct worker *worker = at;
-    for (uint64_t i = 0; i < calls; i++) {
-        uint64_t key = (1ull << 60) + i % 8, current = 0, now;
-        if (congee_live_get(worker->map, key, &current) != 1)
-            worker->wrong = "a counter that is gone";
-        int code;
-        while ((code = congee_live_compare_exchange(worker->map, key, current, current + 1, &now)) == 2) {
-            if (now <= current)
-                worker->wrong = "a counter that falls";
-            current = now;
+    uint64_t last[8] = {0}, before = 0;
+    for (uint64_t i = 0; i < calls && !worker->wrong; i++) {
+        uint64_t key = (1ull << 60) + i % 8;
+        if (i / 8 % 2) {
+            if (!raise_once(worker, key))
+                return NULL;
+        } else {
+            if (congee_live_add(worker->map, key, 1, &before) != 1 || before < last[i % 8])
+                worker->wrong = "a counter that is gone or falls";
+            last[i % 8] = before + 1;
         }
-        if (code != 1 || worker->wrong)
-            return NULL;
     }
     return NULL;
 }
 
+/* (of a write, the value that it took the place of) */
 static int by_key_and_value(const void *a, const void *b) {
     const uint64_t *one = a, *other = b;
     return one[0] != other[0] ? (one[0] < other[0] ? -1 : 1) : (one[1] > other[1]) - (one[1] < other[1]);
 }
 
-/* Whether at each key each value that was stored is replaced once, or is there at the end. */
-static bool is_chain(struct worker *workers, struct congee_live *map) {
-    uint64_t count = 0, at = 0;
-    for (uint64_t i = 0; i < threads; i++)
-        count += workers[i].count;
+/* Whether at each key each value that was stored is replaced or removed once, or is there at the end. */
+static bool is_balanced(struct worker *workers, struct congee_live *map, uint64_t count) {
+    uint64_t at = 0;
     uint64_t(*stored)[2] = malloc((count + KEYS) * sizeof *stored), (*ended)[2] = malloc((count + KEYS) * sizeof *ended);
     if (!stored || !ended)
         return false;
@@ -194,6 +303,33 @@ static bool is_chain(struct worker *workers, struct congee_live *map) {
     free(stored);
     free(ended);
     return is_so;
+}
+
+/* Whether each write is met on the ways that begin where a key was absent, from each value to the one that replaced it. */
+static bool is_reached(struct worker *workers, uint64_t count) {
+    uint64_t at = 0, met = 0;
+    struct write *all = malloc((count + 1) * sizeof *all);
+    if (!all)
+        return false;
+    for (uint64_t i = 0; i < threads; i++)
+        for (uint64_t j = 0; j < workers[i].count; j++, at++)
+            all[at] = workers[i].writes[j];
+    qsort(all, count, sizeof *all, by_key_and_value);
+    for (at = 0; at < count; at++)
+        if (all[at].before == 0)
+            for (const struct write *write = &all[at]; write; met++) {
+                struct write wanted = {write->key, write->after, 0};
+                write = write->after ? bsearch(&wanted, all, count, sizeof *all, by_key_and_value) : NULL;
+            }
+    free(all);
+    return met == count;
+}
+
+static bool is_chain(struct worker *workers, struct congee_live *map) {
+    uint64_t count = 0;
+    for (uint64_t i = 0; i < threads; i++)
+        count += workers[i].count;
+    return is_balanced(workers, map, count) && is_reached(workers, count);
 }
 
 static bool all(struct worker *workers, void *(*work)(void *)) {

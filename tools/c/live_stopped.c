@@ -64,17 +64,41 @@ static void *reads(void *at) {
 /* Calls beside a thread that is stopped: whether its leaf is busy. */
 static bool is_busy(struct congee_live *map) {
     uint64_t value = 99, old = 99, found = 99;
+    struct congee_pair pair = {99, 99}, page = {0, 0};
+    size_t n = 99;
     int code = congee_live_try_get(map, LEAF + 8, &value);
     need(code == 0 || code == CONGEE_BUSY, "an absent key beside it");
     if (code == CONGEE_BUSY) {
         need(congee_live_try_get(map, LEAF + 1, &value) == CONGEE_BUSY, "a look-up of a key of its leaf");
         need(congee_live_try_insert(map, LEAF + 9, 1, &old) == CONGEE_BUSY, "an insertion into its leaf");
         need(congee_live_try_compare_exchange(map, LEAF + 1, 0, 1, &found) == CONGEE_BUSY, "an exchange in its leaf");
+        need(congee_live_try_remove(map, LEAF + 1, &old) == CONGEE_BUSY, "a removal from its leaf");
+        need(congee_live_try_remove(map, LEAF + 8, &old) == CONGEE_BUSY, "a removal of an absent key of its leaf");
+        need(congee_live_try_compare_remove(map, LEAF + 1, 0, &found) == CONGEE_BUSY, "a removal by a value from its leaf");
+        need(congee_live_try_add(map, LEAF + 1, 1, &old) == CONGEE_BUSY, "a sum in its leaf");
+        need(congee_live_try_get_or_insert(map, LEAF + 9, 1, &found) == CONGEE_BUSY, "an absent key of its leaf");
+        need(congee_live_try_first(map, &pair) == CONGEE_BUSY, "the first pair, which is in its leaf");
+        need(congee_live_try_ceiling(map, LEAF, &pair) == CONGEE_BUSY, "a ceiling in its leaf");
+        need(congee_live_try_above(map, LEAF + 2, &pair) == CONGEE_BUSY, "a pair above, in its leaf");
+        need(congee_live_try_floor(map, LEAF + 9, &pair) == CONGEE_BUSY, "a floor in its leaf");
+        need(congee_live_try_below(map, LEAF + 1, &pair) == CONGEE_BUSY, "a pair below, in its leaf");
+        need(congee_live_try_range(map, LEAF, LEAF + 4, &page, 1, &n) == CONGEE_BUSY, "a range in its leaf");
+        need(congee_live_try_range_inclusive(map, 0, LEAF, &page, 1, &n) == CONGEE_BUSY, "a range to its leaf");
+        need(pair.key == 99 && n == 99, "a busy reader writes no pair and no number");
         need(value == 99 && old == 99 && found == 99, "a busy call writes nothing");
     }
     need(congee_live_try_get(map, LEAF + 256, &value) == 1, "a look-up elsewhere");
     need(congee_live_try_insert(map, LEAF + 256, value + 1, &old) == 1 && old == value, "an insertion elsewhere");
     need(congee_live_try_compare_exchange(map, LEAF + 256, old + 1, old + 2, &found) == 1, "an exchange elsewhere");
+    need(congee_live_try_ceiling(map, LEAF + 4, &pair) == (code == CONGEE_BUSY ? CONGEE_BUSY : 1), "a pair behind its leaf");
+    need(congee_live_try_above(map, LEAF + 255, &pair) == 1 && pair.key == LEAF + 256, "a pair elsewhere");
+    need(congee_live_try_last(map, &pair) == 1 && pair.key == LEAF + 256, "the last pair, elsewhere");
+    need(congee_live_try_floor(map, LEAF + 256, &pair) == 1 && pair.key == LEAF + 256, "a floor elsewhere");
+    need(congee_live_try_range(map, LEAF + 256, UINT64_MAX, &page, 1, &n) == 0 && n == 1, "a range elsewhere");
+    need(page.key == LEAF + 256 && page.value == old + 2, "its pair");
+    need(congee_live_try_add(map, LEAF + 256, 1, &old) == 1 && old == value + 2, "a sum elsewhere");
+    need(congee_live_try_remove(map, LEAF + 256, &old) == 1 && old == value + 3, "a removal elsewhere");
+    need(congee_live_try_get_or_insert(map, LEAF + 256, old, &found) == 0, "an absent key elsewhere");
     return code == CONGEE_BUSY;
 }
 

@@ -1,2 +1,3 @@
 pub mod Answer
+pub mod Pairs
 pub mod inner

@@ -6,25 +6,33 @@
 //!
 //! An answer is an `i32`: 0, 1 or 2 with the meaning that each call documents, `OOM` or `BUSY`.
 //!
+//! Here are the calls that make a map and its handles, and get, set and remove one key. `computed`, `next_pair` and `ranges`
+//! have the others.
+//!
 //! Tested in `tools/c-library`.
 #![tactic(auto)]
 
 ghost use Rattle.std.specs.Prelude.{◌≡◌, ◌≢◌, ◌⊎◌, [], Some, None, Ok, Err, IfSome, IsSome, pos};
 ghost use Rattle.live_law.specs.Views.{ask, got, inserted};
 ghost use Rattle.live_law.specs.Known.{MadeCall};
-ghost use Rattle.live_calls.specs.Exchanges.{exchange_of, compared};
 ghost use Rattle.live_calls.specs.Meetings.{SeenMore};
+ghost use Rattle.live_updates.specs.Entries.{removed, swapped};
 ghost use Rattle.congee_live_c.specs.Answer.{oom, busy};
 
+mod computed;
 mod handle;
 mod held;
+mod next_pair;
+mod pair_before;
 mod parts;
+mod ranges;
 mod room;
 
 pub use handle::Handle;
 use held::Held;
 use live_callers::caller::Caller;
 use live_calls::map::{Busy, Refusal};
+use live_order::page::RangeEntry;
 pub use room::Room;
 use std::alloc::Global;
 
@@ -33,6 +41,24 @@ const OOM: i32 = -1;
 
 /// A writer came in between at each try.
 const BUSY: i32 = -2;
+
+/// A key and its value: 16 bytes.
+#[repr(C)]
+#[derive(Clone, Copy, Drop)]
+pub struct Pair {
+    pub key: u64,
+    pub value: u64,
+}
+
+impl RangeEntry for Pair {
+    ghost use Rattle.congee_live_c.specs.Pairs.{pair_of};
+
+    ghost pair = { pair_of };
+
+    fn from_pair(key: u64, value: u64) -> Pair {
+        Pair { key, value }
+    }
+}
 
 /// Writes the first handle of a new, empty map to `out` and answers 0, or answers `OOM` and writes nothing.
 #[unsafe(no_mangle)]
@@ -138,6 +164,28 @@ pub extern "C" fn congee_c_live_insert(
     }
 }
 
+/// Removes the key. Answers 1 if it was present, with its value in `before`, or 0 or `BUSY`. Takes no memory.
+#[unsafe(no_mangle)]
+pub extern "C" fn congee_c_live_remove(handle: &mut Handle, key: u64, before: &mut u64) -> i32
+    ensures code { (result ≡ pos 0) ⊎ (result ≡ pos 1) ⊎ (result ≡ busy) }
+    ensures present { result ≡ pos 1 → MadeCall handle.old.held.guard
+        (removed handle.old.held.guard.caller key (Some before.new)) handle.new.held.guard }
+    ensures absent { result ≡ pos 0 → MadeCall handle.old.held.guard
+        (removed handle.old.held.guard.caller key None) handle.new.held.guard }
+    ensures missed { result ≡ busy → handle.new.held ≡ handle.old.held }
+    ensures kept { result ≢ pos 1 → before.new ≡ before.old }
+    ensures place { handle.new.ptr ≡ handle.old.ptr }
+{
+    match handle.as_mut().guard.remove(key) {
+        Ok(Some(old)) => {
+            *before = old;
+            1
+        }
+        Ok(None) => 0,
+        Err(Busy) => BUSY,
+    }
+}
+
 /// If the key's value is `expected`, replaces it by `desired` and answers 1. If it is another, writes it to `found` and
 /// answers 2. If the key is absent, answers 0. Or answers `BUSY`. Takes no memory.
 #[unsafe(no_mangle)]
@@ -150,20 +198,20 @@ pub extern "C" fn congee_c_live_compare_exchange(
 ) -> i32
     ensures code { (result ≡ pos 0) ⊎ (result ≡ pos 1) ⊎ (result ≡ pos 2) ⊎ (result ≡ busy) }
     ensures absent { result ≡ pos 0 → MadeCall handle.old.held.guard
-        (compared (exchange_of handle.old.held.guard.caller key expected desired) (Err None))
+        (swapped handle.old.held.guard.caller key expected (Some desired) (Err None))
         handle.new.held.guard }
     ensures same { result ≡ pos 1 → MadeCall handle.old.held.guard
-        (compared (exchange_of handle.old.held.guard.caller key expected desired)
-        (Ok (Some desired))) handle.new.held.guard }
+        (swapped handle.old.held.guard.caller key expected (Some desired) (Ok (Some desired)))
+        handle.new.held.guard }
     ensures other { result ≡ pos 2 → MadeCall handle.old.held.guard
-        (compared (exchange_of handle.old.held.guard.caller key expected desired)
-        (Err (Some found.new))) handle.new.held.guard }
+        (swapped handle.old.held.guard.caller key expected (Some desired) (Err (Some found.new)))
+        handle.new.held.guard }
     ensures missed { result ≡ busy → handle.new.held ≡ handle.old.held }
     ensures kept { result ≢ pos 2 → found.new ≡ found.old }
     ensures place { handle.new.ptr ≡ handle.old.ptr }
 {
     let guard = &mut handle.as_mut().guard;
-    match guard.compare_exchange(key, expected, desired) {
+    match guard.compare_exchange(key, expected, Some(desired)) {
         Ok(Ok(_)) => 1,
         Ok(Err(None)) => 0,
         Ok(Err(Some(current))) => {

@@ -2,13 +2,22 @@
 //!
 //! Tested in `tools/c-library`.
 
-ghost use Rattle.std.specs.Prelude.{◌≡◌, ◌≢◌, [], Some, IfOk, OnErr};
+ghost use Rattle.std.specs.Prelude.{◌≡◌, ◌≢◌, ◌+◌, ◌^◌, ◌≤◌, [], length, take, IfOk, OnErr, unwrap_or};
 ghost use Rattle.live_law.specs.Views.{ask, got, inserted};
 ghost use Rattle.live_law.specs.Known.{MadeCall};
-ghost use Rattle.live_calls.specs.Exchanges.{exchange_of, compared};
 ghost use Rattle.live_calls.specs.Meetings.{SeenMore};
+ghost use Rattle.live_updates.specs.Entries.{removed, swapped};
+ghost use Rattle.live_computes.specs.Entries.{inserted_with, sum_with};
+ghost use Rattle.live_order.specs.Page.{pairs_of};
+ghost use Rattle.live_scans.specs.Scans.{EntersNothing, HasPage, HasNext};
+ghost use Rattle.live_floors.specs.Floors.{HasBefore};
 
 use live_calls::map::{Busy, Congee, Guard, Refusal};
+use live_computes::present;
+use live_floors::floors;
+use live_order::page::RangeEntry;
+use live_scans::scans;
+use live_updates::calls;
 use spec_map::error::OOMError;
 use std::alloc::Global;
 use std::marker::Model;
@@ -88,20 +97,127 @@ impl Caller {
         self.map.insert(alloc, &mut self.guard, key, value)
     }
 
-    /// Replaces a key's value by `new`, if it is `old`. `Ok` with the new value, or `Err` with the current one, or with
-    /// `None` where the key is absent. Takes no memory. `Busy` if too many writers came in between: then nothing has
-    /// changed.
+    /// Removes a key, and returns the value that it had. Takes no memory. `Busy` if too many writers came in between: then
+    /// nothing has changed.
+    pub fn remove(&mut self, key: u64) -> Result<Option<u64>, Busy>
+        ensures made { IfOk result (λ before. MadeCall self.old
+            (removed self.old.caller key before) self.new) }
+        ensures busy { OnErr result (self.new ≡ self.old) }
+    {
+        calls::remove(&self.map, &mut self.guard, key)
+    }
+
+    /// Replaces a key's value by `new`, or removes the key for `None`, if the value is `old`. `Ok` with `new`, or `Err` with
+    /// the current value, or with `None` where the key is absent. Takes no memory. `Busy` if too many writers came in
+    /// between: then nothing has changed.
     pub fn compare_exchange(
         &mut self,
         key: u64,
         old: u64,
-        new: u64,
+        new: Option<u64>,
     ) -> Result<Result<Option<u64>, Option<u64>>, Busy>
         ensures made { IfOk result (λ answer. MadeCall self.old
-            (compared (exchange_of self.old.caller key old new) answer) self.new) }
-        ensures stored { IfOk result (λ answer. IfOk answer (λ stored. stored ≡ Some new)) }
+            (swapped self.old.caller key old new answer) self.new) }
+        ensures stored { IfOk result (λ answer. IfOk answer (λ stored. stored ≡ new)) }
         ensures busy { OnErr result (self.new ≡ self.old) }
     {
-        self.map.compare_exchange(&mut self.guard, key, old, new)
+        calls::compare_exchange(&self.map, &mut self.guard, key, old, new)
+    }
+
+    /// Gives an absent key a value. Returns the value of a present one, which no lock is taken for. Refusals are those of
+    /// `insert`. For a present key no memory is taken.
+    pub fn get_or_insert(
+        &mut self,
+        alloc: Global,
+        key: u64,
+        value: u64,
+    ) -> Result<Option<u64>, Refusal>
+        ensures made { IfOk result (λ found. MadeCall self.old
+            (inserted_with self.old.caller key found (unwrap_or found value)) self.new) }
+        ensures refused { OnErr result (self.new ≡ self.old) }
+    {
+        present::get_or_insert(&self.map, alloc, &mut self.guard, key, value)
+    }
+
+    /// Adds a number to a key's value, modulo 2 to the 64. An absent key gets the number itself. Returns the value before.
+    /// Refusals are those of `insert`. For a present key no memory is taken.
+    pub fn add(&mut self, alloc: Global, key: u64, number: u64) -> Result<Option<u64>, Refusal>
+        ensures made { IfOk result (λ before. MadeCall self.old
+            (inserted_with self.old.caller key before (sum_with before number)) self.new) }
+        ensures refused { OnErr result (self.new ≡ self.old) }
+    {
+        present::add(&self.map, alloc, &mut self.guard, key, number)
+    }
+
+    /// Writes the pairs with keys from `start` on and below `end` into the buffer, ascending, as many as there are or as fit,
+    /// and returns how many. What follows in the buffer is unspecified. Takes no memory. `Busy` if too many writers came in
+    /// between: then what is in the buffer is unspecified.
+    pub fn range<P: RangeEntry>(
+        &mut self,
+        start: u64,
+        end: u64,
+        buffer: &mut [P],
+    ) -> Result<usize, Busy>
+        ensures count { IfOk result (λ count. count ≤ length buffer.old) }
+        ensures page { IfOk result (λ count. HasPage self.old start end (length buffer.old)
+            (take count (pairs_of P.pair buffer.new)) self.new) }
+        ensures busy { OnErr result (EntersNothing self.old self.new) }
+    {
+        scans::range(&self.map, &mut self.guard, start, end, buffer)
+    }
+
+    /// The same with keys from `first` to `last`.
+    pub fn range_inclusive<P: RangeEntry>(
+        &mut self,
+        first: u64,
+        last: u64,
+        buffer: &mut [P],
+    ) -> Result<usize, Busy>
+        ensures count { IfOk result (λ count. count ≤ length buffer.old) }
+        ensures page { IfOk result (λ count. HasPage self.old first (last + 1) (length buffer.old)
+            (take count (pairs_of P.pair buffer.new)) self.new) }
+        ensures busy { OnErr result (EntersNothing self.old self.new) }
+    {
+        scans::range_inclusive(&self.map, &mut self.guard, first, last, buffer)
+    }
+
+    /// The pair with the least key that is at least this one. `Busy` if too many writers came in between.
+    pub fn ceiling(&mut self, key: u64) -> Result<Option<(u64, u64)>, Busy>
+        ensures next { IfOk result (λ found. HasNext self.old key found self.new) }
+        ensures busy { OnErr result (EntersNothing self.old self.new) }
+    {
+        scans::ceiling(&self.map, &mut self.guard, key)
+    }
+
+    /// The pair with the least key that is above this one. `Busy` if too many writers came in between.
+    pub fn above(&mut self, key: u64) -> Result<Option<(u64, u64)>, Busy>
+        ensures next { IfOk result (λ found. HasNext self.old (key + 1) found self.new) }
+        ensures busy { OnErr result (EntersNothing self.old self.new) }
+    {
+        scans::above(&self.map, &mut self.guard, key)
+    }
+
+    /// The pair with the greatest key that is at most this one. `Busy` if too many writers came in between.
+    pub fn floor(&mut self, key: u64) -> Result<Option<(u64, u64)>, Busy>
+        ensures before { IfOk result (λ found. HasBefore self.old (key + 1) found self.new) }
+        ensures busy { OnErr result (EntersNothing self.old self.new) }
+    {
+        floors::floor(&self.map, &mut self.guard, key)
+    }
+
+    /// The pair with the greatest key that is below this one. `Busy` if too many writers came in between.
+    pub fn below(&mut self, key: u64) -> Result<Option<(u64, u64)>, Busy>
+        ensures before { IfOk result (λ found. HasBefore self.old key found self.new) }
+        ensures busy { OnErr result (EntersNothing self.old self.new) }
+    {
+        floors::below(&self.map, &mut self.guard, key)
+    }
+
+    /// The pair with the greatest key. `Busy` if too many writers came in between.
+    pub fn last(&mut self) -> Result<Option<(u64, u64)>, Busy>
+        ensures last { IfOk result (λ found. HasBefore self.old (2 ^ 64) found self.new) }
+        ensures busy { OnErr result (EntersNothing self.old self.new) }
+    {
+        floors::last(&self.map, &mut self.guard)
     }
 }

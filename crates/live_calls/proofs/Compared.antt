@@ -20,12 +20,12 @@ use Rattle.live_nodes.specs.Nodes.{Content, Node, node, node_at}
 use Rattle.live_nodes.specs.Rule.{PlaceFits}
 use Rattle.live_nodes.specs.Seats.{Each, IsIn, Place}
 use Rattle.live_encodes.specs.Encodes.{words_of, Encodes, with_child}
-use Rattle.live_law.specs.Levels.{up, digit, Shape, Covers, Spot, place_at}
+use Rattle.live_law.specs.Levels.{up, digit, Shape, Covers, Spot}
 use Rattle.live_law.specs.Views.{View, view_of, locked}
-use Rattle.live_law.specs.Tree.{Plan, home_of, LeadsTo, HasValue, IsUnder, IsCurrent, IsFree, IsMet, IsOwn, IsLocked, IsSpot, Knows, IsMap, IsOfKind, LearnsNode}
+use Rattle.live_law.specs.Tree.{Plan, home_of, HasValue, IsUnder, IsCurrent, IsFree, IsMet, IsOwn, IsLocked, IsSpot, Knows, IsMap, LearnsNode}
 use Rattle.live_law.proofs.Changes.{with_map, nodes_stay, met_stays, own_stays, tree_stays}
 use Rattle.live_law.proofs.Histories.{others_alike, sees_all, sees_less}
-use Rattle.live_law.proofs.Looks.{with_view, at_leaf, at_inner, same_met, node_learns}
+use Rattle.live_law.proofs.Looks.{at_leaf, at_inner, same_met, node_learns}
 use Rattle.live_law.proofs.Plans.{joined, none_there, missed}
 use Rattle.live_law.proofs.Writes.{current_at}
 use Rattle.live_calls.specs.Exchanges.{Exchange, compared, asked_by, Fails, Seeks, Swaps}

@@ -6,8 +6,11 @@ use Rattle.live_nodes.specs.Seats.{SeatView}
 use Rattle.live_encodes.specs.Encodes.{IsWord}
 use Rattle.live_law.specs.Levels.{place_at}
 use Rattle.live_law.specs.Views.{View, Ask, ask, got, inserted}
-use Rattle.live_law.specs.Tree.{Answers}
+use Rattle.live_law.specs.Tree.{HasAnswer, Answers}
 use Rattle.live_calls.specs.Ways.{Names, Sights, Keeps, Ended, Looked, Found}
+use Rattle.live_calls.specs.Sees.{Follows}
+use Rattle.live_calls.specs.declared.sight.Next.{Next}
+use Rattle.live_calls.specs.declared.sight.Next.TheVariants as nexts
 
 abbrev Seen : Type 0
 Seen = SeatView View
@@ -51,7 +54,7 @@ looked_empty q h o v w l e = subst (λ (z : Option (Option ℕ)). Looked false q
 pub when_out : {A : Type 0} (P : A → Type 0) (o : Option A) → o ≡ None → IfSome o P
 when_out {A} P o e = subst (λ (z : Option A). IfSome z P) (sym e) tt
 
-pub names_kept : (v w : Seen) (name key height : ℕ) → Keeps v w → Names v name key height → Names w name key height
+abbrev pub names_kept : (v w : Seen) (name key height : ℕ) → Keeps v w → Names v name key height → Names w name key height
 names_kept v w name key height k n = record {
   spot = n.spot;
   met = k.met n.spot n.met;
@@ -74,3 +77,14 @@ inserted_by c d key value found v w e a = subst (λ (z : ℕ). Answers z (insert
 -- a look-up that ends at a node
 pub ended_none : (look : Bool) (q : Ask) (v w : Seen) → look ≡ true → Ended look q None v w → Found q (Some None) v w
 ended_none look q v w is e = (subst (λ (b : Bool). Ended b q None v w) is e).answers
+
+-- the same, from a seat that knew as much
+ended_from : (look : Bool) (q : Ask) (u v w : Seen) → v.client ≡ u.client → Ended look q None v w → Ended look q None u w
+ended_from true q u v w e f = subst (λ (z : View). HasAnswer q None z w.client) e f
+ended_from false q u v w e f = f ∙ e
+
+pub follows_from : (look : Bool) (q : Ask) (u v w : Seen) (key height : ℕ) (o : Option Next) → v.client ≡ u.client → Follows (Ended look q None) v w key height o → Follows (Ended look q None) u w key height o
+follows_from look q u v w key height None e f = f ∙ ap (λ (z : View). z.seen) e
+follows_from look q u v w key height (Some nexts.Ends) e f = ended_from look q u v w e f
+follows_from look q u v w key height (Some (nexts.Goes name h)) e f = (f.0 ∙ ap (λ (z : View). z.seen) e, f.1, f.2, f.3)
+follows_from look q u v w key height (Some (nexts.Forks fork)) e f = (f.0 ∙ ap (λ (z : View). z.seen) e, f.1)

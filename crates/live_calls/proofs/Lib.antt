@@ -1,3 +1,4 @@
+pub mod Bytes
 pub mod Views
 pub mod Finds
 pub mod Locks

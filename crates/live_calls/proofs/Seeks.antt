@@ -1,5 +1,5 @@
 -- What an exchange learns on its way, and of a leaf.
-use Rattle.std.proofs.Common.{◌≡◌, ◌≢◌, ℕ, ◌-◌, ◌*◌, ◌≤◌, zero, suc, List, ◌∷◌, ◌++◌, Option, Some, None, Result, Ok, Err, refl, sym, ap, ◌∙◌, subst, inl, inr, arith}
+use Rattle.std.proofs.Common.{◌≡◌, ◌≢◌, ℕ, ◌*◌, ◌≤◌, zero, suc, List, ◌∷◌, ◌++◌, Option, Some, None, Result, Ok, Err, refl, sym, ap, ◌∙◌, subst, arith}
 use mathlib.Core.Logic.{dite}
 use native.Mathlib.Decide.{ℕ_discrete}
 use Rattle.node_table.specs.TableNode.{TableNode, Child}
@@ -13,7 +13,7 @@ use Rattle.live_nodes.specs.Plays as Plays
 use Rattle.live_nodes.specs.Plays.{Takes, Checks}
 use Rattle.live_nodes.specs.Seats.{Place, Read, read, SeatView, seat_view, IsIn, Agree}
 use Rattle.live_rows.specs.Rows.{last_saw, without_reads}
-use Rattle.live_encodes.specs.Encodes.{IsBelow, IsWord, Encodes}
+use Rattle.live_encodes.specs.Encodes.{IsBelow, Encodes}
 use Rattle.live_law.specs.Levels.{up, digit, Spot, Covers, place_at}
 use Rattle.live_law.specs.Views.{View}
 use Rattle.live_law.specs.Tree.{IsMap, LearnsNode, IsOfKind, Answers}

@@ -1,12 +1,13 @@
 -- What a key sees of a node, by the node's prefix.
-use Rattle.std.proofs.Common.{◌≡◌, ℕ, zero, suc, ◌+◌, ◌-◌, ◌*◌, ◌<◌, ◌≤◌, ◌^◌, List, [], ◌∷◌, length, get_or, Some, refl, sym, ap, ◌∙◌, subst, arith}
+use Rattle.std.proofs.Common.{◌≡◌, ℕ, zero, suc, ◌+◌, ◌-◌, ◌*◌, ◌%◌, ◌<◌, ◌≤◌, ◌^◌, List, [], ◌∷◌, length, get_or, refl, sym, ap, ◌∙◌, subst, arith}
+use Rattle.word_book.specs.Book.{Book, Name}
 use Rattle.live_nodes.specs.Seats.{SeatView}
 use Rattle.live_law.specs.Levels.{up, digit, Shape, Covers, way, place_at}
 use Rattle.live_law.specs.Views.{View}
 use Rattle.live_law.specs.Tree.{HasPrefix}
 use Rattle.live_law.proofs.Plans.{root-top, joined, way-key}
-use Rattle.live_calls.specs.Ways.{Names, Sights, Leaves, Keeps}
-use Rattle.live_calls.specs.Sees.{Alike, Sees, Sighted}
+use Rattle.live_calls.specs.Ways.{Names, Sights, Leaves, HasOpened, Keeps}
+use Rattle.live_calls.specs.Sees.{Alike, Sees, HasMet}
 use Rattle.live_calls.specs.declared.sight.Sight.{Sight}
 use Rattle.live_calls.specs.declared.sight.Sight.TheVariants as sights
 
@@ -61,37 +62,45 @@ leaves_none v name key h b l covers =
     let is = l.byte_is in
     l.other (omega (arith, w, split, is))
 
+abbrev pub sights_kept : (v w : Seen) → Keeps v w → (name : ℕ) → Sights v name → Sights w name
+sights_kept v w k name n = record { spot = n.spot; met = k.met n.spot n.met; placed = k.places (place_at n.spot) n.placed; named = n.named }
+
 -- what is known of a node whose head was read
-pub sees_head : (v w : Seen) → Keeps v w → (name key : ℕ) → key < 2 ^ 64 → (n : Sights v name) (p : List ℕ) → length p + n.spot.shape.height ≡ 8 → HasPrefix p n.spot.shape → 1 ≤ n.spot.shape.height → (o : Sight) → Sees p key o → Sighted w name key (Some o)
-sees_head v w k name key fits n p deep has tall (sights.Covers h) sees =
-    let high : n.spot.shape.height ≡ h = (let s = sees.0 in omega (arith, s, deep)) in (
-      record {
-        spot = n.spot;
-        met = k.met n.spot n.met;
-        placed = k.places (place_at n.spot) n.placed;
-        named = n.named;
-        high = high;
-        covers = sees_cover p n.spot.shape key fits deep has sees.1;
-      },
-      omega (arith, high, tall),
-      omega (arith, high, deep),
-    )
-sees_head v w k name key fits n p deep has tall (sights.Leaves h b) sees = record {
-  sighted = record { spot = n.spot; met = k.met n.spot n.met; placed = k.places (place_at n.spot) n.placed; named = n.named };
-  some_height = tall;
-  lower = leaves_lower p n.spot.shape key fits deep has h b sees.0 sees.1 sees.2 sees.3 sees.6;
-  level = sees.1;
-  top = leaves_top p n.spot.shape key fits deep has h b sees.0 sees.1 sees.2 sees.3 sees.6;
-  low = sees.4;
-  byte_is = leaves_byte p n.spot.shape key fits deep has h b sees.0 sees.1 sees.2 sees.3 sees.6;
-  other = sees.5;
-}
+module _ (v w : Seen) (k : Keeps v w) (b : Book) (words : List Name) (t name key : ℕ) (fits : key < 2 ^ 64) (n : Sights v name) (opened : HasOpened w b words t n.spot) (free : t % 4 ≡ 0) (p : List ℕ) (deep : length p + n.spot.shape.height ≡ 8) (has : HasPrefix p n.spot.shape) (tall : 1 ≤ n.spot.shape.height) where
+  pub sees_head : (o : Sight) → Sees p key o → HasMet w b words t name key o
+  sees_head (sights.Covers h) sees =
+      let high : n.spot.shape.height ≡ h = (let s = sees.0 in omega (arith, s, deep)) in (
+        record {
+          names = record {
+            spot = n.spot;
+            met = k.met n.spot n.met;
+            placed = k.places (place_at n.spot) n.placed;
+            named = n.named;
+            high = high;
+            covers = sees_cover p n.spot.shape key fits deep has sees.1;
+          };
+          opened = opened;
+          free = free;
+        },
+        omega (arith, high, tall),
+        omega (arith, high, deep),
+      )
+  sees_head (sights.Leaves h b) sees = record {
+    sighted = sights_kept v w k name n;
+    some_height = tall;
+    lower = leaves_lower p n.spot.shape key fits deep has h b sees.0 sees.1 sees.2 sees.3 sees.6;
+    level = sees.1;
+    top = leaves_top p n.spot.shape key fits deep has h b sees.0 sees.1 sees.2 sees.3 sees.6;
+    low = sees.4;
+    byte_is = leaves_byte p n.spot.shape key fits deep has h b sees.0 sees.1 sees.2 sees.3 sees.6;
+    other = sees.5;
+  }
 
 -- the same node by its height
 pub names_sight : (v : Seen) (name key : ℕ) (s : Sights v name) → Covers s.spot.shape key → (h : ℕ) → s.spot.shape.height ≡ h → Names v name key h
 names_sight v name key s covers h high = record { spot = s.spot; met = s.met; placed = s.placed; named = s.named; high = high; covers = covers }
 
-pub sights_names : (v : Seen) (name key h : ℕ) → Names v name key h → Sights v name
+abbrev pub sights_names : (v : Seen) (name key h : ℕ) → Names v name key h → Sights v name
 sights_names v name key h n = record { spot = n.spot; met = n.met; placed = n.placed; named = n.named }
 
 -- the bytes of a key, one by one

@@ -1,5 +1,5 @@
 -- What a seat knows, step by step.
-use Rattle.std.proofs.Common.{◌≡◌, ◌≢◌, ℕ, ◌+◌, ◌*◌, ◌<◌, ◌≤◌, ◌^◌, zero, suc, Bool, true, false, cond, List, [], ◌∷◌, ◌++◌, length, get_or, Option, Some, None, IfSome, refl, sym, ap, ◌∙◌, subst, inl, inr, arith, eq-eqb}
+use Rattle.std.proofs.Common.{◌≡◌, ◌≢◌, ℕ, ◌+◌, ◌-◌, ◌*◌, ◌<◌, ◌≤◌, ◌^◌, zero, suc, Bool, true, false, cond, List, [], ◌∷◌, ◌++◌, length, get_or, Option, Some, None, IfSome, refl, sym, ap, ◌∙◌, subst, inl, inr, arith, eq-eqb}
 use mathlib.Core.Logic.{dite}
 use native.Mathlib.Decide.{ℕ_discrete}
 use Rattle.node_table.specs.TableNode.{TableNode, Child}
@@ -7,20 +7,23 @@ use Rattle.node_table.specs.declared.child.Child.TheVariants.{Payload, Node as B
 use Rattle.spec_map.specs.Map.{lookup}
 use Rattle.word_book.specs.Book.{Book, Name, name, reads, none_joined}
 use Rattle.node_base.specs.Form.{form_place}
+use Rattle.node_base.specs.declared.base_node.NodeType.{NodeType}
+use Rattle.node_base.specs.declared.base_node.NodeType.TheVariants.{N4, N16, N48, N256}
 use Rattle.live_nodes.specs.Nodes.{Content}
 use Rattle.live_nodes.specs.Seats.{Place, place, Read, read, SeatView, seat_view, IsIn, Agree}
 use Rattle.live_nodes.specs.Plays as Plays
 use Rattle.live_nodes.specs.Plays.{read_of, saw_in, took, saw, Takes, Sees, Checks}
+use Rattle.live_nodes.specs.Acts.{Learns}
 use Rattle.live_nodes.specs.Calls.{KnowsPlace, KnowsCell, MayCheck}
 use Rattle.live_rows.specs.Rows.{AreOf, last_saw, unread, MayRead, without_reads}
-use Rattle.live_encodes.specs.Encodes.{IsBelow, IsWord, Encodes}
+use Rattle.live_encodes.specs.Encodes.{words_of, IsBelow, IsWord, Encodes}
 use Rattle.live_encodes.proofs.StandLaws.{few_forms}
 use Rattle.live_law.specs.Levels.{up, digit, Spot, name_of, Covers, place_at}
 use Rattle.live_law.specs.Views.{View, Ask}
 use Rattle.live_law.specs.Tree.{IsMap, HasPrefix, LearnsRoot, IsRoot, LearnsNode, Heads, Misses, Looks, GoesTo, HasAnswer, IsOfKind}
 use Rattle.live_law.proofs.Plans.{root-top}
 use Rattle.live_law.proofs.Looks.{root_learns, node_looks, node_heads, node_misses}
-use Rattle.live_calls.specs.Ways.{KnowsTrunk, Names, Sights, AreNamed, Keeps, Told}
+use Rattle.live_calls.specs.Ways.{KnowsTrunk, Names, Sights, AreNamed, HasOpened, IsOpen, Keeps, Told}
 
 abbrev Seen : Type 0
 Seen = SeatView View
@@ -31,12 +34,15 @@ head_read k n s rs = ap (λ (b : Bool). cond b (Some (read k n s)) (read_of k rs
 saw_first : (k n : ℕ) (x : ℕ × ℕ) (s : List (ℕ × ℕ)) (rs : List Read) → saw_in k x (read k n s ∷ rs) ≡ read k n (x ∷ s) ∷ rs
 saw_first k n x s rs = ap (λ (b : Bool). cond b (read k n (x ∷ s) ∷ rs) (read k n s ∷ saw_in k x rs)) (eq-eqb k k refl)
 
--- a node's word was taken, and since then so much was read of it
-abbrev pub reading : Seen → ℕ → ℕ → List (ℕ × ℕ) → Seen
-reading v k n s = seat_view v.client v.places (read k n s ∷ v.reads) v.holds v.room
+-- a node's word was taken last, and since then so much was read of it
+abbrev pub reading_on : Seen → List Read → ℕ → ℕ → List (ℕ × ℕ) → Seen
+reading_on v before k n s = seat_view v.client v.places (read k n s ∷ before) v.holds v.room
 
-pub reading_keeps : (v w : Seen) (k n : ℕ) (s : List (ℕ × ℕ)) → w ≡ reading v k n s → Keeps v w × (w.client ≡ v.client)
-reading_keeps v w k n s e = (
+abbrev pub reading : Seen → ℕ → ℕ → List (ℕ × ℕ) → Seen
+reading v k n s = reading_on v v.reads k n s
+
+pub reading_on_keeps : (v w : Seen) (before : List Read) (k n : ℕ) (s : List (ℕ × ℕ)) → w ≡ reading_on v before k n s → Keeps v w × (w.client ≡ v.client)
+reading_on_keeps v w before k n s e = (
   record {
     places = λ p h. subst (λ (z : Seen). IsIn p z.places) (sym e) h;
     met = λ a h. subst (λ (z : Seen). IsIn a z.client.met) (sym e) h;
@@ -46,6 +52,9 @@ reading_keeps v w k n s e = (
   },
   ap (λ (z : Seen). z.client) e,
 )
+
+pub reading_keeps : (v w : Seen) (k n : ℕ) (s : List (ℕ × ℕ)) → w ≡ reading v k n s → Keeps v w × (w.client ≡ v.client)
+reading_keeps v w k n s e = reading_on_keeps v w v.reads k n s e
 
 -- places were learnt, and the client knows more
 in_more : {A : Type 0} (x : A) (ys xs : List A) → IsIn x xs → IsIn x (ys ++ xs)
@@ -247,42 +256,6 @@ module _ (v : Seen) (name key height : ℕ) (n : Names v name key height) (b : B
     pub may_read_node : MayRead words b v₁
     may_read_node = subst (MayRead words b) (sym node_taken) (p, read its.number t [], v.reads, n.placed, of, refl, refl)
 
-    module _ (v₂ : Seen) (rest : without_reads v₂ ≡ without_reads v₁) where
-      node_read : v₂ ≡ reading v its.number t (last_saw v₂.reads)
-      node_read = reads_on v v₂ its.number t (rest ∙ ap without_reads node_taken)
-
-      module _ (k' : ℕ) (at_k' : p.key ≡ k') (reads_it : Bool) (q : Ask) (asked : q.key ≡ key) where
-        abbrev Then : View → ℕ → ℕ → List (ℕ × ℕ) → List Place → View → Type 0
-        Then = LearnsNode (Looks reads_it) q
-
-        abbrev saw_it : List (ℕ × ℕ)
-        saw_it = last_saw v₂.reads
-
-        covers : Covers its.shape q.key
-        covers = ap (up its.shape.height) asked ∙ n.covers
-
-        pub may_check_node : (id m : ℕ) → q.caller ≡ id → t ≡ 4 * m → MayCheck v₂ k' IsMap id Then t
-        may_check_node id m by even = subst (λ (z : Seen). MayCheck z k' IsMap id Then t) (sym node_read)
-            (p, read its.number t saw_it, (n.placed, at_k'), head_read its.number t saw_it v.reads, refl, node_looks q id by v.client its n.met t saw_it m even reads_it)
-
-        module _ (w : Seen) (m : ℕ) (told : Checks Then (reads k') v₂ m none_joined w) where
-          node_checked : Plays.Checked (Then v.client its.number t saw_it) t (reading v its.number t saw_it) m w
-          node_checked = subst (λ (z : Seen). Checks Then (reads k') z m none_joined w) node_read told p (read its.number t saw_it) n.placed at_k' (head_read its.number t saw_it v.reads)
-
-          pub node_missed : m ≢ t → Keeps v w × (w.client ≡ v.client)
-          node_missed ne = reading_keeps v w its.number t saw_it (node_checked.miss ne)
-
-          pub node_ends : m ≡ t → (found : Option ℕ)
-              → ((c : Content) (o : TableNode ℕ) → Agree c saw_it → Encodes c o → o.form ≡ its.shape.form → IsBelow (lookup o.children (digit height key)) found)
-              → Keeps v w × Told reads_it q height found v w
-          node_ends hit found finds =
-              let h = node_checked.hit hit in
-              let x = h.3 its n.met refl in
-              let below : IsBelow (lookup x.its.children (digit its.shape.height q.key)) found =
-              subst (λ (z : ℕ × ℕ). IsBelow (lookup x.its.children (digit z.0 z.1)) found) (λ i. (sym n.high i, sym asked i)) (finds x.content x.its x.agrees x.encodes x.in_form) in
-              ends reads_it q height v w its h.0 (read its.number t saw_it ∷ v.reads) h.1 (lookup x.its.children (digit its.shape.height q.key)) found n.high h.2
-              (subst (λ (z : ℕ). IsOfKind z (lookup x.its.children (digit its.shape.height q.key))) n.high x.of_kind) below (x.on_way covers)
-
 -- What was found leads on to a node that has no such keys.
 module _ (q : Ask) (v w : Seen) (a : Spot) (ps : List Place) (rs : List Read) (c : View) (is : w ≡ seat_view c (ps ++ v.places) rs v.holds v.room) (b : Spot) (known : IsIn b v.client.met) (never : Covers b.shape q.key → ⊥) where
   ends_beside : (height : ℕ) (o : Option (Child ℕ)) (word : ℕ) → 2 ≤ height → IsOfKind height o → IsBelow o (Some word) → ((s : ℕ) → IsWord word (Below s) → s ≡ name_of b.shape) → Misses q v.client a o ps c → Keeps v w × HasAnswer q None v.client w.client
@@ -354,38 +327,105 @@ module _ (v : Seen) (name : ℕ) (n : Sights v name) (b : Book) (words : List Na
     pub seen_keeps : Keeps v v₁ × (v₁.client ≡ v.client)
     seen_keeps = reading_keeps v v₁ seen_spot.number t [] seen_taken
 
-    pub may_read_seen : MayRead words b v₁
-    may_read_seen = subst (MayRead words b) (sym seen_taken) (seen_place, read seen_spot.number t [], v.reads, n.placed, seen_of, refl, refl)
+    pub seen_open : HasOpened v₁ b words t seen_spot
+    seen_open = record { are = seen_of; saw = []; before = v.reads; reads = ap (λ (z : Seen). z.reads) seen_taken }
 
-    module _ (v₂ : Seen) (rest : without_reads v₂ ≡ without_reads v₁) where
-      seen_read : v₂ ≡ reading v seen_spot.number t (last_saw v₂.reads)
-      seen_read = reads_on v v₂ seen_spot.number t (rest ∙ ap without_reads seen_taken)
+some_words : (form : NodeType) → 0 < words_of form
+some_words N4 = omega arith
+some_words N16 = omega arith
+some_words N48 = omega arith
+some_words N256 = omega arith
 
-      module _ (k' : ℕ) (at_k' : seen_place.key ≡ k') (q : Ask) where
-        abbrev Only : View → ℕ → ℕ → List (ℕ × ℕ) → List Place → View → Type 0
-        Only = LearnsNode Heads q
+-- A NODE THAT IS OPEN
+module _ (v : Seen) (b : Book) (words : List Name) (t : ℕ) (a : Spot) (placed : IsIn (place_at a) v.places) (o : HasOpened v b words t a) where
+  before_it : Seen
+  before_it = seat_view v.client v.places o.before v.holds v.room
 
-        abbrev saw_head : List (ℕ × ℕ)
-        saw_head = last_saw v₂.reads
+  was_read : v ≡ reading_on v o.before a.number t o.saw
+  was_read = ap (λ (rs : List Read). seat_view v.client v.places rs v.holds v.room) o.reads
 
-        pub may_check_seen : (id m : ℕ) → q.caller ≡ id → t ≡ 4 * m → MayCheck v₂ k' IsMap id Only t
-        may_check_seen id m by even = subst (λ (z : Seen). MayCheck z k' IsMap id Only t) (sym seen_read)
-            (seen_place, read seen_spot.number t saw_head, (n.placed, at_k'), head_read seen_spot.number t saw_head v.reads, refl, node_heads q id by v.client seen_spot n.met t saw_head m even)
+  pub may_read_open : MayRead words b v
+  may_read_open = (place_at a, read a.number t o.saw, o.before, placed, o.are, o.reads, refl)
 
-        module _ (w : Seen) (m : ℕ) (told : Checks Only (reads k') v₂ m none_joined w) where
-          seen_checked : Plays.Checked (Only v.client seen_spot.number t saw_head) t (reading v seen_spot.number t saw_head) m w
-          seen_checked = subst (λ (z : Seen). Checks Only (reads k') z m none_joined w) seen_read told seen_place (read seen_spot.number t saw_head) n.placed at_k' (head_read seen_spot.number t saw_head v.reads)
+  pub open_long : 0 < length words - 1
+  open_long = let l = o.are.0 in let some = some_words a.shape.form in omega (arith, l, some)
 
-          pub seen_missed : m ≢ t → Keeps v w × (w.client ≡ v.client)
-          seen_missed ne = reading_keeps v w seen_spot.number t saw_head (seen_checked.miss ne)
+  module _ (v₂ : Seen) (rest : without_reads v₂ ≡ without_reads v) where
+    abbrev pub saw_open : List (ℕ × ℕ)
+    saw_open = last_saw v₂.reads
 
-          -- its prefix is that of some content which agrees with what was read
-          pub seen_head : m ≡ t → Keeps v w × (w.client ≡ v.client) × ((c : Content) × (o : TableNode ℕ) × Agree c saw_head × Encodes c o × (length o.prefix + seen_spot.shape.height ≡ 8) × HasPrefix o.prefix seen_spot.shape)
-          seen_head hit =
-              let h = seen_checked.hit hit in
-              let x = h.3 seen_spot n.met refl in
-              let same : h.1 ≡ v.client = dite (ℕ_discrete (up seen_spot.shape.height q.key) seen_spot.shape.top) x.on_way x.beside in (
-                learned_keeps v w h.0 h.1 (read seen_spot.number t saw_head ∷ v.reads) h.2 (λ z in_it. subst (λ (y : View). IsIn z y.met) (sym same) in_it) (ap (λ (y : View). y.own) same),
-                ap (λ (z : Seen). z.client) h.2 ∙ same,
-                (x.content, x.its, x.agrees, x.encodes, x.deep, x.prefixed),
-              )
+    open_read : v₂ ≡ reading_on v o.before a.number t saw_open
+    unfolding before_it
+    open_read = reads_on before_it v₂ a.number t (rest ∙ ap without_reads was_read)
+
+    module _ (k : ℕ) (at_k : (place_at a).key ≡ k) (Then : View → ℕ → ℕ → List (ℕ × ℕ) → List Place → View → Type 0) where
+      pub may_check_open : (id : ℕ) → Learns IsMap id v.client a.number t saw_open (Then v.client a.number t saw_open) → MayCheck v₂ k IsMap id Then t
+      may_check_open id learns = subst (λ (z : Seen). MayCheck z k IsMap id Then t) (sym open_read)
+          (place_at a, read a.number t saw_open, (placed, at_k), head_read a.number t saw_open o.before, refl, learns)
+
+      module _ (w : Seen) (m : ℕ) (told : Checks Then (reads k) v₂ m none_joined w) where
+        pub open_checked : Plays.Checked (Then v.client a.number t saw_open) t (reading_on v o.before a.number t saw_open) m w
+        open_checked = subst (λ (z : Seen). Checks Then (reads k) z m none_joined w) open_read told (place_at a) (read a.number t saw_open) placed at_k (head_read a.number t saw_open o.before)
+
+        pub open_missed : m ≢ t → Keeps v w × (w.client ≡ v.client)
+        open_missed ne = reading_on_keeps v w o.before a.number t saw_open (open_checked.miss ne)
+
+-- what it has under a key's digit
+module _ (v : Seen) (b : Book) (words : List Name) (t name key height : ℕ) (o : IsOpen v b words t name key height) (v₂ : Seen) (rest : without_reads v₂ ≡ without_reads v) (k : ℕ) (at_k : (place_at o.names.spot).key ≡ k) (reads_it : Bool) (q : Ask) (asked : q.key ≡ key) where
+  abbrev open_spot : Spot
+  open_spot = o.names.spot
+
+  abbrev saw_it : List (ℕ × ℕ)
+  saw_it = last_saw v₂.reads
+
+  abbrev Then : View → ℕ → ℕ → List (ℕ × ℕ) → List Place → View → Type 0
+  Then = LearnsNode (Looks reads_it) q
+
+  covers : Covers open_spot.shape q.key
+  covers = ap (up open_spot.shape.height) asked ∙ o.names.covers
+
+  pub may_look : (id m : ℕ) → q.caller ≡ id → t ≡ 4 * m → MayCheck v₂ k IsMap id Then t
+  may_look id m by even = may_check_open v b words t open_spot o.names.placed o.opened v₂ rest k at_k Then id (node_looks q id by v.client open_spot o.names.met t saw_it m even reads_it)
+
+  module _ (w : Seen) (m : ℕ) (told : Checks Then (reads k) v₂ m none_joined w) where
+    pub look_missed : m ≢ t → Keeps v w × (w.client ≡ v.client)
+    look_missed ne = open_missed v b words t open_spot o.names.placed o.opened v₂ rest k at_k Then w m told ne
+
+    pub look_ends : m ≡ t → (found : Option ℕ)
+        → ((c : Content) (n : TableNode ℕ) → Agree c saw_it → Encodes c n → n.form ≡ open_spot.shape.form → IsBelow (lookup n.children (digit height key)) found)
+        → Keeps v w × Told reads_it q height found v w
+    look_ends hit found finds =
+        let h = (open_checked v b words t open_spot o.names.placed o.opened v₂ rest k at_k Then w m told).hit hit in
+        let x = h.3 open_spot o.names.met refl in
+        let below : IsBelow (lookup x.its.children (digit open_spot.shape.height q.key)) found =
+        subst (λ (z : ℕ × ℕ). IsBelow (lookup x.its.children (digit z.0 z.1)) found) (λ i. (sym o.names.high i, sym asked i)) (finds x.content x.its x.agrees x.encodes x.in_form) in
+        ends reads_it q height v w open_spot h.0 (read open_spot.number t saw_it ∷ o.opened.before) h.1 (lookup x.its.children (digit open_spot.shape.height q.key)) found o.names.high h.2
+        (subst (λ (z : ℕ). IsOfKind z (lookup x.its.children (digit open_spot.shape.height q.key))) o.names.high x.of_kind) below (x.on_way covers)
+
+-- its head
+module _ (v : Seen) (b : Book) (words : List Name) (t name : ℕ) (n : Sights v name) (o : HasOpened v b words t n.spot) (v₂ : Seen) (rest : without_reads v₂ ≡ without_reads v) (k : ℕ) (at_k : (place_at n.spot).key ≡ k) (q : Ask) where
+  abbrev saw_head : List (ℕ × ℕ)
+  saw_head = last_saw v₂.reads
+
+  abbrev Only : View → ℕ → ℕ → List (ℕ × ℕ) → List Place → View → Type 0
+  Only = LearnsNode Heads q
+
+  pub may_meet : (id m : ℕ) → q.caller ≡ id → t ≡ 4 * m → MayCheck v₂ k IsMap id Only t
+  may_meet id m by even = may_check_open v b words t n.spot n.placed o v₂ rest k at_k Only id (node_heads q id by v.client n.spot n.met t saw_head m even)
+
+  module _ (w : Seen) (m : ℕ) (told : Checks Only (reads k) v₂ m none_joined w) where
+    pub meet_missed : m ≢ t → Keeps v w × (w.client ≡ v.client)
+    meet_missed ne = open_missed v b words t n.spot n.placed o v₂ rest k at_k Only w m told ne
+
+    -- its prefix is that of some content which agrees with what was read
+    pub meet_head : m ≡ t → Keeps v w × (w.client ≡ v.client) × HasOpened w b words t n.spot
+        × ((c : Content) × (x : TableNode ℕ) × Agree c saw_head × Encodes c x × (length x.prefix + n.spot.shape.height ≡ 8) × HasPrefix x.prefix n.spot.shape)
+    meet_head hit =
+        let h = (open_checked v b words t n.spot n.placed o v₂ rest k at_k Only w m told).hit hit in
+        let x = h.3 n.spot n.met refl in
+        let same : h.1 ≡ v.client = dite (ℕ_discrete (up n.spot.shape.height q.key) n.spot.shape.top) x.on_way x.beside in (
+          learned_keeps v w h.0 h.1 (read n.spot.number t saw_head ∷ o.before) h.2 (λ z in_it. subst (λ (y : View). IsIn z y.met) (sym same) in_it) (ap (λ (y : View). y.own) same),
+          ap (λ (z : Seen). z.client) h.2 ∙ same,
+          record { are = o.are; saw = saw_head; before = o.before; reads = ap (λ (z : Seen). z.reads) h.2 },
+          (x.content, x.its, x.agrees, x.encodes, x.deep, x.prefixed),
+        )

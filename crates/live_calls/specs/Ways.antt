@@ -1,8 +1,8 @@
 -- What a seat knows on the way of a key.
-use Rattle.std.specs.Prelude.{◌≡◌, ◌≢◌, ℕ, zero, suc, ◌+◌, ◌-◌, ◌*◌, ◌<◌, ◌≤◌, Bool, true, false, List, Option, Some, None}
+use Rattle.std.specs.Prelude.{◌≡◌, ◌≢◌, ℕ, zero, suc, ◌+◌, ◌-◌, ◌*◌, ◌%◌, ◌<◌, ◌≤◌, Bool, true, false, List, ◌∷◌, Option, Some, None}
 use Rattle.node_table.specs.declared.child.Child.TheVariants.{Node}
 use Rattle.word_book.specs.Book.{Book, Name}
-use Rattle.live_nodes.specs.Seats.{Place, place, SeatView, IsIn}
+use Rattle.live_nodes.specs.Seats.{Place, place, Read, read, SeatView, IsIn}
 use Rattle.live_rows.specs.Rows.{AreOf}
 use Rattle.live_encodes.specs.Encodes.{IsWord}
 use Rattle.live_law.specs.Levels.{up, digit, way, Spot, name_of, Covers, place_at}
@@ -42,6 +42,19 @@ pub record Leaves (v : SeatView View) (name key height byte : ℕ) : Type 0 wher
 -- These are its words.
 abbrev pub AreNamed : Book → ℕ → List Name → Type 0
 AreNamed b name words = (a : Spot) → name ≡ name_of a.shape → AreOf (place_at a) b words
+
+-- The seat has opened that node: it took this word of it last.
+pub record HasOpened (v : SeatView View) (b : Book) (words : List Name) (taken : ℕ) (a : Spot) : Type 0 where
+  pub are : AreOf (place_at a) b words
+  pub saw : List (ℕ × ℕ)
+  pub before : List Read
+  pub reads : v.reads ≡ read a.number taken saw ∷ before
+
+-- A node of that height is open, which has keys that begin like this one. It is free by this word.
+pub record IsOpen (v : SeatView View) (b : Book) (words : List Name) (taken name key height : ℕ) : Type 0 where
+  pub names : Names v name key height
+  pub opened : HasOpened v b words taken names.spot
+  pub free : taken % 4 ≡ 0
 
 -- The seat knows as much, and has the same to itself.
 pub record Keeps (v w : SeatView View) : Type 0 where

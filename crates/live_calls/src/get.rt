@@ -3,8 +3,8 @@ ghost use Rattle.std.specs.Prelude.{◌≡◌, ℕ, ◌+◌, ◌<◌, ◌≤◌,
 ghost use Rattle.live_law.specs.Tree.{HasAnswer};
 ghost use Rattle.live_calls.specs.Ways.{KnowsTrunk, Names, Keeps, Found};
 
-use crate::sight::{Next, ends_above, follow};
-use crate::way::{Nodes, Pass, look, root};
+use crate::sight::{Next, ends_above, step};
+use crate::way::{Nodes, Pass, look, open, root};
 use live_law::law::Asks;
 
 /// The value of a key. `None` where a writer came in between.
@@ -18,12 +18,15 @@ pub(crate) fn get_once<A: Asks>(nodes: &Nodes, key: u64, pass: &mut Pass) -> Opt
 {
     let mut name = root(nodes, key, pass)?;
     let mut height = 8usize;
+    let mut here = open(nodes, name, pass)?;
     while height > 1 {
-        match follow::<A>(nodes, name, height, key, pass)? {
+        let step = step::<A>(nodes, here, name, height, key, pass)?;
+        match step.next {
             Next::Ends => return Some(None),
             Next::Goes(below, lower) => {
                 name = below;
                 height = lower;
+                here = step.here;
             }
             Next::Forks(fork) => {
                 if ends_above::<A>(nodes, name, height, fork.below, key, pass) {
@@ -33,5 +36,5 @@ pub(crate) fn get_once<A: Asks>(nodes: &Nodes, key: u64, pass: &mut Pass) -> Opt
             }
         }
     }
-    look::<A>(nodes, name, 1, key, pass)
+    look::<A>(here, name, 1, key, pass)
 }

@@ -6,9 +6,9 @@ ghost use Rattle.live_calls.specs.Stands.{Stands, IsEnd};
 ghost use Rattle.live_calls.specs.Calls.{IsReady, Inserts};
 
 use crate::link::{Room, link};
-use crate::sight::{Fork, Next, follow};
+use crate::sight::{Fork, Next, step};
 use crate::split::split;
-use crate::way::{Nodes, Pass, root};
+use crate::way::{Nodes, Pass, open, root};
 use crate::widen::widen;
 use crate::write::{Hindrance, insert_here};
 use std::alloc::{AllocError, Global};
@@ -46,8 +46,10 @@ pub fn descend(nodes: &Nodes, key: u64, pass: &mut Pass) -> Option<End>
         name,
         height: 8,
     };
+    let mut here = open(nodes, name, pass)?;
     while stand.height > 1 {
-        match follow::<Brand>(nodes, stand.name, stand.height, key, pass)? {
+        let step = step::<Brand>(nodes, here, stand.name, stand.height, key, pass)?;
+        match step.next {
             Next::Ends => return Some(End { stand, fork: None }),
             Next::Goes(name, height) => {
                 stand = Stand {
@@ -56,6 +58,7 @@ pub fn descend(nodes: &Nodes, key: u64, pass: &mut Pass) -> Option<End>
                     name,
                     height,
                 };
+                here = step.here;
             }
             Next::Forks(fork) => {
                 return Some(End {

@@ -1,11 +1,14 @@
 //! A node that a key meets on its way, which may have no key that begins like it.
-ghost use Rattle.std.specs.Prelude.{◌≡◌, ℕ, ◌+◌, ◌<◌, ◌≤◌, List, None, IfSome, IsTrue, false};
+ghost use Rattle.std.specs.Prelude.{◌≡◌, ◌≢◌, ℕ, ◌+◌, ◌-◌, ◌<◌, ◌≤◌, List, Some, None, IfSome, IfNone, IsTrue, false};
+ghost use Rattle.std.specs.Int.{bit_at};
+ghost use Rattle.live_cells.specs.Words.{lane};
 ghost use Rattle.live_cells.specs.Head.{IsHead};
+ghost use Rattle.live_law.specs.Levels.{digit};
 ghost use Rattle.live_law.specs.Tree.{HasAnswer};
-ghost use Rattle.live_calls.specs.Ways.{Names, Sights, Leaves, Keeps, Ended};
-ghost use Rattle.live_calls.specs.Sees.{Sees, Sighted, Follows};
+ghost use Rattle.live_calls.specs.Ways.{Names, Sights, Leaves, IsOpen, Keeps, Ended};
+ghost use Rattle.live_calls.specs.Sees.{Sees, HasMet, Follows, IsNextOpen};
 
-use crate::way::{Nodes, Pass, byte_at, look, words_at};
+use crate::way::{Nodes, Opened, Pass, byte_at, look, open, words_at};
 use live_cells::head::prefix_len;
 use live_cells::lanes::lane_of;
 use live_cells::words::Cells;
@@ -14,6 +17,7 @@ use live_encodes::search::find;
 use live_law::law::{Asks, Head, Levels, Mine, Miss};
 use live_nodes::node;
 use live_rows::rows::Row;
+use std::simd::prelude::*;
 
 /// A node as a key sees it: its height, if it has keys that begin like this one. Otherwise the height at which it has another
 /// byte, and that byte.
@@ -39,41 +43,74 @@ pub enum Next {
     Forks(Fork),
 }
 
+/// A node that a key has come to: open, and as the key sees it.
+#[derive(Clone, Copy)]
+pub struct Met<'a> {
+    pub here: Opened<'a>,
+    pub sight: Sight,
+}
+
+/// What is next on a key's way, and the node that is open then: the next one, if there is one.
+#[derive(Clone, Copy)]
+pub struct Arrival<'a> {
+    pub here: Opened<'a>,
+    pub next: Next,
+}
+
+// A bit for each byte of a head that may be of its prefix: whether the key has another one there. All are compared at once.
+#[inline(always)]
+fn other_lanes(head: u64, key: u64) -> u64
+    ensures same { (k : ℕ) → 1 ≤ k → k < 8 → lane head k ≡ digit (9 - k) key → bit_at result k ≡ 0 }
+    ensures other { (k : ℕ) → 1 ≤ k → k < 8 → lane head k ≢ digit (9 - k) key → bit_at result k ≡ 1 }
+{
+    let bytes = [
+        0,
+        byte_at(key, 8),
+        byte_at(key, 7),
+        byte_at(key, 6),
+        byte_at(key, 5),
+        byte_at(key, 4),
+        byte_at(key, 3),
+        byte_at(key, 2),
+    ];
+    let lanes = u8x8::from_array(head.to_le_bytes());
+    lanes.simd_ne(u8x8::from_array(bytes)).to_bitmask()
+}
+
 /// What a key sees of a node with this head.
+#[inline(always)]
 pub fn compare(head: u64, key: u64) -> Sight
     ensures { (form : ℕ) (prefix : List ℕ) → IsHead head form prefix → Sees prefix key result }
 {
     let deep = prefix_len(head);
-    for i in 0..deep {
-        let byte = lane_of(head, i + 1);
-        if byte != byte_at(key, 8 - i) {
-            return Sight::Leaves(8 - i, byte);
-        }
+    let others = other_lanes(head, key) & ((1u64 << (deep + 1)) - 2);
+    if others == 0 {
+        return Sight::Covers(8 - deep);
     }
-    Sight::Covers(8 - deep)
+    let first = others.trailing_zeros() as usize;
+    Sight::Leaves(9 - first, lane_of(head, first))
 }
 
-/// What a key sees of a node. `None` where a writer came in between.
-pub fn meet<A: Asks>(nodes: &Nodes, name: u64, key: u64, pass: &mut Pass) -> Option<Sight>
+/// What a key sees of a node, which is open then. `None` where a writer came in between.
+#[inline(always)]
+pub fn meet<'a, A: Asks>(nodes: &'a Nodes, name: u64, key: u64, pass: &mut Pass) -> Option<Met<'a>>
     requires book { pass.old.book ≡ nodes.now }
     requires asks { A.ask.caller ≡ pass.old.id }
     requires sighted { Sights pass.old.view name }
     ensures told { (pass.new.book ≡ pass.old.book) × (pass.new.id ≡ pass.old.id)
         × Keeps pass.old.view pass.new.view
-        × (pass.new.view.client ≡ pass.old.view.client)
-        × Sighted pass.new.view name key result }
+        × (pass.new.view.client ≡ pass.old.view.client) }
+    ensures met { IfSome result (λ met. let here = met.here
+        in HasMet pass.new.view pass.new.book here.words.now here.taken name key met.sight) }
 {
-    let words = words_at(nodes, name)?;
-    let taken = node::take(&words[0], pass);
-    if taken % 4 != 0 {
-        return None;
-    }
-    let row = Row { words };
+    let here = open(nodes, name, pass)?;
+    let row = Row { words: here.words };
     let head = row.word(0, pass);
-    if !node::check::<Mine, Levels, Head<A>>(&words[0], taken, pass) {
+    if !node::check::<Mine, Levels, Head<A>>(&here.words[0], here.taken, pass) {
         return None;
     }
-    Some(compare(head, key))
+    let sight = compare(head, key);
+    Some(Met { here, sight })
 }
 
 /// Whether the way of a key ends at a node, which still leads on to one that the key leaves. `false` where a writer came in
@@ -115,6 +152,48 @@ pub fn ends_above<A: Asks>(
     node::check::<Mine, Levels, Miss<A>>(&words[0], taken, pass)
 }
 
+/// What is next on a key's way from an open node. `None` where a writer came in between.
+#[inline(always)]
+pub fn step<'a, A: Asks>(
+    nodes: &'a Nodes,
+    here: Opened<'a>,
+    name: u64,
+    height: usize,
+    key: u64,
+    pass: &mut Pass,
+) -> Option<Arrival<'a>>
+    requires book { pass.old.book ≡ nodes.now }
+    requires asks { (A.ask.key ≡ key) × (A.ask.caller ≡ pass.old.id) }
+    requires open { IsOpen pass.old.view pass.old.book here.words.now here.taken name key height }
+    requires height { (2 ≤ height) × (height ≤ 8) }
+    ensures told { (pass.new.book ≡ pass.old.book) × (pass.new.id ≡ pass.old.id)
+        × Keeps pass.old.view pass.new.view }
+    ensures none { IfNone result (pass.new.view.client.seen ≡ pass.old.view.client.seen) }
+    ensures next { IfSome result (λ step. let here = step.here
+        in Follows (Ended A.reads A.ask None) pass.old.view pass.new.view key height (Some step.next)
+        × IsNextOpen pass.new.view pass.new.book here.words.now here.taken key step.next) }
+{
+    let Some(word) = look::<A>(here, name, height, key, pass)? else {
+        return Some(Arrival {
+            here,
+            next: Next::Ends,
+        });
+    };
+    let below = slot_below(word);
+    let met = meet::<A>(nodes, below, key, pass)?;
+    match met.sight {
+        Sight::Covers(lower) if lower < height => Some(Arrival {
+            here: met.here,
+            next: Next::Goes(below, lower),
+        }),
+        Sight::Covers(_) => None,
+        Sight::Leaves(at, byte) => Some(Arrival {
+            here,
+            next: Next::Forks(Fork { below, at, byte }),
+        }),
+    }
+}
+
 /// What is next on a key's way. `None` where a writer came in between.
 pub fn follow<A: Asks>(
     nodes: &Nodes,
@@ -131,13 +210,7 @@ pub fn follow<A: Asks>(
         × Keeps pass.old.view pass.new.view
         × Follows (Ended A.reads A.ask None) pass.old.view pass.new.view key height result }
 {
-    let Some(word) = look::<A>(nodes, name, height, key, pass)? else {
-        return Some(Next::Ends);
-    };
-    let below = slot_below(word);
-    match meet::<A>(nodes, below, key, pass)? {
-        Sight::Covers(lower) if lower < height => Some(Next::Goes(below, lower)),
-        Sight::Covers(_) => None,
-        Sight::Leaves(at, byte) => Some(Next::Forks(Fork { below, at, byte })),
-    }
+    let here = open(nodes, name, pass)?;
+    let step = step::<A>(nodes, here, name, height, key, pass)?;
+    Some(step.next)
 }

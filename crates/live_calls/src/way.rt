@@ -1,9 +1,9 @@
 //! The way of a key: from the trunk to the root, and from a node to the one below.
-ghost use Rattle.std.specs.Prelude.{◌≡◌, ℕ, ◌+◌, ◌-◌, ◌<◌, ◌≤◌, ◌^◌, length, slice_index, IfSome, IfNone};
+ghost use Rattle.std.specs.Prelude.{◌≡◌, ℕ, ◌+◌, ◌-◌, ◌%◌, ◌<◌, ◌≤◌, ◌^◌, length, slice_index, IfSome, IfNone};
 ghost use Rattle.node_base.specs.Form.{form_place};
 ghost use Rattle.node_base.specs.declared.base_node.NodeType.{NodeType};
 ghost use Rattle.live_law.specs.Levels.{digit, up};
-ghost use Rattle.live_calls.specs.Ways.{KnowsTrunk, Names, AreNamed, Keeps, Looked};
+ghost use Rattle.live_calls.specs.Ways.{KnowsTrunk, Names, Sights, AreNamed, HasOpened, IsOpen, Keeps, Looked};
 
 use live_encodes::form::{form_below, slot_below, words_in};
 use live_encodes::search::find;
@@ -20,20 +20,12 @@ pub type Pass = Seat<Mine, Levels>;
 pub type Cell = Word<Mine, Levels>;
 
 /// The byte of a key by which a node of this height leads on.
+#[inline(always)]
 pub fn byte_at(key: u64, height: usize) -> u8
     requires { (1 ≤ height) × (height ≤ 8) }
     ensures { result ≡ digit height key }
 {
-    match height {
-        1 => (key % 256) as u8,
-        2 => (key / 256 % 256) as u8,
-        3 => (key / 256 / 256 % 256) as u8,
-        4 => (key / 256 / 256 / 256 % 256) as u8,
-        5 => (key / 256 / 256 / 256 / 256 % 256) as u8,
-        6 => (key / 256 / 256 / 256 / 256 / 256 % 256) as u8,
-        7 => (key / 256 / 256 / 256 / 256 / 256 / 256 % 256) as u8,
-        _ => (key / 256 / 256 / 256 / 256 / 256 / 256 / 256 % 256) as u8,
-    }
+    ((key >> (8 * (height - 1))) % 256) as u8
 }
 
 /// The bytes of a key, the highest first.
@@ -54,6 +46,7 @@ pub fn bytes_of(key: u64) -> [u8; 8]
 }
 
 /// The name of the root. `None` where there is none yet, or a writer came in between.
+#[inline(always)]
 pub fn root(nodes: &Nodes, key: u64, pass: &mut Pass) -> Option<u64>
     requires book { pass.old.book ≡ nodes.now }
     requires trunk { KnowsTrunk pass.old.view }
@@ -79,35 +72,59 @@ pub fn root(nodes: &Nodes, key: u64, pass: &mut Pass) -> Option<u64>
 }
 
 /// The words of the node that a number names. `None` where its segment isn't there yet.
+#[inline(always)]
 pub fn words_at(nodes: &Nodes, name: u64) -> Option<&[Cell]>
     ensures { IfSome result (λ words. AreNamed nodes.now name words.now) }
 {
     nodes.span(slot_below(name), words_in(form_below(name)) + 1)
 }
 
-/// What a node of this height has under the key's digit. `None` where a writer came in between.
+/// A node that a seat has opened: its words, and the version word that the seat took last, by which it is free.
+#[derive(Clone, Copy)]
+pub struct Opened<'a> {
+    pub words: &'a [Cell],
+    pub taken: u64,
+}
+
+/// Opens the node that a number names. `None` where a writer is busy there, or its segment isn't there yet.
+#[inline(always)]
+pub fn open<'a>(nodes: &'a Nodes, name: u64, pass: &mut Pass) -> Option<Opened<'a>>
+    requires book { pass.old.book ≡ nodes.now }
+    requires sighted { Sights pass.old.view name }
+    ensures told { (pass.new.book ≡ pass.old.book) × (pass.new.id ≡ pass.old.id)
+        × Keeps pass.old.view pass.new.view
+        × (pass.new.view.client ≡ pass.old.view.client) }
+    ensures opened { IfSome result (λ here. (here.taken % 4 ≡ 0)
+        × ((n : Sights pass.old.view name)
+        → HasOpened pass.new.view pass.new.book here.words.now here.taken n.spot)) }
+{
+    let words = words_at(nodes, name)?;
+    let taken = node::take(&words[0], pass);
+    if taken % 4 != 0 {
+        return None;
+    }
+    Some(Opened { words, taken })
+}
+
+/// What an open node of this height has under the key's digit. `None` where a writer came in between.
+#[inline(always)]
 pub fn look<A: Asks>(
-    nodes: &Nodes,
+    here: Opened<'_>,
     name: u64,
     height: usize,
     key: u64,
     pass: &mut Pass,
 ) -> Option<Option<u64>>
-    requires book { pass.old.book ≡ nodes.now }
     requires asks { (A.ask.key ≡ key) × (A.ask.caller ≡ pass.old.id) }
-    requires named { Names pass.old.view name key height }
+    requires open { IsOpen pass.old.view pass.old.book here.words.now here.taken name key height }
     requires height { (1 ≤ height) × (height ≤ 8) }
     ensures told { (pass.new.book ≡ pass.old.book) × (pass.new.id ≡ pass.old.id)
         × Keeps pass.old.view pass.new.view
         × Looked A.reads A.ask height result pass.old.view pass.new.view }
 {
-    let words = words_at(nodes, name)?;
+    let Opened { words, taken } = here;
     let form = form_below(name);
     let byte = byte_at(key, height);
-    let taken = node::take(&words[0], pass);
-    if taken % 4 != 0 {
-        return None;
-    }
     let row = Row { words };
     let found = find(&row, form, byte, pass);
     if !node::check::<Mine, Levels, Look<A>>(&words[0], taken, pass) {

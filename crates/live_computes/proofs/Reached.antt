@@ -1,5 +1,5 @@
 -- The calls of a closure, one after another.
-use Rattle.std.proofs.Common.{List, [], ◌∷◌, ◌≡◌, refl, sym, subst}
+use Rattle.std.proofs.Common.{List, [], ◌∷◌, refl, sym, subst}
 use Rattle.std.specs.List.{FoldsTo}
 use Rattle.live_computes.specs.Closures.{Reaches}
 

@@ -7,7 +7,7 @@ ghost use Rattle.live_calls.specs.Ways.{KnowsTrunk};
 ghost use Rattle.live_calls.specs.Calls.{IsReady};
 ghost use Rattle.live_updates.specs.inner.Lookups.{EndsBy};
 ghost use Rattle.live_computes.specs.Closures.{Reaches};
-ghost use Rattle.live_computes.specs.Entries.{computed_with, inserted_with};
+ghost use Rattle.live_computes.specs.Entries.{computed_with, inserted_with, sum_with};
 ghost use Rattle.live_computes.specs.inner.Ends.{Stores};
 
 use crate::absent::enter;
@@ -119,6 +119,40 @@ fn keep_once(
     }
 }
 
+/// Adds a number to a key's value, once. The value before. `None` where a writer came in between.
+fn add_once(
+    nodes: &Nodes,
+    alloc: Global,
+    key: u64,
+    number: u64,
+    room: &mut Room,
+    pass: &mut Pass,
+) -> Result<Option<Option<u64>>, Refusal>
+    requires book { pass.old.book ≡ nodes.now }
+    requires ready { IsReady pass.old.view room.old.start room.old.left }
+    ensures told { (pass.new.book ≡ pass.old.book) × (pass.new.id ≡ pass.old.id)
+        × IsReady pass.new.view room.new.start room.new.left
+        × Stores pass.old.id key (λ before new. new ≡ sum_with before number) result
+        pass.old.view pass.new.view }
+{
+    match seek::<Brand>(nodes, key, pass) {
+        Some(Site::At(leaf, value)) => {
+            let new = value.wrapping_add(number);
+            if update_here::<Brand>(nodes, leaf, key, Some(value), Some(new), pass).is_some() {
+                return Ok(None);
+            }
+            Ok(Some(Some(value)))
+        }
+        Some(Site::Absent) => {
+            if !enter::<Brand>(nodes, alloc, key, number, room, pass)? {
+                return Ok(None);
+            }
+            Ok(Some(None))
+        }
+        None => Ok(None),
+    }
+}
+
 /// If the key is present, calls the closure with its value, and stores the answer. For `None` it removes the key. Returns both
 /// values, the old and the new one. The closure may be called again, and the last call counts. It may have been called before
 /// `Busy`.
@@ -197,6 +231,35 @@ pub fn get_or_insert(
         )?;
         if let Some(found) = done {
             return Ok(found);
+        }
+    }
+    Err(Refusal::Busy)
+}
+
+/// Adds a number to the key's value, modulo 2 to the 64. An absent key gets the number itself. Returns the value before.
+pub fn add(
+    map: &Congee,
+    alloc: Global,
+    guard: &mut Guard,
+    key: u64,
+    number: u64,
+) -> Result<Option<u64>, Refusal>
+    requires { guard.old.book ≡ map.now }
+    ensures made { IfOk result (λ before. MadeCall guard.old
+        (inserted_with guard.old.caller key before (sum_with before number)) guard.new) }
+    ensures refused { OnErr result (guard.new ≡ guard.old) }
+{
+    for _ in 0..TRIES {
+        let done = add_once(
+            &map.nodes,
+            alloc,
+            key,
+            number,
+            &mut guard.room,
+            &mut guard.pass,
+        )?;
+        if let Some(before) = done {
+            return Ok(before);
         }
     }
     Err(Refusal::Busy)

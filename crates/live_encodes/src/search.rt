@@ -13,6 +13,7 @@ use live_cells::{list, places};
 use node_base::base_node::NodeType;
 
 /// The word of the child under a byte, of a node of this form. A leaf's is the payload itself.
+#[inline(always)]
 pub fn find<S, R: Cells<S>>(cells: &R, form: NodeType, byte: u8, seat: &mut S) -> Option<u64>
     requires cells { R.may_read cells.now seat.old × (R.long cells.now ≡ words_of form) }
     ensures seat { Stays R.may_read R.rest cells.now seat.old seat.new }
@@ -31,6 +32,7 @@ pub fn find<S, R: Cells<S>>(cells: &R, form: NodeType, byte: u8, seat: &mut S) -
 }
 
 // The word of the byte's child in a list.
+#[inline(always)]
 fn in_list<S, R: Cells<S>>(cells: &R, room: usize, byte: u8, seat: &mut S) -> Option<u64>
     requires room { room ≤ 48 }
     requires cells { R.may_read cells.now seat.old × (R.long cells.now ≡ first room + room) }

@@ -6,6 +6,7 @@ use Rattle.share_rule.specs.History.{Entry}
 use Rattle.live_law.specs.Known.{Known, MadeCall}
 use Rattle.live_updates.specs.Entries.{swapped}
 use Rattle.live_scans.specs.Scans.{HasNext}
+use Rattle.live_floors.specs.Floors.{HasBefore}
 use Rattle.live_computes.specs.Entries.{inserted_with}
 
 -- A CALL, by a guard that knew k
@@ -13,6 +14,10 @@ module _ {V : Type 0} (of_number : ℕ → V) (k : Known) where
   -- the call returned the key's value before it, by which its entry is known
   abbrev pub ReturnsOld : (Option ℕ → Entry ℕ) → Option V → Known → Type 0
   ReturnsOld entry before n = (number : Option ℕ) × (before ≡ option_map of_number number) × MadeCall k (entry number) n
+
+  -- the same, where the new number was put together from the previous one
+  abbrev pub ReturnsComputed : ℕ → (Option ℕ → ℕ) → Option V → Known → Type 0
+  ReturnsComputed key new = ReturnsOld (λ number. inserted_with k.caller key number (new number))
 
   -- compare_exchange returned the new value itself, or the current one, which isn't the expected one
   abbrev pub ReturnsExchanged : (V → ℕ) → ℕ → ℕ → Option V → Result (Option V) (Option V) → Known → Type 0
@@ -35,3 +40,7 @@ pair_of of_key of_value p = (of_key p.0, of_value p.1)
 -- A READER by a guard that knew k returned the next pair from a key on, or none
 abbrev pub ReturnsNext : {P : Type 0} → (ℕ × ℕ → P) → Known → ℕ → Option P → Known → Type 0
 ReturnsNext of_pair k low found n = (pair : Option (ℕ × ℕ)) × (found ≡ option_map of_pair pair) × HasNext k low pair n
+
+-- The same of the last pair below a key
+abbrev pub ReturnsBefore : {P : Type 0} → (ℕ × ℕ → P) → Known → ℕ → Option P → Known → Type 0
+ReturnsBefore of_pair k high found n = (pair : Option (ℕ × ℕ)) × (found ≡ option_map of_pair pair) × HasBefore k high pair n

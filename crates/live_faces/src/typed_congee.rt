@@ -7,7 +7,9 @@ ghost use Rattle.live_law.specs.Views.{ask, got, inserted};
 ghost use Rattle.live_calls.specs.Meetings.{SeenMore};
 ghost use Rattle.live_faces.specs.Returned.{ReturnsOld};
 
+mod computed;
 mod computes;
+mod floors;
 mod scans;
 mod updates;
 

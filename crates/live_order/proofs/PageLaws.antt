@@ -1,7 +1,7 @@
 -- A page grows by a pair, and ends.
-use Rattle.std.proofs.Common.{◌≡◌, ℕ, ◌+◌, ◌<◌, ◌≤◌, List, [], ◌∷◌, ◌++◌, length, take, drop, set, Some, None, sym, ap, ◌∙◌, arith, inl, inr, length-take-le}
+use Rattle.std.proofs.Common.{◌≡◌, ℕ, ◌+◌, ◌<◌, ◌≤◌, List, [], ◌∷◌, ◌++◌, length, take, drop, set, map, Some, None, sym, ap, ◌∙◌, arith, inl, inr, length-take-le}
 use Rattle.std.proofs.lemmas.Bool.{cases_lt, cases_eq, eq-eqb, ne_eqb}
-use Rattle.std.proofs.lemmas.List.{take_more_set, drop-append-le, drop_all}
+use Rattle.std.proofs.lemmas.List.{take_more_set, take-set-le, drop-append-le, drop_all, map-set, length-map}
 use Rattle.spec_map.specs.Map.{Pairs, lookup, Rises}
 use Rattle.spec_map.proofs.MapLaws.{Rises-wider}
 use Rattle.spec_map.proofs.JoinLaws.{Rises-append, lookup-above, lookup-append_left, lookup-append_right}
@@ -51,3 +51,12 @@ filled_none l start low = drop_whole (take start l) start (length-take-le start 
   where
     drop_whole : (xs : List (ℕ × ℕ)) (n : ℕ) → length xs ≡ n → drop n xs ≡ []
     drop_whole xs n e = drop_all n xs (omega (arith, e))
+
+-- the same of entries, which have pairs
+module _ {P : Type 0} (pair : P → ℕ × ℕ) (l : List P) (start place : ℕ) (entry : P) (low : start ≤ place) where
+  pub entered_more : (e : ℕ × ℕ) → pair entry ≡ e → place < length l → drop start (take (place + 1) (map pair (set l place entry))) ≡ drop start (take place (map pair l)) ++ e ∷ []
+  entered_more e is inside = ap (λ (xs : List (ℕ × ℕ)). drop start (take (place + 1) xs)) (map-set pair l place entry ∙ ap (set (map pair l) place) is)
+      ∙ filled_more (map pair l) start place e low (let n = length-map l pair in omega (arith, inside, n))
+
+  pub entered_before : take start (map pair (set l place entry)) ≡ take start (map pair l)
+  entered_before = ap (take start) (map-set pair l place entry) ∙ take-set-le start (map pair l) place (pair entry) low

@@ -1,5 +1,5 @@
 -- The pairs of a leaf, as they are listed.
-use Rattle.std.specs.Prelude.{◌≡◌, ℕ, ◌+◌, ◌<◌, ◌≤◌, Option, Some, None}
+use Rattle.std.specs.Prelude.{◌≡◌, ℕ, ◌+◌, ◌<◌, ◌≤◌, List, map, Option, Some, None}
 use Rattle.spec_map.specs.Map.{Pairs, lookup, Rises}
 use Rattle.node_table.specs.TableNode.{TableNode}
 use Rattle.live_encodes.specs.Encodes.{payload_of}
@@ -14,3 +14,7 @@ IsNext n from last (Some e) = (from ≤ e.0) × (e.0 ≤ last) × (payload_of (l
 pub record AreListed (n : TableNode ℕ) (base from to : ℕ) (ps : Pairs ℕ) : Type 0 where
   pub ascend : Rises (base + from) (base + to) ps
   pub value : (b : ℕ) → from ≤ b → b < to → lookup ps (base + b) ≡ payload_of (lookup n.children b)
+
+-- the pairs that entries have
+abbrev pub pairs_of : {P : Type 0} → (P → ℕ × ℕ) → List P → Pairs ℕ
+pairs_of pair entries = map pair entries

@@ -4,11 +4,31 @@ ghost use Rattle.std.specs.Prelude.{◌≡◌, ◌≢◌, ℕ, ◌+◌, ◌<◌,
 ghost use Rattle.node_table.specs.TableNode.{TableNode};
 ghost use Rattle.live_cells.specs.Words.{Stays};
 ghost use Rattle.live_encodes.specs.Encodes.{words_of, Encodes};
-ghost use Rattle.live_order.specs.Page.{IsNext, AreListed};
+ghost use Rattle.live_order.specs.Page.{IsNext, AreListed, pairs_of};
 
 use crate::nearest::nearest;
 use live_cells::words::Cells;
 use node_base::base_node::NodeType;
+
+/// What a page has for a pair.
+pub trait RangeEntry: Copy {
+    ghost use Rattle.std.specs.Prelude.{ℕ};
+
+    /// The key and the value that it has.
+    ghost pair: { Self → ℕ × ℕ };
+
+    /// The entry of a pair.
+    fn from_pair(key: u64, value: u64) -> Self
+        ensures { pair result ≡ (key, value) };
+}
+
+impl RangeEntry for (u64, u64) {
+    ghost pair = { λ p. p };
+
+    fn from_pair(key: u64, value: u64) -> (u64, u64) {
+        (key, value)
+    }
+}
 
 /// Keys of a leaf, whose least key is `base`: those with the bytes from `first` to `last`.
 #[derive(Clone, Copy, Debug, PartialEq, Eq)]
@@ -51,11 +71,11 @@ fn next_within<S, R: Cells<S>>(
 }
 
 /// Writes a part of a leaf of this form into a buffer, from a place there on, ascending, until the buffer is full.
-pub fn fill<S, R: Cells<S>>(
+pub fn fill<S, R: Cells<S>, P: RangeEntry>(
     cells: &R,
     form: NodeType,
     part: Part,
-    buffer: &mut [(u64, u64)],
+    buffer: &mut [P],
     start: usize,
     seat: &mut S,
 ) -> Filled
@@ -66,11 +86,12 @@ pub fn fill<S, R: Cells<S>>(
     ensures count { (start ≤ result.count) × (result.count ≤ length buffer.old) }
     ensures reached { (part.first ≤ result.reached) × (result.reached ≤ part.last) }
     ensures full { result.reached ≢ part.last → result.count ≡ length buffer.old }
-    ensures before { take start buffer.new ≡ take start buffer.old }
+    ensures before { take start (pairs_of P.pair buffer.new)
+        ≡ take start (pairs_of P.pair buffer.old) }
     ensures is { (c : List ℕ) (n : TableNode ℕ) → R.agrees cells.now seat.new c → Encodes c n
         → n.form ≡ form → length n.prefix ≡ 7
         → AreListed n part.base part.first (result.reached + 1)
-        (drop start (take result.count buffer.new)) }
+        (drop start (take result.count (pairs_of P.pair buffer.new))) }
     ensures kept { (c : List ℕ) → R.agrees cells.now seat.new c → R.agrees cells.now seat.old c }
 {
     let mut from = part.first;
@@ -81,7 +102,7 @@ pub fn fill<S, R: Cells<S>>(
                 reached: part.last,
             };
         };
-        buffer[place] = (part.base + byte as u64, word);
+        buffer[place] = P::from_pair(part.base + byte as u64, word);
         if byte == part.last {
             return Filled {
                 count: place + 1,

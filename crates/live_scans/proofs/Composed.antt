@@ -29,8 +29,8 @@ pub has_seen_then : (id : ℕ) (a b c : History) → HasSeen b id a → HasSeen 
 has_seen_then id a b c s t = record { begins = starts_then a b c s.begins t.begins; own = t.own ∙ s.own }
 
 -- AT ONE MOMENT
-pub one_moment : (old new : History) (m : Pairs ℕ) (low high : ℕ) (ps : Pairs ℕ) → StartsWith new old → IsHistory nat_eq new m → Rises low high ps → ((k : ℕ) → low ≤ k → k < high → lookup ps k ≡ lookup m k) → HasRead true old new low high ps
-one_moment old new m low high ps begins legal rises same = record {
+pub one_moment : (up : Bool) (old new : History) (m : Pairs ℕ) (low high : ℕ) (ps : Pairs ℕ) → StartsWith new old → IsHistory nat_eq new m → Rises low high ps → ((k : ℕ) → low ≤ k → k < high → lookup ps k ≡ lookup m k) → HasRead up old new low high ps
+one_moment up old new m low high ps begins legal rises same = record {
   moment = λ k. record { history = new; pairs = m };
   between = λ k l h. (legal, begins, starts_same new);
   value = same;
@@ -40,8 +40,8 @@ one_moment old new m low high ps begins legal rises same = record {
 }
 
 -- OF NO KEYS
-pub nothing_read : (old : History) (low high : ℕ) → high ≤ low → HasRead true old old low high []
-nothing_read old low high none = record {
+pub nothing_read : (up : Bool) (old : History) (low high : ℕ) → high ≤ low → HasRead up old old low high []
+nothing_read up old low high none = record {
   moment = λ k. record { history = old; pairs = [] };
   between = λ k l h. absurd (omega (arith, l, h, none));
   value = λ k l h. absurd (omega (arith, l, h, none));
@@ -122,12 +122,12 @@ pub none_read : (id : ℕ) (v w : Seen) (Is : ℕ → Type 0) (low high : ℕ) �
 none_read id v w Is low high n all = record {
   fits = n.fits;
   legal = (n.pairs, n.legal);
-  read = one_moment v.client.seen w.client.seen n.pairs low high [] n.fits.begins n.legal tt (λ k l h. sym (n.none k (all k l h)));
+  read = one_moment true v.client.seen w.client.seen n.pairs low high [] n.fits.begins n.legal tt (λ k l h. sym (n.none k (all k l h)));
 }
 
 -- FROM AN EARLIER HISTORY ON
-pub read_since : (older old new : History) (low high : ℕ) (ps : Pairs ℕ) → StartsWith old older → HasRead true old new low high ps → HasRead true older new low high ps
-read_since older old new low high ps first r = record {
+pub read_since : (up : Bool) (older old new : History) (low high : ℕ) (ps : Pairs ℕ) → StartsWith old older → HasRead up old new low high ps → HasRead up older new low high ps
+read_since up older old new low high ps first r = record {
   moment = r.moment;
   between = λ k l h. let b = r.between k l h in (b.0, starts_then older old (r.moment k).history first b.1, b.2);
   value = r.value;
@@ -140,7 +140,7 @@ pub reads_since : (id : ℕ) (u v w : Seen) (low high : ℕ) (ps : Pairs ℕ) �
 reads_since id u v w low high ps first r = record {
   fits = has_seen_then id u.client.seen v.client.seen w.client.seen first r.fits;
   legal = r.legal;
-  read = read_since u.client.seen v.client.seen w.client.seen low high ps first.begins r.read;
+  read = read_since true u.client.seen v.client.seen w.client.seen low high ps first.begins r.read;
 }
 
 pub reads_fewer : (id : ℕ) (v w : Seen) (low high high' : ℕ) (ps : Pairs ℕ) → ReadsOn id v w low high ps → high' ≤ high → Rises low high' ps → ReadsOn id v w low high' ps

@@ -29,10 +29,10 @@ within_found fs first b d None low high near is = near d low
 within_found fs first b d (Some e) low high near is = let l = is.1 in near.2 d low (omega (arith, high, l))
 
 module _ (id : ℕ) (v w : Seen) (name key height : ℕ) (n : Names v name key height) (saw : List (ℕ × ℕ)) (x : IsRead id v.client n.spot saw w.client) where
-  covers_like : (k : ℕ) → up height k ≡ up height key → Covers n.spot.shape k
+  pub covers_like : (k : ℕ) → up height k ≡ up height key → Covers n.spot.shape k
   covers_like k e = subst (λ (z : ℕ). up z k ≡ up z key) (sym n.high) e ∙ n.covers
 
-  at_digit : (k : ℕ) → HasUnder v.client.met x.pairs k (lookup x.its.children (digit n.spot.shape.height k)) → HasUnder v.client.met x.pairs k (lookup x.its.children (digit height k))
+  pub at_digit : (k : ℕ) → HasUnder v.client.met x.pairs k (lookup x.its.children (digit n.spot.shape.height k)) → HasUnder v.client.met x.pairs k (lookup x.its.children (digit height k))
   at_digit k h = subst (λ (z : ℕ). HasUnder v.client.met x.pairs k (lookup x.its.children (digit z k))) n.high h
 
   pub has_none_within : (byte : ℕ) (found : Option (ℕ × ℕ)) (r : Option ℕ) → byte ≡ digit height key → HasNearest true x.its.children byte found → IsByteBefore found byte r → IfSome r (λ b. HasNone id v w (IsWithin height key b))
@@ -78,7 +78,7 @@ module _ (id : ℕ) (v w : Seen) (name key height : ℕ) (n : Names v name key h
     }
 
 -- A LEAF
-leaf_value : (met : List Spot) (m : Pairs ℕ) (k : ℕ) (o : Option (Child ℕ)) → IsOfKind 1 o → HasUnder met m k o → payload_of o ≡ lookup m k
+pub leaf_value : (met : List Spot) (m : Pairs ℕ) (k : ℕ) (o : Option (Child ℕ)) → IsOfKind 1 o → HasUnder met m k o → payload_of o ≡ lookup m k
 leaf_value met m k None kind u = sym u
 leaf_value met m k (Some (Payload x)) kind u = sym u
 leaf_value met m k (Some (Below s)) kind u = absurd kind
@@ -87,7 +87,7 @@ pub leaf_reads : (id : ℕ) (v w : Seen) (name base from to : ℕ) (n : Names v 
 leaf_reads id v w name base from to n saw x ps whole low high listed = record {
   fits = x.fits;
   legal = (x.pairs, x.legal);
-  read = one_moment v.client.seen w.client.seen x.pairs (base + from) (base + to + 1) ps x.fits.begins x.legal
+  read = one_moment true v.client.seen w.client.seen x.pairs (base + from) (base + to + 1) ps x.fits.begins x.legal
       (subst (λ (z : ℕ). Rises (base + from) z ps) (let e : base + (to + 1) ≡ base + to + 1 = omega arith in e) listed.ascend)
       (λ k lk hk.
       let b : ℕ = k - base in
@@ -112,7 +112,7 @@ is_within height key last b k some low is from to =
     let e : suc (height - 1) ≡ height = omega (arith, some) in
     subst (λ (z : ℕ). IsWithin z key b k) e (within (height - 1) key last b k low (subst (λ (z : ℕ). up (height - 1) last ≡ 256 * up z key + b) (sym e) is) from to)
 
-splits : (at k : ℕ) → 1 ≤ at → (up (at - 1) k ≡ 256 * up at k + digit at k) × (digit at k < 256)
+pub splits : (at k : ℕ) → 1 ≤ at → (up (at - 1) k ≡ 256 * up at k + digit at k) × (digit at k < 256)
 splits at k some =
     let e : suc (at - 1) ≡ at = omega (arith, some) in
     (subst (λ (z : ℕ). up (at - 1) k ≡ 256 * up z k + digit z k) e (sym (joined (at - 1) k (up (suc (at - 1)) k) refl)), digit-low at k)

@@ -57,7 +57,7 @@ page_crossed k low high room none = record {
   end = high;
   inside = omega arith;
   whole = λ l. refl;
-  read = nothing_read k.seen low high none;
+  read = nothing_read true k.seen low high none;
 }
 
 pub page_roomless : (k : Known) (low high room : ℕ) → low ≤ high → room ≡ 0 → HasPage k low high room [] k
@@ -66,7 +66,7 @@ page_roomless k low high room in_order none = record {
   end = low;
   inside = in_order;
   whole = λ l. absurd (omega (arith, l, none));
-  read = nothing_read k.seen low low (omega arith);
+  read = nothing_read true k.seen low low (omega arith);
 }
 
 -- by a guard that had seen less
@@ -76,12 +76,12 @@ page_since k m n low high room ps first p = record {
   end = p.end;
   inside = p.inside;
   whole = p.whole;
-  read = read_since k.seen m.seen n.seen low p.end ps first.seen p.read;
+  read = read_since true k.seen m.seen n.seen low p.end ps first.seen p.read;
 }
 
 pub next_since : (k m n : Known) (low : ℕ) (found : Option (ℕ × ℕ)) → EntersNothing k m → HasNext m low found n → HasNext k low found n
-next_since k m n low None first h = (enters_then k m n first h.0, read_since k.seen m.seen n.seen low (2 ^ 64) [] first.seen h.1)
-next_since k m n low (Some p) first h = (enters_then k m n first h.0, read_since k.seen m.seen n.seen low (p.0 + 1) (p ∷ []) first.seen h.1)
+next_since k m n low None first h = (enters_then k m n first h.0, read_since true k.seen m.seen n.seen low (2 ^ 64) [] first.seen h.1)
+next_since k m n low (Some p) first h = (enters_then k m n first h.0, read_since true k.seen m.seen n.seen low (p.0 + 1) (p ∷ []) first.seen h.1)
 
 -- A PAGE OF ONE PAIR
 pub next_none : (k n : Known) (low : ℕ) (l : List (ℕ × ℕ)) (count : ℕ) → count ≡ 0 → HasPage k low (2 ^ 64) 1 (take count l) n → HasNext k low None n
@@ -103,4 +103,4 @@ next_some k n low l count d x one some is p =
     (q.seen, narrowed k.seen n.seen low q.end (x.0 + 1) (x ∷ []) q.read (omega (arith, rises)) (rises.0, omega arith, tt))
 
 pub next_beyond : (k : Known) (low : ℕ) → low ≡ 2 ^ 64 → HasNext k low None k
-next_beyond k low is = (enters_same k, nothing_read k.seen low (2 ^ 64) (omega (arith, is)))
+next_beyond k low is = (enters_same k, nothing_read true k.seen low (2 ^ 64) (omega (arith, is)))

@@ -2,8 +2,8 @@
 ghost use Rattle.std.specs.Prelude.{◌≡◌, ℕ, ◌+◌, ◌-◌, ◌*◌, ◌^◌, ◌<◌, ◌≤◌};
 ghost use Rattle.live_law.specs.Levels.{up};
 
-// How many keys a node of this height has.
-fn span(height: usize) -> u64
+/// How many keys a node of this height has.
+pub fn span(height: usize) -> u64
     requires { height < 8 }
     ensures { result ≡ 256 ^ height }
 {
@@ -19,8 +19,8 @@ fn span(height: usize) -> u64
     }
 }
 
-// The bytes of a key above a node of this height.
-fn upper(key: u64, height: usize) -> u64
+/// The bytes of a key above a node of this height.
+pub fn upper(key: u64, height: usize) -> u64
     ensures { result ≡ up height key }
 {
     let mut upper = key;

@@ -1,13 +1,14 @@
 //! Pages of a range, leaf by leaf.
 ghost use Rattle.std.specs.Prelude.{◌≡◌, ◌≢◌, ℕ, ◌+◌, ◌%◌, ◌^◌, ◌<◌, ◌≤◌, List, length, take, drop, IfSome};
 ghost use Rattle.share_rule.specs.inner.Rule.{HasSeen};
+ghost use Rattle.live_order.specs.Page.{pairs_of};
 ghost use Rattle.live_calls.specs.Ways.{KnowsTrunk, Keeps};
 ghost use Rattle.live_scans.specs.inner.Steps.{IsStep, IsPage};
 
 use crate::seek::{Stop, seek};
 use crate::steps::leaf_page;
 use live_calls::way::{Nodes, Pass};
-use live_order::page::Part;
+use live_order::page::{Part, RangeEntry};
 use std::marker::Brand;
 
 /// How often a step is tried before a page is given up.
@@ -38,11 +39,11 @@ fn part_of(key: u64, limit: u64) -> Part
 
 // One step from a key on: a part of its leaf is written into the buffer, or keys are passed that are absent. `None` where a
 // writer came in between.
-fn try_step(
+fn try_step<P: RangeEntry>(
     nodes: &Nodes,
     key: u64,
     limit: u64,
-    buffer: &mut [(u64, u64)],
+    buffer: &mut [P],
     start: usize,
     pass: &mut Pass,
 ) -> Option<Step>
@@ -50,12 +51,13 @@ fn try_step(
     requires trunk { KnowsTrunk pass.old.view }
     requires order { key ≤ limit }
     requires start { start < length buffer.old }
-    ensures before { take start buffer.new ≡ take start buffer.old }
+    ensures before { take start (pairs_of P.pair buffer.new)
+        ≡ take start (pairs_of P.pair buffer.old) }
     ensures told { (pass.new.book ≡ pass.old.book) × (pass.new.id ≡ pass.old.id)
         × Keeps pass.old.view pass.new.view
         × HasSeen pass.new.view.client.seen pass.old.id pass.old.view.client.seen
         × IfSome result (λ s. IsStep pass.old.id pass.old.view pass.new.view
-        key limit start buffer.new s.count s.last) }
+        key limit start (pairs_of P.pair buffer.new) s.count s.last) }
 {
     match seek::<Brand>(nodes, key, pass)? {
         Stop::Gap(last) => Some(Step {
@@ -64,7 +66,7 @@ fn try_step(
         }),
         Stop::Leaf(name) => {
             let part = part_of(key, limit);
-            let filled = leaf_page::<Brand>(nodes, name, part, buffer, start, pass)?;
+            let filled = leaf_page::<Brand, P>(nodes, name, part, buffer, start, pass)?;
             Some(Step {
                 count: filled.count,
                 last: part.base + filled.reached as u64,
@@ -74,11 +76,11 @@ fn try_step(
 }
 
 // The same in some tries. `None` where too many writers came in between.
-fn read_on(
+fn read_on<P: RangeEntry>(
     nodes: &Nodes,
     key: u64,
     limit: u64,
-    buffer: &mut [(u64, u64)],
+    buffer: &mut [P],
     start: usize,
     pass: &mut Pass,
 ) -> Option<Step>
@@ -86,12 +88,13 @@ fn read_on(
     requires trunk { KnowsTrunk pass.old.view }
     requires order { key ≤ limit }
     requires start { start < length buffer.old }
-    ensures before { take start buffer.new ≡ take start buffer.old }
+    ensures before { take start (pairs_of P.pair buffer.new)
+        ≡ take start (pairs_of P.pair buffer.old) }
     ensures told { (pass.new.book ≡ pass.old.book) × (pass.new.id ≡ pass.old.id)
         × Keeps pass.old.view pass.new.view
         × HasSeen pass.new.view.client.seen pass.old.id pass.old.view.client.seen
         × IfSome result (λ s. IsStep pass.old.id pass.old.view pass.new.view
-        key limit start buffer.new s.count s.last) }
+        key limit start (pairs_of P.pair buffer.new) s.count s.last) }
 {
     for _ in 0..TRIES {
         if let Some(step) = try_step(nodes, key, limit, buffer, start, pass) {
@@ -103,11 +106,11 @@ fn read_on(
 
 /// The pairs with keys from this one up to a limit, ascending, until the buffer is full. `None` where too many writers came
 /// in between.
-pub fn page(
+pub fn page<P: RangeEntry>(
     nodes: &Nodes,
     key: u64,
     limit: u64,
-    buffer: &mut [(u64, u64)],
+    buffer: &mut [P],
     pass: &mut Pass,
 ) -> Option<Step>
     requires book { pass.old.book ≡ nodes.now }
@@ -118,7 +121,7 @@ pub fn page(
         × Keeps pass.old.view pass.new.view
         × HasSeen pass.new.view.client.seen pass.old.id pass.old.view.client.seen
         × IfSome result (λ s. IsPage pass.old.id pass.old.view pass.new.view
-        key limit buffer.new s.count s.last) }
+        key limit (pairs_of P.pair buffer.new) s.count s.last) }
 {
     let mut count = 0;
     let mut from = key;

@@ -1,23 +1,25 @@
 //! The calls that read many keys. Each is made by a guard of the map, and enters nothing in the history.
 ghost use Rattle.std.specs.Prelude.{◌≡◌, ℕ, ◌+◌, ◌≤◌, length, take, IfOk, OnErr};
+ghost use Rattle.live_order.specs.Page.{pairs_of};
 ghost use Rattle.live_scans.specs.Scans.{EntersNothing, HasPage, HasNext};
 
 use crate::page::page;
 use live_calls::map::{Busy, Congee, Guard};
+use live_order::page::RangeEntry;
 
 /// Writes the pairs with keys from `first` to `last`, ascending, into the buffer, as many as there are or as fit. How many
 /// there are. It takes no memory, and what follows in the buffer is unspecified.
-pub fn range_inclusive(
+pub fn range_inclusive<P: RangeEntry>(
     map: &Congee,
     guard: &mut Guard,
     first: u64,
     last: u64,
-    buffer: &mut [(u64, u64)],
+    buffer: &mut [P],
 ) -> Result<usize, Busy>
     requires map { guard.old.book ≡ map.now }
     ensures count { IfOk result (λ count. count ≤ length buffer.old) }
     ensures page { IfOk result (λ count. HasPage guard.old first (last + 1) (length buffer.old)
-        (take count buffer.new) guard.new) }
+        (take count (pairs_of P.pair buffer.new)) guard.new) }
     ensures busy { OnErr result (EntersNothing guard.old guard.new) }
 {
     if first > last {
@@ -26,24 +28,24 @@ pub fn range_inclusive(
     if buffer.is_empty() {
         return Ok(0);
     }
-    match page(&map.nodes, first, last, buffer, &mut guard.pass) {
-        Some(step) => Ok(step.count),
-        None => Err(Busy),
-    }
+    let Some(step) = page(&map.nodes, first, last, buffer, &mut guard.pass) else {
+        return Err(Busy);
+    };
+    Ok(step.count)
 }
 
 /// The same without `end`.
-pub fn range(
+pub fn range<P: RangeEntry>(
     map: &Congee,
     guard: &mut Guard,
     start: u64,
     end: u64,
-    buffer: &mut [(u64, u64)],
+    buffer: &mut [P],
 ) -> Result<usize, Busy>
     requires map { guard.old.book ≡ map.now }
     ensures count { IfOk result (λ count. count ≤ length buffer.old) }
     ensures page { IfOk result (λ count. HasPage guard.old start end (length buffer.old)
-        (take count buffer.new) guard.new) }
+        (take count (pairs_of P.pair buffer.new)) guard.new) }
     ensures busy { OnErr result (EntersNothing guard.old guard.new) }
 {
     if end == 0 {

@@ -2,6 +2,7 @@
 ghost use Rattle.std.specs.Prelude.{◌≡◌, ◌≢◌, ℕ, ◌+◌, ◌-◌, ◌*◌, ◌%◌, ◌<◌, ◌≤◌, ◌^◌, List, length, take, drop, true, IfSome, IsTrue};
 ghost use Rattle.share_rule.specs.inner.Rule.{HasSeen};
 ghost use Rattle.live_law.specs.Levels.{digit};
+ghost use Rattle.live_order.specs.Page.{pairs_of};
 ghost use Rattle.live_calls.specs.Ways.{Names, Leaves, Keeps};
 ghost use Rattle.live_scans.specs.inner.Moments.{HasNone, IsByteBefore, IsWithin, IsBeside, IsPassed, ReadsOn};
 
@@ -14,7 +15,7 @@ use live_encodes::search::find;
 use live_law::law::{Asks, Levels, Mine};
 use live_nodes::node;
 use live_order::nearest::nearest;
-use live_order::page::{Filled, Part, fill};
+use live_order::page::{Filled, Part, RangeEntry, fill};
 use live_rows::rows::Row;
 
 // The byte before the one that was found, or the last of all. `None` where that one is the first.
@@ -62,9 +63,9 @@ fn last_byte<A: Asks>(
     byte_before(found, byte)
 }
 
-// Whether a node leads to one whose way the key leaves. So it leads to no other keys under that byte. `false` also where a
-// writer came in between.
-fn leads_aside<A: Asks>(
+/// Whether a node leads to one whose way the key leaves. So it leads to no other keys under that byte. `false` also where a
+/// writer came in between.
+pub fn leads_aside<A: Asks>(
     nodes: &Nodes,
     name: u64,
     height: usize,
@@ -103,11 +104,11 @@ fn leads_aside<A: Asks>(
 }
 
 /// Writes a part of a leaf into a buffer, from a place there on. `None` where a writer came in between.
-pub fn leaf_page<A: Asks>(
+pub fn leaf_page<A: Asks, P: RangeEntry>(
     nodes: &Nodes,
     name: u64,
     part: Part,
-    buffer: &mut [(u64, u64)],
+    buffer: &mut [P],
     start: usize,
     pass: &mut Pass,
 ) -> Option<Filled>
@@ -116,7 +117,8 @@ pub fn leaf_page<A: Asks>(
     requires named { Names pass.old.view name (part.base + part.first) 1 }
     requires part { (part.first ≤ part.last) × (part.base + 255 < 2 ^ 64) × (part.base % 256 ≡ 0) }
     requires start { start < length buffer.old }
-    ensures before { take start buffer.new ≡ take start buffer.old }
+    ensures before { take start (pairs_of P.pair buffer.new)
+        ≡ take start (pairs_of P.pair buffer.old) }
     ensures filled { IfSome result (λ f. (start ≤ f.count) × (f.count ≤ length buffer.old)
         × (part.first ≤ f.reached) × (f.reached ≤ part.last)
         × (f.reached ≢ part.last → f.count ≡ length buffer.old)) }
@@ -125,7 +127,7 @@ pub fn leaf_page<A: Asks>(
         × HasSeen pass.new.view.client.seen pass.old.id pass.old.view.client.seen
         × IfSome result (λ f. ReadsOn pass.old.id pass.old.view pass.new.view
         (part.base + part.first) (part.base + f.reached + 1)
-        (drop start (take f.count buffer.new))) }
+        (drop start (take f.count (pairs_of P.pair buffer.new)))) }
 {
     let words = words_at(nodes, name)?;
     let form = form_below(name);

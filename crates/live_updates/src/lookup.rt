@@ -4,8 +4,8 @@ ghost use Rattle.live_calls.specs.Ways.{KnowsTrunk, Names, Keeps};
 ghost use Rattle.live_calls.specs.Exchanges.{IsNoWay, MayLeave};
 ghost use Rattle.live_updates.specs.inner.Lookups.{IsLookup, MayEnd, Found, Sought};
 
-use live_calls::sight::{Next, follow};
-use live_calls::way::{Nodes, Pass, byte_at, root, words_at};
+use live_calls::sight::{Next, step};
+use live_calls::way::{Nodes, Pass, byte_at, open, root, words_at};
 use live_encodes::form::{form_below, slot_below};
 use live_encodes::search::find;
 use live_law::law::{Levels, Mine};
@@ -169,12 +169,15 @@ pub fn seek<Q: Lookups>(nodes: &Nodes, key: u64, pass: &mut Pass) -> Option<Site
 {
     let mut name = root(nodes, key, pass)?;
     let mut height = 8usize;
+    let mut here = open(nodes, name, pass)?;
     while height > 1 {
-        match follow::<Brand>(nodes, name, height, key, pass)? {
+        let step = step::<Brand>(nodes, here, name, height, key, pass)?;
+        match step.next {
             Next::Ends => return absent_at::<Q>(nodes, name, height, None, key, pass),
             Next::Goes(below, lower) => {
                 name = below;
                 height = lower;
+                here = step.here;
             }
             Next::Forks(fork) => {
                 return absent_at::<Q>(nodes, name, height, Some(fork.below), key, pass);

@@ -1,7 +1,7 @@
 //! Each call by one thread, and a key that two threads count up.
 
 use live_calls::map::{Busy, Congee, Refusal};
-use live_computes::present::{compute_if_present, compute_or_insert, get_or_insert};
+use live_computes::present::{add, compute_if_present, compute_or_insert, get_or_insert};
 use std::alloc::Global;
 use std::test::Fail;
 use std::thread::{Threads, join};
@@ -64,6 +64,33 @@ fn a_present_key_keeps_its_value(rt: HostRuntime) -> Result<(), Fail> {
         assert!(rt; kept(&map, rt.alloc(), key, key ^ 1) == Ok(None));
         assert!(rt; kept(&map, rt.alloc(), key, 9) == Ok(Some(key ^ 1)));
         assert!(rt; looked(&map, key) == Ok(Some(key ^ 1)));
+    }
+    Ok(())
+}
+
+// What `add` returns, by a caller of its own.
+fn added(map: &Congee, alloc: Global, key: u64, number: u64) -> Result<Option<u64>, Refusal> {
+    let mut guard = map.pin();
+    add(map, alloc, &mut guard, key, number)
+}
+
+// Numbers that are added to one key in turn, and what each addition returns. The last but one goes past the greatest number.
+const SUMS: [(u64, Option<u64>); 5] = [
+    (7, None),
+    (5, Some(7)),
+    (0, Some(12)),
+    (u64::MAX - 1, Some(12)),
+    (1, Some(10)),
+];
+
+#[test]
+fn a_number_is_added_to_the_value(rt: HostRuntime) -> Result<(), Fail> {
+    let map = Congee::new(rt.alloc())?;
+    for key in KEYS {
+        for (number, before) in SUMS {
+            assert!(rt; added(&map, rt.alloc(), key, number) == Ok(before));
+        }
+        assert!(rt; looked(&map, key) == Ok(Some(11)));
     }
     Ok(())
 }

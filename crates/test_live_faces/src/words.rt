@@ -130,6 +130,36 @@ fn a_closure_is_called_with_numbers(rt: HostRuntime) -> Result<(), Fail> {
 }
 
 #[test]
+fn a_number_is_added_to_that_of_the_value(rt: HostRuntime) -> Result<(), Fail> {
+    let map: Congee<Tens, Tens> = Congee::new(rt.alloc())?;
+    let mut guard = map.pin();
+    assert!(rt; map.try_add(rt.alloc(), &mut guard, Tens(12), 7) == Ok(None));
+    assert!(rt; map.try_add(rt.alloc(), &mut guard, Tens(19), 5) == Ok(Some(Tens(70))));
+    assert!(rt; map.add(&rt, rt.alloc(), &mut guard, Tens(10), u64::MAX) == Ok(Some(Tens(120))));
+    assert!(rt; map.add(&rt, rt.alloc(), &mut guard, Tens(20), 3) == Ok(None));
+    assert!(rt; map.try_get(&mut guard, &Tens(11)) == Ok(Some(Tens(110))));
+    assert!(rt; map.try_get(&mut guard, &Tens(21)) == Ok(Some(Tens(30))));
+    Ok(())
+}
+
+#[test]
+fn a_present_key_keeps_its_value(rt: HostRuntime) -> Result<(), Fail> {
+    let map: Congee<Tens, Tens> = Congee::new(rt.alloc())?;
+    let mut guard = map.pin();
+    let none = map.try_get_or_insert(rt.alloc(), &mut guard, Tens(12), Tens(70));
+    assert!(rt; none == Ok(None));
+    let kept = map.try_get_or_insert(rt.alloc(), &mut guard, Tens(13), Tens(90));
+    assert!(rt; kept == Ok(Some(Tens(70))));
+    let same = map.get_or_insert(&rt, rt.alloc(), &mut guard, Tens(19), Tens(1));
+    assert!(rt; same == Ok(Some(Tens(70))));
+    let new = map.get_or_insert(&rt, rt.alloc(), &mut guard, Tens(20), Tens(35));
+    assert!(rt; new == Ok(None));
+    assert!(rt; map.try_get(&mut guard, &Tens(15)) == Ok(Some(Tens(70))));
+    assert!(rt; map.try_get(&mut guard, &Tens(25)) == Ok(Some(Tens(30))));
+    Ok(())
+}
+
+#[test]
 fn what_two_guards_do_once_they_have_met(rt: HostRuntime) -> Result<(), Fail> {
     let map: Congee<u64, Tens> = Congee::new(rt.alloc())?;
     let mut a = map.pin();

@@ -71,6 +71,44 @@ fn wrong_pages<R: Wait>(rt: &R, map: &Map, times: u32) -> u32 {
     wrong
 }
 
+// Looks for the pair before each key. How many were wrong: an even key is its own, and an odd one is there or not.
+fn wrong_floors<R: Wait>(rt: &R, map: &Map, times: u32) -> u32 {
+    let mut guard = map.pin();
+    let mut wrong = 0u32;
+    for _ in 0..times {
+        for key in 0..END {
+            match map.floor(rt, &mut guard, &key) {
+                Some((found, value)) if found <= key && found >= key & !1 && value == found ^ 1 =>
+                    {}
+                _ => wrong = wrong.wrapping_add(1),
+            }
+        }
+    }
+    wrong
+}
+
+#[test]
+fn the_pair_before_is_found_beside_a_writer(rt: HostRuntime) -> Result<(), Fail> {
+    let map: Map = Congee::new(rt.alloc())?;
+    fill(
+        &rt,
+        rt.alloc(),
+        &map,
+        Keys {
+            first: 0,
+            step: 2,
+            count: 3000,
+        },
+    )?;
+    let (filled, wrong) = join(
+        &rt,
+        || fill(&rt, rt.alloc(), &map, ODD),
+        || wrong_floors(&rt, &map, 3),
+    );
+    assert!(rt; filled.is_ok() && wrong == 0);
+    Ok(())
+}
+
 #[test]
 fn keys_that_are_there_throughout_are_given(rt: HostRuntime) -> Result<(), Fail> {
     let map: Map = Congee::new(rt.alloc())?;

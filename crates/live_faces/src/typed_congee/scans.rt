@@ -16,7 +16,7 @@ use live_scans::scans;
 use spec_map::traits::Word;
 use std::sync::Wait;
 
-fn pair_back<K: Word, V: Word>(pair: Option<(u64, u64)>) -> Option<(K, V)>
+pub(super) fn pair_back<K: Word, V: Word>(pair: Option<(u64, u64)>) -> Option<(K, V)>
     ensures { result ≡ option_map (pair_of K.of_number V.of_number) pair }
 {
     match pair {

@@ -21,6 +21,32 @@ fn range_leaves_the_rest_of_the_buffer(rt: HostRuntime) -> Result<(), Fail> {
     Ok(())
 }
 
+// Whether a leaf of seventeen pairs is a node for 48 of them, a range has its last two, and all keys are there where one
+// was removed and stored again.
+fn has_seventeen(map: &mut Congee<u64, u64>) -> Result<bool, OOMError> {
+    for key in 0..17u64 {
+        map.insert(key, key)?;
+    }
+    let mut buffer = [(0, 0); 8];
+    let written = map.range(&15, &17, &mut buffer);
+    let stats = map.stats()?;
+    let levels = stats.levels.as_slice();
+    let leaves = levels.len() == 2 && levels[1].nodes == [0, 0, 1, 0];
+    let removed = map.remove(&5) == Some(5) && map.insert(5, 5)? == None;
+    Ok(leaves && removed && written == 2 && buffer[0] == (15, 15) && buffer[1] == (16, 16))
+}
+
+const SEVENTEEN: [u64; 17] = [0, 1, 2, 3, 4, 5, 6, 7, 8, 9, 10, 11, 12, 13, 14, 15, 16];
+
+#[test]
+fn seventeen_keys_are_one_leaf(rt: HostRuntime) -> Result<(), Fail> {
+    let mut map = Congee::new(rt.alloc(), DefaultAllocator {})?;
+    assert!(rt; has_seventeen(&mut map)?);
+    let keys = map.keys()?;
+    assert!(rt; keys.as_slice() == SEVENTEEN.as_slice());
+    Ok(())
+}
+
 fn assert_entries(
     rt: &impl Abort,
     map: &U64Congee<u64>,

@@ -4,10 +4,10 @@ use congee_owned::{Congee, DefaultAllocator, OOMError};
 use std::alloc::Global;
 use std::test::Fail;
 
-// Puts so many keys into a map, from this one on, so far from one another.
+// Puts so many keys into a map, from this one on, so far from one another, each with the value 42.
 fn fill(map: &mut Congee<u64, u64>, first: u64, step: u64, keys: u64) -> Result<(), OOMError> {
     for i in 0..keys {
-        map.insert(step.wrapping_mul(i).wrapping_add(first), i)?;
+        map.insert(step.wrapping_mul(i).wrapping_add(first), 42)?;
     }
     Ok(())
 }
@@ -34,7 +34,7 @@ fn maps_have_these_texts(rt: HostRuntime) -> Result<(), Fail> {
              Active memory usage: 0 Mb\n\
              KV count: 3\n",
         ),
-        // the first example: key 1 alone
+        // the first example: the pair (1, 42) alone
         (
             (1, 1, 1),
             "Level: 0 --- || N4:        0,     0.00 || N16:        0,     0.00 || N48:        0,     0.00 || N256:        1,     0.00 ||\n\

@@ -63,9 +63,11 @@ fn drainer_is_called_at_the_drop(rt: HostRuntime) -> Result<(), Fail> {
 #[derive(Clone, Copy)]
 enum Change {
     Overwrite,
+    OverwriteMany,
     Remove,
-    Compute,
-    Exchange,
+    Compute(Option<u64>),
+    ComputeOrInsert,
+    Exchange(Option<u64>),
     PopFirst,
     PopLast,
     RemoveRange,
@@ -76,11 +78,15 @@ enum Change {
 }
 
 // How many pairs of three each leaves.
-const CHANGES: [(Change, u64); 11] = [
+const CHANGES: [(Change, u64); 15] = [
     (Change::Overwrite, 3),
+    (Change::OverwriteMany, 3),
     (Change::Remove, 2),
-    (Change::Compute, 2),
-    (Change::Exchange, 2),
+    (Change::Compute(Some(21)), 3),
+    (Change::Compute(None), 2),
+    (Change::ComputeOrInsert, 3),
+    (Change::Exchange(Some(21)), 3),
+    (Change::Exchange(None), 2),
     (Change::PopFirst, 2),
     (Change::PopLast, 2),
     (Change::RemoveRange, 2),
@@ -95,9 +101,11 @@ type TalliedMap<'a> = Congee<u64, u64, DefaultAllocator, Tally<'a>>;
 fn make(map: &mut TalliedMap<'_>, change: Change) {
     match change {
         Change::Overwrite => drop(map.insert(2, 21)),
+        Change::OverwriteMany => drop(map.insert_many(&[(1, 11), (2, 21)])),
         Change::Remove => drop(map.remove(&2)),
-        Change::Compute => drop(map.compute_if_present(&2, &mut |_value: u64| None)),
-        Change::Exchange => drop(map.compare_exchange(&2, &20, None)),
+        Change::Compute(new) => drop(map.compute_if_present(&2, &mut |_value: u64| new)),
+        Change::ComputeOrInsert => drop(map.compute_or_insert(2, &mut |_value: Option<u64>| 21)),
+        Change::Exchange(new) => drop(map.compare_exchange(&2, &20, new)),
         Change::PopFirst => drop(map.pop_first()),
         Change::PopLast => drop(map.pop_last()),
         Change::RemoveRange => drop(map.remove_range(&2, &3)),

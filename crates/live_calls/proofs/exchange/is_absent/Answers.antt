@@ -1,9 +1,8 @@
-use Rattle.std.proofs.Common.{rules, arith, sym, ap, subst, ◌≡◌, ◌≢◌, ℕ, ◌+◌, ◌/◌, ◌∙◌, Bool, true, false, IsTrue, Option, Some, None}
+use Rattle.std.proofs.Common.{rules, arith, sym, ap, subst, ◌≡◌, ◌≢◌, ℕ, ◌/◌, ◌∙◌, Bool, false, IsTrue}
 use mathlib.Core.Logic.{dite}
 use native.Mathlib.Decide.{ℕ_discrete}
-use Rattle.node_table.specs.declared.child.Child.TheVariants.{Node}
 use Rattle.spec_map.specs.Map.{lookup}
-use Rattle.live_encodes.specs.Encodes.{words_of, IsBelow, IsWord}
+use Rattle.live_encodes.specs.Encodes.{words_of, IsBelow}
 use Rattle.live_law.specs.Levels.{place_at}
 use Rattle.live_calls.specs.Ways.{AreNamed}
 use Rattle.live_calls.proofs.Views.{of, first_word, at_place, taken_keeps, may_read_node}

@@ -1,8 +1,7 @@
-use Rattle.std.proofs.Common.{rules, arith, sym, ap, subst, false, Some, None, Ok, Err, ◌≡◌, ◌≢◌, ◌∙◌}
+use Rattle.std.proofs.Common.{rules, arith, sym, ap, subst, false, Some, None, Err, ◌≡◌, ◌≢◌, ◌∙◌}
 use Rattle.live_law.specs.Views.{View, ask}
 use Rattle.live_calls.specs.Ways.{Names, Ended}
 use Rattle.live_calls.specs.Sees.{Follows}
-use Rattle.live_calls.specs.Exchanges.{Meets}
 use Rattle.live_calls.specs.declared.sight.Next.TheVariants as nexts
 use Rattle.live_calls.proofs.Finds.{keeps_then, names_kept}
 use Rattle.live_calls.proofs.Seeks.{ended_none, ended_some, meets_more, meets_none}

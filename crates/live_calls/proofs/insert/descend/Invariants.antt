@@ -1,11 +1,11 @@
 use Rattle.std.proofs.Common.{◌≡◌, false}
 use Rattle.live_law.specs.Views.{ask}
-use Rattle.live_calls.specs.Ways.{Keeps}
+use Rattle.live_calls.specs.Ways.{IsOpen, Keeps}
 use Rattle.live_calls.specs.Stands.{Stands}
 use Rattle.live_calls.proofs.insert.descend.Given as goal
 
-abbrev pub ghosts-follow : goal.ghosts-follow
-ghosts-follow a = record { ask = ask a.pass.now.id a.key 0 0; reads = false }
+abbrev pub ghosts-step : goal.ghosts-step
+ghosts-step a = record { ask = ask a.pass.now.id a.key 0 0; reads = false }
 
 abbrev pub invariant-loop-stand : goal.invariant-loop-stand
 invariant-loop-stand l = record {
@@ -14,6 +14,7 @@ invariant-loop-stand l = record {
   keeps : Keeps l.fn.pass.view l.pass.view;
   seen : l.pass.view.client.seen ≡ l.fn.pass.view.client.seen;
   stands : Stands l.pass.view l.key l.stand;
+  node : IsOpen l.pass.view l.pass.book l.here.words.now l.here.taken l.stand.name l.key l.stand.height;
 }
 
 abbrev pub decreases-loop-stand : goal.decreases-loop-stand

@@ -1,80 +1,41 @@
 use Rattle.std.proofs.Common.{rules, sym, ap, subst, ◌≡◌, ◌∙◌, Some, None}
 use Rattle.live_law.specs.Views.{View}
-use Rattle.live_calls.specs.Ways.{Sights, Ended}
-use Rattle.live_calls.specs.Sees.{Follows, Sighted}
-use Rattle.live_calls.specs.declared.sight.Sight.TheVariants as sights
-use Rattle.live_calls.proofs.Finds.{keeps_then, looked_below}
+use Rattle.live_calls.specs.Ways.{Ended}
+use Rattle.live_calls.specs.Sees.{Follows}
+use Rattle.live_calls.proofs.Finds.{keeps_then, names_kept, follows_from}
+use Rattle.live_calls.proofs.Sights.{sights_names}
 use Rattle.live_calls.proofs.sight.follow.Goals as goal
 
-pub meet-requires-clause-sighted : goal.meet-requires-clause-sighted
-meet-requires-clause-sighted g c =
+pub step-requires-clause-open : goal.step-requires-clause-open
+step-requires-clause-open g c =
     let v = c.args.pass.now.view in
-    let w = c.look.new.pass.view in
-    let some : c.look.result ≡ Some (Some c.in-Some.word) = search rules in
-    let below = looked_below g.A.Asks.reads g.A.Asks.ask c.args.height c.look.result c.in-Some.word v w c.requires.height.0 c.look.ensures.told.3 some in
-    subst (λ n. Sights w n) (sym (c.slot_below-below.ensures below.1.0 below.1.1)) below.1.2
+    let u = c.open.new.pass.view in
+    let n = c.requires.named in
+    let o = c.in_ok-here.ensures.opened in
+    record {
+      names = names_kept v u c.args.name c.args.key c.args.height c.open.ensures.told.2 n;
+      opened = o.1 (sights_names v c.args.name c.args.key c.args.height n);
+      free = o.0;
+    }
 
-pub returns-in_err-lower : goal.returns-in_err-lower
-returns-in_err-lower g c =
+pub returns-in_err-step : goal.returns-in_err-step
+returns-in_err-step g c =
     let v = c.args.pass.now.view in
-    let w = c.look.new.pass.view in
-    let x = c.meet.new.pass.view in
-    let t = c.look.ensures.told in
-    let m = c.meet.ensures.told in
-    let some : c.look.result ≡ Some (Some c.in-Some.word) = search rules in
-    let below = looked_below g.A.Asks.reads g.A.Asks.ask c.args.height c.look.result c.in-Some.word v w c.requires.height.0 t.3 some in
-    let keeps = keeps_then v w x t.2 m.2 in
-    let seen = ap (λ (z : View). z.seen) m.3 ∙ below.0 in
-    let name = c.slot_below-below.result in
-    let key = c.args.key in
-    let out : c.from_residual-in_err-lower.result ≡ None = search rules in
-    record { told = (m.0 ∙ t.0, m.1 ∙ t.1, keeps, subst (λ z. Follows (Ended g.A.Asks.reads g.A.Asks.ask None) v x key c.args.height z) (sym out) seen) }
+    let u = c.open.new.pass.view in
+    let w = c.step.new.pass.view in
+    let o = c.open.ensures.told in
+    let t = c.step.ensures.told in
+    let Ends = Ended g.A.Asks.reads g.A.Asks.ask None in
+    let seen = c.in_err-step.ensures.none in
+    let out : c.from_residual-in_err-step.result ≡ None = search rules in
+    record { told = (t.0 ∙ o.0, t.1 ∙ o.1, keeps_then v u w o.2 t.2, subst (λ z. Follows Ends v w c.args.key c.args.height z) (sym out) (seen ∙ ap (λ (z : View). z.seen) o.3)) }
 
-pub returns-in-Covers : goal.returns-in-Covers
-returns-in-Covers g c =
+pub returns : goal.returns
+returns g c =
     let v = c.args.pass.now.view in
-    let w = c.look.new.pass.view in
-    let x = c.meet.new.pass.view in
-    let t = c.look.ensures.told in
-    let m = c.meet.ensures.told in
-    let some : c.look.result ≡ Some (Some c.in-Some.word) = search rules in
-    let below = looked_below g.A.Asks.reads g.A.Asks.ask c.args.height c.look.result c.in-Some.word v w c.requires.height.0 t.3 some in
-    let keeps = keeps_then v w x t.2 m.2 in
-    let seen = ap (λ (z : View). z.seen) m.3 ∙ below.0 in
-    let name = c.slot_below-below.result in
-    let key = c.args.key in
-    let is : c.meet.result ≡ Some (sights.Covers c.in-Covers.lower) = search rules in
-    let s = subst (λ z. Sighted x name key z) is m.4 in
-    record { told = (m.0 ∙ t.0, m.1 ∙ t.1, keeps, (seen, s.0, s.1, search rules)) }
-
-pub returns-in-Covers-2 : goal.returns-in-Covers-2
-returns-in-Covers-2 g c =
-    let v = c.args.pass.now.view in
-    let w = c.look.new.pass.view in
-    let x = c.meet.new.pass.view in
-    let t = c.look.ensures.told in
-    let m = c.meet.ensures.told in
-    let some : c.look.result ≡ Some (Some c.in-Some.word) = search rules in
-    let below = looked_below g.A.Asks.reads g.A.Asks.ask c.args.height c.look.result c.in-Some.word v w c.requires.height.0 t.3 some in
-    let keeps = keeps_then v w x t.2 m.2 in
-    let seen = ap (λ (z : View). z.seen) m.3 ∙ below.0 in
-    let name = c.slot_below-below.result in
-    let key = c.args.key in
-    record { told = (m.0 ∙ t.0, m.1 ∙ t.1, keeps, seen) }
-
-pub returns-in-Leaves : goal.returns-in-Leaves
-returns-in-Leaves g c =
-    let v = c.args.pass.now.view in
-    let w = c.look.new.pass.view in
-    let x = c.meet.new.pass.view in
-    let t = c.look.ensures.told in
-    let m = c.meet.ensures.told in
-    let some : c.look.result ≡ Some (Some c.in-Some.word) = search rules in
-    let below = looked_below g.A.Asks.reads g.A.Asks.ask c.args.height c.look.result c.in-Some.word v w c.requires.height.0 t.3 some in
-    let keeps = keeps_then v w x t.2 m.2 in
-    let seen = ap (λ (z : View). z.seen) m.3 ∙ below.0 in
-    let name = c.slot_below-below.result in
-    let key = c.args.key in
-    let is : c.meet.result ≡ Some (sights.Leaves c.in-Leaves.at c.in-Leaves.byte) = search rules in
-    let s = subst (λ z. Sighted x name key z) is m.4 in
-    record { told = (m.0 ∙ t.0, m.1 ∙ t.1, keeps, (seen, s)) }
+    let u = c.open.new.pass.view in
+    let w = c.step.new.pass.view in
+    let o = c.open.ensures.told in
+    let t = c.step.ensures.told in
+    let f = c.in_ok-step.ensures.next.0 in
+    record { told = (t.0 ∙ o.0, t.1 ∙ o.1, keeps_then v u w o.2 t.2, follows_from g.A.Asks.reads g.A.Asks.ask v u w c.args.key c.args.height (Some c.in_ok-step.step.next) o.3 f) }

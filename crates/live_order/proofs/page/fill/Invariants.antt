@@ -2,7 +2,7 @@ use Rattle.std.proofs.Common.{◌≡◌, ℕ, ◌<◌, ◌≤◌, List, take, dr
 use Rattle.node_table.specs.TableNode.{TableNode}
 use Rattle.live_cells.specs.Words.{Stays}
 use Rattle.live_encodes.specs.Encodes.{Encodes}
-use Rattle.live_order.specs.Page.{AreListed}
+use Rattle.live_order.specs.Page.{AreListed, pairs_of}
 use Rattle.live_order.proofs.page.fill.Given as goal
 
 abbrev pub invariant-loop-place : goal.invariant-loop-place
@@ -12,6 +12,6 @@ invariant-loop-place g l = record {
   low : l.part.first ≤ l.from;
   high : l.from ≤ l.part.last;
   begun : l.start < l.place → l.part.first < l.from;
-  before : take l.start l.buffer ≡ take l.start l.fn.buffer;
-  is : (c : List ℕ) (n : TableNode ℕ) → g.R.Cells.agrees l.cells l.seat c → Encodes c n → n.form ≡ l.form → length n.prefix ≡ 7 → AreListed n l.part.base l.part.first l.from (drop l.start (take l.place l.buffer));
+  before : take l.start (pairs_of g.P.RangeEntry.pair l.buffer) ≡ take l.start (pairs_of g.P.RangeEntry.pair l.fn.buffer);
+  is : (c : List ℕ) (n : TableNode ℕ) → g.R.Cells.agrees l.cells l.seat c → Encodes c n → n.form ≡ l.form → length n.prefix ≡ 7 → AreListed n l.part.base l.part.first l.from (drop l.start (take l.place (pairs_of g.P.RangeEntry.pair l.buffer)));
 }

@@ -1,13 +1,15 @@
-use Rattle.std.proofs.Common.{rules, arith, refl, inl, inr, None, ◌≡◌, ◌∙◌}
+use Rattle.std.proofs.Common.{rules, arith, refl, inl, inr, None, true, ◌≡◌, ◌∙◌}
+use Rattle.std.proofs.lemmas.List.{length-map}
 use Rattle.live_nodes.specs.Seats.{place}
 use Rattle.live_calls.proofs.Finds.{keeps_then, when_out}
+use Rattle.live_order.specs.Page.{pairs_of}
 use Rattle.live_scans.specs.inner.Steps.{IsPage}
 use Rattle.live_scans.proofs.Composed.{has_seen_same, nothing_read}
 use Rattle.live_scans.proofs.Passes.{keeps_same, seen_since, page_step}
 use Rattle.live_scans.proofs.page.page.Goals as goal
 
 pub loop-step-init : goal.loop-step-init
-loop-step-init c =
+loop-step-init g c =
     let u = c.args.pass.now.view in record {
       book = refl;
       id = refl;
@@ -17,14 +19,14 @@ loop-step-init c =
       low = omega arith;
       high = c.requires.order;
       seam = inr refl;
-      read = nothing_read u.client.seen c.args.key c.args.key (omega arith);
+      read = nothing_read true u.client.seen c.args.key c.args.key (omega arith);
     }
 
 pub read_on-requires-clause-trunk : goal.read_on-requires-clause-trunk
-read_on-requires-clause-trunk c = c.loop-step.invariant.keeps.places (place 0 1 1) c.requires.trunk
+read_on-requires-clause-trunk g c = c.loop-step.invariant.keeps.places (place 0 1 1) c.requires.trunk
 
 pub returns-in_err-step : goal.returns-in_err-step
-returns-in_err-step c =
+returns-in_err-step g c =
     let u = c.args.pass.now.view in
     let id = c.args.pass.now.id in
     let i = c.loop-step.invariant in
@@ -38,12 +40,12 @@ returns-in_err-step c =
         t.1 ∙ i.id,
         keeps_then u v w i.keeps t.2,
         seen_since c.loop-step.pass.id id u v w i.id i.seen t.3,
-        when_out (λ s. IsPage id u w c.args.key c.args.limit c.read_on.new.buffer s.count s.last) c.from_residual.result out,
+        when_out (λ s. IsPage id u w c.args.key c.args.limit (pairs_of g.P.RangeEntry.pair c.read_on.new.buffer) s.count s.last) c.from_residual.result out,
       );
     }
 
 pub returns-then-step-buffer : goal.returns-then-step-buffer
-returns-then-step-buffer c =
+returns-then-step-buffer g c =
     let u = c.args.pass.now.view in
     let id = c.args.pass.now.id in
     let i = c.loop-step.invariant in
@@ -54,17 +56,17 @@ returns-then-step-buffer c =
     let its = t.4 in
     let low = i.low in
     let from = its.low in
-    let page : IsPage id u w c.args.key c.args.limit c.read_on.new.buffer s.count s.last = record {
+    let page : IsPage id u w c.args.key c.args.limit (pairs_of g.P.RangeEntry.pair c.read_on.new.buffer) s.count s.last = record {
       low = omega (arith, low, from);
       high = its.high;
       few = its.few;
-      whole = λ l. absurd (omega (arith, l, c.if-step-buffer.true));
-      reads = page_step c.loop-step.pass.id id u v w c.args.key c.loop-step.from c.args.limit c.loop-step.count s.count s.last c.loop-step.buffer c.read_on.new.buffer i.id i.seen i.read c.in_ok-step.ensures.before i.low i.seam its;
+      whole = λ l. absurd (let n = length-map c.read_on.new.buffer g.P.RangeEntry.pair in omega (arith, n, l, c.if-step-buffer.true));
+      reads = page_step c.loop-step.pass.id id u v w c.args.key c.loop-step.from c.args.limit c.loop-step.count s.count s.last (pairs_of g.P.RangeEntry.pair c.loop-step.buffer) (pairs_of g.P.RangeEntry.pair c.read_on.new.buffer) i.id i.seen i.read c.in_ok-step.ensures.before i.low i.seam its;
     } in
     record { told = (t.0 ∙ i.book, t.1 ∙ i.id, keeps_then u v w i.keeps t.2, seen_since c.loop-step.pass.id id u v w i.id i.seen t.3, page) }
 
 pub returns-then-step-limit : goal.returns-then-step-limit
-returns-then-step-limit c =
+returns-then-step-limit g c =
     let u = c.args.pass.now.view in
     let id = c.args.pass.now.id in
     let i = c.loop-step.invariant in
@@ -75,17 +77,17 @@ returns-then-step-limit c =
     let its = t.4 in
     let low = i.low in
     let from = its.low in
-    let page : IsPage id u w c.args.key c.args.limit c.read_on.new.buffer s.count s.last = record {
+    let page : IsPage id u w c.args.key c.args.limit (pairs_of g.P.RangeEntry.pair c.read_on.new.buffer) s.count s.last = record {
       low = omega (arith, low, from);
       high = its.high;
       few = its.few;
       whole = λ l. c.if-step-limit.true;
-      reads = page_step c.loop-step.pass.id id u v w c.args.key c.loop-step.from c.args.limit c.loop-step.count s.count s.last c.loop-step.buffer c.read_on.new.buffer i.id i.seen i.read c.in_ok-step.ensures.before i.low i.seam its;
+      reads = page_step c.loop-step.pass.id id u v w c.args.key c.loop-step.from c.args.limit c.loop-step.count s.count s.last (pairs_of g.P.RangeEntry.pair c.loop-step.buffer) (pairs_of g.P.RangeEntry.pair c.read_on.new.buffer) i.id i.seen i.read c.in_ok-step.ensures.before i.low i.seam its;
     } in
     record { told = (t.0 ∙ i.book, t.1 ∙ i.id, keeps_then u v w i.keeps t.2, seen_since c.loop-step.pass.id id u v w i.id i.seen t.3, page) }
 
 pub loop-step-preserved : goal.loop-step-preserved
-loop-step-preserved c =
+loop-step-preserved g c =
     let u = c.args.pass.now.view in
     let id = c.args.pass.now.id in
     let i = c.loop-step.invariant in
@@ -95,18 +97,19 @@ loop-step-preserved c =
     let s = c.in_ok-step.step in
     let its = t.4 in
     let few = its.few in
+    let n = length-map c.read_on.new.buffer g.P.RangeEntry.pair in
     let high = its.high in
     let low = i.low in
     let from = its.low in
-    let reads = page_step c.loop-step.pass.id id u v w c.args.key c.loop-step.from c.args.limit c.loop-step.count s.count s.last c.loop-step.buffer c.read_on.new.buffer i.id i.seen i.read c.in_ok-step.ensures.before i.low i.seam its in
+    let reads = page_step c.loop-step.pass.id id u v w c.args.key c.loop-step.from c.args.limit c.loop-step.count s.count s.last (pairs_of g.P.RangeEntry.pair c.loop-step.buffer) (pairs_of g.P.RangeEntry.pair c.read_on.new.buffer) i.id i.seen i.read c.in_ok-step.ensures.before i.low i.seam its in
     record {
       book = t.0 ∙ i.book;
       id = t.1 ∙ i.id;
       keeps = keeps_then u v w i.keeps t.2;
       seen = seen_since c.loop-step.pass.id id u v w i.id i.seen t.3;
-      room = omega (arith, few, c.if-step-buffer.false);
+      room = omega (arith, n, few, c.if-step-buffer.false);
       low = omega (arith, low, from);
       high = omega (arith, high, c.if-step-limit.false);
-      seam = inl (its.seam (omega (arith, few, c.if-step-buffer.false)) (omega (arith, high, c.if-step-limit.false)));
+      seam = inl (its.seam (omega (arith, n, few, c.if-step-buffer.false)) (omega (arith, high, c.if-step-limit.false)));
       read = reads.read;
     }

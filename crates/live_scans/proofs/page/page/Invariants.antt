@@ -1,11 +1,12 @@
 use Rattle.std.proofs.Common.{◌≡◌, ◌⊎◌, ◌+◌, ◌-◌, ◌%◌, ◌<◌, ◌≤◌, true, take, length}
 use Rattle.share_rule.specs.inner.Rule.{HasSeen}
 use Rattle.live_calls.specs.Ways.{Keeps}
+use Rattle.live_order.specs.Page.{pairs_of}
 use Rattle.live_scans.specs.Scans.{HasRead}
 use Rattle.live_scans.proofs.page.page.Given as goal
 
 abbrev pub invariant-loop-step : goal.invariant-loop-step
-invariant-loop-step l = record {
+invariant-loop-step g l = record {
   book : l.pass.book ≡ l.fn.pass.book;
   id : l.pass.id ≡ l.fn.pass.id;
   keeps : Keeps l.fn.pass.view l.pass.view;
@@ -14,8 +15,8 @@ invariant-loop-step l = record {
   low : l.key ≤ l.from;
   high : l.from ≤ l.limit;
   seam : (l.from % 256 ≡ 0) ⊎ (l.key ≡ l.from);
-  read : HasRead true l.fn.pass.view.client.seen l.pass.view.client.seen l.key l.from (take l.count l.buffer);
+  read : HasRead true l.fn.pass.view.client.seen l.pass.view.client.seen l.key l.from (take l.count (pairs_of g.P.RangeEntry.pair l.buffer));
 }
 
 abbrev pub decreases-loop-step : goal.decreases-loop-step
-decreases-loop-step l = l.limit + 1 - l.from
+decreases-loop-step g l = l.limit + 1 - l.from

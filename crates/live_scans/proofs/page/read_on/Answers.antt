@@ -1,14 +1,15 @@
 use Rattle.std.proofs.Common.{◌∙◌}
 use Rattle.live_nodes.specs.Seats.{place}
 use Rattle.live_calls.proofs.Finds.{keeps_then}
+use Rattle.live_order.specs.Page.{pairs_of}
 use Rattle.live_scans.proofs.Passes.{seen_since, step_since}
 use Rattle.live_scans.proofs.page.read_on.Goals as goal
 
 pub try_step-requires-clause-trunk : goal.try_step-requires-clause-trunk
-try_step-requires-clause-trunk c = c.loop.invariant.keeps.places (place 0 1 1) c.requires.trunk
+try_step-requires-clause-trunk g c = c.loop.invariant.keeps.places (place 0 1 1) c.requires.trunk
 
 pub returns-in-Some-clause-told : goal.returns-in-Some-clause-told
-returns-in-Some-clause-told c =
+returns-in-Some-clause-told g c =
     let u = c.args.pass.now.view in
     let id = c.args.pass.now.id in
     let i = c.loop.invariant in
@@ -20,11 +21,11 @@ returns-in-Some-clause-told c =
       t.1 ∙ i.id,
       keeps_then u v w i.keeps t.2,
       seen_since c.loop.pass.id id u v w i.id i.seen t.3,
-      step_since c.loop.pass.id id u v w c.args.key c.args.limit c.args.start s.count s.last c.try_step.new.buffer i.id i.seen t.4,
+      step_since c.loop.pass.id id u v w c.args.key c.args.limit c.args.start s.count s.last (pairs_of g.P.RangeEntry.pair c.try_step.new.buffer) i.id i.seen t.4,
     )
 
 pub loop-preserved : goal.loop-preserved
-loop-preserved c =
+loop-preserved g c =
     let u = c.args.pass.now.view in
     let id = c.args.pass.now.id in
     let i = c.loop.invariant in

@@ -1,13 +1,14 @@
 use Rattle.std.proofs.Common.{◌≡◌, take}
 use Rattle.share_rule.specs.inner.Rule.{HasSeen}
 use Rattle.live_calls.specs.Ways.{Keeps}
+use Rattle.live_order.specs.Page.{pairs_of}
 use Rattle.live_scans.proofs.page.read_on.Given as goal
 
 abbrev pub invariant-loop : goal.invariant-loop
-invariant-loop l = record {
+invariant-loop g l = record {
   book : l.pass.book ≡ l.fn.pass.book;
   id : l.pass.id ≡ l.fn.pass.id;
   keeps : Keeps l.fn.pass.view l.pass.view;
   seen : HasSeen l.pass.view.client.seen l.fn.pass.id l.fn.pass.view.client.seen;
-  before : take l.start l.buffer ≡ take l.start l.fn.buffer;
+  before : take l.start (pairs_of g.P.RangeEntry.pair l.buffer) ≡ take l.start (pairs_of g.P.RangeEntry.pair l.fn.buffer);
 }

@@ -1,33 +1,58 @@
-use Rattle.std.proofs.Common.{rules, arith, sym, ap, subst, false, Some, None, Ok, Err, ◌≡◌, ◌≢◌, ◌∙◌}
+use Rattle.std.proofs.Common.{rules, arith, sym, ap, subst, false, Some, None, ◌≡◌, ◌∙◌}
 use Rattle.live_law.specs.Views.{View, ask}
 use Rattle.live_calls.specs.Ways.{Names, Ended}
-use Rattle.live_calls.specs.Sees.{Follows}
+use Rattle.live_calls.specs.Sees.{Follows, IsNextOpen}
 use Rattle.live_calls.specs.declared.sight.Next.TheVariants as nexts
 use Rattle.live_calls.proofs.Finds.{keeps_then, names_kept}
-use Rattle.live_updates.specs.declared.lookup.Site.TheVariants as sites
+use Rattle.live_calls.proofs.Sights.{sights_names}
 use Rattle.live_updates.proofs.Seeks.{found_none, found_some, ended_by, ends_later, sought_later, sought_none}
 use Rattle.live_updates.proofs.lookup.seek.Goals as goal
 
-pub returns-in_err-follow : goal.returns-in_err-follow
-returns-in_err-follow g c =
+pub returns-in_err-here : goal.returns-in_err-here
+returns-in_err-here g c =
+    let u = c.args.pass.now.view in
+    let r = c.root.ensures.told in
+    let o = c.open.ensures.told in
+    let w = c.open.new.pass.view in
+    let out : c.from_residual-in_err-here.result ≡ None = search rules in
+    let seen = ap (λ (z : View). z.seen) o.3 ∙ r.3 in
+    record { told = (o.0 ∙ r.0, o.1 ∙ r.1, keeps_then u c.root.new.pass.view w r.2 o.2, sought_none g.Q.Lookups.lookup c.from_residual-in_err-here.result u w out seen) }
+
+pub loop-height-init : goal.loop-height-init
+loop-height-init g c =
+    let u = c.args.pass.now.view in
+    let v = c.root.new.pass.view in
+    let w = c.open.new.pass.view in
+    let r = c.root.ensures.told in
+    let o = c.open.ensures.told in
+    let there = c.in_ok-here.ensures.opened in
+    let n = c.in_ok-name.ensures.told.4 in
+    let name = c.in_ok-name.name in
+    record {
+      book = o.0 ∙ r.0;
+      id = o.1 ∙ r.1;
+      keeps = keeps_then u v w r.2 o.2;
+      seen = ap (λ (z : View). z.seen) o.3 ∙ r.3;
+      low = omega arith;
+      high = omega arith;
+      node = record { names = names_kept v w name c.args.key 8 o.2 n; opened = there.1 (sights_names v name c.args.key 8 n); free = there.0 };
+    }
+
+pub returns-in_err-step : goal.returns-in_err-step
+returns-in_err-step g c =
     let u = c.args.pass.now.view in
     let i = c.loop-height.invariant in
     let v = c.loop-height.pass.view in
-    let h = c.loop-height.height in
-    let w = c.follow.new.pass.view in
-    let t = c.follow.ensures.told in
+    let w = c.step.new.pass.view in
+    let t = c.step.ensures.told in
     let l = g.Q.Lookups.lookup in
-    let q = ask c.loop-height.pass.id c.args.key 0 0 in
-    let key = c.args.key in
     let keeps = keeps_then u v w i.keeps t.2 in
-    let Ends = Ended false q None in
-    let is : c.follow.result ≡ None = search rules in
-    let f = subst (λ z. Follows Ends v w key h z) is t.3 in
-    let out : c.from_residual-in_err-follow.result ≡ None = search rules in
-    record { told = (t.0 ∙ i.book, t.1 ∙ i.id, keeps, sought_none l c.from_residual-in_err-follow.result u w out (f ∙ i.seen)) }
+    let seen = c.in_err-step.ensures.none in
+    let out : c.from_residual-in_err-step.result ≡ None = search rules in
+    record { told = (t.0 ∙ i.book, t.1 ∙ i.id, keeps, sought_none l c.from_residual-in_err-step.result u w out (seen ∙ i.seen)) }
 
 pub absent_at-requires-clause-named : goal.absent_at-requires-clause-named
-absent_at-requires-clause-named g c = names_kept c.loop-height.pass.view c.follow.new.pass.view c.loop-height.name c.args.key c.loop-height.height c.follow.ensures.told.2 c.loop-height.invariant.names
+absent_at-requires-clause-named g c = names_kept c.loop-height.pass.view c.step.new.pass.view c.loop-height.name c.args.key c.loop-height.height c.step.ensures.told.2 c.loop-height.invariant.node.names
 
 pub returns-in-Ends : goal.returns-in-Ends
 returns-in-Ends g c =
@@ -35,15 +60,15 @@ returns-in-Ends g c =
     let i = c.loop-height.invariant in
     let v = c.loop-height.pass.view in
     let h = c.loop-height.height in
-    let w = c.follow.new.pass.view in
-    let t = c.follow.ensures.told in
+    let w = c.step.new.pass.view in
+    let t = c.step.ensures.told in
     let l = g.Q.Lookups.lookup in
     let q = ask c.loop-height.pass.id c.args.key 0 0 in
     let key = c.args.key in
     let keeps = keeps_then u v w i.keeps t.2 in
     let Ends = Ended false q None in
-    let is : c.follow.result ≡ Some nexts.Ends = search rules in
-    let f = subst (λ z. Follows Ends v w key h z) is t.3 in
+    let is : c.in_ok-step.step.next ≡ nexts.Ends = search rules in
+    let f = subst (λ z. Follows Ends v w key h (Some z)) is c.in_ok-step.ensures.next.0 in
     let y = c.absent_at.new.pass.view in
     let e = c.absent_at.ensures.told in
     record { told = (e.0 ∙ (t.0 ∙ i.book), e.1 ∙ (t.1 ∙ i.id), keeps_then u w y keeps e.2, sought_later l c.absent_at.result u w y (ap (λ (z : View). z.seen) f ∙ i.seen) e.3) }
@@ -54,15 +79,16 @@ loop-height-preserved g c =
     let i = c.loop-height.invariant in
     let v = c.loop-height.pass.view in
     let h = c.loop-height.height in
-    let w = c.follow.new.pass.view in
-    let t = c.follow.ensures.told in
+    let w = c.step.new.pass.view in
+    let t = c.step.ensures.told in
     let l = g.Q.Lookups.lookup in
     let q = ask c.loop-height.pass.id c.args.key 0 0 in
     let key = c.args.key in
     let keeps = keeps_then u v w i.keeps t.2 in
     let Ends = Ended false q None in
-    let is : c.follow.result ≡ Some (nexts.Goes c.in-Goes.below c.in-Goes.lower) = search rules in
-    let f = subst (λ z. Follows Ends v w key h z) is t.3 in
+    let is : c.in_ok-step.step.next ≡ nexts.Goes c.in-Goes.below c.in-Goes.lower = search rules in
+    let f = subst (λ z. Follows Ends v w key h (Some z)) is c.in_ok-step.ensures.next.0 in
+    let here = c.in_ok-step.step.here in
     record {
       book = t.0 ∙ i.book;
       id = t.1 ∙ i.id;
@@ -70,11 +96,11 @@ loop-height-preserved g c =
       seen = f.0 ∙ i.seen;
       low = f.2;
       high = (let a = i.high in let b = f.3 in omega (arith, a, b));
-      names = f.1;
+      node = subst (λ z. IsNextOpen w c.step.new.pass.book here.words.now here.taken key z) is c.in_ok-step.ensures.next.1;
     }
 
 pub absent_at-requires-in-Forks-clause-named : goal.absent_at-requires-in-Forks-clause-named
-absent_at-requires-in-Forks-clause-named g c = names_kept c.loop-height.pass.view c.follow.new.pass.view c.loop-height.name c.args.key c.loop-height.height c.follow.ensures.told.2 c.loop-height.invariant.names
+absent_at-requires-in-Forks-clause-named g c = names_kept c.loop-height.pass.view c.step.new.pass.view c.loop-height.name c.args.key c.loop-height.height c.step.ensures.told.2 c.loop-height.invariant.node.names
 
 pub returns-in-Forks : goal.returns-in-Forks
 returns-in-Forks g c =
@@ -82,15 +108,15 @@ returns-in-Forks g c =
     let i = c.loop-height.invariant in
     let v = c.loop-height.pass.view in
     let h = c.loop-height.height in
-    let w = c.follow.new.pass.view in
-    let t = c.follow.ensures.told in
+    let w = c.step.new.pass.view in
+    let t = c.step.ensures.told in
     let l = g.Q.Lookups.lookup in
     let q = ask c.loop-height.pass.id c.args.key 0 0 in
     let key = c.args.key in
     let keeps = keeps_then u v w i.keeps t.2 in
     let Ends = Ended false q None in
-    let is : c.follow.result ≡ Some (nexts.Forks c.in-Forks.fork) = search rules in
-    let f = subst (λ z. Follows Ends v w key h z) is t.3 in
+    let is : c.in_ok-step.step.next ≡ nexts.Forks c.in-Forks.fork = search rules in
+    let f = subst (λ z. Follows Ends v w key h (Some z)) is c.in_ok-step.ensures.next.0 in
     let y = c.absent_at-in-Forks.new.pass.view in
     let e = c.absent_at-in-Forks.ensures.told in
     record { told = (e.0 ∙ (t.0 ∙ i.book), e.1 ∙ (t.1 ∙ i.id), keeps_then u w y keeps e.2, sought_later l c.absent_at-in-Forks.result u w y (f.0 ∙ i.seen) e.3) }
@@ -120,7 +146,7 @@ returns-in-Some g c =
     let low = i.low in
     let one : c.loop-height.height ≡ 1 = omega (arith, c.loop-height-test.false, low) in
     let ended = found_some l c.ends_in.result (Some c.in-Some.value) v w t.3 is in
-    let names = names_kept v w c.loop-height.name c.args.key 1 t.2 (subst (λ z. Names v c.loop-height.name c.args.key z) one i.names) in
+    let names = names_kept v w c.loop-height.name c.args.key 1 t.2 (subst (λ z. Names v c.loop-height.name c.args.key z) one i.node.names) in
     record {
       told = (
         t.0 ∙ i.book,

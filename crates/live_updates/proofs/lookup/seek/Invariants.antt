@@ -1,10 +1,10 @@
 use Rattle.std.proofs.Common.{◌≡◌, ◌≤◌, false}
 use Rattle.live_law.specs.Views.{ask}
-use Rattle.live_calls.specs.Ways.{Names, Keeps}
+use Rattle.live_calls.specs.Ways.{IsOpen, Keeps}
 use Rattle.live_updates.proofs.lookup.seek.Given as goal
 
-abbrev pub ghosts-follow : goal.ghosts-follow
-ghosts-follow g a = record { ask = ask a.pass.now.id a.key 0 0; reads = false }
+abbrev pub ghosts-step : goal.ghosts-step
+ghosts-step g a = record { ask = ask a.pass.now.id a.key 0 0; reads = false }
 
 abbrev pub invariant-loop-height : goal.invariant-loop-height
 invariant-loop-height g l = record {
@@ -14,7 +14,7 @@ invariant-loop-height g l = record {
   seen : l.pass.view.client.seen ≡ l.fn.pass.view.client.seen;
   low : 1 ≤ l.height;
   high : l.height ≤ 8;
-  names : Names l.pass.view l.name l.key l.height;
+  node : IsOpen l.pass.view l.pass.book l.here.words.now l.here.taken l.name l.key l.height;
 }
 
 abbrev pub decreases-loop-height : goal.decreases-loop-height

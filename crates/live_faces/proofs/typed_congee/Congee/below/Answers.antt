@@ -1,0 +1,7 @@
+use Rattle.live_floors.proofs.Ends.{before_since}
+use Rattle.live_faces.proofs.typed_congee.Congee.below.Goals as goal
+
+pub returns-in-Ok-clause-before : goal.returns-in-Ok-clause-before
+returns-in-Ok-clause-before g c =
+    let n = c.in-Ok.ensures.before in
+    (n.0, n.1, before_since c.args.guard.now c.loop.guard c.try_below.new.guard (g.K.Word.number c.args.key.now) n.0 c.loop.invariant.2 n.2)

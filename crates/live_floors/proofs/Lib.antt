@@ -1,0 +1,4 @@
+pub mod Firsts
+pub mod Downs
+pub mod Behinds
+pub mod Ends

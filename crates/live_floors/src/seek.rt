@@ -1,0 +1,48 @@
+//! The way of a reader to the leaf of a key, from which it reads downwards.
+ghost use Rattle.std.specs.Prelude.{◌≡◌, false};
+ghost use Rattle.share_rule.specs.inner.Rule.{HasSeen};
+ghost use Rattle.live_calls.specs.Ways.{KnowsTrunk, Keeps};
+ghost use Rattle.live_floors.specs.inner.Stops.{Stops};
+
+use crate::steps::{around, gap};
+use live_calls::sight::{Next, follow};
+use live_calls::way::{Nodes, Pass, root};
+use live_law::law::Asks;
+
+/// Where a reader's way ends: at the leaf of its key, or above. Then this key and all after it, up to its own, are absent.
+#[derive(Clone, Copy, Debug, PartialEq, Eq)]
+pub enum Stop {
+    Leaf(u64),
+    Gap(u64),
+}
+
+/// The end of a reader's way. `None` where a writer came in between.
+pub fn seek<A: Asks>(nodes: &Nodes, key: u64, pass: &mut Pass) -> Option<Stop>
+    requires book { pass.old.book ≡ nodes.now }
+    requires asks { (A.ask.key ≡ key) × (A.ask.caller ≡ pass.old.id) × (A.reads ≡ false) }
+    requires trunk { KnowsTrunk pass.old.view }
+    ensures told { (pass.new.book ≡ pass.old.book) × (pass.new.id ≡ pass.old.id)
+        × Keeps pass.old.view pass.new.view
+        × HasSeen pass.new.view.client.seen pass.old.id pass.old.view.client.seen
+        × Stops pass.old.id pass.old.view pass.new.view key result }
+{
+    let mut name = root(nodes, key, pass)?;
+    let mut height = 8usize;
+    while height > 1 {
+        match follow::<A>(nodes, name, height, key, pass)? {
+            Next::Ends => {
+                let first = gap::<A>(nodes, name, height, key, pass)?;
+                return Some(Stop::Gap(first));
+            }
+            Next::Goes(below, lower) => {
+                name = below;
+                height = lower;
+            }
+            Next::Forks(fork) => {
+                let first = around::<A>(nodes, name, height, fork, key, pass)?;
+                return Some(Stop::Gap(first));
+            }
+        }
+    }
+    Some(Stop::Leaf(name))
+}
