@@ -33,12 +33,12 @@ pub returns-in_ok-make_place-in-Absent-clause-may : goal.returns-in_ok-make_plac
 returns-in_ok-make_place-in-Absent-clause-may g c =
     let q = c.requires.ends in
     let e = c.in_ok-make_place-in-Absent.ensures in
-    (place_may _ q.0 _ _ _ _ _ _ (at_stop _ _ c.args.spot.now q.0 _ (ends.Absent c.in-Absent.byte) c.in-Absent.is q.1) _ e.ok, e.free)
+    (place_may _ q.0 _ _ _ _ _ _ (at_stop _ _ c.args.spot.now q.0 _ (ends.Absent c.in-Absent.byte) c.in-Absent.is q.1) _ e.ok, e.free, e.spare)
 
 pub returns-in_ok-make_place-in-Absent-clause-ready : goal.returns-in_ok-make_place-in-Absent-clause-ready
 returns-in_ok-make_place-in-Absent-clause-ready g c = λ root h.
     let e = c.in_ok-make_place-in-Absent.ensures in
-    place_ready _ root _ _ _ _ _ _ (at_stop _ _ c.args.spot.now root _ (ends.Absent c.in-Absent.byte) c.in-Absent.is h) _ e.ok _ e.keeps e.grown
+    place_ready _ root _ _ _ _ _ _ (at_stop _ _ c.args.spot.now root _ (ends.Absent c.in-Absent.byte) c.in-Absent.is h) _ e.ok _ _ e.keeps e.grown
 
 pub returns-in_ok-make_two-in-PairDiffers-clause-ready : goal.returns-in_ok-make_two-in-PairDiffers-clause-ready
 returns-in_ok-make_two-in-PairDiffers-clause-ready g c = λ root h.
