@@ -140,10 +140,8 @@ impl<P: Drop, C: Drop> RowNode<P, C> {
             | RowKind::Inner16(..)
             | RowKind::Inner48(..)
             | RowKind::Inner256(..) => false,
-            RowKind::Leaf4(..)
-            | RowKind::Leaf16(..)
-            | RowKind::Leaf48(..)
-            | RowKind::Leaf256(..) => true,
+            RowKind::Leaf4(..) | RowKind::Leaf16(..) | RowKind::Leaf48(..) | RowKind::Leaf256(..) =>
+                true,
         }
     }
 

@@ -34,9 +34,7 @@ impl<P: Drop, C: Drop> RowNode<P, C> {
             | RowKind::Inner16(..)
             | RowKind::Inner48(..)
             | RowKind::Inner256(..) => unreachable!(),
-            RowKind::Leaf4(node, row) => HasPayloads::<P, C>::set_payload(
-                node, row, byte, payload,
-            ),
+            RowKind::Leaf4(node, row) => HasPayloads::<P, C>::set_payload(node, row, byte, payload),
             RowKind::Leaf16(node, row) => HasPayloads::<P, C>::set_payload(
                 node, row, byte, payload,
             ),

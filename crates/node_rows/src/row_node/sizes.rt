@@ -42,11 +42,7 @@ impl<P: Drop, C: Drop> RowNode<P, C> {
                 Ok((head, row)) => RowKind::Leaf16(Leaf { head }, row),
                 Err(error) => return Err(error),
             },
-            RowKind::Leaf16(old, row) => match Node48::grown_from_parts(
-                alloc,
-                &mut old.head,
-                row,
-            ) {
+            RowKind::Leaf16(old, row) => match Node48::grown_from_parts(alloc, &mut old.head, row) {
                 Ok(node) => RowKind::Leaf48(
                     Leaf {
                         head: Whole { node },
