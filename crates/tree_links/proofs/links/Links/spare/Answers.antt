@@ -15,7 +15,7 @@ returns g c =
     let l = as_linked c.node.result.now in
     if_ok c.spare.result
     (λ spare has n here.
-      subst (λ (m : TableNode g.row.P.Denot). length m.prefix < 7 → (m.form ≡ N256 → ⊥) → length m.children < 48 → IsSpareFor (length m.children) spare)
-      (seen_is (node_at c.args.self.now.table (name_of c.args.slot)) c.args.slot l n c.node.ensures here)
-      (rw (length-seen c.args.slot l.links) has))
+    subst (λ (m : TableNode g.row.P.Denot). length m.prefix < 7 → (m.form ≡ N256 → ⊥) → length m.children < 48 → IsSpareFor (length m.children) spare)
+    (seen_is (node_at c.args.self.now.table (name_of c.args.slot)) c.args.slot l n c.node.ensures here)
+    (rw (length-seen c.args.slot l.links) has))
     c.spare.ensures
