@@ -129,7 +129,9 @@ impl<L: Ledger, K: Word, V: Send + Sync + Drop + 'static, M: Owners<V>> CongeeAr
     }
 
     /// Frees a caller's seat. A guard that is dropped instead keeps its seat until the map ends.
-    pub fn unpin<R: Wait>(&self, rt: &R, guard: OwnerGuard<'_, L, V, M>) {
+    pub fn unpin<R: Wait>(&self, rt: &R, guard: OwnerGuard<'_, L, V, M>)
+        requires map { guard.table ≡ self.now }
+    {
         guard.unpin(rt);
     }
 

@@ -152,7 +152,9 @@ impl<L: Ledger, K: Word, V: Word, M: Pages, D: Drainer<K, V>> Congee<L, K, V, M,
     }
 
     /// Frees a caller's seat. A guard that is dropped instead keeps its seat until the map ends.
-    pub fn unpin<R: Wait>(&self, rt: &R, guard: Guard<'_, L, M>) {
+    pub fn unpin<R: Wait>(&self, rt: &R, guard: Guard<'_, L, M>)
+        requires map { guard.table ≡ self.now }
+    {
         guard.unpin(rt);
     }
 

@@ -91,7 +91,9 @@ impl<L: Ledger, V: Word, M: Pages> U64Congee<L, V, M> {
     }
 
     /// Frees a caller's seat. A guard that is dropped instead keeps its seat until the map ends.
-    pub fn unpin<R: Wait>(&self, rt: &R, guard: Guard<'_, L, M>) {
+    pub fn unpin<R: Wait>(&self, rt: &R, guard: Guard<'_, L, M>)
+        requires map { guard.table ≡ self.now }
+    {
         self.map.unpin(rt, guard);
     }
 
