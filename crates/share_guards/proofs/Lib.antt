@@ -1,2 +1,3 @@
 pub mod KeyList
 pub mod Replies
+pub mod Settling
