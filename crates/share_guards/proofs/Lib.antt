@@ -1,3 +1,2 @@
 pub mod KeyList
 pub mod Replies
-pub mod Settling
