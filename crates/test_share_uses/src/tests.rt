@@ -1,0 +1,2 @@
+mod drained;
+mod meetings;
