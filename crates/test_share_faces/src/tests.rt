@@ -1,3 +1,6 @@
 mod numbers;
+mod owners;
+mod refusals;
 mod rows;
 mod threads;
+mod typed;
