@@ -11,7 +11,7 @@ use node_base::head::Head;
 
 /// Whether a node with this base has no room for one child more.
 #[inline(always)]
-pub(crate) fn has_no_room(base: &BaseNode) -> bool
+pub fn has_no_room(base: &BaseNode) -> bool
     ensures full { IsTrue result → Fits base.now.form (base.now.count + 1) → ⊥ }
     ensures room { result ≡ false → Fits base.now.form (base.now.count + 1) }
 {
@@ -27,7 +27,7 @@ pub(crate) fn has_no_room(base: &BaseNode) -> bool
 /// Sets what a node has under a byte, where there is something or room for one child more, and returns the previous one.
 /// Otherwise `Err` returns the new one.
 #[inline(always)]
-pub(crate) fn set_child<C, H: Head<C>>(
+pub fn set_child<C, H: Head<C>>(
     head: &mut H,
     row: &mut H::Row,
     byte: u8,

@@ -15,5 +15,6 @@ mod shared_values;
 mod shrinking;
 mod sizes;
 mod statistics;
+mod steps;
 mod table;
 mod walks;

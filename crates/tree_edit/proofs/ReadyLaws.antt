@@ -1,5 +1,6 @@
 -- What is ready for a new key's pair, at each end of a descent.
 use Rattle.std.proofs.Common.{◌≡◌, ℕ, zero, suc, ◌+◌, ◌-◌, ◌<◌, List, [], ◌∷◌, ◌++◌, length, get_or, Option, Some, None, refl, ap, sym, subst, ◌∙◌, arith}
+use Rattle.std.specs.Global.{Vec}
 use Rattle.spec_map.specs.Map.{lookup}
 use Rattle.node_base.specs.declared.base_node.NodeType.TheVariants.{N4}
 use Rattle.node_table.specs.Key.{AreBytes, Begins, next_byte}
@@ -29,6 +30,7 @@ use Rattle.tree_links.specs.SplitsTree.{SplitsInPlace, SplitsTree}
 use Rattle.tree_links.specs.declared.descent.LinkEnd.{LinkEnd}
 use Rattle.tree_links.specs.declared.descent.LinkStop.{LinkStop}
 use Rattle.tree_links.specs.declared.descent.LinkStop.TheVariants as ends
+use Rattle.tree_links.specs.declared.place.Place.{Place}
 use Rattle.tree_links.proofs.TreeLaws.{moves_on_path}
 use Rattle.tree_edit.specs.declared.insertion.Ready.TheVariants as ready
 use Rattle.tree_edit.specs.inner.Gains.{GainsPair}
@@ -74,8 +76,8 @@ module _ {P : Type 0} (s : NodeTable P) (root : ℕ) (key : List ℕ) where
         let same : h.ends.node ≡ n = cc in
         subst (λ (m : TableNode P). length m.prefix < 7) same stop_absent.3
 
-    pub place_ready : (new : FormCounts) → SameElsewhere (name_of i) s g → CountsGrown s (name_of i) (with_form N4 forms) new → IsReady s g root key (ready.Place i b) new
-    place_ready new same grown = λ t v x.
+    pub place_ready : (spare : Option (Vec (Place P))) (new : FormCounts) → SameElsewhere (name_of i) s g → CountsGrown s (name_of i) (with_form N4 forms) new → IsReady s g root key (ready.Place i b spare) new
+    place_ready spare new same grown = λ t v x.
         let w = h.ends in
         let a : EndsAt s root key (place_of s root key (seen_at key i j above (ends.Absent b)) (Absent b)) = record { leads = w.leads; node = w.node; here = w.here; end = (stop_absent.0, stop_absent.1, stop_absent.2) } in
         let adds = added s g t (name_of i) b (name_under i b) key v same room inner_there x in

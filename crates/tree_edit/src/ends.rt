@@ -20,12 +20,11 @@ ghost use Rattle.tree_links.specs.Seeks.{seen_end, KnowsPair};
 use crate::removal::take_out;
 use crate::tree::{Nodes, Tree};
 use node_table::allocator::Allocator;
-use node_table::tree_node::TreeNode;
 use tree_links::bytes::pair_number;
 use tree_links::descent::{LinkEnd, LinkStop};
 use tree_links::link::LinkRef;
 use tree_links::linked_node::LinkedNode;
-use tree_links::place::Place;
+use tree_links::place::Linked;
 
 /// At which side of the pairs a removal is.
 #[derive(Clone, Copy)]
@@ -36,7 +35,7 @@ pub enum Side {
 
 // The node's first link or its last, and the byte.
 #[inline(always)]
-fn link_at<P: Drop>(node: &TreeNode<P, Place<P>>, side: Side) -> Option<(u8, LinkRef<'_, P>)>
+fn link_at<P: Drop>(node: &Linked<P>, side: Side) -> Option<(u8, LinkRef<'_, P>)>
     ensures { option_map (λ found. (found.0, looked_at found.1)) result
         ≡ at_side side (as_linked node.now).links }
 {

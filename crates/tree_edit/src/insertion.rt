@@ -1,7 +1,7 @@
 //! An insertion: at the end of the key's path, a payload is set, a pair is put into a place, or a node is put above it.
 //!
-//! All memory is taken before the first change of what the tree stores, and before a closure is called. A pair that gets
-//! a leaf of its own for a second one takes none.
+//! All memory is taken before the first change of what the tree stores, and before a closure is called: a larger row of a
+//! node, too, as a spare one. A pair that gets a leaf of its own for a second one takes none.
 //!
 //! What a call does at a leaf is inline (`#[inline(always)]`), as its result has several words, which a call returns
 //! through memory.
@@ -24,28 +24,31 @@ ghost use Rattle.tree_path.specs.declared.descent.Stop.TheVariants.{Leaf};
 ghost use Rattle.tree_links.specs.PairCalls.{HasBelow};
 ghost use Rattle.tree_links.specs.OtherForm.{GrowsNode};
 ghost use Rattle.tree_links.specs.SeenTable.{leaf_of, name_of, name_under};
+ghost use Rattle.tree_links.specs.Spares.{HasSpare};
 ghost use Rattle.tree_edit.specs.inner.Ready.{MayPut, Puts, IsReady};
 ghost use Rattle.tree_edit.specs.inner.Spots.{IsSpot, HasThere, LacksThere, MayRefuse, ExchangesThere, SetsThere, EndsAbsent};
 
 use crate::tree::{Nodes, Tree};
 use node_base::base_node::NodeType;
+use node_rows::row_node::RowNode;
+use node_rows::spare::Spare;
 use node_table::allocator::Allocator;
-use node_table::tree_node::TreeNode;
 use spec_map::error::OOMError;
 use std::sync::ledger::Ledger;
 use tree_links::descent::{LinkEnd, LinkStop};
 use tree_links::link::LinkRef;
 use tree_links::linked_node::LinkedNode;
+use tree_links::place::Place;
 use tree_path::reads::ReadCount;
 use tree_path::supply::{Supply, larger};
 
 /// What is ready for a new key's pair.
 #[derive(Drop)]
-pub(crate) enum Ready {
+pub(crate) enum Ready<P> {
     /// The key's leaf, in this slot, has room.
     Leaf(usize),
-    /// The node in this slot has room, and nothing under this byte.
-    Place(usize, u8),
+    /// The node in this slot has room, with this spare row if it needs one, and nothing under this byte.
+    Place(usize, u8, Spare<Place<P>>),
     /// Under this byte of the node in this slot there is a pair, whose leaf's prefix the key leaves at this place.
     Beside(usize, u8, usize),
     /// Under this byte of the node in this slot there is the node in another, whose prefix the key leaves at this place.
@@ -199,30 +202,32 @@ fn make_room<P: Drop, A: Allocator>(
     Ok(())
 }
 
-// Makes room for a pair in the node in a slot, and charges its leaf.
+// Makes room for a pair in the node in a slot, and charges its leaf. Returns the spare row for it.
 fn make_place<P: Drop, A: Allocator>(
     nodes: &mut Nodes<P>,
     supply: &mut Supply<A>,
     slot: usize,
-) -> Result<(), OOMError>
+) -> Result<Spare<Place<P>>, OOMError>
     requires counted { IsCountedAt nodes.old.table (name_of slot) supply.old.forms }
     requires few { AreFew supply.old.forms }
     ensures keeps { SameElsewhere (name_of slot) nodes.old.table nodes.new.table }
     ensures ok { OnOk result (MakesRoom nodes.old.table nodes.new.table (name_of slot)) }
     ensures err { OnErr result (nodes.new.table ≡ nodes.old.table) }
     ensures free { OnOk result (0 < nodes.new.free) }
+    ensures spare { IfOk result (λ spare. HasSpare nodes.new.table (name_of slot) spare) }
     ensures grown { OnOk result (CountsGrown nodes.old.table (name_of slot)
         (with_form N4 supply.old.forms) supply.new.forms) }
     ensures same { OnErr result (supply.new.forms ≡ supply.old.forms) }
     ensures alike { Alike A.charge supply.old supply.new }
 {
     nodes.reserve(1)?;
+    let spare = nodes.spare(slot, supply.memory())?;
     supply.charge(NodeType::N4)?;
     if let Err(error) = make_room(nodes, supply, slot) {
         supply.give_back(NodeType::N4);
         return Err(error);
     }
-    Ok(())
+    Ok(spare)
 }
 
 // Takes memory for a node and a leaf, and charges them.
@@ -253,7 +258,7 @@ pub(crate) fn make_ready<P: Drop, A: Allocator>(
     supply: &mut Supply<A>,
     spot: &LinkEnd,
     key: &[u8; 8],
-) -> Result<Ready, OOMError>
+) -> Result<Ready<P>, OOMError>
     requires ends { (root : ℕ)
         × EndsAbsent nodes.old.table key.now spot.now root supply.old.forms }
     requires few { AreFew supply.old.forms }
@@ -273,8 +278,8 @@ pub(crate) fn make_ready<P: Drop, A: Allocator>(
         }
         LinkStop::PairBeside(byte) => Ok(Ready::Leaf(nodes.hoist(spot.slot, byte))),
         LinkStop::Absent(byte) => {
-            make_place(nodes, supply, spot.slot)?;
-            Ok(Ready::Place(spot.slot, byte))
+            let spare = make_place(nodes, supply, spot.slot)?;
+            Ok(Ready::Place(spot.slot, byte, spare))
         }
         LinkStop::PairDiffers(byte, at) => {
             make_two(nodes, supply)?;
@@ -289,20 +294,20 @@ pub(crate) fn make_ready<P: Drop, A: Allocator>(
     }
 }
 
-/// Puts a new key's pair where all is ready for it. Takes no memory.
-pub(crate) fn put<P: Drop>(nodes: &mut Nodes<P>, ready: Ready, key: &[u8; 8], payload: P)
+/// Puts a new key's pair where all is ready for it. Takes no memory but a spare row.
+pub(crate) fn put<P: Drop>(nodes: &mut Nodes<P>, ready: Ready<P>, key: &[u8; 8], payload: P)
     requires { MayPut nodes.old.table nodes.old.free key.now ready }
     ensures { Puts nodes.old.table nodes.new.table key.now ready payload }
 {
     match ready {
         Ready::Leaf(slot) => nodes.put_payload(slot, key[7], payload),
-        Ready::Place(slot, byte) => nodes.add_pair(slot, byte, key, payload),
+        Ready::Place(slot, byte, spare) => nodes.add_pair(slot, byte, key, payload, spare),
         Ready::Beside(slot, byte, at) => {
-            let upper = TreeNode::empty_inner(&key[..at]);
+            let upper = RowNode::empty_inner(&key[..at]);
             nodes.split_pair(slot, byte, key, at, upper, payload);
         }
         Ready::Above(parent, byte, slot, at) => {
-            let upper = TreeNode::empty_inner(&key[..at]);
+            let upper = RowNode::empty_inner(&key[..at]);
             nodes.split_above(parent, byte, slot, key, at, upper, payload);
         }
     }

@@ -22,8 +22,8 @@ ghost use Rattle.node_base.specs.declared.base_node.NodeType.TheVariants.{N256};
 ghost use Rattle.tree_links.specs.SeenTable.{name_of};
 
 use node_base::base_node::NodeType;
+use node_rows::row_node::RowNode;
 use node_table::allocator::Allocator;
-use node_table::tree_node::TreeNode;
 use spec_map::error::OOMError;
 use std::alloc::Global;
 use std::marker::Model;
@@ -74,7 +74,7 @@ fn bare_table<P: Drop>(alloc: Global) -> Result<(Nodes<P>, usize), OOMError>
 {
     let mut nodes = Links::new(alloc);
     nodes.reserve(1)?;
-    let root = nodes.add(TreeNode::root(alloc)?);
+    let root = nodes.add(RowNode::root(alloc)?);
     Ok((nodes, root))
 }
 

@@ -16,3 +16,4 @@ pub mod LeadLaws
 pub mod SplitTreeLaws
 pub mod SeekLaws
 pub mod ReadLaws
+pub mod SpareLaws

@@ -10,5 +10,6 @@ pub mod SameTree
 pub mod SeenTable
 pub mod Seeks
 pub mod SplitsChild
+pub mod Spares
 pub mod SplitsTree
 pub mod inner

@@ -33,7 +33,7 @@ impl<P: Drop> Links<P> {
         ensures puts { SetsPayload self.old.table self.new.table (name_of slot) byte payload None }
         ensures free { self.new.free ≡ self.old.free }
     {
-        put_at(&mut self.nodes, slot, byte, Link::Payload(payload));
+        put_at(&mut self.nodes, slot, byte, Link::Payload(payload), None);
     }
 
     /// Takes the payload under a byte of the leaf in a slot out, if there is one, and returns it. The leaf stays, though

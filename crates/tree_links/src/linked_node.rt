@@ -8,7 +8,8 @@ ghost use Rattle.std.specs.Option.{option_map};
 ghost use Rattle.spec_map.specs.Map.{lookup, between, Rises};
 ghost use Rattle.spec_map.specs.Near.{below_of};
 ghost use Rattle.node_base.specs.Form.{Fits, few_in, next_form, smaller_form};
-ghost use Rattle.node_base.specs.declared.base_node.NodeType.TheVariants.{N4, N256};
+ghost use Rattle.node_base.specs.declared.base_node.NodeType.TheVariants.{N4, N48, N256};
+ghost use Rattle.node_rows.specs.Spare.{IsSpareFor};
 ghost use Rattle.node_table.specs.Children.{children_left, MayYield};
 ghost use Rattle.tree_links.specs.LinkNode.{MayLink, seen, looked_at, with_link, without_link, IsMet};
 ghost use Rattle.tree_links.specs.Places.{as_links};
@@ -17,6 +18,7 @@ ghost use Rattle.tree_links.specs.declared.link.Link.TheVariants.{Payload};
 use crate::link::{Link, LinkMeeting, LinkRef};
 use crate::place::Place;
 use node_base::base_node::BaseNode;
+use node_rows::spare::Spare;
 use node_table::child::ChildIter;
 use spec_map::error::OOMError;
 use std::alloc::Global;
@@ -97,11 +99,21 @@ pub trait LinkedNode<P>: Drop + Sized {
         ensures links { as_links (children_left result) ≡ between (node self.now).links from to }
         ensures kind { MayYield (node self.now).prefix result };
 
-    /// Adds a link of the node's kind under a byte that has none, in a node that is not full.
-    fn insert(&mut self, byte: u8, link: Link<P>)
+    /// The spare row for one link more, which an inner node for forty-eight may need, and one for sixteen once it has
+    /// grown. A refusal only for lack of memory.
+    fn spare(&self, alloc: Global) -> Result<Spare<Place<P>>, OOMError>
+        ensures { IfOk result (λ spare. length (node self.now).prefix < 7
+            → ((node self.now).form ≡ N256 → ⊥) → length (node self.now).links < 48
+            → IsSpareFor (length (node self.now).links) spare) };
+
+    /// Adds a link of the node's kind under a byte that has none, in a node that is not full. Takes no memory but the
+    /// spare row, which an inner node for forty-eight may need.
+    fn insert(&mut self, byte: u8, link: Link<P>, spare: Spare<Place<P>>)
         requires absent { lookup (node self.old).links byte ≡ None }
         requires room { Fits (node self.old).form (length (node self.old).links + 1) }
         requires kind { MayLink (node self.old).prefix link }
+        requires spare { (node self.old).form ≡ N48 → length (node self.old).prefix < 7
+            → IsSpareFor (length (node self.old).links) spare }
         ensures { node self.new ≡ with_link (node self.old) byte link };
 
     /// Replaces the link under a byte by another of the node's kind, and returns the previous one. If there is none,

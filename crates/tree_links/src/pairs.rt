@@ -2,20 +2,44 @@
 //!
 //! Tested in `test_owned` and `tools/dev/try-commands`.
 
-ghost use Rattle.std.specs.Prelude.{◌≡◌, ◌+◌, ◌<◌};
+ghost use Rattle.std.specs.Prelude.{◌≡◌, ◌+◌, ◌<◌, IfOk, IsSome};
+ghost use Rattle.node_table.specs.Table.{node_at};
 ghost use Rattle.tree_links.specs.PairCalls.{IsOpenFor, GetsLeaf, HasBelow, HasPair, ChangesLeaf, LosesLeaf};
 ghost use Rattle.tree_links.specs.SeenTable.{name_of, name_under};
+ghost use Rattle.tree_links.specs.Spares.{HasSpare, KeepsSpare};
 
 use crate::bytes::{has_seven, rest_of};
 use crate::link::Link;
+use crate::linked_node::LinkedNode;
 use crate::links::Links;
+use crate::place::Place;
 use crate::slots::{exchange_at, put_at, take_at};
+use node_rows::spare::Spare;
+use spec_map::error::OOMError;
+use std::alloc::Global;
 
 impl<P: Drop> Links<P> {
+    /// The spare row for one pair more in the node in a slot, now or once it has grown. A refusal only for lack of
+    /// memory.
+    pub fn spare(&self, slot: usize, alloc: Global) -> Result<Spare<Place<P>>, OOMError>
+        requires { IsSome (node_at self.now.table (name_of slot)) }
+        ensures { IfOk result (λ spare. KeepsSpare self.now.table (name_of slot) spare) }
+    {
+        LinkedNode::spare(self.node(slot), alloc)
+    }
+
     /// Puts a new key's pair under a byte of the inner node in a slot, which has room and nothing there: a leaf that
-    /// takes no slot. Takes no memory.
-    pub fn add_pair(&mut self, slot: usize, byte: u8, key: &[u8; 8], payload: P)
+    /// takes no slot. Takes no memory but the spare row, which the node may need.
+    pub fn add_pair(
+        &mut self,
+        slot: usize,
+        byte: u8,
+        key: &[u8; 8],
+        payload: P,
+        spare: Spare<Place<P>>,
+    )
         requires open { IsOpenFor self.old.table (name_of slot) byte key.now }
+        requires spare { HasSpare self.old.table (name_of slot) spare }
         requires free { 0 < self.old.free }
         ensures adds { GetsLeaf self.old.table self.new.table (name_of slot) byte
             (name_under slot byte) key.now payload }
@@ -26,6 +50,7 @@ impl<P: Drop> Links<P> {
             slot,
             byte,
             Link::Pair(rest_of(key), payload),
+            spare,
         );
         self.pairs += 1;
     }

@@ -1,19 +1,22 @@
-//! A node of `node_table` as one whose children may be pairs: an inner node has a `Place` for each child.
+//! A node of `node_rows` as one whose children may be pairs: an inner node has a `Place` for each child.
 //!
 //! Tested in `test_owned` and `tools/dev/try-commands`.
 
-ghost use Rattle.std.specs.Prelude.{◌≡◌, ◌+◌, length, IfOk, IfErr, OnOk, OnErr, Some, None};
+ghost use Rattle.std.specs.Prelude.{◌≡◌, ◌+◌, ◌<◌, length, IfOk, IfErr, OnOk, OnErr, Some, None};
 ghost use Rattle.spec_map.specs.Map.{lookup};
 ghost use Rattle.node_base.specs.Form.{Fits};
+ghost use Rattle.node_base.specs.declared.base_node.NodeType.TheVariants.{N48};
 ghost use Rattle.node_table.specs.TableNode.{looked_at_ref};
+ghost use Rattle.node_rows.specs.Spare.{IsSpareFor};
 ghost use Rattle.tree_links.specs.LinkNode.{MayLink, looked_at, with_link};
 ghost use Rattle.tree_links.specs.Places.{as_link, as_linked};
 
 use crate::link::{Link, LinkMeeting, LinkRef};
 use crate::linked_node::LinkedNode;
 use node_base::base_node::BaseNode;
+use node_rows::row_node::RowNode;
+use node_rows::spare::Spare;
 use node_table::child::{Child, ChildIter, ChildRef, Meeting};
-use node_table::tree_node::TreeNode;
 use spec_map::error::OOMError;
 use std::alloc::Global;
 
@@ -26,7 +29,7 @@ pub enum Place<P> {
 }
 
 /// A node of a table of links.
-pub type Linked<P> = TreeNode<P, Place<P>>;
+pub type Linked<P> = RowNode<P, Place<P>>;
 
 // A link as a child of a node.
 #[inline(always)]
@@ -64,22 +67,22 @@ fn link_at<'a, P>(child: ChildRef<'a, P, &'a Place<P>>) -> LinkRef<'a, P>
     }
 }
 
-impl<P: Drop> LinkedNode<P> for TreeNode<P, Place<P>> {
+impl<P: Drop> LinkedNode<P> for RowNode<P, Place<P>> {
     ghost use Rattle.tree_links.specs.Places.{as_linked};
 
     ghost node = { as_linked };
 
     fn root(alloc: Global) -> Result<Self, OOMError> {
-        TreeNode::root(alloc)
+        RowNode::root(alloc)
     }
 
     fn empty_inner(prefix: &[u8]) -> Self {
-        TreeNode::empty_inner(prefix)
+        RowNode::empty_inner(prefix)
     }
 
     fn leaf_of(prefix: &[u8], byte: u8, payload: P) -> Self {
-        let mut leaf = TreeNode::empty_leaf(prefix);
-        leaf.insert(byte, Child::Payload(payload));
+        let mut leaf = RowNode::empty_leaf(prefix);
+        leaf.insert(byte, Child::Payload(payload), None);
         leaf
     }
 
@@ -118,6 +121,7 @@ impl<P: Drop> LinkedNode<P> for TreeNode<P, Place<P>> {
         }
     }
 
+    #[inline]
     fn first_from<'a>(&'a self, from: usize) -> Option<(u8, LinkRef<'a, P>)> {
         match self.first_ref_from(from) {
             Some((byte, child)) => Some((byte, link_at(child))),
@@ -125,6 +129,7 @@ impl<P: Drop> LinkedNode<P> for TreeNode<P, Place<P>> {
         }
     }
 
+    #[inline]
     fn last_below<'a>(&'a self, to: usize) -> Option<(u8, LinkRef<'a, P>)> {
         match self.last_ref_below(to) {
             Some((byte, child)) => Some((byte, link_at(child))),
@@ -136,14 +141,20 @@ impl<P: Drop> LinkedNode<P> for TreeNode<P, Place<P>> {
         self.children_between(from, to)
     }
 
+    fn spare(&self, alloc: Global) -> Result<Spare<Place<P>>, OOMError> {
+        self.spare(alloc)
+    }
+
     #[inline(always)]
-    fn insert(&mut self, byte: u8, link: Link<P>)
+    fn insert(&mut self, byte: u8, link: Link<P>, spare: Spare<Place<P>>)
         requires absent { lookup (as_linked self.old).links byte ≡ None }
         requires room { Fits (as_linked self.old).form (length (as_linked self.old).links + 1) }
         requires kind { MayLink (as_linked self.old).prefix link }
+        requires spare { (as_linked self.old).form ≡ N48 → length (as_linked self.old).prefix < 7
+            → IsSpareFor (length (as_linked self.old).links) spare }
         ensures { as_linked self.new ≡ with_link (as_linked self.old) byte link }
     {
-        self.insert(byte, child_of(link));
+        self.insert(byte, child_of(link), spare);
     }
 
     #[inline(always)]

@@ -5,11 +5,13 @@
 ghost use Rattle.std.specs.Prelude.{◌≡◌, ◌≤◌, IfErr, IfNone, IfOk, IfSome, IsSome, OnErr, OnOk};
 ghost use Rattle.slab.specs.Slab.{slab_len, HasRoomFor};
 ghost use Rattle.tree_links.specs.SeenTable.{link_at, links_of};
-ghost use Rattle.tree_links.specs.inner.Slots.{HasLink, ExchangesLink, LacksLink, PutsLink, IsPresentAt, TakesLink, GrowsAt, IsFewAt, ShrinksAt, IsLeafAt, SetsAt, IsAbsentAt, IsFullAt};
+ghost use Rattle.tree_links.specs.inner.Slots.{HasLink, HasSpareAt, ExchangesLink, LacksLink, PutsLink, IsPresentAt, TakesLink, GrowsAt, IsFewAt, ShrinksAt, IsLeafAt, SetsAt, IsAbsentAt, IsFullAt};
 ghost use Rattle.tree_links.specs.declared.link.Link.TheVariants.{Payload};
 
 use crate::link::Link;
 use crate::linked_node::LinkedNode;
+use crate::place::Place;
+use node_rows::spare::Spare;
 use slab::Slab;
 use spec_map::error::OOMError;
 use std::alloc::Global;
@@ -58,15 +60,18 @@ pub(crate) fn exchange_at<P: Drop, N: LinkedNode<P>>(
     }
 }
 
-/// Puts a link under a byte of the node in a slot, which has room and nothing there.
+/// Puts a link under a byte of the node in a slot, which has room and nothing there. `spare` is the row for it, where
+/// the node needs one.
 #[inline(always)]
 pub(crate) fn put_at<P: Drop, N: LinkedNode<P>>(
     nodes: &mut Slab<N>,
     slot: usize,
     byte: u8,
     link: Link<P>,
+    spare: Spare<Place<P>>,
 )
-    requires { LacksLink (links_of N.node nodes.old.slots) slot byte link }
+    requires lacks { LacksLink (links_of N.node nodes.old.slots) slot byte link }
+    requires spare { HasSpareAt (links_of N.node nodes.old.slots) slot spare }
     ensures puts { PutsLink (links_of N.node nodes.old.slots)
         (links_of N.node nodes.new.slots) slot byte link }
     ensures len { slab_len nodes.new ≡ slab_len nodes.old }
@@ -77,7 +82,7 @@ pub(crate) fn put_at<P: Drop, N: LinkedNode<P>>(
     };
     // (for the proof: brings the order of the links into scope)
     let _ = node.base();
-    node.insert(byte, link);
+    node.insert(byte, link, spare);
 }
 
 /// Takes out the link under a byte of the node in a slot, and returns it.

@@ -41,8 +41,8 @@ fn with_both<P: Drop, N: LinkedNode<P>>(
     ensures new_fits { new_byte < 256 }
 {
     let mut node = node;
-    node.insert(old_byte, old);
-    node.insert(new_byte, new);
+    node.insert(old_byte, old, None);
+    node.insert(new_byte, new, None);
     node
 }
 

@@ -1,12 +1,16 @@
 -- What is done to the links of the node in one slot.
-use Rattle.std.specs.Prelude.{◌≡◌, ◌≢◌, ℕ, ◌+◌, [], ◌∷◌, length, Option, Some, None, IsSome}
+use Rattle.std.specs.Prelude.{◌≡◌, ◌≢◌, ℕ, ◌+◌, ◌<◌, [], ◌∷◌, length, Option, Some, None, IsSome}
+use Rattle.std.specs.Global.{Vec}
 use Rattle.std.specs.Option.{option_map}
 use Rattle.spec_map.specs.Map.{lookup, Rises}
 use Rattle.node_base.specs.Form.{Fits, next_form, smaller_form}
+use Rattle.node_base.specs.declared.base_node.NodeType.TheVariants.{N48}
+use Rattle.node_rows.specs.Spare.{IsSpareFor}
 use Rattle.tree_links.specs.LinkNode.{LinkNode, MayLink, with_link, without_link}
 use Rattle.tree_links.specs.SeenTable.{LinkTable, link_at}
 use Rattle.tree_links.specs.declared.link.Link.{Link}
 use Rattle.tree_links.specs.declared.link.Link.TheVariants.{Payload}
+use Rattle.tree_links.specs.declared.place.Place.{Place}
 
 module _ {P : Type 0} where
   -- every slot but this one has what it had
@@ -36,6 +40,11 @@ module _ {P : Type 0} where
     pub absent : lookup node.links byte ≡ None
     pub room : Fits node.form (length node.links + 1)
     pub kind : MayLink node.prefix c
+
+  -- there is a spare row for one link more, where the node in the slot needs one
+  abbrev pub HasSpareAt : LinkTable P → ℕ → Option (Vec (Place P)) → Type 0
+  HasSpareAt t i spare = (n : LinkNode P) → link_at t i ≡ Some n
+      → n.form ≡ N48 → length n.prefix < 7 → IsSpareFor (length n.links) spare
 
   -- it has this link more
   pub record PutsLink (t u : LinkTable P) (i byte : ℕ) (c : Link P) : Type 0 where

@@ -29,16 +29,16 @@ pub returns-in-PairBeside-clause-ready : goal.returns-in-PairBeside-clause-ready
 returns-in-PairBeside-clause-ready g c = λ root h.
     beside_ready _ root _ _ _ _ _ _ _ (at_stop _ _ c.args.spot.now root _ (ends.PairBeside c.in-PairBeside.byte) c.in-PairBeside.is h) _ c.hoist.ensures.moves
 
-pub returns-in_ok-make_place-in-Absent-clause-may : goal.returns-in_ok-make_place-in-Absent-clause-may
-returns-in_ok-make_place-in-Absent-clause-may g c =
+pub returns-in_ok-spare-in-Absent-clause-may : goal.returns-in_ok-spare-in-Absent-clause-may
+returns-in_ok-spare-in-Absent-clause-may g c =
     let q = c.requires.ends in
-    let e = c.in_ok-make_place-in-Absent.ensures in
-    (place_may _ q.0 _ _ _ _ _ _ (at_stop _ _ c.args.spot.now q.0 _ (ends.Absent c.in-Absent.byte) c.in-Absent.is q.1) _ e.ok, e.free)
+    let e = c.in_ok-spare-in-Absent.ensures in
+    (place_may _ q.0 _ _ _ _ _ _ (at_stop _ _ c.args.spot.now q.0 _ (ends.Absent c.in-Absent.byte) c.in-Absent.is q.1) _ e.ok, e.free, e.spare)
 
-pub returns-in_ok-make_place-in-Absent-clause-ready : goal.returns-in_ok-make_place-in-Absent-clause-ready
-returns-in_ok-make_place-in-Absent-clause-ready g c = λ root h.
-    let e = c.in_ok-make_place-in-Absent.ensures in
-    place_ready _ root _ _ _ _ _ _ (at_stop _ _ c.args.spot.now root _ (ends.Absent c.in-Absent.byte) c.in-Absent.is h) _ e.ok _ e.keeps e.grown
+pub returns-in_ok-spare-in-Absent-clause-ready : goal.returns-in_ok-spare-in-Absent-clause-ready
+returns-in_ok-spare-in-Absent-clause-ready g c = λ root h.
+    let e = c.in_ok-spare-in-Absent.ensures in
+    place_ready _ root _ _ _ _ _ _ (at_stop _ _ c.args.spot.now root _ (ends.Absent c.in-Absent.byte) c.in-Absent.is h) _ e.ok c.in_ok-spare-in-Absent.spare _ e.keeps e.grown
 
 pub returns-in_ok-make_two-in-PairDiffers-clause-ready : goal.returns-in_ok-make_two-in-PairDiffers-clause-ready
 returns-in_ok-make_two-in-PairDiffers-clause-ready g c = λ root h.

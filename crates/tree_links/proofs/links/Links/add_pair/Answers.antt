@@ -2,16 +2,23 @@ use Rattle.std.proofs.Common.{arith, sym, subst}
 use Rattle.tree_links.specs.Places.{as_linked}
 use Rattle.tree_links.specs.PairCalls.{IsOpenFor, GetsLeaf}
 use Rattle.tree_links.specs.SeenTable.{links_of, name_of, name_under, seen_table}
+use Rattle.tree_links.specs.Spares.{HasSpare}
 use Rattle.tree_links.specs.declared.link.Link.TheVariants.{Pair}
 use Rattle.tree_links.specs.inner.Slots.{PutsLink}
 use Rattle.tree_links.proofs.CallLaws.{lacks_pair, key_begins, table_is, free_is}
 use Rattle.tree_links.proofs.PairLaws.{gets_leaf}
 use Rattle.tree_links.proofs.PairSums.{pairs-put}
 use Rattle.tree_links.proofs.SeenLaws.{byte_inside}
+use Rattle.tree_links.proofs.SpareLaws.{spare_at}
 use Rattle.tree_links.proofs.links.Links.add_pair.Goals as goal
 
-pub put_at-requires : goal.put_at-requires
-put_at-requires g c =
+pub put_at-requires-clause-spare : goal.put_at-requires-clause-spare
+put_at-requires-clause-spare g c =
+    let t = links_of as_linked c.self.inside.nodes.slots in
+    spare_at t c.args.slot c.args.spare (subst (λ s. HasSpare s (name_of c.args.slot) c.args.spare) (sym (table_is t _ _ _ c.self.view_is)) c.requires.spare)
+
+pub put_at-requires-clause-lacks : goal.put_at-requires-clause-lacks
+put_at-requires-clause-lacks g c =
     let t = links_of as_linked c.self.inside.nodes.slots in
     let e = table_is t _ _ _ c.self.view_is in
     lacks_pair t c.args.slot c.args.byte (byte_inside c.args.byte (omega arith)) c.args.key.now _ _ (subst (λ s. IsOpenFor s (name_of c.args.slot) c.args.byte c.args.key.now) (sym e) c.requires.open)

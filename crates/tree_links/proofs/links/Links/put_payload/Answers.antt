@@ -5,10 +5,17 @@ use Rattle.tree_links.specs.SeenTable.{links_of, name_of, seen_table}
 use Rattle.tree_links.proofs.CallLaws.{table_is}
 use Rattle.tree_links.proofs.PairSums.{pairs-put}
 use Rattle.tree_links.proofs.PayloadLaws.{lacks_payload, puts_payload}
+use Rattle.tree_links.proofs.SpareLaws.{leaf_spare}
 use Rattle.tree_links.proofs.links.Links.put_payload.Goals as goal
 
-pub put_at-requires : goal.put_at-requires
-put_at-requires g c =
+pub put_at-requires-clause-spare : goal.put_at-requires-clause-spare
+put_at-requires-clause-spare g c =
+    let t = links_of as_linked c.self.inside.nodes.slots in
+    leaf_spare t c.args.slot None c.args.byte c.args.payload
+    (lacks_payload t c.args.slot c.args.byte c.args.payload (subst (λ s. HasRoomFor s (name_of c.args.slot) c.args.byte) (sym (table_is t _ _ _ c.self.view_is)) c.requires))
+
+pub put_at-requires-clause-lacks : goal.put_at-requires-clause-lacks
+put_at-requires-clause-lacks g c =
     let t = links_of as_linked c.self.inside.nodes.slots in
     lacks_payload t c.args.slot c.args.byte c.args.payload (subst (λ s. HasRoomFor s (name_of c.args.slot) c.args.byte) (sym (table_is t _ _ _ c.self.view_is)) c.requires)
 

@@ -1,0 +1,18 @@
+use Rattle.std.proofs.Common.{ap, ◌∙◌}
+use Rattle.node_table.specs.declared.child.Child.TheVariants.{Node}
+use Rattle.node_table.proofs.LastLaws.{last-none, last-found, found-present}
+use Rattle.std.specs.Option.{is_some}
+use Rattle.std.proofs.lemmas.Bool.{false≢true}
+use Rattle.node_base.specs.inner.Sorted.{pairs}
+use Rattle.node_rows.proofs.inner_row.last_below.Goals as goal
+
+pub returns-in_default : goal.returns-in_default
+returns-in_default g c = last-none (λ child. Node child) (pairs c.args.head.now.keys c.args.row.now.items) c.args.to c.in_default.ensures
+
+pub unreachable-requires : goal.unreachable-requires
+unreachable-requires g c =
+    let some = found-present (pairs c.args.head.now.keys c.args.row.now.items) c.args.to _ c.in-None.ensures.ascending c.in-Some.ensures in
+    false≢true (ap is_some c.in-None.ensures.found ∙ some)
+
+pub returns : goal.returns
+returns g c = last-found (λ child. Node child) (pairs c.args.head.now.keys c.args.row.now.items) c.args.to _ _ c.in-Some-child.ensures.ascending c.in-Some.ensures c.in-Some-child.ensures.found
