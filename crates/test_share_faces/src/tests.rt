@@ -1,3 +1,4 @@
 mod numbers;
 mod rows;
+mod settled;
 mod threads;

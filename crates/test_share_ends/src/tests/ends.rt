@@ -76,6 +76,7 @@ fn right_rows<L: Ledger, R: Wait>(
     guard: &mut Guard<'_, L>,
 ) -> usize
     requires { guard.old.table ≡ map.now }
+    ensures { guard.new.table ≡ guard.old.table }
 {
     let mut right = 0;
     for (call, expected) in ROWS {
