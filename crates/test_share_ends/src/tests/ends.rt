@@ -157,6 +157,9 @@ fn typed_rows<L: Ledger, R: Wait>(
     if map.above(rt, guard, &7) != Some((9, 90)) {
         wrong = 4;
     }
+    if map.below(rt, guard, &9) != Some((7, 70)) {
+        wrong = 8;
+    }
     if map.pop_last(rt, guard) != Some((9, 90)) {
         wrong = 5;
     }
