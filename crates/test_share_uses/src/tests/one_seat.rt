@@ -38,6 +38,10 @@ impl<P, T, M: Lent<P, T>> Lent<P, T> for OneSeat<M> {
 
     ghost place = { λ s. M.place s.under };
 
+    fn law_one_content(&self) {
+        self.under.law_one_content();
+    }
+
     fn again(answer: &P) -> Result<P, OOMError> {
         M::again(answer)
     }
@@ -114,6 +118,8 @@ impl<P, T, M: Snapshots<P, T>> Snapshots<P, T> for OneSeat<M> {
 }
 
 impl<M: Pages> Pages for OneSeat<M> {
+    ghost at_once = { M.at_once };
+
     fn numbers_mean_themselves() {
         M::numbers_mean_themselves();
     }
