@@ -9,8 +9,11 @@ pub use Rattle.live_calls.specs.Exchanges
 pub use Rattle.live_faces.specs.Returned
 pub use Rattle.live_law.specs.Known as LiveKnown
 pub use Rattle.live_law.specs.Views as LiveViews
+pub use Rattle.share_backend.specs.Reads
 pub use Rattle.share_calls.specs.Computed
+pub use Rattle.share_faces.specs.Returned as SharedReturned
 pub use Rattle.share_guards.specs.Operations
+pub use Rattle.share_holds.specs.Moments
 pub use Rattle.share_laws.specs.Keys
 pub use Rattle.share_rule.specs.History
 pub use Rattle.share_rule.specs.Known

@@ -1,3 +1,4 @@
 pub mod Changing
 pub mod Stages
 pub mod Owners
+pub mod Reads

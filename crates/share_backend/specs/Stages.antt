@@ -2,7 +2,7 @@
 use Rattle.std.specs.Prelude.{◌≡◌, ℕ, Bool, [], ◌∷◌, Option, Some, ◌⊎◌}
 use Rattle.spec_map.specs.Call.{Operation, replied}
 use Rattle.spec_map.specs.Legal.{IsLegal}
-use Rattle.spec_map.specs.Map.{Pairs}
+use Rattle.spec_map.specs.Map.{Pairs, lookup}
 use Rattle.spec_map.specs.Refusal.{never}
 use Rattle.spec_olc.specs.Calls.{Outline, IsPoint, map_call, map_asked, map_reply, asked_of}
 use Rattle.spec_olc.specs.declared.types.Asking.{Asking}
@@ -78,7 +78,8 @@ module _ {M : Type 0} (same : M → M → Bool) where
   Decides (Running o op s) m reply n = IsLegal same never m (operation_by op (asked_of s) reply ∷ []) n
   Decides p m reply n = Unit {0}
 
-  -- the content after an event: only a decision changes it
+  -- the content after an event: only a decision changes it. A pair that a range gives is stored then
   abbrev pub Changes : CallStage M → Pairs M → Pairs M → Outcome M → Type 0
   Changes p m n (Decided reply) = Decides p m reply n
+  Changes p m n (Pair key value) = (n ≡ m) × (lookup m key ≡ Some value)
   Changes p m n _ = n ≡ m

@@ -48,6 +48,10 @@ pub trait Lent<P, T>: Drop {
     // What is known of each number that is seated.
     ghost place: { Self → ℕ → Option (CallStage T) };
 
+    /// The law that it has one content.
+    fn law_one_content(&self)
+        ensures { (m : Pairs T) (n : Pairs T) → content self.now m → content self.now n → n ≡ m };
+
     /// One more share of what a closure answered, or `OOMError`.
     fn again(answer: &P) -> Result<P, OOMError>
         ensures { IfOk result (λ copy. meaning copy ≡ meaning answer.now) };

@@ -2,15 +2,16 @@
 //!
 //! Tested in `share_maps` and `test_share_hostile`.
 
-ghost use Rattle.std.specs.Prelude.{◌≡◌, ◌+◌, ◌++◌, ℕ, [], Some, None, IfOk, IfSome, MatchOption, length, map, min, take, drop};
+ghost use Rattle.std.specs.Prelude.{◌≡◌, ◌+◌, ℕ, [], Some, None, IfOk, IfSome, IsSome, IsTrue, MatchOption, length, map};
 ghost use Rattle.std.specs.Arc.{arc_value};
-ghost use Rattle.spec_map.specs.Map.{Pairs, between, IsMap};
+ghost use Rattle.spec_map.specs.Map.{Pairs, IsMap};
 ghost use Rattle.node_stats.specs.LevelCounts.{capped};
 ghost use Rattle.node_stats.specs.Stats.{IsTally};
 ghost use Rattle.node_stats.specs.Visits.{visits_below};
 ghost use Rattle.spec_olc.specs.Runs.{same_number};
 ghost use Rattle.tree_walk.specs.Scan.{from_key, first_pair};
 ghost use Rattle.share_backend.specs.Owners.{never_same};
+ghost use Rattle.share_backend.specs.Reads.{IsPage};
 
 use crate::lent::Lent;
 use node_stats::NodeStats;
@@ -64,6 +65,11 @@ pub trait Snapshots<P, T>: Lent<P, T> {
 
 /// A map of numbers, and what is read of it at one moment.
 pub trait Pages: Snapshots<u64, u64> {
+    ghost use Rattle.std.specs.Prelude.{Bool};
+
+    // Whether a range is read at one moment: then each has its page.
+    ghost at_once: { Bool };
+
     /// A number represents itself, and is compared as a number.
     fn numbers_mean_themselves()
         ensures meaning { Self.meaning ≡ (λ n. n) }
@@ -74,10 +80,9 @@ pub trait Pages: Snapshots<u64, u64> {
     /// events: then nothing is written.
     fn page<E: RangeEntry>(&self, start: u64, end: u64, buffer: &mut [E]) -> Option<usize>
         ensures written { IfSome result (λ count. (m : Pairs ℕ) × Self.content self.now m
-            × (count ≡ min (length buffer.old) (length (between m start end)))
-            × (buffer.new ≡ take count (map (λ pair. E.entry pair.0 pair.1) (between m start end))
-            ++ drop count buffer.old)) }
-        ensures none { result ≡ None → buffer.new ≡ buffer.old };
+            × IsMap m × IsPage E.entry start end m buffer.old count buffer.new) }
+        ensures none { result ≡ None → buffer.new ≡ buffer.old }
+        ensures at_once { IsTrue at_once → IsSome result };
 }
 
 /// A map of owners.

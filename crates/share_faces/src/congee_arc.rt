@@ -4,7 +4,7 @@
 
 ghost use Rattle.std.specs.Prelude.{◌≡◌, ◌≢◌, ◌+◌, ◌^◌, [], IfOk, OnErr, MatchResult, map};
 ghost use Rattle.std.specs.Arc.{arc_value};
-ghost use Rattle.spec_map.specs.Call.{get, insert, old_value, remove};
+ghost use Rattle.spec_map.specs.Call.{count, counted, get, insert, old_value, remove};
 ghost use Rattle.spec_map.specs.Map.{Pairs, IsMap};
 ghost use Rattle.spec_olc.specs.Meaning.{in_some};
 ghost use Rattle.share_backend.specs.Owners.{never_same};
@@ -129,7 +129,9 @@ impl<L: Ledger, K: Word, V: Send + Sync + Drop + 'static, M: Owners<V>> CongeeAr
     }
 
     /// Frees a caller's seat. A guard that is dropped instead keeps its seat until the map ends.
-    pub fn unpin<R: Wait>(&self, rt: &R, guard: OwnerGuard<'_, L, V, M>) {
+    pub fn unpin<R: Wait>(&self, rt: &R, guard: OwnerGuard<'_, L, V, M>)
+        requires map { guard.table ≡ self.now }
+    {
         guard.unpin(rt);
     }
 
@@ -310,6 +312,24 @@ impl<L: Ledger, K: Word, V: Send + Sync + Drop + 'static, M: Owners<V>> CongeeAr
             (λ s. (share.weight ≢ 2 ^ 63) × (s ≡ share)) }
     {
         self.raw.settle(rt, share)
+    }
+
+    /// `settle` as an entry of the history, exactly if the share has the whole weight. Otherwise returns the share, and
+    /// it is no entry.
+    pub fn settle_recorded<R: Wait>(
+        &self,
+        rt: &R,
+        guard: &mut OwnerGuard<'_, L, V, M>,
+        share: Share<L>,
+    ) -> Result<u128, Share<L>>
+        requires map { guard.old.table ≡ self.now }
+        ensures map { guard.new.table ≡ guard.old.table }
+        ensures settled { MatchResult result
+            (λ n. (share.weight ≡ 2 ^ 63)
+            × MadeCall never_same guard.old (returned count (counted n)) guard.new)
+            (λ s. (share.weight ≢ 2 ^ 63) × (s ≡ share) × (guard.new ≡ guard.old)) }
+    {
+        self.raw.settle_recorded(rt, guard, share)
     }
 
     /// The keys at one moment, ascending, each read back from its number. No owner is counted for it. `OOMError` if

@@ -2,15 +2,16 @@
 //!
 //! Tested in `share_maps` and `test_share_hostile`.
 
-ghost use Rattle.std.specs.Prelude.{◌≡◌, ◌≢◌, ℕ, ◌≤◌, ◌+◌, ◌^◌, [], length, IfOk, IfSome, OnErr, MatchResult, map};
-ghost use Rattle.spec_map.specs.Call.{get, insert, remove};
+ghost use Rattle.std.specs.Prelude.{◌≡◌, ◌≢◌, ℕ, ◌≤◌, ◌+◌, ◌^◌, [], length, IfOk, IfSome, IsTrue, OnErr, MatchResult, map};
+ghost use Rattle.spec_map.specs.Call.{count, counted, get, insert, remove};
 ghost use Rattle.spec_map.specs.Map.{Pairs, IsMap};
 ghost use Rattle.spec_olc.specs.Meaning.{in_some};
 ghost use Rattle.spec_olc.specs.Runs.{same_number};
 ghost use Rattle.share_state.specs.Held.{inserted, removed};
 ghost use Rattle.share_rule.specs.Known.{MadeCall, SeenMore};
 ghost use Rattle.share_holds.specs.Closures.{Reaches};
-ghost use Rattle.share_guards.specs.Operations.{computed_with};
+ghost use Rattle.share_holds.specs.Moments.{HasPage, HasRange};
+ghost use Rattle.share_guards.specs.Operations.{computed_with, returned};
 ghost use Rattle.share_faces.specs.Returned.{ReturnsExchanged, ReturnsInserted, ReturnsOld};
 
 mod ends;
@@ -152,7 +153,9 @@ impl<L: Ledger, K: Word, V: Word, M: Pages, D: Drainer<K, V>> Congee<L, K, V, M,
     }
 
     /// Frees a caller's seat. A guard that is dropped instead keeps its seat until the map ends.
-    pub fn unpin<R: Wait>(&self, rt: &R, guard: Guard<'_, L, M>) {
+    pub fn unpin<R: Wait>(&self, rt: &R, guard: Guard<'_, L, M>)
+        requires map { guard.table ≡ self.now }
+    {
         guard.unpin(rt);
     }
 
@@ -314,6 +317,11 @@ impl<L: Ledger, K: Word, V: Word, M: Pages, D: Drainer<K, V>> Congee<L, K, V, M,
         requires map { guard.old.table ≡ self.now }
         ensures same { guard.new ≡ guard.old }
         ensures count { result ≤ length buffer.old }
+        ensures written { HasRange same_number guard.old.seen (λ key value. (key, value))
+            (K.number start.now) (K.number end.now) result buffer.new }
+        ensures at_once { IsTrue M.at_once → HasPage same_number guard.old.seen
+            (λ key value. (key, value)) (K.number start.now) (K.number end.now)
+            buffer.old result buffer.new }
         ensures room { length buffer.new ≡ length buffer.old }
     {
         self.range_of(rt, guard, start.into_u64(), end.into_u64(), buffer)
@@ -331,6 +339,10 @@ impl<L: Ledger, K: Word, V: Word, M: Pages, D: Drainer<K, V>> Congee<L, K, V, M,
         requires map { guard.old.table ≡ self.now }
         ensures same { guard.new ≡ guard.old }
         ensures count { result ≤ length buffer.old }
+        ensures written { HasRange same_number guard.old.seen E.entry start end
+            result buffer.new }
+        ensures at_once { IsTrue M.at_once → HasPage same_number guard.old.seen E.entry
+            start end buffer.old result buffer.new }
         ensures room { length buffer.new ≡ length buffer.old }
     {
         self.raw.range(rt, guard, start, end, buffer)
@@ -417,6 +429,24 @@ impl<L: Ledger, K: Word, V: Word, M: Pages, D: Drainer<K, V>> Congee<L, K, V, M,
             (λ s. (share.weight ≢ 2 ^ 63) × (s ≡ share)) }
     {
         self.raw.settle(rt, share)
+    }
+
+    /// `settle` as an entry of the history, exactly if the share has the whole weight. Otherwise returns the share, and
+    /// it is no entry.
+    pub fn settle_recorded<R: Wait>(
+        &self,
+        rt: &R,
+        guard: &mut Guard<'_, L, M>,
+        share: Share<L>,
+    ) -> Result<u128, Share<L>>
+        requires map { guard.old.table ≡ self.now }
+        ensures map { guard.new.table ≡ guard.old.table }
+        ensures settled { MatchResult result
+            (λ n. (share.weight ≡ 2 ^ 63)
+            × MadeCall same_number guard.old (returned count (counted n)) guard.new)
+            (λ s. (share.weight ≢ 2 ^ 63) × (s ≡ share) × (guard.new ≡ guard.old)) }
+    {
+        self.raw.settle_recorded(rt, guard, share)
     }
 
     /// The keys at one moment, ascending, each read back from its number.

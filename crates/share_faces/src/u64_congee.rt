@@ -2,12 +2,15 @@
 //!
 //! Tested in `share_maps` and `test_share_hostile`.
 
-ghost use Rattle.std.specs.Prelude.{◌≡◌, ◌≢◌, ℕ, ◌≤◌, ◌+◌, ◌^◌, [], length, IfOk, OnErr, MatchResult, map};
-ghost use Rattle.spec_map.specs.Call.{get, insert, remove};
+ghost use Rattle.std.specs.Prelude.{◌≡◌, ◌≢◌, ℕ, ◌≤◌, ◌+◌, ◌^◌, [], length, IfOk, IsTrue, OnErr, MatchResult, map};
+ghost use Rattle.std.specs.Int.{to_be_bytes, w64};
+ghost use Rattle.spec_map.specs.Call.{count, counted, get, insert, remove};
 ghost use Rattle.spec_map.specs.Map.{Pairs, IsMap};
 ghost use Rattle.spec_olc.specs.Runs.{same_number};
 ghost use Rattle.share_state.specs.Held.{inserted, removed};
-ghost use Rattle.share_rule.specs.Known.{SeenMore};
+ghost use Rattle.share_rule.specs.Known.{MadeCall, SeenMore};
+ghost use Rattle.share_holds.specs.Moments.{HasPage, HasRange};
+ghost use Rattle.share_guards.specs.Operations.{returned};
 ghost use Rattle.share_faces.specs.Returned.{ReturnsOld};
 
 mod ends;
@@ -91,7 +94,9 @@ impl<L: Ledger, V: Word, M: Pages> U64Congee<L, V, M> {
     }
 
     /// Frees a caller's seat. A guard that is dropped instead keeps its seat until the map ends.
-    pub fn unpin<R: Wait>(&self, rt: &R, guard: Guard<'_, L, M>) {
+    pub fn unpin<R: Wait>(&self, rt: &R, guard: Guard<'_, L, M>)
+        requires map { guard.table ≡ self.now }
+    {
         self.map.unpin(rt, guard);
     }
 
@@ -231,6 +236,11 @@ impl<L: Ledger, V: Word, M: Pages> U64Congee<L, V, M> {
         requires map { guard.old.table ≡ self.now }
         ensures same { guard.new ≡ guard.old }
         ensures count { result ≤ length buffer.old }
+        ensures written { HasRange same_number guard.old.seen
+            (λ key value. (to_be_bytes w64 key, value)) start end result buffer.new }
+        ensures at_once { IsTrue M.at_once → HasPage same_number guard.old.seen
+            (λ key value. (to_be_bytes w64 key, value)) start end
+            buffer.old result buffer.new }
         ensures room { length buffer.new ≡ length buffer.old }
     {
         self.map.range_of(rt, guard, start, end, buffer)
@@ -244,6 +254,24 @@ impl<L: Ledger, V: Word, M: Pages> U64Congee<L, V, M> {
             (λ s. (share.weight ≢ 2 ^ 63) × (s ≡ share)) }
     {
         self.map.settle(rt, share)
+    }
+
+    /// `settle` as an entry of the history, exactly if the share has the whole weight. Otherwise returns the share, and
+    /// it is no entry.
+    pub fn settle_recorded<R: Wait>(
+        &self,
+        rt: &R,
+        guard: &mut Guard<'_, L, M>,
+        share: Share<L>,
+    ) -> Result<u128, Share<L>>
+        requires map { guard.old.table ≡ self.now }
+        ensures map { guard.new.table ≡ guard.old.table }
+        ensures settled { MatchResult result
+            (λ n. (share.weight ≡ 2 ^ 63)
+            × MadeCall same_number guard.old (returned count (counted n)) guard.new)
+            (λ s. (share.weight ≢ 2 ^ 63) × (s ≡ share) × (guard.new ≡ guard.old)) }
+    {
+        self.map.settle_recorded(rt, guard, share)
     }
 
     /// The keys at one moment, ascending. `OOMError` if there is no memory for the list.

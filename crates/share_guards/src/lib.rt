@@ -14,4 +14,5 @@ pub mod pin;
 pub mod range;
 pub mod raw;
 pub mod reads;
+pub mod settling;
 pub mod whole;

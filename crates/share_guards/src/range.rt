@@ -2,7 +2,8 @@
 //!
 //! Tested in `test_share_guards` and `share_maps/guards`.
 
-ghost use Rattle.std.specs.Prelude.{◌≡◌, ◌≤◌, length};
+ghost use Rattle.std.specs.Prelude.{◌≡◌, ◌≤◌, IsTrue, length};
+ghost use Rattle.share_holds.specs.Moments.{HasPage, HasRange};
 
 use crate::raw::{Guard, Raw};
 use share_backend::snapshots::Pages;
@@ -27,6 +28,10 @@ impl<L: Ledger, M: Pages> Raw<L, u64, u64, M> {
         requires map { guard.old.table ≡ self.now }
         ensures same { guard.new ≡ guard.old }
         ensures count { result ≤ length buffer.old }
+        ensures written { HasRange M.same guard.old.seen E.entry start end result
+            buffer.new }
+        ensures at_once { IsTrue M.at_once → HasPage M.same guard.old.seen E.entry start end
+            buffer.old result buffer.new }
         ensures room { length buffer.new ≡ length buffer.old }
     {
         if let Some(found) = self.page(rt, guard, start, end, buffer) {

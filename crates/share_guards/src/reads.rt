@@ -3,9 +3,10 @@
 //!
 //! Tested in `test_share_guards` and `share_maps/guards`.
 
-ghost use Rattle.std.specs.Prelude.{◌≡◌, ◌≢◌, ◌++◌, ◌^◌, ℕ, [], None, IfOk, IfSome, MatchResult, length, map, min, take, drop};
-ghost use Rattle.spec_map.specs.Map.{Pairs, IsMap, between};
+ghost use Rattle.std.specs.Prelude.{◌≡◌, ◌≢◌, ◌^◌, ℕ, [], None, IfOk, IfSome, IsSome, IsTrue, MatchResult, map};
+ghost use Rattle.spec_map.specs.Map.{Pairs, IsMap};
 ghost use Rattle.share_rule.specs.inner.Steps.{IsIdle, at_of, seen_of};
+ghost use Rattle.share_holds.specs.Moments.{HasPage};
 
 use crate::raw::{Guard, Raw};
 use crossbeam_utils::Backoff;
@@ -85,7 +86,7 @@ impl<L: Ledger, P: Drop, T, M: Snapshots<P, T>> Raw<L, P, T, M> {
 
 impl<L: Ledger, M: Pages> Raw<L, u64, u64, M> {
     /// Writes the first pairs with `start <= key < end`, keys ascending, as many as there are or as fit, and returns their
-    /// number. They are those of one moment. `None` if a range is a call of many events: then nothing is written.
+    /// number. They are those of one moment, which is none before what the guard has seen. `None` if a range is a call of many events: then nothing is written.
     pub fn page<R: Wait, E: RangeEntry>(
         &self,
         rt: &R,
@@ -96,11 +97,10 @@ impl<L: Ledger, M: Pages> Raw<L, u64, u64, M> {
     ) -> Option<usize>
         requires map { guard.old.table ≡ self.now }
         ensures guard { guard.new ≡ guard.old }
-        ensures written { IfSome result (λ count. (m : Pairs ℕ)
-            × (count ≡ min (length buffer.old) (length (between m start end)))
-            × (buffer.new ≡ take count (map (λ pair. E.entry pair.0 pair.1) (between m start end))
-            ++ drop count buffer.old)) }
+        ensures written { IfSome result (λ count. HasPage M.same guard.old.seen E.entry
+            start end buffer.old count buffer.new) }
         ensures none { result ≡ None → buffer.new ≡ buffer.old }
+        ensures at_once { IsTrue M.at_once → IsSome result }
     {
         snapshots::page(&self.lock, rt, &mut guard.seat, start, end, buffer)
     }

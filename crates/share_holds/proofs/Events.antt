@@ -53,7 +53,7 @@ module _ {T S : Type 0} (same : T → T → Bool) (content : S → Pairs T → T
       → ((c : Pairs T) → content x c → (n : Pairs T) × content y n × Changes same (Running o op Fresh) c n out) → MayRelease place (operations_in op out) (Some id) same content m1 y
   open_may m m1 x y id o op Going t others on = quiet_may same content place m m1 x y (Some id) t (keeps_if x y (Running o op Fresh) Going (λ a b e. e) on) others
   open_may m m1 x y id o op (Ask old) t others on = quiet_may same content place m m1 x y (Some id) t (keeps_if x y (Running o op Fresh) (Ask old) (λ a b e. e) on) others
-  open_may m m1 x y id o op (Pair key value) t others on = quiet_may same content place m m1 x y (Some id) t (keeps_if x y (Running o op Fresh) (Pair key value) (λ a b e. e) on) others
+  open_may m m1 x y id o op (Pair key value) t others on = quiet_may same content place m m1 x y (Some id) t (keeps_if x y (Running o op Fresh) (Pair key value) (λ a b e. e.0) on) others
   open_may m m1 x y id o op (Decided r) t others on = made_may same content place m m1 x y (Some id) (operation_by op None r) t on others
   open_may m m1 x y id o op Refused t others on = quiet_may same content place m m1 x y (Some id) t (keeps_if x y (Running o op Fresh) Refused (λ a b e. e) on) others
   open_may m m1 x y id o op Done t others on = quiet_may same content place m m1 x y (Some id) t (keeps_if x y (Running o op Fresh) Done (λ a b e. e) on) others
@@ -110,7 +110,7 @@ module _ {T S : Type 0} (same : T → T → Bool) (content : S → Pairs T → T
       → ((c : Pairs T) → content x c → (n : Pairs T) × content y n × Changes same (Running o op s) c n out) → MayRelease place (operations_at (Some (id, Running o op s)) out) (Some id) same content m1 y
   run_may m m1 x y id o op s Going t others on = quiet_may same content place m m1 x y (Some id) t (keeps_if x y (Running o op s) Going (λ a b e. e) on) others
   run_may m m1 x y id o op s (Ask old) t others on = quiet_may same content place m m1 x y (Some id) t (keeps_if x y (Running o op s) (Ask old) (λ a b e. e) on) others
-  run_may m m1 x y id o op s (Pair key value) t others on = quiet_may same content place m m1 x y (Some id) t (keeps_if x y (Running o op s) (Pair key value) (λ a b e. e) on) others
+  run_may m m1 x y id o op s (Pair key value) t others on = quiet_may same content place m m1 x y (Some id) t (keeps_if x y (Running o op s) (Pair key value) (λ a b e. e.0) on) others
   run_may m m1 x y id o op s (Decided r) t others on = made_may same content place m m1 x y (Some id) (operation_by op (asked_of s) r) t on others
   run_may m m1 x y id o op s Refused t others on = quiet_may same content place m m1 x y (Some id) t (keeps_if x y (Running o op s) Refused (λ a b e. e) on) others
   run_may m m1 x y id o op s Done t others on = quiet_may same content place m m1 x y (Some id) t (keeps_if x y (Running o op s) Done (λ a b e. e) on) others
@@ -120,7 +120,13 @@ module _ {T S : Type 0} (same : T → T → Bool) (content : S → Pairs T → T
       → Released place (operations_at (Some (id, Running o op s)) out) (Some id) m1 y m2 → AfterEvent id o same op s a k out m m2
   run_then m m1 m2 x y id o op s a k Going t h r = let w = h.turns in (w.0, w.1, w.2, knows m m1 m2 x y (Some id) _ t r (ap (with_number id) w.3))
   run_then m m1 m2 x y id o op s a k (Ask old) t h r = knows m m1 m2 x y (Some id) _ t r (ap (with_number id) h.turns)
-  run_then m m1 m2 x y id o op s a k (Pair key value) t h r = let w = h.turns in (w.0, (w.1.0, knows m m1 m2 x y (Some id) _ t r (ap (with_number id) w.1.1)))
+  run_then m m1 m2 x y id o op s a k (Pair key value) t h r =
+      let w = h.turns in
+      let on = h.content_on t.leads.end t.leads.contains in (
+        w.0,
+        (w.1.0, knows m m1 m2 x y (Some id) _ t r (ap (with_number id) w.1.1)),
+        (t.history, t.leads.end, t.fit.begins, t.leads.run, on.2.1),
+      )
   run_then m m1 m2 x y id o op s a k (Decided reply) t h r =
       let q = made_then same content place m m1 m2 x y (Some id) (operation_by op (asked_of s) reply) t h.content_on r in record { made = q.0; at_is = q.1 ∙ ap (with_number id) h.turns }
   run_then m m1 m2 x y id o op s a k Refused t h r = knows m m1 m2 x y (Some id) _ t r (ap (with_number id) h.turns)
@@ -159,7 +165,7 @@ module _ {T S : Type 0} (same : T → T → Bool) (content : S → Pairs T → T
     over_same : (o : Outline) (p : CallStage T) (q : Option (CallStage T)) (c d : Pairs T) (out : Outcome T) → TurnsEnded o p q out → Changes same p c d out → d ≡ c
     over_same o p q c d Going w e = e
     over_same o p q c d (Ask old) w e = e
-    over_same o p q c d (Pair key value) w e = e
+    over_same o p q c d (Pair key value) w e = e.0
     over_same o p q c d (Decided reply) w e = absurd w
     over_same o p q c d Refused w e = e
     over_same o p q c d Done w e = e

@@ -6,6 +6,7 @@ use Rattle.share_backend.specs.Stages.{operation_by}
 use Rattle.share_backend.specs.declared.lent.CallStage.{CallStage}
 use Rattle.share_backend.specs.declared.lent.CallStage.TheVariants.{Ready, Running, Denied}
 use Rattle.share_holds.proofs.Last.{last_allowed}
+use Rattle.share_holds.specs.Moments.{WasStored}
 use Rattle.share_holds.specs.inner.Events.{AfterEvent, AfterFirst, KnowsOf}
 use Rattle.share_rule.specs.History.{Entry, entry, operations_of}
 use Rattle.share_rule.specs.inner.SeatView.{SeatView}
@@ -60,6 +61,10 @@ module _ {P T S : Type 0} (meaning : P → T) (same : T → T → Bool) (id a b 
 
     pub pair_range : (key : ℕ) (value : P) → out ≡ Pair key value → (t : Asking T) × Runs t
     pair_range key value e = (subst After e after).1
+
+    -- the pair was stored
+    pub pair_stored : (key : ℕ) (value : P) → out ≡ Pair key value → WasStored same (seen_of m.0) key (meaning value)
+    pair_stored key value e = (subst After e after).2
 
     pub asked_range : (old : Option P) → out ≡ Ask old → (t : Asking T) × Runs t
     asked_range old e = (Wants (in_some meaning old), subst After e after)

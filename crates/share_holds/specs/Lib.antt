@@ -1,3 +1,4 @@
 pub mod Closures
+pub mod Moments
 pub mod Replies
 pub mod inner

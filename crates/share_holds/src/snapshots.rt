@@ -2,9 +2,10 @@
 //!
 //! Tested in `share_maps` and `test_share_hostile`.
 
-ghost use Rattle.std.specs.Prelude.{◌≡◌, ◌≢◌, ◌++◌, ◌^◌, ℕ, None, IfOk, IfSome, MatchResult, length, map, min, take, drop};
-ghost use Rattle.spec_map.specs.Map.{Pairs, IsMap, between};
-ghost use Rattle.share_rule.specs.inner.Steps.{IsIdle, at_of};
+ghost use Rattle.std.specs.Prelude.{◌≡◌, ◌≢◌, ◌^◌, ℕ, None, IfOk, IfSome, IsSome, IsTrue, MatchResult, map};
+ghost use Rattle.spec_map.specs.Map.{Pairs, IsMap};
+ghost use Rattle.share_rule.specs.inner.Steps.{IsIdle, at_of, seen_of};
+ghost use Rattle.share_holds.specs.Moments.{HasPage};
 ghost use Rattle.share_holds.specs.inner.Events.{KnowsOf};
 
 use crate::holds::{MapLock, MapSeat};
@@ -119,11 +120,10 @@ pub fn page<L: Ledger, M: Pages, R: Wait, E: RangeEntry>(
     requires idle { IsIdle seat.old.me }
     ensures table { seat.new.table_id ≡ seat.old.table_id }
     ensures known { KnowsOf (at_of seat.old.me.0) seat.old.me seat.new.me }
-    ensures written { IfSome result (λ count. (m : Pairs ℕ)
-        × (count ≡ min (length buffer.old) (length (between m start end)))
-        × (buffer.new ≡ take count (map (λ pair. E.entry pair.0 pair.1) (between m start end))
-        ++ drop count buffer.old)) }
+    ensures written { IfSome result (λ count. HasPage M.same (seen_of seat.old.me.0) E.entry
+        start end buffer.old count buffer.new) }
     ensures none { result ≡ None → buffer.new ≡ buffer.old }
+    ensures at_once { IsTrue M.at_once → IsSome result }
 {
     lock.take(rt, seat);
     let Some(under) = seat.slot_mut(lock.table(), 0) else {

@@ -1,4 +1,6 @@
+mod Contents
 mod Deciding
+mod Giving
 mod Seating
 mod Stepping
 mod Turning

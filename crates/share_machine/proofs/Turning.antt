@@ -30,6 +30,7 @@ use Rattle.share_backend.specs.declared.lent.CallStage.{CallStage}
 use Rattle.share_backend.specs.declared.lent.CallStage.TheVariants.{Ready, Settled, Denied}
 use Rattle.share_backend.specs.Stages.{TakesAnswer, Follows, Turns, Decides, Changes}
 use Rattle.share_machine.specs.Places.{staged, stage_of, place_of, place_in}
+use Rattle.share_machine.proofs.Giving.{IsGiven}
 
 by_ok : {X : Type 0} → (ok : Bool) → (IsTrue ok → X) → (ok ≡ false → X) → X
 by_ok true good bad = good refl
@@ -300,15 +301,15 @@ module _ {M : Type 0} where
   decides_so same m n call op reply progress.Decided h = tt
   decides_so same m n call op reply progress.Refused h = tt
 
-  changes_by : (same : M → M → Bool) (m n : Pairs M) (call : CallState M) (out : Outcome M) → ContentAfter same m n call out → Changes same (stage_of call) m n out
-  changes_by same m n call Going h = h
-  changes_by same m n call (Ask old) h = h
-  changes_by same m n call (Pair key value) h = h
-  changes_by same m n call (Decided reply) h =
+  changes_by : (same : M → M → Bool) (old : State M) (m n : Pairs M) (call : CallState M) (out : Outcome M) → IsContent old m → IsGiven old out → ContentAfter same m n call out → Changes same (stage_of call) m n out
+  changes_by same old m n call Going c given h = h
+  changes_by same old m n call (Ask asked) c given h = h
+  changes_by same old m n call (Pair key value) c given h = (h, (c.pairs key value).1 given)
+  changes_by same old m n call (Decided reply) c given h =
       subst (λ (o : Option (Op M)). Decides same (staged call.outline o call.progress call.asking) m reply n) (sym h.op_is) (decides_so same m n call h.op reply call.progress h)
-  changes_by same m n call Refused h = h
-  changes_by same m n call Done h = h
-  changes_by same m n call Unknown h = h
+  changes_by same old m n call Refused c given h = h
+  changes_by same old m n call Done c given h = h
+  changes_by same old m n call Unknown c given h = h
 
   -- what is known of a number that is seated
   record Known (s : State M) (id : ℕ) (p : CallStage M) : Type 0 where
@@ -340,9 +341,9 @@ module _ {M : Type 0} where
       λ i. place_of (is_in k (seats i)) (calls i)
 
   -- THE CONTENT after it
-  pub changed : (same : M → M → Bool) (m : Pairs M) (old new : State M) (id : ℕ) (out : Outcome M) → IsContentStep same m old new id out
+  pub changed : (same : M → M → Bool) (m : Pairs M) (old new : State M) (id : ℕ) (out : Outcome M) → IsContent old m → IsGiven old out → IsContentStep same m old new id out
       → (p : CallStage M) → place_in old id ≡ Some p → (n : Pairs M) × IsContent new n × Changes same p m n out
-  changed same m old new id out h p here =
+  changed same m old new id out content given h p here =
       let known = known_by (is_in id old.seats) (lookup old.calls id) p here in
       let p_is : stage_of h.call ≡ p = some_is (stage_of h.call) p (ap (place_of true) (sym h.in_flight) ∙ known.1) in
-      (h.content, h.content_is, subst (λ (x : CallStage M). Changes same x m h.content out) p_is (changes_by same m h.content h.call out h.carries))
+      (h.content, h.content_is, subst (λ (x : CallStage M). Changes same x m h.content out) p_is (changes_by same old m h.content h.call out content given h.carries))

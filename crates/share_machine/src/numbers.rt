@@ -42,6 +42,8 @@ impl<A: Allocator> Lent<u64, u64> for Events<u64, A> {
 
     ghost place = { λ s. place_in (meant (λ x. x) s.machine) };
 
+    fn law_one_content(&self) {}
+
     fn again(answer: &u64) -> Result<u64, OOMError> {
         Ok(*answer)
     }
@@ -112,6 +114,10 @@ impl<A: Allocator> Snapshots<u64, u64> for Events<u64, A> {
 }
 
 impl<A: Allocator> Pages for Events<u64, A> {
+    ghost use Rattle.std.specs.Prelude.{false};
+
+    ghost at_once = { false };
+
     fn numbers_mean_themselves() {}
 
     // A range is a call of many events.

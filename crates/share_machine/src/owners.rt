@@ -43,6 +43,8 @@ impl<V: Drop, A: Allocator> Lent<Arc<V>, V> for Events<Arc<V>, A> {
 
     ghost place = { λ s. place_in (meant (λ x. arc_value x) s.machine) };
 
+    fn law_one_content(&self) {}
+
     fn again(answer: &Arc<V>) -> Result<Arc<V>, OOMError> {
         Ok(answer.clone()?)
     }

@@ -81,7 +81,7 @@ module _ {P M : Type 0} (meaning : P → M) where
     opened_counts op (Decided reply) h = legal_counts op None reply h
     opened_counts op Going h = quiet_counts h
     opened_counts op (Ask old) h = quiet_counts h
-    opened_counts op (Pair k v) h = quiet_counts h
+    opened_counts op (Pair k v) h = quiet_counts h.0
     opened_counts op Refused h = quiet_counts h
     opened_counts op Done h = quiet_counts h
     opened_counts op Unknown h = quiet_counts h
@@ -111,7 +111,7 @@ module _ {P M : Type 0} (meaning : P → M) where
     turned_counts op seat answer k q (Decided reply) is t h = decided_counts op reply answer k q seat is t h
     turned_counts op seat answer k q Going is t h = quiet_counts h
     turned_counts op seat answer k q (Ask old) is t h = quiet_counts h
-    turned_counts op seat answer k q (Pair key v) is t h = quiet_counts h
+    turned_counts op seat answer k q (Pair key v) is t h = quiet_counts h.0
     turned_counts op seat answer k q Refused is t h = quiet_counts h
     turned_counts op seat answer k q Done is t h = quiet_counts h
     turned_counts op seat answer k q Unknown is t h = quiet_counts h

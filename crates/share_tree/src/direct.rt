@@ -251,6 +251,7 @@ impl<P: HasMeaning, A: Allocator> Direct<P, A> {
 impl<A: Allocator> Direct<u64, A> {
     /// The first pairs of a range, in one walk.
     pub(crate) fn page_of<E: RangeEntry>(&self, start: u64, end: u64, buffer: &mut [E]) -> usize
+        ensures ordered { IsMap self.now.pairs }
         ensures count { result
             ≡ min (length buffer.old) (length (between self.now.pairs start end)) }
         ensures written { buffer.new ≡ take result (map (λ pair. E.entry pair.0 pair.1)

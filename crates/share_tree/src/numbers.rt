@@ -41,6 +41,8 @@ impl<A: Allocator> Lent<u64, u64> for Direct<u64, A> {
 
     ghost place = { λ d. seat_place_in (λ x. x) d.seats };
 
+    fn law_one_content(&self) {}
+
     fn again(answer: &u64) -> Result<u64, OOMError> {
         Ok(*answer)
     }
@@ -107,6 +109,10 @@ impl<A: Allocator> Snapshots<u64, u64> for Direct<u64, A> {
 }
 
 impl<A: Allocator> Pages for Direct<u64, A> {
+    ghost use Rattle.std.specs.Prelude.{true};
+
+    ghost at_once = { true };
+
     fn numbers_mean_themselves() {}
 
     fn page<E: RangeEntry>(&self, start: u64, end: u64, buffer: &mut [E]) -> Option<usize> {

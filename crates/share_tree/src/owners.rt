@@ -41,6 +41,8 @@ impl<V: Drop, A: Allocator> Lent<Arc<V>, V> for Direct<Arc<V>, A> {
 
     ghost place = { λ d. seat_place_in (λ x. arc_value x) d.seats };
 
+    fn law_one_content(&self) {}
+
     fn again(answer: &Arc<V>) -> Result<Arc<V>, OOMError> {
         Ok(answer.clone()?)
     }

@@ -1,4 +1,5 @@
 mod ends;
 mod listed;
 mod many;
+mod numbers;
 mod popped;

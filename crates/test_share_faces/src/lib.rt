@@ -1,4 +1,4 @@
-//! Tests of the calls that `congee::shared` and `congee::locked` have alike, each by the name that users have.
+//! Tests of each call that `congee::shared` and `congee::locked` have alike, by the name that users have.
 #![tactic(auto)]
 
 #[cfg(test)]

@@ -1,3 +1,7 @@
 mod numbers;
+mod owners;
+mod refusals;
 mod rows;
+mod settled;
 mod threads;
+mod typed;

@@ -262,6 +262,10 @@ impl<M: Lent<u64, u64>> Lent<u64, u64> for Faulty<M> {
 
     ghost place = { λ f id. placed M.meaning f.delayed id (M.place f.under id) };
 
+    fn law_one_content(&self) {
+        self.under.law_one_content();
+    }
+
     fn again(answer: &u64) -> Result<u64, OOMError> {
         M::again(answer)
     }
@@ -368,6 +372,8 @@ impl<M: Snapshots<u64, u64>> Snapshots<u64, u64> for Faulty<M> {
 }
 
 impl<M: Pages> Pages for Faulty<M> {
+    ghost at_once = { M.at_once };
+
     fn numbers_mean_themselves() {
         M::numbers_mean_themselves();
     }

@@ -5,10 +5,11 @@ use Rattle.share_backend.specs.declared.event.EventResult.{EventResult}
 use Rattle.share_backend.specs.declared.lent.CallStage.{CallStage}
 use Rattle.share_backend.specs.declared.lent.CallStage.TheVariants.{Ready, Running, Settled, Denied}
 use Rattle.share_holds.specs.Closures.{LastCall, IsLastCall}
+use Rattle.share_holds.specs.Moments.{WasStored}
 use Rattle.share_holds.specs.declared.tried.Tried.{Tried}
 use Rattle.share_holds.specs.declared.tried.Tried.TheVariants.{Replied, Refused as Rejected, Again}
 use Rattle.share_rule.specs.inner.SeatView.{Seat}
-use Rattle.share_rule.specs.inner.Steps.{SeesNoMore, Made, at_of}
+use Rattle.share_rule.specs.inner.Steps.{SeesNoMore, Made, at_of, seen_of}
 use Rattle.spec_map.specs.Call.{Operation}
 use Rattle.spec_olc.specs.Calls.{Outline, IsPoint, outline_of, asked_of}
 use Rattle.spec_olc.specs.Meaning.{in_some, op_of, meant_reply, outcome_of}
@@ -79,7 +80,8 @@ module _ {T S : Type 0} (id : ℕ) (o : Outline) where
     AfterEvent s answer k Going m n =
         (t : Asking T) × Follows s answer t × (k ≡ kind.Answer → TakesAnswer s answer t) × Knows (Running o op t) m n
     AfterEvent s answer k (Ask old) m n = Knows (Running o op (Wants old)) m n
-    AfterEvent s answer k (Pair key value) m n = (IsPoint o → ⊥) × ((t : Asking T) × Knows (Running o op t) m n)
+    AfterEvent s answer k (Pair key value) m n =
+        (IsPoint o → ⊥) × ((t : Asking T) × Knows (Running o op t) m n) × WasStored same (seen_of m.0) key value
     AfterEvent s answer k (Decided reply) m n =
         MadeAt same (operation_by op (asked_of s) reply) (Some (id, Settled o)) m n
     AfterEvent s answer k Refused m n = Knows (Denied o) m n

@@ -43,7 +43,7 @@ fn nine_callers<L: Ledger, M: Pages + Made<u64, u64, DefaultAllocator>, R: Wait>
         guards.push(guard)?;
     }
     for guard in guards {
-        map.unpin(rt, guard);
+        guard.unpin(rt);
     }
     let mut guard = map.pin(rt)?;
     Ok((map.value_count(rt), map.get(rt, &mut guard, &5)))

@@ -267,7 +267,7 @@ fn count_up<L: Ledger, M: Pages, R: Wait>(
     map: &Map<L, M>,
     alloc: Global,
     times: u32,
-) -> Option<Vec<u64>> {
+) -> Option<Vec<Option<u64>>> {
     let Ok(mut guard) = map.pin_waiting(rt) else {
         return None;
     };
@@ -275,7 +275,7 @@ fn count_up<L: Ledger, M: Pages, R: Wait>(
     for _ in 0..times {
         let mut one_more = |old: Option<u64>| -> u64 { old.unwrap_or(0).wrapping_add(1) };
         match map.compute_or_insert(rt, &mut guard, 0, &mut one_more) {
-            Ok(old) => before.push(old.unwrap_or(0)).ok()?,
+            Ok(old) => before.push(old).ok()?,
             Err(_) => return None,
         }
     }
@@ -309,7 +309,7 @@ fn counted_up<
     L: Ledger + Send + Sync,
     M: Pages + Made<u64, u64, DefaultAllocator> + Send,
     R: Threads + Wait + Clock + Sync,
->(rt: &R, alloc: Global, blank: Blank) -> Result<(Vec<u64>, Option<u64>, bool), Fail>
+>(rt: &R, alloc: Global, blank: Blank) -> Result<(Vec<Option<u64>>, Option<u64>, bool), Fail>
     requires name { blank.name ≡ L.name }
     requires parts { blank.parts ≡ L.parts }
     requires whole { L.parts ≡ 2 ^ 63 + 1 }
@@ -338,16 +338,16 @@ fn counted_up<
     Ok((all, last, in_time))
 }
 
-// Whether two threads' closures saw each number once, in some order.
-fn each_once((all, last, in_time): (Vec<u64>, Option<u64>, bool)) -> bool {
-    let mut wanted = 0u64;
+// Whether two threads' closures saw no value once, and each from 1 on once, in some order. (No value is below 0.)
+fn each_once((all, last, in_time): (Vec<Option<u64>>, Option<u64>, bool)) -> bool {
+    let mut wanted = None;
     for old in all {
         if old != wanted {
             return false;
         }
-        wanted = wanted.wrapping_add(1);
+        wanted = Some(wanted.unwrap_or(0).wrapping_add(1));
     }
-    wanted == 2000 && last == Some(2000) && in_time
+    wanted == Some(2000) && last == Some(2000) && in_time
 }
 
 #[test]

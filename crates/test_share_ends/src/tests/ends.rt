@@ -76,6 +76,7 @@ fn right_rows<L: Ledger, R: Wait>(
     guard: &mut Guard<'_, L>,
 ) -> usize
     requires { guard.old.table ≡ map.now }
+    ensures { guard.new.table ≡ guard.old.table }
 {
     let mut right = 0;
     for (call, expected) in ROWS {
@@ -155,6 +156,9 @@ fn typed_rows<L: Ledger, R: Wait>(
     }
     if map.above(rt, guard, &7) != Some((9, 90)) {
         wrong = 4;
+    }
+    if map.below(rt, guard, &9) != Some((7, 70)) {
+        wrong = 8;
     }
     if map.pop_last(rt, guard) != Some((9, 90)) {
         wrong = 5;

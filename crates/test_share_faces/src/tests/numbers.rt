@@ -16,7 +16,7 @@ use std::test::Fail;
 
 type Map<L, M> = U64Congee<L, u64, M>;
 
-fn found<L: Ledger, M: Pages, R: Wait>(
+pub(super) fn found<L: Ledger, M: Pages, R: Wait>(
     rt: &R,
     map: &Map<L, M>,
     guard: &mut Guard<'_, L, M>,
@@ -78,12 +78,14 @@ fn reads_two<L: Ledger, M: Pages, R: Wait>(
     let keys = map.keys(rt, alloc)?;
     let stats = map.stats(rt)?;
     let mut buffer = [([9; 8], 0); 3];
+    let below = map.range(rt, guard, 1, 256, &mut buffer);
     let written = map.range(rt, guard, 1, 257, &mut buffer);
     Ok(
         keys.as_slice() == [1, 256].as_slice()
             && map.value_count(rt) == 2
             && !map.is_empty(rt)
             && are_of_two(&stats)
+            && below == 1
             && written == 2
             && buffer[0] == ([0, 0, 0, 0, 0, 0, 0, 1], 12)
             && buffer[1] == ([0, 0, 0, 0, 0, 0, 1, 0], 7),

@@ -41,6 +41,23 @@ pub(crate) const ROWS: [(Call, Option<u64>, u64); 20] = [
     (Call::Get(256), Some(7), 0),
 ];
 
+/// The calls on a new map under a budget of 2168 bytes, in which the root has room and one leaf of four, and the values that
+/// they return: nothing where a call is refused. They leave two pairs.
+pub(crate) const LIMITED: [(Call, Option<Option<u64>>); 12] = [
+    (Call::InsertCounted(0, 100), Some(None)),
+    (Call::Insert(u64::MAX, 100), None),
+    (Call::InsertGated(u64::MAX, 100), None),
+    (Call::InsertCounted(u64::MAX, 100), None),
+    (Call::Get(u64::MAX), Some(None)),
+    (Call::Get(0), Some(Some(100))),
+    (Call::InsertCounted(1, 11), Some(None)),
+    (Call::Insert(256, 2), None),
+    (Call::Get(256), Some(None)),
+    (Call::Get(1), Some(Some(11))),
+    (Call::Insert(0, 7), Some(Some(100))),
+    (Call::Get(0), Some(Some(7))),
+];
+
 /// Counts how often it is called between events.
 #[derive(Drop)]
 pub(crate) struct Count {

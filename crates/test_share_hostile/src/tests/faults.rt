@@ -117,6 +117,7 @@ fn has_one_pair<L: Ledger, M: Pages, R: Wait>(
     alloc: Global,
 ) -> Result<bool, OOMError>
     requires { guard.old.table ≡ map.now }
+    ensures { guard.new.table ≡ guard.old.table }
 {
     let mut buffer = [(0, 0); 4];
     let found = map.range(rt, guard, &0, &1000, &mut buffer);

@@ -1,7 +1,12 @@
-use Rattle.std.proofs.Common.{inr, refl, ◌∙◌, arith}
+use Rattle.std.proofs.Common.{ℕ, List, inr, refl, sym, subst, ◌∙◌}
 use Rattle.share_backend.specs.declared.lent.CallStage.TheVariants.{Denied}
 use Rattle.share_holds.proofs.Attempts.{knows_twice}
-use Rattle.share_holds.proofs.Ranges.{asked_range, begun, done_range, going_range, pair_range, refused_range, undecided_range, unknown_range}
+use Rattle.share_holds.proofs.Founds.{none_found}
+use Rattle.share_holds.proofs.Ranges.{asked_range, begun, done_range, going_range, pair_range, pair_stored, refused_range, undecided_range, unknown_range}
+use Rattle.share_holds.specs.Moments.{WasStored}
+use Rattle.share_holds.specs.inner.Founds.{AreFound}
+use Rattle.share_rule.specs.History.{Entry}
+use Rattle.share_rule.specs.inner.Steps.{seen_of}
 use Rattle.share_rule.proofs.Holds.{sees_no_more_twice}
 use Rattle.spec_olc.specs.declared.types.Op.TheVariants.{Range}
 use Rattle.share_holds.proofs.scans.scan.Goals as goal
@@ -9,7 +14,7 @@ use Rattle.share_holds.proofs.scans.scan.Goals as goal
 pub loop-init : goal.loop-init
 loop-init g c =
     let t = begun g.M.Lent.meaning g.M.Lent.same c.args.id c.args.start c.args.end _ c.args.seat.now.me c.begin.new.seat.me c.in-Ok.field-0.outcome c.in-Ok.ensures.begun in
-    (tt, tt, c.begin.ensures.table, t.1.quiet, (t.0, t.1.at_is), omega arith, refl)
+    (tt, tt, c.begin.ensures.table, t.1.quiet, (t.0, t.1.at_is), none_found _ _ g.E.RangeEntry.entry c.args.start c.args.end c.args.buffer.now, refl)
 
 pub loop-preserved-in-Going : goal.loop-preserved-in-Going
 loop-preserved-in-Going g c =
@@ -17,11 +22,36 @@ loop-preserved-in-Going g c =
     let t = going_range g.M.Lent.meaning g.M.Lent.same c.args.id c.args.start c.args.end _ c.loop.seat.me c.event-outcome.new.seat.me c.event-outcome.result.outcome w.0 _ c.event-outcome.result.report.kind (c.event-outcome.ensures.after w.0 w.1) c.in-Going.is in
     (tt, tt, c.event-outcome.ensures.table ∙ c.loop.invariant.2, sees_no_more_twice c.args.seat.now.me c.loop.seat.me c.event-outcome.new.seat.me c.loop.invariant.3 t.1.quiet, (t.0, t.1.at_is), c.loop.invariant.5, c.loop.invariant.6)
 
-pub loop-preserved-in-Pair : goal.loop-preserved-in-Pair
-loop-preserved-in-Pair g c =
+pub loop-preserved-in-Some-stored : goal.loop-preserved-in-Some-stored
+loop-preserved-in-Some-stored g c =
+    let w = c.loop.invariant.4 in
+    let after = c.event-outcome.ensures.after w.0 w.1 in
+    let t = pair_range g.M.Lent.meaning g.M.Lent.same c.args.id c.args.start c.args.end _ c.loop.seat.me c.event-outcome.new.seat.me c.event-outcome.result.outcome w.0 _ c.event-outcome.result.report.kind after c.in-Pair.key c.in-Pair.value c.in-Pair.is in
+    let stored = pair_stored g.M.Lent.meaning g.M.Lent.same c.args.id c.args.start c.args.end _ c.loop.seat.me c.event-outcome.new.seat.me c.event-outcome.result.outcome w.0 _ c.event-outcome.result.report.kind after c.in-Pair.key c.in-Pair.value c.in-Pair.is in
+    let known = subst (λ (l : List (Entry ℕ)). WasStored g.M.Lent.same l c.in-Pair.key (g.M.Lent.meaning c.in-Pair.value)) c.loop.invariant.3.seen stored in
+    let was = subst (λ (f : ℕ → ℕ). WasStored g.M.Lent.same (seen_of c.args.seat.now.me.0) c.in-Pair.key (f c.in-Pair.value)) c.numbers_mean_themselves.ensures.meaning known in (
+      tt,
+      tt,
+      c.event-outcome.ensures.table ∙ c.loop.invariant.2,
+      sees_no_more_twice c.args.seat.now.me c.loop.seat.me c.event-outcome.new.seat.me c.loop.invariant.3 t.1.quiet,
+      (t.0, t.1.at_is),
+      c.in-Some-stored.ensures.found g.M.Lent.same (seen_of c.args.seat.now.me.0) c.args.start was c.loop.invariant.5,
+      c.stored.ensures.room ∙ c.loop.invariant.6,
+    )
+
+pub loop-preserved-in-None-stored : goal.loop-preserved-in-None-stored
+loop-preserved-in-None-stored g c =
     let w = c.loop.invariant.4 in
     let t = pair_range g.M.Lent.meaning g.M.Lent.same c.args.id c.args.start c.args.end _ c.loop.seat.me c.event-outcome.new.seat.me c.event-outcome.result.outcome w.0 _ c.event-outcome.result.report.kind (c.event-outcome.ensures.after w.0 w.1) c.in-Pair.key c.in-Pair.value c.in-Pair.is in
-    (tt, tt, c.event-outcome.ensures.table ∙ c.loop.invariant.2, sees_no_more_twice c.args.seat.now.me c.loop.seat.me c.event-outcome.new.seat.me c.loop.invariant.3 t.1.quiet, (t.0, t.1.at_is), c.stored-found.ensures.count, c.stored-found.ensures.room ∙ c.loop.invariant.6)
+    let kept = c.stored.ensures.none c.in-None-stored.is in (
+      tt,
+      tt,
+      c.event-outcome.ensures.table ∙ c.loop.invariant.2,
+      sees_no_more_twice c.args.seat.now.me c.loop.seat.me c.event-outcome.new.seat.me c.loop.invariant.3 t.1.quiet,
+      (t.0, t.1.at_is),
+      subst (λ (b : List g.row.E.Denot). AreFound g.M.Lent.same (seen_of c.args.seat.now.me.0) g.E.RangeEntry.entry c.args.start c.args.end c.loop.found.next c.loop.found.count b) (sym kept) c.loop.invariant.5,
+      c.stored.ensures.room ∙ c.loop.invariant.6,
+    )
 
 pub loop-preserved : goal.loop-preserved
 loop-preserved g c =

@@ -1,0 +1,4 @@
+mod drained;
+mod meetings;
+mod one_seat;
+mod seats;
