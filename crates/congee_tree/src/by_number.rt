@@ -77,7 +77,10 @@ pub fn remove_run<L: Ledger, P: Payload, A: Allocator>(
     ensures { RemovesRun A.charge tree.old key end tree.new }
 {
     let mut reads = ReadCount::<L>::new(blank);
+    tree.least = 0;
     tree.tree.remove_run(key, end, &mut reads);
+    // (for the proof: brings the order of the keys into scope)
+    let _ = tree.tree.table();
 }
 
 /// Where the key is present, calls the closure, once, and stores what it returns; `None` removes the key. Returns the
