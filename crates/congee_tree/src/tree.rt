@@ -60,6 +60,7 @@ impl<P: Payload, A: Allocator> Model for RawCongee<P, A> {
 fn lowered(least: u64, key: &[u8; 8]) -> u64
     ensures bound { result ≤ least }
     ensures key { result ≤ from_be_bytes w64 key.now }
+    ensures fits { from_be_bytes w64 key.now < 2 ^ 64 }
 {
     least.min(u64::from_be_bytes(*key))
 }
