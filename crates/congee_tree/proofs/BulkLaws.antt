@@ -37,8 +37,8 @@ module _ {P : Type 0} where
       ]
 
   -- and none comes before it
-  pub none_before : (m : Pairs P) (s e k : ℕ) → IsMap m → Some k ≡ first_number (between m s e) → HasNoneAfter m s k
-  none_before m s e k h is = go (between m s e) refl
+  pub none_comes_before : (m : Pairs P) (s e k : ℕ) → IsMap m → Some k ≡ first_number (between m s e) → HasNoneAfter m s k
+  none_comes_before m s e k h is = go (between m s e) refl
     where
       go : (es : Pairs P) → between m s e ≡ es → HasNoneAfter m s k
       go [] all = absurd (let clash : Some k ≡ None = is ∙ ap first_number all in cc)

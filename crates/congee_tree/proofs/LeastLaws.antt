@@ -51,5 +51,5 @@ module _ {P : Type 0} where
         go : (o : Option P) → lookup old.pairs key ≡ o → Rises b (2 ^ 64) new.pairs
         go None none = same_least (ap (λ (t : TreeView P A). t.pairs) (x.absent none).0)
         go (Some v) some =
-            let one = rw some at x.present in
+            let one = x.present v some in
             answered one.0 one.2

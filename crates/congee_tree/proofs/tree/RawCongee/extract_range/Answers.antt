@@ -1,7 +1,7 @@
 use Rattle.std.proofs.Common.{◌∙◌, refl, ap, subst, sym}
 use Rattle.std.specs.List.{FoldsTo}
 use Rattle.tree_edit.proofs.TidyLaws.{moves_trans}
-use Rattle.congee_tree.proofs.BulkLaws.{first_inside, is_present, all_outside, none_before, none_of_first}
+use Rattle.congee_tree.proofs.BulkLaws.{first_inside, is_present, all_outside, none_comes_before, none_of_first}
 use Rattle.congee_tree.proofs.tree.RawCongee.extract_range.Goals as goal
 
 pub loop-key-init : goal.loop-key-init
@@ -14,7 +14,7 @@ pub extract_run-requires-clause-below : goal.extract_run-requires-clause-below
 extract_run-requires-clause-below g c = (first_inside c.loop-key.self.pairs c.args.start c.args.end c.in-Some.key c.in-Some.ensures).1
 
 pub extract_run-requires-clause-first : goal.extract_run-requires-clause-first
-extract_run-requires-clause-first g c = none_before c.loop-key.self.pairs c.args.start c.args.end c.in-Some.key c.law_ordered.ensures c.in-Some.ensures
+extract_run-requires-clause-first g c = none_comes_before c.loop-key.self.pairs c.args.start c.args.end c.in-Some.key c.law_ordered.ensures c.in-Some.ensures
 
 pub loop-key-preserved : goal.loop-key-preserved
 loop-key-preserved g c =
