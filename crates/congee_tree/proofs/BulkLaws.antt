@@ -4,7 +4,8 @@ use Rattle.std.proofs.lemmas.Bool.{lt-ltb, le-ltb, le-leb, lt-leb, eq-eqb, ne_eq
 use Rattle.std.proofs.lemmas.List.Elements.{filter-append}
 use Rattle.spec_map.specs.Map.{Pairs, lookup, without, between, Rises, IsMap}
 use Rattle.spec_map.specs.Near.{first_of}
-use Rattle.spec_map.proofs.NearLaws.{no_first, first_rest}
+use Rattle.spec_map.proofs.NearLaws.{absent_between, least_between, no_first, first_rest}
+use Rattle.tree_edit.specs.Calls.{HasNoneAfter}
 use Rattle.spec_map.proofs.MapLaws.{Rises-wider, Rises-without}
 use Rattle.spec_map.proofs.RangeLaws.{between-all, between-above}
 use Rattle.spec_map.proofs.JoinLaws.{Rises-append}
@@ -34,6 +35,19 @@ module _ {P : Type 0} where
           | inr past ↦ first_inside xs s e k (rw (le-leb s x.0 from, le-ltb x.0 e past) at is)
         ]
       ]
+
+  -- and none comes before it
+  pub none_comes_before : (m : Pairs P) (s e k : ℕ) → IsMap m → Some k ≡ first_number (between m s e) → HasNoneAfter m s k
+  none_comes_before m s e k h is = go (between m s e) refl
+    where
+      go : (es : Pairs P) → between m s e ≡ es → HasNoneAfter m s k
+      go [] all = absurd (let clash : Some k ≡ None = is ∙ ap first_number all in cc)
+      go (x ∷ xs) all =
+          let same : Some k ≡ Some x.0 = is ∙ ap first_number all in
+          let key : k ≡ x.0 = cc in
+          let inside = first_inside m s e k is in
+          let least = least_between s e m x h (ap first_of all) in
+          λ j from below. absent_between s e m j from (omega (arith, below, inside.1)) (least.nothing j (omega (arith, below, key)))
 
   -- it is a key of the map
   pub fewer : (m : Pairs P) (s e k : ℕ) → Some k ≡ first_number (between m s e) → length (without m k) < length m

@@ -3,19 +3,21 @@
 //! Tested in `test_owned/bulk`.
 
 ghost use Rattle.std.specs.Prelude.{◌≡◌, ◌+◌, [], length, take, IfSome, IfNone, IfErr, OnOk, slice_get, IsSomeAnd, None, Some};
+ghost use Rattle.std.specs.List.{FoldsTo};
 ghost use Rattle.congee_tree.specs.Bulk.{outside, next_of, put_all};
 ghost use Rattle.spec_map.specs.Map.{between};
 ghost use Rattle.spec_map.specs.Refusal.{NeedsNode};
 ghost use Rattle.tree_edit.specs.Tree.{root_alone, ChargesForNodes};
 ghost use Rattle.tree_walk.specs.Scan.{from_key, first_number, first_pair};
 
-use crate::by_number::{remove, remove_run};
+use crate::by_number::{extract_run, remove};
 use crate::tree::RawCongee;
 use node_table::allocator::Allocator;
 use spec_map::payload::Payload;
 use spec_map::traits::Word;
 use std::marker::Brand;
 use std::sync::ledger::Blank;
+use tree_edit::receiver::{Dropped, Receiver};
 
 impl<P: Payload, A: Allocator> RawCongee<P, A> {
     /// Removes all pairs, which leaves the root alone. Never fails. Frees node by node where there is memory for a new
@@ -47,12 +49,22 @@ impl<P: Payload, A: Allocator> RawCongee<P, A> {
         ensures pairs { self.new.pairs ≡ outside self.old.pairs start end }
         ensures charge { ChargesForNodes A.charge self.old self.new }
     {
-        self.law_ordered();
         let before = self.value_count();
-        while let Some(key) = self.key_between(start, end) {
-            remove_run::<Brand, P, A>(self, key, end, Blank::new(1));
-        }
+        self.extract_range::<(), Dropped>(start, end, &mut ());
         before - self.value_count()
+    }
+
+    /// The same, and hands each pair on once it is removed, keys ascending.
+    pub fn extract_range<F, R: Receiver<P, F>>(&mut self, start: u64, end: u64, f: &mut F)
+        requires { R.ready f.old }
+        ensures calls { FoldsTo R.step f.old (between self.old.pairs start end) f.new }
+        ensures pairs { self.new.pairs ≡ outside self.old.pairs start end }
+        ensures charge { ChargesForNodes A.charge self.old self.new }
+    {
+        while let Some(key) = self.key_between(start, end) {
+            self.law_ordered();
+            extract_run::<Brand, P, A, F, R>(self, start, key, end, f, Blank::new(1));
+        }
     }
 
     /// The least key with `start <= key < end`. Takes no memory.
@@ -112,6 +124,10 @@ impl<A: Allocator> RawCongee<u64, A> {
             (λ pair. NeedsNode self.new.pairs (K.number pair.0))) }
         ensures charge { ChargesForNodes A.charge self.old self.new }
     {
-        self.tree.insert_many(pairs)
+        self.least = 0;
+        let inserted = self.tree.insert_many(pairs);
+        // (for the proof: brings the order of the keys into scope)
+        let _ = self.tree.table();
+        inserted
     }
 }

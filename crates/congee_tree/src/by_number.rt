@@ -2,10 +2,11 @@
 //!
 //! Tested in `test_owned` and `tools/dev/try-commands`.
 
-ghost use Rattle.std.specs.Prelude.{◌≡◌, ◌<◌, option_copied};
+ghost use Rattle.std.specs.Prelude.{◌≡◌, ◌<◌, ◌≤◌, option_copied};
 ghost use Rattle.std.specs.Fn.{TakesAt};
 ghost use Rattle.std.specs.Int.{to_be_bytes, w64};
 ghost use Rattle.std.specs.Option.{ForSome};
+ghost use Rattle.tree_edit.specs.Calls.{Calls, HasNoneAfter};
 ghost use Rattle.tree_edit.specs.TreeCalls.{Removes, Inserts, ComputesOrInserts, ComputesIfPresent, RemovesRun};
 ghost use Rattle.tree_edit.specs.Closure.{TakesOption};
 ghost use Rattle.spec_map.specs.Map.{lookup, IsMap};
@@ -15,6 +16,7 @@ use node_table::allocator::Allocator;
 use spec_map::error::OOMError;
 use spec_map::payload::Payload;
 use std::sync::ledger::{Blank, Ledger};
+use tree_edit::receiver::Receiver;
 use tree_path::reads::ReadCount;
 
 /// The payload at the key.
@@ -63,21 +65,32 @@ pub fn remove<L: Ledger, P: Payload, A: Allocator>(
     tree.remove(&key.to_be_bytes(), &mut reads)
 }
 
-/// Removes the pair at the key, if it is there, and those that follow it in its leaf, below `end`.
-pub fn remove_run<L: Ledger, P: Payload, A: Allocator>(
+/// Removes the pair at the key, if it is there, and those that follow it in its leaf, below `end`, and hands each on.
+pub fn extract_run<L: Ledger, P: Payload, A: Allocator, F, R: Receiver<P, F>>(
     tree: &mut RawCongee<P, A>,
+    start: u64,
     key: u64,
     end: u64,
+    f: &mut F,
     blank: Blank,
 )
     requires name { blank.name ≡ L.name }
     requires parts { blank.parts ≡ L.parts }
     requires some { 0 < blank.parts }
+    requires from { start ≤ key }
     requires below { key < end }
-    ensures { RemovesRun A.charge tree.old key end tree.new }
+    requires first { HasNoneAfter tree.old.pairs start key }
+    requires ready { R.ready f.old }
+    ensures removes { RemovesRun A.charge tree.old start key end tree.new }
+    ensures calls { Calls R.step start end f.old tree.old.pairs f.new tree.new.pairs }
+    ensures ready { R.ready f.new }
 {
     let mut reads = ReadCount::<L>::new(blank);
-    tree.tree.remove_run(key, end, &mut reads);
+    tree.least = 0;
+    tree.tree
+        .extract_run::<L, F, R>(start, key, end, f, &mut reads);
+    // (for the proof: brings the order of the keys into scope)
+    let _ = tree.tree.table();
 }
 
 /// Where the key is present, calls the closure, once, and stores what it returns; `None` removes the key. Returns the

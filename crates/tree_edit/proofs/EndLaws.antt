@@ -1,14 +1,14 @@
 -- The path to the first pair of a tree, or to the last.
 use Rattle.std.proofs.Common.{IsSome, Bool, false, ◌≡◌, ◌≢◌, ℕ, zero, suc, ◌+◌, ◌-◌, ◌<◌, ◌≤◌, ◌^◌, List, [], ◌∷◌, ◌++◌, length, get_or, replicate, set, Option, Some, None, IfSome, IfNone, option_map, refl, ap, sym, subst, ◌∙◌, arith, inl, inr, append-nil, append_assoc, length-append, w64}
 use Rattle.std.specs.Int.{from_be_bytes, to_be_bytes}
-use Rattle.std.proofs.lemmas.Bool.{eq-eqb, ne_eqb, cases_eq}
+use Rattle.std.proofs.lemmas.Bool.{eq-eqb, ne_eqb, cases_eq, cases_lt}
 use Rattle.std.proofs.lemmas.Grind.{get_or-set_at}
 use Rattle.std.proofs.lemmas.Nat.{be_bytes_8, from_be_bytes-to_be_bytes_8}
 use Rattle.node_table.specs.Charge.{Charge}
 use Rattle.spec_map.specs.Map.{Pairs, lookup, between, Rises}
 use Rattle.spec_map.specs.Near.{first_of, last_of}
 use Rattle.spec_map.proofs.NearLaws.{first_at, last_at, no_first, no_last}
-use Rattle.node_table.specs.Key.{AreBytes, Begins, low, key_number, next_byte}
+use Rattle.node_table.specs.Key.{AreBytes, Begins, low, high, key_number, next_byte}
 use Rattle.node_table.specs.TableNode.{TableNode, Child, looked_at}
 use Rattle.node_table.specs.Table.{NodeTable, NodeInfo, node_at, node_info, pairs_under, pairs_of, pairs_at, nodes_under, nodes_of, nodes_at, IsSound, AreChildren, IsTree}
 use Rattle.node_table.specs.declared.child.Child.TheVariants.{Payload, Node}
@@ -16,8 +16,8 @@ use Rattle.node_table.specs.declared.child.ChildRef.{ChildRef}
 use Rattle.spec_map.proofs.RangeLaws.{between-all}
 use Rattle.node_table.proofs.BeginLaws.{after as after_prefix, begins_by, begins_itself}
 use Rattle.node_table.proofs.DownLaws.{Begins-trans}
-use Rattle.node_table.proofs.KeyLaws.{AreBytes-append, key_number-be_bytes, least-bound, room-positive}
-use Rattle.node_table.proofs.TableLaws.{IsChild-found}
+use Rattle.node_table.proofs.KeyLaws.{AreBytes-append, byte_order, goes_on, key_number-be_bytes, least-bound, room-positive}
+use Rattle.node_table.proofs.TableLaws.{IsChild-found, tree_rises}
 use Rattle.tree_path.specs.declared.descent.PathEnd.{PathEnd}
 use Rattle.tree_path.specs.declared.descent.Stop.TheVariants as stops
 use Rattle.tree_path.specs.inner.Descent.{LeadsTo, IsTrail, SeeksTo}
@@ -324,6 +324,38 @@ module _ {P : Type 0} (side : Side) (s : NodeTable P) (root : ℕ) where
           on = subst (λ k. IsTrail s root k (set trail above slot) (above + 1)) (sym back) (trail_more s root key trail above slot parent room (w.on key bytes full goes) leads w.up);
           is = ap (λ k. Some k) (sym low_is) ∙ sym (ap (λ o. option_map (λ e. e.0) o) (sym o.ends ∙ one ∙ side_one side (low key, v)));
         }
+
+-- what no pair comes before, no child on the way to the first does
+module _ {P : Type 0} (s : NodeTable P) (root above slot parent : ℕ) (trail : List ℕ) (w : OnWay First s root above slot parent trail) (n : TableNode P) (here : node_at s slot ≡ Some n)
+    (key : List ℕ) (bytes : AreBytes key) (full : length key ≡ 8) (bound : Rises (key_number key) (2 ^ 64) (pairs_at s depth root)) (begins : Begins n.prefix key) where
+  record Before (b : ℕ) (c : Child P) (less : ℕ) : Type 0 where
+    some : HasSome s (pairs_under (λ i. pairs_at s less i) n.prefix b c)
+    rises : Rises (low (n.prefix ++ b ∷ [])) (high (n.prefix ++ b ∷ [])) (pairs_under (λ i. pairs_at s less i) n.prefix b c)
+
+  before : (b : ℕ) (c : Child P) → first_of n.children ≡ Some (b, c) → Before b c (opens First s root above slot parent trail w n here).less
+  before b (Payload v) is =
+      let room = room-positive 8 (n.prefix ++ b ∷ []) in
+      record { some = record { first = (low (n.prefix ++ b ∷ []), v); rest = []; is = refl }; rises = (omega arith, omega (arith, room), tt) }
+  before b (Node j) is =
+      let o = opens First s root above slot parent trail w n here in
+      let end = side_stored First 0 256 n.children (b, Node j) o.sound.ordered is in
+      let child : IsTree s o.less (n.prefix ++ b ∷ []) j = IsChild-found s o.less n.prefix n.children b (Node j) o.children end.stored in
+      let filled = child_filled s (λ e i. nodes_at s o.less e i) n.prefix n.children b j end.stored o.filled in
+      record { some = filled_pairs s o.less (n.prefix ++ b ∷ []) j child (snoc_some n.prefix b) filled; rises = tree_rises s o.less (n.prefix ++ b ∷ []) j child }
+
+  pub way_bound : (b : ℕ) (c : Child P) → first_of n.children ≡ Some (b, c) → next_byte n.prefix key ≤ b
+  way_bound b c is =
+      let o = opens First s root above slot parent trail w n here in
+      let x = before b c is in
+      let one = first_child s (λ i. pairs_at s o.less i) n.prefix n.children (b, c) is x.some in
+      let first : first_of (pairs_under (λ i. pairs_at s o.less i) n.prefix b c) ≡ Some x.some.first = ap (λ es. first_of es) x.some.is in
+      let below = (first_at _ _ _ x.some.first x.rises first).to in
+      let from = (first_at _ _ _ x.some.first bound (sym o.ends ∙ one ∙ first)).from in
+      let goes = goes_on n.prefix key begins bytes o.sound.short full in
+      elim (cases_lt b (next_byte n.prefix key)) [
+        | inl less ↦ let order = byte_order 8 n.prefix b (next_byte n.prefix key) less (omega (arith, o.sound.short)) in absurd (omega (arith, below, from, order, goes.at_least))
+        | inr more ↦ more
+      ]
 
 key_bytes : (n : ℕ) → AreBytes (to_be_bytes w64 n)
 key_bytes n = (omega arith, (omega arith, (omega arith, (omega arith, (omega arith, (omega arith, (omega arith, (omega arith, tt))))))))

@@ -4,9 +4,9 @@ use Rattle.std.proofs.Common.{◌≡◌, ◌≢◌, ℕ, zero, suc, ◌+◌, ◌
 use Rattle.std.proofs.lemmas.Bool.{lt-ltb, le-leb, eq-eqb, ne_eqb, cases_eq}
 use Rattle.std.proofs.lemmas.List.{get_or-set_same}
 use Rattle.std.specs.Int.{from_be_bytes, w64}
-use Rattle.spec_map.specs.Map.{Pairs, lookup, without, between, Rises}
-use Rattle.spec_map.proofs.MapLaws.{lookup-first, lookup-between_inside, lookup-without_other}
-use Rattle.spec_map.proofs.RangeLaws.{between-next}
+use Rattle.spec_map.specs.Map.{Pairs, IsMap, lookup, without, between, Rises}
+use Rattle.spec_map.proofs.MapLaws.{lookup-first, lookup-below, lookup-between_inside, lookup-without_other}
+use Rattle.spec_map.proofs.RangeLaws.{between-next, between-within}
 use Rattle.node_base.specs.Form.{smaller_form}
 use Rattle.node_table.specs.Charge.{Charge}
 use Rattle.node_table.specs.Key.{AreBytes, Begins, begins, key_number}
@@ -26,16 +26,18 @@ use Rattle.tree_edit.specs.Tree.{TreeView}
 use Rattle.tree_edit.specs.TreeCalls.{RemovesRun}
 use Rattle.tree_edit.specs.inner.Lowers.{HasTaken}
 use Rattle.tree_edit.specs.inner.Rise.{HasRisen, IsRemoval, IsWholeBefore, ThinsAt}
-use Rattle.tree_edit.specs.inner.Run.{IsAtPair}
+use Rattle.tree_edit.specs.Calls.{HasNoneAfter}
+use Rattle.tree_edit.specs.inner.Run.{IsAtPair, HasNoneBetween}
+use Rattle.tree_edit.specs.inner.Spots.{HasThere}
 use Rattle.tree_edit.specs.inner.Whole.{IsWhole}
-use Rattle.tree_edit.specs.inner.Writes.{IsStoredWhere, NothingIsStored, SameElsewhere}
+use Rattle.tree_edit.specs.inner.Writes.{HasNothingUnder, IsStoredWhere, NothingIsStored, SameElsewhere}
 use Rattle.tree_edit.proofs.BesideLaws.{leads_alike, leads_kept}
 use Rattle.tree_edit.proofs.CallLaws.{after, moves_alike, nothing_seen}
-use Rattle.tree_edit.proofs.CountLaws.{count_less}
+use Rattle.tree_edit.proofs.CountLaws.{count_less, is_map}
 use Rattle.tree_edit.proofs.FilledLaws.{loses}
 use Rattle.tree_edit.proofs.RemovalLaws.{leaf_at, leaf_taken}
 use Rattle.tree_edit.proofs.SettleLaws.{left_removal, risen_there}
-use Rattle.tree_edit.proofs.SpotLaws.{stands_there}
+use Rattle.tree_edit.proofs.SpotLaws.{nothing_there, stands_there}
 use Rattle.tree_edit.proofs.TidyLaws.{counted_here, few_here, moves_trans}
 use Rattle.tree_links.specs.LeafCalls.{HasLeafAt, HasNothing, TakesPayload}
 use Rattle.tree_links.specs.SeenTable.{name_of}
@@ -68,11 +70,23 @@ outside-without (x ∷ xs) s e k p q =
       | inr other ↦ rw (ne_eqb x.0 k other) (ap (λ t. cond (not (leb s x.0 && ltb x.0 e)) (x ∷ t) t) (outside-without xs s e k p q))
     ]
 
+-- another last byte
+number_set : (key : List ℕ) (v : ℕ) → length key ≡ 8 → from_be_bytes w64 (set key 7 v) + get_or key 7 0 ≡ from_be_bytes w64 key + v
+number_set (a ∷ b ∷ c ∷ d ∷ e ∷ f ∷ g ∷ h ∷ []) v full = omega arith
+number_set _ v full = absurd (omega arith)
+
 -- a link that is the first from a byte on is found
 pub found_first : {P : Type 0} (es : List (ℕ × Link P)) (a b : ℕ) (c : Link P) (rest : List (ℕ × Link P)) → Rises 0 256 es → between es a 256 ≡ (b, c) ∷ rest → lookup es b ≡ Some c
 found_first es a b c rest ordered is =
     let n = between-next 0 256 a 256 es (b, c) rest ordered (omega arith) is in
     sym (lookup-between_inside es a 256 b n.order n.inside) ∙ ap (λ l. lookup l b) is ∙ lookup-first (b, c) rest
+
+-- and the bytes between have none
+pub none_found : {P : Type 0} (es : List (ℕ × Link P)) (a b : ℕ) (c : Link P) (rest : List (ℕ × Link P)) → Rises 0 256 es → between es a 256 ≡ (b, c) ∷ rest → (byte : ℕ) → a ≤ byte → byte < b → lookup es byte ≡ None
+none_found es a b c rest ordered is byte from below =
+    let rises : Rises a 256 ((b, c) ∷ rest) = subst (λ l. Rises a 256 l) is (between-within 0 256 a 256 es ordered) in
+    sym (lookup-between_inside es a 256 byte from (omega (arith, below, rises.1))) ∙ ap (λ l. lookup l byte) is
+    ∙ lookup-below b 256 ((b, c) ∷ rest) byte (omega arith, rises.1, rises.2) below
 
 module _ {P : Type 0} where
   some_child : (es : List (ℕ × Child P)) (b : ℕ) → IsSome (lookup es b) → 0 < length es
@@ -102,6 +116,13 @@ module _ {P : Type 0} (s : NodeTable P) (root : ℕ) (forms : FormCounts) (count
   pub short_here : e.above < 8
   short_here = let w = at.on_trail.at e.above (omega arith) in omega (arith, w.sum, some_level w.levels w.q (get_or (map name_of trail) e.above 0) w.tree)
 
+  pub ordered_here : IsMap (tree_pairs s root)
+  ordered_here = is_map s root at.whole.tree
+
+  -- the key's payload
+  pub found_here : (v : P) → HasThere s key e v → Some v ≡ lookup (tree_pairs s root) (from_be_bytes w64 key)
+  found_here v there = sym (subst (λ k. lookup (tree_pairs s root) k ≡ Some v) (key_number-be_bytes key at.full) (stands_there s root key (seen_end key e) at.ends at.bytes at.full v there))
+
   -- WHAT A REMOVAL of the pair leaves
   module _ (shrinks : Bool) (t : NodeTable P) (new : FormCounts) (removal : IsRemoval s root key shrinks t new) where
     stored : lookup (pairs_at s depth root) (key_number key) ≡ Some at.payload
@@ -122,6 +143,47 @@ module _ {P : Type 0} (s : NodeTable P) (root : ℕ) (forms : FormCounts) (count
 
     pub leaf_here : HasLeafAt s (name_of e.slot)
     leaf_here = leaf_at s root key e b is at.ends
+
+    -- under another byte there is another key's payload, or none
+    module _ (other : ℕ) (less : other < 256) where
+      aside : SeeksTo s root (set key 7 other) (seen_at (set key 7 other) e.slot e.parent e.above (Leaf other))
+      aside = record {
+        leads = leads_alike s root key (set key 7 other) (are_bytes key 7 other less at.bytes) (length-set key 7 other ∙ at.full) (begins_still key other) e.above (name_of e.slot) (name_of e.parent) ends_here.leads;
+        node = ends_here.node;
+        here = ends_here.here;
+        stop = (
+          sym (get_or-set_same key 7 other 0 (omega (arith, at.full))) ∙ ap (λ i. get_or (set key 7 other) i 0) (sym leaf_stop.2),
+          begins_still key other ends_here.node.prefix (omega (arith, leaf_stop.2)) leaf_stop.1,
+          leaf_stop.2,
+        );
+      }
+
+      lacks_aside : HasNothingUnder s (name_of e.slot) other → lookup (tree_pairs s root) (from_be_bytes w64 (set key 7 other)) ≡ None
+      lacks_aside nothing =
+          subst (λ k. lookup (tree_pairs s root) k ≡ None) (key_number-be_bytes (set key 7 other) (length-set key 7 other ∙ at.full))
+          (nothing_there s root (set key 7 other) (seen_at (set key 7 other) e.slot e.parent e.above (Leaf other)) aside (are_bytes key 7 other less at.bytes) (length-set key 7 other ∙ at.full) nothing)
+
+    -- so none is before that of the next byte
+    pub none_beside : (next : ℕ) → next < 256 → HasNoneBetween s (name_of e.slot) b next → HasNoneAfter (tree_pairs s root) (from_be_bytes w64 key + 1) (from_be_bytes w64 (set key 7 next))
+    none_beside next byte none = λ k from below.
+        let last : b ≡ get_or key 7 0 = leaf_stop.0 ∙ ap (λ i. get_or key i 0) leaf_stop.2 in
+        let other = (k - from_be_bytes w64 key) + b in
+        let to = number_set key next at.full in
+        let is = number_set key other at.full in
+        let less : other < next = omega (arith, last, to, from, below) in
+        let same : from_be_bytes w64 (set key 7 other) ≡ k = omega (arith, last, is, from) in
+        subst (λ i. lookup (tree_pairs s root) i ≡ None) same
+        (lacks_aside other (omega (arith, less, byte)) (λ n here. none n here other (omega (arith, from)) less))
+
+    -- what is taken out is the key's
+    pub taken_here : (t : NodeTable P) (v : P) → TakesPayload s t (name_of e.slot) b v → Some v ≡ lookup (tree_pairs s root) (from_be_bytes w64 key)
+    taken_here t v x =
+        let there : IsStoredWhere s (name_of e.slot) (stops.Leaf b) v = λ n here.
+        let both : Some x.node ≡ Some n = sym x.here ∙ here in
+        let same : x.node ≡ n = cc in
+        subst (λ (m : TableNode P). lookup m.children b ≡ Some (Payload v)) same x.found
+        in
+        found_here v (subst (λ st. IsStoredWhere s (seen_at key e.slot e.parent e.above st).slot (seen_at key e.slot e.parent e.above st).stop v) (sym is) there)
 
     -- the payload is there
     pub there_here : (n : TableNode P) → node_at s (name_of e.slot) ≡ Some n → lookup n.children b ≡ Some (Payload at.payload)
@@ -242,10 +304,10 @@ module _ {P : Type 0} (s : NodeTable P) (root : ℕ) (forms : FormCounts) (count
 
 -- THE END of a run: after the payloads that were taken out in place, the last pair is removed
 module _ {P A : Type 0} (charge : A → Option Charge) (s : NodeTable P) (root : ℕ) (old : SupplyView A) (count : ℕ) (i : IsWhole s root old.forms count) (w : TreeView P A)
-    (seen : ◌≡◌ {A = TreeView P A} (record { pairs = pairs_at s depth root; nodes = nodes_at s depth [] root; budget = old.budget }) w) (start end : ℕ) where
+    (seen : ◌≡◌ {A = TreeView P A} (record { pairs = pairs_at s depth root; nodes = nodes_at s depth [] root; budget = old.budget }) w) (start first_key end : ℕ) where
   pub run_ends : (t : NodeTable P) (mid : SupplyView A) → Alike charge old mid → (n : ℕ) (last trail : List ℕ) (e : LinkEnd) → IsAtPair t root mid.forms n last (map name_of trail) e
       → outside (tree_pairs t root) start end ≡ outside (tree_pairs s root) start end → start ≤ from_be_bytes w64 last → from_be_bytes w64 last < end → n ≤ count
-      → (u : NodeTable P) (new : SupplyView A) → IsRemoval t root last true u new.forms → Alike charge mid new → RemovesRun charge w start end (after charge s root old count i w seen u new)
+      → (u : NodeTable P) (new : SupplyView A) → IsRemoval t root last true u new.forms → Alike charge mid new → RemovesRun charge w start first_key end (after charge s root old count i w seen u new)
   run_ends t mid first n last trail e at others from below fewer u new x second =
       let pairs : tree_pairs u root ≡ without (tree_pairs t root) (from_be_bytes w64 last) = x.pairs ∙ ap (λ k. without (tree_pairs t root) k) (key_number-be_bytes last at.full) in
       let less = one_less t root mid.forms n last trail e at true u new.forms x in
@@ -257,7 +319,7 @@ module _ {P A : Type 0} (charge : A → Option Charge) (s : NodeTable P) (root :
       }
 
   -- and where there was no pair at its start
-  pub run_empty : (key : List ℕ) (bytes : AreBytes key) (full : length key ≡ 8) (spot : PathEnd) (ends : SeeksTo s root key spot) → from_be_bytes w64 key ≡ start → NothingIsStored s spot.slot spot.stop → RemovesRun charge w start end w
+  pub run_empty : (key : List ℕ) (bytes : AreBytes key) (full : length key ≡ 8) (spot : PathEnd) (ends : SeeksTo s root key spot) → from_be_bytes w64 key ≡ first_key → NothingIsStored s spot.slot spot.stop → RemovesRun charge w start first_key end w
   run_empty key bytes full spot ends is nothing =
-      let none : lookup w.pairs start ≡ None = subst (λ k. lookup w.pairs k ≡ None) is (nothing_seen charge s root old count i w seen key bytes full spot ends nothing) in
+      let none : lookup w.pairs first_key ≡ None = subst (λ k. lookup w.pairs k ≡ None) is (nothing_seen charge s root old count i w seen key bytes full spot ends nothing) in
       record { others = refl; fewer = λ some. absurd (let clash = rw none at some in cc); charged = refl }

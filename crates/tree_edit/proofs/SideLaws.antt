@@ -1,10 +1,12 @@
 -- The path to the first pair of a tree, or to the last, where it may end at a pair in its parent.
-use Rattle.std.proofs.Common.{◌≡◌, ℕ, zero, suc, ◌+◌, ◌-◌, ◌<◌, List, [], ◌∷◌, ◌++◌, length, map, take, drop, get_or, replicate, set, Option, Some, None, IfSome, IfNone, option_map, refl, ap, sym, subst, ◌∙◌, arith, append_assoc, length-append, w64}
+use Rattle.std.proofs.Common.{◌≡◌, ℕ, zero, suc, ◌+◌, ◌-◌, ◌<◌, ◌≤◌, List, [], ◌∷◌, ◌++◌, length, map, take, drop, get_or, replicate, set, Option, Some, None, IfSome, IfNone, option_map, refl, ap, sym, subst, ◌∙◌, arith, inl, inr, append_assoc, length-append, w64}
 use Rattle.std.specs.Int.{from_be_bytes, to_be_bytes}
+use Rattle.std.proofs.lemmas.Bool.{eq-eqb, ne_eqb, cases_eq}
 use Rattle.std.proofs.lemmas.List.{length-map, length-set, length-take, map-set, take-append-drop}
 use Rattle.std.proofs.lemmas.Nat.{be_bytes_8}
 use Rattle.spec_map.specs.Map.{lookup, between, Rises}
 use Rattle.spec_map.specs.Near.{first_of, last_of}
+use Rattle.spec_map.proofs.MapLaws.{lookup-below}
 use Rattle.spec_map.proofs.RangeLaws.{between-all}
 use Rattle.node_table.specs.Key.{AreBytes, Begins, key_number, next_byte}
 use Rattle.node_table.specs.TableNode.{TableNode}
@@ -44,6 +46,23 @@ module _ {P : Type 0} (es : List (ℕ × Link P)) (h : Rises 0 256 es) where
 
   pub last_linked : (o : Option (ℕ × Link P)) → o ≡ last_of (between es 0 256) → o ≡ last_of es
   last_linked o is = is ∙ ap (λ t. last_of t) all_there
+
+-- a link that is found under a byte that nothing comes before is the first
+module _ {P : Type 0} where
+  pub found_is_first : (es : List (ℕ × Link P)) → Rises 0 256 es → (b : ℕ) (c : Link P) → lookup es b ≡ Some c → ((d : ℕ) (e : Link P) → first_of es ≡ Some (d, e) → b ≤ d) → Some (b, c) ≡ first_of es
+  found_is_first [] h b c found bound = absurd (cc)
+  found_is_first ((d, e) ∷ es) h b c found bound =
+      let from : b ≤ d = bound d e refl in
+      elim (cases_eq d b) [
+        | inl same ↦
+            let both : Some e ≡ Some c = rw (eq-eqb d b same) at found in
+            let is : e ≡ c = cc in
+            sym (ap (λ k. Some (k, e)) same ∙ ap (λ x. Some (b, x)) is)
+        | inr other ↦
+            let further : lookup es b ≡ Some c = rw (ne_eqb d b other) at found in
+            let none = lookup-below (d + 1) 256 es b h.2 (omega (arith, from)) in
+            absurd (let clash : ◌≡◌ {A = Option (Link P)} None (Some c) = sym none ∙ further in cc)
+      ]
 
 -- the link at a side, as the child that is seen
 module _ {P : Type 0} (i : ℕ) where

@@ -75,9 +75,8 @@ pub record ReadsPath (nodes : List NodeInfo) (key : List ℕ) (old new : ℕ) : 
   pub reads : new ≡ old + on_path nodes key
   pub few : on_path nodes key ≤ 8
 
--- A REMOVAL OF PAIRS from start on, below an end: the one at start is among them, if it is there, and all of them are
--- between the two
-pub record RemovesRun {P A : Type 0} (charge : A → Option Charge) (old : TreeView P A) (start end : ℕ) (new : TreeView P A) : Type 0 where
+-- A REMOVAL OF PAIRS between a start and an end: the one at this key is among them, if it is there
+pub record RemovesRun {P A : Type 0} (charge : A → Option Charge) (old : TreeView P A) (start key end : ℕ) (new : TreeView P A) : Type 0 where
   pub others : outside new.pairs start end ≡ outside old.pairs start end
-  pub fewer : IsSome (lookup old.pairs start) → length new.pairs < length old.pairs
+  pub fewer : IsSome (lookup old.pairs key) → length new.pairs < length old.pairs
   pub charged : ChargesForNodes charge old new

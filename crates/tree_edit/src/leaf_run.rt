@@ -1,4 +1,5 @@
-//! Removals of pairs that follow one another in one leaf: one path down for all of them.
+//! Removals of pairs that follow one another in one leaf: one path down for all of them. Each is handed on before the
+//! next is removed, from a whole tree.
 //!
 //! What they leave is what single removals leave: after each the leaf shrinks where it has few pairs left.
 //!
@@ -13,11 +14,13 @@ ghost use Rattle.tree_path.specs.inner.Root.{tree_pairs};
 ghost use Rattle.tree_path.specs.inner.Supply.{Alike};
 ghost use Rattle.tree_edit.specs.Outside.{outside};
 ghost use Rattle.tree_edit.specs.TreeCalls.{RemovesRun};
-ghost use Rattle.tree_edit.specs.inner.Run.{IsAtPair};
+ghost use Rattle.tree_edit.specs.Calls.{Calls, HasNoneAfter};
+ghost use Rattle.tree_edit.specs.inner.Run.{IsAtPair, HasNoneBetween};
 ghost use Rattle.tree_links.specs.SeenTable.{name_of};
 ghost use Rattle.tree_links.specs.declared.descent.LinkStop.TheVariants.{Leaf};
 
 use crate::insertion::current;
+use crate::receiver::Receiver;
 use crate::removal::{shrink_if_due, take_out};
 use crate::tree::{Nodes, Tree};
 use node_table::allocator::Allocator;
@@ -34,6 +37,7 @@ fn byte_after<P: Drop>(nodes: &Nodes<P>, slot: usize, byte: u8) -> Option<u8>
     ensures above { IfSome result (λ next. byte < next) }
     ensures present { IfSome result (λ next. (n : TableNode P)
         → node_at nodes.now.table (name_of slot) ≡ Some n → IsSome (lookup n.children next)) }
+    ensures next { IfSome result (λ next. HasNoneBetween nodes.now.table (name_of slot) byte next) }
 {
     let node = nodes.node(slot);
     // For the proof: brings the order of the bytes into scope.
@@ -56,13 +60,19 @@ fn take_beside<P: Drop, A: Allocator>(
     key: &[u8; 8],
     byte: u8,
     next: u8,
-)
+) -> P
     requires at { IsAtPair nodes.old.table (name_of (slice_index trail.now 0)) supply.old.forms
         count.old key.now (map name_of trail.now) spot.now }
     requires stop { spot.now.stop ≡ Leaf byte }
     requires above { byte < next }
     requires present { (n : TableNode P)
         → node_at nodes.old.table (name_of spot.now.slot) ≡ Some n → IsSome (lookup n.children next) }
+    requires next { HasNoneBetween nodes.old.table (name_of spot.now.slot) byte next }
+    ensures before { Some result
+        ≡ lookup (tree_pairs nodes.old.table (name_of (slice_index trail.now 0)))
+        (from_be_bytes w64 key.now) }
+    ensures next { HasNoneAfter (tree_pairs nodes.new.table (name_of (slice_index trail.now 0)))
+        (from_be_bytes w64 key.now) (from_be_bytes w64 (set key.now 7 next)) }
     ensures at { IsAtPair nodes.new.table (name_of (slice_index trail.now 0)) supply.new.forms
         count.new (set key.now 7 next) (map name_of trail.now)
         (record spot.now { stop = Leaf next }) }
@@ -76,40 +86,50 @@ fn take_beside<P: Drop, A: Allocator>(
     let _ = trail;
     let _ = key;
     let _ = next;
-    let Some(_payload) = nodes.take_payload(spot.slot, byte) else {
+    let Some(payload) = nodes.take_payload(spot.slot, byte) else {
         unreachable!()
     };
     shrink_if_due(nodes, supply, spot.slot, true);
     *count -= 1;
+    payload
 }
 
-// Takes the key's payload and those after it out of the leaf where its descent ended, but for the last one below the end.
-// Returns where the descent of that one's key ends, and its key. A pair in its parent is the last.
-fn take_run<P: Drop, A: Allocator>(
+// Takes the key's payload and those after it out of the leaf where its descent ended, but for the last one below the end,
+// and hands each on. Returns where the descent of that one's key ends, and its key. A pair in its parent is the last.
+fn take_run<P: Drop, A: Allocator, F, R: Receiver<P, F>>(
     nodes: &mut Nodes<P>,
     supply: &mut Supply<A>,
     count: &mut u128,
     spot: LinkEnd,
     trail: &[usize; 8],
     key: [u8; 8],
+    start: u64,
     end: u64,
+    f: &mut F,
 ) -> (LinkEnd, [u8; 8])
     requires at { IsAtPair nodes.old.table (name_of (slice_index trail.now 0)) supply.old.forms
         count.old key (map name_of trail.now) spot }
+    requires from { start ≤ from_be_bytes w64 key }
     requires below { from_be_bytes w64 key < end }
+    requires first { HasNoneAfter (tree_pairs nodes.old.table (name_of (slice_index trail.now 0)))
+        start (from_be_bytes w64 key) }
+    requires ready { R.ready f.old }
     ensures at { IsAtPair nodes.new.table (name_of (slice_index trail.now 0)) supply.new.forms
         count.new result.1 (map name_of trail.now) result.0 }
-    ensures above { result.0.above ≡ spot.above }
+    ensures first { HasNoneAfter (tree_pairs nodes.new.table (name_of (slice_index trail.now 0)))
+        start (from_be_bytes w64 result.1) }
+    ensures calls { Calls R.step start end
+        f.old (tree_pairs nodes.old.table (name_of (slice_index trail.now 0)))
+        f.new (tree_pairs nodes.new.table (name_of (slice_index trail.now 0))) }
     ensures others { outside (tree_pairs nodes.new.table (name_of (slice_index trail.now 0)))
-        (from_be_bytes w64 key) end
-        ≡ outside (tree_pairs nodes.old.table (name_of (slice_index trail.now 0)))
-        (from_be_bytes w64 key) end }
-    ensures from { from_be_bytes w64 key ≤ from_be_bytes w64 result.1 }
+        start end
+        ≡ outside (tree_pairs nodes.old.table (name_of (slice_index trail.now 0))) start end }
+    ensures from { start ≤ from_be_bytes w64 result.1 }
     ensures below { from_be_bytes w64 result.1 < end }
     ensures fewer { count.new ≤ count.old }
     ensures alike { Alike A.charge supply.old supply.new }
+    ensures ready { R.ready f.new }
 {
-    let start = u64::from_be_bytes(key);
     let mut spot = spot;
     let mut last = key;
     'run: loop {
@@ -126,35 +146,51 @@ fn take_run<P: Drop, A: Allocator>(
         if number < start || end <= number {
             return (spot, last);
         }
-        take_beside(nodes, supply, count, &spot, trail, &last, byte, next);
+        let payload = take_beside(nodes, supply, count, &spot, trail, &last, byte, next);
+        let taken = u64::from_be_bytes(last);
+        R::receive(f, taken, payload);
         last = then;
         spot.stop = LinkStop::Leaf(next);
     }
 }
 
 impl<P: Drop, A: Allocator> Tree<P, A> {
-    /// Removes the pair at `start`, if it is there, and then those that follow it in its leaf, below `end`. Never fails.
-    /// Reads one path for all of them. What is left is what `remove` would leave for each.
-    pub fn remove_run<L: Ledger>(&mut self, start: u64, end: u64, reads: &mut ReadCount<L>)
-        requires { start < end }
-        ensures { RemovesRun A.charge self.old start end self.new }
+    /// Removes the pair at the key, if it is there, and then those that follow it in its leaf, below `end`, and hands each
+    /// on, keys ascending. Never fails. Reads one path for all of them. What is left is what `remove` would leave for each.
+    pub fn extract_run<L: Ledger, F, R: Receiver<P, F>>(
+        &mut self,
+        start: u64,
+        key: u64,
+        end: u64,
+        f: &mut F,
+        reads: &mut ReadCount<L>,
+    )
+        requires from { start ≤ key }
+        requires below { key < end }
+        requires first { HasNoneAfter self.old.pairs start key }
+        requires ready { R.ready f.old }
+        ensures removes { RemovesRun A.charge self.old start key end self.new }
+        ensures calls { Calls R.step start end f.old self.old.pairs f.new self.new.pairs }
+        ensures ready { R.ready f.new }
     {
-        let key = start.to_be_bytes();
+        let bytes = key.to_be_bytes();
         let mut trail = [self.root; 8];
-        let spot = self.nodes.seek_along(self.root, &key, reads, &mut trail);
-        let Some(_) = current(&self.nodes, &spot, &key) else {
+        let spot = self.nodes.seek_along(self.root, &bytes, reads, &mut trail);
+        let Some(_) = current(&self.nodes, &spot, &bytes) else {
             return;
         };
-        let (spot, last) = take_run(
+        let (spot, last) = take_run::<P, A, F, R>(
             &mut self.nodes,
             &mut self.supply,
             &mut self.count,
             spot,
             &trail,
-            key,
+            bytes,
+            start,
             end,
+            f,
         );
-        let Some(_) = take_out(
+        let Some(payload) = take_out(
             &mut self.nodes,
             &mut self.supply,
             &spot,
@@ -166,5 +202,7 @@ impl<P: Drop, A: Allocator> Tree<P, A> {
         };
         self.count -= 1;
         self.release_slots();
+        let taken = u64::from_be_bytes(last);
+        R::receive(f, taken, payload);
     }
 }

@@ -10,5 +10,6 @@ pub mod computation;
 pub mod ends;
 pub mod insertion;
 pub mod leaf_run;
+pub mod receiver;
 pub mod removal;
 pub mod tree;

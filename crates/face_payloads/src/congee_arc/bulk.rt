@@ -5,7 +5,7 @@
 ghost use Rattle.std.specs.Prelude.{◌≡◌, [], ◌+◌, length};
 ghost use Rattle.std.specs.List.{FoldsTo};
 ghost use Rattle.congee_tree.specs.Bulk.{outside, Retains, CalledAtEntry, next_of};
-ghost use Rattle.congee_tree.specs.inner.Step.{Asks, Extracts};
+ghost use Rattle.congee_tree.specs.inner.Step.{Asks};
 ghost use Rattle.spec_map.specs.Map.{between};
 ghost use Rattle.tree_edit.specs.Tree.{root_alone, ChargesForNodes};
 
@@ -14,8 +14,24 @@ use congee_tree::by_number;
 use node_table::allocator::Allocator;
 use spec_map::payload::Payload;
 use spec_map::traits::Word;
-use std::marker::Brand;
+use std::marker::{Brand, PhantomData};
 use std::sync::ledger::Blank;
+use tree_edit::receiver::Receiver;
+
+// A closure of keys and payloads, called with the keys that the numbers mean.
+struct Keys<K> {
+    of: PhantomData<K>,
+}
+
+impl<K: Word, P: Payload, F: FnMut(K, P)> Receiver<P, F> for Keys<K> {
+    ghost step = { λ f pair next. F.step f (K.of_number pair.0) pair.1 tt next };
+
+    ghost ready = { λ f. F.IsAlwaysCallable f };
+
+    fn receive(f: &mut F, key: u64, payload: P) {
+        f(K::from_u64(key), payload);
+    }
+}
 
 impl<K: Word, P: Payload, A: Allocator> PayloadCongee<K, P, A> {
     /// Removes all pairs, and drops their payloads: the nodes of the map are those of a new one. Never fails. Frees node
@@ -63,7 +79,7 @@ impl<K: Word, P: Payload, A: Allocator> PayloadCongee<K, P, A> {
 
     /// Removes the pairs with keys from `start` on and below `end`, each as `remove` does, and calls the closure with
     /// each, keys ascending, each key read back from its number. Never fails. Reads two paths through the tree for each
-    /// of them, and one more.
+    /// leaf among them, and one more.
     pub fn extract_range<F: FnMut(K, P)>(&mut self, start: K, end: K, f: &mut F)
         requires { F.IsAlwaysCallable f.old }
         ensures calls { FoldsTo
@@ -72,30 +88,8 @@ impl<K: Word, P: Payload, A: Allocator> PayloadCongee<K, P, A> {
         ensures pairs { self.new.pairs ≡ outside self.old.pairs (K.number start) (K.number end) }
         ensures charge { ChargesForNodes A.charge self.old self.new }
     {
-        let first = start.into_u64();
-        let past = end.into_u64();
-        self.law_ordered();
-        while self.extract_next(first, past, f) {}
-    }
-
-    // Removes the first pair of the range, and calls the closure with it. Returns whether there was one.
-    fn extract_next<F: FnMut(K, P)>(&mut self, start: u64, end: u64, f: &mut F) -> bool
-        requires { F.IsAlwaysCallable f.old }
-        ensures extracts { Extracts
-            (λ state pair next. F.step state (K.of_number pair.0) pair.1 tt next)
-            f.old self.old.pairs start end result f.new self.new.pairs }
-        ensures again { F.IsAlwaysCallable f.new }
-        ensures charge { ChargesForNodes A.charge self.old self.new }
-    {
-        let Some(key) = self.tree.key_between(start, end) else {
-            return false;
-        };
-        let removed = by_number::remove::<Brand, P, A>(&mut self.tree, key, Blank::new(1));
-        let Some(payload) = removed else {
-            unreachable!()
-        };
-        f(K::from_u64(key), payload);
-        true
+        self.tree
+            .extract_range::<F, Keys<K>>(start.into_u64(), end.into_u64(), f);
     }
 
     /// Calls the closure with each pair, once, keys ascending, each key read back from its number, and removes those for

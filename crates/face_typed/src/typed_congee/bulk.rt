@@ -5,7 +5,7 @@
 ghost use Rattle.std.specs.Prelude.{◌≡◌, ℕ, [], ◌+◌, ◌<◌, length, take, fold, IfOk, IfErr, OnOk, slice_get, IsSomeAnd};
 ghost use Rattle.std.specs.List.{FoldsTo};
 ghost use Rattle.congee_tree.specs.Bulk.{outside, Retains, put_all, next_of};
-ghost use Rattle.congee_tree.specs.inner.Step.{Asks, Extracts};
+ghost use Rattle.congee_tree.specs.inner.Step.{Asks};
 ghost use Rattle.spec_map.specs.Map.{Pairs, put, between};
 ghost use Rattle.spec_map.specs.Refusal.{NeedsNode};
 ghost use Rattle.tree_edit.specs.Tree.{root_alone, ChargesForNodes};
@@ -15,8 +15,24 @@ use crate::many::InsertManyError;
 use congee_tree::by_number;
 use node_table::allocator::Allocator;
 use spec_map::traits::{Drainer, Word};
-use std::marker::Brand;
+use std::marker::{Brand, PhantomData};
 use std::sync::ledger::Blank;
+use tree_edit::receiver::Receiver;
+
+// A closure of keys and values, called with those that the numbers mean.
+struct Numbers<K, V> {
+    of: PhantomData<(K, V)>,
+}
+
+impl<K: Word, V: Word, F: FnMut(K, V)> Receiver<u64, F> for Numbers<K, V> {
+    ghost step = { λ f pair next. F.step f (K.of_number pair.0) (V.of_number pair.1) tt next };
+
+    ghost ready = { λ f. F.IsAlwaysCallable f };
+
+    fn receive(f: &mut F, key: u64, number: u64) {
+        f(K::from_u64(key), V::from_u64(number));
+    }
+}
 
 impl<K: Word, V: Word, A: Allocator, D: Drainer<K, V>> Congee<K, V, A, D> {
     /// Removes all pairs: the nodes of the map are those of a new one. Its drainer isn't called, now or later, since a
@@ -65,7 +81,7 @@ impl<K: Word, V: Word, A: Allocator, D: Drainer<K, V>> Congee<K, V, A, D> {
 
     /// Removes the pairs with keys from `start` on and below `end`, each as `remove` does, and calls the closure with
     /// each, keys ascending, each key and value read back from its number. Never fails. Reads two paths through the
-    /// tree for each of them, and one more.
+    /// tree for each leaf among them, and one more.
     pub fn extract_range<F: FnMut(K, V)>(&mut self, start: &K, end: &K, f: &mut F)
         requires { F.IsAlwaysCallable f.old }
         ensures calls { FoldsTo
@@ -75,30 +91,8 @@ impl<K: Word, V: Word, A: Allocator, D: Drainer<K, V>> Congee<K, V, A, D> {
             ≡ outside self.old.pairs (K.number start.now) (K.number end.now) }
         ensures charge { ChargesForNodes A.charge self.old self.new }
     {
-        let first = start.into_u64();
-        let past = end.into_u64();
-        self.law_ordered();
-        while self.extract_next(first, past, f) {}
-    }
-
-    // Removes the first pair of the range, and calls the closure with it. Returns whether there was one.
-    fn extract_next<F: FnMut(K, V)>(&mut self, start: u64, end: u64, f: &mut F) -> bool
-        requires { F.IsAlwaysCallable f.old }
-        ensures extracts { Extracts
-            (λ state pair next. F.step state (K.of_number pair.0) (V.of_number pair.1) tt next)
-            f.old self.old.pairs start end result f.new self.new.pairs }
-        ensures again { F.IsAlwaysCallable f.new }
-        ensures charge { ChargesForNodes A.charge self.old self.new }
-    {
-        let Some(key) = self.tree.key_between(start, end) else {
-            return false;
-        };
-        let removed = by_number::remove::<Brand, u64, A>(&mut self.tree, key, Blank::new(1));
-        let Some(number) = removed else {
-            unreachable!()
-        };
-        f(K::from_u64(key), V::from_u64(number));
-        true
+        self.tree
+            .extract_range::<F, Numbers<K, V>>(start.into_u64(), end.into_u64(), f);
     }
 
     /// Calls the closure with each pair by its numbers, once, keys ascending, and removes those for which it returns

@@ -1,13 +1,19 @@
-use Rattle.std.proofs.Common.{◌≡◌, ap, ◌<◌, ◌+◌, ◌∙◌, length, map, IsSome, Some, None, sym, subst, arith, length-set}
+use Rattle.std.proofs.Common.{◌≡◌, ap, ◌<◌, ◌+◌, ◌^◌, ◌∙◌, length, map, IsSome, Some, None, sym, subst, arith, length-set}
 use Rattle.tree_path.specs.inner.Descent.{IsTrail}
-use Rattle.std.specs.Int.{to_be_bytes, w64}
+use Rattle.std.specs.Int.{from_be_bytes, to_be_bytes, w64}
+use Rattle.std.proofs.lemmas.Nat.{from_be_bytes-to_be_bytes_8}
 use Rattle.tree_edit.specs.inner.Ends.{at_side}
-use Rattle.tree_edit.proofs.EndLaws.{OnWay, way_start, way_short, way_there, way_none, way_step, way_end}
+use Rattle.tree_edit.proofs.EndLaws.{OnWay, way_start, way_short, way_there, way_none, way_step, way_end, way_bound}
 use Rattle.tree_links.specs.LinkNode.{looked_at}
 use Rattle.tree_links.specs.Places.{as_linked}
-use Rattle.node_table.specs.Key.{key_number}
+use Rattle.node_table.specs.Key.{AreBytes, key_number}
+use Rattle.node_table.proofs.KeyLaws.{key_number-be_bytes}
+use Rattle.spec_map.specs.Map.{Rises}
+use Rattle.tree_path.specs.inner.Root.{tree_pairs}
 use Rattle.node_table.specs.Table.{node_at}
-use Rattle.tree_links.specs.SeenTable.{key_under, name_of, seen_node}
+use Rattle.tree_links.specs.SeenTable.{key_under, name_of, seen_link, seen_node}
+use Rattle.tree_edit.proofs.PopLaws.{key_bytes}
+use Rattle.tree_edit.specs.declared.ends.Side.TheVariants.{First}
 use Rattle.tree_edit.proofs.SideLaws.{side_link, no_side_link, names_set, names_long, pair_end}
 use Rattle.tree_edit.proofs.ends.seek_end.Goals as goal
 
@@ -20,6 +26,21 @@ unreachable-requires g c =
     let lacks : node_at s (name_of c.down.slot) ≡ None = sym c.in_default.ensures.node in
     let has : IsSome (node_at s (name_of c.down.slot)) = way_there c.args.side s (name_of c.args.root) c.down.above (name_of c.down.slot) (name_of c.down.parent) (map name_of c.down.trail) c.down.invariant.0 in
     let clash = rw lacks at has in cc
+
+pub link_at-requires-clause-bound : goal.link_at-requires-clause-bound
+link_at-requires-clause-bound g c = λ first begins byte link is.
+    let s = c.args.nodes.now.table in
+    let i = c.down.invariant.0 in
+    let n = as_linked c.in-Some.node.now in
+    let trail = map name_of c.down.trail in
+    let w = subst (λ side. OnWay side s (name_of c.args.root) c.down.above (name_of c.down.slot) (name_of c.down.parent) trail) first i in
+    let key = c.to_be_bytes-bound.result in
+    let bytes : AreBytes key = subst (λ k. AreBytes k) (sym c.to_be_bytes-bound.ensures) (key_bytes c.args.least) in
+    let full : length key ≡ 8 = ap (λ k. length k) c.to_be_bytes-bound.ensures in
+    let number : c.args.least ≡ key_number key = sym (key_number-be_bytes key full ∙ ap (λ k. from_be_bytes w64 k) c.to_be_bytes-bound.ensures ∙ from_be_bytes-to_be_bytes_8 c.args.least (omega arith)) in
+    let bound = subst (λ k. Rises k (2 ^ 64) (tree_pairs s (name_of c.args.root))) number (c.requires.bound first) in
+    way_bound s (name_of c.args.root) c.down.above (name_of c.down.slot) (name_of c.down.parent) trail w (seen_node c.down.slot n) (sym c.in-Some.ensures.node) key bytes full bound begins
+    byte (seen_link c.down.slot byte link) (sym (side_link c.down.slot First n.links byte link (sym is)))
 
 pub returns-in_default-link_at-clause-none : goal.returns-in_default-link_at-clause-none
 returns-in_default-link_at-clause-none g c =

@@ -2,6 +2,7 @@ use Rattle.std.proofs.Common.{◌≡◌, ◌-◌, ◌<◌, ◌≤◌, map, slice
 use Rattle.std.specs.Int.{from_be_bytes, w64}
 use Rattle.tree_path.specs.inner.Root.{tree_pairs}
 use Rattle.tree_path.specs.inner.Supply.{Alike}
+use Rattle.tree_edit.specs.Calls.{Calls, HasNoneAfter}
 use Rattle.tree_edit.specs.Outside.{outside}
 use Rattle.tree_edit.specs.inner.Run.{IsAtPair}
 use Rattle.tree_links.specs.SeenTable.{name_of}
@@ -10,13 +11,15 @@ use Rattle.tree_edit.proofs.leaf_run.take_run.Given as goal
 abbrev pub invariant-run : goal.invariant-run
 invariant-run g l =
     IsAtPair l.nodes.table (name_of (slice_index l.trail 0)) l.supply.forms l.count l.last (map name_of l.trail) l.spot
-    × (l.spot.above ≡ l.fn.spot.above)
     × (outside (tree_pairs l.nodes.table (name_of (slice_index l.trail 0))) l.start l.end
     ≡ outside (tree_pairs l.fn.nodes.table (name_of (slice_index l.trail 0))) l.start l.end)
     × (l.start ≤ from_be_bytes w64 l.last)
     × (from_be_bytes w64 l.last < l.end)
     × (l.count ≤ l.fn.count)
     × Alike g.A.Allocator.charge l.fn.supply l.supply
+    × HasNoneAfter (tree_pairs l.nodes.table (name_of (slice_index l.trail 0))) l.start (from_be_bytes w64 l.last)
+    × Calls g.R.Receiver.step l.start l.end l.fn.f (tree_pairs l.fn.nodes.table (name_of (slice_index l.trail 0))) l.f (tree_pairs l.nodes.table (name_of (slice_index l.trail 0)))
+    × g.R.Receiver.ready l.f
 
 abbrev pub decreases-run : goal.decreases-run
 decreases-run g l = 256 - slice_index l.last 7
