@@ -33,6 +33,10 @@ impl<M: Lent<u64, u64>> Lent<u64, u64> for Refusing<M> {
 
     ghost place = { λ r. M.place r.under };
 
+    fn law_one_content(&self) {
+        self.under.law_one_content();
+    }
+
     fn again(answer: &u64) -> Result<u64, OOMError> {
         M::again(answer)
     }
