@@ -18,8 +18,8 @@ use std::marker::{Brand, PhantomData};
 use std::sync::ledger::Blank;
 use tree_edit::receiver::Receiver;
 
-// A closure of keys and payloads, called with the keys that the numbers mean.
-struct Keys<K> {
+/// The way to a closure of keys and payloads: it is called with the keys that the numbers mean.
+pub struct Keys<K> {
     of: PhantomData<K>,
 }
 
@@ -88,8 +88,9 @@ impl<K: Word, P: Payload, A: Allocator> PayloadCongee<K, P, A> {
         ensures pairs { self.new.pairs ≡ outside self.old.pairs (K.number start) (K.number end) }
         ensures charge { ChargesForNodes A.charge self.old self.new }
     {
-        self.tree
-            .extract_range::<F, Keys<K>>(start.into_u64(), end.into_u64(), f);
+        let first = start.into_u64();
+        let past = end.into_u64();
+        self.tree.extract_range::<F, Keys<K>>(first, past, f);
     }
 
     /// Calls the closure with each pair, once, keys ascending, each key read back from its number, and removes those for

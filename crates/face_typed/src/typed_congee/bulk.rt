@@ -19,8 +19,8 @@ use std::marker::{Brand, PhantomData};
 use std::sync::ledger::Blank;
 use tree_edit::receiver::Receiver;
 
-// A closure of keys and values, called with those that the numbers mean.
-struct Numbers<K, V> {
+/// The way to a closure of keys and values: it is called with those that the numbers mean.
+pub struct Numbers<K, V> {
     of: PhantomData<(K, V)>,
 }
 
@@ -91,8 +91,9 @@ impl<K: Word, V: Word, A: Allocator, D: Drainer<K, V>> Congee<K, V, A, D> {
             ≡ outside self.old.pairs (K.number start.now) (K.number end.now) }
         ensures charge { ChargesForNodes A.charge self.old self.new }
     {
-        self.tree
-            .extract_range::<F, Numbers<K, V>>(start.into_u64(), end.into_u64(), f);
+        let first = start.into_u64();
+        let past = end.into_u64();
+        self.tree.extract_range::<F, Numbers<K, V>>(first, past, f);
     }
 
     /// Calls the closure with each pair by its numbers, once, keys ascending, and removes those for which it returns

@@ -197,3 +197,96 @@ fn pairs_are_read_back(rt: HostRuntime) -> Result<(), Fail> {
     assert!(rt; reads_back(&mut Congee::new(rt.alloc(), DefaultAllocator {})?)?);
     Ok(())
 }
+
+/// What comes between pops of the first pair.
+#[derive(Clone, Copy)]
+enum Act {
+    Insert(u64),
+    Compute(u64),
+    InsertMany(u64),
+    RemoveBelow(u64),
+    ExtractBelow(u64),
+    Pop(Option<u64>),
+    PopLast(u64),
+    Clear,
+}
+
+// A pop gives the least key, whatever was popped, inserted and taken out before.
+const ACTS: [Act; 38] = [
+    Act::Pop(None),
+    Act::Insert(700),
+    Act::Insert(703),
+    Act::Insert(1 << 40),
+    Act::Pop(Some(700)),
+    Act::Insert(701),
+    Act::Pop(Some(701)),
+    Act::Insert(5),
+    Act::Pop(Some(5)),
+    Act::Compute(4),
+    Act::Pop(Some(4)),
+    Act::InsertMany(2),
+    Act::Pop(Some(2)),
+    Act::Pop(Some(703)),
+    Act::Insert(9),
+    Act::RemoveBelow(10),
+    Act::Insert(3),
+    Act::Pop(Some(3)),
+    Act::Insert(4),
+    Act::Insert(6),
+    Act::ExtractBelow(5),
+    Act::Pop(Some(6)),
+    Act::Pop(Some(1 << 40)),
+    Act::Pop(None),
+    Act::Insert(LAST),
+    Act::Pop(Some(LAST)),
+    Act::Insert(LAST),
+    Act::Insert(LAST - 1),
+    Act::Pop(Some(LAST - 1)),
+    Act::Insert(LAST - 256),
+    Act::PopLast(LAST),
+    Act::Pop(Some(LAST - 256)),
+    Act::Pop(None),
+    Act::Insert(8),
+    Act::Clear,
+    Act::Insert(1),
+    Act::Insert(0),
+    Act::Pop(Some(0)),
+];
+
+// Whether the act was allowed, and a pop gave what it has to.
+fn acts(map: &mut Congee<u64, u64>, act: Act) -> bool {
+    match act {
+        Act::Insert(key) => map.insert(key, key).is_ok(),
+        Act::Compute(key) => map.compute_or_insert(key, &mut |_| key).is_ok(),
+        Act::InsertMany(key) => map.insert_many(&[(key, key)]).is_ok(),
+        Act::RemoveBelow(key) => map.remove_range(&0, &key) == 1,
+        Act::ExtractBelow(key) => {
+            map.extract_range(&0, &key, &mut |_: u64, _: u64| {});
+            true
+        }
+        Act::Pop(Some(key)) => map.pop_first() == Some((key, key)),
+        Act::Pop(None) => map.pop_first().is_none(),
+        Act::PopLast(key) => map.pop_last() == Some((key, key)),
+        Act::Clear => {
+            map.clear();
+            map.is_empty()
+        }
+    }
+}
+
+fn acts_right(map: &mut Congee<u64, u64>) -> u32 {
+    let mut right = 0u32;
+    for act in &ACTS {
+        if acts(map, *act) {
+            right = right.wrapping_add(1);
+        }
+    }
+    right
+}
+
+#[test]
+fn first_pairs_between_other_calls(rt: HostRuntime) -> Result<(), Fail> {
+    let mut map = Congee::new(rt.alloc(), DefaultAllocator {})?;
+    assert_number(&rt, u128::from(acts_right(&mut map)), 38);
+    Ok(())
+}
