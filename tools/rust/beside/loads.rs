@@ -1,0 +1,165 @@
+//! The loads: which keys each thread calls with, and how long that takes.
+
+use std::sync::Barrier;
+use std::thread;
+use std::time::Instant;
+
+/// What one thread calls a map by. Values are above 0, and 0 is no value.
+pub trait Calls {
+    fn get(&mut self, key: u64) -> u64;
+
+    /// Returns the value before, where the map returns it.
+    fn insert(&mut self, key: u64, value: u64) -> u64;
+
+    /// Returns the value that was removed.
+    fn remove(&mut self, key: u64) -> u64;
+
+    /// The sum of the keys and values of the first hundred pairs from this key on.
+    fn range(&mut self, start: u64) -> u64;
+}
+
+/// A map that threads share.
+pub trait Shared: Sync {
+    /// Whether it is ordered.
+    const HAS_RANGES: bool = true;
+    /// Whether an insertion returns the value before.
+    const RETURNS_BEFORE: bool = true;
+    type Caller<'a>: Calls
+    where
+        Self: 'a;
+
+    fn empty() -> Self;
+
+    fn caller(&self) -> Self::Caller<'_>;
+}
+
+/// The keys of all loads.
+pub struct Plan {
+    /// In the order in which they are inserted: the first seven tenths before anything is timed.
+    keys: Vec<u64>,
+    /// All of them, shuffled.
+    shuffled: Vec<u64>,
+}
+
+fn next(state: &mut u64) -> u64 {
+    // (splitmix64)
+    *state = state.wrapping_add(0x9e3779b97f4a7c15);
+    let z = (*state ^ (*state >> 30)).wrapping_mul(0xbf58476d1ce4e5b9);
+    let z = (z ^ (z >> 27)).wrapping_mul(0x94d049bb133111eb);
+    z ^ (z >> 31)
+}
+
+impl Plan {
+    pub fn dense(count: usize) -> Plan {
+        Plan::of((0..count as u64).collect())
+    }
+
+    pub fn random(count: usize) -> Plan {
+        let mut seed = 1;
+        Plan::of((0..count).map(|_| next(&mut seed)).collect())
+    }
+
+    fn of(keys: Vec<u64>) -> Plan {
+        let (mut shuffled, mut seed) = (keys.clone(), 2);
+        for at in (1..shuffled.len()).rev() {
+            shuffled.swap(at, (next(&mut seed) % (at as u64 + 1)) as usize);
+        }
+        Plan { keys, shuffled }
+    }
+}
+
+/// A load, how many calls it had, the time of each, and the sum of what they returned, where that is one for all maps.
+#[derive(Clone)]
+pub struct Timed {
+    pub load: &'static str,
+    pub calls: usize,
+    pub nanoseconds: f64,
+    pub sum: Option<u64>,
+}
+
+/// The value that the round with this number stores. Each round has one of its own.
+fn value(key: u64, round: u64) -> u64 {
+    key.wrapping_mul(5).wrapping_add(round) | 1 << 40
+}
+
+/// Times one call for each of these keys, each thread with a part of them, from the first thread's start to the last one's end.
+/// `call` is handed how many keys come before its key, too.
+fn run<M: Shared>(
+    map: &M,
+    threads: usize,
+    keys: &[u64],
+    call: impl Fn(&mut M::Caller<'_>, usize, u64) -> u64 + Sync,
+) -> (f64, u64) {
+    let start = Barrier::new(threads);
+    let part = keys.len().div_ceil(threads).max(1);
+    let ends: Vec<(Instant, Instant, u64)> = thread::scope(|scope| {
+        let spawned: Vec<_> = (0..threads)
+            .map(|number| {
+                let (start, call) = (&start, &call);
+                let own = keys.chunks(part).nth(number).unwrap_or(&[]);
+                scope.spawn(move || {
+                    let (mut caller, mut sum) = (map.caller(), 0u64);
+                    start.wait();
+                    let began = Instant::now();
+                    for (at, key) in own.iter().enumerate() {
+                        sum = sum.wrapping_add(call(&mut caller, at, *key));
+                    }
+                    (began, Instant::now(), sum)
+                })
+            })
+            .collect();
+        spawned
+            .into_iter()
+            .map(|it| it.join().expect("no thread panics"))
+            .collect()
+    });
+    let began = ends.iter().map(|it| it.0).min().expect("a thread");
+    let ended = ends.iter().map(|it| it.1).max().expect("a thread");
+    let sum = ends.iter().fold(0u64, |sum, it| sum.wrapping_add(it.2));
+    ((ended - began).as_nanos() as f64 / keys.len() as f64, sum)
+}
+
+/// A fresh map with seven tenths of the keys, and all loads on it in their order.
+pub fn take<M: Shared>(plan: &Plan, threads: usize) -> Vec<Timed> {
+    let map = M::empty();
+    let (old, new) = plan.keys.split_at(plan.keys.len() * 7 / 10);
+    let mut first = map.caller();
+    for key in old {
+        first.insert(*key, value(*key, 0));
+    }
+    drop(first);
+    let half = &plan.shuffled[..plan.shuffled.len() / 2];
+    let few = &half[..half.len() / 25];
+    let mut timed = vec![];
+    let mut add = |load, keys: &[u64], (nanoseconds, sum), is_one: bool| {
+        timed.push(Timed {
+            load,
+            calls: keys.len(),
+            nanoseconds,
+            sum: is_one.then_some(sum),
+        })
+    };
+    let before = M::RETURNS_BEFORE;
+    let time = run(&map, threads, new, |it, _, key| it.insert(key, value(key, 0)));
+    add("new", new, time, before);
+    let time = run(&map, threads, half, |it, _, key| it.get(key));
+    add("get", half, time, true);
+    let time = run(&map, threads, half, |it, _, key| it.insert(key, value(key, 1)));
+    add("overwrite", half, time, before);
+    for (load, one_in, round) in [("tenth", 10, 2), ("half", 2, 3)] {
+        let time = run(&map, threads, half, |it, at, key| match at % one_in {
+            0 => it.insert(key, value(key, round)),
+            _ => it.get(key),
+        });
+        add(load, half, time, before);
+    }
+    if M::HAS_RANGES {
+        add("range", few, run(&map, threads, few, |it, _, key| it.range(key)), true);
+    } else {
+        add("range", &[], (0.0, 0), false);
+    }
+    let gone = &plan.shuffled[plan.shuffled.len() * 7 / 10..];
+    let time = run(&map, threads, gone, |it, _, key| it.remove(key));
+    add("remove", gone, time, true);
+    timed
+}
