@@ -129,7 +129,7 @@ pub fn take<M: Shared>(plan: &Plan, threads: usize) -> Vec<Timed> {
     }
     drop(first);
     let half = &plan.shuffled[..plan.shuffled.len() / 2];
-    let few = &half[..half.len() / 25];
+    let few = &half[..half.len() / 100];
     let mut timed = vec![];
     let mut add = |load, keys: &[u64], (nanoseconds, sum), is_one: bool| {
         timed.push(Timed {
