@@ -83,13 +83,14 @@ fn value(key: u64, round: u64) -> u64 {
 }
 
 /// Times one call for each of these keys, each thread with a part of them, from the first thread's start to the last one's end.
-/// `call` is handed how many keys come before its key, too.
-fn run<M: Shared>(
+/// `call` is handed how many keys come before its key, too. What it returns is summed up where that is one for all maps.
+fn timed<M: Shared>(
+    load: &'static str,
     map: &M,
     threads: usize,
-    keys: &[u64],
+    (keys, is_one): (&[u64], bool),
     call: impl Fn(&mut M::Caller<'_>, usize, u64) -> u64 + Sync,
-) -> (f64, u64) {
+) -> Timed {
     let start = Barrier::new(threads);
     let part = keys.len().div_ceil(threads).max(1);
     let ends: Vec<(Instant, Instant, u64)> = thread::scope(|scope| {
@@ -116,50 +117,62 @@ fn run<M: Shared>(
     let began = ends.iter().map(|it| it.0).min().expect("a thread");
     let ended = ends.iter().map(|it| it.1).max().expect("a thread");
     let sum = ends.iter().fold(0u64, |sum, it| sum.wrapping_add(it.2));
-    ((ended - began).as_nanos() as f64 / keys.len() as f64, sum)
+    Timed {
+        load,
+        calls: keys.len(),
+        nanoseconds: (ended - began).as_nanos() as f64 / keys.len() as f64,
+        sum: is_one.then_some(sum),
+    }
 }
 
-/// A fresh map with seven tenths of the keys, and all loads on it in their order.
-pub fn take<M: Shared>(plan: &Plan, threads: usize) -> Vec<Timed> {
+/// A fresh map with these keys.
+fn filled<M: Shared>(keys: &[u64]) -> M {
     let map = M::empty();
-    let (old, new) = plan.keys.split_at(plan.keys.len() * 7 / 10);
-    let mut first = map.caller();
-    for key in old {
-        first.insert(*key, value(*key, 0));
+    let mut caller = map.caller();
+    for key in keys {
+        caller.insert(*key, value(*key, 0));
     }
-    drop(first);
-    let half = &plan.shuffled[..plan.shuffled.len() / 2];
-    let few = &half[..half.len() / 100];
-    let mut timed = vec![];
-    let mut add = |load, keys: &[u64], (nanoseconds, sum), is_one: bool| {
-        timed.push(Timed {
-            load,
-            calls: keys.len(),
-            nanoseconds,
-            sum: is_one.then_some(sum),
+    drop(caller);
+    map
+}
+
+/// All loads on a fresh map with seven tenths of the keys, in their order.
+pub fn take<M: Shared>(plan: &Plan, threads: usize) -> Vec<Timed> {
+    let count = plan.keys.len();
+    let (old, new) = plan.keys.split_at(count * 7 / 10);
+    let map: M = filled(old);
+    let half = &plan.shuffled[..count / 2];
+    let few = &half[..if M::HAS_RANGES { count / 200 } else { 0 }];
+    let gone = &plan.shuffled[count * 7 / 10..];
+    let before = M::RETURNS_BEFORE;
+    let mixed = |load, one_in, round| {
+        timed(load, &map, threads, (half, before), |it, at, key| {
+            if at % one_in == 0 {
+                it.insert(key, value(key, round))
+            } else {
+                it.get(key)
+            }
         })
     };
-    let before = M::RETURNS_BEFORE;
-    let time = run(&map, threads, new, |it, _, key| it.insert(key, value(key, 0)));
-    add("new", new, time, before);
-    let time = run(&map, threads, half, |it, _, key| it.get(key));
-    add("get", half, time, true);
-    let time = run(&map, threads, half, |it, _, key| it.insert(key, value(key, 1)));
-    add("overwrite", half, time, before);
-    for (load, one_in, round) in [("tenth", 10, 2), ("half", 2, 3)] {
-        let time = run(&map, threads, half, |it, at, key| match at % one_in {
-            0 => it.insert(key, value(key, round)),
-            _ => it.get(key),
-        });
-        add(load, half, time, before);
-    }
-    if M::HAS_RANGES {
-        add("range", few, run(&map, threads, few, |it, _, key| it.range(key)), true);
-    } else {
-        add("range", &[], (0.0, 0), false);
-    }
-    let gone = &plan.shuffled[plan.shuffled.len() * 7 / 10..];
-    let time = run(&map, threads, gone, |it, _, key| it.remove(key));
-    add("remove", gone, time, true);
-    timed
+    vec![
+        timed("new", &map, threads, (new, before), |it, _, key| {
+            it.insert(key, value(key, 0))
+        }),
+        timed("get", &map, threads, (half, true), |it, _, key| it.get(key)),
+        timed("overwrite", &map, threads, (half, before), |it, _, key| {
+            it.insert(key, value(key, 1))
+        }),
+        mixed("tenth", 10, 2),
+        mixed("half", 2, 3),
+        timed(
+            "range",
+            &map,
+            threads,
+            (few, M::HAS_RANGES),
+            |it, _, key| it.range(key),
+        ),
+        timed("remove", &map, threads, (gone, true), |it, _, key| {
+            it.remove(key)
+        }),
+    ]
 }

@@ -160,7 +160,9 @@ impl Calls for &Crate {
 
     fn range(&mut self, start: u64) -> u64 {
         let mut page = [(0usize, 0usize); PAGE];
-        let found = self.0.range(&(start as usize), &usize::MAX, &mut page, &self.0.pin());
+        let found = self
+            .0
+            .range(&(start as usize), &usize::MAX, &mut page, &self.0.pin());
         page[..found].iter().fold(0, |sum, (key, value)| {
             sum.wrapping_add(*key as u64).wrapping_add(*value as u64)
         })
