@@ -2,9 +2,9 @@
 //!
 //!     beside [--keys N] [--takes N] [--threads N]..
 //!
-//! A line for each time: the kind of the keys, the map, the threads, the load, and nanoseconds of wall time for each call of all
-//! threads together. What the calls return is summed up, and the sums of all maps have to agree. A map that a feature names is there
-//! where that is set (`tools/dev/compare-crates`).
+//! A line for each load: the kind of the keys, the map, the threads, the load, and for each call of all threads together nanoseconds
+//! of wall time, and of the processors. What the calls return is summed up, and the sums of all maps have to agree. A map that a
+//! feature names is there where that is set (`tools/dev/compare-crates`).
 
 // (without cargo nobody lists the features)
 #![allow(unexpected_cfgs)]
@@ -87,7 +87,8 @@ fn main() {
                     let (name, take) = MAPS[(place + turn) % MAPS.len()];
                     let timed = take(&plan, threads);
                     for it in timed.iter().filter(|it| it.calls > 0) {
-                        println!("{kind} {name} {threads} {} {:.2}", it.load, it.nanoseconds);
+                        let times = format!("{:.2} {:.2}", it.wall, it.processor);
+                        println!("{kind} {name} {threads} {} {times}", it.load);
                     }
                     if !agree(&timed, first.get_or_insert_with(|| timed.clone())) {
                         eprintln!("beside: wrong: {name} returns something else over {kind} keys, by {threads} threads");

@@ -68,13 +68,47 @@ impl Plan {
     }
 }
 
-/// A load, how many calls it had, the time of each, and the sum of what they returned, where that is one for all maps.
+/// A load, how many calls it had, the nanoseconds of each, and the sum of what they returned, where that is one for all maps.
 #[derive(Clone)]
 pub struct Timed {
     pub load: &'static str,
     pub calls: usize,
-    pub nanoseconds: f64,
+    /// From the first thread's start to the last one's end.
+    pub wall: f64,
+    /// Of the processors, for all threads together.
+    pub processor: f64,
     pub sum: Option<u64>,
+}
+
+/// What one thread did: from when to when, in how many nanoseconds of its processor, and the sum of what its calls returned.
+struct Part {
+    began: Instant,
+    ended: Instant,
+    processor: u64,
+    sum: u64,
+}
+
+/// C's `struct timespec` on Linux.
+#[repr(C)]
+struct Timespec {
+    seconds: i64,
+    nanoseconds: i64,
+}
+
+extern "C" {
+    fn clock_gettime(clock: i32, time: *mut Timespec) -> i32;
+}
+
+/// The nanoseconds that this thread has had of a processor.
+fn processor_time() -> u64 {
+    const CLOCK_THREAD_CPUTIME_ID: i32 = 3;
+    let mut time = Timespec {
+        seconds: 0,
+        nanoseconds: 0,
+    };
+    // SAFETY: it writes to the place alone.
+    unsafe { clock_gettime(CLOCK_THREAD_CPUTIME_ID, &mut time) };
+    time.seconds as u64 * 1_000_000_000 + time.nanoseconds as u64
 }
 
 /// The value that the round with this number stores. Each round has one of its own.
@@ -82,8 +116,7 @@ fn value(key: u64, round: u64) -> u64 {
     key.wrapping_mul(5).wrapping_add(round) | 1 << 40
 }
 
-/// Times one call for each of these keys, each thread with a part of them, from the first thread's start to the last one's end.
-/// `call` is handed how many keys come before its key, too. What it returns is summed up where that is one for all maps.
+/// Times one call for each of these keys, each thread with a part of them. `call` is handed how many keys come before its key, too. What it returns is summed up where that is one for all maps.
 fn timed<M: Shared>(
     load: &'static str,
     map: &M,
@@ -93,7 +126,7 @@ fn timed<M: Shared>(
 ) -> Timed {
     let start = Barrier::new(threads);
     let part = keys.len().div_ceil(threads).max(1);
-    let ends: Vec<(Instant, Instant, u64)> = thread::scope(|scope| {
+    let parts: Vec<Part> = thread::scope(|scope| {
         let spawned: Vec<_> = (0..threads)
             .map(|number| {
                 let (start, call) = (&start, &call);
@@ -101,11 +134,16 @@ fn timed<M: Shared>(
                 scope.spawn(move || {
                     let (mut caller, mut sum) = (map.caller(), 0u64);
                     start.wait();
-                    let began = Instant::now();
+                    let (began, before) = (Instant::now(), processor_time());
                     for (at, key) in own.iter().enumerate() {
                         sum = sum.wrapping_add(call(&mut caller, at, *key));
                     }
-                    (began, Instant::now(), sum)
+                    Part {
+                        processor: processor_time() - before,
+                        ended: Instant::now(),
+                        began,
+                        sum,
+                    }
                 })
             })
             .collect();
@@ -114,14 +152,15 @@ fn timed<M: Shared>(
             .map(|it| it.join().expect("no thread panics"))
             .collect()
     });
-    let began = ends.iter().map(|it| it.0).min().expect("a thread");
-    let ended = ends.iter().map(|it| it.1).max().expect("a thread");
-    let sum = ends.iter().fold(0u64, |sum, it| sum.wrapping_add(it.2));
+    let began = parts.iter().map(|it| it.began).min().expect("a thread");
+    let ended = parts.iter().map(|it| it.ended).max().expect("a thread");
+    let each = |nanoseconds: u128| nanoseconds as f64 / keys.len() as f64;
     Timed {
         load,
         calls: keys.len(),
-        nanoseconds: (ended - began).as_nanos() as f64 / keys.len() as f64,
-        sum: is_one.then_some(sum),
+        wall: each((ended - began).as_nanos()),
+        processor: each(parts.iter().map(|it| u128::from(it.processor)).sum()),
+        sum: is_one.then_some(parts.iter().fold(0, |sum, it| sum.wrapping_add(it.sum))),
     }
 }
 
