@@ -37,7 +37,7 @@ BESIDE = {
     "live": ("this map", "own"), "congee": ("the crate congee", "crate"), "shards": ("a shared map in shards", "second"),
     "dashmap": ("dashmap", "hand"), "btree": ("Mutex<BTreeMap>", "tree"),
 }
-BESIDE_CALLS = {"new": "a new key", "get": "look-up", "half": "half writes"}
+BESIDE_CALLS = {"new": "a new key", "get": "look-up", "overwrite": "overwrite"}
 
 
 def steps(numbers):
@@ -124,6 +124,7 @@ def beside(data):
 
 def by_threads(data, title, forms, calls, unit):
     rows = {(row["keys"], row["form"]): row for row in data["rows"] if row["form"] in forms}
+    forms = {form: words for form, words in forms.items() if ("dense", form) in rows}
     listed = {it: ", ".join(f"{words} {'/'.join(map(str, numbers(row, call).values()))}" for call, words in calls.items())
             for it, row in rows.items()}
     text = "; ".join(f"{keys} keys, {forms[form][0]}: {times}" for (keys, form), times in listed.items())
@@ -134,7 +135,7 @@ def by_threads(data, title, forms, calls, unit):
     for down, keys in enumerate(("dense", "random")):
         for across, (call, words) in enumerate(calls.items()):
             left, top = 60 + 264 * across, 66 + 244 * down
-            lines = {form: numbers(rows[keys, form], call) for form in forms if (keys, form) in rows}
+            lines = {form: numbers(rows[keys, form], call) for form in forms}
             sheet.text(left, top - 12, f"{words}, {keys} keys", "strong")
             threads_panel(sheet, forms, lines, left, Scale(marks, top + 196, top), across == 0)
     return sheet

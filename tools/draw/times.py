@@ -51,7 +51,7 @@ def by_threads_of(section, forms, calls):
         for row in rows_of(table):
             if row[0] in forms:
                 cells = {call: numbers_of(cell) for call, cell in zip(calls, row[1:])}
-                flat = {f"{call} {count}": number for call in calls for count, number in zip(THREADS, cells[call])}
+                flat = {f"{call} {count}": number for call in cells for count, number in zip(THREADS, cells[call])}
                 found.append({"keys": keys, "form": forms[row[0]], **flat})
     return found
 
@@ -75,10 +75,11 @@ def with_bench(data, bench):
 
 def beside_table(rows, keys, threads=THREADS):
     """The table of what tools/dev/compare-crates measured over such keys: a line for each map."""
-    lines = [f"| {keys} keys | " + " | ".join(LOADS.values()) + " |", "|---" * (len(LOADS) + 1) + "|"]
     by_form = {row["form"]: row for row in rows if row["keys"] == keys}
+    loads = [load for load in LOADS if any(f"{load} {threads[0]}" in row for row in by_form.values())]
+    lines = [f"| {keys} keys | " + " | ".join(LOADS[load] for load in loads) + " |", "|---" * (len(loads) + 1) + "|"]
     for form in (it for it in BESIDE if it in by_form):
-        times = [[by_form[form].get(f"{load} {count}") for count in threads] for load in LOADS]
+        times = [[by_form[form].get(f"{load} {count}") for count in threads] for load in loads]
         cells = [" / ".join(f"{time:.0f}" for time in it if time is not None) for it in times]
         lines.append(f"| {BESIDE[form]} | " + " | ".join(cells) + " |")
     return "\n".join(lines) + "\n"
