@@ -1,4 +1,4 @@
-"""The plots of docs/SPEED.md: nanoseconds a call on a scale by powers, since calls differ by a factor of a thousand."""
+"""The plots of docs/SPEED.md and SPEED-THREADS.md: nanoseconds a call on a scale by powers, since calls differ by a factor of a thousand."""
 import math
 
 from draw.sheet import Sheet

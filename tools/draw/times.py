@@ -1,4 +1,4 @@
-"""The times that the plots show: docs/pictures/speed.json, whose figures are those of the tables in docs/SPEED.md."""
+"""The times that the plots show: docs/pictures/speed.json, whose figures are those of the tables in docs/SPEED.md and SPEED-THREADS.md."""
 import json
 import re
 
@@ -56,11 +56,11 @@ def by_threads_of(section, forms, calls):
     return found
 
 
-def differences(data, page):
+def differences(data, page, threads_page):
     """What the file and the tables don't agree in."""
     wrong = [f"owned, {row['keys']}" for row in data["owned"]["rows"] if row not in owned_of(page)]
     for part, of in (("threads", threads_of), ("beside", beside_of)):
-        wrong += [f"{part}, {row['keys']}, {row['form']}" for row in data[part]["rows"] if row not in of(page)]
+        wrong += [f"{part}, {row['keys']}, {row['form']}" for row in data[part]["rows"] if row not in of(threads_page)]
     return wrong
 
 
