@@ -2,8 +2,8 @@
  *
  * congee.h includes this header. A handle is one caller of the map. A look-up takes no lock, and writes nothing that other
  * threads read. A writer locks single nodes, one or two at a time, and calls nothing of the program meanwhile. A node
- * stays where its last pair is removed, for keys that are inserted later. For last, floor, below, pops, counts, limits
- * and pages of one moment take congee_shared.h.
+ * stays where its last pair is removed, for keys that are inserted later. For pops, counts, limits, pages downwards and
+ * pages of one moment take congee_shared.h.
  *
  * A call is tried a bounded number of times. If a writer came in between each time, the call ends, and nothing has changed.
  *
@@ -19,6 +19,21 @@
  * give has its value at a moment of the call, and no moment is before that of a lower key. The functions for use are
  * plain C around the exports, and are tested.
  *
+ * A program moves here from congee_shared.h call by call. A call that both headers have takes the same arguments and
+ * returns the same numbers. Those of one key promise the same, too. What differs:
+ *
+ *   - congee_live_new has no limit. Shards have no use, since nodes are locked one by one.
+ *   - congee_live_insert may be out of memory for a present key, too.
+ *   - Ranges, ends and neighbours aren't of one moment.
+ *   - congee_shared_range_descending: here congee_live_below, from pair to pair.
+ *   - congee_shared_pop_first: here congee_live_first, and then congee_live_compare_remove of that pair, both again until
+ *     the latter returns 1. So each pair goes to one caller. A lesser key may have come in between. Likewise of the last.
+ *   - congee_shared_count and congee_shared_is_empty: a program counts the insertions that return 0, and the removals that
+ *     return 1.
+ *   - congee_shared_clear: here pages of congee_live_range_inclusive and a removal for each pair, or a new map.
+ *   - congee_shared_each and congee_shared_insert_many: loops by pages and by insertions.
+ *   - congee_shared_charged: nothing.
+ *
  * What a program owes, beside the rules of congee.h on places, buffers, stack and malloc. Nothing checks it:
  *
  *   - A handle is used from when it was made until it is freed. One call at a time uses it. Different handles may be in
@@ -30,7 +45,7 @@
  *     goes on. Calls that need no such node go on meanwhile. One that is stopped inside a look-up, or between two calls,
  *     keeps nobody.
  *   - No call is made in a signal handler, or in the forked child of a process with threads. A node may be locked there for
- *     ever.
+ *     ever, and a call that waits for it doesn't end. Where other threads were between two calls at the fork, none is.
  *
  * tools/dev/make-pages makes the manual page from this file: from this comment, the headings and each function's
  * comment.

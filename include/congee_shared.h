@@ -1,11 +1,12 @@
 /* congee_shared.h: a map from uint64_t to uint64_t that threads share, each by a handle of its own. C11 and C++11. MIT
  * license.
  *
- * congee.h includes this header. A handle is one caller of the map. A map is under one lock, or in 64 shards, each under
- * a lock of its own. A call of one key takes the lock of its key's shard, and any other call those of all shards. A call
- * holds them no longer than it works: meanwhile it waits for no other call, and calls nothing of the program but malloc,
- * realloc and free. A call tries each lock a bounded number of times. If one is taken each time, the map is busy: the
- * call gives back the others and ends, and nothing has changed.
+ * congee.h includes this header. congee_live.h has a map that is read without a lock, and which of its calls take the
+ * place of these. A handle is one caller of the map. A map is under one lock, or in 64 shards, each under a lock of its
+ * own. A call of one key takes the lock of its key's shard, and any other call those of all shards. A call holds them no
+ * longer than it works: meanwhile it waits for no other call, and calls nothing of the program but malloc, realloc and
+ * free. A call tries each lock a bounded number of times. If one is taken each time, the map is busy: the call gives back
+ * the others and ends, and nothing has changed.
  *
  *   - congee_shared_try_get and the others with `try` return CONGEE_BUSY then. They end whatever other threads do with
  *     the map.

@@ -12,7 +12,8 @@ use std::sync::{Mutex, PoisonError};
 
 /// A map that threads share, each by a [`LiveGuard`] of its own, whose look-ups take no lock. They write nothing that other
 /// threads read. A writer locks single nodes. A node stays where its last pair is removed, for keys that are inserted later.
-/// For `last`, `floor`, `below`, pops, counts, limits and pages of one moment take a [`SharedMap`](crate::SharedMap).
+/// For pops, counts, limits, pages downwards and pages of one moment take a [`SharedMap`](crate::SharedMap). Which call of
+/// its guards has which in its place here is listed in `docs/LIVE.md`.
 ///
 /// There is one order of the calls of all guards in which each reply is that of an ordered map. A guard's own calls are in
 /// it in their order, and each comes after all that its guard had seen before. Ranges and the next pairs aren't in it: each

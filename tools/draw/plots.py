@@ -1,4 +1,4 @@
-"""The plots of docs/SPEED.md: nanoseconds a call on a scale by powers, since calls differ by a factor of a thousand."""
+"""The plots of docs/SPEED.md and SPEED-THREADS.md: nanoseconds a call on a scale by powers, since calls differ by a factor of a thousand."""
 import math
 
 from draw.sheet import Sheet
@@ -33,6 +33,11 @@ THREADS = {
     "hand": ("the owned map in a mutex", "hand"),
 }
 CALLS = {"new": "a new key", "get": "get", "overwrite": "overwrite"}
+BESIDE = {
+    "live": ("this map", "own"), "congee": ("the crate congee", "crate"), "shards": ("a shared map in shards", "second"),
+    "dashmap": ("dashmap", "hand"), "btree": ("Mutex<BTreeMap>", "tree"),
+}
+BESIDE_CALLS = {"new": "a new key", "get": "look-up", "overwrite": "overwrite"}
 
 
 def steps(numbers):
@@ -107,34 +112,46 @@ def numbers(row, call):
 
 def threads(data):
     """A panel for each kind of keys and each call; in it a line for each form, by one, two and four threads."""
-    rows = {(row["keys"], row["form"]): row for row in data["rows"]}
     title = "Nanoseconds a call of the forms that threads share, by one, two and four threads"
-    listed = {it: ", ".join(f"{words} {'/'.join(map(str, numbers(row, call).values()))}" for call, words in CALLS.items())
+    return by_threads(data, title, THREADS, CALLS, "nanoseconds a call of a thread, by powers of ten")
+
+
+def beside(data):
+    """The same of maps of others."""
+    title = "Nanoseconds a call of maps that threads share, by one, two and four threads"
+    return by_threads(data, title, BESIDE, BESIDE_CALLS, "nanoseconds a call of all threads together, by powers of ten")
+
+
+def by_threads(data, title, forms, calls, unit):
+    rows = {(row["keys"], row["form"]): row for row in data["rows"] if row["form"] in forms}
+    forms = {form: words for form, words in forms.items() if ("dense", form) in rows}
+    listed = {it: ", ".join(f"{words} {'/'.join(map(str, numbers(row, call).values()))}" for call, words in calls.items())
             for it, row in rows.items()}
-    text = "; ".join(f"{keys} keys, {THREADS[form][0]}: {times}" for (keys, form), times in listed.items())
+    text = "; ".join(f"{keys} keys, {forms[form][0]}: {times}" for (keys, form), times in listed.items())
     sheet = Sheet(860, 568, title, text, RULES)
-    legend(sheet, THREADS.values(), 60, 24)
-    sheet.text(846, 556, "nanoseconds a call of a thread, by powers of ten", "quiet small end")
-    marks = steps([number for row in rows.values() for call in CALLS for number in numbers(row, call).values()])
+    legend(sheet, forms.values(), 60, 24)
+    sheet.text(846, 556, unit, "quiet small end")
+    marks = steps([number for row in rows.values() for call in calls for number in numbers(row, call).values()])
     for down, keys in enumerate(("dense", "random")):
-        for across, call in enumerate(CALLS):
+        for across, (call, words) in enumerate(calls.items()):
             left, top = 60 + 264 * across, 66 + 244 * down
-            threads_panel(sheet, rows, keys, call, left, Scale(marks, top + 196, top))
+            lines = {form: numbers(rows[keys, form], call) for form in forms}
+            sheet.text(left, top - 12, f"{words}, {keys} keys", "strong")
+            threads_panel(sheet, forms, lines, left, Scale(marks, top + 196, top), across == 0)
     return sheet
 
 
-def threads_panel(sheet, rows, keys, call, left, scale):
+def threads_panel(sheet, forms, lines, left, scale, has_marks):
     xs = {it: left + 20 + 96 * place for place, it in enumerate((1, 2, 4))}
-    sheet.text(left, scale.end - 12, f"{CALLS[call]}, {keys} keys", "strong")
     for number in scale.marks:
         y = scale.at(number)
         sheet.line(left, y, left + 232, y, "grid" if is_ten(number) else "grid-fine")
-        if is_ten(number) and call == "new":
+        if is_ten(number) and has_marks:
             sheet.text(left - 8, y + 4, f"{number:,}", "quiet small end")
     for it, x in xs.items():
         sheet.text(x, scale.start + 18, "1 thread" if it == 1 else it, "quiet small middle")
-    for form, (words, kind) in THREADS.items():
-        times = numbers(rows[keys, form], call)
+    for form, times in lines.items():
+        words, kind = forms[form]
         with sheet.group(f"{words}: " + ", ".join(f"{number} ns by {count}" for count, number in times.items())):
             sheet.path("M" + "L".join(f"{xs[count]} {scale.at(number)}" for count, number in times.items()), f"{kind}-line")
             for count, number in times.items():

@@ -1,9 +1,20 @@
-"""The times that the plots show: docs/pictures/speed.json, whose figures are those of the tables in docs/SPEED.md."""
+"""The times that the plots show: docs/pictures/speed.json, whose figures are those of the tables in docs/SPEED.md and SPEED-THREADS.md."""
 import json
 import re
 
 CALLS = ("new", "get", "overwrite")
 THREADS = (1, 2, 4)
+# The loads and the maps of tools/dev/compare-crates, and what its tables call them.
+LOADS = {
+    "new": "new key", "get": "look-up", "overwrite": "overwrite", "tenth": "a tenth writes", "half": "half writes",
+    "range": "range of 100", "remove": "remove",
+}
+BESIDE = {
+    "live": "this map (`LiveMap`)", "shards": "`SharedMap`, in 64 shards", "lock": "`SharedMap`, under one lock",
+    "congee": "the crate `congee`", "skiplist": "`crossbeam-skiplist`", "dashmap": "`dashmap`, which has no order",
+    "btree": "`Mutex<BTreeMap>`",
+}
+SECTION = "## Threads, beside other maps"
 # The forms of the plots, by their names in the tables.
 FORMS = {
     "`congee::locked`": "locked", "`congee::shared`": "shared", "the owned map in a mutex, by hand": "hand",
@@ -26,22 +37,31 @@ def owned_of(page):
 
 
 def threads_of(page):
-    section = page.split("## The forms that threads share")[1]
+    return by_threads_of(page.split("## The forms that threads share")[1], FORMS, CALLS)
+
+
+def beside_of(page):
+    return by_threads_of(page.split(SECTION)[1], {words: form for form, words in BESIDE.items()}, LOADS)
+
+
+def by_threads_of(section, forms, calls):
     found = []
     for keys in ("dense", "random"):
         table = re.search(rf"^\| {keys} keys \|.*\n(?:\|.*\n)+", section, re.M)[0]
         for row in rows_of(table):
-            if row[0] in FORMS:
-                cells = {call: numbers_of(cell) for call, cell in zip(CALLS, row[1:])}
-                flat = {f"{call} {count}": number for call in CALLS for count, number in zip(THREADS, cells[call])}
-                found.append({"keys": keys, "form": FORMS[row[0]], **flat})
+            if row[0] in forms:
+                cells = {call: numbers_of(cell) for call, cell in zip(calls, row[1:])}
+                flat = {f"{call} {count}": number for call in cells for count, number in zip(THREADS, cells[call])}
+                found.append({"keys": keys, "form": forms[row[0]], **flat})
     return found
 
 
-def differences(data, page):
+def differences(data, page, threads_page):
     """What the file and the tables don't agree in."""
     wrong = [f"owned, {row['keys']}" for row in data["owned"]["rows"] if row not in owned_of(page)]
-    return wrong + [f"{row['keys']}, {row['form']}" for row in data["threads"]["rows"] if row not in threads_of(page)]
+    for part, of in (("threads", threads_of), ("beside", beside_of)):
+        wrong += [f"{part}, {row['keys']}, {row['form']}" for row in data[part]["rows"] if row not in of(threads_page)]
+    return wrong
 
 
 def with_bench(data, bench):
@@ -50,6 +70,35 @@ def with_bench(data, bench):
     new = {(row["keys"], row["form"]): {name: round(row[name]) for name in names} for row in bench}
     for row in data["threads"]["rows"]:
         row.update(new.get((row["keys"], row["form"]), {}))
+    return data
+
+
+def beside_table(rows, keys, threads=THREADS):
+    """The table of what tools/dev/compare-crates measured over such keys: a line for each map."""
+    by_form = {row["form"]: row for row in rows if row["keys"] == keys}
+    loads = [load for load in LOADS if any(f"{load} {threads[0]}" in row for row in by_form.values())]
+    lines = [f"| {keys} keys | " + " | ".join(LOADS[load] for load in loads) + " |", "|---" * (len(loads) + 1) + "|"]
+    for form in (it for it in BESIDE if it in by_form):
+        times = [[by_form[form].get(f"{load} {count}") for count in threads] for load in loads]
+        cells = [" / ".join(f"{time:.0f}" for time in it if time is not None) for it in times]
+        lines.append(f"| {BESIDE[form]} | " + " | ".join(cells) + " |")
+    return "\n".join(lines) + "\n"
+
+
+def page_with_beside(page, rows):
+    """The page with these tables."""
+    before, _, section = page.partition(SECTION)
+    for keys in ("dense", "random"):
+        section = re.sub(rf"^\| {keys} keys \|.*\n(?:\|.*\n)+", lambda _, keys=keys: beside_table(rows, keys), section, count=1, flags=re.M)
+    return before + SECTION + section
+
+
+def with_beside(data, rows):
+    """The times with those of `tools/dev/compare-crates --json`."""
+    names = [f"{load} {count}" for load in LOADS for count in THREADS]
+    data["beside"]["rows"] = [
+        {"keys": row["keys"], "form": row["form"], **{name: round(row[name]) for name in names if name in row}} for row in rows
+    ]
     return data
 
 

@@ -1,0 +1,159 @@
+/* Handles of a map that is read without a lock, and how they move and end:
+ *   - a handle goes round between threads by a lock, with calls at each
+ *   - handles are made and freed while other threads call, and the map is freed with the last one, on any thread
+ *   - an atomic that is sequentially consistent hands a handle over, and what was stored before is seen
+ *   - handles that only look up leave nothing behind: a million of them in turn, and a hundred thousand at once */
+#define _POSIX_C_SOURCE 200809L
+#include "congee.h"
+#include <malloc.h>
+#include <pthread.h>
+#include <sched.h>
+#include <stdatomic.h>
+#include <stdio.h>
+#include <stdlib.h>
+
+enum { THREADS = 4, ROUNDS = 2000, MAPS = 300, PAIRS = 50, IN_TURN = 1000000, AT_ONCE = 100000, SLACK = 1 << 16 };
+
+static void need(bool holds, const char *what) {
+    if (!holds) {
+        fprintf(stderr, "live_handles: wrong: %s\n", what);
+        exit(1);
+    }
+}
+
+static void run(pthread_t *thread, void *(*work)(void *), void *with) {
+    need(pthread_create(thread, NULL, work, with) == 0, "a thread");
+}
+
+/* A map with so many pairs, in leaves of their own. */
+static struct congee_live *filled(void) {
+    struct congee_live *map;
+    need(congee_live_new(&map) == 0, "a map");
+    for (uint64_t i = 0; i < PAIRS; i++)
+        need(congee_live_insert(map, i << 8, 10 * i, NULL) == 0, "a pair");
+    return map;
+}
+
+/* One handle that all threads take in turn. */
+static pthread_mutex_t turn = PTHREAD_MUTEX_INITIALIZER;
+static struct congee_live *passed;
+
+static void *take_turns(void *unused) {
+    for (int i = 0; i < ROUNDS; i++) {
+        pthread_mutex_lock(&turn);
+        need(congee_live_add(passed, 7, 1, NULL) >= 0, "a call by a handle that is passed on");
+        pthread_mutex_unlock(&turn);
+    }
+    return unused;
+}
+
+static void pass_on(void) {
+    pthread_t threads[THREADS];
+    uint64_t value = 0;
+    need(congee_live_new(&passed) == 0, "a map");
+    for (int i = 0; i < THREADS; i++)
+        run(&threads[i], take_turns, NULL);
+    for (int i = 0; i < THREADS; i++)
+        pthread_join(threads[i], NULL);
+    need(congee_live_get(passed, 7, &value) == 1 && value == THREADS * ROUNDS, "the calls of a handle that was passed on");
+    congee_live_free(passed);
+}
+
+/* Looks all pairs up, inserts some, makes handles, and frees its own: none of the threads knows which is the last. */
+static void *look_up(void *at) {
+    struct congee_live *map = at, *other;
+    uint64_t value;
+    for (uint64_t i = 0; i < PAIRS; i++) {
+        need(congee_live_get(map, i << 8, &value) == 1 && value == 10 * i, "a pair of a map whose handles end");
+        if (i % 16 == 0) {
+            need(congee_live_another(map, &other) == 0, "a handle beside others' calls");
+            need(congee_live_get(other, i << 8, &value) == 1 && value == 10 * i, "a pair by a new handle");
+            need(congee_live_insert(other, (i << 8) + 1, i, NULL) >= 0, "an insertion by a new handle");
+            congee_live_free(i % 32 ? other : map);
+            map = i % 32 ? map : other;
+        }
+    }
+    congee_live_free(map);
+    return NULL;
+}
+
+static void end_beside_others(void) {
+    for (int round = 0; round < MAPS; round++) {
+        struct congee_live *map = filled(), *other;
+        pthread_t threads[THREADS];
+        for (int i = 1; i < THREADS; i++) {
+            need(congee_live_another(map, &other) == 0, "a handle");
+            run(&threads[i], look_up, other);
+        }
+        run(&threads[0], look_up, map);
+        for (int i = 0; i < THREADS; i++)
+            pthread_join(threads[i], NULL);
+    }
+}
+
+/* A handle goes over by an atomic. */
+static _Atomic(struct congee_live *) handed;
+
+static void *take_over(void *unused) {
+    struct congee_live *map;
+    uint64_t value;
+    while (!(map = atomic_exchange(&handed, NULL)))
+        sched_yield();
+    for (uint64_t i = 0; i < PAIRS; i++)
+        need(congee_live_try_get(map, i << 8, &value) == 1 && value == 10 * i, "what was stored before the handle went over");
+    congee_live_free(map);
+    return unused;
+}
+
+static void hand_over(void) {
+    for (int round = 0; round < MAPS; round++) {
+        pthread_t thread;
+        run(&thread, take_over, NULL);
+        atomic_store(&handed, filled());
+        pthread_join(thread, NULL);
+    }
+}
+
+/* The bytes that malloc has lent. (Under a sanitizer it isn't asked, and 0 each time.) */
+static size_t lent(void) {
+    return mallinfo2().uordblks;
+}
+
+static void leave_nothing_behind(void) {
+    static struct congee_live *others[AT_ONCE];
+    struct congee_live *map = filled();
+    uint64_t value;
+    size_t before = lent();
+    for (uint64_t i = 0; i < IN_TURN; i++) {
+        struct congee_live *other;
+        need(congee_live_another(map, &other) == 0, "one of a million handles");
+        need(congee_live_try_get(other, i % PAIRS << 8, &value) == 1 && value == 10 * (i % PAIRS), "a pair by it");
+        congee_live_free(other);
+    }
+    need(lent() < before + SLACK, "what a million handles in turn leave behind");
+    for (uint64_t i = 0; i < AT_ONCE; i++) {
+        /* (each is made by one that was made before) */
+        need(congee_live_another(i == 0 ? map : others[i / 2], &others[i]) == 0, "one of many handles");
+        need(congee_live_try_get(others[i], i % PAIRS << 8, &value) == 1 && value == 10 * (i % PAIRS), "a pair by it");
+    }
+    congee_live_free(map);
+    for (uint64_t i = 0; i < AT_ONCE; i++) {
+        uint64_t at = i * 7919 % AT_ONCE;
+        need(congee_live_try_get(others[at], 0, &value) == 1 && value == 0, "a pair beside handles that end");
+        if (i + 1 < AT_ONCE)
+            congee_live_free(others[at]);
+        else
+            map = others[at];
+    }
+    need(lent() < before + SLACK, "what many handles at once leave behind");
+    congee_live_free(map);
+}
+
+int main(void) {
+    pass_on();
+    end_beside_others();
+    hand_over();
+    leave_nothing_behind();
+    printf("%d threads, %d maps that ended beside look-ups, %d handles in turn and %d at once\n", THREADS, MAPS, IN_TURN, AT_ONCE);
+    return 0;
+}
