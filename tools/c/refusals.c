@@ -5,7 +5,7 @@
 #include <stdio.h>
 #include <stdlib.h>
 
-enum { FIRST = 400, KEYS = 3000 };
+enum { FIRST = 400, KEYS = 3000, IN_LEAVES = 2400 };
 
 static long left = -1; /* how many allocations succeed before one fails, or none for -1 */
 static long failed;    /* how many have failed */
@@ -47,9 +47,13 @@ static void need(bool holds, const char *what) {
     }
 }
 
-/* Leaves of 20 keys each, far from one another: each grows twice. */
+/* Leaves of 20 keys each, far from one another: each grows twice. Then keys without a neighbour, 40 of them under each node:
+ * its row of children grows in steps. */
 static uint64_t key_of(uint64_t i) {
-    return i / 20 * 0x0100010001000100u + i % 20;
+    if (i < IN_LEAVES)
+        return i / 20 * 0x0100010001000100u + i % 20;
+    uint64_t alone = i - IN_LEAVES;
+    return 0xf000000000000000u + (alone / 40 << 16) + (alone % 40 * 37 % 40 << 8);
 }
 
 /* The map has the keys below a place, each with its place as its value, and no other key. */
@@ -183,7 +187,7 @@ int main(void) {
     left = -1;
     while (empty(removals, false) && empty(removals, true))
         removals++;
-    need(removals >= KEYS / 20, "each leaf takes memory for a smaller node");
+    need(removals >= IN_LEAVES / 20 + (KEYS - IN_LEAVES) / 40, "each leaf and each node above takes memory for a smaller one");
     while (freeze(readers))
         readers++;
     need(readers == 3, "a frozen map takes two blocks, and another reader one");
