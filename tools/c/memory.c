@@ -6,8 +6,8 @@
 #include <stdio.h>
 #include <stdlib.h>
 
-/* (malloc keeps up to seven blocks of each size below a kilobyte for its next calls, and counts them as lent: 233 KB) */
-enum { KEYS = 100000, ROUNDS = 3, LEFT = 1 << 18 };
+/* (The small blocks that malloc keeps for its next calls count as lent, unless glibc.malloc.tcache_count is 0.) */
+enum { KEYS = 100000, ROUNDS = 3, LEFT = 65536 };
 
 static void need(bool holds, const char *what) {
     if (!holds) {
