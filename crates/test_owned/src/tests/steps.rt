@@ -14,12 +14,12 @@ fn key(i: u64) -> u64 {
 }
 
 // What is charged for the root, a leaf for each pair, and the node above them.
-fn charge(pairs: u64, node: u128) -> u128 {
-    2104 + 64 * pairs as u128 + node
+fn charge(pairs: u64, node: u32) -> u128 {
+    2104 + 64 * pairs as u128 + node as u128
 }
 
 // While pairs come, a node with so many is the smallest that has room for them.
-fn grown(pairs: u64) -> u128 {
+fn grown(pairs: u64) -> u32 {
     match pairs {
         0 | 1 => 0,
         2..=4 => 64,
@@ -30,7 +30,7 @@ fn grown(pairs: u64) -> u128 {
 }
 
 // While they go, it shrinks with 36, 12 and 3.
-fn shrunk(pairs: u64) -> u128 {
+fn shrunk(pairs: u64) -> u32 {
     match pairs {
         0 => 0,
         1..=3 => 64,
