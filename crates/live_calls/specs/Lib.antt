@@ -4,5 +4,4 @@ pub mod Stands
 pub mod Calls
 pub mod Holds
 pub mod Rooms
-pub mod Exchanges
 pub mod Meetings

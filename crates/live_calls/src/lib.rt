@@ -6,7 +6,6 @@
 //! Tested in `test_live_calls`.
 #![tactic(auto)]
 
-pub mod exchange;
 mod get;
 pub mod held;
 pub mod insert;

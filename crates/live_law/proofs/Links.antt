@@ -10,7 +10,7 @@ use Rattle.node_table.specs.declared.child.Child.TheVariants.{Payload, Node as B
 use Rattle.live_nodes.proofs.Frames.{each_map}
 use Rattle.live_nodes.specs.Nodes.{Content, at, Node, node}
 use Rattle.live_nodes.specs.Seats.{Each}
-use Rattle.live_law.specs.Levels.{Shape, name_of, way, IsBelow, Spot}
+use Rattle.live_law.specs.Levels.{Shape, name_of, way, IsWithin, Spot}
 use Rattle.live_law.specs.Views.{View, view_of, Own, locked, fresh, outgrown, trunk}
 use Rattle.live_law.specs.Tree.{Plan, home_of, IsFree, LeadsTo, IsHouse, Skips, IsCurrent, NamesRoot, IsSpot, IsMet, IsFresh, IsOwn, IsTree, IsMap}
 use Rattle.live_law.proofs.Plans.{way-suc, way-own, none_below, at_home}
@@ -40,7 +40,7 @@ module _ (d : Plan) (y : Spot) (g : ℕ) where
 
   -- y is at this level
   abbrev pub IsOn : ℕ → ℕ → Type 0
-  IsOn h t = (h ≤ g) × IsBelow y.shape h t
+  IsOn h t = (h ≤ g) × IsWithin y.shape h t
 
   abbrev middle : ℕ → ℕ → ℕ
   middle h t = cond (nat_lt h h₀) (d.home h t) (cond (nat_eq (way y.shape h) t) y.number (d.home h t))
@@ -223,7 +223,7 @@ module _ (id : ℕ) (v : View) (y : Spot) (cy : Content) (k : ℕ) (b : Node) (n
       (home_either d y g h t)
 
   -- beside y nothing was where o was
-  was_gone : (h t x : ℕ) → x < 256 → IsOn d y g (suc h) t → hy ≤ h → (IsBelow y.shape h (256 * t + x) → ⊥) → d.home h (256 * t + x) ≡ 0
+  was_gone : (h t x : ℕ) → x < 256 → IsOn d y g (suc h) t → hy ≤ h → (IsWithin y.shape h (256 * t + x) → ⊥) → d.home h (256 * t + x) ≡ 0
   was_gone h t x lo on tall_h off =
       let above : d.home (suc h) t ≡ o = ap (d.home (suc h)) (sym on.1.1) ∙ was (suc h) on.1.0 on.0 in
       let here : d.home h (way y.shape h) ≡ o = was h tall_h (let l = on.0 in omega (arith, l)) in
@@ -236,7 +236,7 @@ module _ (id : ℕ) (v : View) (y : Spot) (cy : Content) (k : ℕ) (b : Node) (n
       let lower : (d.shape o).height ≤ h = (let l = z.0 in omega (arith, l, tall_h)) in
       let ways : way (d.shape o) h ≡ way y.shape h = subst (λ (j : ℕ). way (d.shape j) h ≡ way y.shape h) here (p.tree.housed h (way y.shape h) (subst (λ (j : ℕ). 1 ≤ j) (sym here) some_o)).below.1 in
       (p.tree.skips h t x lo (subst (λ (j : ℕ). 1 ≤ j) (sym above) some_o) (subst (λ (j : ℕ). (d.shape j).height ≤ h) (sym above) lower)).1
-      (λ bl. off (tall_h, sym ways ∙ (subst (λ (j : ℕ). IsBelow (d.shape j) h (256 * t + x)) above bl).1))))
+      (λ bl. off (tall_h, sym ways ∙ (subst (λ (j : ℕ). IsWithin (d.shape j) h (256 * t + x)) above bl).1))))
       occupied
     where
       some_of : (j : ℕ) → j ≢ 0 → 1 ≤ j
@@ -250,8 +250,8 @@ module _ (id : ℕ) (v : View) (y : Spot) (cy : Content) (k : ℕ) (b : Node) (n
       let tall_h : hy ≤ h = subst (λ (z : Shape). z.height ≤ h) sh (subst (λ (z : ℕ). (d.shape z).height ≤ h) w.1 lower) in
       let low_h : h ≤ g = (let l = w.0.0 in omega (arith, l)) in
       subst (λ (z : ℕ). Skips d' h (256 * t + x) z) (sym w.1) (
-        (λ bl. home_new d y g h (256 * t + x) (low_h, subst (λ (z : Shape). IsBelow z h (256 * t + x)) sh bl)),
-        (λ off. let gone : IsBelow y.shape h (256 * t + x) → ⊥ = λ bl. off (subst (λ (z : Shape). IsBelow z h (256 * t + x)) (sym sh) bl) in
+        (λ bl. home_new d y g h (256 * t + x) (low_h, subst (λ (z : Shape). IsWithin z h (256 * t + x)) sh bl)),
+        (λ off. let gone : IsWithin y.shape h (256 * t + x) → ⊥ = λ bl. off (subst (λ (z : Shape). IsWithin z h (256 * t + x)) (sym sh) bl) in
             home_old d y g h (256 * t + x) (λ on. gone on.1) ∙ was_gone h t x lo w.0 tall_h gone),
       ))
       (λ w.
@@ -302,7 +302,7 @@ module _ (id : ℕ) (v : View) (y : Spot) (cy : Content) (k : ℕ) (b : Node) (n
             linked = maker_here d y g;
             level = (let l = w.0.0 in omega (arith, l, level));
             some_height = subst (λ (z : Shape). 1 ≤ z.height) (sym sh) tall;
-            below = subst (λ (z : Shape). IsBelow z h s) (sym sh) w.0.1;
+            below = subst (λ (z : Shape). IsWithin z h s) (sym sh) w.0.1;
           })
           (λ w. let o = t.housed h s (subst (λ (z : ℕ). 1 ≤ z) w.1 some_node) in
           subst (λ (z : ℕ). IsHouse d' ns' h s z) (sym w.1) record {

@@ -14,7 +14,7 @@ use Rattle.live_nodes.specs.Acts as acts
 use Rattle.live_cells.specs.Words as cells
 use Rattle.live_cells.specs.Head.{IsHead}
 use Rattle.live_encodes.specs.Encodes.{words_of, long_for, HasChildren, Encodes}
-use Rattle.live_law.specs.Levels.{up, Shape, name_of, IsBelow, Spot, spot}
+use Rattle.live_law.specs.Levels.{up, Shape, name_of, IsWithin, Spot, spot}
 use Rattle.live_law.specs.Views.{View, view_of, Own, locked, fresh, outgrown, trunk, Ask}
 use Rattle.live_law.specs.Tree.{Plan, home_of, IsFree, LeadsTo, IsUnder, IsCurrent, NamesRoot, IsSpot, IsMet, IsOwn, AreNodes, IsTree, IsMap, IsMade}
 use Rattle.live_law.proofs.Changes.{with_map}
@@ -184,11 +184,11 @@ module _ (d : Plan) (id : ℕ) (s : Shape) (ns : List Node) (content : Content) 
             linked = maker_old (d.home h x) (home_low h x some_node) ∙ w.linked;
             level = w.level;
             some_height = subst (λ (z : Shape). 1 ≤ z.height) (sym same) w.some_height;
-            below = subst (λ (z : Shape). IsBelow z h x) (sym same) w.below;
+            below = subst (λ (z : Shape). IsWithin z h x) (sym same) w.below;
           };
       upward = t.upward;
       skips = λ h x b lo some_node lower'. let same = shape_old (d.home (suc h) x) (home_low (suc h) x some_node) in
-          subst (λ (z : Shape). (IsBelow z h (256 * x + b) → d.home h (256 * x + b) ≡ d.home (suc h) x) × ((IsBelow z h (256 * x + b) → ⊥) → d.home h (256 * x + b) ≡ 0)) (sym same)
+          subst (λ (z : Shape). (IsWithin z h (256 * x + b) → d.home h (256 * x + b) ≡ d.home (suc h) x) × ((IsWithin z h (256 * x + b) → ⊥) → d.home h (256 * x + b) ≡ 0)) (sym same)
           (t.skips h x b lo some_node (subst (λ (z : Shape). z.height ≤ h) same lower'));
       current = λ k some_node here.
           let at_home : 1 ≤ home_of d (d'.shape k) = subst (λ (z : ℕ). 1 ≤ z) (sym here) some_node in

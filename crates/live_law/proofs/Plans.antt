@@ -5,7 +5,7 @@ use native.Mathlib.Decide.{ℕ_discrete}
 use Rattle.spec_map.specs.Map.{Pairs, lookup}
 use Rattle.live_nodes.specs.Nodes.{Node}
 use Rattle.live_encodes.proofs.StandLaws.{few_forms}
-use Rattle.live_law.specs.Levels.{up, digit, Shape, name_of, Covers, way, IsBelow, Spot}
+use Rattle.live_law.specs.Levels.{up, digit, Shape, name_of, Covers, way, IsWithin, Spot}
 use Rattle.live_law.specs.Tree.{Plan, home_of, IsSpot, AreNodes, IsTree}
 
 pub digit-low : (h k : ℕ) → digit h k < 256
@@ -83,7 +83,7 @@ module _ (d : Plan) (ns : List Node) (m : Pairs ℕ) (t : IsTree d ns m) where
       let low' : s.height ≤ n + h = omega (arith, low) in
       let joins = way-joins s (n + h) low' in
       let k = t.skips (n + h) (way s (suc (n + h))) (way s (n + h) % 256) (omega arith) (subst (λ (z : ℕ). 1 ≤ z) (sym one) some_node) (subst (λ (z : ℕ). (d.shape z).height ≤ n + h) (sym one) low') in
-      descends n h j some_node low (ap (d.home (n + h)) (sym joins) ∙ (k.0 (subst (λ (z : ℕ). IsBelow (d.shape z) (n + h) (256 * way s (suc (n + h)) + way s (n + h) % 256)) (sym one) (low', sym joins)) ∙ one))
+      descends n h j some_node low (ap (d.home (n + h)) (sym joins) ∙ (k.0 (subst (λ (z : ℕ). IsWithin (d.shape z) (n + h) (256 * way s (suc (n + h)) + way s (n + h) % 256)) (sym one) (low', sym joins)) ∙ one))
 
   -- So it is current.
   pub at_home : (h x : ℕ) → 1 ≤ d.home h x → home_of d (d.shape (d.home h x)) ≡ d.home h x
@@ -95,19 +95,19 @@ module _ (d : Plan) (ns : List Node) (m : Pairs ℕ) (t : IsTree d ns m) where
       ap (d.home s.height) (sym (way-own s)) ∙ descends (h - s.height) s.height j there (omega arith) (subst (λ (z : ℕ). d.home z (way s z) ≡ j) (let e : h ≡ h - s.height + s.height = omega (arith, low) in e) (ap (d.home h) b.1))
 
   -- Where a node is that has no such keys, the key isn't there.
-  covers_there : (h k j : ℕ) → j ≡ d.home (suc h) (up (suc h) k) → IsBelow (d.shape j) (suc h) (up (suc h) k) → (d.shape j).height ≡ suc h → Covers (d.shape j) k
+  covers_there : (h k j : ℕ) → j ≡ d.home (suc h) (up (suc h) k) → IsWithin (d.shape j) (suc h) (up (suc h) k) → (d.shape j).height ≡ suc h → Covers (d.shape j) k
   covers_there h k j here below e = ap (λ (z : ℕ). up z k) e ∙ (sym below.1 ∙ (ap (way (d.shape j)) (sym e) ∙ way-own (d.shape j)))
 
   pub missed : (h k j : ℕ) → suc h < 9 → 1 ≤ j → d.home (suc h) (up (suc h) k) ≡ j → (Covers (d.shape j) k → ⊥) → lookup m k ≡ None
   missed zero k j l some_node here never =
       let house = t.housed 1 (up 1 k) (subst (λ (z : ℕ). 1 ≤ z) (sym here) some_node) in
-      let below : IsBelow (d.shape j) 1 (up 1 k) = subst (λ (z : ℕ). IsBelow (d.shape z) 1 (up 1 k)) here house.below in
+      let below : IsWithin (d.shape j) 1 (up 1 k) = subst (λ (z : ℕ). IsWithin (d.shape z) 1 (up 1 k)) here house.below in
       let tall : 1 ≤ (d.shape j).height = subst (λ (z : ℕ). 1 ≤ (d.shape z).height) here house.some_height in
       let low = below.0 in
       absurd (never (covers_there 0 k j (sym here) below (omega (arith, low, tall))))
   missed (suc h) k j l some_node here never =
       let house = t.housed (suc (suc h)) (up (suc (suc h)) k) (subst (λ (z : ℕ). 1 ≤ z) (sym here) some_node) in
-      let below : IsBelow (d.shape j) (suc (suc h)) (up (suc (suc h)) k) = subst (λ (z : ℕ). IsBelow (d.shape z) (suc (suc h)) (up (suc (suc h)) k)) here house.below in
+      let below : IsWithin (d.shape j) (suc (suc h)) (up (suc (suc h)) k) = subst (λ (z : ℕ). IsWithin (d.shape z) (suc (suc h)) (up (suc (suc h)) k)) here house.below in
       let low = below.0 in
       dite (ℕ_discrete (d.shape j).height (suc (suc h)))
       (λ e. absurd (never (covers_there (suc h) k j (sym here) below e)))
@@ -117,8 +117,8 @@ module _ (d : Plan) (ns : List Node) (m : Pairs ℕ) (t : IsTree d ns m) where
       let s = t.skips (suc h) (up (suc (suc h)) k) (digit (suc (suc h)) k) (digit-low (suc (suc h)) k) (subst (λ (z : ℕ). 1 ≤ z) (sym here) some_node) (subst (λ (z : ℕ). (d.shape z).height ≤ suc h) (sym here) down) in
       dite (ℕ_discrete (way (d.shape j) (suc h)) (up (suc h) k))
       (λ e. missed h k j (omega (arith, l)) some_node
-      (ap (d.home (suc h)) (sym joins) ∙ (s.0 (subst (λ (z : ℕ). IsBelow (d.shape z) (suc h) (256 * up (suc (suc h)) k + digit (suc (suc h)) k)) (sym here) (down, e ∙ sym joins)) ∙ here)) never)
-      (λ no. none_there h k (omega (arith, l)) (ap (d.home (suc h)) (sym joins) ∙ s.1 (λ b. no ((subst (λ (z : ℕ). IsBelow (d.shape z) (suc h) (256 * up (suc (suc h)) k + digit (suc (suc h)) k)) here b).1 ∙ joins)))))
+      (ap (d.home (suc h)) (sym joins) ∙ (s.0 (subst (λ (z : ℕ). IsWithin (d.shape z) (suc h) (256 * up (suc (suc h)) k + digit (suc (suc h)) k)) (sym here) (down, e ∙ sym joins)) ∙ here)) never)
+      (λ no. none_there h k (omega (arith, l)) (ap (d.home (suc h)) (sym joins) ∙ s.1 (λ b. no ((subst (λ (z : ℕ). IsWithin (d.shape z) (suc h) (256 * up (suc (suc h)) k + digit (suc (suc h)) k)) here b).1 ∙ joins)))))
 
 -- a name is of one node
 pub same_key : (s t : Shape) → name_of s ≡ name_of t → s.key ≡ t.key

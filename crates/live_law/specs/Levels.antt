@@ -37,8 +37,8 @@ abbrev pub way : Shape → ℕ → ℕ
 way s h = up (h - s.height) s.top
 
 -- The node is on that level or below it, and those bytes are these.
-abbrev pub IsBelow : Shape → ℕ → ℕ → Type 0
-IsBelow s h t = (s.height ≤ h) × (way s h ≡ t)
+abbrev pub IsWithin : Shape → ℕ → ℕ → Type 0
+IsWithin s h t = (s.height ≤ h) × (way s h ≡ t)
 
 -- a node, by its number among all nodes
 pub record Spot : Type 0 where

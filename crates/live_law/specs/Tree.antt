@@ -11,7 +11,7 @@ use Rattle.share_rule.specs.inner.Rule.{HasSeen}
 use Rattle.live_nodes.specs.Nodes.{Content, at, Node, node}
 use Rattle.live_nodes.specs.Seats.{Place, Each, IsIn, Agree}
 use Rattle.live_encodes.specs.Encodes.{words_of, Encodes}
-use Rattle.live_law.specs.Levels.{digit, Shape, name_of, Covers, IsBelow, Spot, place_at}
+use Rattle.live_law.specs.Levels.{digit, Shape, name_of, Covers, IsWithin, Spot, place_at}
 use Rattle.live_law.specs.Views.{Own, locked, fresh, outgrown, trunk, View, view_of, rest_of, content_of, Ask, got, inserted}
 
 -- what each node is, which one is current where, and who has made one that nobody else knows. A node that is current is at
@@ -60,11 +60,11 @@ module _ (d : Plan) where
     pub linked : d.maker j ≡ None
     pub level : h ≤ 8
     pub some_height : 1 ≤ (d.shape j).height
-    pub below : IsBelow (d.shape j) h t
+    pub below : IsWithin (d.shape j) h t
 
   -- One level down it is there too, or nothing is.
   abbrev pub Skips : ℕ → ℕ → ℕ → Type 0
-  Skips h t j = (IsBelow (d.shape j) h t → d.home h t ≡ j) × ((IsBelow (d.shape j) h t → ⊥) → d.home h t ≡ 0)
+  Skips h t j = (IsWithin (d.shape j) h t → d.home h t ≡ j) × ((IsWithin (d.shape j) h t → ⊥) → d.home h t ≡ 0)
 
   -- This is the content of a node of that shape, which is current.
   pub record IsCurrent (m : Pairs ℕ) (s : Shape) (c : Content) : Type 0 where

@@ -16,12 +16,11 @@ use Rattle.live_law.specs.Levels.{up, digit, Spot, Covers, place_at}
 use Rattle.live_law.specs.Views.{View}
 use Rattle.live_law.specs.Tree.{IsMap, LearnsNode, IsOfKind, Answers}
 use Rattle.live_calls.specs.Ways.{Names, AreNamed, Keeps}
-use Rattle.live_calls.specs.Exchanges.{IsNoWay, MayLeave}
 use Rattle.live_calls.proofs.Views.{head_read, reading, reading_keeps, learned_keeps, reads_on, node_taken}
 use Rattle.live_calls.proofs.Sights.{leaves_none}
 use Rattle.live_updates.specs.declared.lookup.Site.{Site}
 use Rattle.live_updates.specs.declared.lookup.Site.TheVariants as sites
-use Rattle.live_updates.specs.inner.Lookups.{Lookup, IsLookup, asked_by, HasEnded, MayEnd, Seeks, Found, EndsBy, Sought}
+use Rattle.live_updates.specs.inner.Lookups.{Lookup, IsLookup, asked_by, HasEnded, MayEnd, IsNoWay, MayLeave, Seeks, Found, EndsBy, Sought}
 use Rattle.live_updates.proofs.Sought.{node_seeks}
 
 abbrev Seen : Type 0

@@ -1,8 +1,7 @@
 //! A look-up of a key, which may end a call: the key's value, and its leaf.
 ghost use Rattle.std.specs.Prelude.{◌≡◌, ℕ, ◌+◌, ◌<◌, ◌≤◌, true, false, None, IsTrue};
 ghost use Rattle.live_calls.specs.Ways.{KnowsTrunk, Names, Keeps};
-ghost use Rattle.live_calls.specs.Exchanges.{IsNoWay, MayLeave};
-ghost use Rattle.live_updates.specs.inner.Lookups.{IsLookup, MayEnd, Found, Sought};
+ghost use Rattle.live_updates.specs.inner.Lookups.{IsLookup, MayEnd, IsNoWay, MayLeave, Found, Sought};
 
 use live_calls::sight::{Next, step};
 use live_calls::way::{Nodes, Pass, byte_at, open, root, words_at};

@@ -6,10 +6,11 @@ use Rattle.spec_map.specs.Legal.{exchange}
 use Rattle.spec_map.specs.Map.{Pairs, lookup}
 use Rattle.share_rule.specs.History.{Entry, IsHistory}
 use Rattle.live_nodes.specs.Seats.{Place, SeatView, IsIn}
+use Rattle.live_encodes.specs.Encodes.{IsWord}
 use Rattle.live_law.specs.Levels.{Spot, name_of, Covers}
 use Rattle.live_law.specs.Views.{View, view_of, Ask, ask}
 use Rattle.live_law.specs.Tree.{Answers}
-use Rattle.live_calls.specs.Ways.{Names}
+use Rattle.live_calls.specs.Ways.{Names, Leaves}
 use Rattle.live_updates.specs.Entries.{removed, swapped}
 use Rattle.live_updates.specs.declared.lookup.Site.{Site}
 use Rattle.live_updates.specs.declared.lookup.Site.TheVariants as sites
@@ -47,6 +48,17 @@ abbrev pub Seeks : Lookup → Ask → View → Spot → Option (Child ℕ) → L
 Seeks q a v s None ps w = MayEnd q.caller (q.entry None) v w
 Seeks q a v s (Some (Payload y)) ps w = MayEnd q.caller (q.entry (Some y)) v w
 Seeks q a v s (Some (Node n)) ps w = (b : Spot) → IsIn b v.met → n ≡ name_of b.shape → (Covers b.shape a.key → ⊥) → MayEnd q.caller (q.entry None) v w
+
+-- Nothing was found, or the node that the key leaves.
+abbrev pub IsNoWay : Option ℕ → Option ℕ → Type 0
+IsNoWay None below = Unit {0}
+IsNoWay (Some w) None = ⊥
+IsNoWay (Some w) (Some b) = (s : ℕ) → IsWord w (Node s) → s ≡ b
+
+-- The key leaves the way of that node, if there is one.
+abbrev pub MayLeave : SeatView View → ℕ → Option ℕ → Type 0
+MayLeave v key None = Unit {0}
+MayLeave v key (Some b) = (h : ℕ) × (byte : ℕ) × Leaves v b key h byte
 
 -- What a leaf has, or nothing, where a writer came in between.
 abbrev pub Found : Lookup → Option (Option ℕ) → SeatView View → SeatView View → Type 0

@@ -1,5 +1,5 @@
 use Rattle.std.proofs.Common.{rules, sym, subst, ℕ, Option, Some, ◌≡◌, ◌∙◌}
-use Rattle.live_calls.specs.Exchanges.{IsNoWay}
+use Rattle.live_updates.specs.inner.Lookups.{IsNoWay}
 use Rattle.live_updates.proofs.lookup.is_end.Goals as goal
 
 pub returns : goal.returns
