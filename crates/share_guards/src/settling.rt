@@ -1,6 +1,6 @@
 //! The number of a shared map's pairs by the whole share, as an entry of the history.
 //!
-//! Tested in `test_share_ends`.
+//! Tested in `test_share_faces/settled`.
 
 ghost use Rattle.std.specs.Prelude.{◌≡◌, ◌≢◌, ◌^◌, MatchResult};
 ghost use Rattle.spec_map.specs.Call.{count, counted};

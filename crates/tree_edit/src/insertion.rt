@@ -294,7 +294,7 @@ pub(crate) fn make_ready<P: Drop, A: Allocator>(
     }
 }
 
-/// Puts a new key's pair where all is ready for it. Takes no memory but a spare row.
+/// Puts a new key's pair where all is ready for it. Takes no memory: a longer row was taken before.
 pub(crate) fn put<P: Drop>(nodes: &mut Nodes<P>, ready: Ready<P>, key: &[u8; 8], payload: P)
     requires { MayPut nodes.old.table nodes.old.free key.now ready }
     ensures { Puts nodes.old.table nodes.new.table key.now ready payload }
