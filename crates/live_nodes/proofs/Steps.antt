@@ -236,18 +236,18 @@ module _ {V : Type 0} (root : ℕ) (P : List Node → List V → Type 0) where
   )
 
   -- LOCK: a free node, or one that is obsolete
-  pub may_lock : (id : ℕ) (v : View) (p : Place) (word new m : ℕ) (told : V → ℕ → Content → V → Type 0) → IsIn p v.places → ((x : ℕ) → word ≢ 4 * x + 2) → new ≡ 4 * m + 2 → word < new
-      → acts.Locks P id v.client p.number word new (told v.client p.number) → Exchanges R (plays.Locks told) id v p.key word new
-  may_lock id v p old new m₀ told known no_holder odd rises locks s n r seat there =
+  pub may_lock : (id : ℕ) (v : View) (p : Place) (word next m : ℕ) (told : V → ℕ → Content → V → Type 0) → IsIn p v.places → ((x : ℕ) → word ≢ 4 * x + 2) → next ≡ 4 * m + 2 → word < next
+      → acts.Locks P id v.client p.number word next (told v.client p.number) → Exchanges R (plays.Locks told) id v p.key word next
+  may_lock id v p old next m₀ told known no_holder odd rises locks s n r seat there =
       let f = r.each_seat id v seat in let k : ℕ = p.number in let a : Node = node r.nodes k in let T = told v.client k in let at_p = here s r id v seat p known in
       let is = is_node s r id v seat p known in let version = word_found s r id v seat p n known there in
-      let all_alike : (w : View) (m : ℕ) → Tried T k old new p.len v m w → (p' : Place) → IsIn p' v.places → p'.key ≡ p.key → Tried (told v.client p'.number) p'.number old new p'.len v m w =
+      let all_alike : (w : View) (m : ℕ) → Tried T k old next p.len v m w → (p' : Place) → IsIn p' v.places → p'.key ≡ p.key → Tried (told v.client p'.number) p'.number old next p'.len v m w =
       λ w m c p' known' key. let number : p'.number ≡ k = one_place s r id v seat p' p known' known key in
       let len : p'.len ≡ p.len = sym (here s r id v seat p' known').2 ∙ (ap (λ (z : ℕ). length (node r.nodes z).content) number ∙ at_p.2) in
-      subst (λ (t : ℕ × ℕ). Tried (told v.client t.0) t.0 old new t.1 v m w) (λ j. (sym number j, sym len j)) c in (
+      subst (λ (t : ℕ × ℕ). Tried (told v.client t.0) t.0 old next t.1 v m w) (λ j. (sym number j, sym len j)) c in (
         (λ (hit : n ≡ old).
-            let word : a.word ≡ old = sym version ∙ hit in let open' = shown_none a.holder a.content (r.drafts k) a.word is.bits (λ x e. no_holder x (sym word ∙ e)) in let b : Node = acts.held_as P id v.client a new id in
-            let g = locks r.nodes (map client s.views) r.agreed (client_at s id v seat) at_p.0 word open'.0 in let w : View = locked v g.0 k new a.content in
+            let word : a.word ≡ old = sym version ∙ hit in let open' = shown_none a.holder a.content (r.drafts k) a.word is.bits (λ x e. no_holder x (sym word ∙ e)) in let b : Node = acts.held_as P id v.client a next id in
+            let g = locks r.nodes (map client s.views) r.agreed (client_at s id v seat) at_p.0 word open'.0 in let w : View = locked v g.0 k next a.content in
             let lasts : Lasts a b = record { place = refl; len = refl; later = λ x m e low. (omega (arith, low, word, rises), λ x'. absurd (omega (arith, e, x', odd))) } in
             let apart : (j : ℕ) → a.holder ≡ Some j → ⊥ = λ j e. none_held a.holder j open'.0 e in
             let still = knows_lasts r.nodes r.drafts k b a.content at_p.0 lasts id v (apart id) f in let now = node_here r.nodes k b at_p.0 in
@@ -256,11 +256,11 @@ module _ {V : Type 0} (root : ℕ) (P : List Node → List V → Type 0) where
               reads = still.reads;
               holds = ((omega (arith, at_p.0, length-set r.nodes k b), ap (λ (z : Node). z.holder) now, put_here r.drafts k a.content, ap (λ (z : Node). z.word) now), still.holds);
             } in
-            let new = node_version r.owner k a b (r.drafts k) a.content s.words is refl refl refl (sym open'.1) (m₀, odd) in
-            let new' : IsNode r.owner k b a.content (set s.words p.key new) = subst (λ (z : ℕ). IsNode r.owner k b a.content (set s.words z new)) at_p.1 new in (
+            let made = node_version r.owner k a b (r.drafts k) a.content s.words is refl refl refl (sym open'.1) (m₀, odd) in
+            let new' : IsNode r.owner k b a.content (set s.words p.key next) = subst (λ (z : ℕ). IsNode r.owner k b a.content (set s.words z next)) at_p.1 made in (
               w,
               0,
-              no_more s p.key new id w (stepped s r k p.key new b a.content id w at_p.0 (word_of s r id v seat p known) new' lasts (λ j _ e. apart j e) mine (r.each_room id v seat) g.1),
+              no_more s p.key next id w (stepped s r k p.key next b a.content id w at_p.0 (word_of s r id v seat p known) new' lasts (λ j _ e. apart j e) mine (r.each_room id v seat) g.1),
               all_alike w old (record { won = λ _. (a.content, g.0, at_p.2, refl {a = w}, g.2, λ m free. reads_fit r.nodes k old (sym word) m free v.reads f.reads); lost = λ ne. absurd (ne refl) }),
             )),
         (λ ne. (v, silent s r id v v seat refl refl f, all_alike v n (record { won = λ hit. absurd (ne hit); lost = λ _. refl }))),
