@@ -1,10 +1,4 @@
 pub mod Histories
 pub mod Plans
-pub mod Looks
 pub mod Changes
-pub mod Locks
-pub mod Writes
-pub mod Makes
-pub mod Links
-pub mod Joins
-pub mod Begins
+pub mod Looks

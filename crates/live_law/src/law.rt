@@ -88,9 +88,35 @@ pub struct Miss<A> {
 }
 
 impl<A: Asks> Lesson<Mine> for Miss<A> {
-    ghost use Rattle.live_law.specs.Tree.{LearnsNode, Misses};
+    ghost use Rattle.live_law.specs.Tree.{LearnsMiss};
 
-    ghost told = { LearnsNode Misses A.ask };
+    ghost told = { LearnsMiss A.ask };
+}
+
+/// Below which node another one is read: its number, and the word by which it was free. A caller picks it.
+pub trait Above {
+    ghost use Rattle.std.specs.Prelude.{ℕ};
+
+    ghost number: { ℕ };
+
+    ghost word: { ℕ };
+}
+
+impl Above for Brand {
+    ghost number = { 0 };
+
+    ghost word = { 0 };
+}
+
+/// A node was read below another one. While that one's word is there, the node is as it was read.
+pub struct Below<N> {
+    of: PhantomData<N>,
+}
+
+impl<N: Above> Lesson<Mine> for Below<N> {
+    ghost use Rattle.live_law.specs.Tree.{LearnsBelow};
+
+    ghost told = { LearnsBelow N.number N.word };
 }
 
 /// A node was locked.
@@ -100,6 +126,15 @@ impl Change<Mine> for Locked {
     ghost use Rattle.live_law.specs.Tree.{LearnsLocked};
 
     ghost told = { LearnsLocked };
+}
+
+/// An obsolete node was locked again.
+pub struct Regained;
+
+impl Change<Mine> for Regained {
+    ghost use Rattle.live_law.specs.Tree.{LearnsRegained};
+
+    ghost told = { LearnsRegained };
 }
 
 /// The trunk was locked.
@@ -138,6 +173,50 @@ impl Change<Mine> for Link {
     ghost use Rattle.live_law.specs.Tree.{Links};
 
     ghost told = { Links };
+}
+
+/// A node is unlocked, and leads to a new one above another.
+pub struct Fork;
+
+impl Change<Mine> for Fork {
+    ghost use Rattle.live_law.specs.Tree.{Forks};
+
+    ghost told = { Forks };
+}
+
+/// What a node is going to have. A caller picks it.
+pub trait Fills {
+    ghost use Rattle.live_nodes.specs.Nodes.{Content};
+
+    ghost content: { Content };
+}
+
+impl Fills for Brand {
+    ghost use Rattle.std.specs.Prelude.{[]};
+
+    ghost content = { [] };
+}
+
+/// A node is unlocked, and leads to one that is used again.
+pub struct Again<A, C> {
+    of: PhantomData<(A, C)>,
+}
+
+impl<A: Asks, C: Fills> Change<Mine> for Again<A, C> {
+    ghost use Rattle.live_law.specs.Tree.{LinksAgain};
+
+    ghost told = { LinksAgain A.ask C.content };
+}
+
+/// A node is unlocked, and leads to one that is used again above another.
+pub struct ForkAgain<A, C> {
+    of: PhantomData<(A, C)>,
+}
+
+impl<A: Asks, C: Fills> Change<Mine> for ForkAgain<A, C> {
+    ghost use Rattle.live_law.specs.Tree.{ForksAgain};
+
+    ghost told = { ForksAgain A.ask C.content };
 }
 
 /// A node is made.
