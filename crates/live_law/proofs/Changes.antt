@@ -131,7 +131,8 @@ module _ (d : Plan) (ns : List Node) (k : ℕ) (b : Node) (low : k < length ns) 
       content = else a.number ne ∙ h.content;
     }
     own_stays (outgrown a) ne h = record {
-      met = met_stays if_free a h.met;
+      spot = spot_stays a h.spot;
+      linked = h.linked;
       holder = ap (λ (z : Node). z.holder) (is_else a.number ne) ∙ h.holder;
       replaced = h.replaced;
     }

@@ -1,5 +1,5 @@
 -- What a check teaches, and that only the history and one view_of change.
-use Rattle.std.proofs.Common.{◌≡◌, ⊎_elim, ℕ, Bool, true, false, zero, suc, ◌-◌, ◌*◌, ◌<◌, ◌≤◌, List, [], ◌∷◌, ◌++◌, length, length-set, set, Option, Some, None, refl, sym, ap, ◌∙◌, subst, arith}
+use Rattle.std.proofs.Common.{◌≡◌, ⊎_elim, ℕ, Bool, true, false, zero, suc, ◌+◌, ◌-◌, ◌*◌, ◌<◌, ◌≤◌, List, [], ◌∷◌, ◌++◌, length, length-set, set, Option, Some, None, refl, sym, ap, ◌∙◌, subst, arith}
 use mathlib.Core.Option.{some}
 use mathlib.Core.Logic.{dite}
 use native.Mathlib.Decide.{ℕ_discrete}
@@ -18,7 +18,7 @@ use Rattle.live_nodes.specs.Acts as acts
 use Rattle.live_encodes.specs.Encodes.{words_of, Encodes, IsBelow as HasBelow, IsWord}
 use Rattle.live_law.specs.Levels.{up, digit, Shape, name_of, Covers, way, Spot, spot, place_at}
 use Rattle.live_law.specs.Views.{View, view_of, Watch, watch, watching, Ask, got}
-use Rattle.live_law.specs.Tree.{Plan, home_of, IsFree, LeadsTo, HasValue, IsUnder, IsCurrent, IsMet, LeadsDown, IsWatched, Knows, IsTree, IsMap, LearnsRoot, GoesTo, HasAnswer, Gets, Finds, Heads, Parts, Misses, Looks, IsOfKind, IsNow, IsOf, Meets, LearnsNode, LearnsMiss, Watches, LearnsBelow}
+use Rattle.live_law.specs.Tree.{Plan, home_of, IsFree, LeadsTo, HasValue, IsUnder, IsCurrent, IsSpot, IsMet, LeadsDown, IsWatched, Knows, AreNodes, IsTree, IsMap, LearnsRoot, GoesTo, HasAnswer, Gets, Finds, Heads, Parts, Misses, Looks, IsOfKind, IsNow, IsOf, Meets, LearnsNode, LearnsMiss, Watches, LearnsBelow}
 use Rattle.live_law.proofs.Histories.{get_legal, others_alike, sees_all, sees_less}
 use Rattle.live_law.proofs.Plans.{digit-low, joined, at_home, missed, none_there, same_name, way-suc}
 
@@ -277,3 +277,83 @@ module _ (q : Ask) (id : ℕ) (by : q.caller ≡ id) (v : View) (a : Spot) (mine
 
   pub node_misses : acts.Learns IsMap id v a.number word saw reads (LearnsMiss q v a.number word saw)
   node_misses = node_learns (Misses word) misses
+
+-- A NODE BELOW ANOTHER, which leads to it
+named_below : (d : Plan) (j w name : ℕ) (o : Option (Child ℕ)) → HasBelow o (Some w) → ((s : ℕ) → IsWord w (Below s) → s ≡ name) → LeadsTo d o j → (1 ≤ j) × (name ≡ name_of (d.shape j))
+named_below d j w name None below spells leads = absurd below
+named_below d j w name (Some (Payload x)) below spells leads = absurd leads
+named_below d j w name (Some (Below s)) below spells leads = (leads.0, sym (spells s below) ∙ leads.1)
+
+module _ (d : Plan) (ns : List Node) (cs : ℕ → Content) (m : Pairs ℕ) (t : IsTree d ns cs m) (n : AreNodes d ns) (k : ℕ) (at_k : home_of d (d.shape k) ≡ k) (x : ℕ) (lo : x < 256) (o : Option (Child ℕ)) (w : ℕ) (below : HasBelow o (Some w)) (b : Spot) (its : IsSpot d ns b) (spells : (s : ℕ) → IsWord w (Below s) → s ≡ name_of b.shape) where
+  pub leads_down : (height : ℕ) → height ≡ (d.shape k).height → 2 ≤ height → IsUnder d m height (d.shape k).top x o → LeadsDown d k (spot b.number (d.shape b.number))
+  leads_down zero is tall u = absurd u
+  leads_down (suc zero) is tall u = absurd (omega (arith, tall))
+  leads_down (suc (suc h)) is tall u =
+      let top : ℕ = (d.shape k).top in
+      let j : ℕ = d.home (suc h) (256 * top + x) in
+      let named = named_below d j w (name_of b.shape) o below spells u in
+      let house = t.housed (suc h) (256 * top + x) named.0 in
+      let number : b.number ≡ j = same_name d ns n b its j named.0 house.low named.1 in
+      let low_b = subst (λ (z : ℕ). (d.shape z).height ≤ suc h) (sym number) house.below.0 in
+      let way_b : way (d.shape b.number) (suc h) ≡ 256 * top + x = subst (λ (z : ℕ). way (d.shape z) (suc h) ≡ 256 * top + x) (sym number) house.below.1 in
+      let up_b : way (d.shape b.number) (suc (suc h)) ≡ top = (let e = way-suc (d.shape b.number) (suc h) low_b in omega (arith, e, way_b, lo)) in record {
+        level = suc h;
+        some_node = its.below_trunk;
+        shaped = refl;
+        tall = low_b;
+        here = ap (d.home (suc h)) way_b ∙ sym number;
+        above = ap (d.home (suc (suc h))) up_b ∙ subst (λ (z : ℕ). d.home z top ≡ k) (sym is) at_k;
+        above_high = sym is;
+      }
+
+-- what was read of the node above: a child of that word under a byte, and that it is no leaf
+abbrev pub HadBelow : Spot → Read → ℕ → ℕ → Type 0
+HadBelow a r x w = (c : Content) (n : TableNode ℕ) → Agree c r.saw → Encodes c n → n.form ≡ a.shape.form → (length n.prefix ≤ 6) × HasBelow (lookup n.children x) (Some w)
+
+pub node_below : (id : ℕ) (v : View) (b : Spot) (mine : IsIn b v.met) (word : ℕ) (saw : List (ℕ × ℕ)) (m : ℕ) → word ≡ 4 * m → (reads : List Read)
+    → (a : Spot) → IsIn a v.met → (r : Read) → IsIn r reads → r.number ≡ a.number → (l : ℕ) → r.word ≡ 4 * l
+    → (x : ℕ) → x < 256 → (w : ℕ) → HadBelow a r x w → ((s : ℕ) → IsWord w (Below s) → s ≡ name_of b.shape)
+    → acts.Learns IsMap id v b.number word saw reads (LearnsBelow a.number r.word v b.number word saw)
+node_below id v b mine word saw m even reads a known r read_is number l free_by x lo w had spells ns vs p seat low is free agree fits =
+    let mb = met ns vs id v p seat b mine in
+    let ma = met ns vs id v p seat a known in
+    let s : Shape = p.plan.shape b.number in
+    let c = is_current ns vs id v p seat b mine (free, (m, is ∙ even)) in
+    let fit = (each_in (ReadFits ns) reads r read_is fits).1 l free_by in
+    let new : Watch = watch a.number r.word (spot b.number s) in
+    let k = p.each_view id v seat in
+    let watched : IsWatched p.plan ns new = record {
+      below_trunk = ma.spot.below_trunk;
+      low = ma.spot.low;
+      later = subst (λ (z : ℕ). r.word ≤ (node ns z).word) number fit.0;
+      leads = λ free_a same.
+          let is_free : IsFree (node ns a.number) = (free_a, (l, sym same ∙ free_by)) in
+          let cur = is_current ns vs id v p seat a known is_free in
+          let agree_a : Agree (node ns a.number).content r.saw = subst (λ (z : ℕ). Agree (node ns z).content r.saw) number (fit.1 (same ∙ ap (λ (z : ℕ). (node ns z).word) (sym number))) in
+          let h = had (node ns a.number).content cur.its agree_a cur.encodes (cur.in_form ∙ ma.spot.form) in
+          leads_down p.plan ns p.contents p.pairs p.tree p.nodes a.number (ma.current is_free) x lo (lookup cur.its.children x) w h.1 b mb.spot spells (p.plan.shape a.number).height refl (let deep = cur.deep in let short = h.0 in omega (arith, deep, short)) (cur.under x lo);
+    } in (
+      [],
+      tt,
+      (
+        watching v new,
+        with_view ns vs id p (watching v new) record { seen = k.seen; met = k.met; own = k.own; watched = (watched, tt) },
+        (λ e known_e same.
+            let now = is_now ns vs id v p seat e known_e in
+            let shape_is : p.plan.shape e.number ≡ s = ap p.plan.shape same in
+            record {
+              shape = s;
+              is = record {
+                now = subst (IsNow e) shape_is now;
+                content = (node ns b.number).content;
+                its = c.its;
+                agrees = agree;
+                encodes = c.encodes;
+                in_form = c.in_form ∙ (ap (λ (z : Shape). z.form) (sym shape_is) ∙ now.form);
+                deep = c.deep;
+                prefixed = c.prefixed;
+              };
+              watches = ap (λ (z : ℕ). watching v (watch a.number r.word (spot z s))) (sym same);
+            }),
+      ),
+    )

@@ -112,7 +112,8 @@ module _ (d : Plan) where
       pub leads : (node ns w.above).holder ≡ None → w.word ≡ (node ns w.above).word → LeadsDown w.above w.spot
 
     pub record IsOutgrown (id : ℕ) (a : Spot) : Type 0 where
-      pub met : IsMet a
+      pub spot : IsSpot a
+      pub linked : d.maker a.number ≡ None
       pub holder : (node ns a.number).holder ≡ Some id
       pub replaced : home_of (d.shape a.number) ≢ a.number
 
