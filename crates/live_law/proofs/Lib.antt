@@ -1,5 +1,7 @@
 pub mod Histories
 pub mod Plans
-pub mod Changes
 pub mod Looks
+pub mod Changes
 pub mod Locks
+pub mod Makes
+pub mod Begins
