@@ -3,5 +3,6 @@ pub mod Plans
 pub mod Looks
 pub mod Changes
 pub mod Locks
+pub mod Writes
 pub mod Makes
 pub mod Begins
