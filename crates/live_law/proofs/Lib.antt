@@ -5,4 +5,5 @@ pub mod Changes
 pub mod Locks
 pub mod Writes
 pub mod Makes
+pub mod Links
 pub mod Begins
