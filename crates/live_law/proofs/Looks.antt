@@ -7,6 +7,7 @@ use lib.ListN.{get_elem?}
 use Rattle.atomic_table.proofs.Lists.{at_set, set_again}
 use Rattle.node_table.specs.TableNode.{TableNode, Child}
 use Rattle.node_table.specs.declared.child.Child.TheVariants.{Payload, Node as Below}
+use Rattle.node_base.specs.Form.{form_place}
 use Rattle.spec_map.specs.Map.{Pairs, lookup}
 use Rattle.share_rule.specs.History.{Entry}
 use Rattle.share_rule.specs.inner.Rule.{HasSeen}
@@ -18,7 +19,7 @@ use Rattle.live_nodes.specs.Acts as acts
 use Rattle.live_encodes.specs.Encodes.{words_of, Encodes, IsBelow as HasBelow, IsWord}
 use Rattle.live_law.specs.Levels.{up, digit, Shape, name_of, Covers, way, Spot, spot, place_at}
 use Rattle.live_law.specs.Views.{View, view_of, Watch, watch, watching, Ask, got}
-use Rattle.live_law.specs.Tree.{Plan, home_of, IsFree, LeadsTo, HasValue, IsUnder, IsCurrent, IsSpot, IsMet, LeadsDown, IsWatched, Knows, AreNodes, IsTree, IsMap, LearnsRoot, GoesTo, HasAnswer, Gets, Finds, Heads, Parts, Misses, Looks, IsOfKind, IsNow, IsOf, Meets, LearnsNode, LearnsMiss, Watches, LearnsBelow}
+use Rattle.live_law.specs.Tree.{Plan, home_of, IsFree, LeadsTo, HasValue, IsUnder, IsCurrent, IsSpot, IsMet, LeadsDown, IsWatched, Knows, AreNodes, IsTree, IsMap, LearnsRoot, GoesTo, HasAnswer, Gets, Finds, Parts, Misses, Looks, IsOfKind, IsNow, IsOf, Meets, LearnsNode, LearnsMiss, Headed, LearnsHead, Watches, LearnsBelow}
 use Rattle.live_law.proofs.Histories.{get_legal, others_alike, sees_all, sees_less}
 use Rattle.live_law.proofs.Plans.{digit-low, joined, at_home, missed, none_there, same_name, way-suc}
 
@@ -272,11 +273,48 @@ module _ (q : Ask) (id : ℕ) (by : q.caller ≡ id) (v : View) (a : Spot) (mine
   node_looks true = node_learns Gets (λ ns vs p seat free is. gets ns vs p seat)
   node_looks false = node_learns Finds (λ ns vs p seat free is. finds ns vs p seat)
 
-  pub node_heads : acts.Learns IsMap id v a.number word saw reads (LearnsNode Heads q v a.number word saw)
-  node_heads = node_learns Heads (λ ns vs p seat free is height top o at_h l under u. ([], tt, (v, same_view ns vs p seat, refl)))
-
   pub node_misses : acts.Learns IsMap id v a.number word saw reads (LearnsMiss q v a.number word saw)
   node_misses = node_learns (Misses word) misses
+
+-- A NODE as it is now
+pub node_heads : (id : ℕ) (v : View) (a : Spot) (mine : IsIn a v.met) (word : ℕ) (saw : List (ℕ × ℕ)) (m : ℕ) → word ≡ 4 * m → (reads : List Read) → acts.Learns IsMap id v a.number word saw reads (LearnsHead v a.number word saw)
+node_heads id v a mine word saw m even reads ns vs p seat low is free agree fits =
+    let there = met ns vs id v p seat a mine in
+    let s : Shape = p.plan.shape a.number in
+    let is_free : IsFree (node ns a.number) = (free, (m, is ∙ even)) in
+    let c = is_current ns vs id v p seat a mine is_free in
+    let k = p.each_view id v seat in
+    let w : View = view_of v.seen (spot a.number s ∷ v.met) v.own in
+    let now_met : IsMet p.plan ns (spot a.number s) = record {
+      spot = record { below_trunk = there.spot.below_trunk; low = there.spot.low; key = refl; form = refl };
+      linked = there.linked;
+      lasts = λ _. (refl, there.current is_free);
+      current = there.current;
+    } in (
+      [],
+      tt,
+      (
+        w,
+        with_view ns vs id p w record { seen = k.seen; met = (now_met, k.met); own = k.own; watched = tt },
+        (λ e known same.
+            let now = is_now ns vs id v p seat e known in
+            let shape_is : p.plan.shape e.number ≡ s = ap p.plan.shape same in
+            record {
+              shape = s;
+              is = record {
+                now = subst (IsNow e) shape_is now;
+                content = (node ns a.number).content;
+                its = c.its;
+                agrees = agree;
+                encodes = c.encodes;
+                in_form = c.in_form ∙ (ap (λ (z : Shape). z.form) (sym shape_is) ∙ now.form);
+                deep = c.deep;
+                prefixed = c.prefixed;
+              };
+              heads = ap (λ (z : ℕ). view_of v.seen (spot z s ∷ v.met) v.own) (sym same);
+            }),
+      ),
+    )
 
 -- A NODE BELOW ANOTHER, which leads to it
 named_below : (d : Plan) (j w name : ℕ) (o : Option (Child ℕ)) → HasBelow o (Some w) → ((s : ℕ) → IsWord w (Below s) → s ≡ name) → LeadsTo d o j → (1 ≤ j) × (name ≡ name_of (d.shape j))
@@ -354,6 +392,10 @@ node_below id v b mine word saw m even reads a known r read_is number l free_by 
                 prefixed = c.prefixed;
               };
               watches = ap (λ (z : ℕ). watching v (watch a.number r.word (spot z s))) (sym same);
+              one_name = λ f known_f as_e.
+                  let of_f = met ns vs id v p seat f known_f in
+                  let of_e = met ns vs id v p seat e known_e in
+                  λ i. 256 * (sym of_f.spot.key ∙ (ap (λ (z : ℕ). (p.plan.shape z).key) as_e ∙ of_e.spot.key)) i + form_place ((sym of_f.spot.form ∙ (ap (λ (z : ℕ). (p.plan.shape z).form) as_e ∙ of_e.spot.form)) i);
             }),
       ),
     )

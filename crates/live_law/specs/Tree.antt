@@ -229,10 +229,6 @@ Finds q v a None ps w = w ≡ v
 Finds q v a (Some (below.Payload x)) ps w = w ≡ v
 Finds q v a (Some (below.Node s)) ps w = GoesTo v a s ps w
 
--- Nothing is learnt but what was read.
-abbrev pub Heads : Ask → View → Spot → Option (Child ℕ) → List Place → View → Type 0
-Heads q v a o ps w = w ≡ v
-
 -- Below this node, which is free by that word, a watched one has no such keys.
 pub record Parts (q : Ask) (v : View) (word : ℕ) (a : Spot) (s : ℕ) (b : Watch) : Type 0 where
   pub known : IsIn b v.watched
@@ -291,11 +287,21 @@ LearnsNode Then q v k word saw ps w = (a : Spot) → IsIn a v.met → a.number �
 abbrev pub LearnsMiss : Ask → View → ℕ → ℕ → List (ℕ × ℕ) → List Place → View → Type 0
 LearnsMiss q v k word saw ps w = LearnsNode (Misses word) q v k word saw ps w
 
+-- A NODE was read, and is met as what it is now.
+pub record Headed (v : View) (a : Spot) (saw : List (ℕ × ℕ)) (w : View) : Type 0 where
+  pub shape : Shape
+  pub is : IsOf a shape saw
+  pub heads : w ≡ view_of v.seen (spot a.number shape ∷ v.met) v.own
+
+abbrev pub LearnsHead : View → ℕ → ℕ → List (ℕ × ℕ) → List Place → View → Type 0
+LearnsHead v k word saw ps w = (a : Spot) → IsIn a v.met → a.number ≡ k → Headed v a saw w
+
 -- A NODE was read below another one, node n, which was free by the word t: it is watched.
 pub record Watches (n t : ℕ) (v : View) (a : Spot) (saw : List (ℕ × ℕ)) (w : View) : Type 0 where
   pub shape : Shape
   pub is : IsOf a shape saw
   pub watches : w ≡ watching v (watch n t (spot a.number shape))
+  pub one_name : (b : Spot) → IsIn b v.met → b.number ≡ a.number → name_of b.shape ≡ name_of a.shape
 
 abbrev pub LearnsBelow : ℕ → ℕ → View → ℕ → ℕ → List (ℕ × ℕ) → List Place → View → Type 0
 LearnsBelow n t v k word saw ps w = (a : Spot) → IsIn a v.met → a.number ≡ k → Watches n t v a saw w

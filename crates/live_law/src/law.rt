@@ -71,15 +71,13 @@ impl<A: Asks> Lesson<Mine> for Look<A> {
     ghost told = { LearnsNode (Looks A.reads) A.ask };
 }
 
-/// A node was read, and nothing else is learnt.
-pub struct Head<A> {
-    of: PhantomData<A>,
-}
+/// A node was read, and what it is now.
+pub struct Head;
 
-impl<A: Asks> Lesson<Mine> for Head<A> {
-    ghost use Rattle.live_law.specs.Tree.{LearnsNode, Heads};
+impl Lesson<Mine> for Head {
+    ghost use Rattle.live_law.specs.Tree.{LearnsHead};
 
-    ghost told = { LearnsNode Heads A.ask };
+    ghost told = { LearnsHead };
 }
 
 /// A look-up ends at a node that leads on to one without such keys.
