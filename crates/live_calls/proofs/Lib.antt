@@ -12,7 +12,4 @@ pub mod Sights
 pub mod Stood
 pub mod Ready
 pub mod Pairs
-pub mod Compared
-pub mod Seeks
-pub mod Replaced
 pub mod Meetings

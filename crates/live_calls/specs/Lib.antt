@@ -5,4 +5,5 @@ pub mod Calls
 pub mod Holds
 pub mod Rooms
 pub mod Exchanges
+pub mod Forks
 pub mod Meetings

@@ -6,7 +6,7 @@
 //! Tested in `test_live_calls`.
 #![tactic(auto)]
 
-pub mod exchange;
+pub mod fork;
 mod get;
 pub mod held;
 pub mod insert;

@@ -1,11 +1,9 @@
 //! The map, and its callers.
-ghost use Rattle.std.specs.Prelude.{◌≡◌, ◌≢◌, ℕ, [], Some, IfOk, OnErr};
+ghost use Rattle.std.specs.Prelude.{◌≡◌, ◌≢◌, ℕ, [], IfOk, OnErr};
 ghost use Rattle.live_law.specs.Views.{ask, got, inserted};
 ghost use Rattle.live_law.specs.Known.{MadeCall};
-ghost use Rattle.live_calls.specs.Exchanges.{exchange_of, compared};
 ghost use Rattle.live_calls.specs.Meetings.{SeenMore};
 
-use crate::exchange::exchange_once;
 use crate::get::get_once;
 use crate::insert::{insert_once, reserve};
 use crate::link::Room;
@@ -142,29 +140,5 @@ impl Congee {
             }
         }
         Err(Refusal::Busy)
-    }
-
-    /// Replaces a key's value by `new`, if it is `old`. `Ok` with the new value, or `Err` with the current one, or with
-    /// `None` where the key is absent. Takes no memory.
-    pub fn compare_exchange(
-        &self,
-        guard: &mut Guard,
-        key: u64,
-        old: u64,
-        new: u64,
-    ) -> Result<Result<Option<u64>, Option<u64>>, Busy>
-        requires { guard.old.book ≡ self.now }
-        ensures made { IfOk result (λ answer. MadeCall guard.old
-            (compared (exchange_of guard.old.caller key old new) answer) guard.new) }
-        ensures stored { IfOk result (λ answer. IfOk answer (λ stored. stored ≡ Some new)) }
-        ensures busy { OnErr result (guard.new ≡ guard.old) }
-    {
-        for _ in 0..TRIES {
-            let done = exchange_once::<Brand>(&self.nodes, key, old, new, &mut guard.pass);
-            if let Some(answer) = done {
-                return Ok(answer);
-            }
-        }
-        Err(Busy)
     }
 }

@@ -346,7 +346,7 @@ module _ (d : Plan) (ns : List Node) (cs : ℕ → Content) (m : Pairs ℕ) (t :
 
 -- what was read of the node above: a child of that word under a byte, and that it is no leaf
 abbrev pub HadBelow : Spot → Read → ℕ → ℕ → Type 0
-HadBelow a r x w = (c : Content) (n : TableNode ℕ) → Agree c r.saw → Encodes c n → n.form ≡ a.shape.form → (length n.prefix ≤ 6) × HasBelow (lookup n.children x) (Some w)
+HadBelow a r x w = (s : Shape) (is : IsOf a s r.saw) → (2 ≤ s.height) × HasBelow (lookup is.its.children x) (Some w)
 
 pub node_below : (id : ℕ) (v : View) (b : Spot) (mine : IsIn b v.met) (word : ℕ) (saw : List (ℕ × ℕ)) (m : ℕ) → word ≡ 4 * m → (reads : List Read)
     → (a : Spot) → IsIn a v.met → (r : Read) → IsIn r reads → r.number ≡ a.number → (l : ℕ) → r.word ≡ 4 * l
@@ -368,8 +368,18 @@ node_below id v b mine word saw m even reads a known r read_is number l free_by 
           let is_free : IsFree (node ns a.number) = (free_a, (l, sym same ∙ free_by)) in
           let cur = is_current ns vs id v p seat a known is_free in
           let agree_a : Agree (node ns a.number).content r.saw = subst (λ (z : ℕ). Agree (node ns z).content r.saw) number (fit.1 (same ∙ ap (λ (z : ℕ). (node ns z).word) (sym number))) in
-          let h = had (node ns a.number).content cur.its agree_a cur.encodes (cur.in_form ∙ ma.spot.form) in
-          leads_down p.plan ns p.contents p.pairs p.tree p.nodes a.number (ma.current is_free) x lo (lookup cur.its.children x) w h.1 b mb.spot spells (p.plan.shape a.number).height refl (let deep = cur.deep in let short = h.0 in omega (arith, deep, short)) (cur.under x lo);
+          let of_a : IsOf a (p.plan.shape a.number) r.saw = record {
+            now = is_now ns vs id v p seat a known;
+            content = (node ns a.number).content;
+            its = cur.its;
+            agrees = agree_a;
+            encodes = cur.encodes;
+            in_form = cur.in_form ∙ ma.spot.form;
+            deep = cur.deep;
+            prefixed = cur.prefixed;
+          } in
+          let h = had (p.plan.shape a.number) of_a in
+          leads_down p.plan ns p.contents p.pairs p.tree p.nodes a.number (ma.current is_free) x lo (lookup cur.its.children x) w h.1 b mb.spot spells (p.plan.shape a.number).height refl h.0 (cur.under x lo);
     } in (
       [],
       tt,
