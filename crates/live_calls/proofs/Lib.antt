@@ -9,6 +9,7 @@ pub mod Grips
 pub mod Linked
 pub mod Trunks
 pub mod Sights
+pub mod Forks
 pub mod Stood
 pub mod Ready
 pub mod Pairs

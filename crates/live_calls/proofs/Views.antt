@@ -307,7 +307,7 @@ module _ (v : Seen) (b : Book) (words : List Name) (t : ℕ) (a : Spot) (placed 
     abbrev pub saw_open : List (ℕ × ℕ)
     saw_open = last_saw v₂.reads
 
-    open_read : v₂ ≡ reading_on v o.before a.number t saw_open
+    pub open_read : v₂ ≡ reading_on v o.before a.number t saw_open
     unfolding before_it
     open_read = reads_on before_it v₂ a.number t (rest ∙ ap without_reads was_read)
 

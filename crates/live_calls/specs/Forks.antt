@@ -1,11 +1,11 @@
 -- A node below another one, whose way a key leaves.
-use Rattle.std.specs.Prelude.{◌≡◌, ℕ, ◌%◌, List, Some}
+use Rattle.std.specs.Prelude.{◌≡◌, ℕ, ◌%◌, List, [], ◌∷◌, Some}
 use Rattle.node_table.specs.TableNode.{TableNode}
 use Rattle.node_table.specs.declared.child.Child.TheVariants.{Node}
 use Rattle.spec_map.specs.Map.{lookup}
 use Rattle.word_book.specs.Book.{Book, Name}
 use Rattle.live_nodes.specs.Nodes.{Content}
-use Rattle.live_nodes.specs.Seats.{read, SeatView, IsIn, Agree}
+use Rattle.live_nodes.specs.Seats.{Read, read, SeatView, IsIn, Agree}
 use Rattle.live_nodes.specs.Plays.{read_of}
 use Rattle.live_rows.specs.Rows.{AreOf}
 use Rattle.live_encodes.specs.Encodes.{Encodes, IsBelow, IsWord}
@@ -13,6 +13,11 @@ use Rattle.live_law.specs.Levels.{digit, Shape, name_of, Covers, place_at}
 use Rattle.live_law.specs.Views.{View, Watch}
 use Rattle.live_law.specs.Tree.{IsOf}
 use Rattle.live_calls.specs.Ways.{Names}
+
+-- the node whose word was taken last
+abbrev pub first_number : List Read → ℕ
+first_number [] = 0
+first_number (r ∷ rs) = r.number
 
 -- The node with that name was free by that word, and what was read of it since says that it leads on to one that the key
 -- leaves. The seat watches that one.

@@ -3,21 +3,21 @@ ghost use Rattle.std.specs.Prelude.{◌≡◌, ℕ, ◌+◌, ◌<◌, ◌≤◌,
 ghost use Rattle.live_law.specs.Views.{got};
 ghost use Rattle.live_law.specs.Tree.{Answers};
 ghost use Rattle.live_calls.specs.Ways.{Names, Sights, IsOpen, Keeps};
-ghost use Rattle.live_calls.specs.Forks.{IsForked};
+ghost use Rattle.live_calls.specs.Forks.{first_number, IsForked};
 
 use crate::sight::{Sight, compare, enter};
 use crate::way::{Nodes, Opened, Pass, byte_at, open};
 use live_cells::words::Cells;
 use live_encodes::form::{form_below, slot_below};
 use live_encodes::search::find;
-use live_law::law::{Asks, Below, Levels, Mine, Miss};
+use live_law::law::{Above, Asks, Below, Levels, Mine, Miss};
 use live_nodes::node;
 use live_rows::rows::Row;
 use std::marker::Brand;
 
 /// Whether an open node leads on to one whose way the key leaves. While the open one is as it was, so is that. `false` where
 /// a writer came in between.
-pub fn watch(
+pub fn watch<N: Above>(
     nodes: &Nodes,
     here: Opened<'_>,
     name: u64,
@@ -30,11 +30,12 @@ pub fn watch(
     requires open { IsOpen pass.old.view pass.old.book here.words.now here.taken name key height }
     requires height { (2 ≤ height) × (height ≤ 8) }
     requires below { Sights pass.old.view below }
+    requires above { (N.number ≡ first_number pass.old.view.reads) × (N.word ≡ here.taken) }
     ensures told { (pass.new.book ≡ pass.old.book) × (pass.new.id ≡ pass.old.id)
         × Keeps pass.old.view pass.new.view
         × (pass.new.view.client.seen ≡ pass.old.view.client.seen) }
     ensures forked { IsTrue result
-        → IsForked pass.new.view pass.new.book here.words.now here.taken name key height }
+        → IsForked pass.new.view pass.new.book here.entry.words.now here.entry.taken name key height }
 {
     let Opened { words, taken: _ } = here;
     let form = form_below(name);
@@ -43,7 +44,10 @@ pub fn watch(
     let Some(word) = find(&row, form, byte, pass) else {
         return false;
     };
-    if slot_below(word) != below || below == name {
+    if slot_below(word) != below {
+        return false;
+    }
+    if below == name {
         return false;
     }
     let Some(other) = open(nodes, below, pass) else {
@@ -51,7 +55,7 @@ pub fn watch(
     };
     let lower = Row { words: other.words };
     let head = lower.word(0, pass);
-    if !node::check::<Mine, Levels, Below<Brand>>(&other.words[0], other.taken, pass) {
+    if !node::check::<Mine, Levels, Below<N>>(&other.words[0], other.taken, pass) {
         return false;
     }
     match compare(head, key) {
@@ -83,7 +87,7 @@ pub fn ends_above<A: Asks>(
     let Some(here) = enter(nodes, name, height, key, pass) else {
         return false;
     };
-    if !watch(nodes, here, name, height, below, key, pass) {
+    if !watch::<Brand>(nodes, here, name, height, below, key, pass) {
         return false;
     }
     node::check::<Mine, Levels, Miss<A>>(&here.words[0], here.taken, pass)
