@@ -289,6 +289,9 @@ some_words N16 = omega arith
 some_words N48 = omega arith
 some_words N256 = omega arith
 
+pub open_long_of : (a : Spot) (b : Book) (words : List Name) → AreOf (place_at a) b words → 0 < length words - 1
+open_long_of a b words are = let l = are.0 in let some = some_words a.shape.form in omega (arith, l, some)
+
 -- A NODE THAT IS OPEN
 module _ (v : Seen) (b : Book) (words : List Name) (t : ℕ) (a : Spot) (placed : IsIn (place_at a) v.places) (o : HasOpened v b words t a) where
   before_it : Seen

@@ -5,12 +5,15 @@ ghost use Rattle.live_law.specs.Levels.{Spot};
 ghost use Rattle.live_calls.specs.Ways.{Names, AreNamed, Keeps};
 ghost use Rattle.live_calls.specs.Holds.{Alike, HasLocked, HoldsOne, HasRest};
 
+use crate::sight::{Sight, compare};
 use crate::way::{Cell, Pass};
+use live_cells::words::Cells;
 use live_law::law::{Levels, Locked, Mine, Same};
 use live_nodes::node;
+use live_rows::rows::Row;
 
-/// Locks the node that a number names: the word by which it was free. `None` where another writer is busy there, or it is
-/// obsolete.
+/// Locks the node that a number names, if it has that height and keys that begin like this one: the word by which it was free.
+/// `None` where another writer is busy there, or it is obsolete, or another node by now.
 pub fn lock_node(words: &[Cell], name: u64, height: usize, key: u64, pass: &mut Pass) -> Option<u64>
     requires words { AreNamed pass.old.book name words.now }
     requires named { Names pass.old.view name key height }
@@ -21,10 +24,16 @@ pub fn lock_node(words: &[Cell], name: u64, height: usize, key: u64, pass: &mut 
         × (pass.new.view.holds ≡ pass.old.view.holds)) }
 {
     let _ = name;
-    let _ = height;
-    let _ = key;
     let free = node::take(&words[0], pass);
     if free % 4 != 0 || free >= 1 << 62 {
+        return None;
+    }
+    let row = Row { words };
+    let head = row.word(0, pass);
+    let Sight::Covers(at) = compare(head, key) else {
+        return None;
+    };
+    if at != height {
         return None;
     }
     if !node::lock::<Mine, Levels, Locked>(&words[0], free, pass) {

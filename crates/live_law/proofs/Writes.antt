@@ -21,6 +21,7 @@ use Rattle.live_law.specs.Tree.{Plan, home_of, IsFree, HasValue, IsUnder, IsCurr
 use Rattle.live_law.proofs.Histories.{put_legal, others_alike, sees_all, sees_less}
 use Rattle.live_law.proofs.Plans.{joined}
 use Rattle.live_law.proofs.Looks.{at_leaf}
+use Rattle.live_law.proofs.Makes.{encodes-long}
 use Rattle.live_law.proofs.Changes.{with_map, nodes_stay, settled_stays, alive_stays, met_stays, watch_stays, own_stays, each_stays, apart_from, tree_stays, tree_same}
 
 not_some : {A : Type 0} (x : A) → Some x ≡ None → ⊥
@@ -98,12 +99,14 @@ pub home_locked : (d : Plan) (ns : List Node) (cs : ℕ → Content) (id : ℕ) 
 home_locked d ns cs id a c l = ap (home_of d) l.shaped ∙ l.current
 
 -- it is as it was, or as it is going to be
-pub node_stays : (id : ℕ) (v : View) (a : Spot) (c : Content) (os : List Own) → v.own ≡ locked a c ∷ os → Each (IsApart a.number) os → (word m : ℕ) → word ≡ 4 * m → (d : Content) → d ≡ c → length d ≡ words_of a.shape.form → acts.Frees IsMap id v a.number word d (StaysSame v a.number d)
-node_stays id v a c os is apart word m even d same long ns vs p seat low held rises =
+pub node_stays : (id : ℕ) (v : View) (a : Spot) (c : Content) (os : List Own) → v.own ≡ locked a c ∷ os → Each (IsApart a.number) os → (word m : ℕ) → word ≡ 4 * m → (d : Content) → d ≡ c → acts.Frees IsMap id v a.number word d (StaysSame v a.number d)
+node_stays id v a c os is apart word m even d same ns vs p seat low held rises =
     let k : ℕ = a.number in
     let own = its_own id v (locked a c ∷ os) is ns vs p seat in
     let l : IsLocked p.plan ns p.contents id a c = own.0 in
     let s = l.met.spot in
+    let cur = current_at p.plan ns p.contents p.pairs id a c p.tree l in
+    let long : length d ≡ words_of a.shape.form = ap (λ (z : Content). length z) same ∙ (encodes-long c cur.its cur.encodes ∙ ap words_of cur.in_form) in
     let as_long : length d ≡ length (node ns k).content = long ∙ sym (p.nodes.long k s.below_trunk s.low ∙ ap words_of s.form) in
     let no_maker : 1 ≤ k → p.plan.maker k ≡ None = λ _. l.met.linked in
     let here = home_locked p.plan ns p.contents id a c l in (
