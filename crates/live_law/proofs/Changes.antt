@@ -11,13 +11,13 @@ use Rattle.live_nodes.specs.Nodes.{Content, at, Node, node}
 use Rattle.live_nodes.specs.Seats.{Each}
 use Rattle.live_law.specs.Levels.{Spot}
 use Rattle.live_law.specs.Views.{View, Watch, Own, locked, fresh, outgrown, trunk, number_of}
-use Rattle.live_law.specs.Tree.{Plan, home_of, IsFree, NamesRoot, IsCurrent, IsSpot, IsMet, IsWatched, IsOwn, IsApart, Knows, AreNodes, AreAlive, IsSettled, IsTree, IsMap}
+use Rattle.live_law.specs.Tree.{Plan, home_of, IsFree, NamesRoot, IsCurrent, IsSpot, IsMet, IsBound, NoLater, IsWatched, IsOwn, IsApart, Knows, AreNodes, AreAlive, IsSettled, IsTree, IsMap}
 
 -- ANOTHER MAP, which all other seats know as well as the one before
 module _ (ns : List Node) (vs : List View) (id : ℕ) (p : IsMap ns vs) where
   pub with_map : (ns' : List Node) (w : View) (plan : Plan) (cs : ℕ → Content) (history : List (Entry ℕ)) (pairs : Pairs ℕ) → IsHistory nat_eq history pairs → AreNodes plan ns' → IsSettled ns' cs → AreAlive plan ns' → IsTree plan ns' cs pairs
       → ((a : Spot) → IsMet p.plan ns a → IsMet plan ns' a)
-      → ((x : Watch) → IsWatched p.plan ns x → IsWatched plan ns' x)
+      → ((j : ℕ) → j ≢ id → (x : Watch) → IsWatched p.plan ns j x → IsWatched plan ns' j x)
       → ((j : ℕ) → j ≢ id → (o : Own) → IsOwn p.plan ns p.contents j o → IsOwn plan ns' cs j o)
       → ((j : ℕ) → j ≢ id → (s : List (Entry ℕ)) → HasSeen p.history j s → HasSeen history j s)
       → ((c : ℕ) → length vs ≤ c → entries_of c history ≡ [])
@@ -38,11 +38,20 @@ module _ (ns : List Node) (vs : List View) (id : ℕ) (p : IsMap ns vs) where
           seen = seen j t.0 u.seen k.seen;
           met = each_map (IsMet p.plan ns) (IsMet plan ns') u.met met k.met;
           own = each_map (IsOwn p.plan ns p.contents j) (IsOwn plan ns' cs j) u.own (own j t.0) k.own;
-          watched = each_map (IsWatched p.plan ns) (IsWatched plan ns') u.watched watched k.watched;
+          watched = each_map (IsWatched p.plan ns j) (IsWatched plan ns' j) u.watched (watched j t.0) k.watched;
         })
         (at_set vs id j w u e);
     unborn = λ c l. unborn c (omega (arith, l, length-set vs id w));
   }
+
+-- a node that has changed is bound no more
+pub no_later : (o : Option ℕ) (a b : Node) → a.word < b.word → NoLater o a → NoLater o b
+no_later (Some t) a b rises l = omega (arith, rises, l)
+no_later None a b rises l = tt
+
+pub not_bound : (j : ℕ) (o : Option ℕ) (a b : Node) → a.word < b.word → b.holder ≢ Some j → NoLater o a → IsBound j o b → ⊥
+not_bound j (Some t) a b rises ne l bound = let e = bound.1 in absurd (omega (arith, rises, l, e))
+not_bound j None a b rises ne l bound = ne bound
 
 -- ONE NODE becomes b, which lies there too, and is as long. Its word is a later one.
 module _ (d : Plan) (ns : List Node) (k : ℕ) (b : Node) (low : k < length ns) (there : b.place ≡ (node ns k).place) (long : length b.content ≡ length (node ns k).content) where
@@ -101,16 +110,16 @@ module _ (d : Plan) (ns : List Node) (k : ℕ) (b : Node) (low : k < length ns) 
         (λ ne f. m.current (subst IsFree (is_else a.number ne) f));
   }
 
-  pub watch_stays : (node ns k).word < b.word → (x : Watch) → IsWatched d ns x → IsWatched d changed x
-  watch_stays rises x w = record {
+  pub watch_stays : (node ns k).word < b.word → (j : ℕ) → b.holder ≢ Some j → (x : Watch) → IsWatched d ns j x → IsWatched d changed j x
+  watch_stays rises j not_mine x w = record {
     below_trunk = w.below_trunk;
     low = low_stays x.above w.low;
     later = dite (ℕ_discrete x.above k)
-        (λ e. let l = w.later in let was = ap (λ (z : ℕ). (node ns z).word) e in let now = ap (λ (z : Node). z.word) (is_here x.above e) in omega (arith, l, was, now, rises))
-        (λ ne. subst (λ (z : Node). x.word ≤ z.word) (sym (is_else x.above ne)) w.later);
+        (λ e. subst (NoLater x.word) (sym (is_here x.above e)) (no_later x.word (node ns k) b rises (subst (λ (z : ℕ). NoLater x.word (node ns z)) e w.later)))
+        (λ ne. subst (NoLater x.word) (sym (is_else x.above ne)) w.later);
     leads = dite (ℕ_discrete x.above k)
-        (λ e free same. absurd (let l = w.later in let was = ap (λ (z : ℕ). (node ns z).word) e in let now = ap (λ (z : Node). z.word) (is_here x.above e) in omega (arith, l, was, now, rises, same)))
-        (λ ne free same. w.leads (sym (ap (λ (z : Node). z.holder) (is_else x.above ne)) ∙ free) (same ∙ ap (λ (z : Node). z.word) (is_else x.above ne)));
+        (λ e bound. absurd (not_bound j x.word (node ns k) b rises not_mine (subst (λ (z : ℕ). NoLater x.word (node ns z)) e w.later) (subst (IsBound j x.word) (is_here x.above e) bound)))
+        (λ ne bound. w.leads (subst (IsBound j x.word) (is_else x.above ne) bound));
   }
 
   -- what a seat has to itself, where the node isn't among it

@@ -9,14 +9,14 @@ use Rattle.node_table.specs.TableNode.{TableNode, Child}
 use Rattle.node_table.specs.declared.child.Child.TheVariants.{Payload, Node as Below}
 use Rattle.spec_map.specs.Map.{Pairs, lookup, put}
 use Rattle.spec_map.proofs.MapLaws.{lookup-put_same, lookup-put_other}
-use Rattle.live_nodes.proofs.Frames.{put_at, put_else}
+use Rattle.live_nodes.proofs.Frames.{each_in, put_at}
 use Rattle.live_nodes.specs.Nodes.{Content, at, Node, node, node_at}
-use Rattle.live_nodes.specs.Seats.{Each}
+use Rattle.live_nodes.specs.Seats.{Each, IsIn}
 use Rattle.live_nodes.specs.Acts as acts
 use Rattle.live_encodes.specs.Encodes.{words_of, Encodes, IsBelow, IsWord, with_child, in_form}
 use Rattle.live_law.specs.Levels.{up, digit, Shape, name_of, Covers, way, Spot}
-use Rattle.live_law.specs.Views.{View, view_of, Own, locked, fresh, outgrown, trunk, Ask}
-use Rattle.live_law.specs.Tree.{Plan, home_of, HasPrefix, IsFree, LeadsTo, IsUnder, IsCurrent, NamesRoot, IsSpot, IsLocked, IsFresh, IsOutgrown, IsOwn, IsTree, IsMap, Links, leads_on, left_over, Forks, left_below, again, leads_again, left_again, below_again, LinksAgain, ForksAgain}
+use Rattle.live_law.specs.Views.{View, view_of, Watch, watch, Own, locked, fresh, outgrown, trunk, Ask}
+use Rattle.live_law.specs.Tree.{Plan, home_of, HasPrefix, IsFree, LeadsTo, IsUnder, IsCurrent, NamesRoot, IsSpot, LeadsDown, IsWatched, IsLocked, IsFresh, IsOutgrown, IsOwn, IsTree, IsMap, Links, leads_on, left_over, again, leads_again, left_again, LinksAgain}
 use Rattle.live_law.proofs.Plans.{joined, up-up, way-key, way-own, none_below, none_way, descends, same_name}
 use Rattle.live_law.proofs.Changes.{is_here, is_else}
 use Rattle.live_law.proofs.Makes.{under_alike}
@@ -248,16 +248,6 @@ module _ (id : ℕ) (v : View) (key : ℕ) (y q : Spot) (cy cq : Content) (word 
         x_is_y : d'.home (d.shape x.number).height (d.shape x.number).top ≡ x.number → x.number ≡ y.number
         x_is_y here = sym here ∙ (ap (home_of d') lx.shaped ∙ (ap (λ (t : ℕ × ℕ). d'.home t.0 t.1) (λ i. (same_high i, same_top i)) ∙ y_home))
 
-    -- a node below it
-    x_locked : (x : Spot) (cx : Content) → IsLocked d ns p.contents id x cx → x.shape.height < y.shape.height → IsOwn d' ns' cs' id (locked x cx)
-    x_locked x cx lx lower = let ne = not_k x cx lx (omega (arith, lower, below)) in record {
-      met = met_links id v y cy k z ns vs p seat low refl as_long rises held (refl, (m, even)) made no_maker g level some_height to_top o was shy occupied roof roof_high roofed x lx.met;
-      shaped = lx.shaped;
-      holder = ap (λ (t : Node). t.holder) (is_else d ns k z low refl as_long x.number ne) ∙ lx.holder;
-      content = put_else p.contents k e x.number ne ∙ lx.content;
-      current = home_old d y g x.shape.height x.shape.top (λ on. let t = on.1.0 in omega (arith, t, lower)) ∙ lx.current;
-    }
-
 -- the level of a node's place below another
 level_of : (q : Spot) (h : ℕ) → 1 ≤ h → h < q.shape.height → suc (suc (q.shape.height - 2)) ≡ q.shape.height
 level_of q h some_height below = omega (arith, some_height, below)
@@ -444,24 +434,23 @@ module _ (d : Plan) (y x : Spot) (g byte : ℕ) (ns : List Node) (cs : ℕ → C
       ne (omega (arith, w, u))) in
       subst (λ (z : Option (Child ℕ)). LeadsTo d z (d.home (suc h) (256 * y.shape.top + b))) (sym (lookup-put_other [] byte (Below (name_of x.shape)) b ne)) gone))
 
-module _ (id : ℕ) (v : View) (key : ℕ) (y x q : Spot) (byte : ℕ) (cy cx cq : Content) (word m : ℕ) (even : word ≡ 4 * m) (e : Content) (below : y.shape.height < q.shape.height) (some_x : 1 ≤ x.shape.height) (lower : x.shape.height < y.shape.height) (y_covers : Covers y.shape key) (q_covers : Covers q.shape key)
+module _ (id : ℕ) (v : View) (key : ℕ) (y x q : Spot) (byte : ℕ) (cy cq : Content) (word m : ℕ) (even : word ≡ 4 * m) (e : Content) (below : y.shape.height < q.shape.height) (some_x : 1 ≤ x.shape.height) (lower : x.shape.height < y.shape.height) (y_covers : Covers y.shape key) (q_covers : Covers q.shape key)
     (y_top : way x.shape y.shape.height ≡ y.shape.top) (low_byte : byte < 256) (y_byte : way x.shape (y.shape.height - 1) ≡ 256 * y.shape.top + byte)
     (e_long : length e ≡ words_of q.shape.form) (changes : Changes q cq e key y) (w : ℕ) (named : HadWord q cq key w) (spells : Spells w (name_of x.shape)) (fork : IsFork y x byte cy)
-    (ns : List Node) (vs : List View) (p : IsMap ns vs) (seat : get_elem? vs id ≡ some v) (low : q.number < length ns) (held : (node ns q.number).holder ≡ Some id) (rises : (node ns q.number).word < word) (made : IsOff p.plan ns p.contents id y cy) (lx : IsLocked p.plan ns p.contents id x cx) (l : IsLocked p.plan ns p.contents id q cq) where
+    (ns : List Node) (vs : List View) (p : IsMap ns vs) (seat : get_elem? vs id ≡ some v) (low : q.number < length ns) (held : (node ns q.number).holder ≡ Some id) (rises : (node ns q.number).word < word) (made : IsOff p.plan ns p.contents id y cy) (sx : IsSpot p.plan ns x) (x_shaped : p.plan.shape x.number ≡ x.shape) (l : IsLocked p.plan ns p.contents id q cq) where
   abbrev Forked : List Own → Type 0
   Forked os = IsMap (set ns q.number (node_at (node ns q.number).place word e None)) (set vs id (view_of v.seen (y ∷ v.met) os))
 
-  above_joins : Forked (locked x cx ∷ []) × ((node ns y.number).holder ≡ Some id → Forked (locked y cy ∷ locked x cx ∷ []))
+  above_joins : Forked [] × ((node ns y.number).holder ≡ Some id → Forked (locked y cy ∷ []))
   above_joins =
       let d : Plan = p.plan in
       let g : ℕ = suc (q.shape.height - 2) in
-      let sx = lx.met.spot in
       let some_height : 1 ≤ y.shape.height = omega (arith, lower, some_x) in
       let cur_q : IsCurrent d p.pairs q.shape cq = current_at d ns p.contents p.pairs id q cq p.tree l in
       let ways : (lv : ℕ) → y.shape.height ≤ lv → way x.shape lv ≡ way y.shape lv = λ lv tall.
       sym (ap (up (lv - y.shape.height)) (sym y_top) ∙ (up-up (lv - y.shape.height) (y.shape.height - x.shape.height) x.shape.top ∙ ap (λ (z : ℕ). up z x.shape.top) (let s : lv - y.shape.height + (y.shape.height - x.shape.height) ≡ lv - x.shape.height = omega (arith, tall, lower) in s))) in
-      let was = home_all key y x q cq below some_height y_covers q_covers w named spells ns vs p sx lx.shaped cur_q ways (omega (arith, lower)) in
-      let high_x : (d.shape x.number).height ≡ x.shape.height = ap (λ (s : Shape). s.height) lx.shaped in
+      let was = home_all key y x q cq below some_height y_covers q_covers w named spells ns vs p sx x_shaped cur_q ways (omega (arith, lower)) in
+      let high_x : (d.shape x.number).height ≡ x.shape.height = ap (λ (s : Shape). s.height) x_shaped in
       let occupied : (x.number ≡ 0) ⊎ (((d.shape x.number).height ≤ y.shape.height) × (((node ns x.number).holder ≡ Some id) ⊎ ((d.shape x.number).height < y.shape.height))) = inr (omega (arith, high_x, lower), inr (omega (arith, high_x, lower))) in
       let here : d.home y.shape.height y.shape.top ≡ x.number = ap (d.home y.shape.height) (sym (way-own y.shape)) ∙ was y.shape.height (omega arith) (omega (arith, below, some_height)) in
       let hh : ℕ = y.shape.height - 2 in
@@ -474,38 +463,52 @@ module _ (id : ℕ) (v : View) (key : ℕ) (y x q : Spot) (byte : ℕ) (cy cx cq
         prefixed = fork.prefixed;
         under = λ b lo. inner_under (linked d y g) p.pairs y.shape.height hh y.shape.top b (lookup fork.its.children b) y_high
             (subst (λ (fs : List (ℕ × Child ℕ)). LeadsTo (linked d y g) (lookup fs b) ((linked d y g).home (suc hh) (256 * y.shape.top + b))) (sym fork.one)
-            (fork_under d y x g byte ns p.contents p.pairs p.tree sx lx.shaped lower y_top low_byte y_byte here hh b y_high lo));
-      } in
-      let still = x_locked id v key y q cy cq word m even e below some_height y_covers q_covers e_long changes ns vs p seat low held rises made l x.number was occupied of_y x cx lx lower in (
-        joins id v key y q cy cq word m even e below some_height y_covers q_covers e_long changes ns vs p seat low held rises made l x.number was occupied of_y (locked x cx ∷ []) (still, tt),
-        (λ mine. joins id v key y q cy cq word m even e below some_height y_covers q_covers e_long changes ns vs p seat low held rises made l x.number was occupied of_y (locked y cy ∷ locked x cx ∷ [])
-            (y_locked id v key y q cy cq word m even e below some_height y_covers q_covers e_long changes ns vs p seat low held rises made l x.number was occupied of_y mine, (still, tt))),
+            (fork_under d y x g byte ns p.contents p.pairs p.tree sx x_shaped lower y_top low_byte y_byte here hh b y_high lo));
+      } in (
+        joins id v key y q cy cq word m even e below some_height y_covers q_covers e_long changes ns vs p seat low held rises made l x.number was occupied of_y [] tt,
+        (λ mine. joins id v key y q cy cq word m even e below some_height y_covers q_covers e_long changes ns vs p seat low held rises made l x.number was occupied of_y (locked y cy ∷ [])
+            (y_locked id v key y q cy cq word m even e below some_height y_covers q_covers e_long changes ns vs p seat low held rises made l x.number was occupied of_y mine, tt)),
       )
 
-pub link_above : (id : ℕ) (v : View) (key : ℕ) (y x q : Spot) (byte : ℕ) (cy cx cq : Content) → v.own ≡ fresh y cy ∷ locked x cx ∷ locked q cq ∷ [] → (word m : ℕ) → word ≡ 4 * m → (e : Content) → y.shape.height < q.shape.height → 1 ≤ x.shape.height → x.shape.height < y.shape.height → Covers y.shape key → Covers q.shape key
+-- what the seat watches below a node that it has locked
+watched_held : (id : ℕ) (ns : List Node) (vs : List View) (p : IsMap ns vs) (v : View) → get_elem? vs id ≡ some v → (q x : Spot) → (node ns q.number).holder ≡ Some id → IsIn (watch q.number None x) v.watched → LeadsDown p.plan q.number x × IsSpot p.plan ns x
+watched_held id ns vs p v seat q x held known =
+    let l = (each_in (IsWatched p.plan ns id) v.watched (watch q.number None x) known (p.each_view id v seat).watched).leads held in (
+      l,
+      record {
+        below_trunk = l.some_node;
+        low = subst (λ (z : ℕ). z < length ns) l.here (p.tree.housed l.level (way x.shape l.level) (subst (λ (z : ℕ). 1 ≤ z) (sym l.here) l.some_node)).low;
+        key = ap (λ (z : Shape). z.key) l.shaped;
+        form = ap (λ (z : Shape). z.form) l.shaped;
+      },
+    )
+
+pub link_above : (id : ℕ) (v : View) (key : ℕ) (y x q : Spot) (byte : ℕ) (cy cq : Content) → v.own ≡ fresh y cy ∷ locked q cq ∷ [] → IsIn (watch q.number None x) v.watched → (word m : ℕ) → word ≡ 4 * m → (e : Content) → y.shape.height < q.shape.height → 1 ≤ x.shape.height → x.shape.height < y.shape.height → Covers y.shape key → Covers q.shape key
     → way x.shape y.shape.height ≡ y.shape.top → byte < 256 → way x.shape (y.shape.height - 1) ≡ 256 * y.shape.top + byte
     → length e ≡ words_of q.shape.form → Changes q cq e key y → (w : ℕ) → HadWord q cq key w → Spells w (name_of x.shape) → IsFork y x byte cy
-    → acts.Frees IsMap id v q.number word e (Forks v q.number e)
-link_above id v key y x q byte cy cx cq is word m even e below some_x lower y_covers q_covers y_top low_byte y_byte e_long changes w named spells fork ns vs p seat low held rises =
-    let own = its_own id v (fresh y cy ∷ locked x cx ∷ locked q cq ∷ []) is ns vs p seat in (
-      view_of v.seen (y ∷ v.met) (locked x cx ∷ []),
-      (above_joins id v key y x q byte cy cx cq word m even e below some_x lower y_covers q_covers y_top low_byte y_byte e_long changes w named spells fork ns vs p seat low held rises (off_fresh id ns vs p y cy own.0) own.1.0 own.1.1.0).0,
-      ap (λ (os : List Own). view_of v.seen (leads_on os ++ v.met) (left_below os)) (sym is),
+    → acts.Frees IsMap id v q.number word e (Links v q.number e)
+link_above id v key y x q byte cy cq is known word m even e below some_x lower y_covers q_covers y_top low_byte y_byte e_long changes w named spells fork ns vs p seat low held rises =
+    let own = its_own id v (fresh y cy ∷ locked q cq ∷ []) is ns vs p seat in
+    let l = watched_held id ns vs p v seat q x held known in (
+      view_of v.seen (y ∷ v.met) [],
+      (above_joins id v key y x q byte cy cq word m even e below some_x lower y_covers q_covers y_top low_byte y_byte e_long changes w named spells fork ns vs p seat low held rises (off_fresh id ns vs p y cy own.0) l.1 l.0.shaped own.1.0).0,
+      ap (λ (os : List Own). view_of v.seen (leads_on os ++ v.met) (left_over os)) (sym is),
     )
 
 -- by a node that is used again
-pub link_above_again : (a : Ask) (id : ℕ) (v : View) (r x q : Spot) (byte : ℕ) (cy cx cq : Content) → v.own ≡ outgrown r ∷ locked x cx ∷ locked q cq ∷ [] → (word m : ℕ) → word ≡ 4 * m → (e : Content) → a.height < q.shape.height → 1 ≤ x.shape.height → x.shape.height < a.height → Covers q.shape a.key
+pub link_above_again : (a : Ask) (id : ℕ) (v : View) (r x q : Spot) (byte : ℕ) (cy cq : Content) → v.own ≡ outgrown r ∷ locked q cq ∷ [] → IsIn (watch q.number None x) v.watched → (word m : ℕ) → word ≡ 4 * m → (e : Content) → a.height < q.shape.height → 1 ≤ x.shape.height → x.shape.height < a.height → Covers q.shape a.key
     → way x.shape a.height ≡ up a.height a.key → byte < 256 → way x.shape (a.height - 1) ≡ 256 * up a.height a.key + byte
     → length e ≡ words_of q.shape.form → Changes q cq e a.key (again a r) → (w : ℕ) → HadWord q cq a.key w → Spells w (name_of x.shape) → IsFork (again a r) x byte cy
-    → acts.Frees IsMap id v q.number word e (ForksAgain a cy v q.number e)
-link_above_again a id v r x q byte cy cx cq is word m even e below some_x lower q_covers y_top low_byte y_byte e_long changes w named spells fork ns vs p seat low held rises =
+    → acts.Frees IsMap id v q.number word e (LinksAgain a cy v q.number e)
+link_above_again a id v r x q byte cy cq is known word m even e below some_x lower q_covers y_top low_byte y_byte e_long changes w named spells fork ns vs p seat low held rises =
     let y : Spot = again a r in
-    let out : IsOutgrown p.plan ns id r = (its_own id v (outgrown r ∷ locked x cx ∷ locked q cq ∷ []) is ns vs p seat).0 in
+    let out : IsOutgrown p.plan ns id r = (its_own id v (outgrown r ∷ locked q cq ∷ []) is ns vs p seat).0 in
     let p' : IsMap ns vs = replan id ns vs p r out y.shape refl refl cy in
-    let own = its_own id v (outgrown r ∷ locked x cx ∷ locked q cq ∷ []) is ns vs p' seat in (
-      view_of v.seen (y ∷ v.met) (locked y cy ∷ locked x cx ∷ []),
-      (above_joins id v a.key y x q byte cy cx cq word m even e below some_x lower refl q_covers y_top low_byte y_byte e_long changes w named spells fork ns vs p' seat low held rises (replan_off id ns vs p r out y.shape refl refl cy) own.1.0 own.1.1.0).1 out.holder,
-      ap (λ (os : List Own). view_of v.seen (leads_again a os ++ v.met) (below_again a cy os)) (sym is),
+    let own = its_own id v (outgrown r ∷ locked q cq ∷ []) is ns vs p' seat in
+    let l = watched_held id ns vs p' v seat q x held known in (
+      view_of v.seen (y ∷ v.met) (locked y cy ∷ []),
+      (above_joins id v a.key y x q byte cy cq word m even e below some_x lower refl q_covers y_top low_byte y_byte e_long changes w named spells fork ns vs p' seat low held rises (replan_off id ns vs p r out y.shape refl refl cy) l.1 l.0.shaped own.1.0).1 out.holder,
+      ap (λ (os : List Own). view_of v.seen (leads_again a os ++ v.met) (left_again a cy os)) (sym is),
     )
 
 -- AS THE ROOT

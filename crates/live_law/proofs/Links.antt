@@ -12,9 +12,9 @@ use Rattle.live_nodes.specs.Nodes.{Content, at, Node, node}
 use Rattle.live_nodes.specs.Seats.{Each}
 use Rattle.live_law.specs.Levels.{Shape, name_of, way, IsBelow, Spot}
 use Rattle.live_law.specs.Views.{View, view_of, Watch, Own, locked, fresh, outgrown, trunk}
-use Rattle.live_law.specs.Tree.{Plan, home_of, IsFree, LeadsTo, IsHouse, Skips, IsCurrent, NamesRoot, IsSpot, IsMet, IsWatched, IsOwn, IsSettled, AreAlive, IsTree, IsMap}
+use Rattle.live_law.specs.Tree.{Plan, home_of, IsFree, LeadsTo, IsHouse, Skips, IsCurrent, NamesRoot, IsSpot, IsMet, IsBound, NoLater, IsWatched, IsOwn, IsSettled, AreAlive, IsTree, IsMap}
 use Rattle.live_law.proofs.Plans.{way-suc, way-own, none_below, at_home}
-use Rattle.live_law.proofs.Changes.{with_map, nodes_stay, settled_stays, is_here, is_else, low_stays}
+use Rattle.live_law.proofs.Changes.{with_map, no_later, not_bound, nodes_stay, settled_stays, is_here, is_else, low_stays}
 use Rattle.live_law.proofs.Makes.{current_alike}
 
 not_some : {A : Type 0} (x : A) → Some x ≡ None → ⊥
@@ -191,19 +191,20 @@ module _ (id : ℕ) (v : View) (y : Spot) (cy : Content) (k : ℕ) (b : Node) (n
         home_met a.number m.spot.below_trunk (λ e. none_not_mine (sym g.0 ∙ e)) (m.current g));
   }
 
-  pub watch_links : (x : Watch) → IsWatched d ns x → IsWatched d' ns' x
-  watch_links x w = record {
+  pub watch_links : (j : ℕ) → j ≢ id → (x : Watch) → IsWatched d ns j x → IsWatched d' ns' j x
+  watch_links j other x w = record {
     below_trunk = w.below_trunk;
     low = low_stays d ns k b low there long x.above w.low;
     later = dite (ℕ_discrete x.above k)
-        (λ e. let l = w.later in let old = ap (λ (z : ℕ). (node ns z).word) e in let now = ap (λ (z : Node). z.word) (is_here d ns k b low there long x.above e) in omega (arith, l, old, now, rises))
-        (λ ne. subst (λ (z : Node). x.word ≤ z.word) (sym (is_else d ns k b low there long x.above ne)) w.later);
+        (λ e. subst (NoLater x.word) (sym (is_here d ns k b low there long x.above e)) (no_later x.word (node ns k) b rises (subst (λ (z : ℕ). NoLater x.word (node ns z)) e w.later)))
+        (λ ne. subst (NoLater x.word) (sym (is_else d ns k b low there long x.above ne)) w.later);
     leads = dite (ℕ_discrete x.above k)
-        (λ e free same. absurd (let l = w.later in let old = ap (λ (z : ℕ). (node ns z).word) e in let now = ap (λ (z : Node). z.word) (is_here d ns k b low there long x.above e) in omega (arith, l, old, now, rises, same)))
-        (λ ne free same.
+        (λ e bound. absurd (not_bound j x.word (node ns k) b rises (λ mine. not_some j (sym mine ∙ b_free.0)) (subst (λ (z : ℕ). NoLater x.word (node ns z)) e w.later) (subst (IsBound j x.word) (is_here d ns k b low there long x.above e) bound)))
+        (λ ne bound.
         let as_was = is_else d ns k b low there long x.above ne in
-        let none : (node ns x.above).holder ≡ None = ap (λ (z : Node). z.holder) (sym as_was) ∙ free in
-        let l = w.leads none (same ∙ ap (λ (z : Node). z.word) as_was) in
+        let bound' = subst (IsBound j x.word) as_was bound in
+        let not_mine : (node ns x.above).holder ≢ Some id = bound_else j other x.word (node ns x.above) bound' in
+        let l = w.leads bound' in
         let a : Spot = x.spot in
         let lv : ℕ = l.level in
         let up_is : way a.shape lv / 256 ≡ way a.shape (suc lv) = sym (way-suc a.shape lv l.tall) in
@@ -233,7 +234,7 @@ module _ (id : ℕ) (v : View) (y : Spot) (cy : Content) (k : ℕ) (b : Node) (n
               absurd (⊎_elim
               (λ zero_is. let n = w.below_trunk in omega (arith, zero_is, is_x, n))
               (λ z. ⊎_elim
-              (λ mine. not_some id (sym mine ∙ (ap (λ (i : ℕ). (node ns i).holder) is_x ∙ none)))
+              (λ mine. not_mine (ap (λ (i : ℕ). (node ns i).holder) (sym is_x) ∙ mine))
               (λ lower. let high = ap (λ (i : ℕ). (d.shape i).height) is_x in let tall_x = l.above_high in let t = on.1.0 in omega (arith, lower, high, tall_x, t))
               z.1)
               occupied))
@@ -243,6 +244,9 @@ module _ (id : ℕ) (v : View) (y : Spot) (cy : Content) (k : ℕ) (b : Node) (n
         });
   }
     where
+      bound_else : (j : ℕ) → j ≢ id → (o : Option ℕ) (a : Node) → IsBound j o a → a.holder ≢ Some id
+      bound_else j ne (Some t) a bound mine = not_some id (sym mine ∙ bound.0)
+      bound_else j ne None a bound mine = ne (one_seat j id (sym bound ∙ mine))
       above_on : (h t : ℕ) → suc h ≤ g → IsOn d y g h t → IsOn d y g (suc h) (t / 256)
       above_on h t low on = (low, ((let l = on.1.0 in omega (arith, l)), way-suc y.shape h on.1.0 ∙ ap (λ (z : ℕ). z / 256) on.1.1))
       at_top : (h t : ℕ) → g < suc h → IsOn d y g h t → d.home (suc h) (t / 256) ≡ k

@@ -15,6 +15,9 @@ use Rattle.live_law.proofs.Looks.{met, is_now, is_current}
 not_some : {A : Type 0} (x : A) → Some x ≡ None → ⊥
 not_some x e = cc
 
+one_seat : (i j : ℕ) → Some i ≡ Some j → i ≡ j
+one_seat i j e = cc
+
 -- a node that no seat holds becomes held
 module _ (id : ℕ) (v : View) (k word : ℕ) (ns : List Node) (vs : List View) (p : IsMap ns vs) (seat : get_elem? vs id ≡ some v) (low : k < length ns) (free : (node ns k).holder ≡ None) (no_maker : (j : ℕ) → 1 ≤ k → p.plan.maker k ≢ Some j) (rises : (node ns k).word < word) where
   abbrev b : Node
@@ -40,7 +43,7 @@ module _ (id : ℕ) (v : View) (k word : ℕ) (ns : List Node) (vs : List View) 
       (alive_stays p.plan ns k b low refl refl p.alive (λ some_node here none. absurd (not_some id none)))
       (tree_same p.plan ns k b low refl refl p.contents p.pairs p.tree (λ _. refl))
       (met_stays p.plan ns k b low refl refl if_free)
-      (watch_stays p.plan ns k b low refl refl rises)
+      (λ j ne. watch_stays p.plan ns k b low refl refl rises j (λ e. ne (one_seat j id (sym e))))
       (λ j ne o has. own_stays p.plan ns k b low refl refl if_free p.contents p.contents (λ i ne. refl) j o (apart j o has) has)
       (λ j ne s h. h) p.unborn record {
         seen = kn.seen;

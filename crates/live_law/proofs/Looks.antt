@@ -18,8 +18,8 @@ use Rattle.live_nodes.specs.Rule.{PlaceFits, ReadFits}
 use Rattle.live_nodes.specs.Acts as acts
 use Rattle.live_encodes.specs.Encodes.{words_of, Encodes, IsBelow as HasBelow, IsWord}
 use Rattle.live_law.specs.Levels.{up, digit, Shape, name_of, Covers, way, Spot, spot, place_at}
-use Rattle.live_law.specs.Views.{View, view_of, Watch, watch, watching, Ask, got}
-use Rattle.live_law.specs.Tree.{Plan, home_of, IsFree, LeadsTo, HasValue, IsUnder, IsCurrent, IsSpot, IsMet, LeadsDown, IsWatched, Knows, AreNodes, IsTree, IsMap, LearnsRoot, GoesTo, HasAnswer, Gets, Finds, Parts, Misses, Looks, IsOfKind, IsNow, IsOf, Meets, LearnsNode, LearnsMiss, Headed, LearnsHead, Watches, LearnsBelow}
+use Rattle.live_law.specs.Views.{View, view_of, Own, locked, Watch, watch, watching, Ask, got}
+use Rattle.live_law.specs.Tree.{Plan, home_of, IsFree, LeadsTo, HasValue, IsUnder, IsCurrent, IsSpot, IsMet, LeadsDown, IsBound, IsWatched, Knows, IsLocked, IsOwn, AreNodes, IsTree, IsMap, LearnsRoot, GoesTo, HasAnswer, Gets, Finds, Parts, Misses, Looks, IsOfKind, IsNow, IsOf, Meets, LearnsNode, LearnsMiss, Headed, LearnsHead, Watches, LearnsBelow}
 use Rattle.live_law.proofs.Histories.{get_legal, others_alike, sees_all, sees_less}
 use Rattle.live_law.proofs.Plans.{digit-low, joined, at_home, missed, none_there, same_name, way-suc}
 
@@ -207,10 +207,10 @@ module _ (q : Ask) (id : ℕ) (by : q.caller ≡ id) (v : View) (a : Spot) (mine
     finds (suc (suc h)) top (Some (Below s)) at_h l is u = goes_to h s at_h (at_inner p.plan ns p.contents p.pairs p.tree q.key h top (Some (Below s)) is u)
 
     -- A watched node below this one is what it was.
-    pub same_watched : (x : Watch) → IsIn x v.watched → x.above ≡ a.number → (node ns a.number).holder ≡ None → x.word ≡ (node ns a.number).word → LeadsDown p.plan a.number x.spot
+    pub same_watched : (x : Watch) → IsIn x v.watched → x.above ≡ a.number → (node ns a.number).holder ≡ None → x.word ≡ Some (node ns a.number).word → LeadsDown p.plan a.number x.spot
     same_watched x known above free word_is =
-        let w = each_in (IsWatched p.plan ns) v.watched x known (p.each_view id v seat).watched in
-        subst (λ (z : ℕ). LeadsDown p.plan z x.spot) above (w.leads (ap (λ (z : ℕ). (node ns z).holder) above ∙ free) (word_is ∙ ap (λ (z : ℕ). (node ns z).word) (sym above)))
+        let w = each_in (IsWatched p.plan ns id) v.watched x known (p.each_view id v seat).watched in
+        subst (λ (z : ℕ). LeadsDown p.plan z x.spot) above (w.leads (subst (λ (o : Option ℕ). IsBound id o (node ns x.above)) (sym word_is) (subst (λ (z : ℕ). IsBound id (Some (node ns a.number).word) (node ns z)) (sym above) (free, refl))))
 
     misses : (node ns a.number).holder ≡ None → (node ns a.number).word ≡ word → (height top : ℕ) (o : Option (Child ℕ)) → height ≡ b.shape.height → height < 9 → up height q.key ≡ top → IsUnder p.plan p.pairs height top (digit height q.key) o → Owes ns vs (Misses word q v b) o
     misses free word_is zero top o at_h l is u = absurd u
@@ -225,8 +225,7 @@ module _ (q : Ask) (id : ℕ) (by : q.caller ≡ id) (v : View) (a : Spot) (mine
         let house = p.tree.housed (suc h) (up (suc h) q.key) leads.0 in
         dite (ℕ_discrete (up (p.plan.shape j).height q.key) (p.plan.shape j).top)
         (λ covers. ([], tt, (v, same_view, (λ x parts. absurd (parts.leaves (
-          let down = same_watched x parts.known parts.above free (parts.free_by ∙ sym word_is) in
-          let w = each_in (IsWatched p.plan ns) v.watched x parts.known (p.each_view id v seat).watched in
+          let down = same_watched x parts.known parts.above free (parts.free_by ∙ ap (λ (z : ℕ). Some z) (sym word_is)) in
           let low_x : x.spot.number < length ns = subst (λ (z : ℕ). z < length ns) down.here (p.tree.housed down.level (way x.spot.shape down.level) (subst (λ (z : ℕ). 1 ≤ z) (sym down.here) down.some_node)).low in
           let number : x.spot.number ≡ j = same_name p.plan ns p.nodes x.spot record { below_trunk = down.some_node; low = low_x; key = ap (λ (z : Shape). z.key) down.shaped; form = ap (λ (z : Shape). z.form) down.shaped } j leads.0 house.low (sym parts.named ∙ leads.1) in
           subst (λ (z : Shape). Covers z q.key) (sym (ap p.plan.shape number) ∙ down.shaped) covers))))))
@@ -351,20 +350,20 @@ HadBelow a r x w = (s : Shape) (is : IsOf a s r.saw) → (2 ≤ s.height) × Has
 pub node_below : (id : ℕ) (v : View) (b : Spot) (mine : IsIn b v.met) (word : ℕ) (saw : List (ℕ × ℕ)) (m : ℕ) → word ≡ 4 * m → (reads : List Read)
     → (a : Spot) → IsIn a v.met → (r : Read) → IsIn r reads → r.number ≡ a.number → (l : ℕ) → r.word ≡ 4 * l
     → (x : ℕ) → x < 256 → (w : ℕ) → HadBelow a r x w → ((s : ℕ) → IsWord w (Below s) → s ≡ name_of b.shape)
-    → acts.Learns IsMap id v b.number word saw reads (LearnsBelow a.number r.word v b.number word saw)
+    → acts.Learns IsMap id v b.number word saw reads (LearnsBelow a.number (Some r.word) v b.number word saw)
 node_below id v b mine word saw m even reads a known r read_is number l free_by x lo w had spells ns vs p seat low is free agree fits =
     let mb = met ns vs id v p seat b mine in
     let ma = met ns vs id v p seat a known in
     let s : Shape = p.plan.shape b.number in
     let c = is_current ns vs id v p seat b mine (free, (m, is ∙ even)) in
     let fit = (each_in (ReadFits ns) reads r read_is fits).1 l free_by in
-    let new : Watch = watch a.number r.word (spot b.number s) in
+    let new : Watch = watch a.number (Some r.word) (spot b.number s) in
     let k = p.each_view id v seat in
-    let watched : IsWatched p.plan ns new = record {
+    let watched : IsWatched p.plan ns id new = record {
       below_trunk = ma.spot.below_trunk;
       low = ma.spot.low;
       later = subst (λ (z : ℕ). r.word ≤ (node ns z).word) number fit.0;
-      leads = λ free_a same.
+      leads = λ bound. let free_a = bound.0 in let same = bound.1 in
           let is_free : IsFree (node ns a.number) = (free_a, (l, sym same ∙ free_by)) in
           let cur = is_current ns vs id v p seat a known is_free in
           let agree_a : Agree (node ns a.number).content r.saw = subst (λ (z : ℕ). Agree (node ns z).content r.saw) number (fit.1 (same ∙ ap (λ (z : ℕ). (node ns z).word) (sym number))) in
@@ -401,7 +400,57 @@ node_below id v b mine word saw m even reads a known r read_is number l free_by 
                 deep = c.deep;
                 prefixed = c.prefixed;
               };
-              watches = ap (λ (z : ℕ). watching v (watch a.number r.word (spot z s))) (sym same);
+              watches = ap (λ (z : ℕ). watching v (watch a.number (Some r.word) (spot z s))) (sym same);
+              one_name = λ f known_f as_e.
+                  let of_f = met ns vs id v p seat f known_f in
+                  let of_e = met ns vs id v p seat e known_e in
+                  λ i. 256 * (sym of_f.spot.key ∙ (ap (λ (z : ℕ). (p.plan.shape z).key) as_e ∙ of_e.spot.key)) i + form_place ((sym of_f.spot.form ∙ (ap (λ (z : ℕ). (p.plan.shape z).form) as_e ∙ of_e.spot.form)) i);
+            }),
+      ),
+    )
+
+-- below a node that the seat has locked
+pub node_below_held : (id : ℕ) (v : View) (b : Spot) (mine : IsIn b v.met) (word : ℕ) (saw : List (ℕ × ℕ)) (m : ℕ) → word ≡ 4 * m → (reads : List Read)
+    → (a : Spot) (c : Content) (os : List Own) → v.own ≡ locked a c ∷ os → 2 ≤ a.shape.height → (x : ℕ) → x < 256 → (w : ℕ)
+    → ((n : TableNode ℕ) → Encodes c n → n.form ≡ a.shape.form → HasBelow (lookup n.children x) (Some w)) → ((s : ℕ) → IsWord w (Below s) → s ≡ name_of b.shape)
+    → acts.Learns IsMap id v b.number word saw reads (LearnsBelow a.number None v b.number word saw)
+node_below_held id v b mine word saw m even reads a c os own tall x lo w had spells ns vs p seat low is free agree fits =
+    let mb = met ns vs id v p seat b mine in
+    let s : Shape = p.plan.shape b.number in
+    let cur_b = is_current ns vs id v p seat b mine (free, (m, is ∙ even)) in
+    let k = p.each_view id v seat in
+    let l : IsLocked p.plan ns p.contents id a c = (subst (Each (IsOwn p.plan ns p.contents id)) own k.own).0 in
+    let at_a : home_of p.plan (p.plan.shape a.number) ≡ a.number = ap (home_of p.plan) l.shaped ∙ l.current in
+    let cur = p.tree.current a.number l.met.spot.below_trunk at_a in
+    let new : Watch = watch a.number None (spot b.number s) in
+    let below = had cur.its (subst (λ (z : Content). Encodes z cur.its) l.content cur.encodes) (cur.in_form ∙ l.met.spot.form) in
+    let watched : IsWatched p.plan ns id new = record {
+      below_trunk = l.met.spot.below_trunk;
+      low = l.met.spot.low;
+      later = tt;
+      leads = λ _. leads_down p.plan ns p.contents p.pairs p.tree p.nodes a.number at_a x lo (lookup cur.its.children x) w below b mb.spot spells (p.plan.shape a.number).height refl (subst (λ (z : Shape). 2 ≤ z.height) (sym l.shaped) tall) (cur.under x lo);
+    } in (
+      [],
+      tt,
+      (
+        watching v new,
+        with_view ns vs id p (watching v new) record { seen = k.seen; met = k.met; own = k.own; watched = (watched, tt) },
+        (λ e known_e same.
+            let now = is_now ns vs id v p seat e known_e in
+            let shape_is : p.plan.shape e.number ≡ s = ap p.plan.shape same in
+            record {
+              shape = s;
+              is = record {
+                now = subst (IsNow e) shape_is now;
+                content = (node ns b.number).content;
+                its = cur_b.its;
+                agrees = agree;
+                encodes = cur_b.encodes;
+                in_form = cur_b.in_form ∙ (ap (λ (z : Shape). z.form) (sym shape_is) ∙ now.form);
+                deep = cur_b.deep;
+                prefixed = cur_b.prefixed;
+              };
+              watches = ap (λ (z : ℕ). watching v (watch a.number None (spot z s))) (sym same);
               one_name = λ f known_f as_e.
                   let of_f = met ns vs id v p seat f known_f in
                   let of_e = met ns vs id v p seat e known_e in

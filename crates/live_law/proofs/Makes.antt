@@ -15,8 +15,8 @@ use Rattle.live_cells.specs.Words as cells
 use Rattle.live_cells.specs.Head.{IsHead}
 use Rattle.live_encodes.specs.Encodes.{words_of, long_for, HasChildren, Encodes}
 use Rattle.live_law.specs.Levels.{up, Shape, name_of, way, IsBelow, Spot, spot}
-use Rattle.live_law.specs.Views.{View, view_of, Watch, Own, locked, fresh, outgrown, trunk, Ask}
-use Rattle.live_law.specs.Tree.{Plan, home_of, IsFree, LeadsTo, IsUnder, IsCurrent, NamesRoot, IsSpot, IsMet, LeadsDown, IsWatched, IsOwn, AreNodes, AreAlive, IsSettled, IsTree, IsMap, IsMade}
+use Rattle.live_law.specs.Views.{View, with_own, Watch, Own, locked, fresh, outgrown, trunk, Ask}
+use Rattle.live_law.specs.Tree.{Plan, home_of, IsFree, LeadsTo, IsUnder, IsCurrent, NamesRoot, IsSpot, IsMet, LeadsDown, IsBound, NoLater, IsWatched, IsOwn, AreNodes, AreAlive, IsSettled, IsTree, IsMap, IsMade}
 use Rattle.live_law.proofs.Changes.{with_map}
 
 -- how long a content is, and what form it has
@@ -138,14 +138,14 @@ module _ (d : Plan) (id : ℕ) (s : Shape) (ns : List Node) (content : Content) 
     current = λ f. ap (home_of d) same ∙ m.current (subst IsFree (node_old a.number m.spot.low) f);
   }
 
-  watch_old : (cs : ℕ → Content) (m : Pairs ℕ) → IsTree d ns cs m → (x : Watch) → IsWatched d ns x → IsWatched d' longer x
-  watch_old cs m t x w =
+  watch_old : (cs : ℕ → Content) (m : Pairs ℕ) → IsTree d ns cs m → (j : ℕ) (x : Watch) → IsWatched d ns j x → IsWatched d' longer j x
+  watch_old cs m t j x w =
       let same = node_old x.above w.low in record {
         below_trunk = w.below_trunk;
         low = (let l = w.low in omega (arith, l, more));
-        later = subst (λ (z : Node). x.word ≤ z.word) (sym same) w.later;
-        leads = λ free is.
-            let l = w.leads (ap (λ (z : Node). z.holder) (sym same) ∙ free) (is ∙ ap (λ (z : Node). z.word) same) in
+        later = subst (NoLater x.word) (sym same) w.later;
+        leads = λ bound.
+            let l = w.leads (subst (IsBound j x.word) same bound) in
             let low_x = subst (λ (z : ℕ). z < last) l.here (t.housed l.level (way x.spot.shape l.level) (subst (λ (z : ℕ). 1 ≤ z) (sym l.here) l.some_node)).low in record {
               level = l.level;
               some_node = l.some_node;
@@ -257,7 +257,7 @@ node_makes q id v key content n encodes ns vs p seat elsewhere =
     let s : Shape = record { key = key; form = n.form; height = q.height; top = up q.height q.key } in
     let a : Spot = spot (length ns) s in
     let kn = p.each_view id v seat in
-    let w : View = view_of v.seen v.met (fresh a content ∷ v.own) in
+    let w : View = with_own v (fresh a content ∷ v.own) in
     let nodes = p.nodes in
     let cs : ℕ → Content = p.contents in
     let own_ok : (j : ℕ) (o : Own) → IsOwn p.plan ns cs j o → IsOwn (d' p.plan id s ns content) (longer p.plan id s ns content) (cs' p.plan id s ns content cs) j o = λ j o. own_old p.plan id s ns content nodes.some_trunk cs j o in (
@@ -268,7 +268,7 @@ node_makes q id v key content n encodes ns vs p seat elsewhere =
           (alive_longer p.plan id s ns content p.alive)
           (tree_longer p.plan id s ns content cs p.pairs p.tree nodes)
           (met_old p.plan id s ns content)
-          (watch_old p.plan id s ns content cs p.pairs p.tree)
+          (λ j ne. watch_old p.plan id s ns content cs p.pairs p.tree j)
           (λ j ne o. own_ok j o)
           (λ j ne x h. h) p.unborn record {
             seen = kn.seen;
@@ -288,7 +288,7 @@ node_makes q id v key content n encodes ns vs p seat elsewhere =
               },
               each_map (IsOwn p.plan ns cs id) (IsOwn (d' p.plan id s ns content) (longer p.plan id s ns content) (cs' p.plan id s ns content cs) id) v.own (own_ok id) kn.own,
             );
-            watched = tt;
+            watched = each_map (IsWatched p.plan ns id) (IsWatched (d' p.plan id s ns content) (longer p.plan id s ns content) id) v.watched (watch_old p.plan id s ns content cs p.pairs p.tree id) kn.watched;
           },
       record {
         spot = a;

@@ -75,12 +75,12 @@ module _ (id : ℕ) (ns : List Node) (vs : List View) (p : IsMap ns vs) (x : Spo
     current = λ f. let ne : a.number ≢ k = λ e. not_some id (sym (held_k a.number e) ∙ f.0) in ap (home_of d) (shape_old a.number ne) ∙ m.current f;
   }
 
-  watch_stays : (a : Watch) → IsWatched d ns a → IsWatched d' ns a
-  watch_stays a w = record {
+  watch_stays : (j : ℕ) (a : Watch) → IsWatched d ns j a → IsWatched d' ns j a
+  watch_stays j a w = record {
     below_trunk = w.below_trunk;
     low = w.low;
     later = w.later;
-    leads = λ free is. let l = w.leads free is in record {
+    leads = λ bound. let l = w.leads bound in record {
       level = l.level;
       some_node = l.some_node;
       shaped = shape_old a.spot.number (λ e. nowhere l.level (way a.spot.shape l.level) (l.here ∙ e)) ∙ l.shaped;
@@ -177,7 +177,7 @@ module _ (id : ℕ) (ns : List Node) (vs : List View) (p : IsMap ns vs) (x : Spo
       seen = k.seen;
       met = each_map (IsMet d ns) (IsMet d' ns) u.met met_stays k.met;
       own = each_map (IsOwn d ns p.contents j) (IsOwn d' ns cs' j) u.own (own_stays j) k.own;
-      watched = each_map (IsWatched d ns) (IsWatched d' ns) u.watched watch_stays k.watched;
+      watched = each_map (IsWatched d ns j) (IsWatched d' ns j) u.watched (watch_stays j) k.watched;
     };
     unborn = p.unborn;
   }

@@ -56,7 +56,7 @@ module _ (id : ℕ) (v : View) (k word : ℕ) (d : Content) (ns : List Node) (vs
         (alive_stays p.plan ns k freed low refl long p.alive (λ some_node here none. if_home some_node here))
         tree
         (met_stays p.plan ns k freed low refl long if_free)
-        (watch_stays p.plan ns k freed low refl long rises)
+        (λ j ne. watch_stays p.plan ns k freed low refl long rises j (λ e. not_some j (sym e)))
         others_own
         (λ j ne s h. h) p.unborn record {
           seen = kn.seen;
@@ -76,7 +76,7 @@ module _ (id : ℕ) (v : View) (k word : ℕ) (d : Content) (ns : List Node) (vs
         (alive_stays p.plan ns k freed low refl long p.alive (λ some_node here none. if_home some_node here))
         tree
         (met_stays p.plan ns k freed low refl long if_free)
-        (watch_stays p.plan ns k freed low refl long rises)
+        (λ j ne. watch_stays p.plan ns k freed low refl long rises j (λ e. not_some j (sym e)))
         others_own
         (λ j ne s h. sees_less j p.history s e (λ same. ne (same ∙ by)) h)
         (λ c l. others_alike c p.history e (λ same. absurd (let lo = below vs id v seat in omega (arith, lo, same, by, l))) ∙ p.unborn c l)

@@ -12,7 +12,7 @@ use Rattle.live_nodes.specs.Nodes.{Content, at, Node, node}
 use Rattle.live_nodes.specs.Seats.{Place, Each, IsIn, Agree}
 use Rattle.live_encodes.specs.Encodes.{words_of, Encodes}
 use Rattle.live_law.specs.Levels.{up, digit, Shape, name_of, Covers, way, IsBelow, Spot, spot, place_at}
-use Rattle.live_law.specs.Views.{Own, locked, fresh, outgrown, trunk, Watch, watch, View, view_of, watching, number_of, rest_of, content_of, Ask, got, inserted}
+use Rattle.live_law.specs.Views.{Own, locked, fresh, outgrown, trunk, Watch, watch, View, view_of, with_own, watching, number_of, rest_of, content_of, Ask, got, inserted}
 
 -- what each node is, which one is current where, and who has made one that nobody else knows. A node that is current is at
 -- its own height, and at each level above it up to its parent's, which has no other node there
@@ -24,6 +24,16 @@ pub record Plan : Type 0 where
 -- Its version word says that nobody writes it, and that it isn't obsolete.
 abbrev pub IsFree : Node → Type 0
 IsFree a = (a.holder ≡ None) × ((m : ℕ) × (a.word ≡ 4 * m))
+
+-- It is free by that word, or the seat has it locked.
+abbrev pub IsBound : ℕ → Option ℕ → Node → Type 0
+IsBound id (Some t) a = (a.holder ≡ None) × (t ≡ a.word)
+IsBound id None a = a.holder ≡ Some id
+
+-- It was free by that word.
+abbrev pub NoLater : Option ℕ → Node → Type 0
+NoLater (Some t) a = t ≤ a.word
+NoLater None a = Unit {0}
 
 -- A leaf has the key's value, or there is none.
 abbrev pub HasValue : Option (Child ℕ) → Option ℕ → Type 0
@@ -104,12 +114,12 @@ module _ (d : Plan) where
       pub lasts : a.shape.height ≡ 8 → (d.shape a.number ≡ a.shape) × (home_of a.shape ≡ a.number)
       pub current : IsFree (node ns a.number) → home_of (d.shape a.number) ≡ a.number
 
-    -- The word of the node above may be gone. While it is there, that one leads to this node.
-    pub record IsWatched (w : Watch) : Type 0 where
+    -- The node above may be another by now. While it isn't, it leads to this node.
+    pub record IsWatched (id : ℕ) (w : Watch) : Type 0 where
       pub below_trunk : 1 ≤ w.above
       pub low : w.above < length ns
-      pub later : w.word ≤ (node ns w.above).word
-      pub leads : (node ns w.above).holder ≡ None → w.word ≡ (node ns w.above).word → LeadsDown w.above w.spot
+      pub later : NoLater w.word (node ns w.above)
+      pub leads : IsBound id w.word (node ns w.above) → LeadsDown w.above w.spot
 
     pub record IsOutgrown (id : ℕ) (a : Spot) : Type 0 where
       pub spot : IsSpot a
@@ -155,7 +165,7 @@ module _ (d : Plan) where
         pub seen : HasSeen history id v.seen
         pub met : Each IsMet v.met
         pub own : Each (IsOwn id) v.own
-        pub watched : Each IsWatched v.watched
+        pub watched : Each (IsWatched id) v.watched
 
       -- the nodes as they are current. Where one is, so are those above it
       pub record IsTree (m : Pairs ℕ) : Type 0 where
@@ -233,7 +243,7 @@ Finds q v a (Some (below.Node s)) ps w = GoesTo v a s ps w
 pub record Parts (q : Ask) (v : View) (word : ℕ) (a : Spot) (s : ℕ) (b : Watch) : Type 0 where
   pub known : IsIn b v.watched
   pub above : b.above ≡ a.number
-  pub free_by : b.word ≡ word
+  pub free_by : b.word ≡ Some word
   pub named : s ≡ name_of b.spot.shape
   pub leaves : Covers b.spot.shape q.key → ⊥
 
@@ -296,14 +306,14 @@ pub record Headed (v : View) (a : Spot) (saw : List (ℕ × ℕ)) (w : View) : T
 abbrev pub LearnsHead : View → ℕ → ℕ → List (ℕ × ℕ) → List Place → View → Type 0
 LearnsHead v k word saw ps w = (a : Spot) → IsIn a v.met → a.number ≡ k → Headed v a saw w
 
--- A NODE was read below another one, node n, which was free by the word t: it is watched.
-pub record Watches (n t : ℕ) (v : View) (a : Spot) (saw : List (ℕ × ℕ)) (w : View) : Type 0 where
+-- A NODE was read below another one, node n, which was free by a word, or which the seat has locked: it is watched.
+pub record Watches (n : ℕ) (t : Option ℕ) (v : View) (a : Spot) (saw : List (ℕ × ℕ)) (w : View) : Type 0 where
   pub shape : Shape
   pub is : IsOf a shape saw
   pub watches : w ≡ watching v (watch n t (spot a.number shape))
   pub one_name : (b : Spot) → IsIn b v.met → b.number ≡ a.number → name_of b.shape ≡ name_of a.shape
 
-abbrev pub LearnsBelow : ℕ → ℕ → View → ℕ → ℕ → List (ℕ × ℕ) → List Place → View → Type 0
+abbrev pub LearnsBelow : ℕ → Option ℕ → View → ℕ → ℕ → List (ℕ × ℕ) → List Place → View → Type 0
 LearnsBelow n t v k word saw ps w = (a : Spot) → IsIn a v.met → a.number ≡ k → Watches n t v a saw w
 
 -- A node that the seat has to itself is another one.
@@ -366,14 +376,6 @@ left_over os = []
 abbrev pub Links : View → ℕ → Content → View → Type 0
 Links v k c w = w ≡ view_of v.seen (leads_on v.own ++ v.met) (left_over v.own)
 
--- It leads to a new one above a node that the seat has locked as well, and which stays so.
-abbrev pub left_below : List Own → List Own
-left_below (fresh a c ∷ locked b e ∷ locked p f ∷ []) = locked b e ∷ []
-left_below os = []
-
-abbrev pub Forks : View → ℕ → Content → View → Type 0
-Forks v k c w = w ≡ view_of v.seen (leads_on v.own ++ v.met) (left_below v.own)
-
 -- A NODE was unlocked, which leads to one that is used again, for the way of a key at some height. That one stays locked, and
 -- is going to have this content.
 abbrev pub again : Ask → Spot → Spot
@@ -388,13 +390,6 @@ left_again q c (outgrown x ∷ locked p f ∷ []) = locked (again q x) c ∷ []
 left_again q c (outgrown x ∷ locked b e ∷ locked p f ∷ []) = locked (again q x) c ∷ outgrown b ∷ []
 left_again q c os = []
 
-abbrev pub below_again : Ask → Content → List Own → List Own
-below_again q c (outgrown x ∷ locked b e ∷ locked p f ∷ []) = locked (again q x) c ∷ locked b e ∷ []
-below_again q c os = []
-
-abbrev pub ForksAgain : Ask → Content → View → ℕ → Content → View → Type 0
-ForksAgain q d v k c w = w ≡ view_of v.seen (leads_again q v.own ++ v.met) (below_again q d v.own)
-
 abbrev pub LinksAgain : Ask → Content → View → ℕ → Content → View → Type 0
 LinksAgain q d v k c w = w ≡ view_of v.seen (leads_again q v.own ++ v.met) (left_again q d v.own)
 
@@ -406,7 +401,7 @@ pub record IsNew (q : Ask) (v : View) (key : ℕ) (c : Content) (k : ℕ) (w : V
   pub height : spot.shape.height ≡ q.height
   pub covers : Covers spot.shape q.key
   pub form : (n : TableNode ℕ) → Encodes c n → spot.shape.form ≡ n.form
-  pub is : w ≡ view_of v.seen v.met (fresh spot c ∷ v.own)
+  pub is : w ≡ with_own v (fresh spot c ∷ v.own)
 
 abbrev pub IsMade : Ask → View → ℕ → Content → ℕ → View → Type 0
 IsMade q v key c k w = IsNew q v key c k w

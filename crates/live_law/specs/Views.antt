@@ -16,14 +16,14 @@ pub data Own : Type 0 where
   -- the trunk is locked
   trunk : Content → Own
 
--- A node as it was read below another: the number of the one above, and the word by which that one was free. While that
--- word is there, so is the node.
+-- A node as it was read below another: the number of the one above, and the word by which that one was free, or none, where
+-- the seat itself has it locked. While that is so, the node is as it was read.
 pub record Watch : Type 0 where
   pub above : ℕ
-  pub word : ℕ
+  pub word : Option ℕ
   pub spot : Spot
 
-abbrev pub watch : ℕ → ℕ → Spot → Watch
+abbrev pub watch : ℕ → Option ℕ → Spot → Watch
 watch k w a = record { above = k; word = w; spot = a }
 
 -- The history that it has seen, nodes of the map that it has met, its own, and those that it watches. What a node that it
@@ -36,6 +36,9 @@ pub record View : Type 0 where
 
 abbrev pub view_of : List (Entry ℕ) → List Spot → List Own → View
 view_of s m o = record { seen = s; met = m; own = o; watched = [] }
+
+abbrev pub with_own : View → List Own → View
+with_own v os = record { seen = v.seen; met = v.met; own = os; watched = v.watched }
 
 abbrev pub watching : View → Watch → View
 watching v w = record { seen = v.seen; met = v.met; own = v.own; watched = w ∷ [] }

@@ -91,22 +91,25 @@ impl<A: Asks> Lesson<Mine> for Miss<A> {
     ghost told = { LearnsMiss A.ask };
 }
 
-/// Below which node another one is read: its number, and the word by which it was free. A caller picks it.
+/// Below which node another one is read: its number, and the word by which it was free, or none, where the caller's seat has it
+/// locked. A caller picks it.
 pub trait Above {
-    ghost use Rattle.std.specs.Prelude.{ℕ};
+    ghost use Rattle.std.specs.Prelude.{ℕ, Option};
 
     ghost number: { ℕ };
 
-    ghost word: { ℕ };
+    ghost word: { Option ℕ };
 }
 
 impl Above for Brand {
+    ghost use Rattle.std.specs.Prelude.{None};
+
     ghost number = { 0 };
 
-    ghost word = { 0 };
+    ghost word = { None };
 }
 
-/// A node was read below another one. While that one's word is there, the node is as it was read.
+/// A node was read below another one. While that one is what it was, the node is as it was read.
 pub struct Below<N> {
     of: PhantomData<N>,
 }
@@ -173,15 +176,6 @@ impl Change<Mine> for Link {
     ghost told = { Links };
 }
 
-/// A node is unlocked, and leads to a new one above another.
-pub struct Fork;
-
-impl Change<Mine> for Fork {
-    ghost use Rattle.live_law.specs.Tree.{Forks};
-
-    ghost told = { Forks };
-}
-
 /// What a node is going to have. A caller picks it.
 pub trait Fills {
     ghost use Rattle.live_nodes.specs.Nodes.{Content};
@@ -204,17 +198,6 @@ impl<A: Asks, C: Fills> Change<Mine> for Again<A, C> {
     ghost use Rattle.live_law.specs.Tree.{LinksAgain};
 
     ghost told = { LinksAgain A.ask C.content };
-}
-
-/// A node is unlocked, and leads to one that is used again above another.
-pub struct ForkAgain<A, C> {
-    of: PhantomData<(A, C)>,
-}
-
-impl<A: Asks, C: Fills> Change<Mine> for ForkAgain<A, C> {
-    ghost use Rattle.live_law.specs.Tree.{ForksAgain};
-
-    ghost told = { ForksAgain A.ask C.content };
 }
 
 /// A node is made.

@@ -1,4 +1,4 @@
-use Rattle.std.proofs.Common.{rules, arith, sym, ap, subst, length, refl, ℕ, Some, None, List, ◌∷◌, ◌≡◌, ◌+◌, ◌-◌, ◌∙◌}
+use Rattle.std.proofs.Common.{rules, arith, sym, ap, subst, length, refl, ℕ, Some, None, List, ◌∷◌, ◌≡◌, ◌+◌, ◌-◌, ◌/◌, ◌∙◌}
 use Rattle.node_base.specs.declared.base_node.NodeType.TheVariants.{N4 as NEW_form}
 use Rattle.live_nodes.specs.Seats.{SeatView}
 use Rattle.live_rows.specs.Rows.{draft_of, nth}

@@ -1,4 +1,4 @@
-use Rattle.std.proofs.Common.{rules, arith, sym, ap, subst, length, refl, ℕ, List, ◌∷◌, [], ◌≡◌, ◌+◌, ◌-◌, ◌≤◌, ◌∙◌, get_or-set_same, length-set, set}
+use Rattle.std.proofs.Common.{rules, arith, sym, ap, subst, length, refl, ℕ, List, ◌∷◌, [], ◌≡◌, ◌+◌, ◌-◌, ◌%◌, ◌/◌, ◌≤◌, ◌∙◌, get_or-set_same, length-set, set}
 use Rattle.node_base.specs.declared.base_node.NodeType.TheVariants.{N256}
 use Rattle.node_base.specs.Form.{form_place}
 use Rattle.live_nodes.specs.Nodes.{at}
