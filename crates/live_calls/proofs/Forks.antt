@@ -17,14 +17,14 @@ use Rattle.live_encodes.specs.Encodes.{words_of, IsBelow, IsWord, Encodes}
 use Rattle.live_law.specs.Levels.{up, digit, Shape, Spot, spot, name_of, Covers, place_at}
 use Rattle.live_law.specs.Views.{View, Watch, watching, watch, Ask, got}
 use Rattle.live_law.specs.Tree.{IsMap, HasPrefix, IsOf, IsNow, LearnsBelow, Watches, LearnsMiss, Misses, HasAnswer, Answers, IsOfKind, Parts}
-use Rattle.live_law.proofs.Looks.{node_below, node_misses, HadBelow}
+use Rattle.live_law.proofs.Looks.{node_below, node_below_held, node_misses, HadBelow}
 use Rattle.live_law.proofs.Plans.{way-key, joined, digit-low}
 use Rattle.live_calls.specs.Ways.{Names, Sights, HasOpened, IsOpen, Keeps}
 use Rattle.live_calls.specs.Sees.{Sees}
-use Rattle.live_calls.specs.Forks.{first_number, IsForked}
+use Rattle.live_calls.specs.Forks.{first_number, IsForked, IsAbove, IsParted}
 use Rattle.live_calls.specs.declared.sight.Sight.TheVariants as sights
 use Rattle.live_calls.proofs.Views.{reading_on, reading_on_keeps, learned_keeps, open_read, may_check_open, open_checked, open_missed, same_named}
-use Rattle.live_calls.proofs.Sights.{covers_by, leaves_lower, leaves_byte}
+use Rattle.live_calls.proofs.Sights.{leaves_lower, leaves_top, leaves_byte}
 use Rattle.live_calls.proofs.Finds.{keeps_then}
 
 abbrev Seen : Type 0
@@ -98,24 +98,24 @@ module _ (v : Seen) (b : Book) (words : List Name) (t name key height : ℕ) (o 
     digit_low : digit height key < 256
     digit_low = digit-low height key
 
-    pub may_watch : (id m l : ℕ) → t₂ ≡ 4 * m → t ≡ 4 * l → MayCheck v₃ k IsMap id (LearnsBelow a.number t) t₂
-    may_watch id m l even free = may_check_open v₂ b₂ words₂ t₂ n.spot placed₂ opened v₃ rest₃ k at_k (LearnsBelow a.number t) id
+    pub may_watch : (id m l : ℕ) → t₂ ≡ 4 * m → t ≡ 4 * l → MayCheck v₃ k IsMap id (LearnsBelow a.number (Some t)) t₂
+    may_watch id m l even free = may_check_open v₂ b₂ words₂ t₂ n.spot placed₂ opened v₃ rest₃ k at_k (LearnsBelow a.number (Some t)) id
         (node_below id v₂.client n.spot (keeps₂.met n.spot n.met) t₂ saw₃ m even (read n.spot.number t₂ saw₃ ∷ v₁.reads)
         a (keeps₂.met a (find_keeps.0.met a o.names.met)) (read a.number t saw) (inr (subst (IsIn (read a.number t saw)) (sym reads_are) (inl refl))) refl l free
         (digit height key) digit_low word had (λ s e. is_child s e ∙ n.named))
 
-    module _ (w : Seen) (m : ℕ) (told : Checks (LearnsBelow a.number t) (reads k) v₃ m none_joined w) where
+    module _ (w : Seen) (m : ℕ) (told : Checks (LearnsBelow a.number (Some t)) (reads k) v₃ m none_joined w) where
       pub watch_missed : m ≢ t₂ → Keeps v₂ w × (w.client ≡ v₂.client)
-      watch_missed ne = open_missed v₂ b₂ words₂ t₂ n.spot placed₂ opened v₃ rest₃ k at_k (LearnsBelow a.number t) w m told ne
+      watch_missed ne = open_missed v₂ b₂ words₂ t₂ n.spot placed₂ opened v₃ rest₃ k at_k (LearnsBelow a.number (Some t)) w m told ne
 
-      watch_checked : Plays.Checked (LearnsBelow a.number t v₂.client n.spot.number t₂ saw₃) t₂ (reading_on v₂ v₁.reads n.spot.number t₂ saw₃) m w
-      watch_checked = open_checked v₂ b₂ words₂ t₂ n.spot placed₂ opened v₃ rest₃ k at_k (LearnsBelow a.number t) w m told
+      watch_checked : Plays.Checked (LearnsBelow a.number (Some t) v₂.client n.spot.number t₂ saw₃) t₂ (reading_on v₂ v₁.reads n.spot.number t₂ saw₃) m w
+      watch_checked = open_checked v₂ b₂ words₂ t₂ n.spot placed₂ opened v₃ rest₃ k at_k (LearnsBelow a.number (Some t)) w m told
 
       module _ (hit : m ≡ t₂) where
         pub watch_keeps : Keeps v₂ w × (w.client.seen ≡ v₂.client.seen)
         watch_keeps =
             let h = watch_checked.hit hit in
-            let x : Watches a.number t v₂.client n.spot saw₃ h.1 = h.3 n.spot (keeps₂.met n.spot n.met) refl in (
+            let x : Watches a.number (Some t) v₂.client n.spot saw₃ h.1 = h.3 n.spot (keeps₂.met n.spot n.met) refl in (
               learned_keeps v₂ w h.0 h.1 (read n.spot.number t₂ saw₃ ∷ v₁.reads) h.2 (λ z in_it. subst (λ (y : View). IsIn z y.met) (sym x.watches) in_it) (ap (λ (y : View). y.own) x.watches),
               ap (λ (z : Seen). z.client.seen) h.2 ∙ ap (λ (z : View). z.seen) x.watches,
             )
@@ -125,11 +125,11 @@ module _ (v : Seen) (b : Book) (words : List Name) (t name key height : ℕ) (o 
             → IsForked w b' words t name key height
         watch_forks b' are head at_head fits lv byte sees =
             let h = watch_checked.hit hit in
-            let x : Watches a.number t v₂.client n.spot saw₃ h.1 = h.3 n.spot (keeps₂.met n.spot n.met) refl in
+            let x : Watches a.number (Some t) v₂.client n.spot saw₃ h.1 = h.3 n.spot (keeps₂.met n.spot n.met) refl in
             let kw = (keeps_then v v₁ w find_keeps.0 (keeps_then v₁ v₂ w keeps₂ watch_keeps.0)) in
             let p = x.is.its.prefix in
             let word_is : IsHead head (form_place x.is.its.form) p = subst (λ (z : ℕ). IsHead z (form_place x.is.its.form) p) (at_head x.is.content x.is.agrees) x.is.encodes.head in
-            let e = watch a.number t (spot n.spot.number x.shape) in
+            let e = watch a.number (Some t) (spot n.spot.number x.shape) in
             let apart : a.number ≢ n.spot.number = λ same. other_name (n.named ∙ (sym (x.one_name a (keeps₂.met a (find_keeps.0.met a o.names.met)) same) ∙ sym o.names.named)) in
             let w_reads : w.reads ≡ read n.spot.number t₂ saw₃ ∷ read a.number t saw ∷ o.opened.before = ap (λ (z : Seen). z.reads) h.2 ∙ ap (λ (rs : List Read). read n.spot.number t₂ saw₃ ∷ rs) reads_are in
             record {
@@ -168,8 +168,9 @@ module _ (v : Seen) (b : Book) (words : List Name) (t name key height : ℕ) (f 
     miss_checked : Plays.Checked (LearnsMiss q v.client x.number t f.saw) t v m w
     miss_checked = told (place_at x) (read x.number t f.saw) f.names.placed at_k f.reads
 
-    pub miss_lost : m ≢ t → w ≡ v
-    miss_lost ne = miss_checked.miss ne
+    pub miss_lost : m ≢ t → Keeps v w × (w.client.seen ≡ v.client.seen)
+    miss_lost ne = subst (λ (z : Seen). Keeps v z × (z.client.seen ≡ v.client.seen)) (sym (miss_checked.miss ne))
+        (record { places = λ p h. h; met = λ s h. h; own = refl; holds = refl; room = refl }, refl)
 
     misses : (lv : ℕ) (o : Option (Child ℕ)) (ps : List Place) (c : View) → 2 ≤ lv → IsOfKind lv o → IsBelow o (Some f.word) → Misses t q v.client x o ps c → HasAnswer q None v.client c
     misses lv None ps c tall kind below then = absurd below
@@ -198,3 +199,54 @@ module _ (v : Seen) (b : Book) (words : List Name) (t name key height : ℕ) (f 
           learned_keeps v w h.0 h.1 v.reads h.2 (λ z in_it. subst (λ (u : View). IsIn z u.met) (sym g.is) in_it) (ap (λ (u : View). u.own) g.is),
           subst (λ (z : Seen). Answers q.caller (got q None) v.client.seen z.client.seen) (sym h.2) g.answers,
         )
+
+-- A NODE BELOW ONE THAT IS LOCKED
+module _ (v : Seen) (below number : ℕ) (bound : Option ℕ) (up_there : IsAbove v below number bound) (n : Sights v below) (v₂ : Seen) (b₂ : Book) (words₂ : List Name) (t₂ : ℕ) (keeps₂ : Keeps v v₂) (client₂ : v₂.client ≡ v.client) (opened : HasOpened v₂ b₂ words₂ t₂ n.spot)
+    (v₃ : Seen) (rest₃ : without_reads v₃ ≡ without_reads v₂) (k : ℕ) (at_k : (place_at n.spot).key ≡ k) where
+  placed_b : IsIn (place_at n.spot) v₂.places
+  placed_b = keeps₂.places (place_at n.spot) n.placed
+
+  abbrev saw_b : List (ℕ × ℕ)
+  saw_b = last_saw v₃.reads
+
+  pub may_part : (id m : ℕ) → t₂ ≡ 4 * m → MayCheck v₃ k IsMap id (LearnsBelow number bound) t₂
+  may_part id m even = subst (λ (z : ℕ × Option ℕ). MayCheck v₃ k IsMap id (LearnsBelow z.0 z.1) t₂) (λ i. (sym up_there.numbered i, sym up_there.held i))
+      (may_check_open v₂ b₂ words₂ t₂ n.spot placed_b opened v₃ rest₃ k at_k (LearnsBelow up_there.spot.number None) id
+      (node_below_held id v₂.client n.spot (keeps₂.met n.spot n.met) t₂ saw_b m even (read n.spot.number t₂ saw_b ∷ opened.before)
+      up_there.spot up_there.content [] (ap (λ (z : View). z.own) client₂ ∙ up_there.own) up_there.tall up_there.byte up_there.low up_there.child up_there.finds (λ s e. up_there.spells s e ∙ n.named)))
+
+  module _ (w : Seen) (m : ℕ) (told : Checks (LearnsBelow number bound) (reads k) v₃ m none_joined w) where
+    pub part_missed : m ≢ t₂ → Keeps v₂ w × (w.client ≡ v₂.client)
+    part_missed ne = open_missed v₂ b₂ words₂ t₂ n.spot placed_b opened v₃ rest₃ k at_k (LearnsBelow number bound) w m told ne
+
+    part_checked : Plays.Checked (LearnsBelow number bound v₂.client n.spot.number t₂ saw_b) t₂ (reading_on v₂ opened.before n.spot.number t₂ saw_b) m w
+    part_checked = open_checked v₂ b₂ words₂ t₂ n.spot placed_b opened v₃ rest₃ k at_k (LearnsBelow number bound) w m told
+
+    module _ (hit : m ≡ t₂) where
+      pub part_keeps : Keeps v₂ w × (w.client.seen ≡ v₂.client.seen)
+      part_keeps =
+          let h = part_checked.hit hit in
+          let x : Watches number bound v₂.client n.spot saw_b h.1 = h.3 n.spot (keeps₂.met n.spot n.met) refl in (
+            learned_keeps v₂ w h.0 h.1 (read n.spot.number t₂ saw_b ∷ opened.before) h.2 (λ z in_it. subst (λ (y : View). IsIn z y.met) (sym x.watches) in_it) (ap (λ (y : View). y.own) x.watches),
+            ap (λ (z : Seen). z.client.seen) h.2 ∙ ap (λ (z : View). z.seen) x.watches,
+          )
+
+      pub part_parts : (head : ℕ) → ((c : Content) → Agree c saw_b → cells.at c 0 ≡ head) → (key : ℕ) → key < 2 ^ 64 → (lv byte : ℕ) → ((form : ℕ) (p : List ℕ) → IsHead head form p → Sees p key (sights.Leaves lv byte)) → IsParted w below key lv byte number
+      part_parts head at_head key fits lv byte sees =
+          let h = part_checked.hit hit in
+          let x : Watches number bound v₂.client n.spot saw_b h.1 = h.3 n.spot (keeps₂.met n.spot n.met) refl in
+          let p = x.is.its.prefix in
+          let deep = x.is.deep in
+          let short = x.is.encodes.head.short in
+          let has = x.is.prefixed in
+          let s = sees (form_place x.is.its.form) p (subst (λ (z : ℕ). IsHead z (form_place x.is.its.form) p) (at_head x.is.content x.is.agrees) x.is.encodes.head) in
+          let e = watch number None (spot n.spot.number x.shape) in record {
+            spot = spot n.spot.number x.shape;
+            named = n.named ∙ sym (same_named n.spot x.shape x.is.now);
+            known = subst (λ (z : Seen). IsIn e z.client.watched) (sym h.2) (subst (λ (z : View). IsIn e z.watched) (sym x.watches) (inl (λ i. watch number (up_there.held i) (spot n.spot.number x.shape))));
+            some_height = omega (arith, deep, short);
+            lower = leaves_lower p x.shape key fits deep has lv byte s.0 s.1 s.2 s.3 s.6;
+            top = leaves_top p x.shape key fits deep has lv byte s.0 s.1 s.2 s.3 s.6;
+            low = s.4;
+            byte_is = leaves_byte p x.shape key fits deep has lv byte s.0 s.1 s.2 s.3 s.6;
+          }

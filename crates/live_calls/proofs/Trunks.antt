@@ -9,7 +9,7 @@ use Rattle.live_nodes.specs.Plays.{Locks}
 use Rattle.live_nodes.specs.Calls.{MayLock}
 use Rattle.live_rows.specs.Rows.{AreOf}
 use Rattle.live_law.specs.Levels.{up, Spot, name_of, Covers, place_at}
-use Rattle.live_law.specs.Views.{View, view_of, Own, trunk, fresh, Ask}
+use Rattle.live_law.specs.Views.{View, view_of, with_own, Own, trunk, fresh, Ask}
 use Rattle.live_law.specs.Tree.{IsMap, LearnsTrunk, Links, leads_on, left_over}
 use Rattle.live_law.proofs.Locks.{trunk_locks}
 use Rattle.live_law.proofs.Joins.{link_root, IsEmptyNode}
@@ -84,7 +84,7 @@ root_frees id q c y cy content is zero_is high covers height key word n even e l
     link_root id c y cy content is word n even e zero_is (high ∙ height) (sym covers ∙ ap (λ (z : ℕ × ℕ). up z.0 z.1) (λ i. ((high ∙ height) i, key i))) long named some_name empty
 
 -- what a seat knows then
-pub root_grown : (v w m u x : Seen) (free : ℕ) (h : TrunkHeld v w free) (e : View) (y : Spot) (cy : Content) → m.client ≡ view_of w.client.seen w.client.met (fresh y cy ∷ w.client.own) → m.places ≡ place_at y ∷ w.places → u.client ≡ m.client → u.places ≡ m.places
+pub root_grown : (v w m u x : Seen) (free : ℕ) (h : TrunkHeld v w free) (e : View) (y : Spot) (cy : Content) → m.client ≡ with_own w.client (fresh y cy ∷ w.client.own) → m.places ≡ place_at y ∷ w.places → u.client ≡ m.client → u.places ≡ m.places
     → m.client.own ≡ fresh y cy ∷ trunk h.content ∷ [] → x ≡ seat_view e u.places u.reads [] u.room → e ≡ view_of u.client.seen (leads_on u.client.own ++ u.client.met) (left_over u.client.own) → HasGrown v x
 root_grown v w m u x free h e y cy m_client m_places u_client u_places own x_is e_is =
     let os = ap (λ (z : View). z.own) u_client ∙ own in

@@ -1,11 +1,11 @@
 //! A node that leads on to one whose way a key leaves: there the key's way ends.
-ghost use Rattle.std.specs.Prelude.{◌≡◌, ℕ, ◌+◌, ◌<◌, ◌≤◌, None, false, IsTrue};
+ghost use Rattle.std.specs.Prelude.{◌≡◌, ℕ, ◌+◌, ◌<◌, ◌≤◌, Some, None, false, IsTrue};
 ghost use Rattle.live_law.specs.Views.{got};
 ghost use Rattle.live_law.specs.Tree.{Answers};
 ghost use Rattle.live_calls.specs.Ways.{Names, Sights, IsOpen, Keeps};
-ghost use Rattle.live_calls.specs.Forks.{first_number, IsForked};
+ghost use Rattle.live_calls.specs.Forks.{first_number, IsForked, IsAbove, IsParted};
 
-use crate::sight::{Sight, compare, enter};
+use crate::sight::{Fork, Sight, compare, enter};
 use crate::way::{Nodes, Opened, Pass, byte_at, open};
 use live_cells::words::Cells;
 use live_encodes::form::{form_below, slot_below};
@@ -30,7 +30,7 @@ pub fn watch<N: Above>(
     requires open { IsOpen pass.old.view pass.old.book here.words.now here.taken name key height }
     requires height { (2 ≤ height) × (height ≤ 8) }
     requires below { Sights pass.old.view below }
-    requires above { (N.number ≡ first_number pass.old.view.reads) × (N.word ≡ here.taken) }
+    requires above { (N.number ≡ first_number pass.old.view.reads) × (N.word ≡ Some here.taken) }
     ensures told { (pass.new.book ≡ pass.old.book) × (pass.new.id ≡ pass.old.id)
         × Keeps pass.old.view pass.new.view
         × (pass.new.view.client.seen ≡ pass.old.view.client.seen) }
@@ -91,4 +91,29 @@ pub fn ends_above<A: Asks>(
         return false;
     }
     node::check::<Mine, Levels, Miss<A>>(&here.words[0], here.taken, pass)
+}
+
+/// Whether a node that the seat has locked leads on to one whose way the key leaves as it did. The seat watches that one.
+/// `false` where a writer came in between.
+pub fn parts<N: Above>(nodes: &Nodes, fork: Fork, key: u64, pass: &mut Pass) -> bool
+    requires book { pass.old.book ≡ nodes.now }
+    requires below { Sights pass.old.view fork.below }
+    requires above { IsAbove pass.old.view fork.below N.number N.word }
+    ensures told { (pass.new.book ≡ pass.old.book) × (pass.new.id ≡ pass.old.id)
+        × Keeps pass.old.view pass.new.view
+        × (pass.new.view.client.seen ≡ pass.old.view.client.seen) }
+    ensures parted { IsTrue result → IsParted pass.new.view fork.below key fork.at fork.byte N.number }
+{
+    let Some(other) = open(nodes, fork.below, pass) else {
+        return false;
+    };
+    let lower = Row { words: other.words };
+    let head = lower.word(0, pass);
+    if !node::check::<Mine, Levels, Below<N>>(&other.words[0], other.taken, pass) {
+        return false;
+    }
+    let Sight::Leaves(at, byte) = compare(head, key) else {
+        return false;
+    };
+    at == fork.at && byte == fork.byte
 }

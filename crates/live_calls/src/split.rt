@@ -3,6 +3,7 @@ ghost use Rattle.std.specs.Prelude.{◌≡◌, ℕ, ◌+◌, ◌<◌, ◌≤◌,
 ghost use Rattle.live_calls.specs.Ways.{Names, Leaves};
 ghost use Rattle.live_calls.specs.Rooms.{HasRoom, HasGrown};
 
+use crate::fork::parts;
 use crate::held::{lock_node, unlock_same};
 use crate::link::{NEW, Room};
 use crate::room::make_fork;
@@ -14,6 +15,7 @@ use live_encodes::form::{form_below, word_below, words_in};
 use live_law::law::{Asks, Levels, Link, Mine};
 use live_nodes::node;
 use live_rows::rows::Held;
+use std::marker::Brand;
 
 /// Puts a new node between a node and one below it whose way the key leaves. That one stays as it is. `false` where a writer
 /// came in between.
@@ -53,6 +55,10 @@ pub fn split<A: Asks>(
     };
     let held: Held<'_, Mine, Levels, 0> = Held { words };
     if !leads_to(&held, form, byte, fork.below, pass) {
+        unlock_same(words, free, pass);
+        return false;
+    }
+    if !parts::<Brand>(nodes, fork, key, pass) {
         unlock_same(words, free, pass);
         return false;
     }

@@ -231,7 +231,7 @@ check-requires-clause-learns g c =
     let at_number = c.requires.above.0 ∙ ap first_number o.opened.reads in
     let at_word = c.requires.above.1 in
     let may = may_watch v b words t name key height o high v₁ rest kept word finds c.args.below n is_child c.if-below-name.false v₂ b₂ words₂ t₂ told₂.2 told₂.3 o₂ reads₂ v₃ rest₃ first.key at_k c.word-head.new.seat.id (t₂ / 4) (t / 4) (omega (arith, free₂)) (let f = o.free in omega (arith, f)) in
-    subst (λ (z : ℕ × ℕ). MayCheck v₃ first.key IsMap c.word-head.new.seat.id (LearnsBelow z.0 z.1) t₂) (λ i. (sym at_number i, sym at_word i)) may
+    subst (λ (z : ℕ × Option ℕ). MayCheck v₃ first.key IsMap c.word-head.new.seat.id (LearnsBelow z.0 z.1) t₂) (λ i. (sym at_number i, sym at_word i)) may
 
 pub returns-then-not-check-clause-told : goal.returns-then-not-check-clause-told
 returns-then-not-check-clause-told g c =
@@ -278,7 +278,7 @@ returns-then-not-check-clause-told g c =
     let id = s.1 ∙ (ap (λ s. s.id) r₃ ∙ (told₂.1 ∙ id₁)) in
     let at_number = c.requires.above.0 ∙ ap first_number o.opened.reads in
     let at_word = c.requires.above.1 in
-    let told = subst (λ (z : ℕ × ℕ). Checks (LearnsBelow z.0 z.1) (reads first.key) v₃ e.0 none_joined w) (λ i. (at_number i, at_word i)) e.2 in
+    let told = subst (λ (z : ℕ × Option ℕ). Checks (LearnsBelow z.0 z.1) (reads first.key) v₃ e.0 none_joined w) (λ i. (at_number i, at_word i)) e.2 in
     let k = watch_missed v b words t name key height o high v₁ rest kept word finds c.args.below n is_child c.if-below-name.false v₂ b₂ words₂ t₂ told₂.2 told₂.3 o₂ reads₂ v₃ rest₃ first.key at_k w e.0 told (search rules) in
     (book, id, keeps_then v v₂ w (keeps_then v v₁ v₂ k₁.0 told₂.2) k.0, ap (λ (z : View). z.seen) (k.1 ∙ (told₂.3 ∙ k₁.1)))
 
@@ -327,7 +327,7 @@ returns-in-Leaves-clause-told g c =
     let id = s.1 ∙ (ap (λ s. s.id) r₃ ∙ (told₂.1 ∙ id₁)) in
     let at_number = c.requires.above.0 ∙ ap first_number o.opened.reads in
     let at_word = c.requires.above.1 in
-    let told = subst (λ (z : ℕ × ℕ). Checks (LearnsBelow z.0 z.1) (reads first.key) v₃ e.0 none_joined w) (λ i. (at_number i, at_word i)) e.2 in
+    let told = subst (λ (z : ℕ × Option ℕ). Checks (LearnsBelow z.0 z.1) (reads first.key) v₃ e.0 none_joined w) (λ i. (at_number i, at_word i)) e.2 in
     let k = watch_keeps v b words t name key height o high v₁ rest kept word finds c.args.below n is_child c.if-below-name.false v₂ b₂ words₂ t₂ told₂.2 told₂.3 o₂ reads₂ v₃ rest₃ first.key at_k w e.0 told (search rules) in
     (book, id, keeps_then v v₂ w (keeps_then v v₁ v₂ k₁.0 told₂.2) k.0, k.1 ∙ ap (λ (z : View). z.seen) (told₂.3 ∙ k₁.1))
 
@@ -376,7 +376,7 @@ returns-in-Covers-clause-told g c =
     let id = s.1 ∙ (ap (λ s. s.id) r₃ ∙ (told₂.1 ∙ id₁)) in
     let at_number = c.requires.above.0 ∙ ap first_number o.opened.reads in
     let at_word = c.requires.above.1 in
-    let told = subst (λ (z : ℕ × ℕ). Checks (LearnsBelow z.0 z.1) (reads first.key) v₃ e.0 none_joined w) (λ i. (at_number i, at_word i)) e.2 in
+    let told = subst (λ (z : ℕ × Option ℕ). Checks (LearnsBelow z.0 z.1) (reads first.key) v₃ e.0 none_joined w) (λ i. (at_number i, at_word i)) e.2 in
     let k = watch_keeps v b words t name key height o high v₁ rest kept word finds c.args.below n is_child c.if-below-name.false v₂ b₂ words₂ t₂ told₂.2 told₂.3 o₂ reads₂ v₃ rest₃ first.key at_k w e.0 told (search rules) in
     (book, id, keeps_then v v₂ w (keeps_then v v₁ v₂ k₁.0 told₂.2) k.0, k.1 ∙ ap (λ (z : View). z.seen) (told₂.3 ∙ k₁.1))
 
@@ -425,7 +425,7 @@ returns-in-Leaves-clause-forked g c = λ _.
     let id = s.1 ∙ (ap (λ s. s.id) r₃ ∙ (told₂.1 ∙ id₁)) in
     let at_number = c.requires.above.0 ∙ ap first_number o.opened.reads in
     let at_word = c.requires.above.1 in
-    let told = subst (λ (z : ℕ × ℕ). Checks (LearnsBelow z.0 z.1) (reads first.key) v₃ e.0 none_joined w) (λ i. (at_number i, at_word i)) e.2 in
+    let told = subst (λ (z : ℕ × Option ℕ). Checks (LearnsBelow z.0 z.1) (reads first.key) v₃ e.0 none_joined w) (λ i. (at_number i, at_word i)) e.2 in
     let sight : c.compare.result ≡ sights.Leaves c.in-Leaves.field-0 c.in-Leaves.field-1 = c.in-Leaves.is in
     let sees = λ (form : ℕ) (p : List ℕ) (h : IsHead c.word-head.result form p). subst (Sees p key) sight (c.compare.ensures form p h) in
     watch_forks v b words t name key height o high v₁ rest kept word finds c.args.below n is_child c.if-below-name.false v₂ b₂ words₂ t₂ told₂.2 told₂.3 o₂ reads₂ v₃ rest₃ first.key at_k w e.0 told (search rules)
