@@ -1,4 +1,4 @@
-use Rattle.std.proofs.Common.{rules, arith, sym, ap, subst, length, ℕ, Some, None, List, ◌≡◌, ◌+◌, ◌∙◌}
+use Rattle.std.proofs.Common.{rules, arith, sym, ap, subst, length, ℕ, Some, None, List, ◌≡◌, ◌+◌, ◌/◌, ◌∙◌}
 use Rattle.live_nodes.specs.Acts as acts
 use Rattle.live_nodes.specs.Seats.{SeatView}
 use Rattle.live_rows.specs.Rows.{draft_of, nth}
@@ -175,7 +175,7 @@ unlock-requires-clause-frees g c =
     let long = c.set.ensures.long ∙ ap words_of form in
     let changes = set_leaf q c.byte_at-byte.result c.args.old c.args.new digit_is c.requires.values.0 c.requires.values.1 c.form_below-form.result h.content (draft_of (nth 0 w.holds)) d was c.set.result done written a.shape.form (sym form) in
     let frees = subst (λ (z : View). acts.Frees IsMap c.set.new.seat.id z a.number (free + 4) d (Writes q z a.number d)) (sym on.2)
-    (leaf_updates q c.requires.legal c.set.new.seat.id by w.client a h.content one.own h.names.high covers (free + 4) d long changes) in
+    (leaf_updates q c.requires.legal c.set.new.seat.id by w.client a h.content one.own h.names.high covers (free + 4) (free / 4 + 1) (let even = h.even in omega (arith, even)) d long changes) in
     may_free u c.set.new.seat.book words free a h.content d on_book first.key at_k (Writes q) c.set.new.seat.id (free + 4) frees
 
 pub returns : goal.returns
@@ -213,7 +213,7 @@ returns g c =
     let long = c.set.ensures.long ∙ ap words_of form in
     let changes = set_leaf q c.byte_at-byte.result c.args.old c.args.new digit_is c.requires.values.0 c.requires.values.1 c.form_below-form.result h.content (draft_of (nth 0 w.holds)) d was c.set.result done written a.shape.form (sym form) in
     let frees = subst (λ (z : View). acts.Frees IsMap c.set.new.seat.id z a.number (free + 4) d (Writes q z a.number d)) (sym on.2)
-    (leaf_updates q c.requires.legal c.set.new.seat.id by w.client a h.content one.own h.names.high covers (free + 4) d long changes) in
+    (leaf_updates q c.requires.legal c.set.new.seat.id by w.client a h.content one.own h.names.high covers (free + 4) (free / 4 + 1) (let even = h.even in omega (arith, even)) d long changes) in
     let x = c.unlock.new.seat.view in
     let e = c.unlock.ensures.seat in
     let f = is_freed u c.set.new.seat.book words free a h.content d on_book first.key at_k (Writes q) x (free + 4) c.unlock.ensures.told in
