@@ -160,8 +160,8 @@ parts-requires-clause-above g c =
       held = refl;
     }
 
-pub unlock_same-2-requires-clause-holds : goal.unlock_same-2-requires-clause-holds
-unlock_same-2-requires-clause-holds g c =
+pub unlock_same-requires-then-not-parts-clause-holds : goal.unlock_same-requires-then-not-parts-clause-holds
+unlock_same-requires-then-not-parts-clause-holds g c =
     let v = c.args.pass.now.view in
     let name = c.args.above in
     let key = c.args.key in
@@ -190,6 +190,86 @@ unlock_same-2-requires-clause-holds g c =
       are = subst (λ y. AreOf (place_at a) y words) (sym book_z) one.are;
     } in
     (a, h.content, one_z)
+
+pub returns-then-not-parts : goal.returns-then-not-parts
+returns-then-not-parts g c =
+    let v = c.args.pass.now.view in
+    let name = c.args.above in
+    let key = c.args.key in
+    let height = c.args.height in
+    let words = c.in-Some.words.now in
+    let free = c.in-Some-lock_node.free in
+    let w = c.lock_node.new.pass.view in
+    let t = c.lock_node.ensures.told in
+    let is_locked : c.lock_node.result ≡ Some free = search rules in
+    let h = taken_by c.lock_node.result free is_locked (HasLocked v w name key height) t.2 in
+    let b = c.lock_node.new.pass.book in
+    let are = subst (λ z. AreNamed z name words) (sym (t.0 ∙ c.requires.book)) c.in-Some.ensures in
+    let one = holds_one v w name key height free h b words are c.requires.rests.0 c.requires.rests.1 in
+    let a = h.names.spot in
+    let form = c.form_below-form.ensures a.shape.key a.shape.form h.names.named in
+    let same = c.leads_to.ensures.seat.same in
+    let z = c.parts.new.pass.view in
+    let pt = c.parts.ensures.told in
+    let keeps = subst (λ s. Keeps s.view z) same pt.2 in
+    let book_z = pt.0 ∙ ap (λ s. s.book) same in
+    let bz = c.parts.new.pass.book in
+    let one_z : HoldsOne z bz words free a h.content h.content = record {
+      own = keeps.own ∙ one.own;
+      holds = keeps.holds ∙ one.holds;
+      placed = keeps.places (place_at a) one.placed;
+      are = subst (λ y. AreOf (place_at a) y words) (sym book_z) one.are;
+    } in
+    let e = c.unlock_same-then-not-parts.ensures.told in
+    let left = c.args.room.now.left in
+    let start = c.args.room.now.start in
+    record {
+      told = (
+        e.0 ∙ (book_z ∙ t.0),
+        e.1 ∙ (pt.1 ∙ (ap (λ s. s.id) same ∙ t.1)),
+        record {
+          own = e.2.own;
+          holds = e.2.holds;
+          places = λ p i. subst (λ l. IsIn p l) (sym e.2.alike.places) (keeps.places p (subst (λ l. IsIn p l) (sym h.alike.places) i));
+          met = λ s i. subst (λ l. IsIn s l) (sym e.2.alike.met) (keeps.met s (subst (λ l. IsIn s l) (sym h.alike.met) i));
+          seen = e.3 ∙ (pt.3 ∙ (ap (λ s. s.view.client.seen) same ∙ h.seen));
+        },
+        room_after v c.unlock_same-then-not-parts.new.pass.view start left start left (e.2.alike.room ∙ (keeps.room ∙ h.alike.room)) refl (omega arith) c.requires.room,
+      );
+    }
+
+pub make_fork-new-requires-clause-room : goal.make_fork-new-requires-clause-room
+make_fork-new-requires-clause-room g c =
+    let v = c.args.pass.now.view in
+    let name = c.args.above in
+    let key = c.args.key in
+    let height = c.args.height in
+    let words = c.in-Some.words.now in
+    let free = c.in-Some-lock_node.free in
+    let w = c.lock_node.new.pass.view in
+    let t = c.lock_node.ensures.told in
+    let is_locked : c.lock_node.result ≡ Some free = search rules in
+    let h = taken_by c.lock_node.result free is_locked (HasLocked v w name key height) t.2 in
+    let b = c.lock_node.new.pass.book in
+    let are = subst (λ z. AreNamed z name words) (sym (t.0 ∙ c.requires.book)) c.in-Some.ensures in
+    let one = holds_one v w name key height free h b words are c.requires.rests.0 c.requires.rests.1 in
+    let a = h.names.spot in
+    let form = c.form_below-form.ensures a.shape.key a.shape.form h.names.named in
+    let same = c.leads_to.ensures.seat.same in
+    let z = c.parts.new.pass.view in
+    let pt = c.parts.ensures.told in
+    let keeps = subst (λ s. Keeps s.view z) same pt.2 in
+    let book_z = pt.0 ∙ ap (λ s. s.book) same in
+    let bz = c.parts.new.pass.book in
+    let one_z : HoldsOne z bz words free a h.content h.content = record {
+      own = keeps.own ∙ one.own;
+      holds = keeps.holds ∙ one.holds;
+      placed = keeps.places (place_at a) one.placed;
+      are = subst (λ y. AreOf (place_at a) y words) (sym book_z) one.are;
+    } in
+    let left = c.args.room.now.left in
+    let start = c.args.room.now.start in
+    (left, room_after v z start left start left (keeps.room ∙ h.alike.room) refl (omega arith) c.requires.room, (let n : 263 ≤ left = search rules in omega (arith, n)))
 
 pub change-requires-clause-may : goal.change-requires-clause-may
 change-requires-clause-may g c =
