@@ -247,8 +247,10 @@ module _ (id : ℕ) (v : View) (y : Spot) (cy : Content) (k : ℕ) (b : Node) (n
       bound_else : (j : ℕ) → j ≢ id → (o : Option ℕ) (a : Node) → IsBound j o a → a.holder ≢ Some id
       bound_else j ne (Some t) a bound mine = not_some id (sym mine ∙ bound.0)
       bound_else j ne None a bound mine = ne (one_seat j id (sym bound ∙ mine))
+
       above_on : (h t : ℕ) → suc h ≤ g → IsOn d y g h t → IsOn d y g (suc h) (t / 256)
       above_on h t low on = (low, ((let l = on.1.0 in omega (arith, l)), way-suc y.shape h on.1.0 ∙ ap (λ (z : ℕ). z / 256) on.1.1))
+
       at_top : (h t : ℕ) → g < suc h → IsOn d y g h t → d.home (suc h) (t / 256) ≡ k
       at_top h t high on =
           let same : h ≡ g = (let l = on.0 in omega (arith, l, high)) in
