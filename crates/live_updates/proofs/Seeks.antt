@@ -43,9 +43,12 @@ pub lacks_later : (q : Lookup) (b : Bool) (u v w : Seen) → v.client.seen ≡ u
 lacks_later q true u v w e l = ends_later q.caller (q.entry None) u v w e l
 lacks_later q false u v w e l = l ∙ e
 
+off_on : false ≡ true → ⊥
+off_on e = cc
+
 pub lacks_by : (q : Lookup) (b : Bool) (v w : Seen) → (IsTrue b → EndsBy q.caller (q.entry None) v w) → ((IsTrue b → ⊥) → w.client.seen ≡ v.client.seen) → Lacks q b v w
-lacks_by q true v w ends same = ends tt
-lacks_by q false v w ends same = same (λ t. t)
+lacks_by q true v w ends same = ends refl
+lacks_by q false v w ends same = same off_on
 
 pub lacks_so : (q : Lookup) (b : Bool) (v w : Seen) → b ≡ true → Lacks q b v w → EndsBy q.caller (q.entry None) v w
 lacks_so q b v w e l = subst (λ (z : Bool). Lacks q z v w) e l
