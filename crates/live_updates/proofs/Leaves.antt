@@ -1,17 +1,15 @@
 -- A leaf is unlocked, where a key has another value, or none.
-use Rattle.std.proofs.Common.{◌≡◌, ◌≢◌, ℕ, zero, suc, ◌+◌, ◌*◌, ◌/◌, ◌<◌, ◌≤◌, List, [], ◌∷◌, ◌++◌, length, set, Option, Some, None, refl, sym, ap, ◌∙◌, subst, arith}
+use Rattle.std.proofs.Common.{◌≡◌, ◌≢◌, ℕ, zero, suc, ◌+◌, ◌*◌, ◌/◌, ◌<◌, ◌≤◌, List, [], ◌∷◌, ◌++◌, length, Option, Some, None, refl, sym, ap, ◌∙◌, subst, arith}
 use mathlib.Core.Logic.{dite}
 use native.Mathlib.Decide.{ℕ_discrete}
-use Rattle.node_base.specs.Form.{limit}
 use Rattle.node_table.specs.TableNode.{TableNode, Child}
-use Rattle.node_table.specs.declared.child.Child.TheVariants.{Payload, Node as Below}
-use Rattle.spec_map.specs.Map.{Pairs, Rises, lookup, with_answer}
+use Rattle.spec_map.specs.Map.{Pairs, lookup, with_answer}
 use Rattle.share_rule.specs.History.{Entry}
 use Rattle.share_rule.specs.inner.Rule.{HasSeen}
 use Rattle.live_nodes.proofs.Frames.{put_at, put_here, put_else}
 use Rattle.live_nodes.specs.Acts as acts
-use Rattle.live_nodes.specs.Nodes.{Content, Node, node}
-use Rattle.live_encodes.specs.Encodes.{words_of, Stands, HasChildren, Encodes, with_child}
+use Rattle.live_nodes.specs.Nodes.{Content, node}
+use Rattle.live_encodes.specs.Encodes.{words_of, Encodes, with_child}
 use Rattle.live_law.specs.Levels.{up, digit, Shape, Covers, Spot}
 use Rattle.live_law.specs.Views.{View, view_of, locked}
 use Rattle.live_law.specs.Tree.{Plan, HasValue, IsUnder, IsCurrent, IsLocked, IsMap}

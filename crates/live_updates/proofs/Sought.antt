@@ -92,11 +92,19 @@ module _ (q : Lookup) (law : IsLookup q) (id : ℕ) (by : q.caller ≡ id) (v : 
         let j : ℕ = p.plan.home (suc h) (up (suc h) q.key) in
         let house = p.tree.housed (suc h) (up (suc h) q.key) leads.0 in
         dite (ℕ_discrete (up (p.plan.shape j).height q.key) (p.plan.shape j).top)
-        (λ covers. ([], tt, (v, same_view ns vs id p v seat, (λ x parts. absurd (parts.leaves (
-          let down = same_watched (asked_by q) id by v a mine word saw m even reads ns vs p seat x parts.known parts.above free (parts.free_by ∙ ap (λ (z : ℕ). Some z) (sym word_is)) in
-          let low_x : x.spot.number < length ns = subst (λ (z : ℕ). z < length ns) down.here (p.tree.housed down.level (way x.spot.shape down.level) (subst (λ (z : ℕ). 1 ≤ z) (sym down.here) down.some_node)).low in
-          let number : x.spot.number ≡ j = same_name p.plan ns p.nodes x.spot record { below_trunk = down.some_node; low = low_x; key = ap (λ (z : Shape). z.key) down.shaped; form = ap (λ (z : Shape). z.form) down.shaped } j leads.0 house.low (sym parts.named ∙ leads.1) in
-          subst (λ (z : Shape). Covers z q.key) (sym (ap p.plan.shape number) ∙ down.shaped) covers))))))
+        (λ covers. (
+          [],
+          tt,
+          (
+            v,
+            same_view ns vs id p v seat,
+            (λ x parts. absurd (parts.leaves (
+                let down = same_watched (asked_by q) id by v a mine word saw m even reads ns vs p seat x parts.known parts.above free (parts.free_by ∙ ap (λ (z : ℕ). Some z) (sym word_is)) in
+                let low_x : x.spot.number < length ns = subst (λ (z : ℕ). z < length ns) down.here (p.tree.housed down.level (way x.spot.shape down.level) (subst (λ (z : ℕ). 1 ≤ z) (sym down.here) down.some_node)).low in
+                let number : x.spot.number ≡ j = same_name p.plan ns p.nodes x.spot record { below_trunk = down.some_node; low = low_x; key = ap (λ (z : Shape). z.key) down.shaped; form = ap (λ (z : Shape). z.form) down.shaped } j leads.0 house.low (sym parts.named ∙ leads.1) in
+                subst (λ (z : Shape). Covers z q.key) (sym (ap p.plan.shape number) ∙ down.shaped) covers))),
+          ),
+        ))
         (λ ne. let r = ends ns vs id p v seat q law by None (missed p.plan ns p.contents p.pairs p.tree h q.key j (omega (arith, l)) leads.0 refl ne) in ([], tt, (r.0, r.1, (λ x parts. r.2))))
 
   pub node_seeks : acts.Learns IsMap id v a.number word saw reads (LearnsSeek q v a.number word saw)

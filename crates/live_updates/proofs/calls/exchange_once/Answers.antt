@@ -1,4 +1,4 @@
-use Rattle.std.proofs.Common.{rules, sym, ap, subst, ℕ, Ok, Some, None, IsSome, ◌≡◌, ◌≢◌, ◌∙◌}
+use Rattle.std.proofs.Common.{rules, sym, subst, Ok, Some, None, IsSome, ◌≡◌, ◌≢◌, ◌∙◌}
 use Rattle.std.specs.Option.{option_map}
 use Rattle.live_calls.proofs.Ready.{ready_kept, ready_rest}
 use Rattle.live_updates.specs.Entries.{swapped}

@@ -1,4 +1,4 @@
-use Rattle.std.proofs.Common.{rules, arith, sym, ap, subst, ◌/◌, ◌∙◌, ◌≡◌, Option, Some, None, ℕ}
+use Rattle.std.proofs.Common.{rules, arith, sym, ap, subst, ◌/◌, ◌∙◌, ◌≡◌, Option, None, ℕ}
 use mathlib.Core.Logic.{dite}
 use native.Mathlib.Decide.{ℕ_discrete}
 use Rattle.spec_map.specs.Map.{lookup}

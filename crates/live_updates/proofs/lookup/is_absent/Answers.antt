@@ -1,4 +1,4 @@
-use Rattle.std.proofs.Common.{rules, sym, subst, ◌∙◌, ◌≡◌, Some}
+use Rattle.std.proofs.Common.{rules, ◌∙◌, ◌≡◌, Some}
 use Rattle.live_calls.proofs.Finds.{keeps_then}
 use Rattle.live_calls.proofs.Sights.{sights_kept}
 use Rattle.live_updates.proofs.Seeks.{lacks_later, may_sight}

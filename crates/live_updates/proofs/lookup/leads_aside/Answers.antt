@@ -1,4 +1,4 @@
-use Rattle.std.proofs.Common.{rules, arith, refl, sym, subst, get_or, ◌/◌, ◌∙◌}
+use Rattle.std.proofs.Common.{rules, arith, refl, sym, get_or, ◌/◌, ◌∙◌}
 use mathlib.Core.Logic.{dite}
 use native.Mathlib.Decide.{ℕ_discrete}
 use Rattle.live_law.specs.Levels.{place_at}
