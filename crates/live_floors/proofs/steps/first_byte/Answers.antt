@@ -1,12 +1,12 @@
-use Rattle.std.proofs.Common.{rules, arith, sym, ap, subst, ◌/◌, ◌∙◌}
+use Rattle.std.proofs.Common.{rules, arith, sym, ap, subst, ◌≡◌, ◌/◌, ◌∙◌, None}
 use Rattle.live_nodes.specs.Seats.{Agree}
 use Rattle.live_rows.specs.Rows.{last_saw}
 use Rattle.live_encodes.specs.Encodes.{words_of}
 use Rattle.live_law.specs.Levels.{place_at}
 use Rattle.live_law.specs.Views.{View}
-use Rattle.live_calls.proofs.Finds.{keeps_then}
+use Rattle.live_calls.proofs.Finds.{keeps_then, when_out}
 use Rattle.live_calls.proofs.Views.{first_word, may_read_open}
-use Rattle.live_scans.specs.inner.Moments.{IsRead}
+use Rattle.live_scans.specs.inner.Moments.{IsRead, HasNone}
 use Rattle.live_scans.proofs.Wholes.{may_whole, whole_missed, whole_hit}
 use Rattle.live_scans.proofs.Passes.{seen_equal}
 use Rattle.live_scans.proofs.Composed.{has_seen_then, nones_since}
@@ -20,9 +20,12 @@ returns-in_err-here g c =
     let u = c.enter.new.pass.view in
     let entered = c.enter.ensures.told in
     let id = c.args.pass.now.id in
+    let key = c.args.key in
+    let height = c.args.height in
+    let b = c.enter.new.pass.book in
     let since = seen_equal id v u entered.3 in
-    let told = c.check.ensures.told in
-    record { told = (entered.0, entered.1, entered.2, since, tt) }
+    let out : c.from_residual.result ≡ None = search rules in
+    record { told = (entered.0, entered.1, entered.2, since, when_out (λ b. HasNone id v u (IsUpTo height key b)) c.from_residual.result out) }
 
 pub nearest-found-requires : goal.nearest-found-requires
 nearest-found-requires g c =
@@ -75,12 +78,12 @@ returns-then-not-check g c =
     let r = c.nearest-found.ensures.seat.others in
     let rest = ap (λ s. s.view) r in
     let caller = g.A.Asks.ask.caller in
-    let told = c.check.ensures.told in
+    let tells = c.check.ensures.told in
     let seat = c.check.ensures.seat in
     let w = c.check.new.seat.view in
     let book = seat.0 ∙ (ap (λ s. s.book) r ∙ entered.0) in
     let same = seat.1 ∙ (ap (λ s. s.id) r ∙ entered.1) in
-    let missed = whole_missed u b words t name key height o v₂ rest first.key at_k caller w told.0 told.2 (search rules) in
+    let missed = whole_missed u b words t name key height o v₂ rest first.key at_k caller w tells.0 tells.2 (search rules) in
     record { told = (book, same, keeps_then v u w entered.2 missed.0, seen_equal id v w (ap (λ (z : View). z.seen) missed.1 ∙ entered.3), tt) }
 
 pub returns : goal.returns
@@ -105,12 +108,12 @@ returns g c =
     let r = c.nearest-found.ensures.seat.others in
     let rest = ap (λ s. s.view) r in
     let caller = g.A.Asks.ask.caller in
-    let told = c.check.ensures.told in
+    let tells = c.check.ensures.told in
     let seat = c.check.ensures.seat in
     let w = c.check.new.seat.view in
     let book = seat.0 ∙ (ap (λ s. s.book) r ∙ entered.0) in
     let same = seat.1 ∙ (ap (λ s. s.id) r ∙ entered.1) in
-    let hit = whole_hit u b words t name key height o v₂ rest first.key at_k caller w told.0 told.2 (search rules) (λ content agrees. subst (λ z. Agree content (last_saw z)) o.opened.reads (c.nearest-found.ensures.kept content agrees)) in
+    let hit = whole_hit u b words t name key height o v₂ rest first.key at_k caller w tells.0 tells.2 (search rules) (λ content agrees. subst (λ z. Agree content (last_saw z)) o.opened.reads (c.nearest-found.ensures.kept content agrees)) in
     let x = subst (λ z. IsRead z u.client spot spot.shape t (last_saw v₂.reads) w.client) c.requires.asks hit.1 in
     let node = x.node in
     let fits = has_seen_then id v.client.seen u.client.seen w.client.seen since x.fits in

@@ -22,7 +22,6 @@ returns-in_default g c =
     let u = c.enter.new.pass.view in
     let entered = c.enter.ensures.told in
     let id = c.args.pass.now.id in
-    let told = c.check.ensures.told in
     record { told = (entered.0, entered.1, entered.2, seen_equal id v u entered.3, λ h. absurd (not_true h)) }
 
 pub watch-requires-clause-below : goal.watch-requires-clause-below
@@ -40,7 +39,6 @@ returns-then-not-watch g c =
     let id = c.args.pass.now.id in
     let w = c.watch.new.pass.view in
     let watched = c.watch.ensures.told in
-    let told = c.check.ensures.told in
     let keeps = keeps_then v u w entered.2 watched.2 in
     let seen = watched.3 ∙ entered.3 in
     let since = seen_equal id v w seen in
@@ -85,7 +83,7 @@ returns g c =
     let first = get_or words 0 c.index-here-0.result in
     let at_k = (first_word (place_at spot) b words f.are first c.index-here-0.result refl).0 in
     let caller = g.A.Asks.ask.caller in
-    let told = c.check.ensures.told in
+    let tells = c.check.ensures.told in
     let seat = c.check.ensures.seat in
     let x = c.check.new.seat.view in
     let book = seat.0 ∙ (watched.0 ∙ entered.0) in
@@ -94,13 +92,13 @@ returns g c =
     let seen = watched.3 ∙ entered.3 in
     let since = seen_equal id v w seen in
     let Aside = IsBeside height key c.args.fork.at c.args.fork.byte in
-    let missed = above_missed w b words t name key height f first.key at_k caller x told.0 told.2 in
-    let hit = above_hit w b words t name key height f first.key at_k caller x told.0 told.2 in
-    dite (ℕ_discrete told.0 t)
+    let missed = above_missed w b words t name key height f first.key at_k caller x tells.0 tells.2 in
+    let hit = above_hit w b words t name key height f first.key at_k caller x tells.0 tells.2 in
+    dite (ℕ_discrete tells.0 t)
     (λ same_word.
     let found = hit same_word in
     let r = subst (λ z. IsRead z w.client spot spot.shape t f.saw x.client) c.requires.asks found.1 in
     record { told = (book, same, keeps_then v w x keeps found.0, has_seen_then id v.client.seen w.client.seen x.client.seen since r.fits, λ _. none_since id v w x Aside since (has_none_beside id w x b words t name key height c.args.fork.at c.args.fork.byte aside r c.requires.height.0)) })
     (λ other.
     let kept = missed other in
-    record { told = (book, same, keeps_then v w x keeps kept.0, seen_equal id v x (ap (λ (z : View). z.seen) kept.1 ∙ seen), λ h. absurd (other (told.1.0 h))) })
+    record { told = (book, same, keeps_then v w x keeps kept.0, seen_equal id v x (ap (λ (z : View). z.seen) kept.1 ∙ seen), λ h. absurd (other (tells.1.0 h))) })
