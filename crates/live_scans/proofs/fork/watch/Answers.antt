@@ -412,7 +412,7 @@ returns-else-at-fork-clause-told g c =
     (book, id, keeps_then v v₂ w (keeps_then v v₁ v₂ k₁.0 told₂.2) watched.0, watched.1 ∙ ap (λ (z : View). z.seen) (told₂.3 ∙ k₁.1))
 
 pub returns-then-at-fork-clause-aside : goal.returns-then-at-fork-clause-aside
-returns-then-at-fork-clause-aside g c = λ _.
+returns-then-at-fork-clause-aside g c = λ yes.
     let v = c.args.pass.now.view in
     let b = c.args.pass.now.book in
     let words = c.args.here.words.now in
