@@ -1,7 +1,7 @@
 -- What a node shows of keys before one.
-use Rattle.std.proofs.Common.{◌≡◌, ◌≢◌, ℕ, suc, ◌+◌, ◌-◌, ◌*◌, ◌/◌, ◌%◌, ◌<◌, ◌≤◌, false, List, [], ◌∷◌, Option, Some, None, IfSome, IfNone, length, refl, sym, ap, ◌∙◌, subst, arith, if◌then◌else◌, ◌==◌, ne_eqb, eq-eqb, inl, inr}
+use Rattle.std.proofs.Common.{◌≡◌, ◌≢◌, ℕ, suc, ◌+◌, ◌-◌, ◌*◌, ◌%◌, ◌<◌, ◌≤◌, false, List, [], ◌∷◌, Option, Some, None, IfSome, IfNone, length, refl, sym, ap, ◌∙◌, subst, arith, ne_eqb, eq-eqb, inl, inr}
 use Rattle.std.proofs.lemmas.Bool.{cases_lt}
-use Rattle.spec_map.specs.Map.{Pairs, lookup}
+use Rattle.spec_map.specs.Map.{lookup}
 use Rattle.node_table.specs.TableNode.{Child}
 use Rattle.live_nodes.specs.Seats.{SeatView}
 use Rattle.live_encodes.specs.Encodes.{payload_of}

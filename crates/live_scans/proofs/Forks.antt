@@ -1,12 +1,12 @@
 -- A node that is watched below another one has the bytes above it that it had.
-use Rattle.std.proofs.Common.{◌≡◌, ◌≢◌, ℕ, ◌+◌, ◌-◌, ◌*◌, ◌<◌, ◌≤◌, ◌^◌, List, [], ◌∷◌, Option, Some, sym, ap, subst, inl, inr, refl, ◌∙◌}
+use Rattle.std.proofs.Common.{◌≡◌, ◌≢◌, ℕ, ◌+◌, ◌-◌, ◌*◌, ◌<◌, ◌≤◌, ◌^◌, List, [], ◌∷◌, Some, ap, subst, inl, inr, refl, ◌∙◌}
 use Rattle.node_table.specs.TableNode.{TableNode}
 use Rattle.node_table.specs.declared.child.Child.TheVariants.{Node as Below}
 use Rattle.node_base.specs.Form.{form_place}
 use Rattle.spec_map.specs.Map.{lookup}
 use Rattle.word_book.specs.Book.{Book, Name, reads, none_joined}
 use Rattle.live_nodes.specs.Nodes.{Content}
-use Rattle.live_nodes.specs.Seats.{Read, read, SeatView, IsIn, Agree}
+use Rattle.live_nodes.specs.Seats.{read, SeatView, IsIn, Agree}
 use Rattle.live_nodes.specs.Plays.{Checks}
 use Rattle.live_rows.specs.Rows.{AreOf, last_saw, without_reads}
 use Rattle.live_cells.specs.Words as cells

@@ -5,7 +5,7 @@ use Rattle.node_table.specs.TableNode.{Child}
 use Rattle.node_table.specs.declared.child.Child.TheVariants.{Payload, Node as Below}
 use Rattle.word_book.specs.Book.{Book, Name}
 use Rattle.live_nodes.specs.Seats.{SeatView}
-use Rattle.live_encodes.specs.Encodes.{IsBelow, IsWord, payload_of}
+use Rattle.live_encodes.specs.Encodes.{IsBelow, payload_of}
 use Rattle.live_order.specs.Order.{HasNearest}
 use Rattle.live_order.specs.Page.{AreListed}
 use Rattle.live_law.specs.Levels.{up, digit, Covers}

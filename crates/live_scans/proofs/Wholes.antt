@@ -1,7 +1,5 @@
 -- At the check of a node a seat learns what the map has at all keys that begin like it.
 use Rattle.std.proofs.Common.{◌≡◌, ◌≢◌, ℕ, zero, suc, ◌*◌, ◌<◌, ◌≤◌, List, [], ◌∷◌, length, Option, Some, None, refl, sym, ap, ◌∙◌, subst, arith}
-use mathlib.Core.Option.{some}
-use lib.ListN.{get_elem?}
 use Rattle.node_table.specs.TableNode.{Child}
 use Rattle.node_table.specs.declared.child.Child.TheVariants.{Payload, Node as Below}
 use Rattle.spec_map.specs.Map.{lookup}
@@ -16,7 +14,7 @@ use Rattle.live_nodes.specs.Calls.{MayCheck}
 use Rattle.live_rows.specs.Rows.{last_saw, without_reads}
 use Rattle.live_law.specs.Levels.{up, digit, Covers, way, Shape, Spot, place_at}
 use Rattle.live_law.specs.Views.{Watch, View, view_of, ask}
-use Rattle.live_law.specs.Tree.{IsMap, IsNow, IsOf, IsUnder, LeadsDown}
+use Rattle.live_law.specs.Tree.{IsMap, IsNow, IsUnder, LeadsDown}
 use Rattle.live_law.proofs.Histories.{sees_all}
 use Rattle.live_law.proofs.Looks.{with_view, met, is_now, is_current, same_watched, of_kind, at_leaf, at_inner}
 use Rattle.live_law.proofs.Plans.{digit-low, none_there, missed, same_name}

@@ -119,6 +119,13 @@ returns g c =
     let deep = node.deep in
     let high = o.names.high in
     let pair = c.pair_at.ensures in
-    record { told = (book, same, keeps_then v u w entered.2 hit.0, fits,
-      finds_since id id v u w c.args.base (c.args.base + c.args.byte + 1) c.pair_at.result refl since
-      (leaf_finds id u w name c.args.base c.args.byte o.names t (last_saw v₂.reads) x c.requires.base.1 (omega arith) c.nearest-found.result c.pair_at.result (omega (arith, deep, high)) near pair.none pair.some)) }
+    record {
+      told = (
+        book,
+        same,
+        keeps_then v u w entered.2 hit.0,
+        fits,
+        finds_since id id v u w c.args.base (c.args.base + c.args.byte + 1) c.pair_at.result refl since
+            (leaf_finds id u w name c.args.base c.args.byte o.names t (last_saw v₂.reads) x c.requires.base.1 (omega arith) c.nearest-found.result c.pair_at.result (omega (arith, deep, high)) near pair.none pair.some),
+      );
+    }

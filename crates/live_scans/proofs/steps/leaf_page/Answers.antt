@@ -119,7 +119,11 @@ returns-clause-told g c =
     let high = o.names.high in
     let filled = c.fill-filled.result in
     let listed = c.fill-filled.ensures.is node.content node.its node.agrees node.encodes (node.in_form ∙ sym form) (omega (arith, deep, high)) in
-    let reached = c.fill-filled.ensures.reached in
-    (book, same, keeps_then v u w entered.2 hit.0, fits,
+    let reached = c.fill-filled.ensures.reached in (
+      book,
+      same,
+      keeps_then v u w entered.2 hit.0,
+      fits,
       reads_since id v u w key (c.args.part.base + filled.reached + 1) _ since
-      (leaf_reads id u w name c.args.part.base c.args.part.first filled.reached o.names t (last_saw v₂.reads) x _ c.requires.part.2 reached.0 (omega arith) listed))
+          (leaf_reads id u w name c.args.part.base c.args.part.first filled.reached o.names t (last_saw v₂.reads) x _ c.requires.part.2 reached.0 (omega arith) listed),
+    )
