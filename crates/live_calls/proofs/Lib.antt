@@ -5,6 +5,7 @@ pub mod Locks
 pub mod Values
 pub mod Written
 pub mod Rooms
+pub mod Spares
 pub mod Grips
 pub mod Linked
 pub mod Trunks

@@ -71,7 +71,7 @@ pub fn descend(nodes: &Nodes, key: u64, pass: &mut Pass) -> Option<End>
     Some(End { stand, fork: None })
 }
 
-/// More room, where there is little. `false` where another thread is just making some.
+/// More room, where there is little, and not each form has a node to be used again. `false` where another thread is just making some.
 pub fn reserve(
     nodes: &Nodes,
     alloc: Global,
@@ -79,12 +79,12 @@ pub fn reserve(
     pass: &mut Pass,
 ) -> Result<bool, AllocError>
     requires book { pass.old.book ≡ nodes.now }
-    requires ready { IsReady pass.old.view room.old.start room.old.left }
+    requires ready { IsReady pass.old.view room.old }
     ensures told { (pass.new.book ≡ pass.old.book) × (pass.new.id ≡ pass.old.id)
-        × IsReady pass.new.view room.new.start room.new.left
+        × IsReady pass.new.view room.new
         × (pass.new.view.client.seen ≡ pass.old.view.client.seen) }
 {
-    if room.left >= 263 {
+    if room.left >= 263 || room.spare.is_full() {
         return Ok(true);
     }
     let Some(grown) = nodes.grow(alloc, pass)? else {
@@ -95,13 +95,13 @@ pub fn reserve(
     Ok(true)
 }
 
-/// Puts a larger node in the place of a full one. The root has the largest form, and stays.
+/// Puts a larger node in the place of a full one, which may be used again. The root has the largest form, and stays.
 pub fn enlarge(nodes: &Nodes, stand: Stand, key: u64, room: &mut Room, pass: &mut Pass)
     requires book { pass.old.book ≡ nodes.now }
-    requires ready { IsReady pass.old.view room.old.start room.old.left }
+    requires ready { IsReady pass.old.view room.old }
     requires stands { Stands pass.old.view key stand }
     ensures told { (pass.new.book ≡ pass.old.book) × (pass.new.id ≡ pass.old.id)
-        × IsReady pass.new.view room.new.start room.new.left
+        × IsReady pass.new.view room.new
         × (pass.new.view.client.seen ≡ pass.old.view.client.seen) }
 {
     let Stand {
@@ -111,18 +111,21 @@ pub fn enlarge(nodes: &Nodes, stand: Stand, key: u64, room: &mut Room, pass: &mu
         height,
     } = stand;
     if height < 8 {
-        let _ = widen::<Brand>(nodes, above, level, name, height, key, room, pass);
+        let outgrown = widen::<Brand>(nodes, above, level, name, height, key, room, pass);
+        if outgrown {
+            let _ = room.spare.keep(name);
+        }
     }
 }
 
 /// Brings a key's way nearer to its leaf: by a new leaf, or by room for one.
 pub fn extend(nodes: &Nodes, stand: Stand, key: u64, room: &mut Room, pass: &mut Pass)
     requires book { pass.old.book ≡ nodes.now }
-    requires ready { IsReady pass.old.view room.old.start room.old.left }
+    requires ready { IsReady pass.old.view room.old }
     requires stands { Stands pass.old.view key stand }
     requires inner { 2 ≤ stand.height }
     ensures told { (pass.new.book ≡ pass.old.book) × (pass.new.id ≡ pass.old.id)
-        × IsReady pass.new.view room.new.start room.new.left
+        × IsReady pass.new.view room.new
         × (pass.new.view.client.seen ≡ pass.old.view.client.seen) }
 {
     match link::<Brand>(nodes, stand.name, stand.height, key, room, pass) {
@@ -142,11 +145,11 @@ fn insert_at(
     pass: &mut Pass,
 ) -> Option<Option<u64>>
     requires book { pass.old.book ≡ nodes.now }
-    requires ready { IsReady pass.old.view room.old.start room.old.left }
+    requires ready { IsReady pass.old.view room.old }
     requires stands { Stands pass.old.view key stand }
     requires leaf { stand.height ≡ 1 }
     ensures told { (pass.new.book ≡ pass.old.book) × (pass.new.id ≡ pass.old.id)
-        × IsReady pass.new.view room.new.start room.new.left
+        × IsReady pass.new.view room.new
         × Inserts (ask pass.old.id key value 1) result pass.old.view pass.new.view }
 {
     match insert_here::<Brand>(nodes, stand.name, key, value, pass) {
@@ -168,9 +171,9 @@ pub(crate) fn insert_once(
     pass: &mut Pass,
 ) -> Option<Option<u64>>
     requires book { pass.old.book ≡ nodes.now }
-    requires ready { IsReady pass.old.view room.old.start room.old.left }
+    requires ready { IsReady pass.old.view room.old }
     ensures told { (pass.new.book ≡ pass.old.book) × (pass.new.id ≡ pass.old.id)
-        × IsReady pass.new.view room.new.start room.new.left
+        × IsReady pass.new.view room.new
         × Inserts (ask pass.old.id key value 1) result pass.old.view pass.new.view }
 {
     let End { stand, fork } = descend(nodes, key, pass)?;

@@ -9,6 +9,7 @@ ghost use Rattle.live_calls.specs.Rooms.{HasRoom, HasGrown};
 
 use crate::held::{lock_node, unlock_same};
 use crate::room::make_empty;
+use crate::spare::Spares;
 use crate::way::{Nodes, Pass, byte_at, words_at};
 use crate::write::Hindrance;
 use live_cells::words::{Draft, Drafted};
@@ -23,11 +24,12 @@ use node_base::base_node::NodeType;
 /// The form of a new node: the smallest.
 pub const NEW: NodeType = NodeType::N4;
 
-/// A seat's room: the first of its words, and how many there are at least.
+/// A seat's room: the first of its words, how many there are at least, and nodes that it may use again.
 #[derive(Clone, Copy, Debug, PartialEq, Eq)]
 pub struct Room {
     pub start: u64,
     pub left: u64,
+    pub spare: Spares,
 }
 
 /// Why no child can be put under a byte: there is one, or no room. `None` where it can.
@@ -72,7 +74,8 @@ pub fn link<A: Asks>(
     requires room { HasRoom pass.old.view room.old.start room.old.left }
     ensures told { (pass.new.book ≡ pass.old.book) × (pass.new.id ≡ pass.old.id)
         × HasGrown pass.old.view pass.new.view
-        × HasRoom pass.new.view room.new.start room.new.left }
+        × HasRoom pass.new.view room.new.start room.new.left
+        × (room.new.spare ≡ room.old.spare) }
 {
     if room.start >= 1 << 48 || room.left < 263 {
         return Err(Hindrance::Busy);

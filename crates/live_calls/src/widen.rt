@@ -61,7 +61,8 @@ pub fn widen<A: Asks>(
     requires room { HasRoom pass.old.view room.old.start room.old.left }
     ensures told { (pass.new.book ≡ pass.old.book) × (pass.new.id ≡ pass.old.id)
         × HasGrown pass.old.view pass.new.view
-        × HasRoom pass.new.view room.new.start room.new.left }
+        × HasRoom pass.new.view room.new.start room.new.left
+        × (room.new.spare ≡ room.old.spare) }
 {
     let form = form_below(name);
     if form == NodeType::N256 || room.start >= 1 << 48 || room.left < 263 {
