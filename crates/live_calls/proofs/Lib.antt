@@ -14,4 +14,5 @@ pub mod Forks
 pub mod Stood
 pub mod Ready
 pub mod Pairs
+pub mod Again
 pub mod Meetings

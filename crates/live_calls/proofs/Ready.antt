@@ -4,9 +4,9 @@ use Rattle.share_rule.specs.History.{Entry, entries_of, IsLegalHistory}
 use Rattle.share_rule.proofs.Keeps.{entries-append}
 use Rattle.word_book.specs.Book.{Book}
 use Rattle.live_nodes.specs.Seats.{Place, place, SeatView, IsIn}
-use Rattle.live_nodes.specs.Plays.{given}
+use Rattle.live_nodes.specs.Plays.{given, met}
 use Rattle.live_law.specs.Levels.{Spot, place_at}
-use Rattle.live_law.specs.Views.{View}
+use Rattle.live_law.specs.Views.{View, view_of}
 use Rattle.live_law.specs.Tree.{Answers}
 use Rattle.live_law.specs.Known.{Known, MadeCall}
 use Rattle.live_law.proofs.Histories.{its_own}
@@ -59,6 +59,10 @@ ready_with v w m m' r g words spare = record {
 pub ready_grown : (v w : Seen) (m m' : Room) → IsReady v m → HasGrown v w → HasRoom w m'.start m'.left → m'.spare ≡ m.spare → IsReady w m'
 ready_grown v w m m' r g words same = ready_with v w m m' r g words (subst (HasSpares w) (sym same) (spares_grown v w m.spare g r.spare))
 
+-- and another node is in use again
+pub ready_again : (v w : Seen) (m : Room) (s : Spares) → IsReady v m → HasGrown v w → w.room ≡ v.room → ((u : Seen) → HasSpares u m.spare → HasSpares u s) → IsReady w (record m { spare = s })
+ready_again v w m s r g room left = ready_with v w m (record m { spare = s }) r g (room_same v w m.start m.left room r.words) (left w (spares_grown v w m.spare g r.spare))
+
 pub ready_rest : (v w : Seen) (m : Room) → IsReady v m → HasRest v w → IsReady w m
 ready_rest v w m r h =
     let places = λ (p : Place) (i : IsIn p v.places). subst (λ (ps : List Place). IsIn p ps) (sym h.alike.places) i in record {
@@ -81,6 +85,18 @@ ready_given v w m start count r e =
       holds = ap (λ (z : Seen). z.holds) e ∙ r.holds;
       words = record { count = count; enough = omega arith; is = ap (λ (z : Seen). z.room) e };
       spare = spares_kept v w m.spare places (λ a i. subst (λ (l : List Spot). IsIn a l) (sym (ap (λ (z : Seen). z.client.met) e)) i) r.spare;
+    }
+
+-- and another caller is met
+pub ready_met : (v w : Seen) (e : View) (m : Room) → IsReady v m → {s : List (Entry ℕ)} → w ≡ met v e → e ≡ view_of s v.client.met v.client.own → IsReady w m
+ready_met v w e m r {s} w_is e_is =
+    let client = ap (λ (z : Seen). z.client) w_is ∙ e_is in
+    let places = λ (p : Place) (i : IsIn p v.places). subst (λ (ps : List Place). IsIn p ps) (sym (ap (λ (z : Seen). z.places) w_is)) i in record {
+      trunk = places (place 0 1 1) r.trunk;
+      own = ap (λ (z : View). z.own) client ∙ r.own;
+      holds = ap (λ (z : Seen). z.holds) w_is ∙ r.holds;
+      words = room_same v w m.start m.left (ap (λ (z : Seen). z.room) w_is) r.words;
+      spare = spares_kept v w m.spare places (λ a i. subst (λ (l : List Spot). IsIn a l) (sym (ap (λ (z : View). z.met) client)) i) r.spare;
     }
 
 -- a call that has its answer

@@ -9,8 +9,8 @@ use Rattle.live_nodes.specs.Nodes.{Content}
 use Rattle.live_nodes.specs.Seats.{hold, SeatView, IsIn, Each}
 use Rattle.live_rows.specs.Rows.{AreOf}
 use Rattle.live_encodes.specs.Encodes.{words_of, Encodes, IsBelow, IsWord, with_child}
-use Rattle.live_law.specs.Levels.{Spot, place_at}
-use Rattle.live_law.specs.Views.{View, locked, Ask, inserted}
+use Rattle.live_law.specs.Levels.{Spot, name_of, place_at}
+use Rattle.live_law.specs.Views.{View, locked, outgrown, Ask, inserted}
 use Rattle.live_law.specs.Tree.{HasValue, IsApart, Answers}
 use Rattle.live_calls.specs.Ways.{Names}
 
@@ -36,6 +36,21 @@ pub record HasLocked (v w : SeatView View) (name key height free : ℕ) : Type 0
   pub even : free % 4 ≡ 0
   pub small : free < 2 ^ 62
   pub apart : Each (IsApart names.spot.number) v.client.own
+
+-- An obsolete node of that name was locked again. Once it is unlocked it is free by the version after this word.
+pub record HasRegained (v w : SeatView View) (name free : ℕ) : Type 0 where
+  pub spot : Spot
+  pub named : name ≡ name_of spot.shape
+  pub content : Content
+  pub long : length content ≡ words_of spot.shape.form
+  pub own : w.client.own ≡ outgrown spot ∷ v.client.own
+  pub holds : w.holds ≡ hold spot.number (free + 2) content ∷ v.holds
+  pub placed : IsIn (place_at spot) w.places
+  pub alike : Alike v w
+  pub seen : w.client.seen ≡ v.client.seen
+  pub even : free % 4 ≡ 0
+  pub small : free < 2 ^ 63
+  pub apart : Each (IsApart spot.number) v.client.own
 
 -- It holds this node alone, whose words are these, and has written this.
 pub record HoldsOne (v : SeatView View) (b : Book) (words : List Name) (free : ℕ) (a : Spot) (c d : Content) : Type 0 where

@@ -3,9 +3,10 @@ ghost use Rattle.std.specs.Prelude.{◌≡◌, ℕ, ◌+◌, ◌<◌, ◌≤◌,
 ghost use Rattle.live_law.specs.Views.{ask};
 ghost use Rattle.live_calls.specs.Ways.{KnowsTrunk, Keeps};
 ghost use Rattle.live_calls.specs.Stands.{Stands, IsEnd};
+ghost use Rattle.live_calls.specs.Rooms.{HasGrown};
 ghost use Rattle.live_calls.specs.Calls.{IsReady, Inserts};
 
-use crate::link::{Room, link};
+use crate::link::{NEW, Room, link, link_again};
 use crate::sight::{Fork, Next, step};
 use crate::split::split;
 use crate::way::{Nodes, Pass, open, root};
@@ -118,6 +119,36 @@ pub fn enlarge(nodes: &Nodes, stand: Stand, key: u64, room: &mut Room, pass: &mu
     }
 }
 
+/// Makes an empty leaf for a key below a node. A node that may be used again is taken, where there is one.
+fn lead_on(
+    nodes: &Nodes,
+    stand: Stand,
+    key: u64,
+    room: &mut Room,
+    pass: &mut Pass,
+) -> Result<(), Hindrance>
+    requires book { pass.old.book ≡ nodes.now }
+    requires ready { IsReady pass.old.view room.old }
+    requires stands { Stands pass.old.view key stand }
+    requires inner { 2 ≤ stand.height }
+    ensures told { (pass.new.book ≡ pass.old.book) × (pass.new.id ≡ pass.old.id)
+        × IsReady pass.new.view room.new × HasGrown pass.old.view pass.new.view }
+{
+    let spare = room.spare.get(NEW);
+    if spare == 0 {
+        return link::<Brand>(nodes, stand.name, stand.height, key, room, pass);
+    }
+    link_again::<Brand>(
+        nodes,
+        stand.name,
+        stand.height,
+        key,
+        spare,
+        &mut room.spare,
+        pass,
+    )
+}
+
 /// Brings a key's way nearer to its leaf: by a new leaf, or by room for one.
 pub fn extend(nodes: &Nodes, stand: Stand, key: u64, room: &mut Room, pass: &mut Pass)
     requires book { pass.old.book ≡ nodes.now }
@@ -128,7 +159,7 @@ pub fn extend(nodes: &Nodes, stand: Stand, key: u64, room: &mut Room, pass: &mut
         × IsReady pass.new.view room.new
         × (pass.new.view.client.seen ≡ pass.old.view.client.seen) }
 {
-    match link::<Brand>(nodes, stand.name, stand.height, key, room, pass) {
+    match lead_on(nodes, stand, key, room, pass) {
         Ok(()) => {}
         Err(Hindrance::Full) => enlarge(nodes, stand, key, room, pass),
         Err(Hindrance::Busy) => {}

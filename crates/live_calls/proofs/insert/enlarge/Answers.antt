@@ -11,7 +11,7 @@ returns-then-outgrown c =
     let s = c.args.stand in
     let had = subst (HasSpares w) (sym t.4) (spares_grown v w c.args.room.now.spare t.2 c.requires.ready.spare) in
     let met = sights_grown v w s.name c.args.key s.height t.2 c.requires.stands.named in
-    record { told = (t.0, t.1, ready_with v w c.args.room.now (record c.widen-outgrown.new.room { spare = c.keep.new.self }) c.requires.ready t.2 t.3 (c.keep.ensures w had met), t.2.seen) }
+    record { told = (t.0, t.1, ready_with v w c.args.room.now (record c.widen-outgrown.new.room { spare = c.keep.new.self }) c.requires.ready t.2 t.3 (c.keep.ensures.kept w had met), t.2.seen) }
 
 pub returns-else-outgrown : goal.returns-else-outgrown
 returns-else-outgrown c =
