@@ -4,11 +4,11 @@ use Rattle.std.proofs.lemmas.List.{get_or-take}
 use Rattle.node_base.specs.declared.base_node.NodeType.{NodeType}
 use Rattle.word_book.specs.Book.{Book, Name, writes, compares, none_joined, Joined}
 use Rattle.live_nodes.specs.Nodes.{Content}
-use Rattle.live_nodes.specs.Seats.{Place, Hold, hold, SeatView, seat_view, IsIn, Each, with_draft}
+use Rattle.live_nodes.specs.Seats.{Place, Hold, hold, SeatView, seat_view, IsIn, Each, with_draft, without}
 use Rattle.live_nodes.specs.Acts as acts
 use Rattle.live_nodes.specs.Plays as plays
-use Rattle.live_nodes.specs.Plays.{Locks}
-use Rattle.live_nodes.specs.Calls.{MayLock}
+use Rattle.live_nodes.specs.Plays.{hold_of, Locks}
+use Rattle.live_nodes.specs.Calls.{MayLock, MayFree}
 use Rattle.live_rows.specs.Rows.{AreOf, nth, draft_of, undrafted, without_draft}
 use Rattle.live_encodes.specs.Encodes.{words_of, Encodes, empty_node}
 use Rattle.live_law.specs.Levels.{digit, Spot, spot, place_at}
@@ -20,7 +20,7 @@ use Rattle.live_calls.specs.Ways.{Sights, AreNamed}
 use Rattle.live_calls.specs.Holds.{Alike, HoldsOne, HasRegained}
 use Rattle.live_calls.specs.Rooms.{HasGrown}
 use Rattle.live_calls.proofs.Views.{reading, same_place, same_named}
-use Rattle.live_calls.proofs.Locks.{alike_read}
+use Rattle.live_calls.proofs.Locks.{hold_head, alike_read}
 use Rattle.live_calls.proofs.Pairs.{Pair}
 
 abbrev Seen : Type 0
@@ -62,35 +62,34 @@ module _ (v : Seen) (name : ℕ) (s : Sights v name) (v₁ : Seen) (t : ℕ) (ta
         }
 
 -- what is held, but for the draft of the last one
-hold_number : List Hold → ℕ
+abbrev pub hold_number : List Hold → ℕ
 hold_number [] = 0
 hold_number (h ∷ hs) = h.number
 
-hold_word : List Hold → ℕ
+abbrev pub hold_word : List Hold → ℕ
 hold_word [] = 0
 hold_word (h ∷ hs) = h.word
 
-rest_holds : List Hold → List Hold
+abbrev pub rest_holds : List Hold → List Hold
 rest_holds [] = []
 rest_holds (h ∷ hs) = hs
 
-first_hold : List Hold → Hold
+abbrev pub first_hold : List Hold → Hold
 first_hold [] = hold 0 0 []
 first_hold (h ∷ hs) = h
 
-no_holds : (h : Hold) (hs : List Hold) → [] ≡ h ∷ hs → ⊥
+pub no_holds : (h : Hold) (hs : List Hold) → [] ≡ h ∷ hs → ⊥
 no_holds h hs e = cc
 
 abbrev pub Beside : ℕ → Hold → Type 0
 Beside k h = h.number ≢ k
 
-undrafted_head : (k : ℕ) (x h : Hold) → Beside k h → cond (nat_eq k x.number) (hold k x.word []) x ≡ h → x ≡ h
+pub undrafted_head : (k : ℕ) (x h : Hold) → Beside k h → cond (nat_eq k x.number) (hold k x.word []) x ≡ h → x ≡ h
 undrafted_head k x h ne e =
     let differ : k ≢ x.number = λ s. ne (sym (ap (λ (z : Hold). z.number) e) ∙ (ap (λ (t : Bool). (cond t (hold k x.word []) x).number) (eq-eqb k x.number s))) in
     sym (ap (λ (t : Bool). cond t (hold k x.word []) x) (ne_eqb k x.number differ)) ∙ e
 
 undrafted_rest : (k : ℕ) (xs hs : List Hold) → Each (Beside k) hs → with_draft k [] xs ≡ hs → xs ≡ hs
-unfolding rest_holds first_hold
 undrafted_rest k [] hs apart e = e
 undrafted_rest k (x ∷ xs) [] apart e = absurd (no_holds (cond (nat_eq k x.number) (hold k x.word []) x) (with_draft k [] xs) (sym e))
 undrafted_rest k (x ∷ xs) (h ∷ hs) apart e =
@@ -99,13 +98,30 @@ undrafted_rest k (x ∷ xs) (h ∷ hs) apart e =
     (λ i. first i ∷ rest i)
 
 pub first_drafted : (xs : List Hold) (k m : ℕ) (hs : List Hold) → Each (Beside k) hs → undrafted (nth 0 xs) xs ≡ hold k m [] ∷ hs → xs ≡ hold k m (draft_of (nth 0 xs)) ∷ hs
-unfolding hold_number hold_word rest_holds
 first_drafted [] k m hs apart e = absurd (no_holds (hold k m []) hs e)
 first_drafted (x ∷ xs) k m hs apart e =
     let f : hold x.number x.word [] ∷ with_draft x.number [] xs ≡ hold k m [] ∷ hs = sym (ap (λ (b : Bool). cond b (hold x.number x.word []) x ∷ with_draft x.number [] xs) (eq-eqb x.number x.number refl)) ∙ e in
     let number : x.number ≡ k = ap hold_number f in
     let rest : xs ≡ hs = undrafted_rest x.number xs hs (subst (λ (z : ℕ). Each (Beside z) hs) (sym number) apart) (ap rest_holds f) in
     (λ i. hold (number i) (hold_word (f i)) x.draft ∷ rest i)
+
+-- The last one is freed, and the others stay.
+without_beside : (k : ℕ) (hs : List Hold) → Each (Beside k) hs → without k hs ≡ hs
+without_beside k [] apart = refl
+without_beside k (h ∷ hs) apart = ap (λ (t : Bool). cond t (without k hs) (h ∷ without k hs)) (ne_eqb k h.number (λ s. apart.0 (sym s))) ∙ ap (λ (z : List Hold). h ∷ z) (without_beside k hs apart.1)
+
+module _ (v : Seen) (a : Spot) (free : ℕ) (d : Content) (hs : List Hold) (holds : v.holds ≡ hold a.number (free + 2) d ∷ hs) (placed : IsIn (place_at a) v.places) (k : ℕ) (at_k : a.shape.key ≡ k) (told : View → ℕ → Content → View → Type 0) where
+  first_found : hold_of a.number v.holds ≡ Some (hold a.number (free + 2) d)
+  first_found = ap (hold_of a.number) holds ∙ hold_head a.number (free + 2) d hs
+
+  pub first_frees : (id n : ℕ) → acts.Frees IsMap id v.client a.number n d (told v.client a.number d) → MayFree v k IsMap id told (free + 2) n
+  first_frees id n frees = (place_at a, hold a.number (free + 2) d, (placed, at_k), first_found, refl, frees)
+
+  pub first_freed : Each (Beside a.number) hs → (w : Seen) (n : ℕ) → plays.Frees told (writes k n) v n none_joined w → (e : View) × (w ≡ seat_view e v.places v.reads hs v.room) × told v.client a.number d e
+  first_freed apart w n t =
+      let s = t (place_at a) (hold a.number (free + 2) d) placed at_k first_found in
+      let left : without a.number v.holds ≡ hs = ap (without a.number) holds ∙ (ap (λ (z : Bool). cond z (without a.number hs) (hold a.number (free + 2) d ∷ without a.number hs)) (eq-eqb a.number a.number refl) ∙ without_beside a.number hs apart) in
+      (s.0, s.1 ∙ ap (λ (z : List Hold). seat_view s.0 v.places v.reads z v.room) left, s.2)
 
 -- A node is used again while the one above it is held.
 pub pair_regained : (v w : Seen) (b b' : Book) (words_r words_p : List Name) (free_r free_p name : ℕ) (h : HasRegained v w name free_r) (p : Spot) (c : Content) → b' ≡ b → HoldsOne v b words_p free_p p c c → AreNamed b' name words_r → Pair w b' words_r words_p free_r free_p h.spot p h.content c

@@ -15,4 +15,6 @@ pub mod Stood
 pub mod Ready
 pub mod Pairs
 pub mod Again
+pub mod Sources
+pub mod Triples
 pub mod Meetings

@@ -1,5 +1,6 @@
 -- The nodes that a seat may use again, where one is put or taken.
 use Rattle.std.proofs.Common.{◌≡◌, ℕ, ◌≤◌, refl, arith}
+use Rattle.node_base.specs.Form.{form_place}
 use Rattle.node_base.specs.declared.base_node.NodeType.{NodeType}
 use Rattle.node_base.specs.declared.base_node.NodeType.TheVariants.{N4, N16, N48, N256}
 use Rattle.live_nodes.specs.Seats.{SeatView}
@@ -33,3 +34,21 @@ spares_put v s N256 n h i N256 = i
 
 pub spares_none : (v : SeatView View) (s : Spares) → ((form : NodeType) → slot_of s form ≡ 0) → HasSpares v s
 spares_none v s none form some = absurd (let e = none form in omega (arith, e, some))
+
+pub one_form : (f g : NodeType) → form_place f ≡ form_place g → f ≡ g
+one_form N4 N4 e = refl
+one_form N4 N16 e = absurd (omega (arith, e))
+one_form N4 N48 e = absurd (omega (arith, e))
+one_form N4 N256 e = absurd (omega (arith, e))
+one_form N16 N4 e = absurd (omega (arith, e))
+one_form N16 N16 e = refl
+one_form N16 N48 e = absurd (omega (arith, e))
+one_form N16 N256 e = absurd (omega (arith, e))
+one_form N48 N4 e = absurd (omega (arith, e))
+one_form N48 N16 e = absurd (omega (arith, e))
+one_form N48 N48 e = refl
+one_form N48 N256 e = absurd (omega (arith, e))
+one_form N256 N4 e = absurd (omega (arith, e))
+one_form N256 N16 e = absurd (omega (arith, e))
+one_form N256 N48 e = absurd (omega (arith, e))
+one_form N256 N256 e = refl

@@ -1,13 +1,15 @@
 //! Nodes are locked, and unlocked.
-ghost use Rattle.std.specs.Prelude.{◌≡◌, ℕ, ◌+◌, ◌%◌, ◌<◌, ◌^◌, IfSome, IfNone};
+ghost use Rattle.std.specs.Prelude.{◌≡◌, ℕ, ◌+◌, ◌%◌, ◌<◌, ◌^◌, drop, IfSome, IfNone};
 ghost use Rattle.word_book.specs.Book.{writes, none_joined};
 ghost use Rattle.live_nodes.specs.Nodes.{Content};
+ghost use Rattle.live_nodes.specs.Seats.{Hold};
 ghost use Rattle.live_nodes.specs.Plays.{Frees};
 ghost use Rattle.live_nodes.specs.Calls.{MayFree};
 ghost use Rattle.live_law.specs.Levels.{Spot};
+ghost use Rattle.live_law.specs.Views.{rest_of};
 ghost use Rattle.live_law.specs.Tree.{IsMap, LinksAgain};
 ghost use Rattle.live_calls.specs.Ways.{Names, Sights, AreNamed, Keeps};
-ghost use Rattle.live_calls.specs.Holds.{Alike, HasLocked, HasRegained, HoldsOne, HasRest};
+ghost use Rattle.live_calls.specs.Holds.{Alike, HasLocked, HasRegained, HoldsLast, HoldsOne, HasRest};
 
 use crate::sight::{Sight, compare};
 use crate::way::{Cell, Pass};
@@ -90,4 +92,18 @@ pub fn unlock_again<A: Asks, C: Fills>(word: &Cell, free: u64, pass: &mut Pass)
         pass.old.view (free + 4) none_joined pass.new.view }
 {
     node::unlock::<Mine, Levels, Again<A, C>>(word, free, pass);
+}
+
+/// Unlocks the node that the seat locked last, which is as it was. Another one stays locked.
+pub fn unlock_last(words: &[Cell], free: u64, pass: &mut Pass)
+    requires word { (free % 4 ≡ 0) × (free < 2 ^ 62) }
+    requires holds { (a p : Spot) × (c e : Content) × (h : Hold)
+        × HoldsLast pass.old.view pass.old.book words.now free a p c e h }
+    ensures told { (pass.new.book ≡ pass.old.book) × (pass.new.id ≡ pass.old.id)
+        × Alike pass.old.view pass.new.view
+        × (pass.new.view.client.own ≡ rest_of pass.old.view.client.own)
+        × (pass.new.view.holds ≡ drop 1 pass.old.view.holds)
+        × (pass.new.view.client.seen ≡ pass.old.view.client.seen) }
+{
+    node::unlock::<Mine, Levels, Same>(&words[0], free, pass);
 }
