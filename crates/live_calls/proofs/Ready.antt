@@ -59,6 +59,10 @@ ready_with v w m m' r g words spare = record {
 pub ready_grown : (v w : Seen) (m m' : Room) → IsReady v m → HasGrown v w → HasRoom w m'.start m'.left → m'.spare ≡ m.spare → IsReady w m'
 ready_grown v w m m' r g words same = ready_with v w m m' r g words (subst (HasSpares w) (sym same) (spares_grown v w m.spare g r.spare))
 
+-- and another node may be used again
+pub ready_spare : (v : Seen) (m : Room) (s : Spares) → IsReady v m → HasSpares v s → IsReady v (record m { spare = s })
+ready_spare v m s r spare = record { trunk = r.trunk; own = r.own; holds = r.holds; words = r.words; spare = spare }
+
 -- and another node is in use again
 pub ready_again : (v w : Seen) (m : Room) (s : Spares) → IsReady v m → HasGrown v w → w.room ≡ v.room → ((u : Seen) → HasSpares u m.spare → HasSpares u s) → IsReady w (record m { spare = s })
 ready_again v w m s r g room left = ready_with v w m (record m { spare = s }) r g (room_same v w m.start m.left room r.words) (left w (spares_grown v w m.spare g r.spare))

@@ -10,8 +10,9 @@ use crate::link::{NEW, Room, link, link_again};
 use crate::sight::{Fork, Next, step};
 use crate::split::split;
 use crate::way::{Nodes, Pass, open, root};
-use crate::widen::widen;
+use crate::widen::{widen, widen_again};
 use crate::write::{Hindrance, insert_here};
+use live_encodes::form::{form_below, next_of};
 use std::alloc::{AllocError, Global};
 use std::marker::Brand;
 
@@ -96,6 +97,30 @@ pub fn reserve(
     Ok(true)
 }
 
+/// Puts a larger node in the place of this one, below the node above. A node that may be used again is taken, where there is
+/// one of that form. `false` where a writer came in between.
+fn replace(nodes: &Nodes, stand: Stand, key: u64, room: &mut Room, pass: &mut Pass) -> bool
+    requires book { pass.old.book ≡ nodes.now }
+    requires ready { IsReady pass.old.view room.old }
+    requires stands { Stands pass.old.view key stand }
+    requires lower { stand.height < 8 }
+    ensures told { (pass.new.book ≡ pass.old.book) × (pass.new.id ≡ pass.old.id)
+        × IsReady pass.new.view room.new × HasGrown pass.old.view pass.new.view }
+{
+    let Stand {
+        above,
+        level,
+        name,
+        height,
+    } = stand;
+    let spare = room.spare.get(next_of(form_below(name)));
+    if spare == 0 {
+        return widen::<Brand>(nodes, above, level, name, height, key, room, pass);
+    }
+    let spares = &mut room.spare;
+    widen_again::<Brand>(nodes, above, level, name, height, key, spare, spares, pass)
+}
+
 /// Puts a larger node in the place of a full one, which may be used again. The root has the largest form, and stays.
 pub fn enlarge(nodes: &Nodes, stand: Stand, key: u64, room: &mut Room, pass: &mut Pass)
     requires book { pass.old.book ≡ nodes.now }
@@ -105,16 +130,10 @@ pub fn enlarge(nodes: &Nodes, stand: Stand, key: u64, room: &mut Room, pass: &mu
         × IsReady pass.new.view room.new
         × (pass.new.view.client.seen ≡ pass.old.view.client.seen) }
 {
-    let Stand {
-        above,
-        level,
-        name,
-        height,
-    } = stand;
-    if height < 8 {
-        let outgrown = widen::<Brand>(nodes, above, level, name, height, key, room, pass);
+    if stand.height < 8 {
+        let outgrown = replace(nodes, stand, key, room, pass);
         if outgrown {
-            let _ = room.spare.keep(name);
+            let _ = room.spare.keep(stand.name);
         }
     }
 }
