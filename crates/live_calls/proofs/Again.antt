@@ -2,6 +2,8 @@
 use Rattle.std.proofs.Common.{◌≡◌, ◌≢◌, ℕ, ◌+◌, ◌-◌, ◌*◌, ◌/◌, ◌%◌, ◌<◌, ◌≤◌, ◌^◌, Bool, true, cond, nat_eq, List, [], ◌∷◌, ◌++◌, length, take, length-take, slice_index, Option, Some, refl, sym, ap, ◌∙◌, subst, inr, arith, eq-eqb, ne_eqb}
 use Rattle.std.proofs.lemmas.List.{get_or-take}
 use Rattle.node_base.specs.declared.base_node.NodeType.{NodeType}
+use Rattle.node_table.specs.declared.child.Child.TheVariants.{Node as Below}
+use Rattle.spec_map.specs.Map.{put}
 use Rattle.word_book.specs.Book.{Book, Name, writes, compares, none_joined, Joined}
 use Rattle.live_nodes.specs.Nodes.{Content}
 use Rattle.live_nodes.specs.Seats.{Place, Hold, hold, SeatView, seat_view, IsIn, Each, with_draft, without}
@@ -10,13 +12,13 @@ use Rattle.live_nodes.specs.Plays as plays
 use Rattle.live_nodes.specs.Plays.{hold_of, Locks}
 use Rattle.live_nodes.specs.Calls.{MayLock, MayFree}
 use Rattle.live_rows.specs.Rows.{AreOf, nth, draft_of, undrafted, without_draft}
-use Rattle.live_encodes.specs.Encodes.{words_of, Encodes, empty_node}
-use Rattle.live_law.specs.Levels.{digit, Spot, spot, place_at}
+use Rattle.live_encodes.specs.Encodes.{words_of, Encodes, empty_node, with_child}
+use Rattle.live_law.specs.Levels.{digit, Spot, spot, name_of, place_at}
 use Rattle.live_law.specs.Views.{View, view_of, Own, locked, outgrown, rest_of, Ask}
 use Rattle.live_law.specs.Tree.{IsMap, IsApart, IsRegained, LearnsRegained, again, leads_again, left_again}
 use Rattle.live_law.proofs.Locks.{node_regains}
-use Rattle.live_law.proofs.Joins.{IsEmptyNode}
-use Rattle.live_calls.specs.Ways.{Sights, AreNamed}
+use Rattle.live_law.proofs.Joins.{IsEmptyNode, IsFork}
+use Rattle.live_calls.specs.Ways.{Sights, AreNamed, Keeps}
 use Rattle.live_calls.specs.Holds.{Alike, HoldsOne, HasRegained}
 use Rattle.live_calls.specs.Rooms.{HasGrown}
 use Rattle.live_calls.proofs.Views.{reading, same_place, same_named}
@@ -134,6 +136,17 @@ pair_regained v w b b' words_r words_p free_r free_p name h p c same one are = r
   are_p = subst (λ (z : Book). AreOf (place_at p) z words_p) (sym same) one.are;
 }
 
+-- More is known, and both are held as before.
+pub pair_keeps : (v : Seen) (b : Book) (words_x words_p : List Name) (free_x free_p : ℕ) (x p : Spot) (dx dp : Content) → Pair v b words_x words_p free_x free_p x p dx dp → (w : Seen) (b' : Book) → b' ≡ b → Keeps v w → Pair w b' words_x words_p free_x free_p x p dx dp
+pair_keeps v b words_x words_p free_x free_p x p dx dp h w b' same k = record {
+  holds = k.holds ∙ h.holds;
+  apart = h.apart;
+  placed_x = k.places (place_at x) h.placed_x;
+  placed_p = k.places (place_at p) h.placed_p;
+  are_x = subst (λ (z : Book). AreOf (place_at x) z words_x) (sym same) h.are_x;
+  are_p = subst (λ (z : Book). AreOf (place_at p) z words_p) (sym same) h.are_p;
+}
+
 -- and written
 pub pair_filled : (v : Seen) (b : Book) (words_x words_p : List Name) (free_x free_p : ℕ) (x p : Spot) (dx dp : Content) → Pair v b words_x words_p free_x free_p x p dx dp → (w : Seen) (b' : Book) → b' ≡ b → without_draft 0 w ≡ without_draft 0 v → Pair w b' words_x words_p free_x free_p x p (draft_of (nth 0 w.holds)) dp
 pair_filled v b words_x words_p free_x free_p x p dx dp h w b' same e =
@@ -167,18 +180,42 @@ empty_again q r key height bytes long is fits asks_key asks_height low high form
       empty = refl;
     }
 
+-- a node with one child, for the way of a key
+pub fork_again : (q : Ask) (r x : Spot) (key height : ℕ) (bytes : List ℕ) → length bytes ≡ 8 → ((i : ℕ) → i < 8 → slice_index bytes i ≡ digit (8 - i) key) → key < 2 ^ 64 → q.key ≡ key → q.height ≡ height → 1 ≤ height → height ≤ 8 → (form : NodeType) → form ≡ r.shape.form → (d : Content) (byte below : ℕ) → below ≡ name_of x.shape
+    → Encodes d (with_child (empty_node form (take (8 - height) bytes)) byte (Some (Below below))) → IsFork (again q r) x byte d
+fork_again q r x key height bytes long is fits asks_key asks_height low high form form_is d byte below named encodes =
+    let short : length (take (8 - height) bytes) ≡ 8 - height = (let l = length-take (8 - height) bytes in omega (arith, l, long)) in record {
+      its = with_child (empty_node form (take (8 - height) bytes)) byte (Some (Below below));
+      encodes = encodes;
+      in_form = form_is;
+      deep = omega (arith, short, asks_height, low, high);
+      prefixed = record {
+        key = q.key;
+        fits = subst (λ (z : ℕ). z < 2 ^ 64) (sym asks_key) fits;
+        covers = refl;
+        bytes = λ i l. get_or-take (8 - height) bytes i 0 (omega (arith, l, short)) ∙ (is i (omega (arith, l, short)) ∙ ap (digit (8 - i)) (sym asks_key));
+      };
+      one = ap (λ (z : ℕ). put [] byte (Below z)) named;
+    }
+
 -- what a seat knows once a node that is used again is linked
+pub again_grown_on : (v n z x : Seen) (e e2 : View) (q : Ask) (cy : Content) (r p : Spot) (cp : Content) (hs : List Hold) → ((a : Place) → IsIn a v.places → IsIn a n.places) → ((a : Spot) → IsIn a v.client.met → IsIn a n.client.met) → n.client.seen ≡ v.client.seen → n.client.own ≡ outgrown r ∷ locked p cp ∷ []
+    → z ≡ seat_view e n.places n.reads hs n.room → e ≡ view_of n.client.seen (leads_again q n.client.own ++ n.client.met) (left_again q cy n.client.own)
+    → x ≡ seat_view e2 z.places z.reads [] z.room → e2 ≡ view_of z.client.seen z.client.met (rest_of z.client.own) → HasGrown v x
+again_grown_on v n z x e e2 q cy r p cp hs places met seen own z_is e_is x_is e2_is =
+    let z_client = ap (λ (t : Seen). t.client) z_is ∙ e_is in
+    let x_client = ap (λ (t : Seen). t.client) x_is ∙ e2_is in
+    let x_places : x.places ≡ n.places = ap (λ (t : Seen). t.places) x_is ∙ ap (λ (t : Seen). t.places) z_is in
+    let x_met : x.client.met ≡ again q r ∷ n.client.met = ap (λ (t : View). t.met) x_client ∙ (ap (λ (t : View). t.met) z_client ∙ ap (λ (os : List Own). leads_again q os ++ n.client.met) own) in record {
+      own = ap (λ (t : View). t.own) x_client ∙ (ap (λ (t : View). rest_of t.own) z_client ∙ ap (λ (os : List Own). rest_of (left_again q cy os)) own);
+      holds = ap (λ (t : Seen). t.holds) x_is;
+      places = λ a h. subst (λ (ps : List Place). IsIn a ps) (sym x_places) (places a h);
+      met = λ a h. subst (λ (l : List Spot). IsIn a l) (sym x_met) (inr (met a h));
+      seen = ap (λ (t : View). t.seen) x_client ∙ (ap (λ (t : View). t.seen) z_client ∙ seen);
+    }
+
 pub again_grown : (v n z x : Seen) (e e2 : View) (q : Ask) (cy : Content) (r p : Spot) (cp : Content) (hs : List Hold) → n.places ≡ v.places → n.client.met ≡ v.client.met → n.client.seen ≡ v.client.seen → n.client.own ≡ outgrown r ∷ locked p cp ∷ []
     → z ≡ seat_view e n.places n.reads hs n.room → e ≡ view_of n.client.seen (leads_again q n.client.own ++ n.client.met) (left_again q cy n.client.own)
     → x ≡ seat_view e2 z.places z.reads [] z.room → e2 ≡ view_of z.client.seen z.client.met (rest_of z.client.own) → HasGrown v x
 again_grown v n z x e e2 q cy r p cp hs places met seen own z_is e_is x_is e2_is =
-    let z_client = ap (λ (t : Seen). t.client) z_is ∙ e_is in
-    let x_client = ap (λ (t : Seen). t.client) x_is ∙ e2_is in
-    let x_places : x.places ≡ v.places = ap (λ (t : Seen). t.places) x_is ∙ (ap (λ (t : Seen). t.places) z_is ∙ places) in
-    let x_met : x.client.met ≡ again q r ∷ v.client.met = ap (λ (t : View). t.met) x_client ∙ (ap (λ (t : View). t.met) z_client ∙ (ap (λ (os : List Own). leads_again q os ++ n.client.met) own ∙ ap (λ (l : List Spot). again q r ∷ l) met)) in record {
-      own = ap (λ (t : View). t.own) x_client ∙ (ap (λ (t : View). rest_of t.own) z_client ∙ ap (λ (os : List Own). rest_of (left_again q cy os)) own);
-      holds = ap (λ (t : Seen). t.holds) x_is;
-      places = λ a h. subst (λ (ps : List Place). IsIn a ps) (sym x_places) h;
-      met = λ a h. subst (λ (l : List Spot). IsIn a l) (sym x_met) (inr h);
-      seen = ap (λ (t : View). t.seen) x_client ∙ (ap (λ (t : View). t.seen) z_client ∙ seen);
-    }
+    again_grown_on v n z x e e2 q cy r p cp hs (λ a h. subst (λ (ps : List Place). IsIn a ps) (sym places) h) (λ a h. subst (λ (l : List Spot). IsIn a l) (sym met) h) seen own z_is e_is x_is e2_is

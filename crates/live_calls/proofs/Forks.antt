@@ -15,9 +15,9 @@ use Rattle.live_cells.specs.Words as cells
 use Rattle.live_cells.specs.Head.{IsHead}
 use Rattle.live_encodes.specs.Encodes.{words_of, IsBelow, IsWord, Encodes}
 use Rattle.live_law.specs.Levels.{up, digit, Shape, Spot, spot, name_of, Covers, place_at}
-use Rattle.live_law.specs.Views.{View, Watch, watching, watch, Ask, got}
+use Rattle.live_law.specs.Views.{View, locked, Watch, watching, watch, Ask, got}
 use Rattle.live_law.specs.Tree.{IsMap, HasPrefix, IsOf, IsNow, LearnsBelow, Watches, LearnsMiss, Misses, HasAnswer, Answers, IsOfKind, Parts}
-use Rattle.live_law.proofs.Looks.{node_below, node_below_held, node_misses, HadBelow}
+use Rattle.live_law.proofs.Looks.{node_below, node_misses, HadBelow}
 use Rattle.live_law.proofs.Plans.{way-key, joined, digit-low}
 use Rattle.live_calls.specs.Ways.{Names, Sights, HasOpened, IsOpen, Keeps}
 use Rattle.live_calls.specs.Sees.{Sees}
@@ -26,6 +26,7 @@ use Rattle.live_calls.specs.declared.sight.Sight.TheVariants as sights
 use Rattle.live_calls.proofs.Views.{reading_on, reading_on_keeps, learned_keeps, open_read, may_check_open, open_checked, open_missed, same_named}
 use Rattle.live_calls.proofs.Sights.{leaves_lower, leaves_top, leaves_byte}
 use Rattle.live_calls.proofs.Finds.{keeps_then}
+use Rattle.live_calls.proofs.Belows.{node_below_own}
 
 abbrev Seen : Type 0
 Seen = SeatView View
@@ -212,8 +213,8 @@ module _ (v : Seen) (below number : ℕ) (bound : Option ℕ) (up_there : IsAbov
   pub may_part : (id m : ℕ) → t₂ ≡ 4 * m → MayCheck v₃ k IsMap id (LearnsBelow number bound) t₂
   may_part id m even = subst (λ (z : ℕ × Option ℕ). MayCheck v₃ k IsMap id (LearnsBelow z.0 z.1) t₂) (λ i. (sym up_there.numbered i, sym up_there.held i))
       (may_check_open v₂ b₂ words₂ t₂ n.spot placed_b opened v₃ rest₃ k at_k (LearnsBelow up_there.spot.number None) id
-      (node_below_held id v₂.client n.spot (keeps₂.met n.spot n.met) t₂ saw_b m even (read n.spot.number t₂ saw_b ∷ opened.before)
-      up_there.spot up_there.content [] (ap (λ (z : View). z.own) client₂ ∙ up_there.own) up_there.tall up_there.byte up_there.low up_there.child up_there.finds (λ s e. up_there.spells s e ∙ n.named)))
+      (node_below_own id v₂.client n.spot (keeps₂.met n.spot n.met) t₂ saw_b m even (read n.spot.number t₂ saw_b ∷ opened.before)
+      up_there.spot up_there.content (subst (λ (z : View). IsIn (locked up_there.spot up_there.content) z.own) (sym client₂) up_there.own) up_there.tall up_there.byte up_there.low up_there.child up_there.finds (λ s e. up_there.spells s e ∙ n.named)))
 
   module _ (w : Seen) (m : ℕ) (told : Checks (LearnsBelow number bound) (reads k) v₃ m none_joined w) where
     pub part_missed : m ≢ t₂ → Keeps v₂ w × (w.client ≡ v₂.client)

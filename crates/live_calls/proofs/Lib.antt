@@ -10,6 +10,7 @@ pub mod Grips
 pub mod Linked
 pub mod Trunks
 pub mod Sights
+pub mod Belows
 pub mod Forks
 pub mod Stood
 pub mod Ready

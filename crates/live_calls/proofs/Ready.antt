@@ -67,6 +67,9 @@ ready_spare v m s r spare = record { trunk = r.trunk; own = r.own; holds = r.hol
 pub ready_again : (v w : Seen) (m : Room) (s : Spares) → IsReady v m → HasGrown v w → w.room ≡ v.room → ((u : Seen) → HasSpares u m.spare → HasSpares u s) → IsReady w (record m { spare = s })
 ready_again v w m s r g room left = ready_with v w m (record m { spare = s }) r g (room_same v w m.start m.left room r.words) (left w (spares_grown v w m.spare g r.spare))
 
+pub ready_again_met : (v w : Seen) (m : Room) (s : Spares) (n : ℕ) → IsReady v m → HasGrown v w → w.room ≡ v.room → Sights v n → ((u : Seen) → HasSpares u m.spare → Sights u n → HasSpares u s) → IsReady w (record m { spare = s })
+ready_again_met v w m s n r g room met left = ready_with v w m (record m { spare = s }) r g (room_same v w m.start m.left room r.words) (left w (spares_grown v w m.spare g r.spare) (sights_kept v w n g.places g.met met))
+
 pub ready_rest : (v w : Seen) (m : Room) → IsReady v m → HasRest v w → IsReady w m
 ready_rest v w m r h =
     let places = λ (p : Place) (i : IsIn p v.places). subst (λ (ps : List Place). IsIn p ps) (sym h.alike.places) i in record {

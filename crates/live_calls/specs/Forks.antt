@@ -46,7 +46,7 @@ first_held (h ∷ hs) = h.number
 pub record IsAbove (v : SeatView View) (below number : ℕ) (word : Option ℕ) : Type 0 where
   pub spot : Spot
   pub content : Content
-  pub own : v.client.own ≡ locked spot content ∷ []
+  pub own : IsIn (locked spot content) v.client.own
   pub tall : 2 ≤ spot.shape.height
   pub byte : ℕ
   pub low : byte < 256

@@ -1,14 +1,14 @@
 //! An insertion.
-ghost use Rattle.std.specs.Prelude.{◌≡◌, ℕ, ◌+◌, ◌<◌, ◌≤◌, IfOk, OnErr, IfSome};
+ghost use Rattle.std.specs.Prelude.{◌≡◌, ℕ, ◌+◌, ◌<◌, ◌≤◌, Some, IfOk, OnErr, IfSome};
 ghost use Rattle.live_law.specs.Views.{ask};
 ghost use Rattle.live_calls.specs.Ways.{KnowsTrunk, Keeps};
-ghost use Rattle.live_calls.specs.Stands.{Stands, IsEnd};
+ghost use Rattle.live_calls.specs.Stands.{Stands, HasFork, IsEnd};
 ghost use Rattle.live_calls.specs.Rooms.{HasGrown};
 ghost use Rattle.live_calls.specs.Calls.{IsReady, Inserts};
 
 use crate::link::{NEW, Room, link, link_again};
 use crate::sight::{Fork, Next, step};
-use crate::split::split;
+use crate::split::{split, split_again};
 use crate::way::{Nodes, Pass, open, root};
 use crate::widen::{widen, widen_again};
 use crate::write::{Hindrance, insert_here};
@@ -212,6 +212,25 @@ fn insert_at(
     }
 }
 
+/// Makes a node where the key's way leaves that of a node below. A node that may be used again is taken, where there is one.
+pub fn part(nodes: &Nodes, stand: Stand, fork: Fork, key: u64, room: &mut Room, pass: &mut Pass)
+    requires book { pass.old.book ≡ nodes.now }
+    requires ready { IsReady pass.old.view room.old }
+    requires stands { Stands pass.old.view key stand }
+    requires forks { HasFork pass.old.view key stand.height (Some fork) }
+    ensures told { (pass.new.book ≡ pass.old.book) × (pass.new.id ≡ pass.old.id)
+        × IsReady pass.new.view room.new
+        × (pass.new.view.client.seen ≡ pass.old.view.client.seen) }
+{
+    let spare = room.spare.get(NEW);
+    if spare == 0 {
+        let _ = split::<Brand>(nodes, stand.name, stand.height, fork, key, room, pass);
+        return;
+    }
+    let Stand { name, height, .. } = stand;
+    let _ = split_again::<Brand>(nodes, name, height, fork, key, spare, &mut room.spare, pass);
+}
+
 /// Inserts a value, or comes nearer to it by a node: `None`. So it is too where a writer came in between.
 pub(crate) fn insert_once(
     nodes: &Nodes,
@@ -228,7 +247,7 @@ pub(crate) fn insert_once(
 {
     let End { stand, fork } = descend(nodes, key, pass)?;
     if let Some(fork) = fork {
-        let _ = split::<Brand>(nodes, stand.name, stand.height, fork, key, room, pass);
+        part(nodes, stand, fork, key, room, pass);
         return None;
     }
     if stand.height > 1 {

@@ -1,4 +1,4 @@
-use Rattle.std.proofs.Common.{rules, arith, sym, ap, subst, length, refl, ℕ, Option, Some, None, List, [], ◌∷◌, ◌≡◌, ◌+◌, ◌-◌, ◌*◌, ◌/◌, ◌≤◌, ◌∙◌}
+use Rattle.std.proofs.Common.{inl, rules, arith, sym, ap, subst, length, refl, ℕ, Option, Some, None, List, [], ◌∷◌, ◌≡◌, ◌+◌, ◌-◌, ◌*◌, ◌/◌, ◌≤◌, ◌∙◌}
 use Rattle.node_base.specs.declared.base_node.NodeType.TheVariants.{N4}
 use Rattle.node_table.specs.TableNode.{TableNode, Child}
 use Rattle.node_table.specs.declared.child.Child.TheVariants.{Node}
@@ -7,7 +7,7 @@ use Rattle.live_nodes.specs.Seats.{SeatView, IsIn}
 use Rattle.live_rows.specs.Rows.{AreOf, draft_of, nth}
 use Rattle.live_encodes.specs.Encodes.{words_of, Encodes, IsBelow, IsWord}
 use Rattle.live_law.specs.Levels.{up, digit, way, place_at}
-use Rattle.live_law.specs.Views.{View, Own, fresh, watch}
+use Rattle.live_law.specs.Views.{View, Own, locked, fresh, watch}
 use Rattle.live_law.specs.Tree.{Links}
 use Rattle.live_law.proofs.Joins.{IsFork, link_above}
 use Rattle.live_calls.specs.Ways.{AreNamed, Sights, Keeps}
@@ -149,7 +149,7 @@ parts-requires-clause-above g c =
     record {
       spot = a;
       content = h.content;
-      own = ap (λ s. s.view.client.own) same ∙ one.own;
+      own = subst (IsIn (locked a h.content)) (sym (ap (λ s. s.view.client.own) same ∙ one.own)) (inl refl);
       tall = subst (λ (e : ℕ). 2 ≤ e) (sym h.names.high) c.requires.height.0;
       byte = c.byte_at-byte.result;
       low = low;
