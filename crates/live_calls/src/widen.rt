@@ -145,7 +145,7 @@ pub fn widen_again<A: Asks>(
     let Some(words_above) = words_at(nodes, above) else {
         return false;
     };
-    let Some(words) = words_at(nodes, name) else {
+    let Some(full) = words_at(nodes, name) else {
         return false;
     };
     let Some(others) = words_at(nodes, spare) else {
@@ -160,19 +160,19 @@ pub fn widen_again<A: Asks>(
         unlock_same(words_above, free_above, pass);
         return false;
     }
-    let Some(free) = lock_node(words, name, height, key, pass) else {
+    let Some(free) = lock_node(full, name, height, key, pass) else {
         unlock_same(words_above, free_above, pass);
         return false;
     };
     let _ = spares.take(wider);
     let Some(back) = regain(others, spare, pass) else {
-        unlock_last(words, free, pass);
+        unlock_last(full, free, pass);
         unlock_same(words_above, free_above, pass);
         return false;
     };
-    let full = Source { words };
+    let source = Source { words: full };
     let new: Held<'_, Mine, Levels, 0> = Held { words: others };
-    grow(&full, form, &new, pass);
+    grow(&source, form, &new, pass);
     let held: Held<'_, Mine, Levels, 2> = Held { words: words_above };
     let _ = change(
         &held,
@@ -183,6 +183,6 @@ pub fn widen_again<A: Asks>(
     );
     unlock_again::<A, Brand>(&words_above[0], free_above, pass);
     node::unlock::<Mine, Levels, Same>(&others[0], back, pass);
-    node::retire::<Mine, Levels, Same>(&words[0], free, pass);
+    node::retire::<Mine, Levels, Same>(&full[0], free, pass);
     true
 }

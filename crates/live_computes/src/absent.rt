@@ -5,14 +5,12 @@ ghost use Rattle.live_calls.specs.Calls.{IsReady};
 ghost use Rattle.live_updates.specs.inner.Updates.{IsUpdate};
 ghost use Rattle.live_computes.specs.inner.Ends.{Tries, Enters};
 
-use live_calls::insert::{End, Stand, descend, enlarge, extend, reserve};
+use live_calls::insert::{End, Stand, descend, enlarge, extend, part, reserve};
 use live_calls::link::Room;
 use live_calls::map::{Refusal, TRIES};
-use live_calls::split::split;
 use live_calls::way::{Nodes, Pass};
 use live_updates::leaf::{Missed, Updates, update_here};
 use std::alloc::Global;
-use std::marker::Brand;
 
 /// How a try ends: the key has the value, it has another one already, or it is to be tried again.
 #[derive(Clone, Copy, Debug, PartialEq, Eq)]
@@ -74,7 +72,7 @@ fn enter_once<U: Updates>(
         return Tried::Again;
     };
     if let Some(fork) = fork {
-        let _ = split::<Brand>(nodes, stand.name, stand.height, fork, key, room, pass);
+        part(nodes, stand, fork, key, room, pass);
         return Tried::Again;
     }
     if stand.height > 1 {

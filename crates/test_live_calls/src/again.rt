@@ -63,6 +63,25 @@ fn a_node_that_outgrew_its_form_is_the_next_of_that_form(rt: HostRuntime) -> Res
     Ok(())
 }
 
+// A node comes above another one where ways part. It is one that outgrew its form.
+#[test]
+fn a_fork_is_a_node_that_outgrew_its_form(rt: HostRuntime) -> Result<(), Fail> {
+    let map = Congee::new(rt.alloc())?;
+    let mut guard = map.pin();
+    assert!(rt; all_new(&map, rt.alloc(), &mut guard, 1 << 56, 1));
+    assert!(rt; all_new(&map, rt.alloc(), &mut guard, 0, 5));
+    let start = guard.room.start;
+    let spare = guard.room.spare.n4;
+    assert!(rt; spare != 0);
+    assert!(rt; all_new(&map, rt.alloc(), &mut guard, (1 << 56) + (1 << 24), 1));
+    assert!(rt; guard.room.start == start + 7);
+    assert!(rt; guard.room.spare.n4 == 0);
+    assert!(rt; all_found(&map, &mut guard, 1 << 56, 1));
+    assert!(rt; all_found(&map, &mut guard, (1 << 56) + (1 << 24), 1));
+    assert!(rt; all_found(&map, &mut guard, 0, 5));
+    Ok(())
+}
+
 // Another guard has met the node before, and finds there what it has now. It writes there too.
 #[test]
 fn a_node_that_is_used_again_is_read_as_what_it_is_now(rt: HostRuntime) -> Result<(), Fail> {
