@@ -1,5 +1,5 @@
 -- A node is used again: it is locked, written, and leads on from a node above.
-use Rattle.std.proofs.Common.{◌≡◌, ◌≢◌, ℕ, ◌+◌, ◌-◌, ◌*◌, ◌/◌, ◌%◌, ◌<◌, ◌≤◌, ◌^◌, Bool, true, cond, nat_eq, List, [], ◌∷◌, ◌++◌, length, take, length-take, slice_index, Option, Some, refl, sym, ap, ◌∙◌, subst, inr, arith, eq-eqb, ne_eqb}
+use Rattle.std.proofs.Common.{◌≡◌, ◌≢◌, ℕ, ◌+◌, ◌-◌, ◌*◌, ◌%◌, ◌<◌, ◌≤◌, ◌^◌, Bool, cond, nat_eq, List, [], ◌∷◌, ◌++◌, length, take, length-take, slice_index, Some, refl, sym, ap, ◌∙◌, subst, inr, arith, eq-eqb, ne_eqb}
 use Rattle.std.proofs.lemmas.List.{get_or-take}
 use Rattle.node_base.specs.declared.base_node.NodeType.{NodeType}
 use Rattle.node_table.specs.declared.child.Child.TheVariants.{Node as Below}

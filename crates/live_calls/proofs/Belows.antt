@@ -1,5 +1,5 @@
 -- Below a node that the seat has locked, among others.
-use Rattle.std.proofs.Common.{◌≡◌, ℕ, ◌+◌, ◌*◌, ◌<◌, ◌≤◌, List, [], ◌∷◌, Option, Some, None, refl, sym, ap, ◌∙◌, subst}
+use Rattle.std.proofs.Common.{◌≡◌, ℕ, ◌+◌, ◌*◌, ◌<◌, ◌≤◌, List, [], Some, None, refl, sym, ap, ◌∙◌, subst}
 use Rattle.node_base.specs.Form.{form_place}
 use Rattle.node_table.specs.TableNode.{TableNode}
 use Rattle.node_table.specs.declared.child.Child.TheVariants.{Node as Below}

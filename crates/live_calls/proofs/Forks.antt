@@ -1,27 +1,27 @@
 -- A node below another one is watched, whose way a key leaves.
-use Rattle.std.proofs.Common.{◌≡◌, ◌≢◌, ℕ, zero, suc, ◌+◌, ◌-◌, ◌*◌, ◌/◌, ◌%◌, ◌<◌, ◌≤◌, ◌^◌, Bool, cond, nat_eq, List, [], ◌∷◌, ◌++◌, length, Option, Some, None, refl, sym, ap, ◌∙◌, subst, inl, inr, arith, eq-eqb, ne_eqb}
+use Rattle.std.proofs.Common.{◌≡◌, ◌≢◌, ℕ, zero, suc, ◌+◌, ◌-◌, ◌*◌, ◌<◌, ◌≤◌, ◌^◌, Bool, cond, List, [], ◌∷◌, length, Option, Some, None, refl, sym, ap, ◌∙◌, subst, inl, inr, arith, eq-eqb, ne_eqb}
 use Rattle.node_base.specs.Form.{form_place}
 use Rattle.node_table.specs.TableNode.{TableNode, Child}
 use Rattle.node_table.specs.declared.child.Child.TheVariants.{Payload, Node as Below}
 use Rattle.spec_map.specs.Map.{lookup}
 use Rattle.word_book.specs.Book.{Book, Name, reads, none_joined}
 use Rattle.live_nodes.specs.Nodes.{Content}
-use Rattle.live_nodes.specs.Seats.{Place, place, Read, read, SeatView, seat_view, IsIn, Agree}
+use Rattle.live_nodes.specs.Seats.{Place, Read, read, SeatView, IsIn, Agree}
 use Rattle.live_nodes.specs.Plays as Plays
 use Rattle.live_nodes.specs.Plays.{read_of, Checks}
 use Rattle.live_nodes.specs.Calls.{MayCheck}
 use Rattle.live_rows.specs.Rows.{AreOf, last_saw, without_reads}
 use Rattle.live_cells.specs.Words as cells
 use Rattle.live_cells.specs.Head.{IsHead}
-use Rattle.live_encodes.specs.Encodes.{words_of, IsBelow, IsWord, Encodes}
-use Rattle.live_law.specs.Levels.{up, digit, Shape, Spot, spot, name_of, Covers, place_at}
-use Rattle.live_law.specs.Views.{View, locked, Watch, watching, watch, Ask, got}
-use Rattle.live_law.specs.Tree.{IsMap, HasPrefix, IsOf, IsNow, LearnsBelow, Watches, LearnsMiss, Misses, HasAnswer, Answers, IsOfKind, Parts}
+use Rattle.live_encodes.specs.Encodes.{IsBelow, IsWord, Encodes}
+use Rattle.live_law.specs.Levels.{up, digit, Shape, Spot, spot, Covers, place_at}
+use Rattle.live_law.specs.Views.{View, locked, watch, Ask, got}
+use Rattle.live_law.specs.Tree.{IsMap, HasPrefix, IsOf, LearnsBelow, Watches, LearnsMiss, Misses, HasAnswer, Answers, IsOfKind}
 use Rattle.live_law.proofs.Looks.{node_below, node_misses, HadBelow}
 use Rattle.live_law.proofs.Plans.{way-key, joined, digit-low}
-use Rattle.live_calls.specs.Ways.{Names, Sights, HasOpened, IsOpen, Keeps}
+use Rattle.live_calls.specs.Ways.{Sights, HasOpened, IsOpen, Keeps}
 use Rattle.live_calls.specs.Sees.{Sees}
-use Rattle.live_calls.specs.Forks.{first_number, IsForked, IsAbove, IsParted}
+use Rattle.live_calls.specs.Forks.{IsForked, IsAbove, IsParted}
 use Rattle.live_calls.specs.declared.sight.Sight.TheVariants as sights
 use Rattle.live_calls.proofs.Views.{reading_on, reading_on_keeps, learned_keeps, open_read, may_check_open, open_checked, open_missed, same_named}
 use Rattle.live_calls.proofs.Sights.{leaves_lower, leaves_top, leaves_byte}

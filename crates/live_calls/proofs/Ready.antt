@@ -1,5 +1,5 @@
 -- A seat stays ready for the next call.
-use Rattle.std.proofs.Common.{◌≡◌, ℕ, nat_eq, List, [], ◌∷◌, ◌++◌, sym, ap, ◌∙◌, subst, arith, ◌≤◌, Option, Some, IfSome}
+use Rattle.std.proofs.Common.{◌≡◌, ℕ, nat_eq, List, [], ◌∷◌, ◌++◌, sym, ap, ◌∙◌, subst, arith, Option, Some, IfSome}
 use Rattle.share_rule.specs.History.{Entry, entries_of, IsLegalHistory}
 use Rattle.share_rule.proofs.Keeps.{entries-append}
 use Rattle.word_book.specs.Book.{Book}

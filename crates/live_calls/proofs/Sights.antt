@@ -11,7 +11,7 @@ use Rattle.live_law.specs.Levels.{up, digit, Shape, Covers, way, Spot, place_at}
 use Rattle.live_law.specs.Views.{View}
 use Rattle.live_law.specs.Tree.{HasPrefix, IsOf}
 use Rattle.live_law.proofs.Plans.{root-top, joined, way-key}
-use Rattle.live_calls.specs.Ways.{Names, Sights, Leaves, HasOpened, Keeps}
+use Rattle.live_calls.specs.Ways.{Names, Sights, Leaves, Keeps}
 use Rattle.live_calls.proofs.Views.{IsHeaded}
 use Rattle.live_calls.specs.Sees.{Alike, Sees, HasMet}
 use Rattle.live_calls.specs.declared.sight.Sight.{Sight}

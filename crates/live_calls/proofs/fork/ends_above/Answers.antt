@@ -1,4 +1,4 @@
-use Rattle.std.proofs.Common.{rules, arith, refl, sym, ap, subst, get_or, ℕ, List, Bool, None, false, IsTrue, ◌≡◌, ◌/◌, ◌∙◌}
+use Rattle.std.proofs.Common.{rules, arith, refl, sym, subst, get_or, ℕ, List, Bool, None, false, IsTrue, ◌≡◌, ◌/◌, ◌∙◌}
 use mathlib.Core.Logic.{dite}
 use native.Mathlib.Decide.{ℕ_discrete}
 use Rattle.share_rule.specs.History.{Entry}

@@ -1,4 +1,4 @@
-use Rattle.std.proofs.Common.{rules, arith, refl, sym, ap, subst, get_or, ℕ, List, ◌≡◌, ◌/◌, ◌∙◌}
+use Rattle.std.proofs.Common.{rules, arith, refl, ap, subst, get_or, ℕ, List, ◌≡◌, ◌/◌, ◌∙◌}
 use Rattle.live_cells.specs.Head.{IsHead}
 use Rattle.live_law.specs.Levels.{place_at}
 use Rattle.live_law.specs.Views.{View}

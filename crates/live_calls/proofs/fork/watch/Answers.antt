@@ -1,4 +1,4 @@
-use Rattle.std.proofs.Common.{rules, arith, refl, sym, ap, subst, get_or, ℕ, List, Option, Some, None, ◌≡◌, ◌≢◌, ◌/◌, ◌∙◌}
+use Rattle.std.proofs.Common.{rules, arith, refl, sym, ap, subst, get_or, ℕ, List, Option, Some, ◌≡◌, ◌/◌, ◌∙◌}
 use Rattle.node_table.specs.TableNode.{TableNode}
 use Rattle.node_table.specs.declared.child.Child.TheVariants.{Node}
 use Rattle.spec_map.specs.Map.{lookup}

@@ -1,4 +1,4 @@
-use Rattle.std.proofs.Common.{rules, sym, subst, arith, ◌≡◌, ◌≢◌, ◌≤◌}
+use Rattle.std.proofs.Common.{rules, sym, subst, arith, ◌≢◌}
 use Rattle.node_base.specs.declared.base_node.NodeType.TheVariants.{N4}
 use Rattle.live_calls.specs.Ways.{Sights}
 use Rattle.live_calls.proofs.Ready.{ready_grown, ready_again}

@@ -1,4 +1,4 @@
-use Rattle.std.proofs.Common.{rules, sym, subst, arith, ◌≡◌, ◌≢◌, ◌≤◌}
+use Rattle.std.proofs.Common.{rules, sym, subst, arith, ◌≢◌}
 use Rattle.live_calls.specs.Ways.{Sights}
 use Rattle.live_calls.proofs.Ready.{ready_grown, ready_again}
 use Rattle.live_calls.proofs.insert.replace.Goals as goal

@@ -1,9 +1,7 @@
-use Rattle.std.proofs.Common.{rules, sym, ap, subst, ◌≡◌, ◌∙◌, Some, None}
-use Rattle.live_law.specs.Views.{View}
+use Rattle.std.proofs.Common.{rules, sym, subst, ◌≡◌, ◌∙◌, Some, None}
 use Rattle.live_calls.specs.Ways.{Ended}
 use Rattle.live_calls.specs.Sees.{Follows}
-use Rattle.live_calls.proofs.Finds.{keeps_then, names_kept, follows_from}
-use Rattle.live_calls.proofs.Sights.{sights_names}
+use Rattle.live_calls.proofs.Finds.{keeps_then, follows_from}
 use Rattle.live_calls.proofs.sight.follow.Goals as goal
 
 pub returns-in_err-step : goal.returns-in_err-step

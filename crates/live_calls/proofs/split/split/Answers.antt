@@ -13,7 +13,6 @@ use Rattle.live_law.proofs.Joins.{IsFork, link_above}
 use Rattle.live_calls.specs.Ways.{AreNamed, Sights, Keeps}
 use Rattle.live_calls.specs.Forks.{first_held, IsParted}
 use Rattle.live_calls.specs.Holds.{HasLocked, HoldsOne}
-use Rattle.live_calls.specs.Rooms.{HasForked}
 use Rattle.live_calls.proofs.Views.{first_word}
 use Rattle.live_calls.proofs.Locks.{taken_by, holds_one, may_hold, draft_is}
 use Rattle.live_calls.proofs.Grips.{Grips, grips_one, grip_made, grip_holds, grip_draft, grip_wrote, grip_frees, grip_freed}

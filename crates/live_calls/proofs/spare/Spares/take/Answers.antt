@@ -1,4 +1,4 @@
-use Rattle.std.proofs.Common.{rules, sym, subst, arith, ◌≡◌, ◌≢◌, ◌≤◌}
+use Rattle.std.proofs.Common.{rules, sym, subst, arith, ◌≢◌}
 use Rattle.live_calls.specs.Spares.{IsSpare, HasSpares}
 use Rattle.live_calls.proofs.Spares.{spares_put}
 use Rattle.live_calls.proofs.spare.Spares.take.Goals as goal
