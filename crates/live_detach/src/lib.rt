@@ -6,4 +6,5 @@
 //! Tested in `test_live_calls`.
 #![tactic(auto)]
 
+pub mod detach;
 pub mod law;
