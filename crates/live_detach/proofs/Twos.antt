@@ -1,5 +1,5 @@
 -- A node and the one above it are held.
-use Rattle.std.proofs.Common.{◌≡◌, ◌≢◌, ℕ, ◌+◌, ◌*◌, ◌/◌, ◌%◌, Bool, cond, List, [], ◌∷◌, length, Option, Some, IfNone, refl, sym, ap, ◌∙◌, subst, arith, eq-eqb, ne_eqb}
+use Rattle.std.proofs.Common.{◌≡◌, ◌≢◌, ℕ, ◌+◌, ◌*◌, ◌/◌, ◌%◌, Bool, cond, List, [], ◌∷◌, length, Option, Some, None, IfSome, refl, sym, ap, ◌∙◌, subst, arith, eq-eqb, ne_eqb}
 use Rattle.word_book.specs.Book.{Book, Name, writes, none_joined}
 use Rattle.live_nodes.specs.Nodes.{Content}
 use Rattle.live_nodes.specs.Seats.{Place, Hold, hold, SeatView, seat_view, IsIn, Each, without}
@@ -8,14 +8,19 @@ use Rattle.live_nodes.specs.Plays as plays
 use Rattle.live_nodes.specs.Plays.{hold_of}
 use Rattle.live_nodes.specs.Calls.{MayFree}
 use Rattle.live_rows.specs.Rows.{AreOf}
-use Rattle.live_law.specs.Levels.{Spot, place_at}
+use Rattle.node_base.specs.declared.base_node.NodeType.{NodeType}
+use Rattle.node_table.specs.TableNode.{TableNode, Child}
+use Rattle.spec_map.specs.Map.{lookup}
+use Rattle.live_encodes.specs.Encodes.{Encodes, IsBelow, with_child}
+use Rattle.live_law.specs.Levels.{digit, Spot, place_at}
 use Rattle.live_law.specs.Views.{View, Own, locked}
 use Rattle.live_law.specs.Tree.{IsMap, IsApart}
 use Rattle.live_calls.specs.Ways.{AreNamed, Keeps}
 use Rattle.live_calls.specs.Holds.{Alike, HasLocked, HasRest, HoldsOne}
 use Rattle.live_calls.proofs.Locks.{hold_head}
-use Rattle.live_calls.proofs.Pairs.{Pair}
-use Rattle.live_detach.specs.Two.{IsHeld, HoldsTwo}
+use Rattle.live_calls.proofs.Pairs.{Pair, change_done, at_result}
+use Rattle.live_detach.specs.Two.{IsHeld, HoldsTwo, LeadsTwo}
+use Rattle.live_detach.proofs.Unlinks.{Loses}
 
 abbrev Seen : Type 0
 Seen = SeatView View
@@ -81,3 +86,18 @@ rest_keeps v w own holds r = record {
   holds = r.holds ∙ sym holds;
   room = r.alike.room;
 }
+
+-- A child that is there is taken out.
+some_none : {A : Type 0} (w : A) → Some w ≡ None → ⊥
+some_none w e = cc
+
+pub loses : (o : Option ℕ) (c c' : Content) → c' ≡ c → (d : Content) (form : NodeType) (p : Spot) → form ≡ p.shape.form → (byte key level : ℕ) → byte ≡ digit level key → p.shape.height ≡ level → (w : ℕ)
+    → ((n : TableNode ℕ) → Encodes c n → n.form ≡ p.shape.form → IsBelow (lookup n.children (digit level key)) (Some w)) → (its : TableNode ℕ) → Encodes c its → its.form ≡ p.shape.form
+    → ((n : TableNode ℕ) → Encodes c' n → n.form ≡ form → IsBelow (lookup n.children byte) o)
+    → IfSome o (λ _. (n : TableNode ℕ) → Encodes c' n → n.form ≡ form → Encodes d (with_child n byte None))
+    → Loses p c d key
+loses o c c' same d form p form_is byte key level byte_is high w leads its encodes formed was take n encodes_n formed_n =
+    let some_child : lookup its.children byte ≢ None = λ none. subst (λ (z : Option (Child ℕ)). IsBelow z (Some w)) (ap (lookup its.children) (sym byte_is) ∙ none) (leads its encodes formed) in
+    let done = change_done o c c' same its encodes form (formed ∙ sym form_is) byte some_child was in
+    subst (λ (z : ℕ). Encodes d (with_child n z None)) (byte_is ∙ ap (λ (z : ℕ). digit z key) (sym high))
+    (at_result o done take n (subst (λ (z : Content). Encodes z n) (sym same) encodes_n) (formed_n ∙ sym form_is))

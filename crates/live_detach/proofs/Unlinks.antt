@@ -22,6 +22,7 @@ use Rattle.live_law.proofs.Writes.{current_at, its_own}
 use Rattle.live_law.proofs.Links.{le_or}
 use Rattle.live_law.proofs.Joins.{HadWord, Spells}
 use Rattle.live_detach.proofs.Ordered.{encodes_rise}
+use Rattle.live_detach.specs.Two.{HasNone}
 use Rattle.live_detach.specs.Unlinks.{left_out, Unlinks}
 
 not_some : {A : Type 0} (x : A) → Some x ≡ None → ⊥
@@ -380,10 +381,6 @@ module _ (id : ℕ) (v : View) (x q : Spot) (cx cq : Content) (word n : ℕ) (ev
 -- what the node above has then
 abbrev pub Loses : Spot → Content → Content → ℕ → Type 0
 Loses q c e key = (n : TableNode ℕ) → Encodes c n → n.form ≡ q.shape.form → Encodes e (with_child n (digit q.shape.height key) None)
-
--- A node has no children.
-abbrev pub HasNone : Spot → Content → Type 0
-HasNone x c = (n : TableNode ℕ) → Encodes c n → n.form ≡ x.shape.form → n.children ≡ []
 
 leads_named : (d : Plan) (j w name : ℕ) (o : Option (Child ℕ)) → IsChild o (Some w) → Spells w name → LeadsTo d o j → (1 ≤ j) × (name ≡ name_of (d.shape j))
 leads_named d j w name None below spells leads = absurd below

@@ -9,6 +9,7 @@ use Rattle.live_encodes.specs.Encodes.{words_of, Encodes}
 use Rattle.live_law.specs.Levels.{digit, Spot, name_of, place_at}
 use Rattle.live_law.specs.Views.{View, locked}
 use Rattle.live_calls.specs.Holds.{HasWordOf}
+use Rattle.live_calls.specs.declared.insert.Stand.{Stand}
 
 -- a node that is locked: its words, and the word by which it was free
 pub record IsHeld (v : SeatView View) (b : Book) (words : List Name) (free : ℕ) (a : Spot) (c : Content) : Type 0 where
@@ -33,10 +34,19 @@ pub record HoldsTwo (v : SeatView View) (b : Book) (words words_above : List Nam
   pub held_above : IsHeld v b words_above free_above above content_above
 
 -- The upper one leads to the lower, by a key's digit.
-pub record LeadsTwo (v : SeatView View) (b : Book) (words words_above : List Name) (free free_above above level name height key : ℕ) : Type 0 where
+pub record LeadsTwo (v : SeatView View) (b : Book) (words words_above : List Name) (free free_above : ℕ) (s : Stand) (key : ℕ) : Type 0 where
   pub two : HoldsTwo v b words words_above free free_above
-  pub named : name ≡ name_of two.below.shape
-  pub named_above : above ≡ name_of two.above.shape
-  pub high : two.below.shape.height ≡ height
-  pub high_above : two.above.shape.height ≡ level
-  pub leads : HasWordOf two.content_above two.above.shape.form (digit level key) name
+  pub named : s.name ≡ name_of two.below.shape
+  pub named_above : s.above ≡ name_of two.above.shape
+  pub high : two.below.shape.height ≡ s.height
+  pub high_above : two.above.shape.height ≡ s.level
+  pub leads : HasWordOf two.content_above two.above.shape.form (digit s.level key) s.name
+
+-- A node's words are of one without children.
+abbrev pub HasNone : Spot → Content → Type 0
+HasNone a c = (n : TableNode ℕ) → Encodes c n → n.form ≡ a.shape.form → n.children ≡ []
+
+-- The lower one is to be taken out.
+pub record PartsTwo (v : SeatView View) (b : Book) (words words_above : List Name) (free free_above : ℕ) (s : Stand) (key : ℕ) : Type 0 where
+  pub lead : LeadsTwo v b words words_above free free_above s key
+  pub none : HasNone lead.two.below lead.two.content

@@ -7,11 +7,12 @@ ghost use Rattle.live_nodes.specs.Nodes.{Content};
 ghost use Rattle.live_law.specs.Levels.{digit};
 ghost use Rattle.live_calls.specs.Ways.{KnowsTrunk, Names, Sights, AreNamed, Keeps};
 ghost use Rattle.live_calls.specs.Holds.{Alike, HasRest};
-ghost use Rattle.live_detach.specs.Two.{HoldsTwo, LeadsTwo};
+ghost use Rattle.live_calls.specs.Stands.{Stands};
+ghost use Rattle.live_detach.specs.Two.{HoldsTwo, LeadsTwo, PartsTwo};
 
 use crate::law::Unlink;
 use live_calls::held::{lock_node, unlock_same};
-use live_calls::insert::descend;
+use live_calls::insert::Stand;
 use live_calls::way::{Cell, Nodes, Pass, byte_at, words_at};
 use live_calls::widen::leads_to;
 use live_cells::list;
@@ -55,31 +56,30 @@ pub fn is_empty<S, D: Draft<S>>(draft: &D, form: NodeType, seat: &mut S) -> bool
 fn lock_two(
     words: &[Cell],
     words_above: &[Cell],
-    above: u64,
-    level: usize,
-    name: u64,
-    height: usize,
+    stand: Stand,
     key: u64,
     pass: &mut Pass,
 ) -> Option<Two>
-    requires words { AreNamed pass.old.book name words.now × AreNamed pass.old.book above words_above.now }
-    requires above { Names pass.old.view above key level }
-    requires named { Names pass.old.view name key height }
-    requires level { (1 ≤ level) × (level ≤ 8) }
+    requires words { AreNamed pass.old.book stand.name words.now
+        × AreNamed pass.old.book stand.above words_above.now }
+    requires stands { Stands pass.old.view key stand }
+    requires below { stand.height < 8 }
     requires rests { (pass.old.view.client.own ≡ []) × (pass.old.view.holds ≡ []) }
     ensures told { (pass.new.book ≡ pass.old.book) × (pass.new.id ≡ pass.old.id)
         × (pass.new.view.client.seen ≡ pass.old.view.client.seen)
         × IfSome result (λ two. Alike pass.old.view pass.new.view
-        × LeadsTwo pass.new.view pass.new.book words.now words_above.now two.free two.free_above above level name height key)
+        × LeadsTwo pass.new.view pass.new.book words.now words_above.now
+        two.free two.free_above stand key)
         × IfNone result (HasRest pass.old.view pass.new.view) }
 {
-    let free_above = lock_node(words_above, above, level, key, pass)?;
+    let free_above = lock_node(words_above, stand.above, stand.level, key, pass)?;
     let parent: Held<'_, Mine, Levels, 0> = Held { words: words_above };
-    if !leads_to(&parent, form_below(above), byte_at(key, level), name, pass) {
+    let byte = byte_at(key, stand.level);
+    if !leads_to(&parent, form_below(stand.above), byte, stand.name, pass) {
         unlock_same(words_above, free_above, pass);
         return None;
     }
-    let Some(free) = lock_node(words, name, height, key, pass) else {
+    let Some(free) = lock_node(words, stand.name, stand.height, key, pass) else {
         unlock_same(words_above, free_above, pass);
         return None;
     };
@@ -88,11 +88,64 @@ fn lock_two(
 
 /// Unlocks two nodes that are as they were.
 fn unlock_two(words: &[Cell], words_above: &[Cell], two: Two, pass: &mut Pass)
-    requires holds { HoldsTwo pass.old.view pass.old.book words.now words_above.now two.free two.free_above }
+    requires holds { HoldsTwo pass.old.view pass.old.book words.now words_above.now
+        two.free two.free_above }
     ensures told { (pass.new.book ≡ pass.old.book) × (pass.new.id ≡ pass.old.id)
         × HasRest pass.old.view pass.new.view
         × (pass.new.view.client.seen ≡ pass.old.view.client.seen) }
 {
     node::unlock::<Mine, Levels, Same>(&words[0], two.free, pass);
     unlock_same(words_above, two.free_above, pass);
+}
+
+/// Takes the lower of two nodes out, which has no children. Whether the upper one has none then either.
+fn part(
+    words: &[Cell],
+    words_above: &[Cell],
+    stand: Stand,
+    key: u64,
+    two: Two,
+    pass: &mut Pass,
+) -> bool
+    requires height { (1 ≤ stand.height) × (stand.height < stand.level) × (stand.level ≤ 8) }
+    requires parts { PartsTwo pass.old.view pass.old.book words.now words_above.now
+        two.free two.free_above stand key }
+    ensures told { (pass.new.book ≡ pass.old.book) × (pass.new.id ≡ pass.old.id)
+        × HasRest pass.old.view pass.new.view
+        × (pass.new.view.client.seen ≡ pass.old.view.client.seen) }
+{
+    let form = form_below(stand.above);
+    let held: Held<'_, Mine, Levels, 1> = Held { words: words_above };
+    let _ = take(&held, form, byte_at(key, stand.level), pass);
+    let again = is_empty(&held, form, pass);
+    node::unlock::<Mine, Levels, Unlink>(&words_above[0], two.free_above, pass);
+    node::retire::<Mine, Levels, Same>(&words[0], two.free, pass);
+    again
+}
+
+/// Takes a node without children out, below the node above it, on the way of a key. `None` where it has children, or a writer
+/// is busy at one of them. Nobody uses the node then.
+pub fn detach(nodes: &Nodes, stand: Stand, key: u64, pass: &mut Pass) -> Option<Taken>
+    requires book { pass.old.book ≡ nodes.now }
+    requires stands { Stands pass.old.view key stand }
+    requires below { stand.height < 8 }
+    requires rests { (pass.old.view.client.own ≡ []) × (pass.old.view.holds ≡ []) }
+    ensures told { (pass.new.book ≡ pass.old.book) × (pass.new.id ≡ pass.old.id)
+        × Keeps pass.old.view pass.new.view
+        × (pass.new.view.client.seen ≡ pass.old.view.client.seen) }
+    ensures named { IfSome result (λ taken. taken.name ≡ stand.name) }
+{
+    let words_above = words_at(nodes, stand.above)?;
+    let words = words_at(nodes, stand.name)?;
+    let two = lock_two(words, words_above, stand, key, pass)?;
+    let held: Held<'_, Mine, Levels, 0> = Held { words };
+    if !is_empty(&held, form_below(stand.name), pass) {
+        unlock_two(words, words_above, two, pass);
+        return None;
+    }
+    let again = part(words, words_above, stand, key, two, pass);
+    Some(Taken {
+        name: stand.name,
+        again,
+    })
 }

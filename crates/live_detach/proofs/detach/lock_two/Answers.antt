@@ -19,10 +19,10 @@ leads_to-requires-clause-may c =
     let w = c.lock_node.new.pass.view in
     let t = c.lock_node.ensures.told in
     let locked_p : c.lock_node.result ≡ Some free_p = search rules in
-    let hp = taken_by c.lock_node.result free_p locked_p (HasLocked v w c.args.above c.args.key c.args.level) t.2 in
+    let hp = taken_by c.lock_node.result free_p locked_p (HasLocked v w c.args.stand.above c.args.key c.args.stand.level) t.2 in
     let b = c.lock_node.new.pass.book in
-    let are_p = subst (λ z. AreNamed z c.args.above words_p) (sym t.0) c.requires.words.1 in
-    let one = holds_one v w c.args.above c.args.key c.args.level free_p hp b words_p are_p c.requires.rests.0 c.requires.rests.1 in
+    let are_p = subst (λ z. AreNamed z c.args.stand.above words_p) (sym t.0) c.requires.words.1 in
+    let one = holds_one v w c.args.stand.above c.args.key c.args.stand.level free_p hp b words_p are_p c.requires.rests.0 c.requires.rests.1 in
     may_hold w b words_p free_p hp.names.spot hp.content hp.content one hp.long
 
 pub leads_to-requires-clause-long : goal.leads_to-requires-clause-long
@@ -33,10 +33,10 @@ leads_to-requires-clause-long c =
     let w = c.lock_node.new.pass.view in
     let t = c.lock_node.ensures.told in
     let locked_p : c.lock_node.result ≡ Some free_p = search rules in
-    let hp = taken_by c.lock_node.result free_p locked_p (HasLocked v w c.args.above c.args.key c.args.level) t.2 in
+    let hp = taken_by c.lock_node.result free_p locked_p (HasLocked v w c.args.stand.above c.args.key c.args.stand.level) t.2 in
     let b = c.lock_node.new.pass.book in
-    let are_p = subst (λ z. AreNamed z c.args.above words_p) (sym t.0) c.requires.words.1 in
-    let one = holds_one v w c.args.above c.args.key c.args.level free_p hp b words_p are_p c.requires.rests.0 c.requires.rests.1 in
+    let are_p = subst (λ z. AreNamed z c.args.stand.above words_p) (sym t.0) c.requires.words.1 in
+    let one = holds_one v w c.args.stand.above c.args.key c.args.stand.level free_p hp b words_p are_p c.requires.rests.0 c.requires.rests.1 in
     let p = hp.names.spot in
     let form_p = c.form_below.ensures p.shape.key p.shape.form hp.names.named in
     ap (λ (z : List ℕ). length z) (draft_is w b words_p free_p p hp.content hp.content one) ∙ (hp.long ∙ ap words_of (sym form_p))
@@ -49,10 +49,10 @@ returns c =
     let w = c.lock_node.new.pass.view in
     let t = c.lock_node.ensures.told in
     let locked_p : c.lock_node.result ≡ Some free_p = search rules in
-    let hp = taken_by c.lock_node.result free_p locked_p (HasLocked v w c.args.above c.args.key c.args.level) t.2 in
+    let hp = taken_by c.lock_node.result free_p locked_p (HasLocked v w c.args.stand.above c.args.key c.args.stand.level) t.2 in
     let b = c.lock_node.new.pass.book in
-    let are_p = subst (λ z. AreNamed z c.args.above words_p) (sym t.0) c.requires.words.1 in
-    let one = holds_one v w c.args.above c.args.key c.args.level free_p hp b words_p are_p c.requires.rests.0 c.requires.rests.1 in
+    let are_p = subst (λ z. AreNamed z c.args.stand.above words_p) (sym t.0) c.requires.words.1 in
+    let one = holds_one v w c.args.stand.above c.args.key c.args.stand.level free_p hp b words_p are_p c.requires.rests.0 c.requires.rests.1 in
     let p = hp.names.spot in
     let form_p = c.form_below.ensures p.shape.key p.shape.form hp.names.named in
     let drafted = draft_is w b words_p free_p p hp.content hp.content one in
@@ -64,13 +64,13 @@ returns c =
     let free = c.in-Some.free in
     let t2 = c.lock_node-2.ensures.told in
     let locked_x : c.lock_node-2.result ≡ Some free = search rules in
-    let hx = taken_by c.lock_node-2.result free locked_x (HasLocked s u c.args.name c.args.key c.args.height) t2.2 in
+    let hx = taken_by c.lock_node-2.result free locked_x (HasLocked s u c.args.stand.name c.args.key c.args.stand.height) t2.2 in
     let one_s = subst (λ z. HoldsOne z.view z.book words_p free_p p hp.content hp.content) (sym same) one in
     let book_u = t2.0 ∙ (ap (λ z. z.book) same ∙ t.0) in
-    let held = is_held s u c.args.name c.args.key c.args.height free hx ub c.args.words.now (subst (λ z. AreNamed z c.args.name c.args.words.now) (sym book_u) c.requires.words.0) in
-    let held_p = is_held v w c.args.above c.args.key c.args.level free_p hp b words_p are_p in
+    let held = is_held s u c.args.stand.name c.args.key c.args.stand.height free hx ub c.args.words.now (subst (λ z. AreNamed z c.args.stand.name c.args.words.now) (sym book_u) c.requires.words.0) in
+    let held_p = is_held v w c.args.stand.above c.args.key c.args.stand.level free_p hp b words_p are_p in
     let held_u = held_on w u b ub words_p free_p p hp.content (hx.alike.places ∙ ap (λ z. z.view.places) same) (t2.0 ∙ ap (λ z. z.book) same) held_p in
-    let leads : HasWordOf hp.content p.shape.form c.byte_at.result c.args.name = subst (λ (z : Content × NodeType). HasWordOf z.0 z.1 c.byte_at.result c.args.name) (λ i. (drafted i, form_p i)) has in
+    let leads : HasWordOf hp.content p.shape.form c.byte_at-byte.result c.args.stand.name = subst (λ (z : Content × NodeType). HasWordOf z.0 z.1 c.byte_at-byte.result c.args.stand.name) (λ i. (drafted i, form_p i)) has in
     record {
       told = (
         book_u,
@@ -94,7 +94,7 @@ returns c =
             named_above = hp.names.named;
             high = hx.names.high;
             high_above = hp.names.high;
-            leads = subst (λ (z : ℕ). HasWordOf hp.content p.shape.form z c.args.name) c.byte_at.ensures leads;
+            leads = subst (λ (z : ℕ). HasWordOf hp.content p.shape.form z c.args.stand.name) c.byte_at-byte.ensures leads;
           },
         ),
         tt,
