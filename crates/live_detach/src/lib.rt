@@ -8,3 +8,4 @@
 
 pub mod detach;
 pub mod law;
+pub mod tidy;
