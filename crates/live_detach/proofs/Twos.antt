@@ -1,8 +1,8 @@
 -- A node and the one above it are held.
-use Rattle.std.proofs.Common.{◌≡◌, ◌≢◌, ℕ, ◌+◌, ◌*◌, ◌/◌, ◌%◌, Bool, cond, List, [], ◌∷◌, length, Option, Some, None, IfSome, refl, sym, ap, ◌∙◌, subst, arith, eq-eqb, ne_eqb}
+use Rattle.std.proofs.Common.{◌≡◌, ◌≢◌, ℕ, ◌+◌, Bool, cond, List, [], ◌∷◌, Option, Some, None, IfSome, refl, sym, ap, ◌∙◌, subst, eq-eqb, ne_eqb}
 use Rattle.word_book.specs.Book.{Book, Name, writes, none_joined}
 use Rattle.live_nodes.specs.Nodes.{Content}
-use Rattle.live_nodes.specs.Seats.{Place, Hold, hold, SeatView, seat_view, IsIn, Each, without}
+use Rattle.live_nodes.specs.Seats.{Place, Hold, hold, SeatView, seat_view, IsIn, without}
 use Rattle.live_nodes.specs.Acts as acts
 use Rattle.live_nodes.specs.Plays as plays
 use Rattle.live_nodes.specs.Plays.{hold_of}
@@ -13,13 +13,13 @@ use Rattle.node_table.specs.TableNode.{TableNode, Child}
 use Rattle.spec_map.specs.Map.{lookup}
 use Rattle.live_encodes.specs.Encodes.{Encodes, IsBelow, with_child}
 use Rattle.live_law.specs.Levels.{digit, Spot, place_at}
-use Rattle.live_law.specs.Views.{View, Own, locked}
-use Rattle.live_law.specs.Tree.{IsMap, IsApart}
+use Rattle.live_law.specs.Views.{View}
+use Rattle.live_law.specs.Tree.{IsMap}
 use Rattle.live_calls.specs.Ways.{AreNamed, Keeps}
-use Rattle.live_calls.specs.Holds.{Alike, HasLocked, HasRest, HoldsOne}
+use Rattle.live_calls.specs.Holds.{HasLocked, HasRest}
 use Rattle.live_calls.proofs.Locks.{hold_head}
 use Rattle.live_calls.proofs.Pairs.{Pair, change_done, at_result}
-use Rattle.live_detach.specs.Two.{IsHeld, HoldsTwo, LeadsTwo}
+use Rattle.live_detach.specs.Two.{IsHeld, HoldsTwo}
 use Rattle.live_detach.proofs.Unlinks.{Loses}
 
 abbrev Seen : Type 0

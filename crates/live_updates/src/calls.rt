@@ -7,7 +7,7 @@ ghost use Rattle.live_calls.specs.Calls.{IsReady};
 ghost use Rattle.live_updates.specs.Entries.{removed, swapped};
 ghost use Rattle.live_updates.specs.inner.Lookups.{swap_of, EndsBy};
 
-use crate::leaf::update_here;
+use crate::leaf::exchange_here;
 use crate::lookup::{Site, seek};
 use live_calls::map::{Busy, Congee, Guard, TRIES};
 use live_calls::way::{Nodes, Pass};
@@ -40,7 +40,7 @@ fn remove_once(nodes: &Nodes, key: u64, pass: &mut Pass) -> Option<Option<u64>>
     match seek::<Brand>(nodes, key, pass)? {
         Site::Absent => Some(None),
         Site::At(leaf, value) => {
-            if update_here::<Brand>(nodes, leaf, key, Some(value), None, pass).is_some() {
+            if exchange_here::<Brand>(nodes, leaf, key, Some(value), None, pass).is_some() {
                 return None;
             }
             Some(Some(value))
@@ -72,7 +72,7 @@ fn exchange_once<X: Swaps>(
             if value != old {
                 return Some(Err(Some(value)));
             }
-            if update_here::<Brand>(nodes, leaf, key, Some(old), new, pass).is_some() {
+            if exchange_here::<Brand>(nodes, leaf, key, Some(old), new, pass).is_some() {
                 return None;
             }
             Some(Ok(new))
@@ -80,8 +80,8 @@ fn exchange_once<X: Swaps>(
     }
 }
 
-/// Removes a key: the value that it had. Takes no memory, and gives none back: a leaf that is empty is used by later
-/// insertions.
+/// Removes a key: the value that it had. Takes no memory. A leaf without keys is taken out of the map, and so are the nodes
+/// above it that have no others below them.
 pub fn remove(map: &Congee, guard: &mut Guard, key: u64) -> Result<Option<u64>, Busy>
     requires { guard.old.book ≡ map.now }
     ensures made { IfOk result (λ before. MadeCall guard.old

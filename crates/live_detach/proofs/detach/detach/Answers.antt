@@ -1,8 +1,8 @@
-use Rattle.std.proofs.Common.{rules, arith, sym, ap, subst, length, ℕ, List, ◌≡◌, ◌∙◌}
+use Rattle.std.proofs.Common.{rules, sym, ap, subst, length, ℕ, List, ◌≡◌, ◌∙◌}
 use Rattle.node_table.specs.TableNode.{TableNode}
 use Rattle.live_encodes.specs.Encodes.{words_of, Encodes}
 use Rattle.live_calls.proofs.Pairs.{pair_first, first_draft}
-use Rattle.live_detach.specs.Two.{LeadsTwo, PartsTwo}
+use Rattle.live_detach.specs.Two.{PartsTwo}
 use Rattle.live_detach.proofs.Twos.{as_pair}
 use Rattle.live_detach.proofs.detach.detach.Goals as goal
 

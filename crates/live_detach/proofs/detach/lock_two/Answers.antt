@@ -1,11 +1,11 @@
-use Rattle.std.proofs.Common.{rules, arith, sym, ap, subst, length, ℕ, Some, List, [], ◌∷◌, ◌≡◌, ◌+◌, ◌∙◌}
+use Rattle.std.proofs.Common.{rules, sym, ap, subst, length, ℕ, Some, List, ◌∷◌, ◌≡◌, ◌+◌, ◌∙◌}
 use Rattle.live_nodes.specs.Nodes.{Content}
 use Rattle.live_nodes.specs.Seats.{Each, Hold, hold}
 use Rattle.live_encodes.specs.Encodes.{words_of}
 use Rattle.node_base.specs.declared.base_node.NodeType.{NodeType}
 use Rattle.live_law.specs.Views.{Own, locked}
 use Rattle.live_law.specs.Tree.{IsApart}
-use Rattle.live_calls.specs.Ways.{AreNamed, Names}
+use Rattle.live_calls.specs.Ways.{AreNamed}
 use Rattle.live_calls.specs.Holds.{HasLocked, HasWordOf, HoldsOne}
 use Rattle.live_calls.proofs.Locks.{taken_by, holds_one, may_hold, draft_is, alike_then}
 use Rattle.live_detach.proofs.Twos.{is_held, held_on}

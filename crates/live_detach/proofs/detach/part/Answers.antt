@@ -1,4 +1,4 @@
-use Rattle.std.proofs.Common.{rules, arith, sym, ap, subst, length, ℕ, Some, List, [], ◌≡◌, ◌+◌, ◌/◌, ◌∙◌}
+use Rattle.std.proofs.Common.{arith, sym, ap, subst, length, ℕ, Some, List, [], ◌≡◌, ◌+◌, ◌/◌, ◌∙◌}
 use Rattle.node_table.specs.TableNode.{TableNode}
 use Rattle.node_table.specs.declared.child.Child.TheVariants.{Node}
 use Rattle.spec_map.specs.Map.{lookup}

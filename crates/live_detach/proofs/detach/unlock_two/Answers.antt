@@ -1,11 +1,9 @@
-use Rattle.std.proofs.Common.{sym, ap, refl, arith, subst, ℕ, [], ◌∷◌, List, ◌+◌, ◌/◌, ◌∙◌}
+use Rattle.std.proofs.Common.{sym, ap, refl, arith, [], ◌∷◌, ◌+◌, ◌/◌, ◌∙◌}
 use Rattle.live_nodes.specs.Seats.{SeatView}
 use Rattle.live_law.specs.Levels.{place_at}
-use Rattle.live_law.specs.Views.{View, Own, locked, rest_of}
+use Rattle.live_law.specs.Views.{View, locked, rest_of}
 use Rattle.live_law.specs.Tree.{StaysSame}
 use Rattle.live_law.proofs.Writes.{node_stays}
-use Rattle.live_rows.specs.Rows.{AreOf}
-use Rattle.live_calls.specs.Holds.{HoldsOne}
 use Rattle.live_calls.proofs.Views.{first_word}
 use Rattle.live_calls.proofs.Locks.{alike_then}
 use Rattle.live_detach.proofs.Twos.{first_frees, first_freed, held_on}
@@ -35,13 +33,16 @@ unlock_same-requires-clause-holds c =
     let at_x = (first_word (place_at h.below) b words h.held.are first first (sym c.index-words-0.is)).0 in
     let w = c.unlock.new.seat.view in
     let f = first_freed v b words words_above free c.args.two.free_above h first.key at_x StaysSame w (free + 4) c.unlock.ensures.told in
-    let held = held_on v w b c.unlock.new.seat.book words_above c.args.two.free_above h.above h.content_above (ap (λ (z : SeatView View). z.places) f.1) c.unlock.ensures.seat.0 h.held_above in
-    (h.above, h.content_above, record {
-      own = ap (λ (z : SeatView View). z.client.own) f.1 ∙ (ap (λ (z : View). z.own) f.2 ∙ ap rest_of h.own);
-      holds = ap (λ (z : SeatView View). z.holds) f.1;
-      placed = held.placed;
-      are = held.are;
-    })
+    let held = held_on v w b c.unlock.new.seat.book words_above c.args.two.free_above h.above h.content_above (ap (λ (z : SeatView View). z.places) f.1) c.unlock.ensures.seat.0 h.held_above in (
+      h.above,
+      h.content_above,
+      record {
+        own = ap (λ (z : SeatView View). z.client.own) f.1 ∙ (ap (λ (z : View). z.own) f.2 ∙ ap rest_of h.own);
+        holds = ap (λ (z : SeatView View). z.holds) f.1;
+        placed = held.placed;
+        are = held.are;
+      },
+    )
 
 pub returns : goal.returns
 returns c =

@@ -1,4 +1,4 @@
-use Rattle.std.proofs.Common.{◌≡◌, Option, Some, None, IfSome, sym, subst, ◌∙◌}
+use Rattle.std.proofs.Common.{Option, Some, None, IfSome, sym, subst, ◌∙◌}
 use Rattle.live_calls.specs.Ways.{Sights}
 use Rattle.live_calls.proofs.Finds.{keeps_then}
 use Rattle.live_calls.proofs.Sights.{sights_names, sights_kept}
