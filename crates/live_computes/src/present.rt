@@ -14,7 +14,7 @@ use crate::absent::enter;
 use live_calls::link::Room;
 use live_calls::map::{Busy, Congee, Guard, Refusal, TRIES};
 use live_calls::way::{Nodes, Pass};
-use live_updates::leaf::update_here;
+use live_updates::leaf::{exchange_here, update_here};
 use live_updates::lookup::{Site, seek};
 use std::alloc::Global;
 use std::marker::Brand;
@@ -44,7 +44,7 @@ fn present_once<F: FnMut(u64) -> Option<u64>>(
         Site::Absent => Some(None),
         Site::At(leaf, value) => {
             let new = f(value);
-            if update_here::<Brand>(nodes, leaf, key, Some(value), new, pass).is_some() {
+            if exchange_here::<Brand>(nodes, leaf, key, Some(value), new, pass).is_some() {
                 return None;
             }
             Some(Some((value, new)))

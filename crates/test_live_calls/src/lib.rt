@@ -2,6 +2,8 @@
 #![tactic(auto)]
 
 #[cfg(test)]
+mod detached;
+#[cfg(test)]
 mod exchanges;
 #[cfg(test)]
 mod tests;
