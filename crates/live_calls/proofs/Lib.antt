@@ -5,6 +5,7 @@ pub mod Locks
 pub mod Values
 pub mod Written
 pub mod Rooms
+pub mod Spares
 pub mod Grips
 pub mod Linked
 pub mod Trunks
@@ -13,4 +14,7 @@ pub mod Forks
 pub mod Stood
 pub mod Ready
 pub mod Pairs
+pub mod Again
+pub mod Sources
+pub mod Triples
 pub mod Meetings

@@ -4,6 +4,7 @@ pub mod Stands
 pub mod Calls
 pub mod Holds
 pub mod Rooms
+pub mod Spares
 pub mod Exchanges
 pub mod Forks
 pub mod Meetings

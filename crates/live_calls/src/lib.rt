@@ -16,6 +16,8 @@ pub mod meeting;
 pub mod plant;
 pub mod room;
 pub mod sight;
+pub mod source;
+pub mod spare;
 pub mod split;
 pub mod way;
 pub mod widen;

@@ -9,6 +9,7 @@ use crate::insert::{insert_once, reserve};
 use crate::link::Room;
 use crate::meeting::meet;
 use crate::plant::plant;
+use crate::spare::Spares;
 use crate::way::{Nodes, Pass};
 use live_nodes::heap::Heap;
 use std::alloc::{AllocError, Global};
@@ -63,7 +64,7 @@ impl Model for Guard {
 
     ghost view = { λ g. known_of g.pass.book g.pass.id g.pass.view };
 
-    ghost invariant = { λ g. IsReady g.pass.view g.room.start g.room.left };
+    ghost invariant = { λ g. IsReady g.pass.view g.room };
 }
 
 impl Guard {
@@ -84,7 +85,11 @@ impl Congee {
     pub fn new(alloc: Global) -> Result<Congee, AllocError> {
         let nodes: Nodes = Heap::new(alloc, 1)?;
         let mut pass = nodes.enter();
-        let mut room = Room { start: 0, left: 0 };
+        let mut room = Room {
+            start: 0,
+            left: 0,
+            spare: Spares::none(),
+        };
         let _ = reserve(&nodes, alloc, &mut room, &mut pass)?;
         if !plant::<Brand>(&nodes, &mut room, &mut pass) {
             return Err(AllocError);
@@ -98,7 +103,11 @@ impl Congee {
     {
         Guard {
             pass: self.nodes.enter(),
-            room: Room { start: 0, left: 0 },
+            room: Room {
+                start: 0,
+                left: 0,
+                spare: Spares::none(),
+            },
         }
     }
 

@@ -37,7 +37,8 @@ pub fn split<A: Asks>(
     requires room { HasRoom pass.old.view room.old.start room.old.left }
     ensures told { (pass.new.book ≡ pass.old.book) × (pass.new.id ≡ pass.old.id)
         × HasGrown pass.old.view pass.new.view
-        × HasRoom pass.new.view room.new.start room.new.left }
+        × HasRoom pass.new.view room.new.start room.new.left
+        × (room.new.spare ≡ room.old.spare) }
 {
     if fork.at >= height || fork.below >= 1 << 56 || room.start >= 1 << 48 || room.left < 263 {
         return false;

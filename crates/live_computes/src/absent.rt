@@ -35,11 +35,11 @@ fn enter_at<U: Updates>(
     requires asks { (U.update.key ≡ key) × (U.update.caller ≡ pass.old.id) }
     requires values { (U.update.old ≡ None) × (U.update.new ≡ Some value) }
     requires legal { IsUpdate U.update }
-    requires ready { IsReady pass.old.view room.old.start room.old.left }
+    requires ready { IsReady pass.old.view room.old }
     requires stands { Stands pass.old.view key stand }
     requires leaf { stand.height ≡ 1 }
     ensures told { (pass.new.book ≡ pass.old.book) × (pass.new.id ≡ pass.old.id)
-        × IsReady pass.new.view room.new.start room.new.left
+        × IsReady pass.new.view room.new
         × Tries U.update result pass.old.view pass.new.view }
 {
     match update_here::<U>(nodes, stand.name, key, None, Some(value), pass) {
@@ -65,9 +65,9 @@ fn enter_once<U: Updates>(
     requires asks { (U.update.key ≡ key) × (U.update.caller ≡ pass.old.id) }
     requires values { (U.update.old ≡ None) × (U.update.new ≡ Some value) }
     requires legal { IsUpdate U.update }
-    requires ready { IsReady pass.old.view room.old.start room.old.left }
+    requires ready { IsReady pass.old.view room.old }
     ensures told { (pass.new.book ≡ pass.old.book) × (pass.new.id ≡ pass.old.id)
-        × IsReady pass.new.view room.new.start room.new.left
+        × IsReady pass.new.view room.new
         × Tries U.update result pass.old.view pass.new.view }
 {
     let Some(End { stand, fork }) = descend(nodes, key, pass) else {
@@ -97,9 +97,9 @@ pub fn enter<U: Updates>(
     requires asks { (U.update.key ≡ key) × (U.update.caller ≡ pass.old.id) }
     requires values { (U.update.old ≡ None) × (U.update.new ≡ Some value) }
     requires legal { IsUpdate U.update }
-    requires ready { IsReady pass.old.view room.old.start room.old.left }
+    requires ready { IsReady pass.old.view room.old }
     ensures told { (pass.new.book ≡ pass.old.book) × (pass.new.id ≡ pass.old.id)
-        × IsReady pass.new.view room.new.start room.new.left
+        × IsReady pass.new.view room.new
         × Enters U.update result pass.old.view pass.new.view }
 {
     for _ in 0..TRIES {

@@ -4,6 +4,7 @@ ghost use Rattle.std.specs.Prelude.{◌≡◌, ℕ, [], IfOk, IfSome, OnErr, unw
 ghost use Rattle.std.specs.Option.{option_map};
 ghost use Rattle.live_law.specs.Known.{MadeCall};
 ghost use Rattle.live_calls.specs.Ways.{KnowsTrunk};
+ghost use Rattle.live_calls.specs.declared.link.Room.{Room};
 ghost use Rattle.live_calls.specs.Calls.{IsReady};
 ghost use Rattle.live_updates.specs.inner.Lookups.{EndsBy};
 ghost use Rattle.live_computes.specs.Closures.{Reaches};
@@ -34,7 +35,7 @@ fn present_once<F: FnMut(u64) -> Option<u64>>(
     ensures callable { F.IsAlwaysCallable f.new }
     ensures reached { Reaches F.step f.old f.new }
     ensures told { (pass.new.book ≡ pass.old.book) × (pass.new.id ≡ pass.old.id)
-        × ((start left : ℕ) → IsReady pass.old.view start left → IsReady pass.new.view start left)
+        × ((room : Room) → IsReady pass.old.view room → IsReady pass.new.view room)
         × EndsBy pass.old.id (option_map (computed_with pass.old.id key) result)
         pass.old.view pass.new.view }
     ensures asked { IfSome result (λ both. IfSome both (λ pair.
@@ -63,12 +64,12 @@ fn always_once<F: FnMut(Option<u64>) -> u64>(
     f: &mut F,
 ) -> Result<Option<Option<u64>>, Refusal>
     requires book { pass.old.book ≡ nodes.now }
-    requires ready { IsReady pass.old.view room.old.start room.old.left }
+    requires ready { IsReady pass.old.view room.old }
     requires callable { F.IsAlwaysCallable f.old }
     ensures callable { F.IsAlwaysCallable f.new }
     ensures reached { Reaches F.step f.old f.new }
     ensures told { (pass.new.book ≡ pass.old.book) × (pass.new.id ≡ pass.old.id)
-        × IsReady pass.new.view room.new.start room.new.left
+        × IsReady pass.new.view room.new
         × Stores pass.old.id key (λ before new. (state : F) × F.step state before new f.new) result
         pass.old.view pass.new.view }
 {
@@ -101,9 +102,9 @@ fn keep_once(
     pass: &mut Pass,
 ) -> Result<Option<Option<u64>>, Refusal>
     requires book { pass.old.book ≡ nodes.now }
-    requires ready { IsReady pass.old.view room.old.start room.old.left }
+    requires ready { IsReady pass.old.view room.old }
     ensures told { (pass.new.book ≡ pass.old.book) × (pass.new.id ≡ pass.old.id)
-        × IsReady pass.new.view room.new.start room.new.left
+        × IsReady pass.new.view room.new
         × Stores pass.old.id key (λ found new. new ≡ unwrap_or found value) result
         pass.old.view pass.new.view }
 {
@@ -129,9 +130,9 @@ fn add_once(
     pass: &mut Pass,
 ) -> Result<Option<Option<u64>>, Refusal>
     requires book { pass.old.book ≡ nodes.now }
-    requires ready { IsReady pass.old.view room.old.start room.old.left }
+    requires ready { IsReady pass.old.view room.old }
     ensures told { (pass.new.book ≡ pass.old.book) × (pass.new.id ≡ pass.old.id)
-        × IsReady pass.new.view room.new.start room.new.left
+        × IsReady pass.new.view room.new
         × Stores pass.old.id key (λ before new. new ≡ sum_with before number) result
         pass.old.view pass.new.view }
 {

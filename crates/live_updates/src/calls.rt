@@ -3,6 +3,7 @@ ghost use Rattle.std.specs.Prelude.{◌≡◌, ℕ, [], IfOk, IfSome, OnErr};
 ghost use Rattle.std.specs.Option.{option_map};
 ghost use Rattle.live_law.specs.Known.{MadeCall};
 ghost use Rattle.live_calls.specs.Ways.{KnowsTrunk};
+ghost use Rattle.live_calls.specs.declared.link.Room.{Room};
 ghost use Rattle.live_calls.specs.Calls.{IsReady};
 ghost use Rattle.live_updates.specs.Entries.{removed, swapped};
 ghost use Rattle.live_updates.specs.inner.Lookups.{swap_of, EndsBy};
@@ -33,7 +34,7 @@ fn remove_once(nodes: &Nodes, key: u64, pass: &mut Pass) -> Option<Option<u64>>
     requires trunk { KnowsTrunk pass.old.view }
     requires rests { (pass.old.view.client.own ≡ []) × (pass.old.view.holds ≡ []) }
     ensures told { (pass.new.book ≡ pass.old.book) × (pass.new.id ≡ pass.old.id)
-        × ((start left : ℕ) → IsReady pass.old.view start left → IsReady pass.new.view start left)
+        × ((room : Room) → IsReady pass.old.view room → IsReady pass.new.view room)
         × EndsBy pass.old.id (option_map (removed pass.old.id key) result)
         pass.old.view pass.new.view }
 {
@@ -61,7 +62,7 @@ fn exchange_once<X: Swaps>(
     requires trunk { KnowsTrunk pass.old.view }
     requires rests { (pass.old.view.client.own ≡ []) × (pass.old.view.holds ≡ []) }
     ensures told { (pass.new.book ≡ pass.old.book) × (pass.new.id ≡ pass.old.id)
-        × ((start left : ℕ) → IsReady pass.old.view start left → IsReady pass.new.view start left)
+        × ((room : Room) → IsReady pass.old.view room → IsReady pass.new.view room)
         × EndsBy pass.old.id (option_map (swapped pass.old.id key old new) result)
         pass.old.view pass.new.view }
     ensures stored { IfSome result (λ answer. IfOk answer (λ stored. stored ≡ new)) }

@@ -10,7 +10,7 @@ returns-in_err-stand c =
     let w = c.descend.new.pass.view in
     let t = c.descend.ensures.told in
     let out : c.from_residual.result ≡ None = search rules in
-    record { told = (t.0, t.1, ready_kept v w c.args.room.now.start c.args.room.now.left c.requires.ready t.2, subst (λ z. Inserts (ask c.args.pass.now.id c.args.key c.args.value 1) z v w) (sym out) t.3) }
+    record { told = (t.0, t.1, ready_kept v w c.args.room.now c.requires.ready t.2, subst (λ z. Inserts (ask c.args.pass.now.id c.args.key c.args.value 1) z v w) (sym out) t.3) }
 
 pub returns-in-Some : goal.returns-in-Some
 returns-in-Some c =
@@ -19,11 +19,11 @@ returns-in-Some c =
     let x = c.split.new.pass.view in
     let t = c.descend.ensures.told in
     let l = c.split.ensures.told in
-    let ready = ready_kept v w c.args.room.now.start c.args.room.now.left c.requires.ready t.2 in
-    record { told = (l.0 ∙ t.0, l.1 ∙ t.1, ready_grown w x c.args.room.now.start c.args.room.now.left c.split.new.room.start c.split.new.room.left ready l.2 l.3, l.2.seen ∙ t.3) }
+    let ready = ready_kept v w c.args.room.now c.requires.ready t.2 in
+    record { told = (l.0 ∙ t.0, l.1 ∙ t.1, ready_grown w x c.args.room.now c.split.new.room ready l.2 l.3 l.4, l.2.seen ∙ t.3) }
 
 pub extend-requires-clause-ready : goal.extend-requires-clause-ready
-extend-requires-clause-ready c = ready_kept c.args.pass.now.view c.descend.new.pass.view c.args.room.now.start c.args.room.now.left c.requires.ready c.descend.ensures.told.2
+extend-requires-clause-ready c = ready_kept c.args.pass.now.view c.descend.new.pass.view c.args.room.now c.requires.ready c.descend.ensures.told.2
 
 pub insert_at-requires-clause-ready : goal.insert_at-requires-clause-ready
-insert_at-requires-clause-ready c = ready_kept c.args.pass.now.view c.descend.new.pass.view c.args.room.now.start c.args.room.now.left c.requires.ready c.descend.ensures.told.2
+insert_at-requires-clause-ready c = ready_kept c.args.pass.now.view c.descend.new.pass.view c.args.room.now c.requires.ready c.descend.ensures.told.2

@@ -241,5 +241,6 @@ returns g c =
         grown,
         room_after m x (start + words_of NEW_form + 1) (left - (words_of NEW_form + 1)) (start + (c.words_in-2.result + 1)) (left - (c.words_in-3.result + 1))
             (ap (λ (z : SeatView View). z.room) f.1 ∙ ap (λ (z : SeatView View). z.room) others) (omega (arith, n2)) (omega (arith, n3)) after,
+        refl,
       );
     }

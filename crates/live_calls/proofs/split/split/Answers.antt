@@ -235,6 +235,7 @@ returns-then-not-parts g c =
           seen = e.3 ∙ (pt.3 ∙ (ap (λ s. s.view.client.seen) same ∙ h.seen));
         },
         room_after v c.unlock_same-then-not-parts.new.pass.view start left start left (e.2.alike.room ∙ (keeps.room ∙ h.alike.room)) refl (omega arith) c.requires.room,
+        refl,
       );
     }
 
@@ -527,5 +528,6 @@ returns g c =
         grown,
         room_after m x' (start + words_of N4 + 1) (left - (words_of N4 + 1)) (start + (c.words_in-2.result + 1)) (left - (c.words_in-3.result + 1))
             (ap (λ (e : SeatView View). e.room) f.1 ∙ ap (λ (e : SeatView View). e.room) others) (omega (arith, n2)) (omega (arith, n3)) after,
+        refl,
       );
     }
