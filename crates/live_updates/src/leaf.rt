@@ -3,11 +3,13 @@ ghost use Rattle.std.specs.Prelude.{◌≡◌, ℕ, ◌+◌, ◌<◌, ◌≤◌,
 ghost use Rattle.node_table.specs.TableNode.{TableNode};
 ghost use Rattle.live_cells.specs.Words.{Stays, Looks};
 ghost use Rattle.live_encodes.specs.Encodes.{words_of, IsCounted, Encodes};
-ghost use Rattle.live_calls.specs.Ways.{KnowsTrunk, Names, Keeps};
+ghost use Rattle.live_calls.specs.Ways.{Names};
 ghost use Rattle.live_calls.specs.Holds.{HasRest};
+ghost use Rattle.live_calls.specs.Calls.{IsReady};
 ghost use Rattle.live_updates.specs.inner.Updates.{IsUpdate, IsSet, Updated, missed_by};
 
 use live_calls::held::{lock_node, unlock_same};
+use live_calls::link::Room;
 use live_calls::way::{Nodes, Pass, byte_at, words_at};
 use live_cells::words::{Draft, Drafted};
 use live_detach::detach::is_empty;
@@ -249,22 +251,22 @@ pub fn exchange_here<U: Updates>(
     key: u64,
     old: Option<u64>,
     new: Option<u64>,
+    room: &mut Room,
     pass: &mut Pass,
 ) -> Option<Missed>
     requires book { pass.old.book ≡ nodes.now }
     requires asks { (U.update.key ≡ key) × (U.update.caller ≡ pass.old.id) }
     requires values { (U.update.old ≡ old) × (U.update.new ≡ new) }
     requires legal { IsUpdate U.update }
-    requires trunk { KnowsTrunk pass.old.view }
+    requires ready { IsReady pass.old.view room.old }
     requires named { Names pass.old.view name key 1 }
-    requires rests { (pass.old.view.client.own ≡ []) × (pass.old.view.holds ≡ []) }
     ensures told { (pass.new.book ≡ pass.old.book) × (pass.new.id ≡ pass.old.id)
-        × Keeps pass.old.view pass.new.view
+        × IsReady pass.new.view room.new
         × Updated U.update result pass.old.view pass.new.view }
 {
     match update_leaf::<U>(nodes, name, key, old, new, pass) {
         Ok(true) => {
-            tidy(nodes, key, pass);
+            tidy(nodes, key, room, pass);
             None
         }
         Ok(false) => None,

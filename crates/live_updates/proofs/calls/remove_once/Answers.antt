@@ -1,6 +1,5 @@
 use Rattle.std.proofs.Common.{rules, sym, subst, ℕ, Some, None, IsSome, ◌≡◌, ◌∙◌}
 use Rattle.std.specs.Option.{option_map}
-use Rattle.live_nodes.specs.Seats.{place}
 use Rattle.live_calls.proofs.Ready.{ready_kept}
 use Rattle.live_updates.specs.Entries.{removed}
 use Rattle.live_updates.specs.declared.lookup.Site.TheVariants as sites
@@ -23,7 +22,7 @@ returns-in_err-seek c =
     let none : c.seek.result ≡ None = search rules in
     let out : c.from_residual.result ≡ None = search rules in
     let same = no_more (lookup_of id key (removal id key)) c.seek.result v w none t.3 in
-    record { told = (t.0, t.1, (λ m r. ready_kept v w m r t.2), subst (λ z. EndsBy id (option_map (removed id key) z) v w) (sym out) same) }
+    record { told = (t.0, t.1, ready_kept v w c.args.room.now c.requires.ready t.2, subst (λ z. EndsBy id (option_map (removed id key) z) v w) (sym out) same) }
 
 pub returns-in-Absent : goal.returns-in-Absent
 returns-in-Absent c =
@@ -33,10 +32,10 @@ returns-in-Absent c =
     let id = c.args.pass.now.id in
     let key = c.args.key in
     let absent : c.seek.result ≡ Some sites.Absent = search rules in
-    record { told = (t.0, t.1, (λ m r. ready_kept v w m r t.2), at_none (lookup_of id key (removal id key)) c.seek.result v w absent t.3) }
+    record { told = (t.0, t.1, ready_kept v w c.args.room.now c.requires.ready t.2, at_none (lookup_of id key (removal id key)) c.seek.result v w absent t.3) }
 
-pub exchange_here-requires-clause-trunk : goal.exchange_here-requires-clause-trunk
-exchange_here-requires-clause-trunk c = c.seek.ensures.told.2.places (place 0 1 1) c.requires.trunk
+pub exchange_here-requires-clause-ready : goal.exchange_here-requires-clause-ready
+exchange_here-requires-clause-ready c = ready_kept c.args.pass.now.view c.seek.new.pass.view c.args.room.now c.requires.ready c.seek.ensures.told.2
 
 pub exchange_here-requires-clause-legal : goal.exchange_here-requires-clause-legal
 exchange_here-requires-clause-legal c = removal_update c.seek.new.pass.id c.args.key c.in-At.value
@@ -56,7 +55,7 @@ returns-then-is_some c =
     let some_missed : IsSome c.exchange_here.result = search rules in
     let later = c.seek.new.pass.id in
     let missed = missed_same (update_of later key (Some value) None (removed later key (Some value))) c.exchange_here.result w u some_missed e.3 in
-    record { told = (e.0 ∙ t.0, e.1 ∙ t.1, (λ m r. ready_kept w u m (ready_kept v w m r t.2) e.2), missed ∙ same) }
+    record { told = (e.0 ∙ t.0, e.1 ∙ t.1, e.2, missed ∙ same) }
 
 pub returns-else-is_some : goal.returns-else-is_some
 returns-else-is_some c =
@@ -77,7 +76,7 @@ returns-else-is_some c =
       told = (
         e.0 ∙ t.0,
         e.1 ∙ t.1,
-        (λ m r. ready_kept w u m (ready_kept v w m r t.2) e.2),
+        e.2,
         answers_from later id (λ (z : ℕ). removed z key (Some value)) w.client.seen v.client.seen u.client.seen t.1 same answers,
       );
     }
