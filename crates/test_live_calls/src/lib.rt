@@ -4,6 +4,8 @@
 #[cfg(test)]
 mod again;
 #[cfg(test)]
+mod detached;
+#[cfg(test)]
 mod exchanges;
 #[cfg(test)]
 mod tests;

@@ -1,5 +1,5 @@
 -- UPDATES of a key: it has another value then, or none.
-use Rattle.std.specs.Prelude.{◌≡◌, ℕ, nat_eq, List, [], ◌∷◌, ◌++◌, Option, Some, None}
+use Rattle.std.specs.Prelude.{◌≡◌, ℕ, nat_eq, List, [], ◌∷◌, ◌++◌, Option, Some, None, Result, Ok, Err}
 use Rattle.node_table.specs.TableNode.{TableNode, Child}
 use Rattle.node_table.specs.declared.child.Child.TheVariants.{Payload}
 use Rattle.spec_map.specs.Map.{Pairs, lookup, with_answer}
@@ -45,6 +45,11 @@ pub record HasUpdated (u : Update) (v w : View) : Type 0 where
 
 abbrev pub Writes : Update → View → ℕ → Content → View → Type 0
 Writes u v k c w = HasUpdated u v w
+
+-- why nothing was written, if so
+abbrev pub missed_by : {A : Type 0} → Result A Missed → Option Missed
+missed_by (Ok a) = None
+missed_by (Err missed) = Some missed
 
 -- The call has ended, or the seat has seen no more.
 abbrev pub Updated : Update → Option Missed → SeatView View → SeatView View → Type 0
