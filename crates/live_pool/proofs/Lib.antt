@@ -1,0 +1,3 @@
+pub mod Successions
+pub mod Lists
+pub mod Informed

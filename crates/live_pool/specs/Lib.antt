@@ -1,0 +1,2 @@
+pub mod Successions
+pub mod Pools
