@@ -8,4 +8,5 @@
 #![tactic(auto)]
 
 pub mod pool;
+mod slot;
 pub mod succession;

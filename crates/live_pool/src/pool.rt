@@ -2,11 +2,12 @@
 //!
 //! Nobody waits. A list is taken out of its slot by one step, and put back by another. Who finds each list taken looks again a
 //! bounded number of times, and then goes without.
-ghost use Rattle.std.specs.Prelude.{◌≡◌, ◌⊎◌, [], IfOk, IfSome, IfErr};
+ghost use Rattle.std.specs.Prelude.{◌≡◌, [], IfOk, IfSome};
 ghost use Rattle.live_pool.specs.Pools.{AreOf, AreFor};
 
+use crate::slot::swap;
 use crate::succession::succeed;
-use counted_slot::{Counted, FREE, Fits, MARKED, PRESENT, TAKEN};
+use counted_slot::{Counted, FREE, Fits, MARKED, PRESENT};
 use live_calls::map::{Congee, Guard};
 use std::alloc::{AllocError, Global};
 use std::hint::spin_loop;
@@ -64,22 +65,6 @@ fn free_slots(alloc: Global, map: &Congee) -> Result<Vec<Counted<Left>>, AllocEr
         slots.push(Counted::new(Left { guards }, map))?;
     }
     Ok(slots)
-}
-
-// Puts a list into a slot whose word is `old`, and leaves it `new`. The list comes back where the word is another.
-fn fill(slot: &Counted<Left>, old: u64, left: Left, new: u64) -> Result<(), Left>
-    requires old { (old ≡ 0) ⊎ (old ≡ 2) }
-    requires new { (new ≡ 0) ⊎ (new ≡ 1) }
-    requires left { AreOf slot.now left.guards.items }
-    ensures { IfErr result (λ back. AreOf slot.now back.guards.items) }
-{
-    let (found, claim) = slot.turn(old, TAKEN);
-    if found != old {
-        claim.done();
-        return Err(left);
-    }
-    drop(claim.put(left, new));
-    Ok(())
 }
 
 impl Pool {
@@ -153,15 +138,12 @@ impl Pool {
     {
         for at in 0..self.slots.len() {
             let slot = &self.slots[at];
-            if slot.load() != PRESENT {
-                continue;
-            }
-            let (found, claim) = slot.turn(PRESENT, TAKEN);
-            if found == PRESENT {
+            if slot.load() == PRESENT {
                 let guards = Vec::new(self.alloc);
-                return Some((at, claim.put(Left { guards }, MARKED)));
+                if let Ok(left) = swap(slot, PRESENT, Left { guards }, MARKED) {
+                    return Some((at, left));
+                }
             }
-            claim.done();
         }
         None
     }
@@ -176,7 +158,7 @@ impl Pool {
             PRESENT
         };
         if let Some(slot) = self.slots.get(at) {
-            drop(fill(slot, MARKED, left, word));
+            drop(swap(slot, MARKED, left, word));
         }
     }
 
@@ -188,8 +170,8 @@ impl Pool {
         for at in 0..self.slots.len() {
             let slot = &self.slots[at];
             if slot.load() == FREE {
-                match fill(slot, FREE, left, PRESENT) {
-                    Ok(()) => return,
+                match swap(slot, FREE, left, PRESENT) {
+                    Ok(_) => return,
                     Err(back) => left = back,
                 }
             }
