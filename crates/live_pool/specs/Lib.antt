@@ -1,2 +1,3 @@
 pub mod Successions
 pub mod Pools
+pub mod Stocks

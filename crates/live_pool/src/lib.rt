@@ -9,4 +9,5 @@
 
 pub mod pool;
 mod slot;
+pub mod stock;
 pub mod succession;
