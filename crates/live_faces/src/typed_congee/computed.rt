@@ -30,7 +30,7 @@ impl<K: Word, V: Word> Congee<K, V> {
             (K.number key) (λ current. sum_with current number) before guard.new) }
         ensures refused { OnErr result (guard.new ≡ guard.old) }
     {
-        let before = present::add(&self.numbers, alloc, guard, key.into_u64(), number)?;
+        let before = present::add(&self.pool.map, alloc, guard, key.into_u64(), number)?;
         Ok(read_back(before))
     }
 
@@ -77,7 +77,7 @@ impl<K: Word, V: Word> Congee<K, V> {
         ensures refused { OnErr result (guard.new ≡ guard.old) }
     {
         let found = present::get_or_insert(
-            &self.numbers,
+            &self.pool.map,
             alloc,
             guard,
             key.into_u64(),

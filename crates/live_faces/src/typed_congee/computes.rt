@@ -35,7 +35,7 @@ impl<K: Word, V: Word> Congee<K, V> {
             (state : F) × F.step state pair.0 pair.1 f.new)) }
         ensures busy { OnErr result (guard.new ≡ guard.old) }
     {
-        present::compute_if_present(&self.numbers, guard, key.into_u64(), f)
+        present::compute_if_present(&self.pool.map, guard, key.into_u64(), f)
     }
 
     /// The same, which pauses where `try_compute_if_present` is busy, and goes on.
@@ -84,7 +84,7 @@ impl<K: Word, V: Word> Congee<K, V> {
             (K.number key) before guard.new) }
         ensures refused { OnErr result (guard.new ≡ guard.old) }
     {
-        let number = present::compute_or_insert(&self.numbers, alloc, guard, key.into_u64(), f)?;
+        let number = present::compute_or_insert(&self.pool.map, alloc, guard, key.into_u64(), f)?;
         Ok(read_back(number))
     }
 

@@ -29,7 +29,7 @@ impl<K: Word, V: Word> Congee<K, V> {
             (removed guard.old.caller (K.number key.now)) before guard.new) }
         ensures busy { OnErr result (guard.new ≡ guard.old) }
     {
-        let number = calls::remove(&self.numbers, guard, key.into_u64())?;
+        let number = calls::remove(&self.pool.map, guard, key.into_u64())?;
         Ok(read_back(number))
     }
 
@@ -68,7 +68,7 @@ impl<K: Word, V: Word> Congee<K, V> {
     {
         let wanted = numbered(&new);
         let answer = calls::compare_exchange(
-            &self.numbers,
+            &self.pool.map,
             guard,
             key.into_u64(),
             old.into_u64(),

@@ -1,0 +1,180 @@
+//! The map, and lists of guards in slots.
+//!
+//! Nobody waits. A list is taken out of its slot by one step, and put back by another. Who finds each list taken looks again a
+//! bounded number of times, and then goes without.
+ghost use Rattle.std.specs.Prelude.{◌≡◌, [], IfOk, IfSome};
+ghost use Rattle.live_pool.specs.Pools.{AreOf, AreFor};
+
+use crate::slot::swap;
+use crate::succession::succeed;
+use counted_slot::{Counted, FREE, Fits, MARKED, PRESENT};
+use live_calls::map::{Congee, Guard};
+use std::alloc::{AllocError, Global};
+use std::hint::spin_loop;
+use std::marker::Model;
+
+/// How many lists there may be.
+const SLOTS: usize = 8;
+
+/// How often a list is looked for, where each is taken.
+const LOOKS: u32 = 100;
+
+/// A list of guards of one map.
+#[derive(Drop)]
+pub struct Left {
+    guards: Vec<Guard>,
+}
+
+impl Fits for Left {
+    ghost use Rattle.live_pool.specs.Pools.{AreOf};
+
+    type Tag = Congee;
+
+    ghost fits = { λ book left. AreOf book left.guards.items };
+}
+
+/// A map, and guards of it that were given back.
+#[derive(Drop)]
+pub struct Pool {
+    /// The map.
+    pub map: Congee,
+    slots: Vec<Counted<Left>>,
+    alloc: Global,
+}
+
+impl Model for Pool {
+    ghost use Rattle.word_book.specs.Book.{Book, book_coded};
+    ghost use Rattle.live_pool.specs.Pools.{AreFor};
+
+    ghost Value = { Book };
+
+    ghost coded = { book_coded };
+
+    ghost view = { λ p. p.map };
+
+    ghost invariant = { λ p. AreFor p.map p.slots.items };
+}
+
+// So many slots for guards of this map, each with an empty list.
+fn free_slots(alloc: Global, map: &Congee) -> Result<Vec<Counted<Left>>, AllocError>
+    ensures { IfOk result (λ slots. AreFor map.now slots.items) }
+{
+    let mut slots = Vec::with_capacity(alloc, SLOTS)?;
+    for _ in 0..SLOTS {
+        let guards = Vec::new(alloc);
+        slots.push(Counted::new(Left { guards }, map))?;
+    }
+    Ok(slots)
+}
+
+impl Pool {
+    /// An empty map. It has a root of 2,104 bytes, and the slots.
+    pub fn new(alloc: Global) -> Result<Pool, AllocError> {
+        let map = Congee::new(alloc)?;
+        let slots = free_slots(alloc, &map)?;
+        Ok(Pool { map, slots, alloc })
+    }
+
+    /// A guard that has seen nothing. It has the room of one that was given back, if there is one.
+    pub fn pin(&self) -> Guard
+        ensures { (result.book ≡ self.now) × (result.seen ≡ []) }
+    {
+        let mut guard = self.map.pin();
+        if let Some(from) = self.next() {
+            succeed(from, &mut guard);
+        }
+        guard
+    }
+
+    /// Gives a guard back. If it has room for nodes, the next one gets that.
+    pub fn unpin(&self, guard: Guard)
+        requires map { guard.book ≡ self.now }
+    {
+        if guard.room.left == 0 {
+            return;
+        }
+        if let Some((at, mut left)) = self.take() {
+            drop(left.guards.push(guard));
+            self.put_back(at, left);
+            return;
+        }
+        let mut guards = Vec::new(self.alloc);
+        if guards.push(guard).is_ok() {
+            self.add(Left { guards });
+        }
+    }
+
+    // A guard that was given back.
+    fn next(&self) -> Option<Guard>
+        ensures { IfSome result (λ guard. guard.book ≡ self.now) }
+    {
+        for _ in 0..LOOKS {
+            if let Some((at, mut left)) = self.take() {
+                let guard = left.guards.pop();
+                self.put_back(at, left);
+                return guard;
+            }
+            if !self.is_used() {
+                return None;
+            }
+            spin_loop();
+        }
+        None
+    }
+
+    // Whether there is a list, in its slot or taken.
+    fn is_used(&self) -> bool {
+        for i in 0..self.slots.len() {
+            if self.slots[i].load() != FREE {
+                return true;
+            }
+        }
+        false
+    }
+
+    // A list, and the slot that it was taken out of. The slot is marked, so that others leave it alone.
+    fn take(&self) -> Option<(usize, Left)>
+        ensures { IfSome result (λ taken. AreOf self.now taken.1.guards.items) }
+    {
+        for at in 0..self.slots.len() {
+            let slot = &self.slots[at];
+            if slot.load() == PRESENT {
+                let guards = Vec::new(self.alloc);
+                if let Ok(left) = swap(slot, PRESENT, Left { guards }, MARKED) {
+                    return Some((at, left));
+                }
+            }
+        }
+        None
+    }
+
+    // Puts a list back into its slot. An empty one leaves the slot free.
+    fn put_back(&self, at: usize, left: Left)
+        requires { AreOf self.now left.guards.items }
+    {
+        let word = if left.guards.is_empty() {
+            FREE
+        } else {
+            PRESENT
+        };
+        if let Some(slot) = self.slots.get(at) {
+            drop(swap(slot, MARKED, left, word));
+        }
+    }
+
+    // Puts a new list into a free slot. Where none is free it is dropped: nobody uses the words of its guards then.
+    fn add(&self, left: Left)
+        requires { AreOf self.now left.guards.items }
+    {
+        let mut left = left;
+        for at in 0..self.slots.len() {
+            let slot = &self.slots[at];
+            if slot.load() == FREE {
+                match swap(slot, FREE, left, PRESENT) {
+                    Ok(_) => return,
+                    Err(back) => left = back,
+                }
+            }
+        }
+    }
+}

@@ -1,0 +1,5 @@
+//! Tests of the map with guards that were given back.
+#![tactic(auto)]
+
+#[cfg(test)]
+mod rooms;
