@@ -13,12 +13,10 @@ ghost use Rattle.live_scans.specs.Scans.{EntersNothing, HasPage, HasNext};
 ghost use Rattle.live_floors.specs.Floors.{HasBefore};
 
 use live_calls::map::{Busy, Guard, Refusal};
-use live_computes::present;
 use live_floors::floors;
 use live_order::page::RangeEntry;
 use live_pool::pool::Pool;
 use live_scans::scans;
-use live_updates::calls;
 use spec_map::error::OOMError;
 use std::alloc::Global;
 use std::marker::Model;
@@ -94,7 +92,7 @@ impl Caller {
             (inserted (ask self.old.caller key value 1) old) self.new) }
         ensures refused { OnErr result (self.new ≡ self.old) }
     {
-        self.pool.map.insert(alloc, &mut self.guard, key, value)
+        self.pool.insert(alloc, &mut self.guard, key, value)
     }
 
     /// Removes a key, and returns the value that it had. Takes no memory. `Busy` if too many writers came in between: then
@@ -104,7 +102,7 @@ impl Caller {
             (removed self.old.caller key before) self.new) }
         ensures busy { OnErr result (self.new ≡ self.old) }
     {
-        calls::remove(&self.pool.map, &mut self.guard, key)
+        self.pool.remove(&mut self.guard, key)
     }
 
     /// Replaces a key's value by `new`, or removes the key for `None`, if the value is `old`. `Ok` with `new`, or `Err` with
@@ -121,7 +119,7 @@ impl Caller {
         ensures stored { IfOk result (λ answer. IfOk answer (λ stored. stored ≡ new)) }
         ensures busy { OnErr result (self.new ≡ self.old) }
     {
-        calls::compare_exchange(&self.pool.map, &mut self.guard, key, old, new)
+        self.pool.compare_exchange(&mut self.guard, key, old, new)
     }
 
     /// Gives an absent key a value. Returns the value of a present one, which no lock is taken for. Refusals are those of
@@ -136,7 +134,7 @@ impl Caller {
             (inserted_with self.old.caller key found (unwrap_or found value)) self.new) }
         ensures refused { OnErr result (self.new ≡ self.old) }
     {
-        present::get_or_insert(&self.pool.map, alloc, &mut self.guard, key, value)
+        self.pool.get_or_insert(alloc, &mut self.guard, key, value)
     }
 
     /// Adds a number to a key's value, modulo 2 to the 64. An absent key gets the number itself. Returns the value before.
@@ -146,7 +144,7 @@ impl Caller {
             (inserted_with self.old.caller key before (sum_with before number)) self.new) }
         ensures refused { OnErr result (self.new ≡ self.old) }
     {
-        present::add(&self.pool.map, alloc, &mut self.guard, key, number)
+        self.pool.add(alloc, &mut self.guard, key, number)
     }
 
     /// Writes the pairs with keys from `start` on and below `end` into the buffer, ascending, as many as there are or as fit,

@@ -82,9 +82,3 @@ ended_none look q v w is e = subst (λ (b : Bool). Ended b q None v w) is e
 ended_from : (look : Bool) (q : Ask) (u v w : Seen) → v.client.seen ≡ u.client.seen → Ended look q None v w → Ended look q None u w
 ended_from true q u v w e f = subst (λ (z : List (Entry ℕ)). Answers q.caller (got q None) z w.client.seen) e f
 ended_from false q u v w e f = f ∙ e
-
-pub follows_from : (look : Bool) (q : Ask) (u v w : Seen) (key height : ℕ) (o : Option Next) → v.client.seen ≡ u.client.seen → Follows (Ended look q None) v w key height o → Follows (Ended look q None) u w key height o
-follows_from look q u v w key height None e f = f ∙ e
-follows_from look q u v w key height (Some nexts.Ends) e f = ended_from look q u v w e f
-follows_from look q u v w key height (Some (nexts.Goes name h)) e f = (f.0 ∙ e, f.1, f.2, f.3)
-follows_from look q u v w key height (Some (nexts.Forks fork)) e f = (f.0 ∙ e, f.1)

@@ -5,6 +5,5 @@ pub mod Calls
 pub mod Holds
 pub mod Rooms
 pub mod Spares
-pub mod Exchanges
 pub mod Forks
 pub mod Meetings

@@ -177,24 +177,3 @@ pub fn step<'a, A: Asks>(
         }),
     }
 }
-
-/// What is next on a key's way. `None` where a writer came in between.
-pub fn follow<A: Asks>(
-    nodes: &Nodes,
-    name: u64,
-    height: usize,
-    key: u64,
-    pass: &mut Pass,
-) -> Option<Next>
-    requires book { pass.old.book ≡ nodes.now }
-    requires asks { (A.ask.key ≡ key) × (A.ask.caller ≡ pass.old.id) }
-    requires named { Names pass.old.view name key height }
-    requires height { (2 ≤ height) × (height ≤ 8) }
-    ensures told { (pass.new.book ≡ pass.old.book) × (pass.new.id ≡ pass.old.id)
-        × Keeps pass.old.view pass.new.view
-        × Follows (Ended A.reads A.ask None) pass.old.view pass.new.view key height result }
-{
-    let here = enter(nodes, name, height, key, pass)?;
-    let step = step::<A>(nodes, here, name, height, key, pass)?;
-    Some(step.next)
-}

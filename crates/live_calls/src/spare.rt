@@ -8,13 +8,15 @@ ghost use Rattle.live_calls.specs.Spares.{IsSpare, slot_of, with_slot, HasSpares
 use live_encodes::form::form_below;
 use node_base::base_node::NodeType;
 
-/// Names of nodes that are no part of the map and that nobody uses, one for each form. 0 for none.
+/// Names of nodes that are no part of the map and that nobody uses: one for each form, and a further one of any form. 0 for
+/// none.
 #[derive(Clone, Copy, Debug, PartialEq, Eq)]
 pub struct Spares {
     pub n4: u64,
     pub n16: u64,
     pub n48: u64,
     pub n256: u64,
+    pub more: u64,
 }
 
 impl Spares {
@@ -27,6 +29,7 @@ impl Spares {
             n16: 0,
             n48: 0,
             n256: 0,
+            more: 0,
         }
     }
 
@@ -65,17 +68,21 @@ impl Spares {
         if name == 0 { None } else { Some(name) }
     }
 
-    /// Keeps a node, where none of its form is kept. `false` where there is one.
+    /// Keeps a node: for its form, or where one is kept for that, as the further one. `false` where there is no place.
     pub fn keep(&mut self, name: u64) -> bool
         ensures kept { (v : SeatView View) → HasSpares v self.old → Sights v name
             → HasSpares v self.new }
     {
         let form = form_below(name);
-        if self.get(form) != 0 {
-            return false;
+        if self.get(form) == 0 {
+            self.set(form, name);
+            return true;
         }
-        self.set(form, name);
-        true
+        if self.more == 0 {
+            self.more = name;
+            return true;
+        }
+        false
     }
 
     /// Whether a node of each form is kept.

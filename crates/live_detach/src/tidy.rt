@@ -35,6 +35,9 @@ pub fn tidy(nodes: &Nodes, key: u64, room: &mut Room, pass: &mut Pass)
         × (pass.new.view.client.seen ≡ pass.old.view.client.seen) }
 {
     for _ in 0..7 {
+        if room.spare.more != 0 {
+            return;
+        }
         let Some(taken) = detach_one(nodes, key, pass) else {
             return;
         };

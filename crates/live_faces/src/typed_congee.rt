@@ -129,7 +129,6 @@ impl<K: Word, V: Word> Congee<K, V> {
     {
         let number = self
             .pool
-            .map
             .insert(alloc, guard, key.into_u64(), value.into_u64())?;
         Ok(read_back(number))
     }

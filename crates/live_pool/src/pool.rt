@@ -1,20 +1,30 @@
-//! The map, and lists of guards in slots.
+//! The map, guards that were given back, and nodes to use again.
 //!
-//! Nobody waits. A list is taken out of its slot by one step, and put back by another. Who finds each list taken looks again a
-//! bounded number of times, and then goes without.
+//! Nobody waits. What is in a slot is taken out by one step, and put back by another. Who finds each list of guards taken looks
+//! again a bounded number of times, and then goes without.
 ghost use Rattle.std.specs.Prelude.{◌≡◌, [], IfOk, IfSome};
 ghost use Rattle.live_pool.specs.Pools.{AreOf, AreFor};
 
 use crate::slot::swap;
+use crate::stock::{Stock, add_to, take_from};
 use crate::succession::succeed;
 use counted_slot::{Counted, FREE, Fits, MARKED, PRESENT};
 use live_calls::map::{Congee, Guard};
+use live_calls::spare::Spares;
+use live_encodes::form::{form_below, place_of};
+use node_base::base_node::NodeType;
 use std::alloc::{AllocError, Global};
 use std::hint::spin_loop;
 use std::marker::Model;
 
 /// How many lists there may be.
 const SLOTS: usize = 8;
+
+/// The forms of nodes, by their places.
+const FORMS: [NodeType; 4] = [NodeType::N4, NodeType::N16, NodeType::N48, NodeType::N256];
+
+/// How many words the largest node has.
+const LEAST: u64 = 263;
 
 /// How often a list is looked for, where each is taken.
 const LOOKS: u32 = 100;
@@ -33,12 +43,13 @@ impl Fits for Left {
     ghost fits = { λ book left. AreOf book left.guards.items };
 }
 
-/// A map, and guards of it that were given back.
+/// A map, guards of it that were given back, and nodes that any guard may use again.
 #[derive(Drop)]
 pub struct Pool {
     /// The map.
     pub map: Congee,
     slots: Vec<Counted<Left>>,
+    stocks: Vec<Counted<Stock>>,
     alloc: Global,
 }
 
@@ -52,7 +63,7 @@ impl Model for Pool {
 
     ghost view = { λ p. p.map };
 
-    ghost invariant = { λ p. AreFor p.map p.slots.items };
+    ghost invariant = { λ p. AreFor p.map p.slots.items × AreFor p.map p.stocks.items };
 }
 
 // So many slots for guards of this map, each with an empty list.
@@ -67,12 +78,92 @@ fn free_slots(alloc: Global, map: &Congee) -> Result<Vec<Counted<Left>>, AllocEr
     Ok(slots)
 }
 
+// A stock for each form, without nodes.
+fn no_stocks(alloc: Global, map: &Congee) -> Result<Vec<Counted<Stock>>, AllocError>
+    ensures { IfOk result (λ stocks. AreFor map.now stocks.items) }
+{
+    let mut stocks = Vec::with_capacity(alloc, FORMS.len())?;
+    for _ in 0..FORMS.len() {
+        stocks.push(Counted::new(Stock::none(map, alloc), map))?;
+    }
+    Ok(stocks)
+}
+
 impl Pool {
-    /// An empty map. It has a root of 2,104 bytes, and the slots.
+    /// An empty map. It has a root of 2,104 bytes, the slots and the stocks.
     pub fn new(alloc: Global) -> Result<Pool, AllocError> {
         let map = Congee::new(alloc)?;
         let slots = free_slots(alloc, &map)?;
-        Ok(Pool { map, slots, alloc })
+        let stocks = no_stocks(alloc, &map)?;
+        Ok(Pool {
+            map,
+            slots,
+            stocks,
+            alloc,
+        })
+    }
+
+    /// To be called before a call that may insert: a guard with few words left gets nodes of the stocks. Where its room begins.
+    pub fn ready(&self, guard: &mut Guard) -> u64
+        requires map { guard.old.book ≡ self.now }
+        ensures { guard.new ≡ guard.old }
+    {
+        if guard.room.left < LEAST && !guard.room.spare.is_full() {
+            self.supply(guard);
+        }
+        guard.room.start
+    }
+
+    /// To be called after a call that may insert or remove, with where the room began before it. A node too many goes to the
+    /// stock of its form. A guard that had no node of a form and used words of its room gets those of the stocks.
+    pub fn settle(&self, guard: &mut Guard, start: u64)
+        requires map { guard.old.book ≡ self.now }
+        ensures { guard.new ≡ guard.old }
+    {
+        if guard.room.spare.more != 0 {
+            self.leave(guard);
+        }
+        if guard.room.start != start {
+            self.supply(guard);
+        }
+    }
+
+    // The guard's further node goes to the stock of its form.
+    fn leave(&self, guard: &mut Guard)
+        requires map { guard.old.book ≡ self.now }
+        ensures { guard.new ≡ guard.old }
+    {
+        let name = guard.room.spare.more;
+        let Some(slot) = self.stocks.get(place_of(form_below(name)) as usize) else {
+            return;
+        };
+        if add_to(slot, &self.map, self.alloc, name, &mut guard.pass) {
+            guard.room.spare.more = 0;
+        }
+    }
+
+    // A node of each form that the guard has none of, if there is one.
+    fn supply(&self, guard: &mut Guard)
+        requires map { guard.old.book ≡ self.now }
+        ensures { guard.new ≡ guard.old }
+    {
+        for form in FORMS {
+            if guard.room.spare.get(form) == 0 {
+                self.supply_one(guard, form);
+            }
+        }
+    }
+
+    fn supply_one(&self, guard: &mut Guard, form: NodeType)
+        requires map { guard.old.book ≡ self.now }
+        ensures { guard.new ≡ guard.old }
+    {
+        let Some(slot) = self.stocks.get(place_of(form) as usize) else {
+            return;
+        };
+        if let Some(name) = take_from(slot, &self.map, self.alloc, &mut guard.pass) {
+            let _ = guard.room.spare.keep(name);
+        }
     }
 
     /// A guard that has seen nothing. It has the room of one that was given back, if there is one.
@@ -86,11 +177,11 @@ impl Pool {
         guard
     }
 
-    /// Gives a guard back. If it has room for nodes, the next one gets that.
+    /// Gives a guard back. If it has room for nodes, or nodes to use again, the next one gets that.
     pub fn unpin(&self, guard: Guard)
         requires map { guard.book ≡ self.now }
     {
-        if guard.room.left == 0 {
+        if guard.room.left == 0 && guard.room.spare == Spares::none() {
             return;
         }
         if let Some((at, mut left)) = self.take() {

@@ -46,12 +46,13 @@ pub fn inform(a: &mut Pass, b: &mut Pass)
     a.meet::<Information>(b)
 }
 
-/// The room of a guard that ends is the other guard's from then on, whose own is lost. That one learns nothing.
+/// What a guard that ends has for new nodes is the other guard's from then on, whose own is lost. That one has seen no more.
 pub fn succeed(from: Guard, to: &mut Guard)
     requires book { from.book ≡ to.old.book }
     ensures { to.new ≡ to.old }
 {
     let Guard { mut pass, room } = from;
+    inform(&mut pass, &mut to.pass);
     hand_over(&mut pass, &mut to.pass);
     to.room = room;
     drop(pass);

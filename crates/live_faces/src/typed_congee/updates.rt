@@ -6,7 +6,6 @@ ghost use Rattle.live_faces.specs.Returned.{ReturnsOld, ReturnsExchanged};
 
 use super::{Busy, Congee, Guard, read_back};
 use crossbeam_utils::Backoff;
-use live_updates::calls;
 use spec_map::traits::Word;
 use std::sync::Wait;
 
@@ -29,7 +28,7 @@ impl<K: Word, V: Word> Congee<K, V> {
             (removed guard.old.caller (K.number key.now)) before guard.new) }
         ensures busy { OnErr result (guard.new ≡ guard.old) }
     {
-        let number = calls::remove(&self.pool.map, guard, key.into_u64())?;
+        let number = self.pool.remove(guard, key.into_u64())?;
         Ok(read_back(number))
     }
 
@@ -67,13 +66,9 @@ impl<K: Word, V: Word> Congee<K, V> {
         ensures busy { OnErr result (guard.new ≡ guard.old) }
     {
         let wanted = numbered(&new);
-        let answer = calls::compare_exchange(
-            &self.pool.map,
-            guard,
-            key.into_u64(),
-            old.into_u64(),
-            wanted,
-        )?;
+        let answer = self
+            .pool
+            .compare_exchange(guard, key.into_u64(), old.into_u64(), wanted)?;
         match answer {
             Ok(_) => Ok(Ok(new)),
             Err(current) => Ok(Err(read_back(current))),

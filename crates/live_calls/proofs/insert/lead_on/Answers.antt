@@ -14,7 +14,7 @@ pub link_again-requires-clause-spare : goal.link_again-requires-clause-spare
 link_again-requires-clause-spare c =
     let some : c.get-spare.result ≢ 0 = search rules in
     let kept = c.get-spare.ensures in
-    subst (Sights c.args.pass.now.view) (sym kept) (c.requires.ready.spare N4 (omega (arith, kept, some))).sighted
+    subst (Sights c.args.pass.now.view) (sym kept) (c.requires.ready.spare.0 N4 (omega (arith, kept, some))).sighted
 
 pub returns : goal.returns
 returns c =

@@ -14,7 +14,7 @@ pub split_again-requires-clause-spare : goal.split_again-requires-clause-spare
 split_again-requires-clause-spare c =
     let some : c.get-spare.result ≢ 0 = search rules in
     let kept = c.get-spare.ensures in
-    subst (Sights c.args.pass.now.view) (sym kept) (c.requires.ready.spare N4 (omega (arith, kept, some))).sighted
+    subst (Sights c.args.pass.now.view) (sym kept) (c.requires.ready.spare.0 N4 (omega (arith, kept, some))).sighted
 
 pub returns : goal.returns
 returns c =
@@ -23,5 +23,5 @@ returns c =
     let some : c.get-spare.result ≢ 0 = search rules in
     let kept = c.get-spare.ensures in
     let v = c.args.pass.now.view in
-    let sighted = subst (Sights v) (sym kept) (c.requires.ready.spare N4 (omega (arith, kept, some))).sighted in
+    let sighted = subst (Sights v) (sym kept) (c.requires.ready.spare.0 N4 (omega (arith, kept, some))).sighted in
     record { told = (t.0, t.1, ready_again_met v l.pass.view c.args.room.now l.spares c.get-spare.result c.requires.ready t.2 t.3 sighted c.split_again.ensures.spares, t.2.seen) }

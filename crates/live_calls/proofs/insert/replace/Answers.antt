@@ -13,7 +13,7 @@ pub widen_again-requires-clause-spare : goal.widen_again-requires-clause-spare
 widen_again-requires-clause-spare c =
     let some : c.get-spare.result ≢ 0 = search rules in
     let kept = c.get-spare.ensures in
-    subst (Sights c.args.pass.now.view) (sym kept) (c.requires.ready.spare c.next_of.result (omega (arith, kept, some))).sighted
+    subst (Sights c.args.pass.now.view) (sym kept) (c.requires.ready.spare.0 c.next_of.result (omega (arith, kept, some))).sighted
 
 pub returns : goal.returns
 returns c =

@@ -20,6 +20,8 @@ returns-clause-stock c =
     let t = c.inform.ensures.told in
     let v = c.args.pass.now.view in
     let w = c.args.self.now.keeper.view in
-    let u = c.inform.new.b.view in
-    (c.inform.ensures.second.0, subst (Each (Sights u)) (sym c.push.ensures.items)
-    (added u c.args.self.now.names.items c.args.name (is_ok c.push.result) (each_own w v u t.1 c.args.self.now.names.items c.requires.stock) (sights_others w v u t.1 c.args.name c.requires.met)))
+    let u = c.inform.new.b.view in (
+      c.inform.ensures.second.0,
+      subst (Each (Sights u)) (sym c.push.ensures.items)
+          (added u c.args.self.now.names.items c.args.name (is_ok c.push.result) (each_own w v u t.1 c.args.self.now.names.items c.requires.stock) (sights_others w v u t.1 c.args.name c.requires.met)),
+    )
