@@ -28,9 +28,9 @@ impl Pool {
             (inserted (ask guard.old.caller key value 1) old) guard.new) }
         ensures refused { OnErr result (guard.new ≡ guard.old) }
     {
-        let start = self.ready(guard);
+        let before = self.ready(guard);
         let done = self.map.insert(alloc, guard, key, value);
-        self.settle(guard, start);
+        self.settle(guard, before);
         done
     }
 
@@ -41,9 +41,9 @@ impl Pool {
             (removed guard.old.caller key before) guard.new) }
         ensures busy { OnErr result (guard.new ≡ guard.old) }
     {
-        let start = guard.room.start;
+        let before = guard.room;
         let done = calls::remove(&self.map, guard, key);
-        self.settle(guard, start);
+        self.settle(guard, before);
         done
     }
 
@@ -62,9 +62,9 @@ impl Pool {
         ensures stored { IfOk result (λ answer. IfOk answer (λ stored. stored ≡ new)) }
         ensures busy { OnErr result (guard.new ≡ guard.old) }
     {
-        let start = guard.room.start;
+        let before = guard.room;
         let done = calls::compare_exchange(&self.map, guard, key, old, new);
-        self.settle(guard, start);
+        self.settle(guard, before);
         done
     }
 
@@ -81,9 +81,9 @@ impl Pool {
             (inserted_with guard.old.caller key found (unwrap_or found value)) guard.new) }
         ensures refused { OnErr result (guard.new ≡ guard.old) }
     {
-        let start = self.ready(guard);
+        let before = self.ready(guard);
         let done = present::get_or_insert(&self.map, alloc, guard, key, value);
-        self.settle(guard, start);
+        self.settle(guard, before);
         done
     }
 
@@ -100,9 +100,9 @@ impl Pool {
             (inserted_with guard.old.caller key before (sum_with before number)) guard.new) }
         ensures refused { OnErr result (guard.new ≡ guard.old) }
     {
-        let start = self.ready(guard);
+        let before = self.ready(guard);
         let done = present::add(&self.map, alloc, guard, key, number);
-        self.settle(guard, start);
+        self.settle(guard, before);
         done
     }
 
@@ -124,9 +124,9 @@ impl Pool {
             (state : F) × F.step state pair.0 pair.1 f.new)) }
         ensures busy { OnErr result (guard.new ≡ guard.old) }
     {
-        let start = guard.room.start;
+        let before = guard.room;
         let done = present::compute_if_present(&self.map, guard, key, f);
-        self.settle(guard, start);
+        self.settle(guard, before);
         done
     }
 
@@ -147,9 +147,9 @@ impl Pool {
             × ((state : F) × F.step state before new f.new)) }
         ensures refused { OnErr result (guard.new ≡ guard.old) }
     {
-        let start = self.ready(guard);
+        let before = self.ready(guard);
         let done = present::compute_or_insert(&self.map, alloc, guard, key, f);
-        self.settle(guard, start);
+        self.settle(guard, before);
         done
     }
 }

@@ -9,6 +9,7 @@ use crate::slot::swap;
 use crate::stock::{Stock, add_to, take_from};
 use crate::succession::succeed;
 use counted_slot::{Counted, FREE, Fits, MARKED, PRESENT};
+use live_calls::link::Room;
 use live_calls::map::{Congee, Guard};
 use live_calls::spare::Spares;
 use live_encodes::form::{form_below, place_of};
@@ -103,29 +104,30 @@ impl Pool {
         })
     }
 
-    /// To be called before a call that may insert: a guard with few words left gets nodes of the stocks. Where its room begins.
-    pub fn ready(&self, guard: &mut Guard) -> u64
+    /// To be called before a call that may insert: a guard with few words left gets nodes of the stocks. What it has then.
+    pub fn ready(&self, guard: &mut Guard) -> Room
         requires map { guard.old.book ≡ self.now }
         ensures { guard.new ≡ guard.old }
     {
         if guard.room.left < LEAST && !guard.room.spare.is_full() {
             self.supply(guard);
         }
-        guard.room.start
+        guard.room
     }
 
-    /// To be called after a call that may insert or remove, with where the room began before it. A node too many goes to the
-    /// stock of its form. A guard that had no node of a form and used words of its room gets those of the stocks.
-    pub fn settle(&self, guard: &mut Guard, start: u64)
+    /// To be called after a call that may insert or remove, with what the guard had before it. If it made nodes or took some
+    /// out, one too many goes to the stock of its form, and of those that it has none of it gets one.
+    pub fn settle(&self, guard: &mut Guard, before: Room)
         requires map { guard.old.book ≡ self.now }
         ensures { guard.new ≡ guard.old }
     {
+        if guard.room == before {
+            return;
+        }
         if guard.room.spare.more != 0 {
             self.leave(guard);
         }
-        if guard.room.start != start {
-            self.supply(guard);
-        }
+        self.supply(guard);
     }
 
     // The guard's further node goes to the stock of its form.

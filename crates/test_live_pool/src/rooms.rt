@@ -25,7 +25,7 @@ fn has_stored(map: &Pool, alloc: Global, guard: &mut Guard, key: u64) -> bool
     requires { guard.old.book ≡ map.now }
     ensures { guard.new.book ≡ map.now }
 {
-    let before = map.map.insert(alloc, guard, key, key ^ 3);
+    let before = map.insert(alloc, guard, key, key ^ 3);
     before == Ok(None) && map.map.get(guard, key) == Ok(Some(key ^ 3))
 }
 
@@ -152,5 +152,88 @@ fn threads_share_rooms(rt: HostRuntime) -> Result<(), Fail> {
     }
     // (a thread that finds the other at the list goes without now and then)
     assert!(rt; rooms(&map, 1_000) < 100);
+    Ok(())
+}
+
+// Keys whose leaves are apart.
+const LEAVES: u64 = 16;
+
+// Stores keys in leaves of their own and removes them again: how many were there.
+fn come_and_go(map: &Pool, alloc: Global, guard: &mut Guard) -> u64
+    requires { guard.old.book ≡ map.now }
+    ensures { guard.new.book ≡ map.now }
+{
+    let mut there = 0u64;
+    for leaf in 0..LEAVES {
+        let _ = has_stored(map, alloc, guard, leaf.wrapping_mul(256));
+    }
+    for leaf in 0..LEAVES {
+        let key = leaf.wrapping_mul(256);
+        if map.remove(guard, key) == Ok(Some(key ^ 3)) {
+            there = there.wrapping_add(1);
+        }
+    }
+    there
+}
+
+// A new guard stores keys in leaves of their own: how many it has stored, and its room.
+fn by_another(map: &Pool, alloc: Global) -> (u64, Room) {
+    let mut guard = map.pin();
+    let mut stored = 0u64;
+    for leaf in 0..LEAVES {
+        let key = leaf.wrapping_mul(256).wrapping_add(1);
+        if has_stored(map, alloc, &mut guard, key) {
+            stored = stored.wrapping_add(1);
+        }
+    }
+    let room = guard.room;
+    (stored, room)
+}
+
+#[test]
+fn nodes_that_are_taken_out_are_the_next_of_any_guard(rt: HostRuntime) -> Result<(), Fail> {
+    let map = Pool::new(rt.alloc())?;
+    let mut guard = map.pin();
+    assert!(rt; come_and_go(&map, rt.alloc(), &mut guard) == LEAVES);
+    assert!(rt; guard.room.spare.n4 > 0 && guard.room.spare.more == 0);
+    let left = guard.room.left;
+    // It does so again with the same nodes.
+    assert!(rt; come_and_go(&map, rt.alloc(), &mut guard) == LEAVES);
+    assert!(rt; guard.room.left == left);
+    // Another guard has a segment of its own, the next larger one, and uses no more of it than for the one node that the first
+    // guard has kept.
+    let (stored, room) = by_another(&map, rt.alloc());
+    assert!(rt; stored == LEAVES);
+    assert!(rt;
+        room.start < START + COUNT + 16
+            && room.start.wrapping_add(room.left) == START + COUNT + 2 * COUNT
+    );
+    Ok(())
+}
+
+// A window of keys moves on by so many steps: how many keys came and went.
+fn move_on(map: &Pool, alloc: Global, guard: &mut Guard, steps: u64) -> u64
+    requires { guard.old.book ≡ map.now }
+    ensures { guard.new.book ≡ map.now }
+{
+    let mut moved = 0u64;
+    for step in 0..steps {
+        let came = has_stored(map, alloc, guard, step.wrapping_add(100));
+        let went = map.remove(guard, step);
+        if came && (step < 100 || went == Ok(Some(step ^ 3))) {
+            moved = moved.wrapping_add(1);
+        }
+    }
+    moved
+}
+
+#[test]
+fn a_window_that_moves_on_stays_in_its_room(rt: HostRuntime) -> Result<(), Fail> {
+    let map = Pool::new(rt.alloc())?;
+    let mut guard = map.pin();
+    assert!(rt; move_on(&map, rt.alloc(), &mut guard, 20_000) == 20_000);
+    let room = guard.room;
+    // (two leaves of the largest form, and one of each other form)
+    assert!(rt; room.start < START + COUNT);
     Ok(())
 }
