@@ -16,7 +16,7 @@
 
 enum { MOST = 64, WINDOW = 1000, TURNS = 100000 };
 
-static uint64_t steps = 2000000, threads = 4;
+static uint64_t steps = 300000, threads = 4;
 static _Atomic uint64_t taken;
 static uint64_t (*key_of)(uint64_t);
 
