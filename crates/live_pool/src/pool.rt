@@ -193,7 +193,7 @@ impl Pool {
         }
         let mut guards = Vec::new(self.alloc);
         if guards.push(guard).is_ok() {
-            self.add(Left { guards });
+            self.add_list(Left { guards });
         }
     }
 
@@ -256,7 +256,7 @@ impl Pool {
     }
 
     // Puts a new list into a free slot. Where none is free it is dropped: nobody uses the words of its guards then.
-    fn add(&self, left: Left)
+    fn add_list(&self, left: Left)
         requires { AreOf self.now left.guards.items }
     {
         let mut left = left;
