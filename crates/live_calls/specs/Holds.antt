@@ -37,7 +37,7 @@ pub record HasLocked (v w : SeatView View) (name key height free : ℕ) : Type 0
   pub small : free < 2 ^ 62
   pub apart : Each (IsApart names.spot.number) v.client.own
 
--- An obsolete node of that name was locked again. Once it is unlocked it is free by the version after this word.
+-- An obsolete node of that name was locked again. Its word is locked by the version of this one.
 pub record HasRegained (v w : SeatView View) (name free : ℕ) : Type 0 where
   pub spot : Spot
   pub named : name ≡ name_of spot.shape

@@ -48,7 +48,7 @@ pub fn lock_node(words: &[Cell], name: u64, height: usize, key: u64, pass: &mut 
     Some(free)
 }
 
-/// Locks an obsolete node again: the word before the one by which it is free once it is unlocked. `None` where it isn't obsolete.
+/// Locks an obsolete node again: the word that `unlock` takes. `None` where it isn't obsolete.
 pub fn regain(words: &[Cell], name: u64, pass: &mut Pass) -> Option<u64>
     requires words { AreNamed pass.old.book name words.now }
     requires sighted { Sights pass.old.view name }

@@ -73,7 +73,8 @@ pub fn descend(nodes: &Nodes, key: u64, pass: &mut Pass) -> Option<End>
     Some(End { stand, fork: None })
 }
 
-/// More room, where there is little, and not each form has a node to be used again. `false` where another thread is just making some.
+/// More room, where there is little, unless there is a node of each form to be used again. `false` where another thread is
+/// just making some.
 pub fn reserve(
     nodes: &Nodes,
     alloc: Global,

@@ -56,7 +56,7 @@ fn a_node_that_outgrew_its_form_is_the_next_of_that_form(rt: HostRuntime) -> Res
     assert!(rt; all_new(&map, rt.alloc(), &mut guard, 2 << 56, 4));
     assert!(rt; guard.room.start == start);
     assert!(rt; all_new(&map, rt.alloc(), &mut guard, 3 << 56, 1));
-    assert!(rt; guard.room.start == start + 7);
+    assert!(rt; guard.room.start.wrapping_sub(start) == 7);
     assert!(rt; all_found(&map, &mut guard, 0, 17));
     assert!(rt; all_found(&map, &mut guard, 1 << 56, 16));
     assert!(rt; all_found(&map, &mut guard, 2 << 56, 4));
@@ -74,7 +74,7 @@ fn a_fork_is_a_node_that_outgrew_its_form(rt: HostRuntime) -> Result<(), Fail> {
     let spare = guard.room.spare.n4;
     assert!(rt; spare != 0);
     assert!(rt; all_new(&map, rt.alloc(), &mut guard, (1 << 56) + (1 << 24), 1));
-    assert!(rt; guard.room.start == start + 7);
+    assert!(rt; guard.room.start.wrapping_sub(start) == 7);
     assert!(rt; guard.room.spare.n4 == 0);
     assert!(rt; all_found(&map, &mut guard, 1 << 56, 1));
     assert!(rt; all_found(&map, &mut guard, (1 << 56) + (1 << 24), 1));
