@@ -197,6 +197,29 @@ fn a_leaf_that_was_read_before_is_taken_out(rt: HostRuntime) -> Result<(), Fail>
     Ok(())
 }
 
+// Inserts and removes a key so many times, after a first time. How many words of its room the caller has used for that.
+fn used(map: &Congee, alloc: Global, key: u64, times: u32) -> u64 {
+    let mut guard = map.pin();
+    let _ = is_new(map, alloc, &mut guard, key);
+    let _ = is_gone(map, &mut guard, key);
+    let left = guard.room.left;
+    for _ in 0..times {
+        let _ = is_new(map, alloc, &mut guard, key);
+        let _ = is_gone(map, &mut guard, key);
+    }
+    left.wrapping_sub(guard.room.left)
+}
+
+// A caller's next leaf is the one that was taken out last.
+#[test]
+fn a_leaf_that_was_taken_out_is_used_again(rt: HostRuntime) -> Result<(), Fail> {
+    let map = Congee::new(rt.alloc())?;
+    for key in LEAF {
+        assert!(rt; used(&map, rt.alloc(), key, 10_000) == 0);
+    }
+    Ok(())
+}
+
 // Inserts and removes as many keys, one after another, so many times. Returns how often a key wasn't there.
 fn moved(map: &Congee, alloc: Global, step: u64, count: u32) -> u32 {
     let mut guard = map.pin();
