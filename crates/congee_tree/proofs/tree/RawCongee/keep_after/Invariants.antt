@@ -1,0 +1,4 @@
+use Rattle.congee_tree.proofs.tree.RawCongee.keep_after.Given as goal
+
+abbrev pub ghosts-keep_run : goal.ghosts-keep_run
+ghosts-keep_run g a = record { name = a.blank.name; parts = a.blank.parts }
