@@ -2,7 +2,7 @@
 //!
 //! Tested in `test_owned/bulk`.
 
-ghost use Rattle.std.specs.Prelude.{◌≡◌, ◌+◌, ◌<◌, ◌≤◌, ◌^◌, [], length, take, IfSome, IfNone, IfErr, OnOk, slice_get, IsSomeAnd, None, Some};
+ghost use Rattle.std.specs.Prelude.{◌≡◌, ◌↔◌, ◌+◌, ◌/◌, ◌<◌, ◌≤◌, ◌^◌, [], length, take, false, IfSome, IfNone, IfErr, IsTrue, OnOk, slice_get, IsSomeAnd, None, Some};
 ghost use Rattle.std.specs.List.{FoldsTo};
 ghost use Rattle.congee_tree.specs.Bulk.{outside, next_of, put_all, Retains};
 ghost use Rattle.spec_map.specs.Map.{Pairs, between};
@@ -27,6 +27,17 @@ fn start_after(last: Option<u64>) -> u64
     match last {
         None => 0,
         Some(key) => key.saturating_add(1),
+    }
+}
+
+// Whether there is such a key, and the other one differs from it in its last byte alone.
+fn is_beside(last: Option<u64>, key: u64) -> bool
+    ensures none { IfNone last (result ≡ false) }
+    ensures some { IfSome last (λ other. IsTrue result ↔ (other / 256 ≡ key / 256)) }
+{
+    match last {
+        None => false,
+        Some(other) => other / 256 == key / 256,
     }
 }
 
@@ -79,7 +90,7 @@ impl<P: Payload, A: Allocator> RawCongee<P, A> {
     }
 
     /// Asks about each pair, once, keys ascending, and removes those that aren't to stay, each as a removal does. Never
-    /// fails. Reads two paths for each leaf, and one more.
+    /// fails. Reads at most four paths for each leaf, and one beside them that is a dead end.
     pub fn retain<F, R: Asker<P, F>>(&mut self, f: &mut F)
         requires { R.ready f.old }
         ensures retains { Retains R.step f.old self.old.pairs self.new.pairs f.new }
@@ -92,7 +103,8 @@ impl<P: Payload, A: Allocator> RawCongee<P, A> {
         }
     }
 
-    // Asks about the pair after a key, and those that follow it in its leaf. Returns the key of the last of them.
+    // Asks about the pair after a key, and if that one was in the same leaf, about those that follow there. Returns the key of
+    // the last. So a leaf of one pair costs what asking about that and removing it do.
     fn keep_after<F, R: Asker<P, F>>(&mut self, last: Option<u64>, f: &mut F) -> Option<u64>
         requires { R.ready f.old }
         ensures none { IfNone result
@@ -106,12 +118,19 @@ impl<P: Payload, A: Allocator> RawCongee<P, A> {
         ensures ready { R.ready f.new }
     {
         self.law_ordered();
-        let Some((key, _)) = self.pair_after(last) else {
+        let Some((key, payload)) = self.pair_after(last) else {
             return None;
         };
-        let start = start_after(last);
-        let to = keep_run::<Brand, P, A, F, R>(self, start, key, f, Blank::new(1));
-        Some(to)
+        if is_beside(last, key) {
+            let start = start_after(last);
+            let to = keep_run::<Brand, P, A, F, R>(self, start, key, f, Blank::new(1));
+            return Some(to);
+        }
+        let stays = R::ask(f, key, payload);
+        if !stays {
+            let _ = remove::<Brand, P, A>(self, key, Blank::new(1));
+        }
+        Some(key)
     }
 
     /// The least key with `start <= key < end`. Takes no memory.

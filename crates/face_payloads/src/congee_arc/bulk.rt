@@ -102,8 +102,8 @@ impl<K: Word, P: Payload, A: Allocator> PayloadCongee<K, P, A> {
     }
 
     /// Calls the closure with each pair, once, keys ascending, each key read back from its number, and removes those for
-    /// which it returns false, each as `remove` does; their payloads are dropped. Never fails. Reads two paths through the
-    /// tree for each leaf, and one more.
+    /// which it returns false, each as `remove` does; their payloads are dropped. Never fails. Reads at most four paths
+    /// through the tree for each leaf, and one beside them that is a dead end.
     pub fn retain<F: FnMut(K, &P) -> bool>(&mut self, f: &mut F)
         requires { F.IsAlwaysCallable f.old }
         ensures retains { Retains

@@ -107,7 +107,8 @@ impl<K: Word, V: Word, A: Allocator, D: Drainer<K, V>> Congee<K, V, A, D> {
     }
 
     /// Calls the closure with each pair by its numbers, once, keys ascending, and removes those for which it returns
-    /// false, each as `remove` does. Never fails. Reads two paths through the tree for each leaf, and one more.
+    /// false, each as `remove` does. Never fails. Reads at most four paths through the tree for each leaf, and one beside
+    /// them that is a dead end.
     pub fn retain<F: FnMut(u64, u64) -> bool>(&mut self, f: &mut F)
         requires { F.IsAlwaysCallable f.old }
         ensures retains { Retains
