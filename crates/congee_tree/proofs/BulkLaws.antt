@@ -1,14 +1,12 @@
 -- Removing a range of pairs, and the pairs that a closure keeps.
-use Rattle.std.proofs.Common.{◌≡◌, ℕ, ◌+◌, ◌-◌, ◌<◌, ◌≤◌, ◌^◌, ◌&&◌, ◌≢◌, cond, leb, ltb, not, Bool, true, false, [], ◌∷◌, ◌++◌, length, Bor, Option, Some, None, IsSome, IfSome, IfNone, option_map, refl, ap, sym, subst, ◌∙◌, append_assoc, arith, inl, inr}
+use Rattle.std.proofs.Common.{◌≡◌, ℕ, ◌+◌, ◌-◌, ◌<◌, ◌≤◌, ◌^◌, ◌&&◌, ◌≢◌, cond, leb, ltb, not, Bool, true, false, [], ◌∷◌, length, Bor, Option, Some, None, IsSome, IfSome, IfNone, option_map, refl, ap, sym, subst, ◌∙◌, arith, inl, inr}
 use Rattle.std.proofs.lemmas.Bool.{lt-ltb, le-ltb, le-leb, lt-leb, eq-eqb, ne_eqb, cases_lt, cases_eq, cases_order}
-use Rattle.std.proofs.lemmas.List.Elements.{filter-append}
 use Rattle.spec_map.specs.Map.{Pairs, lookup, without, between, Rises, IsMap}
 use Rattle.spec_map.specs.Near.{first_of}
 use Rattle.spec_map.proofs.NearLaws.{absent_between, least_between, stored_between, no_first, first_rest}
 use Rattle.tree_edit.specs.Calls.{HasNoneAfter}
-use Rattle.spec_map.proofs.MapLaws.{Rises-wider, Rises-without}
-use Rattle.spec_map.proofs.RangeLaws.{between-all, between-above}
-use Rattle.spec_map.proofs.JoinLaws.{Rises-append}
+use Rattle.spec_map.proofs.MapLaws.{Rises-without}
+use Rattle.spec_map.proofs.RangeLaws.{between-above}
 use Rattle.tree_edit.proofs.RunLaws.{outside-without}
 pub use Rattle.tree_edit.proofs.AskingLaws.{between-below, asking_begins}
 use Rattle.tree_edit.proofs.AskingLaws.{asking_ends, asking_keeps, asking_removes, asking_goes_on}

@@ -1,5 +1,5 @@
 -- Calls that change many pairs at once.
-use Rattle.std.specs.Prelude.{◌≡◌, ℕ, ◌+◌, Bool, List, [], ◌∷◌, Option, Some, None, if◌then◌else◌, fold}
+use Rattle.std.specs.Prelude.{◌≡◌, ℕ, ◌+◌, List, [], Option, Some, None, fold}
 use Rattle.std.specs.Fn.{Mut, Called}
 use Rattle.spec_map.specs.Map.{Pairs, put, between}
 pub use Rattle.tree_edit.specs.Calls.{Retains}

@@ -1,4 +1,4 @@
-use Rattle.std.proofs.Common.{◌^◌, ◌+◌, ◌<◌, ◌-◌, arith, refl}
+use Rattle.std.proofs.Common.{arith, refl}
 use Rattle.tree_edit.proofs.TidyLaws.{moves_trans}
 use Rattle.congee_tree.proofs.BulkLaws.{asking_begins, asking_done}
 use Rattle.congee_tree.proofs.tree.RawCongee.retain.Goals as goal
