@@ -49,11 +49,23 @@ const ROWS: [Row; 20] = [
     // keys that part at the root: the leaf of 0, and one of the 19 greatest
     ((5, 1 << 56), Kept::Every(1 << 57, 0), [3, 6 << 56, 2296]),
     ((20, u64::MAX), Kept::All, [20, 350488137400481480514, 2840]),
-    ((20, u64::MAX), Kept::From(u64::MAX), [1, 18446744073709551615, 2168]),
-    ((20, u64::MAX), Kept::Every(u64::MAX, 0), [2, 18446744073709551615, 2232]),
+    (
+        (20, u64::MAX),
+        Kept::From(u64::MAX),
+        [1, 18446744073709551615, 2168],
+    ),
+    (
+        (20, u64::MAX),
+        Kept::Every(u64::MAX, 0),
+        [2, 18446744073709551615, 2232],
+    ),
     // 60 leaves of one pair under an inner node, which shrinks
     ((60, 1 << 32), Kept::All, [60, 1770 << 32, 8048]),
-    ((60, 1 << 32), Kept::Every(1 << 34, 0), [15, 420 << 32, 3736]),
+    (
+        (60, 1 << 32),
+        Kept::Every(1 << 34, 0),
+        [15, 420 << 32, 3736],
+    ),
 ];
 
 // How many keys there are, and their sum.
