@@ -1,13 +1,13 @@
 use Rattle.std.proofs.Common.{◌-◌, ◌^◌}
+use Rattle.tree_edit.specs.Calls.{Asking}
 use Rattle.tree_edit.specs.Tree.{ChargesForNodes}
 use Rattle.congee_tree.specs.Bulk.{next_of}
-use Rattle.congee_tree.proofs.BulkLaws.{Asking}
-use Rattle.face_typed.proofs.typed_congee.Congee.retain.Given as goal
+use Rattle.congee_tree.proofs.tree.RawCongee.retain.Given as goal
 
 abbrev pub invariant-loop-key : goal.invariant-loop-key
 invariant-loop-key g l =
-    goal.F-IsAlwaysCallable g l.f
-    × Asking (λ state pair stays next. goal.F-step g state pair.0 pair.1 stays next) l.fn.f l.fn.self.pairs l.f l.self.pairs (next_of l.last)
+    g.R.Asker.ready l.f
+    × Asking g.R.Asker.step l.fn.f l.fn.self.pairs l.f l.self.pairs (next_of l.last)
     × ChargesForNodes g.A.Allocator.charge l.fn.self l.self
 
 abbrev pub decreases-loop-key : goal.decreases-loop-key
