@@ -133,7 +133,7 @@ static inline int congee_live_insert(struct congee_live *map, uint64_t key, uint
     return code;
 }
 
-/* As congee_remove, or CONGEE_BUSY. Takes no memory. */
+/* As congee_remove, or CONGEE_BUSY. Needs no memory. */
 static inline int congee_live_try_remove(struct congee_live *map, uint64_t key, uint64_t *old) {
     struct congee_live_handle handle = {map};
     uint64_t it = 0;
@@ -176,7 +176,7 @@ static inline int congee_live_compare_exchange(struct congee_live *map, uint64_t
     return code;
 }
 
-/* As congee_compare_remove, or CONGEE_BUSY. Takes no memory. */
+/* As congee_compare_remove, or CONGEE_BUSY. Needs no memory. */
 static inline int congee_live_try_compare_remove(struct congee_live *map, uint64_t key, uint64_t expected,
                                                  uint64_t *found) {
     struct congee_live_handle handle = {map};

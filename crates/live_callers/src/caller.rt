@@ -95,7 +95,7 @@ impl Caller {
         self.pool.insert(alloc, &mut self.guard, key, value)
     }
 
-    /// Removes a key, and returns the value that it had. Takes no memory. `Busy` if too many writers came in between: then
+    /// Removes a key, and returns the value that it had. Needs no memory. `Busy` if too many writers came in between: then
     /// nothing has changed.
     pub fn remove(&mut self, key: u64) -> Result<Option<u64>, Busy>
         ensures made { IfOk result (λ before. MadeCall self.old
@@ -106,7 +106,7 @@ impl Caller {
     }
 
     /// Replaces a key's value by `new`, or removes the key for `None`, if the value is `old`. `Ok` with `new`, or `Err` with
-    /// the current value, or with `None` where the key is absent. Takes no memory. `Busy` if too many writers came in
+    /// the current value, or with `None` where the key is absent. Needs no memory. `Busy` if too many writers came in
     /// between: then nothing has changed.
     pub fn compare_exchange(
         &mut self,

@@ -34,7 +34,7 @@ impl Pool {
         done
     }
 
-    /// Removes a key: the value that it had. Takes no memory.
+    /// Removes a key: the value that it had. Needs no memory.
     pub fn remove(&self, guard: &mut Guard, key: u64) -> Result<Option<u64>, Busy>
         requires { guard.old.book ≡ self.now }
         ensures made { IfOk result (λ before. MadeCall guard.old
@@ -48,7 +48,7 @@ impl Pool {
     }
 
     /// Replaces a key's value by `new`, or removes it for `None`, if it is `old`. `Ok` with `new`, or `Err` with the current
-    /// value, or with `None` where the key is absent. Takes no memory.
+    /// value, or with `None` where the key is absent. Needs no memory.
     pub fn compare_exchange(
         &self,
         guard: &mut Guard,

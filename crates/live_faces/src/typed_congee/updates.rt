@@ -19,7 +19,7 @@ fn numbered<V: Word>(value: &Option<V>) -> Option<u64>
 }
 
 impl<K: Word, V: Word> Congee<K, V> {
-    /// Removes the key, and returns the previous value, read back from its number. Takes no memory. `Busy` if too many writers
+    /// Removes the key, and returns the previous value, read back from its number. Needs no memory. `Busy` if too many writers
     /// came in between: then nothing has changed.
     pub fn try_remove(&self, guard: &mut Guard, key: &K) -> Result<Option<V>, Busy>
         requires map { guard.old.book ≡ self.now }
@@ -51,7 +51,7 @@ impl<K: Word, V: Word> Congee<K, V> {
 
     /// If the number of `old` is stored at the key, stores `new`, or removes the key for `None`, and returns `Ok` with `new`
     /// itself. Otherwise changes nothing, and returns `Err` with the current value, read back from its number, or with `None`
-    /// if the key is absent. Takes no memory. `Busy` if too many writers came in between: then nothing has changed.
+    /// if the key is absent. Needs no memory. `Busy` if too many writers came in between: then nothing has changed.
     pub fn try_compare_exchange(
         &self,
         guard: &mut Guard,
