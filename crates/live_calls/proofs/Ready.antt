@@ -1,9 +1,9 @@
 -- A seat stays ready for the next call.
-use Rattle.std.proofs.Common.{◌≡◌, ℕ, nat_eq, List, [], ◌∷◌, ◌++◌, sym, ap, ◌∙◌, subst, arith, Option, Some, IfSome}
+use Rattle.std.proofs.Common.{◌≡◌, ℕ, nat_eq, List, [], ◌∷◌, ◌++◌, refl, sym, ap, ◌∙◌, subst, inl, arith, Option, Some, IfSome}
 use Rattle.share_rule.specs.History.{Entry, entries_of, IsLegalHistory}
 use Rattle.share_rule.proofs.Keeps.{entries-append}
 use Rattle.word_book.specs.Book.{Book}
-use Rattle.live_nodes.specs.Seats.{Place, place, SeatView, IsIn}
+use Rattle.live_nodes.specs.Seats.{Place, place, no_room, SeatView, seat_view, IsIn}
 use Rattle.live_nodes.specs.Plays.{given, met}
 use Rattle.live_law.specs.Levels.{Spot, place_at}
 use Rattle.live_law.specs.Views.{View, view_of}
@@ -39,6 +39,16 @@ spares_grown v w s g h = spares_kept v w s g.places g.met h
 
 pub sights_grown : (v w : Seen) (n key height : ℕ) → HasGrown v w → Names v n key height → Sights w n
 sights_grown v w n key height g s = record { spot = s.spot; met = g.met s.spot s.met; placed = g.places (place_at s.spot) s.placed; named = s.named }
+
+-- a new seat
+pub ready_new : (v : Seen) (s : Spares) → v ≡ seat_view (view_of [] [] []) (place 0 1 1 ∷ []) [] [] no_room → ((u : Seen) → HasSpares u s) → IsReady v (record { start = 0; left = 0; spare = s })
+ready_new v s e has = subst (λ (u : Seen). IsReady u (record { start = 0; left = 0; spare = s })) (sym e) record {
+  trunk = inl refl;
+  own = refl;
+  holds = refl;
+  words = record { count = 0; enough = omega arith; is = refl };
+  spare = has (seat_view (view_of [] [] []) (place 0 1 1 ∷ []) [] [] no_room);
+}
 
 pub ready_kept : (v w : Seen) (m : Room) → IsReady v m → Keeps v w → IsReady w m
 ready_kept v w m r k = record {
