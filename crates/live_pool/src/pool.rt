@@ -124,18 +124,19 @@ impl Pool {
         if guard.room == before {
             return;
         }
-        if guard.room.spare.more != 0 {
-            self.leave(guard);
-        }
+        self.leave(guard);
         self.supply(guard);
     }
 
-    // The guard's further node goes to the stock of its form.
+    // The guard's further node goes to the stock of its form, if there is one.
     fn leave(&self, guard: &mut Guard)
         requires map { guard.old.book ≡ self.now }
         ensures { guard.new ≡ guard.old }
     {
         let name = guard.room.spare.more;
+        if name == 0 {
+            return;
+        }
         let Some(slot) = self.stocks.get(place_of(form_below(name)) as usize) else {
             return;
         };
