@@ -43,7 +43,7 @@ impl Pool {
     {
         let before = guard.room;
         let done = calls::remove(&self.map, guard, key);
-        self.settle(guard, before);
+        self.settle_way(guard, before, key);
         done
     }
 
@@ -64,7 +64,7 @@ impl Pool {
     {
         let before = guard.room;
         let done = calls::compare_exchange(&self.map, guard, key, old, new);
-        self.settle(guard, before);
+        self.settle_way(guard, before, key);
         done
     }
 
@@ -126,7 +126,7 @@ impl Pool {
     {
         let before = guard.room;
         let done = present::compute_if_present(&self.map, guard, key, f);
-        self.settle(guard, before);
+        self.settle_way(guard, before, key);
         done
     }
 

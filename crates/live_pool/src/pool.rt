@@ -12,6 +12,7 @@ use counted_slot::{Counted, FREE, Fits, MARKED, PRESENT};
 use live_calls::link::Room;
 use live_calls::map::{Congee, Guard};
 use live_calls::spare::Spares;
+use live_detach::tidy::tidy;
 use live_encodes::form::{form_below, place_of};
 use node_base::base_node::NodeType;
 use std::alloc::{AllocError, Global};
@@ -23,6 +24,9 @@ const SLOTS: usize = 8;
 
 /// The forms of nodes, by their places.
 const FORMS: [NodeType; 4] = [NodeType::N4, NodeType::N16, NodeType::N48, NodeType::N256];
+
+/// How many nodes a removal takes out at most.
+const MOST: usize = 7;
 
 /// How many words the largest node has.
 const LEAST: u64 = 263;
@@ -126,6 +130,30 @@ impl Pool {
         }
         self.leave(guard);
         self.supply(guard);
+    }
+
+    /// The same after a call that may remove this key. Where there was no place for the name of another node, the way of the key is
+    /// tidied on.
+    pub fn settle_way(&self, guard: &mut Guard, before: Room, key: u64)
+        requires map { guard.old.book ≡ self.now }
+        ensures { guard.new ≡ guard.old }
+    {
+        for _ in 0..MOST {
+            if guard.room.spare.more == 0 {
+                break;
+            }
+            self.leave(guard);
+            self.tidy_on(guard, key);
+        }
+        self.settle(guard, before);
+    }
+
+    // Nodes without children on the way of a key are taken out.
+    fn tidy_on(&self, guard: &mut Guard, key: u64)
+        requires map { guard.old.book ≡ self.now }
+        ensures { guard.new ≡ guard.old }
+    {
+        tidy(&self.map.nodes, key, &mut guard.room, &mut guard.pass);
     }
 
     // The guard's further node goes to the stock of its form, if there is one.

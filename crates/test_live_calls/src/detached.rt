@@ -76,20 +76,6 @@ fn is_gone(map: &Congee, guard: &mut Guard, key: u64) -> bool
     false
 }
 
-// Removes these keys. Returns how many had their value.
-fn emptied(map: &Congee, first: u64, step: u64, count: u32) -> u32 {
-    let mut guard = map.pin();
-    let mut key = first;
-    let mut had = 0u32;
-    for _ in 0..count {
-        if is_gone(map, &mut guard, key) {
-            had = had.wrapping_add(1);
-        }
-        key = key.wrapping_add(step);
-    }
-    had
-}
-
 // How many of these keys have their value.
 fn found(map: &Congee, first: u64, step: u64, count: u32) -> u32 {
     let mut guard = map.pin();
@@ -102,34 +88,6 @@ fn found(map: &Congee, first: u64, step: u64, count: u32) -> u32 {
         key = key.wrapping_add(step);
     }
     right
-}
-
-// How many of these keys have a way that ends at the root.
-fn rooted(map: &Congee, first: u64, step: u64, count: u32) -> u32 {
-    let mut key = first;
-    let mut ends = 0u32;
-    for _ in 0..count {
-        if end_of(map, key) == 8 {
-            ends = ends.wrapping_add(1);
-        }
-        key = key.wrapping_add(step);
-    }
-    ends
-}
-
-// How far keys lie apart: in one leaf, in leaves side by side, and far from one another.
-const APART: [u64; 4] = [1, 0x100, 0x10000000000, 0x0001000200030005];
-
-#[test]
-fn a_map_without_keys_has_only_its_root(rt: HostRuntime) -> Result<(), Fail> {
-    let map = Congee::new(rt.alloc())?;
-    for step in APART {
-        assert!(rt; filled(&map, rt.alloc(), 3, step, 200) == 200);
-        assert!(rt; rooted(&map, 3, step, 200) == 0);
-        assert!(rt; emptied(&map, 3, step, 200) == 200);
-        assert!(rt; rooted(&map, 3, step, 200) == 200);
-    }
-    Ok(())
 }
 
 // The keys of one leaf, and three that part from them above it.

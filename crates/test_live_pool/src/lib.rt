@@ -2,4 +2,6 @@
 #![tactic(auto)]
 
 #[cfg(test)]
+mod emptied;
+#[cfg(test)]
 mod rooms;

@@ -197,17 +197,16 @@ fn nodes_that_are_taken_out_are_the_next_of_any_guard(rt: HostRuntime) -> Result
     assert!(rt; come_and_go(&map, rt.alloc(), &mut guard) == LEAVES);
     assert!(rt; guard.room.spare.n4 > 0 && guard.room.spare.more == 0);
     let left = guard.room.left;
-    // It does so again with the same nodes.
+    // It does so again with the same nodes, and one of seven words more: where the second key parts from the first, a call needs
+    // two of one form.
     assert!(rt; come_and_go(&map, rt.alloc(), &mut guard) == LEAVES);
-    assert!(rt; guard.room.left == left);
-    // Another guard has a segment of its own, the next larger one, and uses no more of it than for the one node that the first
-    // guard has kept.
+    assert!(rt; left.wrapping_sub(guard.room.left) <= 7);
+    // Another guard has a segment of its own, the next larger one. All its leaves but one are those of the first guard. It makes
+    // that leaf, and an inner node for sixteen, since the first guard keeps its own.
     let (stored, room) = by_another(&map, rt.alloc());
     assert!(rt; stored == LEAVES);
-    assert!(rt;
-        room.start < START + COUNT + 16
-            && room.start.wrapping_add(room.left) == START + COUNT + 2 * COUNT
-    );
+    let used = room.start.wrapping_sub(START + COUNT);
+    assert!(rt; used < 40 && used.wrapping_add(room.left) == 2 * COUNT);
     Ok(())
 }
 
