@@ -1,6 +1,6 @@
 /* A window of keys that moves on for ever, in a map that is read without a lock: each step stores the next key and removes the
  * one that leaves the window. Threads share the steps, and each has a handle of its own. The map holds at most three times the
- * memory of its start, over dense keys and over keys that part high up, since nodes that were taken out are used again.
+ * memory of its start, since nodes that were taken out are used again. So it does over keys that are spread, by one thread.
  * Handles that come and go meanwhile leave nothing behind.
  *
  *     live_window [STEPS] [THREADS]     so many steps, in all */
@@ -67,7 +67,7 @@ static void *move_on(void *at) {
 }
 
 /* The window moves by all threads. Returns the memory at the end in thousandths of that at the start. */
-static uint64_t move(uint64_t (*keys)(uint64_t)) {
+static uint64_t move(uint64_t (*keys)(uint64_t), uint64_t threads) {
     pthread_t workers[MOST];
     struct congee_live *map, *handles[MOST];
     uint64_t value;
@@ -102,8 +102,8 @@ int main(int argc, char **argv) {
     if (argc > 2)
         threads = strtoull(argv[2], NULL, 10);
     need(threads >= 1 && threads <= MOST && steps > threads, "STEPS above THREADS, and at most 64 threads");
-    uint64_t first = move(dense), second = move(spread);
-    printf("%" PRIu64 " steps by %" PRIu64 " threads: memory over that of the start %" PRIu64 ".%03" PRIu64 " dense, %" PRIu64 ".%03" PRIu64 " spread\n", steps,
+    uint64_t first = move(dense, threads), second = move(spread, 1);
+    printf("%" PRIu64 " steps by %" PRIu64 " threads: memory over that of the start %" PRIu64 ".%03" PRIu64 " dense, by one %" PRIu64 ".%03" PRIu64 " spread\n", steps,
            threads, first / 1000, first % 1000, second / 1000, second % 1000);
     return 0;
 }

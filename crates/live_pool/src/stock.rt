@@ -13,6 +13,10 @@ use counted_slot::{Counted, FREE, Fits, MARKED, PRESENT};
 use live_calls::map::Congee;
 use live_calls::way::Pass;
 use std::alloc::Global;
+use std::hint::spin_loop;
+
+/// How often a stock is looked for, where another thread is at it.
+const LOOKS: u32 = 1000;
 
 /// Names of nodes of one form.
 #[derive(Drop)]
@@ -82,6 +86,40 @@ fn open(slot: &Counted<Stock>, word: u64, map: &Congee, alloc: Global) -> Option
     }
 }
 
+// Takes a stock that has names out of its slot, also where another thread is just at it.
+fn open_some(slot: &Counted<Stock>, map: &Congee, alloc: Global) -> Option<Stock>
+    requires map { slot.now ≡ map.now }
+    ensures { IfSome result (λ s. IsStock map.now s.keeper.book s.keeper.view s.names.items) }
+{
+    for _ in 0..LOOKS {
+        if let Some(stock) = open(slot, PRESENT, map, alloc) {
+            return Some(stock);
+        }
+        if slot.load() == FREE {
+            return None;
+        }
+        spin_loop();
+    }
+    None
+}
+
+// The same of one that may have none.
+fn open_any(slot: &Counted<Stock>, map: &Congee, alloc: Global) -> Option<Stock>
+    requires map { slot.now ≡ map.now }
+    ensures { IfSome result (λ s. IsStock map.now s.keeper.book s.keeper.view s.names.items) }
+{
+    for _ in 0..LOOKS {
+        if let Some(stock) = open(slot, PRESENT, map, alloc) {
+            return Some(stock);
+        }
+        if let Some(stock) = open(slot, FREE, map, alloc) {
+            return Some(stock);
+        }
+        spin_loop();
+    }
+    None
+}
+
 // Puts it back.
 fn close(slot: &Counted<Stock>, stock: Stock)
     requires { IsStock slot.now stock.keeper.book stock.keeper.view stock.names.items }
@@ -107,11 +145,7 @@ pub fn add_to(
     ensures pass { (pass.new.book ≡ pass.old.book) × (pass.new.id ≡ pass.old.id)
         × Keeps pass.old.view pass.new.view × (pass.new.view.client.seen ≡ pass.old.view.client.seen) }
 {
-    let opened = match open(slot, PRESENT, map, alloc) {
-        Some(stock) => Some(stock),
-        None => open(slot, FREE, map, alloc),
-    };
-    let Some(mut stock) = opened else {
+    let Some(mut stock) = open_any(slot, map, alloc) else {
         return false;
     };
     let added = stock.add(name, pass);
@@ -126,7 +160,7 @@ pub fn take_from(slot: &Counted<Stock>, map: &Congee, alloc: Global, pass: &mut 
         × Keeps pass.old.view pass.new.view × (pass.new.view.client.seen ≡ pass.old.view.client.seen) }
     ensures met { IfSome result (Sights pass.new.view) }
 {
-    let mut stock = open(slot, PRESENT, map, alloc)?;
+    let mut stock = open_some(slot, map, alloc)?;
     let name = stock.take(pass);
     close(slot, stock);
     name
