@@ -74,8 +74,8 @@ static inline int congee_live_new(struct congee_live **out) {
 }
 
 /* Makes one more handle of the map, for another thread. Takes a small block. A handle that has inserted has room for
- * nodes, of 512 KB at most, which goes with the map alone. So a thread keeps its handle for many calls. Returns 0 with the
- * handle in *out, or CONGEE_OOM with null there. */
+ * nodes, of 512 KB at most. Once it is freed, a later handle gets that. Returns 0 with the handle in *out, or CONGEE_OOM
+ * with null there. */
 static inline int congee_live_another(struct congee_live *map, struct congee_live **out) {
     struct congee_live_handle handle = {map}, made = {NULL};
     int code = congee_c_live_another(&handle, &made);
@@ -133,7 +133,7 @@ static inline int congee_live_insert(struct congee_live *map, uint64_t key, uint
     return code;
 }
 
-/* As congee_remove, or CONGEE_BUSY. Takes no memory. */
+/* As congee_remove, or CONGEE_BUSY. Needs no memory. */
 static inline int congee_live_try_remove(struct congee_live *map, uint64_t key, uint64_t *old) {
     struct congee_live_handle handle = {map};
     uint64_t it = 0;
@@ -176,7 +176,7 @@ static inline int congee_live_compare_exchange(struct congee_live *map, uint64_t
     return code;
 }
 
-/* As congee_compare_remove, or CONGEE_BUSY. Takes no memory. */
+/* As congee_compare_remove, or CONGEE_BUSY. Needs no memory. */
 static inline int congee_live_try_compare_remove(struct congee_live *map, uint64_t key, uint64_t expected,
                                                  uint64_t *found) {
     struct congee_live_handle handle = {map};

@@ -66,8 +66,8 @@ impl LiveMap {
     }
 
     /// A guard, by which one thread at a time calls the map. It may go to another thread, and may outlive this value. It
-    /// takes a small block. One that has inserted has room for nodes, of 512 KB at most, which goes with the map alone. So
-    /// keep it for many calls. Waits while another thread takes one.
+    /// takes a small block. One that has inserted has room for nodes, of 512 KB at most. Once it is dropped, a later guard
+    /// gets that. Waits while another thread takes one.
     ///
     /// ```
     /// # fn main() -> Result<(), proved_congee::OutOfMemory> {

@@ -2,7 +2,9 @@
  *   - a handle goes round between threads by a lock, with calls at each
  *   - handles are made and freed while other threads call, and the map is freed with the last one, on any thread
  *   - an atomic that is sequentially consistent hands a handle over, and what was stored before is seen
- *   - handles that only look up leave nothing behind: a million of them in turn, and a hundred thousand at once */
+ *   - handles that only look up leave nothing behind: a million of them in turn, and a hundred thousand at once
+ *   - handles that insert leave their room for nodes to the next: a million in turn have one, and a hundred at once a
+ *     hundred, however often they come again */
 #define _POSIX_C_SOURCE 200809L
 #include "congee.h"
 #include <malloc.h>
@@ -12,7 +14,8 @@
 #include <stdio.h>
 #include <stdlib.h>
 
-enum { THREADS = 4, ROUNDS = 2000, MAPS = 300, PAIRS = 50, IN_TURN = 1000000, AT_ONCE = 100000, SLACK = 1 << 16 };
+enum { THREADS = 4, ROUNDS = 2000, MAPS = 300, PAIRS = 50, IN_TURN = 1000000, AT_ONCE = 100000, SLACK = 1 << 16,
+       ROOMS = 100, ROOM = 600 << 10 };
 
 static void need(bool holds, const char *what) {
     if (!holds) {
@@ -149,11 +152,65 @@ static void leave_nothing_behind(void) {
     congee_live_free(map);
 }
 
+/* So many handles at once, each of which inserts. */
+static void insert_at_once(struct congee_live *map) {
+    struct congee_live *others[ROOMS];
+    for (uint64_t i = 0; i < ROOMS; i++) {
+        need(congee_live_another(map, &others[i]) == 0, "one of many handles that insert");
+        need(congee_live_insert(others[i], i << 8, i, NULL) >= 0, "an insertion by it");
+    }
+    for (uint64_t i = 0; i < ROOMS; i++)
+        congee_live_free(others[i]);
+}
+
+/* Handles that come and go on their own. */
+static void *insert_in_turn(void *at) {
+    struct congee_live *map = at, *other;
+    for (uint64_t i = 0; i < IN_TURN / 10; i++) {
+        need(congee_live_another(map, &other) == 0, "one of many handles beside others");
+        need(congee_live_insert(other, i % PAIRS << 8, i, NULL) >= 0, "an insertion by it");
+        congee_live_free(other);
+    }
+    congee_live_free(map);
+    return NULL;
+}
+
+static void leave_their_room(void) {
+    struct congee_live *map = filled(), *other;
+    size_t before = lent();
+    for (uint64_t i = 0; i < IN_TURN; i++) {
+        need(congee_live_another(map, &other) == 0, "one of a million handles that insert");
+        need(congee_live_insert(other, i % PAIRS << 8, i, NULL) == 1, "an insertion by it");
+        congee_live_free(other);
+    }
+    need(lent() < before + ROOM, "what a million handles that insert leave behind");
+    insert_at_once(map);
+    before = lent();
+    for (int round = 0; round < ROOMS; round++)
+        insert_at_once(map);
+    need(lent() < before + SLACK, "what handles leave behind that come again");
+    congee_live_free(map);
+
+    pthread_t threads[THREADS];
+    map = filled();
+    before = lent();
+    for (int i = 0; i < THREADS; i++) {
+        need(congee_live_another(map, &other) == 0, "a handle");
+        run(&threads[i], insert_in_turn, other);
+    }
+    for (int i = 0; i < THREADS; i++)
+        pthread_join(threads[i], NULL);
+    /* (one that finds the others at the list of rooms now and then goes without) */
+    need(lent() < before + (size_t)ROOMS * ROOM, "what handles of several threads leave behind");
+    congee_live_free(map);
+}
+
 int main(void) {
     pass_on();
     end_beside_others();
     hand_over();
     leave_nothing_behind();
+    leave_their_room();
     printf("%d threads, %d maps that ended beside look-ups, %d handles in turn and %d at once\n", THREADS, MAPS, IN_TURN, AT_ONCE);
     return 0;
 }

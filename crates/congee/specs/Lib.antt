@@ -5,7 +5,6 @@ pub use Rattle.face_runs.specs.Calls
 pub use Rattle.face_runs.specs.Conversion
 pub use Rattle.face_runs.specs.PayloadCalls
 pub use Rattle.face_runs.specs.U64Calls
-pub use Rattle.live_calls.specs.Exchanges
 pub use Rattle.live_faces.specs.Returned
 pub use Rattle.live_law.specs.Known as LiveKnown
 pub use Rattle.live_law.specs.Views as LiveViews

@@ -63,7 +63,7 @@ pub extern "C" fn congee_c_live_get_or_insert(
 }
 
 /// If the key's value is `expected`, removes the key and answers 1. If it is another, writes it to `found` and answers 2.
-/// If the key is absent, answers 0. Or answers `BUSY`. Takes no memory.
+/// If the key is absent, answers 0. Or answers `BUSY`. Needs no memory.
 #[unsafe(no_mangle)]
 pub extern "C" fn congee_c_live_compare_remove(
     handle: &mut Handle,

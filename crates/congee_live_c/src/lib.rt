@@ -164,7 +164,7 @@ pub extern "C" fn congee_c_live_insert(
     }
 }
 
-/// Removes the key. Answers 1 if it was present, with its value in `before`, or 0 or `BUSY`. Takes no memory.
+/// Removes the key. Answers 1 if it was present, with its value in `before`, or 0 or `BUSY`. Needs no memory.
 #[unsafe(no_mangle)]
 pub extern "C" fn congee_c_live_remove(handle: &mut Handle, key: u64, before: &mut u64) -> i32
     ensures code { (result ≡ pos 0) ⊎ (result ≡ pos 1) ⊎ (result ≡ busy) }
@@ -187,7 +187,7 @@ pub extern "C" fn congee_c_live_remove(handle: &mut Handle, key: u64, before: &m
 }
 
 /// If the key's value is `expected`, replaces it by `desired` and answers 1. If it is another, writes it to `found` and
-/// answers 2. If the key is absent, answers 0. Or answers `BUSY`. Takes no memory.
+/// answers 2. If the key is absent, answers 0. Or answers `BUSY`. Needs no memory.
 #[unsafe(no_mangle)]
 pub extern "C" fn congee_c_live_compare_exchange(
     handle: &mut Handle,

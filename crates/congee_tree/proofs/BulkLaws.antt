@@ -1,26 +1,22 @@
 -- Removing a range of pairs, and the pairs that a closure keeps.
-use Rattle.std.proofs.Common.{◌≡◌, ℕ, ◌+◌, ◌-◌, ◌<◌, ◌≤◌, ◌^◌, ◌&&◌, ◌≢◌, cond, leb, ltb, not, Bool, true, false, [], ◌∷◌, ◌++◌, length, Bor, Option, Some, None, IsSome, IfSome, IfNone, option_map, refl, ap, sym, subst, ◌∙◌, append_assoc, arith, inl, inr}
+use Rattle.std.proofs.Common.{◌≡◌, ℕ, ◌+◌, ◌-◌, ◌<◌, ◌≤◌, ◌^◌, ◌&&◌, ◌≢◌, cond, leb, ltb, not, Bool, true, false, [], ◌∷◌, length, Bor, Option, Some, None, IsSome, IfSome, IfNone, option_map, refl, ap, sym, subst, ◌∙◌, arith, inl, inr}
 use Rattle.std.proofs.lemmas.Bool.{lt-ltb, le-ltb, le-leb, lt-leb, eq-eqb, ne_eqb, cases_lt, cases_eq, cases_order}
-use Rattle.std.proofs.lemmas.List.Elements.{filter-append}
 use Rattle.spec_map.specs.Map.{Pairs, lookup, without, between, Rises, IsMap}
 use Rattle.spec_map.specs.Near.{first_of}
-use Rattle.spec_map.proofs.NearLaws.{absent_between, least_between, no_first, first_rest}
+use Rattle.spec_map.proofs.NearLaws.{absent_between, least_between, stored_between, no_first, first_rest}
 use Rattle.tree_edit.specs.Calls.{HasNoneAfter}
-use Rattle.spec_map.proofs.MapLaws.{Rises-wider, Rises-without}
-use Rattle.spec_map.proofs.RangeLaws.{between-all, between-above}
-use Rattle.spec_map.proofs.JoinLaws.{Rises-append}
+use Rattle.spec_map.proofs.MapLaws.{Rises-without}
+use Rattle.spec_map.proofs.RangeLaws.{between-above}
 use Rattle.tree_edit.proofs.RunLaws.{outside-without}
+pub use Rattle.tree_edit.proofs.AskingLaws.{between-below, asking_begins}
+use Rattle.tree_edit.proofs.AskingLaws.{asking_ends, asking_keeps, asking_removes, asking_goes_on}
+pub use Rattle.tree_edit.specs.Calls.{Asking}
 use Rattle.tree_walk.specs.Scan.{from_key, first_number, first_pair}
 use Rattle.congee_tree.specs.Bulk.{outside, Retains}
 use Rattle.congee_tree.specs.inner.Step.{Asks, Extracts}
 use Rattle.std.specs.List.{FoldsTo}
 
 module _ {P : Type 0} where
-  -- no pair is between two keys that are above all
-  pub between-below : (a b s e : ℕ) (es : Pairs P) → Rises a b es → b ≤ s → between es s e ≡ []
-  between-below a b s e [] h l = refl
-  between-below a b s e (x ∷ xs) h l = rw (lt-leb s x.0 (omega arith)) (between-below (x.0 + 1) b s e xs h.2 l)
-
   -- the first key between two is between them
   pub first_inside : (m : Pairs P) (s e k : ℕ) → Some k ≡ first_number (between m s e) → (s ≤ k) × (k < e)
   first_inside [] s e k is = absurd (cc)
@@ -48,6 +44,24 @@ module _ {P : Type 0} where
           let inside = first_inside m s e k is in
           let least = least_between s e m x h (ap first_of all) in
           λ j from below. absent_between s e m j from (omega (arith, below, inside.1)) (least.nothing j (omega (arith, below, key)))
+
+  -- the first pair from a key on
+  pub record FirstFrom (m : Pairs P) (from k : ℕ) : Type 0 where
+    pub order : from ≤ k
+    pub fits : k < 2 ^ 64
+    pub there : IsSome (lookup m k)
+    pub none : HasNoneAfter m from k
+
+  pub first_from_is : (m : Pairs P) (from k : ℕ) (v : P) → IsMap m → first_pair (from_key from m) ≡ Some (k, v) → FirstFrom m from k
+  first_from_is m from k v h is =
+      let least = least_between from (2 ^ 64) m (k, v) h is in
+      let stored : lookup m k ≡ Some v = stored_between from (2 ^ 64) m (k, v) least.from least.to least.stored in
+      record {
+        order = least.from;
+        fits = least.to;
+        there = rw stored refl;
+        none = λ j past less. absent_between from (2 ^ 64) m j past (omega (arith, less, least.to)) (least.nothing j less);
+      }
 
   -- it is a key of the map
   pub fewer : (m : Pairs P) (s e k : ℕ) → Some k ≡ first_number (between m s e) → length (without m k) < length m
@@ -231,121 +245,27 @@ module _ {P : Type 0} where
   pub fewer_popped : (m n : Pairs P) (k : ℕ) (v : P) → Some (k, v) ≡ first_of m → n ≡ without m k → length n < length m
   fewer_popped m n k v is others = let one = ap length (popped_first m n k v is others) in omega arith
 
-  -- a removal behind other pairs
-  without-append : (a b : ℕ) (xs ys : Pairs P) (k : ℕ) → Rises a b xs → b ≤ k → without (xs ++ ys) k ≡ xs ++ without ys k
-  without-append a b [] ys k h p = refl
-  without-append a b (x ∷ xs) ys k h p = rw (ne_eqb x.0 k (omega arith)) (ap (λ t. x ∷ t) (without-append (x.0 + 1) b xs ys k h.2 p))
+-- all questions were asked
+pub asking_done : {F P : Type 0} (step : F → ℕ × P → Bool → F → Type 0) (f : F) (first : Pairs P) (g : F) (m : Pairs P) (from : ℕ) → Asking step f first g m from → first_pair (from_key from m) ≡ None → (next : F) → next ≡ g → (n : Pairs P) → n ≡ m → Retains step f first n next
+asking_done {P = P} step f first g m from a none next same n is =
+    subst (λ (t : Pairs P). Retains step f first t next) (sym is)
+    (subst (λ h. Retains step f first m h) (sym same) (asking_ends step f first g m from a none))
 
-  -- of the pairs in two parts, below a key and from it on, the second part is the pairs from it on
-  second_part : (from : ℕ) (done left : Pairs P) → Rises 0 from done → Rises from (2 ^ 64) left → from_key from (done ++ left) ≡ left
-  second_part from done left below above =
-      filter-append _ done left
-      ∙ ap (λ (t : Pairs P). t ++ between left from (2 ^ 64)) (between-below 0 from from (2 ^ 64) done below (omega arith))
-      ∙ between-all from (2 ^ 64) from (2 ^ 64) left above (omega arith) (omega arith)
-
-  -- the first of those
-  pub record FirstOf (left : Pairs P) (k : ℕ) (v : P) : Type 0 where
-    pub rest : Pairs P
-    pub is : left ≡ (k, v) ∷ rest
-    pub above : Rises (k + 1) (2 ^ 64) rest
-    pub fits : k < 2 ^ 64
-
-  first_of_left : (from : ℕ) (left : Pairs P) (k : ℕ) (v : P) → Rises from (2 ^ 64) left → first_pair left ≡ Some (k, v) → FirstOf left k v
-  first_of_left from [] k v h is = absurd (cc)
-  first_of_left from (x ∷ xs) k v h is =
-      let same : x ≡ (k, v) = cc in
-      subst (λ (y : ℕ × P). FirstOf (x ∷ xs) y.0 y.1) same (record { rest = xs; is = refl; above = h.2; fits = h.1 })
-
-  none_of_left : (left : Pairs P) → first_pair left ≡ None → left ≡ []
-  none_of_left [] is = refl
-  none_of_left (x ∷ xs) is = absurd (cc)
-
--- WHILE A CLOSURE IS ASKED: the pairs are those below a key, which it kept, and those from it on, at which it is still
--- to be called. What those calls keep, behind the former, is what all calls keep of the first pairs.
+-- one question
 module _ {F P : Type 0} (step : F → ℕ × P → Bool → F → Type 0) where
-  pub record Asking (f : F) (first : Pairs P) (g : F) (m : Pairs P) (from : ℕ) : Type 0 where
-    pub done : Pairs P
-    pub left : Pairs P
-    pub is : m ≡ done ++ left
-    pub below : Rises 0 from done
-    pub above : Rises from (2 ^ 64) left
-    pub then : (kept : Pairs P) (last : F) → Retains step g left kept last → Retains step f first (done ++ kept) last
-
-  pub asking_begins : (f : F) (m : Pairs P) → IsMap m → Asking f m f m 0
-  asking_begins f m h = record { done = []; left = m; is = refl; below = tt; above = h; then = λ kept last calls. calls }
-
-  module _ (f : F) (first : Pairs P) (g : F) (m : Pairs P) (from : ℕ) (a : Asking f first g m from) where
-    left_is : from_key from m ≡ a.left
-    left_is = ap (from_key from) a.is ∙ second_part from a.done a.left a.below a.above
-
-    pub asking_ends : first_pair (from_key from m) ≡ None → Retains step f first m g
-    asking_ends none =
-        let empty : a.left ≡ [] = none_of_left a.left (ap first_pair (sym left_is) ∙ none) in
-        let whole : m ≡ a.done ++ [] = a.is ∙ ap (λ (t : Pairs P). a.done ++ t) empty in
-        subst (λ (t : Pairs P). Retains step f first t g) (sym whole)
-        (a.then [] g (subst (λ (t : Pairs P). Retains step g t [] g) (sym empty) (refl, refl)))
-
-    module _ (k : ℕ) (v : P) (here : first_pair (from_key from m) ≡ Some (k, v)) (next : F) where
-      at_first : FirstOf a.left k v
-      at_first = first_of_left from a.left k v a.above (ap first_pair (sym left_is) ∙ here)
-
-      from_is : from ≤ k
-      from_is = let above : Rises from (2 ^ 64) ((k, v) ∷ at_first.rest) = subst (Rises from (2 ^ 64)) at_first.is a.above in above.0
-
-      -- the pair stays
-      pub asking_keeps : step g (k, v) true next → Asking f first next m (k + 1)
-      asking_keeps called =
-          let o = at_first in
-          record {
-            done = a.done ++ (k, v) ∷ [];
-            left = o.rest;
-            is = a.is ∙ ap (λ (t : Pairs P). a.done ++ t) o.is ∙ sym (append_assoc a.done ((k, v) ∷ []) o.rest);
-            below = Rises-append 0 from (k + 1) a.done ((k, v) ∷ []) (omega arith) (omega (arith, from_is)) a.below (from_is, omega arith, tt);
-            above = o.above;
-            then = λ kept last calls.
-                subst (λ (t : Pairs P). Retains step f first t last) (sym (append_assoc a.done ((k, v) ∷ []) kept))
-                (a.then ((k, v) ∷ kept) last (subst (λ (t : Pairs P). Retains step g t ((k, v) ∷ kept) last) (sym o.is)
-                (true, next, kept, called, calls, refl)));
-          }
-
-      -- it goes
-      pub asking_removes : (n : Pairs P) → n ≡ without m k → step g (k, v) false next → Asking f first next n (k + 1)
-      asking_removes n gone called =
-          let o = at_first in
-          let less : without ((k, v) ∷ o.rest) k ≡ o.rest = rw (eq-eqb k k refl) refl in
-          record {
-            done = a.done;
-            left = o.rest;
-            is =
-                gone
-                ∙ ap (λ (t : Pairs P). without t k) (a.is ∙ ap (λ (t : Pairs P). a.done ++ t) o.is)
-                ∙ without-append 0 from a.done ((k, v) ∷ o.rest) k a.below from_is
-                ∙ ap (λ (t : Pairs P). a.done ++ t) less;
-            below = Rises-wider 0 from 0 (k + 1) a.done (omega arith) (omega (arith, from_is)) a.below;
-            above = o.above;
-            then = λ kept last calls.
-                a.then kept last (subst (λ (t : Pairs P). Retains step g t kept last) (sym o.is)
-                (false, next, kept, called, calls, refl));
-          }
-
-      -- the next key to ask about is greater
-      pub asking_goes_on : (from ≤ k) × (k < 2 ^ 64)
-      asking_goes_on = (from_is, at_first.fits)
-
-  -- one question
-  module _ (f : F) (first : Pairs P) (g : F) (m : Pairs P) (from : ℕ) (a : Asking f first g m from) (next : F) (n : Pairs P) where
-    pub asked : (k : ℕ) → Asks step g m from (Some k) next n → Asking f first next n (k + 1)
+  module _ (f : F) (first : Pairs P) (g : F) (m : Pairs P) (from : ℕ) (a : Asking step f first g m from) (next : F) (n : Pairs P) where
+    pub asked : (k : ℕ) → Asks step g m from (Some k) next n → Asking step f first next n (k + 1)
     asked k (v, true, here, called, is) =
-        subst (λ (t : Pairs P). Asking f first next t (k + 1)) (sym is) (asking_keeps f first g m from a k v here next called)
-    asked k (v, false, here, called, is) = asking_removes f first g m from a k v here next n is called
+        subst (λ (t : Pairs P). Asking step f first next t (k + 1)) (sym is) (asking_keeps step f first g m from a k v here next called)
+    asked k (v, false, here, called, is) = asking_removes step f first g m from a k v here next n is called
 
     pub asked_all : Asks step g m from None next n → Retains step f first n next
     asked_all (none, same, is) =
         subst (λ (t : Pairs P). Retains step f first t next) (sym is)
-        (subst (λ (h : F). Retains step f first m h) (sym same) (asking_ends f first g m from a none))
+        (subst (λ (h : F). Retains step f first m h) (sym same) (asking_ends step f first g m from a none))
 
     pub asked_forward : (k : ℕ) → Asks step g m from (Some k) next n → 2 ^ 64 - (k + 1) < 2 ^ 64 - from
-    asked_forward k (v, stays, here, called, is) = let o = asking_goes_on f first g m from a k v here next in omega (arith, o.0, o.1)
+    asked_forward k (v, stays, here, called, is) = let o = asking_goes_on step f first g m from a k v here next in omega (arith, o.0, o.1)
 
 -- WHILE PAIRS OF A RANGE GO: those outside of it stay, and the calls with those that are left are the last of all.
 module _ {F P : Type 0} (step : F → ℕ × P → F → Type 0) (low high : ℕ) where

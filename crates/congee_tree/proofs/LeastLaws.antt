@@ -1,5 +1,5 @@
 -- No key is below a bound, after each change of a tree's pairs.
-use Rattle.std.proofs.Common.{Ok, Err, ◌≡◌, ℕ, ◌+◌, ◌≤◌, ◌<◌, ◌^◌, ◌∷◌, Bor, Option, Some, None, IfSome, IfNone, Result, refl, ap, sym, subst, ◌∙◌, arith}
+use Rattle.std.proofs.Common.{Ok, Err, ◌≡◌, ℕ, ◌+◌, ◌≤◌, ◌<◌, ◌^◌, ◌∷◌, Bor, Option, Some, None, IfSome, IfNone, Result, refl, ap, sym, subst, arith}
 use Rattle.std.specs.Fn.{Mut}
 use Rattle.spec_map.specs.Map.{Pairs, IsMap, lookup, put, without, with_answer, Rises}
 use Rattle.spec_map.specs.Near.{first_of}

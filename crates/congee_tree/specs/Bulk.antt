@@ -1,7 +1,8 @@
 -- Calls that change many pairs at once.
-use Rattle.std.specs.Prelude.{◌≡◌, ℕ, ◌+◌, Bool, List, [], ◌∷◌, Option, Some, None, if◌then◌else◌, fold}
+use Rattle.std.specs.Prelude.{◌≡◌, ℕ, ◌+◌, List, [], Option, Some, None, fold}
 use Rattle.std.specs.Fn.{Mut, Called}
 use Rattle.spec_map.specs.Map.{Pairs, put, between}
+pub use Rattle.tree_edit.specs.Calls.{Retains}
 pub use Rattle.tree_edit.specs.Outside.{outside}
 use denote.Ref.{Bor}
 
@@ -18,15 +19,6 @@ next_of (Some k) = k + 1
 abbrev pub unread_pairs : {V : Type 0} → Pairs V → Option (ℕ × ℕ) → Pairs V
 unread_pairs es None = []
 unread_pairs es (Some keys) = between es keys.0 (keys.1 + 1)
-
--- A closure's steps at the items of a list, in their order, each once: it answers which items stay. Those are `kept`.
-module _ {F E : Type 0} (step : F → E → Bool → F → Type 0) where
-  abbrev pub Retains : F → List E → List E → F → Type 0
-  Retains f [] kept last = (kept ≡ []) × (last ≡ f)
-  Retains f (e ∷ es) kept last = (stays : Bool) × (next : F) × (rest : List E)
-      × step f e stays next
-      × Retains next es rest last
-      × (kept ≡ (if stays then e ∷ rest else rest))
 
 -- a call of f at a key and a `&` to a payload may return r, and leave f'
 pub record CalledAtEntry {F K P R : Type 0} (g : Mut F (K × (Bor P × Unit {0})) R) (f : F) (k : K) (p : P) (r : R) (f' : F) : Type 0 where

@@ -2,22 +2,44 @@
 //!
 //! Tested in `test_owned/bulk`.
 
-ghost use Rattle.std.specs.Prelude.{◌≡◌, ◌+◌, [], length, take, IfSome, IfNone, IfErr, OnOk, slice_get, IsSomeAnd, None, Some};
+ghost use Rattle.std.specs.Prelude.{◌≡◌, ◌↔◌, ◌+◌, ◌/◌, ◌<◌, ◌≤◌, ◌^◌, [], length, take, false, IfSome, IfNone, IfErr, IsTrue, OnOk, slice_get, IsSomeAnd, None, Some};
 ghost use Rattle.std.specs.List.{FoldsTo};
-ghost use Rattle.congee_tree.specs.Bulk.{outside, next_of, put_all};
-ghost use Rattle.spec_map.specs.Map.{between};
+ghost use Rattle.congee_tree.specs.Bulk.{outside, next_of, put_all, Retains};
+ghost use Rattle.spec_map.specs.Map.{Pairs, between};
 ghost use Rattle.spec_map.specs.Refusal.{NeedsNode};
+ghost use Rattle.tree_edit.specs.Calls.{Asking};
 ghost use Rattle.tree_edit.specs.Tree.{root_alone, ChargesForNodes};
 ghost use Rattle.tree_walk.specs.Scan.{from_key, first_number, first_pair};
 
-use crate::by_number::{extract_run, remove};
+use crate::by_number::{extract_run, keep_run, remove};
 use crate::tree::RawCongee;
 use node_table::allocator::Allocator;
 use spec_map::payload::Payload;
 use spec_map::traits::Word;
 use std::marker::Brand;
 use std::sync::ledger::Blank;
-use tree_edit::receiver::{Dropped, Receiver};
+use tree_edit::receiver::{Asker, Dropped, Receiver};
+
+// The least key after this one, or the greatest key where there is none.
+fn start_after(last: Option<u64>) -> u64
+    ensures { next_of last < 2 ^ 64 → result ≡ next_of last }
+{
+    match last {
+        None => 0,
+        Some(key) => key.saturating_add(1),
+    }
+}
+
+// Whether there is such a key, and the other one differs from it in its last byte alone.
+fn is_beside(last: Option<u64>, key: u64) -> bool
+    ensures none { IfNone last (result ≡ false) }
+    ensures some { IfSome last (λ other. IsTrue result ↔ (other / 256 ≡ key / 256)) }
+{
+    match last {
+        None => false,
+        Some(other) => other / 256 == key / 256,
+    }
+}
 
 impl<P: Payload, A: Allocator> RawCongee<P, A> {
     /// Removes all pairs, which leaves the root alone. Never fails. Frees node by node where there is memory for a new
@@ -65,6 +87,50 @@ impl<P: Payload, A: Allocator> RawCongee<P, A> {
             self.law_ordered();
             extract_run::<Brand, P, A, F, R>(self, start, key, end, f, Blank::new(1));
         }
+    }
+
+    /// Asks about each pair, once, keys ascending, and removes those that aren't to stay, each as a removal does. Never
+    /// fails. Reads at most four paths for each leaf, and one beside them that is a dead end.
+    pub fn retain<F, R: Asker<P, F>>(&mut self, f: &mut F)
+        requires { R.ready f.old }
+        ensures retains { Retains R.step f.old self.old.pairs self.new.pairs f.new }
+        ensures charge { ChargesForNodes A.charge self.old self.new }
+    {
+        self.law_ordered();
+        let mut last = None;
+        while let Some(key) = self.keep_after::<F, R>(last, f) {
+            last = Some(key);
+        }
+    }
+
+    // Asks about the pair after a key, and if that one was in the same leaf, about those that follow there. Returns the key of
+    // the last. So a leaf of one pair costs what asking about that and removing it do.
+    fn keep_after<F, R: Asker<P, F>>(&mut self, last: Option<u64>, f: &mut F) -> Option<u64>
+        requires { R.ready f.old }
+        ensures none { IfNone result
+            ((first_pair (from_key (next_of last) self.old.pairs) ≡ None)
+            × (f.new ≡ f.old) × (self.new.pairs ≡ self.old.pairs)) }
+        ensures asks { IfSome result (λ key. (f' : F) (first : Pairs P)
+            → Asking R.step f' first f.old self.old.pairs (next_of last)
+            → Asking R.step f' first f.new self.new.pairs (key + 1)) }
+        ensures forward { IfSome result (λ key. (next_of last ≤ key) × (key < 2 ^ 64)) }
+        ensures charge { ChargesForNodes A.charge self.old self.new }
+        ensures ready { R.ready f.new }
+    {
+        self.law_ordered();
+        let Some((key, payload)) = self.pair_after(last) else {
+            return None;
+        };
+        if is_beside(last, key) {
+            let start = start_after(last);
+            let to = keep_run::<Brand, P, A, F, R>(self, start, key, f, Blank::new(1));
+            return Some(to);
+        }
+        let stays = R::ask(f, key, payload);
+        if !stays {
+            let _ = remove::<Brand, P, A>(self, key, Blank::new(1));
+        }
+        Some(key)
     }
 
     /// The least key with `start <= key < end`. Takes no memory.

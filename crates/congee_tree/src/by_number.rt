@@ -2,21 +2,22 @@
 //!
 //! Tested in `test_owned` and `tools/dev/try-commands`.
 
-ghost use Rattle.std.specs.Prelude.{◌≡◌, ◌<◌, ◌≤◌, option_copied};
+ghost use Rattle.std.specs.Prelude.{◌≡◌, ◌+◌, ◌<◌, ◌≤◌, IsSome, option_copied};
 ghost use Rattle.std.specs.Fn.{TakesAt};
 ghost use Rattle.std.specs.Int.{to_be_bytes, w64};
 ghost use Rattle.std.specs.Option.{ForSome};
-ghost use Rattle.tree_edit.specs.Calls.{Calls, HasNoneAfter};
+ghost use Rattle.tree_edit.specs.Calls.{Asking, Calls, HasNoneAfter};
+ghost use Rattle.tree_edit.specs.Tree.{ChargesForNodes};
 ghost use Rattle.tree_edit.specs.TreeCalls.{Removes, Inserts, ComputesOrInserts, ComputesIfPresent, RemovesRun};
 ghost use Rattle.tree_edit.specs.Closure.{TakesOption};
-ghost use Rattle.spec_map.specs.Map.{lookup, IsMap};
+ghost use Rattle.spec_map.specs.Map.{Pairs, lookup, IsMap};
 
 use crate::tree::RawCongee;
 use node_table::allocator::Allocator;
 use spec_map::error::OOMError;
 use spec_map::payload::Payload;
 use std::sync::ledger::{Blank, Ledger};
-use tree_edit::receiver::Receiver;
+use tree_edit::receiver::{Asker, Receiver};
 use tree_path::reads::ReadCount;
 
 /// The payload at the key.
@@ -91,6 +92,37 @@ pub fn extract_run<L: Ledger, P: Payload, A: Allocator, F, R: Receiver<P, F>>(
         .extract_run::<L, F, R>(start, key, end, f, &mut reads);
     // (for the proof: brings the order of the keys into scope)
     let _ = tree.tree.table();
+}
+
+/// Asks about the pair at the key and those that follow it in its leaf, and removes those that aren't to stay. Returns the
+/// key of the last.
+pub fn keep_run<L: Ledger, P: Payload, A: Allocator, F, R: Asker<P, F>>(
+    tree: &mut RawCongee<P, A>,
+    start: u64,
+    key: u64,
+    f: &mut F,
+    blank: Blank,
+) -> u64
+    requires name { blank.name ≡ L.name }
+    requires parts { blank.parts ≡ L.parts }
+    requires some { 0 < blank.parts }
+    requires from { start ≤ key }
+    requires there { IsSome (lookup tree.old.pairs key) }
+    requires first { HasNoneAfter tree.old.pairs start key }
+    requires ready { R.ready f.old }
+    ensures asks { (f' : F) (first : Pairs P)
+        → Asking R.step f' first f.old tree.old.pairs start
+        → Asking R.step f' first f.new tree.new.pairs (result + 1) }
+    ensures forward { key ≤ result }
+    ensures charge { ChargesForNodes A.charge tree.old tree.new }
+    ensures ready { R.ready f.new }
+{
+    let mut reads = ReadCount::<L>::new(blank);
+    tree.least = 0;
+    let last = tree.tree.keep_run::<L, F, R>(start, key, f, &mut reads);
+    // (for the proof: brings the order of the keys into scope)
+    let _ = tree.tree.table();
+    last
 }
 
 /// Where the key is present, calls the closure, once, and stores what it returns; `None` removes the key. Returns the

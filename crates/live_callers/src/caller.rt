@@ -1,4 +1,4 @@
-//! A caller of a map. The map lives as long as its last caller.
+//! A caller of a map. The map lives as long as its last caller. One that ends leaves its room for nodes to the next.
 //!
 //! Tested in `tools/c-library`.
 
@@ -12,21 +12,19 @@ ghost use Rattle.live_order.specs.Page.{pairs_of};
 ghost use Rattle.live_scans.specs.Scans.{EntersNothing, HasPage, HasNext};
 ghost use Rattle.live_floors.specs.Floors.{HasBefore};
 
-use live_calls::map::{Busy, Congee, Guard, Refusal};
-use live_computes::present;
+use live_calls::map::{Busy, Guard, Refusal};
 use live_floors::floors;
 use live_order::page::RangeEntry;
+use live_pool::pool::Pool;
 use live_scans::scans;
-use live_updates::calls;
 use spec_map::error::OOMError;
 use std::alloc::Global;
 use std::marker::Model;
 use std::sync::Arc;
 
 /// A caller of a map. Contracts see which map, the caller's number, and the history that it has seen.
-#[derive(Drop)]
 pub struct Caller {
-    map: Arc<Congee>,
+    pool: Arc<Pool>,
     guard: Guard,
 }
 
@@ -39,7 +37,7 @@ impl Model for Caller {
 
     ghost view = { λ c. c.guard };
 
-    ghost invariant = { λ c. c.guard.book ≡ arc_value c.map };
+    ghost invariant = { λ c. c.guard.book ≡ arc_value c.pool };
 }
 
 impl Caller {
@@ -48,23 +46,23 @@ impl Caller {
     pub fn first(alloc: Global) -> Result<Caller, OOMError>
         ensures { IfOk result (λ first. first.seen ≡ []) }
     {
-        let made = Congee::new(alloc)?;
-        let Ok(map) = Arc::new(alloc, made) else {
+        let made = Pool::new(alloc)?;
+        let Ok(pool) = Arc::new(alloc, made) else {
             return Err(OOMError::new());
         };
-        let guard = map.pin();
-        Ok(Caller { map, guard })
+        let guard = pool.pin();
+        Ok(Caller { pool, guard })
     }
 
     /// One more caller of the map, which has seen nothing yet. `OOMError` where there are too many callers to count.
     pub fn beside(&self) -> Result<Caller, OOMError>
         ensures { IfOk result (λ other. (other.book ≡ self.now.book) × (other.seen ≡ [])) }
     {
-        let Ok(map) = Arc::try_clone(&self.map) else {
+        let Ok(pool) = Arc::try_clone(&self.pool) else {
             return Err(OOMError::new());
         };
-        let guard = map.pin();
-        Ok(Caller { map, guard })
+        let guard = pool.pin();
+        Ok(Caller { pool, guard })
     }
 
     /// Two callers of one map meet. Both have then seen one legal history, which begins with what each had seen.
@@ -84,7 +82,7 @@ impl Caller {
             (got (ask self.old.caller key 0 0) found) self.new) }
         ensures busy { OnErr result (self.new ≡ self.old) }
     {
-        self.map.get(&mut self.guard, key)
+        self.pool.map.get(&mut self.guard, key)
     }
 
     /// Gives a key a value, and returns the one before. `Busy` if too many writers came in between, and `OutOfMemory` if
@@ -94,21 +92,21 @@ impl Caller {
             (inserted (ask self.old.caller key value 1) old) self.new) }
         ensures refused { OnErr result (self.new ≡ self.old) }
     {
-        self.map.insert(alloc, &mut self.guard, key, value)
+        self.pool.insert(alloc, &mut self.guard, key, value)
     }
 
-    /// Removes a key, and returns the value that it had. Takes no memory. `Busy` if too many writers came in between: then
+    /// Removes a key, and returns the value that it had. Needs no memory. `Busy` if too many writers came in between: then
     /// nothing has changed.
     pub fn remove(&mut self, key: u64) -> Result<Option<u64>, Busy>
         ensures made { IfOk result (λ before. MadeCall self.old
             (removed self.old.caller key before) self.new) }
         ensures busy { OnErr result (self.new ≡ self.old) }
     {
-        calls::remove(&self.map, &mut self.guard, key)
+        self.pool.remove(&mut self.guard, key)
     }
 
     /// Replaces a key's value by `new`, or removes the key for `None`, if the value is `old`. `Ok` with `new`, or `Err` with
-    /// the current value, or with `None` where the key is absent. Takes no memory. `Busy` if too many writers came in
+    /// the current value, or with `None` where the key is absent. Needs no memory. `Busy` if too many writers came in
     /// between: then nothing has changed.
     pub fn compare_exchange(
         &mut self,
@@ -121,7 +119,7 @@ impl Caller {
         ensures stored { IfOk result (λ answer. IfOk answer (λ stored. stored ≡ new)) }
         ensures busy { OnErr result (self.new ≡ self.old) }
     {
-        calls::compare_exchange(&self.map, &mut self.guard, key, old, new)
+        self.pool.compare_exchange(&mut self.guard, key, old, new)
     }
 
     /// Gives an absent key a value. Returns the value of a present one, which no lock is taken for. Refusals are those of
@@ -136,7 +134,7 @@ impl Caller {
             (inserted_with self.old.caller key found (unwrap_or found value)) self.new) }
         ensures refused { OnErr result (self.new ≡ self.old) }
     {
-        present::get_or_insert(&self.map, alloc, &mut self.guard, key, value)
+        self.pool.get_or_insert(alloc, &mut self.guard, key, value)
     }
 
     /// Adds a number to a key's value, modulo 2 to the 64. An absent key gets the number itself. Returns the value before.
@@ -146,7 +144,7 @@ impl Caller {
             (inserted_with self.old.caller key before (sum_with before number)) self.new) }
         ensures refused { OnErr result (self.new ≡ self.old) }
     {
-        present::add(&self.map, alloc, &mut self.guard, key, number)
+        self.pool.add(alloc, &mut self.guard, key, number)
     }
 
     /// Writes the pairs with keys from `start` on and below `end` into the buffer, ascending, as many as there are or as fit,
@@ -163,7 +161,7 @@ impl Caller {
             (take count (pairs_of P.pair buffer.new)) self.new) }
         ensures busy { OnErr result (EntersNothing self.old self.new) }
     {
-        scans::range(&self.map, &mut self.guard, start, end, buffer)
+        scans::range(&self.pool.map, &mut self.guard, start, end, buffer)
     }
 
     /// The same with keys from `first` to `last`.
@@ -178,7 +176,7 @@ impl Caller {
             (take count (pairs_of P.pair buffer.new)) self.new) }
         ensures busy { OnErr result (EntersNothing self.old self.new) }
     {
-        scans::range_inclusive(&self.map, &mut self.guard, first, last, buffer)
+        scans::range_inclusive(&self.pool.map, &mut self.guard, first, last, buffer)
     }
 
     /// The pair with the least key that is at least this one. `Busy` if too many writers came in between.
@@ -186,7 +184,7 @@ impl Caller {
         ensures next { IfOk result (λ found. HasNext self.old key found self.new) }
         ensures busy { OnErr result (EntersNothing self.old self.new) }
     {
-        scans::ceiling(&self.map, &mut self.guard, key)
+        scans::ceiling(&self.pool.map, &mut self.guard, key)
     }
 
     /// The pair with the least key that is above this one. `Busy` if too many writers came in between.
@@ -194,7 +192,7 @@ impl Caller {
         ensures next { IfOk result (λ found. HasNext self.old (key + 1) found self.new) }
         ensures busy { OnErr result (EntersNothing self.old self.new) }
     {
-        scans::above(&self.map, &mut self.guard, key)
+        scans::above(&self.pool.map, &mut self.guard, key)
     }
 
     /// The pair with the greatest key that is at most this one. `Busy` if too many writers came in between.
@@ -202,7 +200,7 @@ impl Caller {
         ensures before { IfOk result (λ found. HasBefore self.old (key + 1) found self.new) }
         ensures busy { OnErr result (EntersNothing self.old self.new) }
     {
-        floors::floor(&self.map, &mut self.guard, key)
+        floors::floor(&self.pool.map, &mut self.guard, key)
     }
 
     /// The pair with the greatest key that is below this one. `Busy` if too many writers came in between.
@@ -210,7 +208,7 @@ impl Caller {
         ensures before { IfOk result (λ found. HasBefore self.old key found self.new) }
         ensures busy { OnErr result (EntersNothing self.old self.new) }
     {
-        floors::below(&self.map, &mut self.guard, key)
+        floors::below(&self.pool.map, &mut self.guard, key)
     }
 
     /// The pair with the greatest key. `Busy` if too many writers came in between.
@@ -218,6 +216,15 @@ impl Caller {
         ensures last { IfOk result (λ found. HasBefore self.old (2 ^ 64) found self.new) }
         ensures busy { OnErr result (EntersNothing self.old self.new) }
     {
-        floors::last(&self.map, &mut self.guard)
+        floors::last(&self.pool.map, &mut self.guard)
+    }
+}
+
+/// The next caller gets this one's room for nodes.
+impl Drop for Caller {
+    fn drop(self) {
+        let Caller { pool, guard } = self;
+        pool.unpin(guard);
+        drop(pool);
     }
 }

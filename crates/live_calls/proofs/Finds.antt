@@ -6,7 +6,7 @@ use Rattle.live_nodes.specs.Seats.{SeatView}
 use Rattle.live_encodes.specs.Encodes.{IsWord}
 use Rattle.live_law.specs.Levels.{place_at}
 use Rattle.live_law.specs.Views.{View, Ask, ask, got, inserted}
-use Rattle.live_law.specs.Tree.{HasAnswer, Answers}
+use Rattle.live_law.specs.Tree.{Answers}
 use Rattle.live_calls.specs.Ways.{Names, Sights, Keeps, Ended, Looked, Found}
 use Rattle.live_calls.specs.Sees.{Follows}
 use Rattle.live_calls.specs.declared.sight.Next.{Next}
@@ -36,7 +36,7 @@ looked_none look q h (Some x) v w l e = absurd (some_none e)
     some_none e = cc
 
 pub looked_end : (look : Bool) (q : Ask) (h : ℕ) (o : Option (Option ℕ)) (v w : Seen) → look ≡ true → Looked look q h o v w → o ≡ Some None → Found q (Some None) v w
-looked_end look q h o v w is l e = (subst (λ (t : Bool × Option (Option ℕ)). Looked t.0 q h t.1 v w) (λ i. (is i, e i)) l).answers
+looked_end look q h o v w is l e = subst (λ (t : Bool × Option (Option ℕ)). Looked t.0 q h t.1 v w) (λ i. (is i, e i)) l
 
 pub looked_below : (look : Bool) (q : Ask) (h : ℕ) (o : Option (Option ℕ)) (x : ℕ) (v w : Seen) → 2 ≤ h → Looked look q h o v w → o ≡ Some (Some x) → (w.client.seen ≡ v.client.seen) × ((name : ℕ) × IsWord x (Below name) × Sights w name)
 looked_below look q zero o x v w high l e = absurd (omega (arith, high))
@@ -45,10 +45,10 @@ looked_below look q (suc (suc h)) o x v w high l e = subst (λ (z : Option (Opti
 
 pub looked_leaf : (look : Bool) (q : Ask) (o : Option (Option ℕ)) (v w : Seen) → look ≡ true → Looked look q 1 o v w → Found q o v w
 looked_leaf look q None v w is l = ap (λ (z : View). z.seen) l
-looked_leaf look q (Some None) v w is l = (subst (λ (t : Bool). Looked t q 1 (Some None) v w) is l).answers
-looked_leaf look q (Some (Some x)) v w is l = (subst (λ (t : Bool). Looked t q 1 (Some (Some x)) v w) is l).answers
+looked_leaf look q (Some None) v w is l = subst (λ (t : Bool). Looked t q 1 (Some None) v w) is l
+looked_leaf look q (Some (Some x)) v w is l = subst (λ (t : Bool). Looked t q 1 (Some (Some x)) v w) is l
 
-pub looked_empty : (q : Ask) (h : ℕ) (o : Option (Option ℕ)) (v w : Seen) → Looked false q h o v w → o ≡ Some None → w.client ≡ v.client
+pub looked_empty : (q : Ask) (h : ℕ) (o : Option (Option ℕ)) (v w : Seen) → Looked false q h o v w → o ≡ Some None → w.client.seen ≡ v.client.seen
 looked_empty q h o v w l e = subst (λ (z : Option (Option ℕ)). Looked false q h z v w) e l
 
 pub when_out : {A : Type 0} (P : A → Type 0) (o : Option A) → o ≡ None → IfSome o P
@@ -76,15 +76,9 @@ inserted_by c d key value found v w e a = subst (λ (z : ℕ). Answers z (insert
 
 -- a look-up that ends at a node
 pub ended_none : (look : Bool) (q : Ask) (v w : Seen) → look ≡ true → Ended look q None v w → Found q (Some None) v w
-ended_none look q v w is e = (subst (λ (b : Bool). Ended b q None v w) is e).answers
+ended_none look q v w is e = subst (λ (b : Bool). Ended b q None v w) is e
 
--- the same, from a seat that knew as much
-ended_from : (look : Bool) (q : Ask) (u v w : Seen) → v.client ≡ u.client → Ended look q None v w → Ended look q None u w
-ended_from true q u v w e f = subst (λ (z : View). HasAnswer q None z w.client) e f
+-- the same, from a seat that had seen as much
+ended_from : (look : Bool) (q : Ask) (u v w : Seen) → v.client.seen ≡ u.client.seen → Ended look q None v w → Ended look q None u w
+ended_from true q u v w e f = subst (λ (z : List (Entry ℕ)). Answers q.caller (got q None) z w.client.seen) e f
 ended_from false q u v w e f = f ∙ e
-
-pub follows_from : (look : Bool) (q : Ask) (u v w : Seen) (key height : ℕ) (o : Option Next) → v.client ≡ u.client → Follows (Ended look q None) v w key height o → Follows (Ended look q None) u w key height o
-follows_from look q u v w key height None e f = f ∙ ap (λ (z : View). z.seen) e
-follows_from look q u v w key height (Some nexts.Ends) e f = ended_from look q u v w e f
-follows_from look q u v w key height (Some (nexts.Goes name h)) e f = (f.0 ∙ ap (λ (z : View). z.seen) e, f.1, f.2, f.3)
-follows_from look q u v w key height (Some (nexts.Forks fork)) e f = (f.0 ∙ ap (λ (z : View). z.seen) e, f.1)

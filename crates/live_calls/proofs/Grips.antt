@@ -1,5 +1,5 @@
 -- A node that is held last, whatever else the seat has to itself.
-use Rattle.std.proofs.Common.{◌≡◌, ℕ, ◌+◌, ◌<◌, ◌≤◌, Bool, cond, List, [], ◌∷◌, length, Some, None, refl, sym, ap, ◌∙◌, subst, inr, arith, eq-eqb}
+use Rattle.std.proofs.Common.{◌≡◌, ℕ, ◌+◌, ◌*◌, ◌<◌, ◌≤◌, Bool, cond, List, [], ◌∷◌, length, Some, None, refl, sym, ap, ◌∙◌, subst, inr, arith, eq-eqb}
 use Rattle.node_table.specs.TableNode.{TableNode}
 use Rattle.spec_map.specs.Map.{lookup}
 use Rattle.word_book.specs.Book.{Book, Name, writes, none_joined}
@@ -70,8 +70,8 @@ grip_made v w b b' words free p d same h q c form name m = record {
 
 -- and it becomes the other's child
 pub child_frees : (id : ℕ) (q : Ask) (v : Seen) (z : View) (a : Spot) (c : Content) (height : ℕ) (laid : (y : Spot) × (cy : Content) × (v.client.own ≡ fresh y cy ∷ locked a c ∷ []) × IsEmptyNode y cy × (y.shape.height ≡ q.height) × Covers y.shape q.key) → q.height < height → 1 ≤ q.height → a.shape.height ≡ height → Covers a.shape q.key
-    → (word : ℕ) (e : Content) → length e ≡ words_of a.shape.form → Changes a c e q.key laid.0 → ((n : TableNode ℕ) → Encodes c n → n.form ≡ a.shape.form → lookup n.children (digit a.shape.height q.key) ≡ None)
+    → (word n : ℕ) → word ≡ 4 * n → (e : Content) → length e ≡ words_of a.shape.form → Changes a c e q.key laid.0 → ((n : TableNode ℕ) → Encodes c n → n.form ≡ a.shape.form → lookup n.children (digit a.shape.height q.key) ≡ None)
     → acts.Frees IsMap id v.client a.number word e (Links v.client a.number e)
-child_frees id q v z a c height laid above some_height high covers word e long changes absent =
+child_frees id q v z a c height laid above some_height high covers word n even e long changes absent =
     let y = laid.0 in
-    link_below id v.client q.key y a laid.1 c laid.2 word e (let h = laid.4 in omega (arith, h, above, high)) (let h = laid.4 in omega (arith, h, some_height)) laid.5 covers long changes absent laid.3
+    link_below id v.client q.key y a laid.1 c laid.2 word n even e (let h = laid.4 in omega (arith, h, above, high)) (let h = laid.4 in omega (arith, h, some_height)) laid.5 covers long changes absent laid.3

@@ -1,22 +1,27 @@
 -- A node is locked, written and unlocked.
-use Rattle.std.proofs.Common.{◌≡◌, ◌≢◌, ℕ, ◌+◌, ◌*◌, ◌%◌, ◌<◌, ◌^◌, Bool, cond, nat_eq, List, [], ◌∷◌, length, Option, Some, IfSome, refl, sym, ap, ◌∙◌, subst, eq-eqb}
+use Rattle.std.proofs.Common.{◌≡◌, ◌≢◌, ℕ, ◌+◌, ◌*◌, ◌/◌, ◌%◌, ◌<◌, ◌^◌, Bool, cond, nat_eq, List, [], ◌∷◌, length, Option, Some, IfSome, refl, sym, ap, ◌∙◌, subst, arith, eq-eqb}
 use Rattle.word_book.specs.Book.{Book, Name, writes, compares, none_joined, Joined}
 use Rattle.live_nodes.specs.Nodes.{Content}
-use Rattle.live_nodes.specs.Seats.{Place, Hold, hold, SeatView, seat_view, IsIn, with_draft, without}
+use Rattle.live_nodes.specs.Seats.{Place, Hold, hold, SeatView, seat_view, IsIn, Agree, with_draft, without}
 use Rattle.live_nodes.specs.Acts as acts
 use Rattle.live_nodes.specs.Plays as plays
 use Rattle.live_nodes.specs.Plays.{hold_of, took, locked, Takes, Locks}
 use Rattle.live_nodes.specs.Calls.{MayLock, MayFree}
 use Rattle.live_rows.specs.Rows.{nth, draft_of, undrafted, MayHold, without_draft}
 use Rattle.live_encodes.specs.Encodes.{words_of}
-use Rattle.live_law.specs.Levels.{Spot, place_at}
+use Rattle.live_cells.specs.Head.{IsHead}
+use Rattle.live_cells.specs.Words as cells
+use Rattle.live_law.specs.Levels.{Shape, Spot, spot, place_at}
 use Rattle.live_law.specs.Views as views
 use Rattle.live_law.specs.Views.{View, view_of, Own}
 use Rattle.live_law.specs.Tree.{IsMap, LearnsLocked, IsHeld}
 use Rattle.live_law.proofs.Locks.{node_locks}
 use Rattle.live_calls.specs.Ways.{Names, AreNamed}
 use Rattle.live_calls.specs.Holds.{Alike, HasLocked, HoldsOne}
+use Rattle.live_calls.specs.Sees.{Sees}
+use Rattle.live_calls.specs.declared.sight.Sight.TheVariants as sights
 use Rattle.live_calls.proofs.Views.{reading}
+use Rattle.live_calls.proofs.Sights.{sure_by}
 
 abbrev Seen : Type 0
 Seen = SeatView View
@@ -24,8 +29,8 @@ Seen = SeatView View
 pub hold_head : (k n : ℕ) (d : Content) (hs : List Hold) → hold_of k (hold k n d ∷ hs) ≡ Some (hold k n d)
 hold_head k n d hs = ap (λ (b : Bool). cond b (Some (hold k n d)) (hold_of k hs)) (eq-eqb k k refl)
 
-pub alike_taken : (v w : Seen) (k n : ℕ) → w ≡ reading v k n [] → Alike v w × (w.client ≡ v.client) × (w.holds ≡ v.holds)
-alike_taken v w k n e = (
+pub alike_read : (v w : Seen) (k n : ℕ) (saw : List (ℕ × ℕ)) → w ≡ reading v k n saw → Alike v w × (w.client ≡ v.client) × (w.holds ≡ v.holds)
+alike_read v w k n saw e = (
   record {
     places = ap (λ (z : Seen). z.places) e;
     met = ap (λ (z : Seen). z.client.met) e;
@@ -35,27 +40,42 @@ alike_taken v w k n e = (
   ap (λ (z : Seen). z.holds) e,
 )
 
-module _ (v : Seen) (name key height : ℕ) (n : Names v name key height) (v₁ : Seen) (t : ℕ) (taken : v₁ ≡ reading v n.spot.number t []) (k : ℕ) (at_k : n.spot.shape.key ≡ k) where
+pub alike_taken : (v w : Seen) (k n : ℕ) → w ≡ reading v k n [] → Alike v w × (w.client ≡ v.client) × (w.holds ≡ v.holds)
+alike_taken v w k n e = alike_read v w k n [] e
+
+-- The head was read, and then the node was locked by the same word.
+module _ (v : Seen) (name key height : ℕ) (n : Names v name key height) (v₁ : Seen) (t : ℕ) (saw : List (ℕ × ℕ)) (taken : v₁ ≡ reading v n.spot.number t saw) (k : ℕ) (at_k : n.spot.shape.key ≡ k) where
   abbrev p : Place
   p = place_at n.spot
 
-  pub may_lock : (id m : ℕ) → t ≡ 4 * m → MayLock v₁ k IsMap id LearnsLocked t
-  may_lock id m even = subst (λ (z : Seen). MayLock z k IsMap id LearnsLocked t) (sym taken) (p, (n.placed, at_k), node_locks id v.client n.spot n.met t m even)
+  pub may_lock : (id m : ℕ) → t ≡ 4 * m → MayLock v₁ k IsMap id LearnsLocked t (t + 2)
+  may_lock id m even = subst (λ (z : Seen). MayLock z k IsMap id LearnsLocked t (t + 2)) (sym taken) (p, (n.placed, at_k), node_locks id v.client n.spot n.met t m even)
 
   module _ (v₂ : Seen) (m : ℕ) (j : Joined) (told : Locks LearnsLocked (compares k t (t + 2)) v₁ m j v₂) where
-    tried : plays.Tried (LearnsLocked v.client n.spot.number) n.spot.number t p.len (reading v n.spot.number t []) m v₂
+    tried : plays.Tried (LearnsLocked v.client n.spot.number) n.spot.number t (t + 2) p.len (reading v n.spot.number t saw) m v₂
     tried = subst (λ (z : Seen). Locks LearnsLocked (compares k t (t + 2)) z m j v₂) taken told p n.placed at_k
 
     pub not_locked : m ≢ t → Alike v v₂ × (v₂.client ≡ v.client) × (v₂.holds ≡ v.holds)
-    not_locked ne = alike_taken v v₂ n.spot.number t (tried.lost ne)
+    not_locked ne = alike_read v v₂ n.spot.number t saw (tried.lost ne)
 
-    pub is_locked : m ≡ t → t % 4 ≡ 0 → t < 2 ^ 62 → HasLocked v v₂ name key height t
-    is_locked hit even small =
+    pub is_locked : m ≡ t → t % 4 ≡ 0 → t < 2 ^ 62 → key < 2 ^ 64 → (head : ℕ) → ((c : Content) → Agree c saw → cells.at c 0 ≡ head) → ((form : ℕ) (q : List ℕ) → IsHead head form q → Sees q key (sights.Covers height)) → HasLocked v v₂ name key height t
+    is_locked hit even small fits head at_head sees =
         let w = tried.won hit in
-        let h : IsHeld v.client n.spot w.0 w.1 = w.4 n.spot n.met refl in record {
+        let h : IsHeld v.client n.spot w.0 w.1 = w.4 n.spot n.met refl in
+        let agrees : Agree w.0 saw = (w.5 (t / 4) (omega (arith, even))).0 refl refl in
+        let shape_is : h.shape ≡ n.spot.shape = sure_by key fits saw head at_head height sees n.spot n.high n.covers h.shape record {
+          now = h.now;
+          content = w.0;
+          its = h.its;
+          agrees = agrees;
+          encodes = h.encodes;
+          in_form = h.in_form;
+          deep = h.deep;
+          prefixed = h.prefixed;
+        } in record {
           names = n;
           content = w.0;
-          own = ap (λ (z : Seen). z.client.own) w.3 ∙ ap (λ (z : View). z.own) h.is;
+          own = ap (λ (z : Seen). z.client.own) w.3 ∙ (ap (λ (z : View). z.own) h.is ∙ ap (λ (z : Shape). views.locked (spot n.spot.number z) w.0 ∷ v.client.own) shape_is);
           holds = ap (λ (z : Seen). z.holds) w.3;
           alike = record {
             places = ap (λ (z : Seen). z.places) w.3;
@@ -66,7 +86,7 @@ module _ (v : Seen) (name key height : ℕ) (n : Names v name key height) (v₁ 
           its = h.its;
           encodes = h.encodes;
           in_form = h.in_form;
-          deep = ap (λ (z : ℕ). length h.its.prefix + z) (sym n.high) ∙ h.deep;
+          deep = ap (λ (z : ℕ). length h.its.prefix + z) (sym n.high ∙ ap (λ (z : Shape). z.height) (sym shape_is)) ∙ h.deep;
           long = w.2;
           even = even;
           small = small;

@@ -18,15 +18,18 @@ both_meet i j v w ns vs p first second ne =
       d,
       record {
         plan = p.plan;
+        contents = p.contents;
         history = p.history;
         pairs = p.pairs;
         legal = p.legal;
         nodes = p.nodes;
+        settled = p.settled;
+        alive = p.alive;
         tree = p.tree;
         each_view = λ k u e. ⊎_elim
-            (λ t. subst (λ (x : ℕ × View). Knows p.plan ns p.history x.0 x.1) (λ z. (sym t.0 z, t.1 z)) record { seen = sees_all i p.history; met = a.met; own = a.own })
+            (λ t. subst (λ (x : ℕ × View). Knows p.plan ns p.contents p.history x.0 x.1) (λ z. (sym t.0 z, t.1 z)) record { seen = sees_all i p.history; met = a.met; own = a.own; watched = tt })
             (λ t. ⊎_elim
-            (λ q. subst (λ (x : ℕ × View). Knows p.plan ns p.history x.0 x.1) (λ z. (sym q.0 z, q.1 z)) record { seen = sees_all j p.history; met = b.met; own = b.own })
+            (λ q. subst (λ (x : ℕ × View). Knows p.plan ns p.contents p.history x.0 x.1) (λ z. (sym q.0 z, q.1 z)) record { seen = sees_all j p.history; met = b.met; own = b.own; watched = tt })
             (λ q. p.each_view k u q.1)
             (at_set vs j k d u t.1))
             (at_set us i k c u e);

@@ -21,7 +21,7 @@ use Rattle.live_nodes.specs.Calls.{MayFree}
 use Rattle.live_rows.specs.Rows.{AreOf, nth, draft_of, undrafted, MayHold, without_draft}
 use Rattle.live_encodes.specs.Encodes.{words_of, HasChildren, counted, most, IsCounted, Encodes, IsBelow, IsWord, with_child}
 use Rattle.live_law.specs.Levels.{digit, Spot, name_of, place_at}
-use Rattle.live_law.specs.Views.{View, view_of, Own, locked, fresh, rest_of, Ask}
+use Rattle.live_law.specs.Views.{View, view_of, with_own, Own, locked, fresh, rest_of, Ask}
 use Rattle.live_law.specs.Tree.{IsMap, IsApart, leads_on, left_over}
 use Rattle.live_calls.specs.Rooms.{HasMade, HasGrown}
 use Rattle.live_calls.proofs.Locks.{hold_head}
@@ -176,7 +176,7 @@ grown_changes q c c' same d form a y byte byte_is form_is word name is_word name
 
 -- what a seat knows once a node has grown
 pub widened : (v w s u m n z x' : Seen) (e e2 : View) (y x p : Spot) (cy cx cp : Content) (hs : List Hold) → Alike v w → w.client.seen ≡ v.client.seen → s ≡ w → Alike s u → u.client.seen ≡ s.client.seen
-    → m.client ≡ view_of u.client.seen u.client.met (fresh y cy ∷ u.client.own) → m.places ≡ place_at y ∷ u.places → n.client ≡ m.client → n.places ≡ m.places → n.client.own ≡ fresh y cy ∷ locked x cx ∷ locked p cp ∷ []
+    → m.client ≡ with_own u.client (fresh y cy ∷ u.client.own) → m.places ≡ place_at y ∷ u.places → n.client ≡ m.client → n.places ≡ m.places → n.client.own ≡ fresh y cy ∷ locked x cx ∷ locked p cp ∷ []
     → z ≡ seat_view e n.places n.reads hs n.room → e ≡ view_of n.client.seen (leads_on n.client.own ++ n.client.met) (left_over n.client.own)
     → x' ≡ seat_view e2 z.places z.reads [] z.room → e2 ≡ view_of z.client.seen z.client.met (rest_of z.client.own) → HasGrown v x'
 widened v w s u m n z x' e e2 y x p cy cx cp hs alike_p seen_p same alike_x seen_x m_client m_places n_client n_places own_n z_is e_is x_is e2_is =

@@ -18,7 +18,7 @@ use Rattle.live_nodes.specs.Calls.{MayMake}
 use Rattle.live_rows.specs.Rows.{filled, MayFill, MayHold, nth, without_fill}
 use Rattle.live_encodes.specs.Encodes.{words_of, Encodes}
 use Rattle.live_law.specs.Levels.{Spot, place_at}
-use Rattle.live_law.specs.Views.{View, view_of, Ask}
+use Rattle.live_law.specs.Views.{View, with_own, fresh, Ask}
 use Rattle.live_law.specs.Tree.{IsMap, IsMade}
 use Rattle.live_law.proofs.Makes.{node_makes}
 use Rattle.live_calls.specs.Rooms.{HasRoom, IsFilled, HasMade}
@@ -79,7 +79,7 @@ module _ (q : Ask) (v : Seen) (b : Book) (words : List Name) (start left : ℕ) 
             in_form = shaped;
             high = i.height;
             covers = i.covers;
-            client = ap (λ (z : Seen). z.client) new.2 ∙ (i.is ∙ ap (λ (z : Content). view_of v.client.seen v.client.met (Rattle.live_law.specs.Views.fresh a z ∷ v.client.own)) content_is);
+            client = ap (λ (z : Seen). z.client) new.2 ∙ (i.is ∙ ap (λ (z : Content). with_own v.client (fresh a z ∷ v.client.own)) content_is);
             places = ap (λ (z : Seen). z.places) new.2 ∙ ap (λ (z : Place). z ∷ v.places) place_is;
             holds = ap (λ (z : Seen). z.holds) new.2;
             named = named ∙ (λ j. 256 * ((sym f.starts ∙ sym placed) j) + form_place (sym shaped j));
@@ -144,7 +144,7 @@ made_before q v u w c form name m rest h = record {
   in_form = h.in_form;
   high = h.high;
   covers = h.covers;
-  client = h.client ∙ ap (λ (z : View). view_of z.seen z.met (Rattle.live_law.specs.Views.fresh h.spot c ∷ z.own)) (ap (λ (z : Seen). z.client) rest);
+  client = h.client ∙ ap (λ (z : View). with_own z (fresh h.spot c ∷ z.own)) (ap (λ (z : Seen). z.client) rest);
   places = h.places ∙ ap (λ (ps : List Place). place_at h.spot ∷ ps) (ap (λ (z : Seen). z.places) rest);
   holds = h.holds ∙ ap (λ (z : Seen). z.holds) rest;
   named = h.named;

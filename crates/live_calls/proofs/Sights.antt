@@ -2,11 +2,17 @@
 use Rattle.std.proofs.Common.{◌≡◌, ℕ, zero, suc, ◌+◌, ◌-◌, ◌*◌, ◌%◌, ◌<◌, ◌≤◌, ◌^◌, List, [], ◌∷◌, length, get_or, refl, sym, ap, ◌∙◌, subst, arith}
 use Rattle.word_book.specs.Book.{Book, Name}
 use Rattle.live_nodes.specs.Seats.{SeatView}
-use Rattle.live_law.specs.Levels.{up, digit, Shape, Covers, way, place_at}
+use Rattle.node_base.specs.Form.{form_place}
+use Rattle.live_nodes.specs.Nodes.{Content}
+use Rattle.live_nodes.specs.Seats.{Agree}
+use Rattle.live_cells.specs.Words as cells
+use Rattle.live_cells.specs.Head.{IsHead}
+use Rattle.live_law.specs.Levels.{up, digit, Shape, Covers, way, Spot, place_at}
 use Rattle.live_law.specs.Views.{View}
-use Rattle.live_law.specs.Tree.{HasPrefix}
+use Rattle.live_law.specs.Tree.{HasPrefix, IsOf}
 use Rattle.live_law.proofs.Plans.{root-top, joined, way-key}
-use Rattle.live_calls.specs.Ways.{Names, Sights, Leaves, HasOpened, Keeps}
+use Rattle.live_calls.specs.Ways.{Names, Sights, Leaves, Keeps}
+use Rattle.live_calls.proofs.Views.{IsHeaded}
 use Rattle.live_calls.specs.Sees.{Alike, Sees, HasMet}
 use Rattle.live_calls.specs.declared.sight.Sight.{Sight}
 use Rattle.live_calls.specs.declared.sight.Sight.TheVariants as sights
@@ -65,36 +71,72 @@ leaves_none v name key h b l covers =
 abbrev pub sights_kept : (v w : Seen) → Keeps v w → (name : ℕ) → Sights v name → Sights w name
 sights_kept v w k name n = record { spot = n.spot; met = k.met n.spot n.met; placed = k.places (place_at n.spot) n.placed; named = n.named }
 
+-- what a node's head says that was read with the others
+module _ (key : ℕ) (fits : key < 2 ^ 64) (saw : List (ℕ × ℕ)) (head : ℕ) (at_head : (c : Content) → Agree c saw → cells.at c 0 ≡ head) where
+  -- of the node's height, and that it covers the key
+  module _ (h : ℕ) (sees : (form : ℕ) (p : List ℕ) → IsHead head form p → Sees p key (sights.Covers h)) where
+    pub covers_by : (a : Spot) (s : Shape) → IsOf a s saw → (s.height ≡ h) × Covers s key
+    covers_by a s is =
+        let word : IsHead head (form_place is.its.form) is.its.prefix = subst (λ (z : ℕ). IsHead z (form_place is.its.form) is.its.prefix) (at_head is.content is.agrees) is.encodes.head in
+        let e = sees (form_place is.its.form) is.its.prefix word in
+        let deep = is.deep in
+        let long = e.0 in
+        (omega (arith, deep, long), sees_cover is.its.prefix s key fits is.deep is.prefixed e.1)
+
+    -- so what it is, is one thing
+    pub sure_by : (a : Spot) → a.shape.height ≡ h → Covers a.shape key → (s : Shape) → IsOf a s saw → s ≡ a.shape
+    sure_by a high covers s is =
+        let by = covers_by a s is in
+        let same_high : s.height ≡ a.shape.height = by.0 ∙ sym high in
+        let same_top : s.top ≡ a.shape.top = sym by.1 ∙ (ap (λ (z : ℕ). up z key) same_high ∙ covers) in
+        λ i. record { key = is.now.key i; form = is.now.form i; height = same_high i; top = same_top i }
+
+-- the root's shape is one thing
+pub sure_root : (a : Spot) (saw : List (ℕ × ℕ)) → a.shape.height ≡ 8 → (s : Shape) → IsOf a s saw → s ≡ a.shape
+sure_root a saw high s is = is.now.lasts high
+
 -- what is known of a node whose head was read
-module _ (v w : Seen) (k : Keeps v w) (b : Book) (words : List Name) (t name key : ℕ) (fits : key < 2 ^ 64) (n : Sights v name) (opened : HasOpened w b words t n.spot) (free : t % 4 ≡ 0) (p : List ℕ) (deep : length p + n.spot.shape.height ≡ 8) (has : HasPrefix p n.spot.shape) (tall : 1 ≤ n.spot.shape.height) where
-  pub sees_head : (o : Sight) → Sees p key o → HasMet w b words t name key o
+module _ (w : Seen) (b : Book) (words : List Name) (t name key : ℕ) (fits : key < 2 ^ 64) (saw : List (ℕ × ℕ)) (head : ℕ) (at_head : (c : Content) → Agree c saw → cells.at c 0 ≡ head) (x : IsHeaded w b words t name saw) (free : t % 4 ≡ 0) where
+  abbrev its : Spot
+  its = x.sighted.spot
+
+  pub sees_head : (o : Sight) → ((form : ℕ) (p : List ℕ) → IsHead head form p → Sees p key o) → HasMet w b words t name key o
   sees_head (sights.Covers h) sees =
-      let high : n.spot.shape.height ≡ h = (let s = sees.0 in omega (arith, s, deep)) in (
+      let by = covers_by key fits saw head at_head h sees its its.shape x.is in
+      let deep = x.is.deep in
+      let short = x.is.encodes.head.short in
+      let high = by.0 in (
         record {
           names = record {
-            spot = n.spot;
-            met = k.met n.spot n.met;
-            placed = k.places (place_at n.spot) n.placed;
-            named = n.named;
+            spot = its;
+            met = x.sighted.met;
+            placed = x.sighted.placed;
+            named = x.sighted.named;
             high = high;
-            covers = sees_cover p n.spot.shape key fits deep has sees.1;
+            covers = by.1;
           };
-          opened = opened;
+          opened = record { are = x.are; saw = saw; before = x.before; reads = x.reads };
           free = free;
+          sure = sure_by key fits saw head at_head h sees its high by.1;
         },
-        omega (arith, high, tall),
-        omega (arith, high, deep),
+        omega (arith, deep, short, high),
+        omega (arith, deep, high),
       )
-  sees_head (sights.Leaves h b) sees = record {
-    sighted = sights_kept v w k name n;
-    some_height = tall;
-    lower = leaves_lower p n.spot.shape key fits deep has h b sees.0 sees.1 sees.2 sees.3 sees.6;
-    level = sees.1;
-    top = leaves_top p n.spot.shape key fits deep has h b sees.0 sees.1 sees.2 sees.3 sees.6;
-    low = sees.4;
-    byte_is = leaves_byte p n.spot.shape key fits deep has h b sees.0 sees.1 sees.2 sees.3 sees.6;
-    other = sees.5;
-  }
+  sees_head (sights.Leaves h b) all =
+      let p = x.is.its.prefix in
+      let deep = x.is.deep in
+      let short = x.is.encodes.head.short in
+      let has = x.is.prefixed in
+      let s = all (form_place x.is.its.form) p (subst (λ (z : ℕ). IsHead z (form_place x.is.its.form) p) (at_head x.is.content x.is.agrees) x.is.encodes.head) in record {
+        sighted = x.sighted;
+        some_height = omega (arith, deep, short);
+        lower = leaves_lower p its.shape key fits deep has h b s.0 s.1 s.2 s.3 s.6;
+        level = s.1;
+        top = leaves_top p its.shape key fits deep has h b s.0 s.1 s.2 s.3 s.6;
+        low = s.4;
+        byte_is = leaves_byte p its.shape key fits deep has h b s.0 s.1 s.2 s.3 s.6;
+        other = s.5;
+      }
 
 -- the same node by its height
 pub names_sight : (v : Seen) (name key : ℕ) (s : Sights v name) → Covers s.spot.shape key → (h : ℕ) → s.spot.shape.height ≡ h → Names v name key h

@@ -1,5 +1,5 @@
 -- The trunk is locked, and names the root.
-use Rattle.std.proofs.Common.{◌≡◌, ◌≢◌, ℕ, ◌+◌, ◌≤◌, List, [], ◌∷◌, ◌++◌, length, sym, ap, ◌∙◌, subst, inr}
+use Rattle.std.proofs.Common.{◌≡◌, ◌≢◌, ℕ, ◌+◌, ◌*◌, ◌≤◌, List, [], ◌∷◌, ◌++◌, length, sym, ap, ◌∙◌, subst, inr}
 use Rattle.word_book.specs.Book.{Book, Name, compares, Joined}
 use Rattle.live_nodes.specs.Nodes.{Content, at}
 use Rattle.live_nodes.specs.Seats.{Place, place, Hold, hold, SeatView, seat_view, IsIn}
@@ -9,7 +9,7 @@ use Rattle.live_nodes.specs.Plays.{Locks}
 use Rattle.live_nodes.specs.Calls.{MayLock}
 use Rattle.live_rows.specs.Rows.{AreOf}
 use Rattle.live_law.specs.Levels.{up, Spot, name_of, Covers, place_at}
-use Rattle.live_law.specs.Views.{View, view_of, Own, trunk, fresh, Ask}
+use Rattle.live_law.specs.Views.{View, view_of, with_own, Own, trunk, fresh, Ask}
 use Rattle.live_law.specs.Tree.{IsMap, LearnsTrunk, Links, leads_on, left_over}
 use Rattle.live_law.proofs.Locks.{trunk_locks}
 use Rattle.live_law.proofs.Joins.{link_root, IsEmptyNode}
@@ -34,11 +34,11 @@ pub record TrunkHeld (v w : Seen) (free : ℕ) : Type 0 where
   pub alike : Alike v w
 
 module _ (v : Seen) (known : KnowsTrunk v) (v₁ : Seen) (t : ℕ) (taken : v₁ ≡ reading v 0 t []) (k : ℕ) (at_k : 1 ≡ k) where
-  pub may_lock_trunk : (id : ℕ) → MayLock v₁ k IsMap id LearnsTrunk t
-  may_lock_trunk id = subst (λ (z : Seen). MayLock z k IsMap id LearnsTrunk t) (sym taken) (p, (known, at_k), trunk_locks id v.client t)
+  pub may_lock_trunk : (id : ℕ) → MayLock v₁ k IsMap id LearnsTrunk t (t + 2)
+  may_lock_trunk id = subst (λ (z : Seen). MayLock z k IsMap id LearnsTrunk t (t + 2)) (sym taken) (p, (known, at_k), trunk_locks id v.client t)
 
   module _ (v₂ : Seen) (m : ℕ) (j : Joined) (told : Locks LearnsTrunk (compares k t (t + 2)) v₁ m j v₂) where
-    tried : plays.Tried (LearnsTrunk v.client 0) 0 t 1 (reading v 0 t []) m v₂
+    tried : plays.Tried (LearnsTrunk v.client 0) 0 t (t + 2) 1 (reading v 0 t []) m v₂
     tried = subst (λ (z : Seen). Locks LearnsTrunk (compares k t (t + 2)) z m j v₂) taken told p known at_k
 
     pub trunk_not : m ≢ t → Alike v v₂ × (v₂.client ≡ v.client) × (v₂.holds ≡ v.holds)
@@ -78,13 +78,13 @@ same_grown v w x free h e x_is e_is = let client = ap (λ (z : Seen). z.client) 
 }
 
 -- the root becomes current
-pub root_frees : (id : ℕ) (q : Ask) (c : View) (y : Spot) (cy content : Content) → c.own ≡ fresh y cy ∷ trunk content ∷ [] → at content 0 ≡ 0 → y.shape.height ≡ q.height → Covers y.shape q.key → q.height ≡ 8 → q.key ≡ 0 → (word : ℕ) (e : Content) → length e ≡ 1 → at e 0 ≡ name_of y.shape → 1 ≤ name_of y.shape → IsEmptyNode y cy
+pub root_frees : (id : ℕ) (q : Ask) (c : View) (y : Spot) (cy content : Content) → c.own ≡ fresh y cy ∷ trunk content ∷ [] → at content 0 ≡ 0 → y.shape.height ≡ q.height → Covers y.shape q.key → q.height ≡ 8 → q.key ≡ 0 → (word n : ℕ) → word ≡ 4 * n → (e : Content) → length e ≡ 1 → at e 0 ≡ name_of y.shape → 1 ≤ name_of y.shape → IsEmptyNode y cy
     → acts.Frees IsMap id c 0 word e (Links c 0 e)
-root_frees id q c y cy content is zero_is high covers height key word e long named some_name empty =
-    link_root id c y cy content is word e zero_is (high ∙ height) (sym covers ∙ ap (λ (z : ℕ × ℕ). up z.0 z.1) (λ i. ((high ∙ height) i, key i))) long named some_name empty
+root_frees id q c y cy content is zero_is high covers height key word n even e long named some_name empty =
+    link_root id c y cy content is word n even e zero_is (high ∙ height) (sym covers ∙ ap (λ (z : ℕ × ℕ). up z.0 z.1) (λ i. ((high ∙ height) i, key i))) long named some_name empty
 
 -- what a seat knows then
-pub root_grown : (v w m u x : Seen) (free : ℕ) (h : TrunkHeld v w free) (e : View) (y : Spot) (cy : Content) → m.client ≡ view_of w.client.seen w.client.met (fresh y cy ∷ w.client.own) → m.places ≡ place_at y ∷ w.places → u.client ≡ m.client → u.places ≡ m.places
+pub root_grown : (v w m u x : Seen) (free : ℕ) (h : TrunkHeld v w free) (e : View) (y : Spot) (cy : Content) → m.client ≡ with_own w.client (fresh y cy ∷ w.client.own) → m.places ≡ place_at y ∷ w.places → u.client ≡ m.client → u.places ≡ m.places
     → m.client.own ≡ fresh y cy ∷ trunk h.content ∷ [] → x ≡ seat_view e u.places u.reads [] u.room → e ≡ view_of u.client.seen (leads_on u.client.own ++ u.client.met) (left_over u.client.own) → HasGrown v x
 root_grown v w m u x free h e y cy m_client m_places u_client u_places own x_is e_is =
     let os = ap (λ (z : View). z.own) u_client ∙ own in

@@ -1,7 +1,5 @@
 -- What a seat knows, step by step.
-use Rattle.std.proofs.Common.{◌≡◌, ◌≢◌, ℕ, ◌+◌, ◌-◌, ◌*◌, ◌<◌, ◌≤◌, ◌^◌, zero, suc, Bool, true, false, cond, List, [], ◌∷◌, ◌++◌, length, get_or, Option, Some, None, IfSome, refl, sym, ap, ◌∙◌, subst, inl, inr, arith, eq-eqb}
-use mathlib.Core.Logic.{dite}
-use native.Mathlib.Decide.{ℕ_discrete}
+use Rattle.std.proofs.Common.{◌≡◌, ◌≢◌, ℕ, ◌+◌, ◌-◌, ◌*◌, ◌<◌, ◌^◌, zero, suc, Bool, true, false, cond, List, [], ◌∷◌, ◌++◌, length, get_or, Option, Some, None, IfSome, refl, sym, ap, ◌∙◌, subst, inl, inr, arith, eq-eqb}
 use Rattle.node_table.specs.TableNode.{TableNode, Child}
 use Rattle.node_table.specs.declared.child.Child.TheVariants.{Payload, Node as Below}
 use Rattle.spec_map.specs.Map.{lookup}
@@ -18,11 +16,11 @@ use Rattle.live_nodes.specs.Calls.{KnowsPlace, KnowsCell, MayCheck}
 use Rattle.live_rows.specs.Rows.{AreOf, last_saw, unread, MayRead, without_reads}
 use Rattle.live_encodes.specs.Encodes.{words_of, IsBelow, IsWord, Encodes}
 use Rattle.live_encodes.proofs.StandLaws.{few_forms}
-use Rattle.live_law.specs.Levels.{up, digit, Spot, name_of, Covers, place_at}
-use Rattle.live_law.specs.Views.{View, Ask}
-use Rattle.live_law.specs.Tree.{IsMap, HasPrefix, LearnsRoot, IsRoot, LearnsNode, Heads, Misses, Looks, GoesTo, HasAnswer, IsOfKind}
+use Rattle.live_law.specs.Levels.{up, digit, Shape, Spot, spot, name_of, Covers, place_at}
+use Rattle.live_law.specs.Views.{View, Ask, got}
+use Rattle.live_law.specs.Tree.{IsMap, LearnsRoot, IsRoot, LearnsNode, LearnsHead, Headed, Looks, GoesTo, HasAnswer, Answers, IsOfKind, IsNow, IsOf}
 use Rattle.live_law.proofs.Plans.{root-top}
-use Rattle.live_law.proofs.Looks.{root_learns, node_looks, node_heads, node_misses}
+use Rattle.live_law.proofs.Looks.{root_learns, node_looks, node_heads}
 use Rattle.live_calls.specs.Ways.{KnowsTrunk, Names, Sights, AreNamed, HasOpened, IsOpen, Keeps, Told}
 
 abbrev Seen : Type 0
@@ -94,7 +92,7 @@ module _ (v : Seen) (known : KnowsTrunk v) (k₁ : ℕ) (at₁ : 1 ≡ k₁) whe
         module _ (k₃ : ℕ) (at₃ : 1 ≡ k₃) where
           pub may_check_trunk : (id : ℕ) → MayCheck v₂ k₃ IsMap id LearnsRoot n
           may_check_trunk id = subst (λ (z : Seen). MayCheck z k₃ IsMap id LearnsRoot n) (sym trunk_read)
-              (trunk, read 0 n ((0, x) ∷ []), (known, at₃), head_read 0 n ((0, x) ∷ []) v.reads, refl, root_learns id v.client n x)
+              (trunk, read 0 n ((0, x) ∷ []), (known, at₃), head_read 0 n ((0, x) ∷ []) v.reads, refl, root_learns id v.client n x (read 0 n ((0, x) ∷ []) ∷ v.reads))
 
           module _ (w : Seen) (m : ℕ) (told : Checks LearnsRoot (reads k₃) v₂ m none_joined w) where
             checked : Plays.Checked (LearnsRoot v.client 0 n ((0, x) ∷ [])) n (reading v 0 n ((0, x) ∷ [])) m w
@@ -187,16 +185,16 @@ ends look q height v w a ps rs c o (Some x) high is kind below then = some_there
       ),
     )
 
-    answered : (found : Option ℕ) → HasAnswer q found v.client c → Keeps v w × HasAnswer q found v.client w.client
+    answered : (found : Option ℕ) → HasAnswer q found v.client c → Keeps v w × Answers q.caller (got q found) v.client.seen w.client.seen
     answered found h = (
       learned_keeps v w ps c rs is (λ z in_it. subst (λ (y : View). IsIn z y.met) (sym h.is) in_it) (ap (λ (y : View). y.own) h.is),
-      subst (λ (z : Seen). HasAnswer q found v.client z.client) (sym is) h,
+      subst (λ (z : Seen). Answers q.caller (got q found) v.client.seen z.client.seen) (sym is) h.answers,
     )
 
-    same : c ≡ v.client → Keeps v w × (w.client ≡ v.client)
+    same : c ≡ v.client → Keeps v w × (w.client.seen ≡ v.client.seen)
     same e = (
       learned_keeps v w ps c rs is (λ z in_it. subst (λ (y : View). IsIn z y.met) (sym e) in_it) (ap (λ (y : View). y.own) e),
-      ap (λ (z : Seen). z.client) is ∙ e,
+      ap (λ (z : Seen). z.client.seen) is ∙ ap (λ (z : View). z.seen) e,
     )
 
     some_there : (height : ℕ) (o : Option (Child ℕ)) → a.shape.height ≡ height → IsOfKind height o → IsBelow o (Some x) → Looks look q v.client a o ps c → Keeps v w × Told look q height (Some x) v w
@@ -205,7 +203,7 @@ ends look q height v w a ps rs c o (Some x) high is kind below then = some_there
     some_there (suc zero) (Some (Payload y)) high kind below then = leaf look then
       where
         leaf : (look : Bool) → Looks look q v.client a (Some (Payload y)) ps c → Keeps v w × Told look q 1 (Some x) v w
-        leaf true h = subst (λ (z : ℕ). Keeps v w × HasAnswer q (Some z) v.client w.client) (sym below) (answered (Some y) h)
+        leaf true h = subst (λ (z : ℕ). Keeps v w × Answers q.caller (got q (Some z)) v.client.seen w.client.seen) (sym below) (answered (Some y) h)
         leaf false h = same h
     some_there (suc zero) (Some (Below s)) high kind below then = absurd kind
     some_there (suc (suc h)) (Some (Payload y)) high kind below then = absurd kind
@@ -216,16 +214,16 @@ ends look q height v w a ps rs c o (Some x) high is kind below then = some_there
         inner false g = goes h s high below g
 ends look q height v w a ps rs c None None high is kind below then = none_there look height then
   where
-    answered : HasAnswer q None v.client c → Keeps v w × HasAnswer q None v.client w.client
+    answered : HasAnswer q None v.client c → Keeps v w × Answers q.caller (got q None) v.client.seen w.client.seen
     answered h = (
       learned_keeps v w ps c rs is (λ z in_it. subst (λ (y : View). IsIn z y.met) (sym h.is) in_it) (ap (λ (y : View). y.own) h.is),
-      subst (λ (z : Seen). HasAnswer q None v.client z.client) (sym is) h,
+      subst (λ (z : Seen). Answers q.caller (got q None) v.client.seen z.client.seen) (sym is) h.answers,
     )
 
-    same : c ≡ v.client → Keeps v w × (w.client ≡ v.client)
+    same : c ≡ v.client → Keeps v w × (w.client.seen ≡ v.client.seen)
     same e = (
       learned_keeps v w ps c rs is (λ z in_it. subst (λ (y : View). IsIn z y.met) (sym e) in_it) (ap (λ (y : View). y.own) e),
-      ap (λ (z : Seen). z.client) is ∙ e,
+      ap (λ (z : Seen). z.client.seen) is ∙ ap (λ (z : View). z.seen) e,
     )
 
     none_there : (look : Bool) (height : ℕ) → Looks look q v.client a None ps c → Keeps v w × Told look q height None v w
@@ -256,56 +254,6 @@ module _ (v : Seen) (name key height : ℕ) (n : Names v name key height) (b : B
     pub may_read_node : MayRead words b v₁
     may_read_node = subst (MayRead words b) (sym node_taken) (p, read its.number t [], v.reads, n.placed, of, refl, refl)
 
--- What was found leads on to a node that has no such keys.
-module _ (q : Ask) (v w : Seen) (a : Spot) (ps : List Place) (rs : List Read) (c : View) (is : w ≡ seat_view c (ps ++ v.places) rs v.holds v.room) (b : Spot) (known : IsIn b v.client.met) (never : Covers b.shape q.key → ⊥) where
-  ends_beside : (height : ℕ) (o : Option (Child ℕ)) (word : ℕ) → 2 ≤ height → IsOfKind height o → IsBelow o (Some word) → ((s : ℕ) → IsWord word (Below s) → s ≡ name_of b.shape) → Misses q v.client a o ps c → Keeps v w × HasAnswer q None v.client w.client
-  ends_beside height None word high kind below spells then = absurd below
-  ends_beside zero (Some x) word high kind below spells then = absurd kind
-  ends_beside (suc zero) (Some x) word high kind below spells then = absurd (omega (arith, high))
-  ends_beside (suc (suc h)) (Some (Payload x)) word high kind below spells then = absurd kind
-  ends_beside (suc (suc h)) (Some (Below s)) word high kind below spells then =
-      let g : HasAnswer q None v.client c = then b known (spells s below) never in (
-        learned_keeps v w ps c rs is (λ z in_it. subst (λ (y : View). IsIn z y.met) (sym g.is) in_it) (ap (λ (y : View). y.own) g.is),
-        subst (λ (z : Seen). HasAnswer q None v.client z.client) (sym is) g,
-      )
-
-module _ (v : Seen) (name key height : ℕ) (n : Names v name key height) (b : Book) (words : List Name) (are : AreNamed b name words) (k : ℕ) (at_k : (place_at n.spot).key ≡ k) (v₁ : Seen) (t : ℕ) (took_it : Takes (reads k) v t none_joined v₁) (v₂ : Seen) (rest : without_reads v₂ ≡ without_reads v₁) (k' : ℕ) (at_k' : (place_at n.spot).key ≡ k') (q : Ask) (asked : q.key ≡ key) where
-  abbrev Missing : View → ℕ → ℕ → List (ℕ × ℕ) → List Place → View → Type 0
-  Missing = LearnsNode Misses q
-
-  abbrev pub saw_there : List (ℕ × ℕ)
-  saw_there = last_saw v₂.reads
-
-  as_read : v₂ ≡ reading v n.spot.number t (last_saw v₂.reads)
-  as_read = reads_on v v₂ n.spot.number t (rest ∙ ap without_reads (node_taken v name key height n b words are k at_k v₁ t took_it))
-
-  pub read_keeps : Keeps v v₂ × (v₂.client ≡ v.client)
-  read_keeps = reading_keeps v v₂ n.spot.number t saw_there as_read
-
-  pub may_miss_node : (id m : ℕ) → q.caller ≡ id → t ≡ 4 * m → MayCheck v₂ k' IsMap id Missing t
-  may_miss_node id m by even = subst (λ (z : Seen). MayCheck z k' IsMap id Missing t) (sym as_read)
-      (place_at n.spot, read n.spot.number t saw_there, (n.placed, at_k'), head_read n.spot.number t saw_there v.reads, refl, node_misses q id by v.client n.spot n.met t saw_there m even)
-
-  module _ (w : Seen) (m : ℕ) (told : Checks Missing (reads k') v₂ m none_joined w) where
-    missing_checked : Plays.Checked (Missing v.client n.spot.number t saw_there) t (reading v n.spot.number t saw_there) m w
-    missing_checked = subst (λ (z : Seen). Checks Missing (reads k') z m none_joined w) as_read told (place_at n.spot) (read n.spot.number t saw_there) n.placed at_k' (head_read n.spot.number t saw_there v.reads)
-
-    pub missing_missed : m ≢ t → Keeps v w × (w.client ≡ v.client)
-    missing_missed ne = reading_keeps v w n.spot.number t saw_there (missing_checked.miss ne)
-
-    pub missing_ends : m ≡ t → (x : Spot) → IsIn x v.client.met → (Covers x.shape key → ⊥) → (word : ℕ) → ((s : ℕ) → IsWord word (Below s) → s ≡ name_of x.shape) → 2 ≤ height
-        → ((c : Content) (o : TableNode ℕ) → Agree c saw_there → Encodes c o → o.form ≡ n.spot.shape.form → IsBelow (lookup o.children (digit height key)) (Some word))
-        → Keeps v w × HasAnswer q None v.client w.client
-    missing_ends hit x known never word spells high finds =
-        let h = missing_checked.hit hit in
-        let m' = h.3 n.spot n.met refl in
-        let at_digit : digit n.spot.shape.height q.key ≡ digit height key = λ i. digit (n.high i) (asked i) in
-        let below : IsBelow (lookup m'.its.children (digit n.spot.shape.height q.key)) (Some word) =
-        subst (λ (z : ℕ). IsBelow (lookup m'.its.children z) (Some word)) (sym at_digit) (finds m'.content m'.its m'.agrees m'.encodes m'.in_form) in
-        let covers : Covers n.spot.shape q.key = ap (up n.spot.shape.height) asked ∙ n.covers in
-        ends_beside q v w n.spot h.0 (read n.spot.number t saw_there ∷ v.reads) h.1 h.2 x known (λ z. never (ap (up x.shape.height) (sym asked) ∙ z))
-        height (lookup m'.its.children (digit n.spot.shape.height q.key)) word high (subst (λ (z : ℕ). IsOfKind z (lookup m'.its.children (digit n.spot.shape.height q.key))) n.high m'.of_kind) below spells (m'.on_way covers)
-
 -- A NODE of which only its name is known, and a look at its head
 module _ (v : Seen) (name : ℕ) (n : Sights v name) (b : Book) (words : List Name) (are : AreNamed b name words) where
   abbrev pub seen_spot : Spot
@@ -327,6 +275,9 @@ module _ (v : Seen) (name : ℕ) (n : Sights v name) (b : Book) (words : List Na
     pub seen_keeps : Keeps v v₁ × (v₁.client ≡ v.client)
     seen_keeps = reading_keeps v v₁ seen_spot.number t [] seen_taken
 
+    pub seen_reads : v₁.reads ≡ read seen_spot.number t [] ∷ v.reads
+    seen_reads = ap (λ (z : Seen). z.reads) seen_taken
+
     pub seen_open : HasOpened v₁ b words t seen_spot
     seen_open = record { are = seen_of; saw = []; before = v.reads; reads = ap (λ (z : Seen). z.reads) seen_taken }
 
@@ -335,6 +286,9 @@ some_words N4 = omega arith
 some_words N16 = omega arith
 some_words N48 = omega arith
 some_words N256 = omega arith
+
+pub open_long_of : (a : Spot) (b : Book) (words : List Name) → AreOf (place_at a) b words → 0 < length words - 1
+open_long_of a b words are = let l = are.0 in let some = some_words a.shape.form in omega (arith, l, some)
 
 -- A NODE THAT IS OPEN
 module _ (v : Seen) (b : Book) (words : List Name) (t : ℕ) (a : Spot) (placed : IsIn (place_at a) v.places) (o : HasOpened v b words t a) where
@@ -354,12 +308,12 @@ module _ (v : Seen) (b : Book) (words : List Name) (t : ℕ) (a : Spot) (placed 
     abbrev pub saw_open : List (ℕ × ℕ)
     saw_open = last_saw v₂.reads
 
-    open_read : v₂ ≡ reading_on v o.before a.number t saw_open
+    pub open_read : v₂ ≡ reading_on v o.before a.number t saw_open
     unfolding before_it
     open_read = reads_on before_it v₂ a.number t (rest ∙ ap without_reads was_read)
 
     module _ (k : ℕ) (at_k : (place_at a).key ≡ k) (Then : View → ℕ → ℕ → List (ℕ × ℕ) → List Place → View → Type 0) where
-      pub may_check_open : (id : ℕ) → Learns IsMap id v.client a.number t saw_open (Then v.client a.number t saw_open) → MayCheck v₂ k IsMap id Then t
+      pub may_check_open : (id : ℕ) → Learns IsMap id v.client a.number t saw_open (read a.number t saw_open ∷ o.before) (Then v.client a.number t saw_open) → MayCheck v₂ k IsMap id Then t
       may_check_open id learns = subst (λ (z : Seen). MayCheck z k IsMap id Then t) (sym open_read)
           (place_at a, read a.number t saw_open, (placed, at_k), head_read a.number t saw_open o.before, refl, learns)
 
@@ -385,47 +339,92 @@ module _ (v : Seen) (b : Book) (words : List Name) (t name key height : ℕ) (o 
   covers = ap (up open_spot.shape.height) asked ∙ o.names.covers
 
   pub may_look : (id m : ℕ) → q.caller ≡ id → t ≡ 4 * m → MayCheck v₂ k IsMap id Then t
-  may_look id m by even = may_check_open v b words t open_spot o.names.placed o.opened v₂ rest k at_k Then id (node_looks q id by v.client open_spot o.names.met t saw_it m even reads_it)
+  may_look id m by even = may_check_open v b words t open_spot o.names.placed o.opened v₂ rest k at_k Then id (node_looks q id by v.client open_spot o.names.met t saw_it m even (read open_spot.number t saw_it ∷ o.opened.before) reads_it)
 
   module _ (w : Seen) (m : ℕ) (told : Checks Then (reads k) v₂ m none_joined w) where
     pub look_missed : m ≢ t → Keeps v w × (w.client ≡ v.client)
     look_missed ne = open_missed v b words t open_spot o.names.placed o.opened v₂ rest k at_k Then w m told ne
 
-    pub look_ends : m ≡ t → (found : Option ℕ)
-        → ((c : Content) (n : TableNode ℕ) → Agree c saw_it → Encodes c n → n.form ≡ open_spot.shape.form → IsBelow (lookup n.children (digit height key)) found)
-        → Keeps v w × Told reads_it q height found v w
-    look_ends hit found finds =
-        let h = (open_checked v b words t open_spot o.names.placed o.opened v₂ rest k at_k Then w m told).hit hit in
-        let x = h.3 open_spot o.names.met refl in
-        let below : IsBelow (lookup x.its.children (digit open_spot.shape.height q.key)) found =
-        subst (λ (z : ℕ × ℕ). IsBelow (lookup x.its.children (digit z.0 z.1)) found) (λ i. (sym o.names.high i, sym asked i)) (finds x.content x.its x.agrees x.encodes x.in_form) in
-        ends reads_it q height v w open_spot h.0 (read open_spot.number t saw_it ∷ o.opened.before) h.1 (lookup x.its.children (digit open_spot.shape.height q.key)) found o.names.high h.2
-        (subst (λ (z : ℕ). IsOfKind z (lookup x.its.children (digit open_spot.shape.height q.key))) o.names.high x.of_kind) below (x.on_way covers)
+    -- what was read before is so still
+    module _ (hit : m ≡ t) (kept : (c : Content) → Agree c saw_it → Agree c o.opened.saw) where
+      pub look_ends : (found : Option ℕ)
+          → ((c : Content) (n : TableNode ℕ) → Agree c saw_it → Encodes c n → n.form ≡ open_spot.shape.form → IsBelow (lookup n.children (digit height key)) found)
+          → Keeps v w × Told reads_it q height found v w
+      look_ends found finds =
+          let h = (open_checked v b words t open_spot o.names.placed o.opened v₂ rest k at_k Then w m told).hit hit in
+          let x = h.3 open_spot o.names.met refl in
+          let shape_is : x.shape ≡ open_spot.shape = o.sure x.shape record {
+            now = x.is.now;
+            content = x.is.content;
+            its = x.is.its;
+            agrees = kept x.is.content x.is.agrees;
+            encodes = x.is.encodes;
+            in_form = x.is.in_form;
+            deep = x.is.deep;
+            prefixed = x.is.prefixed;
+          } in
+          let below : IsBelow (lookup x.is.its.children (digit open_spot.shape.height q.key)) found =
+          subst (λ (z : ℕ × ℕ). IsBelow (lookup x.is.its.children (digit z.0 z.1)) found) (λ i. (sym o.names.high i, sym asked i)) (finds x.is.content x.is.its x.is.agrees x.is.encodes x.is.in_form) in
+          let kind : IsOfKind open_spot.shape.height (lookup x.is.its.children (digit open_spot.shape.height q.key)) = subst (λ (z : Shape). IsOfKind z.height (lookup x.is.its.children (digit z.height q.key))) shape_is x.of_kind in
+          let then = subst (λ (z : Shape). Covers z q.key → Looks reads_it q v.client (spot open_spot.number z) (lookup x.is.its.children (digit z.height q.key)) h.0 h.1) shape_is x.on_way covers in
+          ends reads_it q height v w open_spot h.0 (read open_spot.number t saw_it ∷ o.opened.before) h.1 (lookup x.is.its.children (digit open_spot.shape.height q.key)) found o.names.high h.2
+          (subst (λ (z : ℕ). IsOfKind z (lookup x.is.its.children (digit open_spot.shape.height q.key))) o.names.high kind) below then
+
+-- what a node is now lies where it lay
+pub same_place : (a : Spot) (s : Shape) → IsNow a s → place_at (spot a.number s) ≡ place_at a
+same_place a s now = λ i. place a.number (now.key i) (words_of (now.form i))
+
+pub same_named : (a : Spot) (s : Shape) → IsNow a s → name_of s ≡ name_of a.shape
+same_named a s now = λ i. 256 * now.key i + form_place (now.form i)
+
+-- A NODE whose head was read is open, as what it is now.
+pub record IsHeaded (w : Seen) (b : Book) (words : List Name) (t name : ℕ) (saw : List (ℕ × ℕ)) : Type 0 where
+  pub sighted : Sights w name
+  pub are : AreOf (place_at sighted.spot) b words
+  pub before : List Read
+  pub reads : w.reads ≡ read sighted.spot.number t saw ∷ before
+  pub is : IsOf sighted.spot sighted.spot.shape saw
 
 -- its head
-module _ (v : Seen) (b : Book) (words : List Name) (t name : ℕ) (n : Sights v name) (o : HasOpened v b words t n.spot) (v₂ : Seen) (rest : without_reads v₂ ≡ without_reads v) (k : ℕ) (at_k : (place_at n.spot).key ≡ k) (q : Ask) where
-  abbrev saw_head : List (ℕ × ℕ)
+module _ (v : Seen) (b : Book) (words : List Name) (t name : ℕ) (n : Sights v name) (o : HasOpened v b words t n.spot) (v₂ : Seen) (rest : without_reads v₂ ≡ without_reads v) (k : ℕ) (at_k : (place_at n.spot).key ≡ k) where
+  abbrev pub saw_head : List (ℕ × ℕ)
   saw_head = last_saw v₂.reads
 
-  abbrev Only : View → ℕ → ℕ → List (ℕ × ℕ) → List Place → View → Type 0
-  Only = LearnsNode Heads q
+  pub may_meet : (id m : ℕ) → t ≡ 4 * m → MayCheck v₂ k IsMap id LearnsHead t
+  may_meet id m even = may_check_open v b words t n.spot n.placed o v₂ rest k at_k LearnsHead id (node_heads id v.client n.spot n.met t saw_head m even (read n.spot.number t saw_head ∷ o.before))
 
-  pub may_meet : (id m : ℕ) → q.caller ≡ id → t ≡ 4 * m → MayCheck v₂ k IsMap id Only t
-  may_meet id m by even = may_check_open v b words t n.spot n.placed o v₂ rest k at_k Only id (node_heads q id by v.client n.spot n.met t saw_head m even)
-
-  module _ (w : Seen) (m : ℕ) (told : Checks Only (reads k) v₂ m none_joined w) where
+  module _ (w : Seen) (m : ℕ) (told : Checks LearnsHead (reads k) v₂ m none_joined w) where
     pub meet_missed : m ≢ t → Keeps v w × (w.client ≡ v.client)
-    meet_missed ne = open_missed v b words t n.spot n.placed o v₂ rest k at_k Only w m told ne
+    meet_missed ne = open_missed v b words t n.spot n.placed o v₂ rest k at_k LearnsHead w m told ne
 
-    -- its prefix is that of some content which agrees with what was read
-    pub meet_head : m ≡ t → Keeps v w × (w.client ≡ v.client) × HasOpened w b words t n.spot
-        × ((c : Content) × (x : TableNode ℕ) × Agree c saw_head × Encodes c x × (length x.prefix + n.spot.shape.height ≡ 8) × HasPrefix x.prefix n.spot.shape)
+    pub meet_head : m ≡ t → Keeps v w × (w.client.seen ≡ v.client.seen) × IsHeaded w b words t name saw_head
     meet_head hit =
-        let h = (open_checked v b words t n.spot n.placed o v₂ rest k at_k Only w m told).hit hit in
-        let x = h.3 n.spot n.met refl in
-        let same : h.1 ≡ v.client = dite (ℕ_discrete (up n.spot.shape.height q.key) n.spot.shape.top) x.on_way x.beside in (
-          learned_keeps v w h.0 h.1 (read n.spot.number t saw_head ∷ o.before) h.2 (λ z in_it. subst (λ (y : View). IsIn z y.met) (sym same) in_it) (ap (λ (y : View). y.own) same),
-          ap (λ (z : Seen). z.client) h.2 ∙ same,
-          record { are = o.are; saw = saw_head; before = o.before; reads = ap (λ (z : Seen). z.reads) h.2 },
-          (x.content, x.its, x.agrees, x.encodes, x.deep, x.prefixed),
+        let h = (open_checked v b words t n.spot n.placed o v₂ rest k at_k LearnsHead w m told).hit hit in
+        let x : Headed v.client n.spot saw_head h.1 = h.3 n.spot n.met refl in
+        let a : Spot = spot n.spot.number x.shape in
+        let there : place_at a ≡ place_at n.spot = same_place n.spot x.shape x.is.now in
+        let keeps = learned_keeps v w h.0 h.1 (read n.spot.number t saw_head ∷ o.before) h.2 (λ z in_it. subst (λ (y : View). IsIn z y.met) (sym x.heads) (inr in_it)) (ap (λ (y : View). y.own) x.heads) in (
+          keeps,
+          ap (λ (z : Seen). z.client.seen) h.2 ∙ ap (λ (z : View). z.seen) x.heads,
+          record {
+            sighted = record {
+              spot = a;
+              met = subst (λ (z : Seen). IsIn a z.client.met) (sym h.2) (subst (λ (z : View). IsIn a z.met) (sym x.heads) (inl refl));
+              placed = subst (λ (p : Place). IsIn p w.places) (sym there) (keeps.places (place_at n.spot) n.placed);
+              named = n.named ∙ sym (same_named n.spot x.shape x.is.now);
+            };
+            are = subst (λ (p : Place). AreOf p b words) (sym there) o.are;
+            before = o.before;
+            reads = ap (λ (z : Seen). z.reads) h.2;
+            is = record {
+              now = record { key = refl; form = refl; lasts = λ _. refl };
+              content = x.is.content;
+              its = x.is.its;
+              agrees = x.is.agrees;
+              encodes = x.is.encodes;
+              in_form = x.is.in_form ∙ sym x.is.now.form;
+              deep = x.is.deep;
+              prefixed = x.is.prefixed;
+            };
+          },
         )

@@ -7,17 +7,20 @@ use Rattle.live_law.specs.Known.{Known}
 use Rattle.live_law.specs.Tree.{Answers}
 use Rattle.live_calls.specs.Ways.{KnowsTrunk}
 use Rattle.live_calls.specs.Rooms.{HasRoom}
+use Rattle.live_calls.specs.Spares.{HasSpares}
+use Rattle.live_calls.specs.declared.link.Room.{Room}
 
 -- what a caller knows, by its seat
 abbrev pub known_of : Book → ℕ → SeatView View → Known
 known_of b id v = record { book = b; caller = id; seen = v.client.seen }
 
--- A seat between two calls: it has nothing to itself but some room.
-pub record IsReady (v : SeatView View) (start left : ℕ) : Type 0 where
+-- A seat between two calls: it has nothing to itself but some room, and knows nodes that may be used again.
+pub record IsReady (v : SeatView View) (room : Room) : Type 0 where
   pub trunk : KnowsTrunk v
   pub own : v.client.own ≡ []
   pub holds : v.holds ≡ []
-  pub room : HasRoom v start left
+  pub words : HasRoom v room.start room.left
+  pub spare : HasSpares v room.spare
 
 -- An insertion is done, or the seat has seen no more.
 abbrev pub Inserts : Ask → Option (Option ℕ) → SeatView View → SeatView View → Type 0

@@ -4,5 +4,6 @@ pub mod Stands
 pub mod Calls
 pub mod Holds
 pub mod Rooms
-pub mod Exchanges
+pub mod Spares
+pub mod Forks
 pub mod Meetings

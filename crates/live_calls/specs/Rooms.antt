@@ -13,7 +13,7 @@ use Rattle.live_nodes.specs.Seats.{Place, room_at, SeatView, IsIn}
 use Rattle.live_rows.specs.Rows.{MayFill}
 use Rattle.live_encodes.specs.Encodes.{words_of, Encodes}
 use Rattle.live_law.specs.Levels.{Spot, name_of, Covers, place_at}
-use Rattle.live_law.specs.Views.{View, view_of, fresh, Ask}
+use Rattle.live_law.specs.Views.{View, with_own, fresh, Ask}
 use Rattle.live_law.specs.Tree.{HasPrefix}
 
 -- Its room begins with that word, and has at least so many, which are 0.
@@ -38,7 +38,7 @@ pub record HasMade (q : Ask) (v w : SeatView View) (c : Content) (form : NodeTyp
   pub in_form : spot.shape.form ≡ form
   pub high : spot.shape.height ≡ q.height
   pub covers : Covers spot.shape q.key
-  pub client : w.client ≡ view_of v.client.seen v.client.met (fresh spot c ∷ v.client.own)
+  pub client : w.client ≡ with_own v.client (fresh spot c ∷ v.client.own)
   pub places : w.places ≡ place_at spot ∷ v.places
   pub holds : w.holds ≡ v.holds
   pub named : name ≡ name_of spot.shape

@@ -5,14 +5,14 @@ use Rattle.word_book.specs.Book.{Book, Name}
 use Rattle.live_nodes.specs.Seats.{Place, place, Read, read, SeatView, IsIn}
 use Rattle.live_rows.specs.Rows.{AreOf}
 use Rattle.live_encodes.specs.Encodes.{IsWord}
-use Rattle.live_law.specs.Levels.{up, digit, way, Spot, name_of, Covers, place_at}
+use Rattle.live_law.specs.Levels.{up, digit, Shape, way, Spot, name_of, Covers, place_at}
 use Rattle.live_law.specs.Views.{View, Ask, got}
-use Rattle.live_law.specs.Tree.{HasAnswer, Answers}
+use Rattle.live_law.specs.Tree.{IsOf, Answers}
 
 abbrev pub KnowsTrunk : SeatView View → Type 0
 KnowsTrunk v = IsIn (place 0 1 1) v.places
 
--- This names a node of that height, which has keys that begin like this one.
+-- This names a node of that height, which had keys that begin like this one when it was met.
 pub record Names (v : SeatView View) (name key height : ℕ) : Type 0 where
   pub spot : Spot
   pub met : IsIn spot v.client.met
@@ -50,11 +50,13 @@ pub record HasOpened (v : SeatView View) (b : Book) (words : List Name) (taken :
   pub before : List Read
   pub reads : v.reads ≡ read a.number taken saw ∷ before
 
--- A node of that height is open, which has keys that begin like this one. It is free by this word.
+-- A node of that height is open, which has keys that begin like this one. It is free by this word, and is still what it was
+-- met as, if what was read of it is current.
 pub record IsOpen (v : SeatView View) (b : Book) (words : List Name) (taken name key height : ℕ) : Type 0 where
   pub names : Names v name key height
   pub opened : HasOpened v b words taken names.spot
   pub free : taken % 4 ≡ 0
+  pub sure : (s : Shape) → IsOf names.spot s opened.saw → s ≡ names.spot.shape
 
 -- The seat knows as much, and has the same to itself.
 pub record Keeps (v w : SeatView View) : Type 0 where
@@ -66,8 +68,8 @@ pub record Keeps (v w : SeatView View) : Type 0 where
 
 -- A look-up has its answer, and another call knows no more.
 abbrev pub Ended : Bool → Ask → Option ℕ → SeatView View → SeatView View → Type 0
-Ended true q found v w = HasAnswer q found v.client w.client
-Ended false q found v w = w.client ≡ v.client
+Ended true q found v w = Answers q.caller (got q found) v.client.seen w.client.seen
+Ended false q found v w = w.client.seen ≡ v.client.seen
 
 -- What was found under the key's digit in a node of this height: the name of the node below, or the end.
 abbrev pub Told : Bool → Ask → ℕ → Option ℕ → SeatView View → SeatView View → Type 0

@@ -1,9 +1,9 @@
 //! A look-up.
 ghost use Rattle.std.specs.Prelude.{◌≡◌, ℕ, ◌+◌, ◌<◌, ◌≤◌, true, IfSome, IfNone};
-ghost use Rattle.live_law.specs.Tree.{HasAnswer};
 ghost use Rattle.live_calls.specs.Ways.{KnowsTrunk, Names, Keeps, Found};
 
-use crate::sight::{Next, ends_above, step};
+use crate::fork::ends_above;
+use crate::sight::{Next, step};
 use crate::way::{Nodes, Pass, look, open, root};
 use live_law::law::Asks;
 

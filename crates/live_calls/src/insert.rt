@@ -1,16 +1,18 @@
 //! An insertion.
-ghost use Rattle.std.specs.Prelude.{◌≡◌, ℕ, ◌+◌, ◌<◌, ◌≤◌, IfOk, OnErr, IfSome};
+ghost use Rattle.std.specs.Prelude.{◌≡◌, ℕ, ◌+◌, ◌<◌, ◌≤◌, Some, IfOk, OnErr, IfSome};
 ghost use Rattle.live_law.specs.Views.{ask};
 ghost use Rattle.live_calls.specs.Ways.{KnowsTrunk, Keeps};
-ghost use Rattle.live_calls.specs.Stands.{Stands, IsEnd};
+ghost use Rattle.live_calls.specs.Stands.{Stands, HasFork, IsEnd};
+ghost use Rattle.live_calls.specs.Rooms.{HasGrown};
 ghost use Rattle.live_calls.specs.Calls.{IsReady, Inserts};
 
-use crate::link::{Room, link};
+use crate::link::{NEW, Room, link, link_again};
 use crate::sight::{Fork, Next, step};
-use crate::split::split;
+use crate::split::{split, split_again};
 use crate::way::{Nodes, Pass, open, root};
-use crate::widen::widen;
+use crate::widen::{widen, widen_again};
 use crate::write::{Hindrance, insert_here};
+use live_encodes::form::{form_below, next_of};
 use std::alloc::{AllocError, Global};
 use std::marker::Brand;
 
@@ -71,7 +73,8 @@ pub fn descend(nodes: &Nodes, key: u64, pass: &mut Pass) -> Option<End>
     Some(End { stand, fork: None })
 }
 
-/// More room, where there is little. `false` where another thread is just making some.
+/// More room, where there is little, unless there is a node of each form to be used again. `false` where another thread is
+/// just making some.
 pub fn reserve(
     nodes: &Nodes,
     alloc: Global,
@@ -79,12 +82,12 @@ pub fn reserve(
     pass: &mut Pass,
 ) -> Result<bool, AllocError>
     requires book { pass.old.book ≡ nodes.now }
-    requires ready { IsReady pass.old.view room.old.start room.old.left }
+    requires ready { IsReady pass.old.view room.old }
     ensures told { (pass.new.book ≡ pass.old.book) × (pass.new.id ≡ pass.old.id)
-        × IsReady pass.new.view room.new.start room.new.left
+        × IsReady pass.new.view room.new
         × (pass.new.view.client.seen ≡ pass.old.view.client.seen) }
 {
-    if room.left >= 263 {
+    if room.left >= 263 || room.spare.is_full() {
         return Ok(true);
     }
     let Some(grown) = nodes.grow(alloc, pass)? else {
@@ -95,14 +98,15 @@ pub fn reserve(
     Ok(true)
 }
 
-/// Puts a larger node in the place of a full one. The root has the largest form, and stays.
-pub fn enlarge(nodes: &Nodes, stand: Stand, key: u64, room: &mut Room, pass: &mut Pass)
+/// Puts a larger node in the place of this one, below the node above. A node that may be used again is taken, where there is
+/// one of that form. `false` where a writer came in between.
+fn replace(nodes: &Nodes, stand: Stand, key: u64, room: &mut Room, pass: &mut Pass) -> bool
     requires book { pass.old.book ≡ nodes.now }
-    requires ready { IsReady pass.old.view room.old.start room.old.left }
+    requires ready { IsReady pass.old.view room.old }
     requires stands { Stands pass.old.view key stand }
+    requires lower { stand.height < 8 }
     ensures told { (pass.new.book ≡ pass.old.book) × (pass.new.id ≡ pass.old.id)
-        × IsReady pass.new.view room.new.start room.new.left
-        × (pass.new.view.client.seen ≡ pass.old.view.client.seen) }
+        × IsReady pass.new.view room.new × HasGrown pass.old.view pass.new.view }
 {
     let Stand {
         above,
@@ -110,22 +114,72 @@ pub fn enlarge(nodes: &Nodes, stand: Stand, key: u64, room: &mut Room, pass: &mu
         name,
         height,
     } = stand;
-    if height < 8 {
-        let _ = widen::<Brand>(nodes, above, level, name, height, key, room, pass);
+    let spare = room.spare.get(next_of(form_below(name)));
+    if spare == 0 {
+        return widen::<Brand>(nodes, above, level, name, height, key, room, pass);
     }
+    let spares = &mut room.spare;
+    widen_again::<Brand>(nodes, above, level, name, height, key, spare, spares, pass)
+}
+
+/// Puts a larger node in the place of a full one, which may be used again. The root has the largest form, and stays.
+pub fn enlarge(nodes: &Nodes, stand: Stand, key: u64, room: &mut Room, pass: &mut Pass)
+    requires book { pass.old.book ≡ nodes.now }
+    requires ready { IsReady pass.old.view room.old }
+    requires stands { Stands pass.old.view key stand }
+    ensures told { (pass.new.book ≡ pass.old.book) × (pass.new.id ≡ pass.old.id)
+        × IsReady pass.new.view room.new
+        × (pass.new.view.client.seen ≡ pass.old.view.client.seen) }
+{
+    if stand.height < 8 {
+        let outgrown = replace(nodes, stand, key, room, pass);
+        if outgrown {
+            let _ = room.spare.keep(stand.name);
+        }
+    }
+}
+
+/// Makes an empty leaf for a key below a node. A node that may be used again is taken, where there is one.
+fn lead_on(
+    nodes: &Nodes,
+    stand: Stand,
+    key: u64,
+    room: &mut Room,
+    pass: &mut Pass,
+) -> Result<(), Hindrance>
+    requires book { pass.old.book ≡ nodes.now }
+    requires ready { IsReady pass.old.view room.old }
+    requires stands { Stands pass.old.view key stand }
+    requires inner { 2 ≤ stand.height }
+    ensures told { (pass.new.book ≡ pass.old.book) × (pass.new.id ≡ pass.old.id)
+        × IsReady pass.new.view room.new × HasGrown pass.old.view pass.new.view }
+{
+    let spare = room.spare.get(NEW);
+    if spare == 0 {
+        return link::<Brand>(nodes, stand.name, stand.height, key, room, pass);
+    }
+    link_again::<Brand>(
+        nodes,
+        stand.name,
+        stand.height,
+        key,
+        spare,
+        &mut room.spare,
+        pass,
+    )
 }
 
 /// Brings a key's way nearer to its leaf: by a new leaf, or by room for one.
 pub fn extend(nodes: &Nodes, stand: Stand, key: u64, room: &mut Room, pass: &mut Pass)
     requires book { pass.old.book ≡ nodes.now }
-    requires ready { IsReady pass.old.view room.old.start room.old.left }
+    requires ready { IsReady pass.old.view room.old }
     requires stands { Stands pass.old.view key stand }
     requires inner { 2 ≤ stand.height }
     ensures told { (pass.new.book ≡ pass.old.book) × (pass.new.id ≡ pass.old.id)
-        × IsReady pass.new.view room.new.start room.new.left
+        × IsReady pass.new.view room.new
         × (pass.new.view.client.seen ≡ pass.old.view.client.seen) }
 {
-    match link::<Brand>(nodes, stand.name, stand.height, key, room, pass) {
+    match lead_on(nodes, stand, key, room, pass) {
         Ok(()) => {}
         Err(Hindrance::Full) => enlarge(nodes, stand, key, room, pass),
         Err(Hindrance::Busy) => {}
@@ -142,11 +196,11 @@ fn insert_at(
     pass: &mut Pass,
 ) -> Option<Option<u64>>
     requires book { pass.old.book ≡ nodes.now }
-    requires ready { IsReady pass.old.view room.old.start room.old.left }
+    requires ready { IsReady pass.old.view room.old }
     requires stands { Stands pass.old.view key stand }
     requires leaf { stand.height ≡ 1 }
     ensures told { (pass.new.book ≡ pass.old.book) × (pass.new.id ≡ pass.old.id)
-        × IsReady pass.new.view room.new.start room.new.left
+        × IsReady pass.new.view room.new
         × Inserts (ask pass.old.id key value 1) result pass.old.view pass.new.view }
 {
     match insert_here::<Brand>(nodes, stand.name, key, value, pass) {
@@ -159,6 +213,25 @@ fn insert_at(
     }
 }
 
+/// Makes a node where the key's way leaves that of a node below. A node that may be used again is taken, where there is one.
+pub fn part(nodes: &Nodes, stand: Stand, fork: Fork, key: u64, room: &mut Room, pass: &mut Pass)
+    requires book { pass.old.book ≡ nodes.now }
+    requires ready { IsReady pass.old.view room.old }
+    requires stands { Stands pass.old.view key stand }
+    requires forks { HasFork pass.old.view key stand.height (Some fork) }
+    ensures told { (pass.new.book ≡ pass.old.book) × (pass.new.id ≡ pass.old.id)
+        × IsReady pass.new.view room.new
+        × (pass.new.view.client.seen ≡ pass.old.view.client.seen) }
+{
+    let spare = room.spare.get(NEW);
+    if spare == 0 {
+        let _ = split::<Brand>(nodes, stand.name, stand.height, fork, key, room, pass);
+        return;
+    }
+    let Stand { name, height, .. } = stand;
+    let _ = split_again::<Brand>(nodes, name, height, fork, key, spare, &mut room.spare, pass);
+}
+
 /// Inserts a value, or comes nearer to it by a node: `None`. So it is too where a writer came in between.
 pub(crate) fn insert_once(
     nodes: &Nodes,
@@ -168,14 +241,14 @@ pub(crate) fn insert_once(
     pass: &mut Pass,
 ) -> Option<Option<u64>>
     requires book { pass.old.book ≡ nodes.now }
-    requires ready { IsReady pass.old.view room.old.start room.old.left }
+    requires ready { IsReady pass.old.view room.old }
     ensures told { (pass.new.book ≡ pass.old.book) × (pass.new.id ≡ pass.old.id)
-        × IsReady pass.new.view room.new.start room.new.left
+        × IsReady pass.new.view room.new
         × Inserts (ask pass.old.id key value 1) result pass.old.view pass.new.view }
 {
     let End { stand, fork } = descend(nodes, key, pass)?;
     if let Some(fork) = fork {
-        let _ = split::<Brand>(nodes, stand.name, stand.height, fork, key, room, pass);
+        part(nodes, stand, fork, key, room, pass);
         return None;
     }
     if stand.height > 1 {

@@ -3,10 +3,13 @@
 //! A look-up goes down from the root, and checks each node's version word behind what it read there. The check at which it
 //! ends is the moment of the call. A writer locks single nodes. A call that meets too many writers gives up (`Busy`).
 //!
+//! A full node is replaced by a larger one, and its guard keeps its name (`spare`). A new node of that form is then that one,
+//! locked again: it is written, the node above leads to it, and only then it is free.
+//!
 //! Tested in `test_live_calls`.
 #![tactic(auto)]
 
-pub mod exchange;
+pub mod fork;
 mod get;
 pub mod held;
 pub mod insert;
@@ -16,6 +19,8 @@ pub mod meeting;
 pub mod plant;
 pub mod room;
 pub mod sight;
+pub mod source;
+pub mod spare;
 pub mod split;
 pub mod way;
 pub mod widen;

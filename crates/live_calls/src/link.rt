@@ -4,30 +4,37 @@ ghost use Rattle.node_table.specs.TableNode.{TableNode};
 ghost use Rattle.spec_map.specs.Map.{lookup};
 ghost use Rattle.live_cells.specs.Words.{Looks};
 ghost use Rattle.live_encodes.specs.Encodes.{words_of, Encodes, HasRoom as HasSpace};
-ghost use Rattle.live_calls.specs.Ways.{Names};
+ghost use Rattle.live_nodes.specs.Seats.{SeatView};
+ghost use Rattle.live_law.specs.Views.{View};
+ghost use Rattle.live_calls.specs.Ways.{Names, Sights};
+ghost use Rattle.live_calls.specs.Spares.{HasSpares};
 ghost use Rattle.live_calls.specs.Rooms.{HasRoom, HasGrown};
 
-use crate::held::{lock_node, unlock_same};
+use crate::held::{lock_node, regain, unlock_again, unlock_same};
 use crate::room::make_empty;
-use crate::way::{Nodes, Pass, byte_at, words_at};
+use crate::spare::Spares;
+use crate::way::{Nodes, Pass, byte_at, bytes_of, words_at};
 use crate::write::Hindrance;
 use live_cells::words::{Draft, Drafted};
 use live_encodes::change::{is_full, put};
+use live_encodes::fill::lay;
 use live_encodes::form::{form_below, word_below, words_in};
 use live_encodes::search::find;
-use live_law::law::{Asks, Levels, Link, Mine};
+use live_law::law::{Asks, Levels, Link, Mine, Same};
 use live_nodes::node;
 use live_rows::rows::Held;
 use node_base::base_node::NodeType;
+use std::marker::Brand;
 
 /// The form of a new node: the smallest.
 pub const NEW: NodeType = NodeType::N4;
 
-/// A seat's room: the first of its words, and how many there are at least.
+/// A seat's room: the first of its words, how many there are at least, and nodes that it may use again.
 #[derive(Clone, Copy, Debug, PartialEq, Eq)]
 pub struct Room {
     pub start: u64,
     pub left: u64,
+    pub spare: Spares,
 }
 
 /// Why no child can be put under a byte: there is one, or no room. `None` where it can.
@@ -72,7 +79,8 @@ pub fn link<A: Asks>(
     requires room { HasRoom pass.old.view room.old.start room.old.left }
     ensures told { (pass.new.book ≡ pass.old.book) × (pass.new.id ≡ pass.old.id)
         × HasGrown pass.old.view pass.new.view
-        × HasRoom pass.new.view room.new.start room.new.left }
+        × HasRoom pass.new.view room.new.start room.new.left
+        × (room.new.spare ≡ room.old.spare) }
 {
     if room.start >= 1 << 48 || room.left < 263 {
         return Err(Hindrance::Busy);
@@ -98,5 +106,61 @@ pub fn link<A: Asks>(
     room.left -= words_in(NEW) as u64 + 1;
     put(&held, form, byte, word_below(child, NEW), pass);
     node::unlock::<Mine, Levels, Link>(&words[0], free, pass);
+    Ok(())
+}
+
+/// The same by a node that is used again, whose name is kept as a spare one. It is kept no longer once it is locked.
+pub fn link_again<A: Asks>(
+    nodes: &Nodes,
+    name: u64,
+    height: usize,
+    key: u64,
+    spare: u64,
+    spares: &mut Spares,
+    pass: &mut Pass,
+) -> Result<(), Hindrance>
+    requires book { pass.old.book ≡ nodes.now }
+    requires asks { (A.ask.key ≡ key) × (A.ask.height ≡ 1) }
+    requires named { Names pass.old.view name key height }
+    requires height { (2 ≤ height) × (height ≤ 8) }
+    requires rests { (pass.old.view.client.own ≡ []) × (pass.old.view.holds ≡ []) }
+    requires spare { Sights pass.old.view spare }
+    ensures told { (pass.new.book ≡ pass.old.book) × (pass.new.id ≡ pass.old.id)
+        × HasGrown pass.old.view pass.new.view
+        × (pass.new.view.room ≡ pass.old.view.room) }
+    ensures spares { (v : SeatView View) → HasSpares v spares.old → HasSpares v spares.new }
+{
+    if spare >= 1 << 56 {
+        return Err(Hindrance::Busy);
+    }
+    let Some(words) = words_at(nodes, name) else {
+        return Err(Hindrance::Busy);
+    };
+    let Some(others) = words_at(nodes, spare) else {
+        return Err(Hindrance::Busy);
+    };
+    let form = form_below(name);
+    let kind = form_below(spare);
+    let byte = byte_at(key, height);
+    let bytes = bytes_of(key);
+    let Some(free) = lock_node(words, name, height, key, pass) else {
+        return Err(Hindrance::Busy);
+    };
+    let parent: Held<'_, Mine, Levels, 0> = Held { words };
+    if let Some(end) = obstacle(&parent, form, byte, pass) {
+        unlock_same(words, free, pass);
+        return end;
+    }
+    let _ = spares.take(kind);
+    let Some(again) = regain(others, spare, pass) else {
+        unlock_same(words, free, pass);
+        return Err(Hindrance::Busy);
+    };
+    let child: Held<'_, Mine, Levels, 0> = Held { words: others };
+    lay(&child, kind, &bytes[..7], pass);
+    let held: Held<'_, Mine, Levels, 1> = Held { words };
+    put(&held, form, byte, word_below(spare, kind), pass);
+    unlock_again::<A, Brand>(&words[0], free, pass);
+    node::unlock::<Mine, Levels, Same>(&others[0], again, pass);
     Ok(())
 }

@@ -1,16 +1,15 @@
 //! The map, and its callers.
-ghost use Rattle.std.specs.Prelude.{◌≡◌, ◌≢◌, ℕ, [], Some, IfOk, OnErr};
+ghost use Rattle.std.specs.Prelude.{◌≡◌, ◌≢◌, ℕ, [], IfOk, OnErr};
 ghost use Rattle.live_law.specs.Views.{ask, got, inserted};
 ghost use Rattle.live_law.specs.Known.{MadeCall};
-ghost use Rattle.live_calls.specs.Exchanges.{exchange_of, compared};
 ghost use Rattle.live_calls.specs.Meetings.{SeenMore};
 
-use crate::exchange::exchange_once;
 use crate::get::get_once;
 use crate::insert::{insert_once, reserve};
 use crate::link::Room;
 use crate::meeting::meet;
 use crate::plant::plant;
+use crate::spare::Spares;
 use crate::way::{Nodes, Pass};
 use live_nodes::heap::Heap;
 use std::alloc::{AllocError, Global};
@@ -65,7 +64,7 @@ impl Model for Guard {
 
     ghost view = { λ g. known_of g.pass.book g.pass.id g.pass.view };
 
-    ghost invariant = { λ g. IsReady g.pass.view g.room.start g.room.left };
+    ghost invariant = { λ g. IsReady g.pass.view g.room };
 }
 
 impl Guard {
@@ -86,7 +85,11 @@ impl Congee {
     pub fn new(alloc: Global) -> Result<Congee, AllocError> {
         let nodes: Nodes = Heap::new(alloc, 1)?;
         let mut pass = nodes.enter();
-        let mut room = Room { start: 0, left: 0 };
+        let mut room = Room {
+            start: 0,
+            left: 0,
+            spare: Spares::none(),
+        };
         let _ = reserve(&nodes, alloc, &mut room, &mut pass)?;
         if !plant::<Brand>(&nodes, &mut room, &mut pass) {
             return Err(AllocError);
@@ -100,7 +103,11 @@ impl Congee {
     {
         Guard {
             pass: self.nodes.enter(),
-            room: Room { start: 0, left: 0 },
+            room: Room {
+                start: 0,
+                left: 0,
+                spare: Spares::none(),
+            },
         }
     }
 
@@ -142,29 +149,5 @@ impl Congee {
             }
         }
         Err(Refusal::Busy)
-    }
-
-    /// Replaces a key's value by `new`, if it is `old`. `Ok` with the new value, or `Err` with the current one, or with
-    /// `None` where the key is absent. Takes no memory.
-    pub fn compare_exchange(
-        &self,
-        guard: &mut Guard,
-        key: u64,
-        old: u64,
-        new: u64,
-    ) -> Result<Result<Option<u64>, Option<u64>>, Busy>
-        requires { guard.old.book ≡ self.now }
-        ensures made { IfOk result (λ answer. MadeCall guard.old
-            (compared (exchange_of guard.old.caller key old new) answer) guard.new) }
-        ensures stored { IfOk result (λ answer. IfOk answer (λ stored. stored ≡ Some new)) }
-        ensures busy { OnErr result (guard.new ≡ guard.old) }
-    {
-        for _ in 0..TRIES {
-            let done = exchange_once::<Brand>(&self.nodes, key, old, new, &mut guard.pass);
-            if let Some(answer) = done {
-                return Ok(answer);
-            }
-        }
-        Err(Busy)
     }
 }

@@ -8,13 +8,12 @@ ghost use Rattle.live_law.specs.Tree.{HasAnswer};
 ghost use Rattle.live_calls.specs.Ways.{Names, Sights, Leaves, IsOpen, Keeps, Ended};
 ghost use Rattle.live_calls.specs.Sees.{Sees, HasMet, Follows, IsNextOpen};
 
-use crate::way::{Nodes, Opened, Pass, byte_at, look, open, words_at};
+use crate::way::{Nodes, Opened, Pass, byte_at, look, open};
 use live_cells::head::prefix_len;
 use live_cells::lanes::lane_of;
 use live_cells::words::Cells;
-use live_encodes::form::{form_below, slot_below};
-use live_encodes::search::find;
-use live_law::law::{Asks, Head, Levels, Mine, Miss};
+use live_encodes::form::slot_below;
+use live_law::law::{Asks, Head, Levels, Mine};
 use live_nodes::node;
 use live_rows::rows::Row;
 use std::simd::prelude::*;
@@ -93,63 +92,48 @@ pub fn compare(head: u64, key: u64) -> Sight
 
 /// What a key sees of a node, which is open then. `None` where a writer came in between.
 #[inline(always)]
-pub fn meet<'a, A: Asks>(nodes: &'a Nodes, name: u64, key: u64, pass: &mut Pass) -> Option<Met<'a>>
+pub fn meet<'a>(nodes: &'a Nodes, name: u64, key: u64, pass: &mut Pass) -> Option<Met<'a>>
     requires book { pass.old.book ≡ nodes.now }
-    requires asks { A.ask.caller ≡ pass.old.id }
     requires sighted { Sights pass.old.view name }
     ensures told { (pass.new.book ≡ pass.old.book) × (pass.new.id ≡ pass.old.id)
         × Keeps pass.old.view pass.new.view
-        × (pass.new.view.client ≡ pass.old.view.client) }
+        × (pass.new.view.client.seen ≡ pass.old.view.client.seen) }
     ensures met { IfSome result (λ met. let here = met.here
         in HasMet pass.new.view pass.new.book here.words.now here.taken name key met.sight) }
 {
     let here = open(nodes, name, pass)?;
     let row = Row { words: here.words };
     let head = row.word(0, pass);
-    if !node::check::<Mine, Levels, Head<A>>(&here.words[0], here.taken, pass) {
+    if !node::check::<Mine, Levels, Head>(&here.words[0], here.taken, pass) {
         return None;
     }
     let sight = compare(head, key);
     Some(Met { here, sight })
 }
 
-/// Whether the way of a key ends at a node, which still leads on to one that the key leaves. `false` where a writer came in
+/// Opens a node that a key has come to, if it has that height and keys that begin like it. `None` where a writer came in
 /// between.
-pub fn ends_above<A: Asks>(
-    nodes: &Nodes,
+pub fn enter<'a>(
+    nodes: &'a Nodes,
     name: u64,
     height: usize,
-    below: u64,
     key: u64,
     pass: &mut Pass,
-) -> bool
+) -> Option<Opened<'a>>
     requires book { pass.old.book ≡ nodes.now }
-    requires asks { (A.ask.key ≡ key) × (A.ask.caller ≡ pass.old.id) }
-    requires named { Names pass.old.view name key height }
-    requires height { (2 ≤ height) × (height ≤ 8) }
-    requires leaves { (h : ℕ) × (b : ℕ) × Leaves pass.old.view below key h b }
+    requires sighted { Sights pass.old.view name }
     ensures told { (pass.new.book ≡ pass.old.book) × (pass.new.id ≡ pass.old.id)
-        × Keeps pass.old.view pass.new.view }
-    ensures ends { IsTrue result → HasAnswer A.ask None pass.old.view.client pass.new.view.client }
-    ensures busy { result ≡ false → pass.new.view.client ≡ pass.old.view.client }
+        × Keeps pass.old.view pass.new.view
+        × (pass.new.view.client.seen ≡ pass.old.view.client.seen) }
+    ensures open { IfSome result (λ here.
+        IsOpen pass.new.view pass.new.book here.words.now here.taken name key height) }
 {
-    let Some(words) = words_at(nodes, name) else {
-        return false;
-    };
-    let form = form_below(name);
-    let byte = byte_at(key, height);
-    let taken = node::take(&words[0], pass);
-    if taken % 4 != 0 {
-        return false;
+    let met = meet(nodes, name, key, pass)?;
+    match met.sight {
+        Sight::Covers(at) if at == height => Some(met.here),
+        Sight::Covers(_) => None,
+        Sight::Leaves(_, _) => None,
     }
-    let row = Row { words };
-    let Some(word) = find(&row, form, byte, pass) else {
-        return false;
-    };
-    if slot_below(word) != below {
-        return false;
-    }
-    node::check::<Mine, Levels, Miss<A>>(&words[0], taken, pass)
 }
 
 /// What is next on a key's way from an open node. `None` where a writer came in between.
@@ -180,7 +164,7 @@ pub fn step<'a, A: Asks>(
         });
     };
     let below = slot_below(word);
-    let met = meet::<A>(nodes, below, key, pass)?;
+    let met = meet(nodes, below, key, pass)?;
     match met.sight {
         Sight::Covers(lower) if lower < height => Some(Arrival {
             here: met.here,
@@ -192,25 +176,4 @@ pub fn step<'a, A: Asks>(
             next: Next::Forks(Fork { below, at, byte }),
         }),
     }
-}
-
-/// What is next on a key's way. `None` where a writer came in between.
-pub fn follow<A: Asks>(
-    nodes: &Nodes,
-    name: u64,
-    height: usize,
-    key: u64,
-    pass: &mut Pass,
-) -> Option<Next>
-    requires book { pass.old.book ≡ nodes.now }
-    requires asks { (A.ask.key ≡ key) × (A.ask.caller ≡ pass.old.id) }
-    requires named { Names pass.old.view name key height }
-    requires height { (2 ≤ height) × (height ≤ 8) }
-    ensures told { (pass.new.book ≡ pass.old.book) × (pass.new.id ≡ pass.old.id)
-        × Keeps pass.old.view pass.new.view
-        × Follows (Ended A.reads A.ask None) pass.old.view pass.new.view key height result }
-{
-    let here = open(nodes, name, pass)?;
-    let step = step::<A>(nodes, here, name, height, key, pass)?;
-    Some(step.next)
 }

@@ -1,19 +1,26 @@
 //! A key leaves the way of a node: a new node comes above that, where both ways part.
 ghost use Rattle.std.specs.Prelude.{◌≡◌, ℕ, ◌+◌, ◌<◌, ◌≤◌, ◌^◌, []};
-ghost use Rattle.live_calls.specs.Ways.{Names, Leaves};
+ghost use Rattle.live_nodes.specs.Seats.{SeatView};
+ghost use Rattle.live_law.specs.Views.{View};
+ghost use Rattle.live_calls.specs.Ways.{Names, Sights, Leaves};
+ghost use Rattle.live_calls.specs.Spares.{HasSpares};
 ghost use Rattle.live_calls.specs.Rooms.{HasRoom, HasGrown};
 
-use crate::held::{lock_node, unlock_same};
+use crate::fork::parts;
+use crate::held::{lock_node, regain, unlock_again, unlock_same};
 use crate::link::{NEW, Room};
 use crate::room::make_fork;
 use crate::sight::Fork;
-use crate::way::{Nodes, Pass, byte_at, words_at};
+use crate::spare::Spares;
+use crate::way::{Nodes, Pass, byte_at, bytes_of, words_at};
 use crate::widen::leads_to;
-use live_encodes::change::change;
+use live_encodes::change::{change, put};
+use live_encodes::fill::lay;
 use live_encodes::form::{form_below, word_below, words_in};
-use live_law::law::{Asks, Levels, Link, Mine};
+use live_law::law::{Asks, Levels, Link, Mine, Same};
 use live_nodes::node;
 use live_rows::rows::Held;
+use std::marker::Brand;
 
 /// Puts a new node between a node and one below it whose way the key leaves. That one stays as it is. `false` where a writer
 /// came in between.
@@ -35,7 +42,8 @@ pub fn split<A: Asks>(
     requires room { HasRoom pass.old.view room.old.start room.old.left }
     ensures told { (pass.new.book ≡ pass.old.book) × (pass.new.id ≡ pass.old.id)
         × HasGrown pass.old.view pass.new.view
-        × HasRoom pass.new.view room.new.start room.new.left }
+        × HasRoom pass.new.view room.new.start room.new.left
+        × (room.new.spare ≡ room.old.spare) }
 {
     if fork.at >= height || fork.below >= 1 << 56 || room.start >= 1 << 48 || room.left < 263 {
         return false;
@@ -56,10 +64,81 @@ pub fn split<A: Asks>(
         unlock_same(words, free, pass);
         return false;
     }
+    if !parts::<Brand>(nodes, fork, key, pass) {
+        unlock_same(words, free, pass);
+        return false;
+    }
     let new = make_fork::<A>(others, room.start, key, fork, pass);
     room.start += words_in(NEW) as u64 + 1;
     room.left -= words_in(NEW) as u64 + 1;
     let _ = change(&held, form, byte, word_below(new, NEW), pass);
     node::unlock::<Mine, Levels, Link>(&words[0], free, pass);
+    true
+}
+
+/// The same by a node that is used again, whose name is kept as a spare one. It is kept no longer once it is in use.
+pub fn split_again<A: Asks>(
+    nodes: &Nodes,
+    above: u64,
+    height: usize,
+    fork: Fork,
+    key: u64,
+    spare: u64,
+    spares: &mut Spares,
+    pass: &mut Pass,
+) -> bool
+    requires book { pass.old.book ≡ nodes.now }
+    requires asks { (A.ask.key ≡ key) × (A.ask.height ≡ fork.at) }
+    requires named { Names pass.old.view above key height }
+    requires height { (2 ≤ height) × (height ≤ 8) }
+    requires leaves { Leaves pass.old.view fork.below key fork.at fork.byte }
+    requires rests { (pass.old.view.client.own ≡ []) × (pass.old.view.holds ≡ []) }
+    requires spare { Sights pass.old.view spare }
+    ensures told { (pass.new.book ≡ pass.old.book) × (pass.new.id ≡ pass.old.id)
+        × HasGrown pass.old.view pass.new.view
+        × (pass.new.view.room ≡ pass.old.view.room) }
+    ensures spares { (v : SeatView View) → HasSpares v spares.old → Sights v spare
+        → HasSpares v spares.new }
+{
+    if fork.at >= height || fork.below >= 1 << 56 || spare >= 1 << 56 {
+        return false;
+    }
+    let Some(words) = words_at(nodes, above) else {
+        return false;
+    };
+    let Some(others) = words_at(nodes, spare) else {
+        return false;
+    };
+    let form = form_below(above);
+    let kind = form_below(spare);
+    let byte = byte_at(key, height);
+    let bytes = bytes_of(key);
+    let Some(free) = lock_node(words, above, height, key, pass) else {
+        return false;
+    };
+    let parent: Held<'_, Mine, Levels, 0> = Held { words };
+    if !leads_to(&parent, form, byte, fork.below, pass) {
+        unlock_same(words, free, pass);
+        return false;
+    }
+    let _ = spares.take(kind);
+    let Some(back) = regain(others, spare, pass) else {
+        unlock_same(words, free, pass);
+        return false;
+    };
+    if !parts::<Brand>(nodes, fork, key, pass) {
+        node::retire::<Mine, Levels, Same>(&others[0], back, pass);
+        let _ = spares.keep(spare);
+        unlock_same(words, free, pass);
+        return false;
+    }
+    let new: Held<'_, Mine, Levels, 0> = Held { words: others };
+    lay(&new, kind, &bytes[..8 - fork.at], pass);
+    let child = word_below(fork.below, form_below(fork.below));
+    put(&new, kind, fork.byte, child, pass);
+    let held: Held<'_, Mine, Levels, 1> = Held { words };
+    let _ = change(&held, form, byte, word_below(spare, kind), pass);
+    unlock_again::<A, Brand>(&words[0], free, pass);
+    node::unlock::<Mine, Levels, Same>(&others[0], back, pass);
     true
 }

@@ -1,7 +1,8 @@
 //! The way of a key: from the trunk to the root, and from a node to the one below.
-ghost use Rattle.std.specs.Prelude.{◌≡◌, ℕ, ◌+◌, ◌-◌, ◌%◌, ◌<◌, ◌≤◌, ◌^◌, length, slice_index, IfSome, IfNone};
+ghost use Rattle.std.specs.Prelude.{◌≡◌, ℕ, ◌+◌, ◌-◌, ◌%◌, ◌<◌, ◌≤◌, ◌^◌, [], ◌∷◌, length, slice_index, IfSome, IfNone};
 ghost use Rattle.node_base.specs.Form.{form_place};
 ghost use Rattle.node_base.specs.declared.base_node.NodeType.{NodeType};
+ghost use Rattle.live_nodes.specs.Seats.{read};
 ghost use Rattle.live_law.specs.Levels.{digit, up};
 ghost use Rattle.live_calls.specs.Ways.{KnowsTrunk, Names, Sights, AreNamed, HasOpened, IsOpen, Keeps, Looked};
 
@@ -97,6 +98,8 @@ pub fn open<'a>(nodes: &'a Nodes, name: u64, pass: &mut Pass) -> Option<Opened<'
     ensures opened { IfSome result (λ here. (here.taken % 4 ≡ 0)
         × ((n : Sights pass.old.view name)
         → HasOpened pass.new.view pass.new.book here.words.now here.taken n.spot)) }
+    ensures taken { IfSome result (λ here. (n : Sights pass.old.view name)
+        → pass.new.view.reads ≡ read n.spot.number here.taken [] ∷ pass.old.view.reads) }
 {
     let words = words_at(nodes, name)?;
     let taken = node::take(&words[0], pass);

@@ -2,22 +2,29 @@
 ghost use Rattle.std.specs.Prelude.{◌≡◌, ℕ, ◌+◌, ◌<◌, ◌≤◌, ◌^◌, [], length, IsTrue};
 ghost use Rattle.live_cells.specs.Words.{Looks};
 ghost use Rattle.live_encodes.specs.Encodes.{words_of};
-ghost use Rattle.live_calls.specs.Ways.{Names};
+ghost use Rattle.live_nodes.specs.Seats.{SeatView};
+ghost use Rattle.live_law.specs.Views.{View};
+ghost use Rattle.live_calls.specs.Ways.{Names, Sights};
+ghost use Rattle.live_calls.specs.Spares.{HasSpares};
 ghost use Rattle.live_calls.specs.Holds.{HasWordOf};
 ghost use Rattle.live_calls.specs.Rooms.{HasRoom, HasGrown};
 
-use crate::held::{lock_node, unlock_same};
+use crate::held::{lock_node, regain, unlock_again, unlock_last, unlock_same};
 use crate::link::Room;
 use crate::room::make_grown;
+use crate::source::Source;
+use crate::spare::Spares;
 use crate::way::{Nodes, Pass, byte_at, words_at};
 use live_cells::words::{Draft, Drafted};
 use live_encodes::change::change;
-use live_encodes::form::{form_below, next_of, slot_below, word_below, words_in};
+use live_encodes::fill::grow;
+use live_encodes::form::{form_below, next_of, place_of, slot_below, word_below, words_in};
 use live_encodes::search::find;
 use live_law::law::{Asks, Levels, Link, Mine, Same};
 use live_nodes::node;
 use live_rows::rows::Held;
 use node_base::base_node::NodeType;
+use std::marker::Brand;
 
 /// Whether a byte has the node with this name as its child.
 pub fn leads_to<S, D: Draft<S>>(
@@ -61,7 +68,8 @@ pub fn widen<A: Asks>(
     requires room { HasRoom pass.old.view room.old.start room.old.left }
     ensures told { (pass.new.book ≡ pass.old.book) × (pass.new.id ≡ pass.old.id)
         × HasGrown pass.old.view pass.new.view
-        × HasRoom pass.new.view room.new.start room.new.left }
+        × HasRoom pass.new.view room.new.start room.new.left
+        × (room.new.spare ≡ room.old.spare) }
 {
     let form = form_below(name);
     if form == NodeType::N256 || room.start >= 1 << 48 || room.left < 263 {
@@ -97,5 +105,84 @@ pub fn widen<A: Asks>(
     let _ = change(&held, form_below(above), byte, word_below(new, wider), pass);
     node::unlock::<Mine, Levels, Link>(&words_above[0], free_above, pass);
     node::retire::<Mine, Levels, Same>(&words[0], free, pass);
+    true
+}
+
+/// The same by a node that is used again, whose name is kept as a spare one. It is kept no longer once it is locked.
+pub fn widen_again<A: Asks>(
+    nodes: &Nodes,
+    above: u64,
+    level: usize,
+    name: u64,
+    height: usize,
+    key: u64,
+    spare: u64,
+    spares: &mut Spares,
+    pass: &mut Pass,
+) -> bool
+    requires book { pass.old.book ≡ nodes.now }
+    requires asks { (A.ask.key ≡ key) × (A.ask.height ≡ height) }
+    requires above { Names pass.old.view above key level }
+    requires named { Names pass.old.view name key height }
+    requires height { (1 ≤ height) × (height < level) × (level ≤ 8) }
+    requires rests { (pass.old.view.client.own ≡ []) × (pass.old.view.holds ≡ []) }
+    requires spare { Sights pass.old.view spare }
+    ensures told { (pass.new.book ≡ pass.old.book) × (pass.new.id ≡ pass.old.id)
+        × HasGrown pass.old.view pass.new.view
+        × (pass.new.view.room ≡ pass.old.view.room) }
+    ensures spares { (v : SeatView View) → HasSpares v spares.old → HasSpares v spares.new }
+{
+    let form = form_below(name);
+    let wider = form_below(spare);
+    if form == NodeType::N256 || spare >= 1 << 56 {
+        return false;
+    }
+    let place = place_of(wider);
+    let next = place_of(next_of(form));
+    if place != next {
+        return false;
+    }
+    let Some(words_above) = words_at(nodes, above) else {
+        return false;
+    };
+    let Some(full) = words_at(nodes, name) else {
+        return false;
+    };
+    let Some(others) = words_at(nodes, spare) else {
+        return false;
+    };
+    let byte = byte_at(key, level);
+    let Some(free_above) = lock_node(words_above, above, level, key, pass) else {
+        return false;
+    };
+    let parent: Held<'_, Mine, Levels, 0> = Held { words: words_above };
+    if !leads_to(&parent, form_below(above), byte, name, pass) {
+        unlock_same(words_above, free_above, pass);
+        return false;
+    }
+    let Some(free) = lock_node(full, name, height, key, pass) else {
+        unlock_same(words_above, free_above, pass);
+        return false;
+    };
+    let _ = spares.take(wider);
+    let Some(back) = regain(others, spare, pass) else {
+        unlock_last(full, free, pass);
+        unlock_same(words_above, free_above, pass);
+        return false;
+    };
+    let source = Source { words: full };
+    let new: Held<'_, Mine, Levels, 0> = Held { words: others };
+    grow(&source, form, &new, pass);
+    let held: Held<'_, Mine, Levels, 2> = Held { words: words_above };
+    let _ = change(
+        &held,
+        form_below(above),
+        byte,
+        word_below(spare, wider),
+        pass,
+    );
+    unlock_again::<A, Brand>(&words_above[0], free_above, pass);
+    node::unlock::<Mine, Levels, Same>(&others[0], back, pass);
+    node::retire::<Mine, Levels, Same>(&full[0], free, pass);
     true
 }

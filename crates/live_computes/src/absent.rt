@@ -5,14 +5,12 @@ ghost use Rattle.live_calls.specs.Calls.{IsReady};
 ghost use Rattle.live_updates.specs.inner.Updates.{IsUpdate};
 ghost use Rattle.live_computes.specs.inner.Ends.{Tries, Enters};
 
-use live_calls::insert::{End, Stand, descend, enlarge, extend, reserve};
+use live_calls::insert::{End, Stand, descend, enlarge, extend, part, reserve};
 use live_calls::link::Room;
 use live_calls::map::{Refusal, TRIES};
-use live_calls::split::split;
 use live_calls::way::{Nodes, Pass};
 use live_updates::leaf::{Missed, Updates, update_here};
 use std::alloc::Global;
-use std::marker::Brand;
 
 /// How a try ends: the key has the value, it has another one already, or it is to be tried again.
 #[derive(Clone, Copy, Debug, PartialEq, Eq)]
@@ -35,11 +33,11 @@ fn enter_at<U: Updates>(
     requires asks { (U.update.key ≡ key) × (U.update.caller ≡ pass.old.id) }
     requires values { (U.update.old ≡ None) × (U.update.new ≡ Some value) }
     requires legal { IsUpdate U.update }
-    requires ready { IsReady pass.old.view room.old.start room.old.left }
+    requires ready { IsReady pass.old.view room.old }
     requires stands { Stands pass.old.view key stand }
     requires leaf { stand.height ≡ 1 }
     ensures told { (pass.new.book ≡ pass.old.book) × (pass.new.id ≡ pass.old.id)
-        × IsReady pass.new.view room.new.start room.new.left
+        × IsReady pass.new.view room.new
         × Tries U.update result pass.old.view pass.new.view }
 {
     match update_here::<U>(nodes, stand.name, key, None, Some(value), pass) {
@@ -65,16 +63,16 @@ fn enter_once<U: Updates>(
     requires asks { (U.update.key ≡ key) × (U.update.caller ≡ pass.old.id) }
     requires values { (U.update.old ≡ None) × (U.update.new ≡ Some value) }
     requires legal { IsUpdate U.update }
-    requires ready { IsReady pass.old.view room.old.start room.old.left }
+    requires ready { IsReady pass.old.view room.old }
     ensures told { (pass.new.book ≡ pass.old.book) × (pass.new.id ≡ pass.old.id)
-        × IsReady pass.new.view room.new.start room.new.left
+        × IsReady pass.new.view room.new
         × Tries U.update result pass.old.view pass.new.view }
 {
     let Some(End { stand, fork }) = descend(nodes, key, pass) else {
         return Tried::Again;
     };
     if let Some(fork) = fork {
-        let _ = split::<Brand>(nodes, stand.name, stand.height, fork, key, room, pass);
+        part(nodes, stand, fork, key, room, pass);
         return Tried::Again;
     }
     if stand.height > 1 {
@@ -97,9 +95,9 @@ pub fn enter<U: Updates>(
     requires asks { (U.update.key ≡ key) × (U.update.caller ≡ pass.old.id) }
     requires values { (U.update.old ≡ None) × (U.update.new ≡ Some value) }
     requires legal { IsUpdate U.update }
-    requires ready { IsReady pass.old.view room.old.start room.old.left }
+    requires ready { IsReady pass.old.view room.old }
     ensures told { (pass.new.book ≡ pass.old.book) × (pass.new.id ≡ pass.old.id)
-        × IsReady pass.new.view room.new.start room.new.left
+        × IsReady pass.new.view room.new
         × Enters U.update result pass.old.view pass.new.view }
 {
     for _ in 0..TRIES {

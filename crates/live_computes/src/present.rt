@@ -1,9 +1,8 @@
 //! The calls. A closure is called while nothing is locked, and what it returned is stored if the key still has the value that
 //! it was called with. Otherwise it is called again.
-ghost use Rattle.std.specs.Prelude.{◌≡◌, ℕ, [], IfOk, IfSome, OnErr, unwrap_or};
+ghost use Rattle.std.specs.Prelude.{◌≡◌, ℕ, IfOk, IfSome, OnErr, unwrap_or};
 ghost use Rattle.std.specs.Option.{option_map};
 ghost use Rattle.live_law.specs.Known.{MadeCall};
-ghost use Rattle.live_calls.specs.Ways.{KnowsTrunk};
 ghost use Rattle.live_calls.specs.Calls.{IsReady};
 ghost use Rattle.live_updates.specs.inner.Lookups.{EndsBy};
 ghost use Rattle.live_computes.specs.Closures.{Reaches};
@@ -14,7 +13,7 @@ use crate::absent::enter;
 use live_calls::link::Room;
 use live_calls::map::{Busy, Congee, Guard, Refusal, TRIES};
 use live_calls::way::{Nodes, Pass};
-use live_updates::leaf::update_here;
+use live_updates::leaf::{exchange_here, update_here};
 use live_updates::lookup::{Site, seek};
 use std::alloc::Global;
 use std::marker::Brand;
@@ -24,17 +23,17 @@ use std::marker::Brand;
 fn present_once<F: FnMut(u64) -> Option<u64>>(
     nodes: &Nodes,
     key: u64,
+    room: &mut Room,
     pass: &mut Pass,
     f: &mut F,
 ) -> Option<Option<(u64, Option<u64>)>>
     requires book { pass.old.book ≡ nodes.now }
-    requires trunk { KnowsTrunk pass.old.view }
-    requires rests { (pass.old.view.client.own ≡ []) × (pass.old.view.holds ≡ []) }
+    requires ready { IsReady pass.old.view room.old }
     requires callable { F.IsAlwaysCallable f.old }
     ensures callable { F.IsAlwaysCallable f.new }
     ensures reached { Reaches F.step f.old f.new }
     ensures told { (pass.new.book ≡ pass.old.book) × (pass.new.id ≡ pass.old.id)
-        × ((start left : ℕ) → IsReady pass.old.view start left → IsReady pass.new.view start left)
+        × IsReady pass.new.view room.new
         × EndsBy pass.old.id (option_map (computed_with pass.old.id key) result)
         pass.old.view pass.new.view }
     ensures asked { IfSome result (λ both. IfSome both (λ pair.
@@ -44,7 +43,7 @@ fn present_once<F: FnMut(u64) -> Option<u64>>(
         Site::Absent => Some(None),
         Site::At(leaf, value) => {
             let new = f(value);
-            if update_here::<Brand>(nodes, leaf, key, Some(value), new, pass).is_some() {
+            if exchange_here::<Brand>(nodes, leaf, key, Some(value), new, room, pass).is_some() {
                 return None;
             }
             Some(Some((value, new)))
@@ -63,12 +62,12 @@ fn always_once<F: FnMut(Option<u64>) -> u64>(
     f: &mut F,
 ) -> Result<Option<Option<u64>>, Refusal>
     requires book { pass.old.book ≡ nodes.now }
-    requires ready { IsReady pass.old.view room.old.start room.old.left }
+    requires ready { IsReady pass.old.view room.old }
     requires callable { F.IsAlwaysCallable f.old }
     ensures callable { F.IsAlwaysCallable f.new }
     ensures reached { Reaches F.step f.old f.new }
     ensures told { (pass.new.book ≡ pass.old.book) × (pass.new.id ≡ pass.old.id)
-        × IsReady pass.new.view room.new.start room.new.left
+        × IsReady pass.new.view room.new
         × Stores pass.old.id key (λ before new. (state : F) × F.step state before new f.new) result
         pass.old.view pass.new.view }
 {
@@ -101,9 +100,9 @@ fn keep_once(
     pass: &mut Pass,
 ) -> Result<Option<Option<u64>>, Refusal>
     requires book { pass.old.book ≡ nodes.now }
-    requires ready { IsReady pass.old.view room.old.start room.old.left }
+    requires ready { IsReady pass.old.view room.old }
     ensures told { (pass.new.book ≡ pass.old.book) × (pass.new.id ≡ pass.old.id)
-        × IsReady pass.new.view room.new.start room.new.left
+        × IsReady pass.new.view room.new
         × Stores pass.old.id key (λ found new. new ≡ unwrap_or found value) result
         pass.old.view pass.new.view }
 {
@@ -129,9 +128,9 @@ fn add_once(
     pass: &mut Pass,
 ) -> Result<Option<Option<u64>>, Refusal>
     requires book { pass.old.book ≡ nodes.now }
-    requires ready { IsReady pass.old.view room.old.start room.old.left }
+    requires ready { IsReady pass.old.view room.old }
     ensures told { (pass.new.book ≡ pass.old.book) × (pass.new.id ≡ pass.old.id)
-        × IsReady pass.new.view room.new.start room.new.left
+        × IsReady pass.new.view room.new
         × Stores pass.old.id key (λ before new. new ≡ sum_with before number) result
         pass.old.view pass.new.view }
 {
@@ -173,7 +172,7 @@ pub fn compute_if_present<F: FnMut(u64) -> Option<u64>>(
     ensures busy { OnErr result (guard.new ≡ guard.old) }
 {
     for _ in 0..TRIES {
-        if let Some(both) = present_once(&map.nodes, key, &mut guard.pass, f) {
+        if let Some(both) = present_once(&map.nodes, key, &mut guard.room, &mut guard.pass, f) {
             return Ok(both);
         }
     }

@@ -14,8 +14,8 @@ mod scans;
 mod updates;
 
 use crossbeam_utils::Backoff;
-use live_calls::map;
 pub use live_calls::map::{Busy, Guard, Refusal};
+use live_pool::pool::Pool;
 use spec_map::error::OOMError;
 use spec_map::traits::Word;
 use std::alloc::Global;
@@ -33,7 +33,7 @@ use std::sync::Wait;
 /// legal history of the map: it begins with what the guard had seen before, and ends with the call and its reply.
 #[derive(Drop)]
 pub struct Congee<K: Word, V: Word> {
-    numbers: map::Congee,
+    pool: Pool,
     of: PhantomData<(K, V)>,
 }
 
@@ -44,7 +44,7 @@ impl<K: Word, V: Word> Model for Congee<K, V> {
 
     ghost coded = { book_coded };
 
-    ghost view = { λ m. m.numbers };
+    ghost view = { λ m. m.pool };
 }
 
 fn read_back<V: Word>(number: Option<u64>) -> Option<V>
@@ -60,24 +60,26 @@ impl<K: Word, V: Word> Congee<K, V> {
     /// An empty map. It has a root of 2,104 bytes. `OOMError` if there is no memory for it.
     pub fn new(alloc: Global) -> Result<Self, OOMError> {
         Ok(Congee {
-            numbers: map::Congee::new(alloc)?,
+            pool: Pool::new(alloc)?,
             of: PhantomData,
         })
     }
 
     /// A guard that has seen nothing. It takes no memory, and waits for nobody.
     ///
-    /// One that has inserted has room for nodes, of 512 KiB at most, which is free again with the map alone. So keep it for
-    /// a thread's further calls.
+    /// One that has inserted has room for nodes, of 512 KiB at most. `unpin` gives that to the next guard. If it is dropped
+    /// instead, the room is free again with the map alone.
     pub fn pin(&self) -> Guard
         ensures { (result.book ≡ self.now) × (result.seen ≡ []) }
     {
-        self.numbers.pin()
+        self.pool.pin()
     }
 
-    /// Drops a guard. Nobody waits for one that is kept.
-    pub fn unpin(&self, guard: Guard) {
-        drop(guard);
+    /// Gives a guard back. The next one gets its room for nodes. Nobody waits for one that is kept.
+    pub fn unpin(&self, guard: Guard)
+        requires map { guard.book ≡ self.now }
+    {
+        self.pool.unpin(guard);
     }
 
     /// The current value of the key, read back from its number. `Busy` if too many writers came in between: then nothing has
@@ -89,7 +91,7 @@ impl<K: Word, V: Word> Congee<K, V> {
             (got (ask guard.old.caller (K.number key.now) 0 0)) value guard.new) }
         ensures busy { OnErr result (guard.new ≡ guard.old) }
     {
-        let number = self.numbers.get(guard, key.into_u64())?;
+        let number = self.pool.map.get(guard, key.into_u64())?;
         Ok(read_back(number))
     }
 
@@ -126,7 +128,7 @@ impl<K: Word, V: Word> Congee<K, V> {
         ensures refused { OnErr result (guard.new ≡ guard.old) }
     {
         let number = self
-            .numbers
+            .pool
             .insert(alloc, guard, key.into_u64(), value.into_u64())?;
         Ok(read_back(number))
     }

@@ -1,21 +1,20 @@
 -- What a node shows of keys before one.
-use Rattle.std.proofs.Common.{◌≡◌, ◌≢◌, ℕ, suc, ◌+◌, ◌-◌, ◌*◌, ◌/◌, ◌%◌, ◌<◌, ◌≤◌, false, List, [], ◌∷◌, Option, Some, None, IfSome, IfNone, length, refl, sym, ap, ◌∙◌, subst, arith, if◌then◌else◌, ◌==◌, ne_eqb, eq-eqb, inl, inr}
+use Rattle.std.proofs.Common.{◌≡◌, ◌≢◌, ℕ, suc, ◌+◌, ◌-◌, ◌*◌, ◌%◌, ◌<◌, ◌≤◌, false, List, [], ◌∷◌, Option, Some, None, IfSome, IfNone, length, refl, sym, ap, ◌∙◌, subst, arith, ne_eqb, eq-eqb, inl, inr}
 use Rattle.std.proofs.lemmas.Bool.{cases_lt}
-use Rattle.spec_map.specs.Map.{Pairs, lookup}
+use Rattle.spec_map.specs.Map.{lookup}
 use Rattle.node_table.specs.TableNode.{Child}
 use Rattle.live_nodes.specs.Seats.{SeatView}
 use Rattle.live_encodes.specs.Encodes.{payload_of}
 use Rattle.live_encodes.proofs.StandLaws.{leaf-found}
 use Rattle.live_order.specs.Order.{HasNearest}
-use Rattle.live_law.specs.Levels.{up, digit, Covers}
+use Rattle.live_law.specs.Levels.{up, digit}
 use Rattle.live_law.specs.Views.{View}
-use Rattle.live_law.specs.Tree.{IsOfKind}
 use Rattle.live_law.proofs.Plans.{up-up}
 use Rattle.live_calls.specs.Ways.{Names}
 use Rattle.live_scans.specs.inner.Moments.{HasUnder, IsRead, HasNone, IsBeside}
 use Rattle.live_scans.proofs.Uppers.{up-rises}
 use Rattle.live_scans.proofs.Composed.{one_moment}
-use Rattle.live_scans.proofs.Nones.{covers_like, at_digit, leaf_value, splits}
+use Rattle.live_scans.proofs.Nones.{covers_like, at_digit, value_at, splits}
 use Rattle.live_floors.specs.inner.Downs.{IsByteAfter, IsUpTo, IsPassed, ReadsDown, Finds}
 use Rattle.live_floors.proofs.Downs.{none_down}
 
@@ -27,16 +26,16 @@ up_to_found : (fs : List (ℕ × Child ℕ)) (last b d : ℕ) (found : Option (�
 up_to_found fs last b d None low high near is = near d high
 up_to_found fs last b d (Some e) low high near is = let l = is.1 in near.2 d high (omega (arith, low, l))
 
-pub has_none_up_to : (id : ℕ) (v w : Seen) (name key height : ℕ) (n : Names v name key height) (saw : List (ℕ × ℕ)) (x : IsRead id v.client n.spot saw w.client) (byte : ℕ) (found : Option (ℕ × ℕ)) (r : Option ℕ) → byte ≡ digit height key → HasNearest false x.its.children byte found → IsByteAfter found byte r → IfSome r (λ b. HasNone id v w (IsUpTo height key b))
-has_none_up_to id v w name key height n saw x byte found None is near after = tt
-has_none_up_to id v w name key height n saw x byte found (Some b) is near after = record {
+pub has_none_up_to : (id : ℕ) (v w : Seen) (name key height : ℕ) (n : Names v name key height) (word : ℕ) (saw : List (ℕ × ℕ)) (x : IsRead id v.client n.spot n.spot.shape word saw w.client) (byte : ℕ) (found : Option (ℕ × ℕ)) (r : Option ℕ) → byte ≡ digit height key → HasNearest false x.node.its.children byte found → IsByteAfter found byte r → IfSome r (λ b. HasNone id v w (IsUpTo height key b))
+has_none_up_to id v w name key height n word saw x byte found None is near after = tt
+has_none_up_to id v w name key height n word saw x byte found (Some b) is near after = record {
   fits = x.fits;
   pairs = x.pairs;
   legal = x.legal;
   none = λ k l.
       let high = l.2 in
-      let none : lookup x.its.children (digit height k) ≡ None = up_to_found x.its.children byte b (digit height k) found l.1 (omega (arith, is, high)) near after in
-      subst (λ (o : Option (Child ℕ)). HasUnder v.client.met x.pairs k o) none (at_digit id v w name key height n saw x k (x.under k (covers_like id v w name key height n saw x k l.0)));
+      let none : lookup x.node.its.children (digit height k) ≡ None = up_to_found x.node.its.children byte b (digit height k) found l.1 (omega (arith, is, high)) near after in
+      subst (λ (o : Option (Child ℕ)). HasUnder v.client n.spot.number word x.pairs k o) none (at_digit id v w name key height n word saw x k (x.under k (covers_like id v w name key height n word saw x k l.0)));
 }
 
 -- RANGES of keys
@@ -95,23 +94,14 @@ one_value p k is = rw (eq-eqb p.0 k is) refl
 no_value : (p : ℕ × ℕ) (k : ℕ) → p.0 ≢ k → lookup (p ∷ []) k ≡ None
 no_value p k ne = rw (ne_eqb p.0 k ne) refl
 
-module _ (id : ℕ) (v w : Seen) (name base from : ℕ) (n : Names v name (base + from) 1) (saw : List (ℕ × ℕ)) (x : IsRead id v.client n.spot saw w.client) (whole : base % 256 ≡ 0) (small : from ≤ 255) where
-  -- what the map has at a key of the leaf
-  value_at : (k : ℕ) → base ≤ k → k < base + from + 1 → payload_of (lookup x.its.children (k - base)) ≡ lookup x.pairs k
-  value_at k lk hk =
-      let b : ℕ = k - base in
-      let is : base + b ≡ k = omega (arith, lk) in
-      let up1 : up 1 k ≡ up 1 (base + from) = omega (arith, whole, lk, hk, small) in
-      let dig : digit 1 k ≡ b = omega (arith, whole, lk, hk, small) in
-      let kind : IsOfKind 1 (lookup x.its.children b) = subst (λ (z : ℕ). IsOfKind z (lookup x.its.children b)) n.high (x.of_kind b (omega (arith, hk, small, is))) in
-      let covers : Covers n.spot.shape k = subst (λ (z : ℕ). up z k ≡ up z (base + from)) (sym n.high) up1 ∙ n.covers in
-      let under : HasUnder v.client.met x.pairs k (lookup x.its.children b) = subst (λ (z : ℕ). HasUnder v.client.met x.pairs k (lookup x.its.children z)) (ap (λ (z : ℕ). digit z k) n.high ∙ dig) (x.under k covers) in
-      leaf_value v.client.met x.pairs k (lookup x.its.children b) kind under
+module _ (id : ℕ) (v w : Seen) (name base from : ℕ) (n : Names v name (base + from) 1) (word : ℕ) (saw : List (ℕ × ℕ)) (x : IsRead id v.client n.spot n.spot.shape word saw w.client) (whole : base % 256 ≡ 0) (small : from ≤ 255) where
+  value_here : (k : ℕ) → base ≤ k → k < base + from + 1 → payload_of (lookup x.node.its.children (k - base)) ≡ lookup x.pairs k
+  value_here = value_at id v w name base from from n word saw x whole small small
 
-  none_at : (k : ℕ) → base ≤ k → k < base + from + 1 → lookup x.its.children (k - base) ≡ None → None ≡ lookup x.pairs k
-  none_at k lk hk none = sym (ap payload_of none) ∙ value_at k lk hk
+  none_at : (k : ℕ) → base ≤ k → k < base + from + 1 → lookup x.node.its.children (k - base) ≡ None → None ≡ lookup x.pairs k
+  none_at k lk hk none = sym (ap payload_of none) ∙ value_here k lk hk
 
-  some_read : (e : ℕ × ℕ) → HasNearest false x.its.children from (Some e) → payload_of (lookup x.its.children e.0) ≡ Some e.1 → ReadsDown id v w (base + e.0) (base + from + 1) ((base + e.0, e.1) ∷ [])
+  some_read : (e : ℕ × ℕ) → HasNearest false x.node.its.children from (Some e) → payload_of (lookup x.node.its.children e.0) ≡ Some e.1 → ReadsDown id v w (base + e.0) (base + from + 1) ((base + e.0, e.1) ∷ [])
   some_read e near is =
       let low = near.0 in record {
         fits = x.fits;
@@ -121,11 +111,11 @@ module _ (id : ℕ) (v w : Seen) (name base from : ℕ) (n : Names v name (base 
             elim (cases_lt (base + e.0) k) [
               | inl after ↦ no_value (base + e.0, e.1) k (λ same. omega (arith, same, after)) ∙ none_at k (omega (arith, lk)) hk (near.2 (k - base) (omega (arith, hk)) (omega (arith, after)))
               | inr at ↦ let e0 : base + e.0 ≡ k = omega (arith, at, lk) in
-                  one_value (base + e.0, e.1) k e0 ∙ (sym is ∙ (ap (λ (z : ℕ). payload_of (lookup x.its.children z)) (let d : e.0 ≡ k - base = omega (arith, e0) in d) ∙ value_at k (omega (arith, lk)) hk))
+                  one_value (base + e.0, e.1) k e0 ∙ (sym is ∙ (ap (λ (z : ℕ). payload_of (lookup x.node.its.children z)) (let d : e.0 ≡ k - base = omega (arith, e0) in d) ∙ value_here k (omega (arith, lk)) hk))
             ]);
       }
 
-  pub leaf_finds : (found r : Option (ℕ × ℕ)) → length x.its.prefix ≡ 7 → HasNearest false x.its.children from found → IfNone found (r ≡ None) → IfSome found (λ e. r ≡ Some (base + e.0, e.1)) → Finds id v w base (base + from + 1) r
+  pub leaf_finds : (found r : Option (ℕ × ℕ)) → length x.node.its.prefix ≡ 7 → HasNearest false x.node.its.children from found → IfNone found (r ≡ None) → IfSome found (λ e. r ≡ Some (base + e.0, e.1)) → Finds id v w base (base + from + 1) r
   leaf_finds None r seven near none some = subst (λ (z : Option (ℕ × ℕ)). Finds id v w base (base + from + 1) z) (sym none) record {
     fits = x.fits;
     legal = (x.pairs, x.legal);
@@ -134,4 +124,4 @@ module _ (id : ℕ) (v w : Seen) (name base from : ℕ) (n : Names v name (base 
   leaf_finds (Some e) r seven near none some =
       let low = near.0 in
       subst (λ (z : Option (ℕ × ℕ)). Finds id v w base (base + from + 1) z) (sym some)
-      (omega arith, omega (arith, low), some_read e near (leaf-found x.content x.its e.0 (Some e.1) x.encodes seven near.1))
+      (omega arith, omega (arith, low), some_read e near (leaf-found x.node.content x.node.its e.0 (Some e.1) x.node.encodes seven near.1))

@@ -1,5 +1,5 @@
 -- The first key with given upper bytes.
-use Rattle.std.proofs.Common.{◌≡◌, ℕ, ◌+◌, ◌-◌, ◌*◌, ◌^◌, ◌<◌, ◌≤◌, refl, ap, ◌∙◌, arith}
+use Rattle.std.proofs.Common.{◌≡◌, ℕ, ◌+◌, ◌-◌, ◌*◌, ◌^◌, ap, ◌∙◌, arith}
 use Rattle.std.proofs.Math.Nat.{one-le-pow}
 use Rattle.live_law.specs.Levels.{up}
 use Rattle.live_scans.proofs.Uppers.{up-filled}

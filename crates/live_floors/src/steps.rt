@@ -7,8 +7,8 @@ ghost use Rattle.live_scans.specs.inner.Moments.{HasNone, IsBeside};
 ghost use Rattle.live_floors.specs.inner.Downs.{IsByteAfter, IsUpTo, IsPassed, Finds};
 
 use crate::keys::first_of;
-use live_calls::sight::Fork;
-use live_calls::way::{Nodes, Pass, byte_at, words_at};
+use live_calls::sight::{Fork, enter};
+use live_calls::way::{Nodes, Opened, Pass, byte_at};
 use live_encodes::form::form_below;
 use live_law::law::{Asks, Levels, Mine};
 use live_nodes::node;
@@ -47,13 +47,10 @@ fn first_byte<A: Asks>(
         × IfSome result (λ b. HasNone pass.old.id pass.old.view pass.new.view
         (IsUpTo height key b)) }
 {
-    let words = words_at(nodes, name)?;
+    let here = enter(nodes, name, height, key, pass)?;
+    let Opened { words, taken } = here;
     let form = form_below(name);
     let byte = byte_at(key, height);
-    let taken = node::take(&words[0], pass);
-    if taken % 4 != 0 {
-        return None;
-    }
     let row = Row { words };
     let found = nearest(&row, form, false, byte, pass);
     if !node::check::<Mine, Levels, Whole<A>>(&words[0], taken, pass) {
@@ -92,12 +89,9 @@ pub fn leaf_floor<A: Asks>(
         × IfSome result (λ found. Finds pass.old.id pass.old.view pass.new.view
         base (base + byte + 1) found) }
 {
-    let words = words_at(nodes, name)?;
+    let here = enter(nodes, name, 1, base + byte as u64, pass)?;
+    let Opened { words, taken } = here;
     let form = form_below(name);
-    let taken = node::take(&words[0], pass);
-    if taken % 4 != 0 {
-        return None;
-    }
     let row = Row { words };
     let found = nearest(&row, form, false, byte, pass);
     if !node::check::<Mine, Levels, Whole<A>>(&words[0], taken, pass) {

@@ -3,7 +3,7 @@ use Rattle.std.proofs.Common.{◌≡◌, ◌⊎◌, ⊎_elim, ℕ, zero, suc, �
 use mathlib.Core.Option.{some, some-ne-none}
 use lib.ListN.{get_elem?}
 use Rattle.node_base.specs.declared.base_node.NodeType.TheVariants.{N4}
-use Rattle.live_nodes.specs.Nodes.{Node, node_at}
+use Rattle.live_nodes.specs.Nodes.{Content, Node, node_at}
 use Rattle.live_nodes.specs.Acts as acts
 use Rattle.live_law.specs.Views.{View, view_of}
 use Rattle.live_law.specs.Tree.{Plan, Knows, IsMap}
@@ -23,14 +23,17 @@ at_end (x ∷ l) a b (suc j) e = ⊎_elim (λ h. inl h) (λ h. inr ((let w = h.0
 pub admits : acts.Admits IsMap start
 admits ns vs p = record {
   plan = p.plan;
+  contents = p.contents;
   history = p.history;
   pairs = p.pairs;
   legal = p.legal;
   nodes = p.nodes;
+  settled = p.settled;
+  alive = p.alive;
   tree = p.tree;
   each_view = λ id v e. ⊎_elim
       (λ old. p.each_view id v old)
-      (λ is. subst (Knows p.plan ns p.history id) is.1 record { seen = record { begins = (p.history, refl); own = p.unborn id is.0 }; met = tt; own = tt })
+      (λ is. subst (Knows p.plan ns p.contents p.history id) is.1 record { seen = record { begins = (p.history, refl); own = p.unborn id is.0 }; met = tt; own = tt; watched = tt })
       (at_end vs start v id e);
   unborn = λ c l. p.unborn c (omega (arith, l, length-append vs (start ∷ [])));
 }
@@ -42,9 +45,13 @@ nodes = node_at 1 0 (0 ∷ []) None ∷ []
 abbrev plan : Plan
 plan = record { shape = λ _. record { key = 0; form = N4; height = 0; top = 0 }; home = λ _ _. 0; maker = λ _. None }
 
+abbrev contents : ℕ → Content
+contents _ = []
+
 pub begins : IsMap nodes (start ∷ [])
 begins = record {
   plan = plan;
+  contents = contents;
   history = [];
   pairs = [];
   legal = refl;
@@ -55,6 +62,8 @@ begins = record {
     long = λ k some_node low. absurd (omega (arith, some_node, low));
     apart = λ j k some_j some_k low lower. absurd (omega (arith, some_j, low));
   };
+  settled = λ k some_node low free. absurd (omega (arith, some_node, low));
+  alive = λ k some_node low here free. absurd (omega (arith, some_node, low));
   tree = record {
     root = inl (refl, refl);
     rooted = λ some_node. absurd (omega (arith, some_node));
@@ -66,7 +75,7 @@ begins = record {
   };
   each_view = λ id v e. ⊎_elim
       (λ none. absurd (some-ne-none v (sym none)))
-      (λ is. subst (Knows plan nodes [] id) is.1 record { seen = record { begins = ([], refl); own = refl }; met = tt; own = tt })
+      (λ is. subst (Knows plan nodes contents [] id) is.1 record { seen = record { begins = ([], refl); own = refl }; met = tt; own = tt; watched = tt })
       (at_end [] start v id e);
   unborn = λ c l. refl;
 }

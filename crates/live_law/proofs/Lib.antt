@@ -6,5 +6,6 @@ pub mod Locks
 pub mod Writes
 pub mod Makes
 pub mod Links
+pub mod Replans
 pub mod Joins
 pub mod Begins

@@ -1,5 +1,5 @@
 -- A new node becomes current, by the step that unlocks the node above it.
-use Rattle.std.proofs.Common.{◌≡◌, ◌≢◌, ◌⊎◌, ⊎_elim, ℕ, zero, suc, ◌+◌, ◌*◌, ◌/◌, ◌<◌, ◌≤◌, Bool, cond, nat_eq, nat_lt, List, ◌∷◌, length, set, Option, Some, None, refl, sym, ap, ◌∙◌, subst, inl, inr, arith, eq-eqb, ne_eqb}
+use Rattle.std.proofs.Common.{◌≡◌, ◌≢◌, ◌⊎◌, ⊎_elim, ℕ, zero, suc, ◌+◌, ◌*◌, ◌/◌, ◌<◌, ◌≤◌, Bool, cond, nat_eq, nat_lt, List, ◌∷◌, length, length-set, set, Option, Some, None, refl, sym, ap, ◌∙◌, subst, inl, inr, arith, eq-eqb, ne_eqb}
 use Rattle.std.proofs.lemmas.Bool.{cases_order, lt-ltb, le-ltb}
 use mathlib.Core.Option.{some}
 use mathlib.Core.Logic.{dite}
@@ -7,14 +7,14 @@ use native.Mathlib.Decide.{ℕ_discrete}
 use lib.ListN.{get_elem?}
 use Rattle.node_table.specs.TableNode.{Child}
 use Rattle.node_table.specs.declared.child.Child.TheVariants.{Payload, Node as Below}
-use Rattle.live_nodes.proofs.Frames.{each_map}
+use Rattle.live_nodes.proofs.Frames.{each_map, put_at, put_here, put_else}
 use Rattle.live_nodes.specs.Nodes.{Content, at, Node, node}
 use Rattle.live_nodes.specs.Seats.{Each}
 use Rattle.live_law.specs.Levels.{Shape, name_of, way, IsBelow, Spot}
-use Rattle.live_law.specs.Views.{View, view_of, Own, locked, fresh, outgrown, trunk}
-use Rattle.live_law.specs.Tree.{Plan, home_of, IsFree, LeadsTo, IsHouse, Skips, IsCurrent, NamesRoot, IsSpot, IsMet, IsFresh, IsOwn, IsTree, IsMap}
+use Rattle.live_law.specs.Views.{View, view_of, Watch, Own, locked, fresh, outgrown, trunk}
+use Rattle.live_law.specs.Tree.{Plan, home_of, IsFree, LeadsTo, IsHouse, Skips, IsCurrent, NamesRoot, IsSpot, IsMet, IsBound, NoLater, IsWatched, IsOwn, IsSettled, AreAlive, IsTree, IsMap}
 use Rattle.live_law.proofs.Plans.{way-suc, way-own, none_below, at_home}
-use Rattle.live_law.proofs.Changes.{with_map, nodes_stay, is_here, is_else, low_stays}
+use Rattle.live_law.proofs.Changes.{with_map, no_later, not_bound, nodes_stay, settled_stays, is_here, is_else, low_stays}
 use Rattle.live_law.proofs.Makes.{current_alike}
 
 not_some : {A : Type 0} (x : A) → Some x ≡ None → ⊥
@@ -98,11 +98,21 @@ module _ (d : Plan) (y : Spot) (g : ℕ) where
   leads_old (Some (Payload w)) h t off l = l
   leads_old (Some (Below w)) h t off l = let e = home_old h t off in (subst (λ (z : ℕ). 1 ≤ z) (sym e) l.0, l.1 ∙ ap (λ (z : ℕ). name_of (d.shape z)) (sym e))
 
+-- A NODE THAT IS OFF the map, and that no other seat has: it is new, or the seat has locked it again.
+pub record IsOff (d : Plan) (ns : List Node) (cs : ℕ → Content) (id : ℕ) (y : Spot) (c : Content) : Type 0 where
+  pub spot : IsSpot d ns y
+  pub shaped : d.shape y.number ≡ y.shape
+  pub nowhere : (h t : ℕ) → d.home h t ≢ y.number
+  pub mine : (j : ℕ) → (node ns y.number).holder ≡ Some j → j ≡ id
+  pub maker : (j : ℕ) → d.maker y.number ≡ Some j → j ≡ id
+  pub free : (node ns y.number).holder ≡ None → IsFree (node ns y.number)
+  pub content : cs y.number ≡ c
+
 -- THE STEP: node k becomes b, and y is current from then on. Where y is, o was, or nothing. Node k is above.
 module _ (id : ℕ) (v : View) (y : Spot) (cy : Content) (k : ℕ) (b : Node) (ns : List Node) (vs : List View) (p : IsMap ns vs) (seat : get_elem? vs id ≡ some v) (low : k < length ns) (there : b.place ≡ (node ns k).place) (long : length b.content ≡ length (node ns k).content)
-    (held : (node ns k).holder ≡ Some id) (made : IsFresh p.plan ns id y cy) (no_maker : 1 ≤ k → p.plan.maker k ≡ None)
+    (rises : (node ns k).word < b.word) (held : (node ns k).holder ≡ Some id) (b_free : IsFree b) (made : IsOff p.plan ns p.contents id y cy) (no_maker : 1 ≤ k → p.plan.maker k ≡ None)
     (g : ℕ) (level : g ≤ 8) (tall : 1 ≤ y.shape.height) (reach : y.shape.height ≤ g)
-    (o : ℕ) (was : (h : ℕ) → y.shape.height ≤ h → h ≤ g → p.plan.home h (way y.shape h) ≡ o)
+    (o : ℕ) (was : (h : ℕ) → y.shape.height ≤ h → h ≤ g → p.plan.home h (way y.shape h) ≡ o) (shy : 1 ≤ o → g < 8)
     (occupied : (o ≡ 0) ⊎ (((p.plan.shape o).height ≤ y.shape.height) × (((node ns o).holder ≡ Some id) ⊎ ((p.plan.shape o).height < y.shape.height))))
     (roof : p.plan.home (suc g) (way y.shape (suc g)) ≡ k) (roof_high : 1 ≤ k → (p.plan.shape k).height ≡ suc g) (roofed : g < 8 → 1 ≤ k) where
   abbrev d : Plan
@@ -120,89 +130,187 @@ module _ (id : ℕ) (v : View) (y : Spot) (cy : Content) (k : ℕ) (b : Node) (n
   some_y : 1 ≤ y.number
   some_y = made.spot.below_trunk
 
-  pub not_y : (j : ℕ) → d.maker j ≡ None → j ≢ y.number
-  not_y j e same = not_some id (sym made.maker ∙ (ap d.maker (sym same) ∙ e))
-
-  y_not_k : y.number ≢ k
-  y_not_k e = not_some id (sym made.maker ∙ (ap d.maker e ∙ no_maker (omega (arith, e, some_y))))
+  abbrev pub cs' : ℕ → Content
+  cs' = put_at p.contents k b.content
 
   k_current : 1 ≤ k → home_of d (d.shape k) ≡ k
-  k_current some_node = subst (λ (z : ℕ). home_of d (d.shape z) ≡ z) roof (at_home d ns p.pairs p.tree (suc g) (way y.shape (suc g)) (subst (λ (z : ℕ). 1 ≤ z) (sym roof) some_node))
+  k_current some_node = subst (λ (z : ℕ). home_of d (d.shape z) ≡ z) roof (at_home d ns p.contents p.pairs p.tree (suc g) (way y.shape (suc g)) (subst (λ (z : ℕ). 1 ≤ z) (sym roof) some_node))
 
-  none_not_mine : None ≢ Some id
-  none_not_mine e = not_some id (sym e)
+  y_not_k : y.number ≢ k
+  y_not_k e = made.nowhere (d.shape k).height (d.shape k).top (k_current (omega (arith, e, some_y)) ∙ sym e)
 
-  -- what another seat holds, or none, isn't where y will be
-  home_met : (a : Spot) → IsSpot d ns a → (j : Option ℕ) → (node ns a.number).holder ≡ j → j ≢ Some id → home_of d a.shape ≡ a.number → home_of d' a.shape ≡ a.number
-  home_met a s j h ne here = ⊎_elim
+  else_cs : (j : ℕ) → j ≢ k → cs' j ≡ p.contents j
+  else_cs j ne = put_else p.contents k b.content j ne
+
+  -- what this seat doesn't hold isn't where y will be
+  home_met : (j : ℕ) → 1 ≤ j → (node ns j).holder ≢ Some id → home_of d (d.shape j) ≡ j → home_of d' (d.shape j) ≡ j
+  home_met j some_j ne here = let s : Shape = d.shape j in ⊎_elim
       (λ w.
       let on = w.0 in
-      let is_o : o ≡ a.number = sym (was a.shape.height on.1.0 on.0) ∙ (ap (d.home a.shape.height) on.1.1 ∙ here) in
-      let high : (d.shape o).height ≡ a.shape.height = ap (λ (z : ℕ). (d.shape z).height) is_o ∙ ap (λ (z : Shape). z.height) s.shaped in
+      let is_o : o ≡ j = sym (was s.height on.1.0 on.0) ∙ (ap (d.home s.height) on.1.1 ∙ here) in
+      let high : (d.shape o).height ≡ s.height = ap (λ (z : ℕ). (d.shape z).height) is_o in
       absurd (⊎_elim
-      (λ zero_is. let n = s.below_trunk in omega (arith, zero_is, is_o, n))
+      (λ zero_is. omega (arith, zero_is, is_o, some_j))
       (λ z. ⊎_elim
-      (λ mine. ne (sym h ∙ (ap (λ (x : ℕ). (node ns x).holder) (sym is_o) ∙ mine)))
+      (λ mine. ne (ap (λ (x : ℕ). (node ns x).holder) (sym is_o) ∙ mine))
       (λ lower. let l = on.1.0 in omega (arith, lower, high, l))
       z.1)
       occupied))
       (λ w. w.1 ∙ here)
+      (home_either d y g s.height s.top)
+
+  k_stays : 1 ≤ k → home_of d' (d.shape k) ≡ k
+  k_stays some_k = home_old d y g (d.shape k).height (d.shape k).top (λ on. let l = on.0 in let high = roof_high some_k in omega (arith, l, high)) ∙ k_current some_k
+
+  y_home : home_of d' y.shape ≡ y.number
+  y_home = home_new d y g hy y.shape.top (reach, ((let e : hy ≤ hy = omega arith in e), way-own y.shape))
+
+  root_stays : (a : Spot) → 1 ≤ a.number → a.shape.height ≡ 8 → home_of d a.shape ≡ a.number → home_of d' a.shape ≡ a.number
+  root_stays a some_a high here = ⊎_elim
+      (λ w.
+      let on = w.0 in
+      let is_o : o ≡ a.number = sym (was a.shape.height on.1.0 on.0) ∙ (ap (d.home a.shape.height) on.1.1 ∙ here) in
+      absurd (let l = shy (omega (arith, is_o, some_a)) in let m = on.0 in omega (arith, l, m, high)))
+      (λ w. w.1 ∙ here)
       (home_either d y g a.shape.height a.shape.top)
 
-  k_stays : (a : Spot) → IsSpot d ns a → a.number ≡ k → home_of d' a.shape ≡ a.number
-  k_stays a s e =
-      let some_k : 1 ≤ k = (let n = s.below_trunk in omega (arith, n, e)) in
-      let as_k : a.shape ≡ d.shape k = sym s.shaped ∙ ap d.shape e in
-      let high : a.shape.height ≡ suc g = ap (λ (z : Shape). z.height) as_k ∙ roof_high some_k in
-      home_old d y g a.shape.height a.shape.top (λ on. let l = on.0 in omega (arith, l, high)) ∙ (ap (home_of d) as_k ∙ (k_current some_k ∙ sym e))
+  none_not_mine : None ≢ Some id
+  none_not_mine e = not_some id (sym e)
+
+  spot_links : (a : Spot) → IsSpot d ns a → IsSpot d' ns' a
+  spot_links a s = record { below_trunk = s.below_trunk; low = low_stays d ns k b low there long a.number s.low; key = s.key; form = s.form }
 
   pub met_links : (a : Spot) → IsMet d ns a → IsMet d' ns' a
   met_links a m = record {
     spot = spot_links a m.spot;
     linked = maker_none d y g a.number m.linked;
+    lasts = λ high. let l = m.lasts high in (l.0, root_stays a m.spot.below_trunk high l.1);
     current = dite (ℕ_discrete a.number k)
-        (λ e f. k_stays a m.spot e)
-        (λ ne f. let g : IsFree (node ns a.number) = subst IsFree (is_else d ns k b low there long a.number ne) f in home_met a m.spot None g.0 none_not_mine (m.current g));
+        (λ e f. subst (λ (z : ℕ). home_of d' (d.shape z) ≡ z) (sym e) (k_stays (subst (λ (z : ℕ). 1 ≤ z) e m.spot.below_trunk)))
+        (λ ne f. let g : IsFree (node ns a.number) = subst IsFree (is_else d ns k b low there long a.number ne) f in
+        home_met a.number m.spot.below_trunk (λ e. none_not_mine (sym g.0 ∙ e)) (m.current g));
+  }
+
+  pub watch_links : (j : ℕ) → j ≢ id → (x : Watch) → IsWatched d ns j x → IsWatched d' ns' j x
+  watch_links j other x w = record {
+    below_trunk = w.below_trunk;
+    low = low_stays d ns k b low there long x.above w.low;
+    later = dite (ℕ_discrete x.above k)
+        (λ e. subst (NoLater x.word) (sym (is_here d ns k b low there long x.above e)) (no_later x.word (node ns k) b rises (subst (λ (z : ℕ). NoLater x.word (node ns z)) e w.later)))
+        (λ ne. subst (NoLater x.word) (sym (is_else d ns k b low there long x.above ne)) w.later);
+    leads = dite (ℕ_discrete x.above k)
+        (λ e bound. absurd (not_bound j x.word (node ns k) b rises (λ mine. not_some j (sym mine ∙ b_free.0)) (subst (λ (z : ℕ). NoLater x.word (node ns z)) e w.later) (subst (IsBound j x.word) (is_here d ns k b low there long x.above e) bound)))
+        (λ ne bound.
+        let as_was = is_else d ns k b low there long x.above ne in
+        let bound' = subst (IsBound j x.word) as_was bound in
+        let not_mine : (node ns x.above).holder ≢ Some id = bound_else j other x.word (node ns x.above) bound' in
+        let l = w.leads bound' in
+        let a : Spot = x.spot in
+        let lv : ℕ = l.level in
+        let up_is : way a.shape lv / 256 ≡ way a.shape (suc lv) = sym (way-suc a.shape lv l.tall) in
+        let low_a : (d.shape a.number).height ≤ lv = subst (λ (z : Shape). z.height ≤ lv) (sym l.shaped) l.tall in
+        record {
+          level = lv;
+          some_node = l.some_node;
+          shaped = l.shaped;
+          tall = l.tall;
+          here = ⊎_elim
+              (λ t.
+              let on = t.0 in
+              let is_a : o ≡ a.number = sym (was lv on.1.0 on.0) ∙ (ap (d.home lv) on.1.1 ∙ l.here) in
+              absurd (⊎_elim
+              (λ in_it.
+              let on' = subst (IsOn d y g (suc lv)) up_is (above_on lv (way a.shape lv) in_it on) in
+              let is_above : o ≡ x.above = sym (was (suc lv) on'.1.0 on'.0) ∙ (ap (d.home (suc lv)) on'.1.1 ∙ l.above) in
+              let high = ap (λ (z : ℕ). (d.shape z).height) (sym is_a ∙ is_above) in let tall_x = l.above_high in omega (arith, high, tall_x, low_a))
+              (λ out. ne (sym l.above ∙ (ap (d.home (suc lv)) (sym up_is) ∙ at_top lv (way a.shape lv) out on)))
+              (le_or (suc lv) g)))
+              (λ t. t.1 ∙ l.here)
+              (home_either d y g lv (way a.shape lv));
+          above = ⊎_elim
+              (λ t.
+              let on = t.0 in
+              let is_x : o ≡ x.above = sym (was (suc lv) on.1.0 on.0) ∙ (ap (d.home (suc lv)) on.1.1 ∙ l.above) in
+              absurd (⊎_elim
+              (λ zero_is. let n = w.below_trunk in omega (arith, zero_is, is_x, n))
+              (λ z. ⊎_elim
+              (λ mine. not_mine (ap (λ (i : ℕ). (node ns i).holder) (sym is_x) ∙ mine))
+              (λ lower. let high = ap (λ (i : ℕ). (d.shape i).height) is_x in let tall_x = l.above_high in let t = on.1.0 in omega (arith, lower, high, tall_x, t))
+              z.1)
+              occupied))
+              (λ t. t.1 ∙ l.above)
+              (home_either d y g (suc lv) (way a.shape (suc lv)));
+          above_high = l.above_high;
+        });
   }
     where
-      spot_links : (a : Spot) → IsSpot d ns a → IsSpot d' ns' a
-      spot_links a s = record { below_trunk = s.below_trunk; low = low_stays d ns k b low there long a.number s.low; shaped = s.shaped }
+      bound_else : (j : ℕ) → j ≢ id → (o : Option ℕ) (a : Node) → IsBound j o a → a.holder ≢ Some id
+      bound_else j ne (Some t) a bound mine = not_some id (sym mine ∙ bound.0)
+      bound_else j ne None a bound mine = ne (one_seat j id (sym bound ∙ mine))
 
-  own_links : (j : ℕ) → j ≢ id → (o : Own) → IsOwn d ns j o → IsOwn d' ns' j o
+      above_on : (h t : ℕ) → suc h ≤ g → IsOn d y g h t → IsOn d y g (suc h) (t / 256)
+      above_on h t low on = (low, ((let l = on.1.0 in omega (arith, l)), way-suc y.shape h on.1.0 ∙ ap (λ (z : ℕ). z / 256) on.1.1))
+
+      at_top : (h t : ℕ) → g < suc h → IsOn d y g h t → d.home (suc h) (t / 256) ≡ k
+      at_top h t high on =
+          let same : h ≡ g = (let l = on.0 in omega (arith, l, high)) in
+          ap (λ (z : ℕ × ℕ). d.home z.0 z.1) (λ i. (suc (same i), (ap (λ (z : ℕ). z / 256) (sym on.1.1) ∙ (sym (way-suc y.shape h on.1.0) ∙ ap (λ (z : ℕ). way y.shape (suc z)) same)) i)) ∙ roof
+
+  own_links : (j : ℕ) → j ≢ id → (o : Own) → IsOwn d ns p.contents j o → IsOwn d' ns' cs' j o
   own_links j ne (locked a c) h = let other = others j ne a.number h.holder in record {
     met = met_links a h.met;
+    shaped = h.shaped;
     holder = ap (λ (z : Node). z.holder) (is_else d ns k b low there long a.number other) ∙ h.holder;
-    content = ap (λ (z : Node). z.content) (is_else d ns k b low there long a.number other) ∙ h.content;
-    current = home_met a h.met.spot (Some j) h.holder (λ e. ne (one_seat j id e)) h.current;
+    content = else_cs a.number other ∙ h.content;
+    current = ap (home_of d') (sym h.shaped) ∙ home_met a.number h.met.spot.below_trunk (λ e. ne (one_seat j id (sym h.holder ∙ e))) (ap (home_of d) h.shaped ∙ h.current);
   }
     where
       others : (j : ℕ) → j ≢ id → (a : ℕ) → (node ns a).holder ≡ Some j → a ≢ k
       others j ne a h e = ne (one_seat j id (sym h ∙ (ap (λ (z : ℕ). (node ns z).holder) e ∙ held)))
   own_links j ne (fresh a c) h =
       let not_k : a.number ≢ k = λ e. not_some j (sym h.maker ∙ (ap d.maker e ∙ no_maker (let s = h.spot.below_trunk in omega (arith, s, e)))) in record {
-        spot = record { below_trunk = h.spot.below_trunk; low = low_stays d ns k b low there long a.number h.spot.low; shaped = h.spot.shaped };
-        maker = maker_else d y g a.number (λ e. ne (one_seat j id (sym h.maker ∙ (ap d.maker e ∙ made.maker)))) ∙ h.maker;
-        content = ap (λ (z : Node). z.content) (is_else d ns k b low there long a.number not_k) ∙ h.content;
+        spot = spot_links a h.spot;
+        shaped = h.shaped;
+        maker = maker_else d y g a.number (λ e. ne (made.maker j (ap d.maker (sym e) ∙ h.maker))) ∙ h.maker;
+        free = subst IsFree (sym (is_else d ns k b low there long a.number not_k)) h.free;
+        content = else_cs a.number not_k ∙ h.content;
       }
   own_links j ne (outgrown a) h =
-      let other : a.number ≢ k = λ e. ne (one_seat j id (sym h.holder ∙ (ap (λ (z : ℕ). (node ns z).holder) e ∙ held))) in record {
-        met = met_links a h.met;
+      let other : a.number ≢ k = λ e. ne (one_seat j id (sym h.holder ∙ (ap (λ (z : ℕ). (node ns z).holder) e ∙ held))) in
+      let not_y : y.number ≢ a.number = λ e. ne (made.mine j (ap (λ (z : ℕ). (node ns z).holder) e ∙ h.holder)) in record {
+        spot = spot_links a h.spot;
+        linked = maker_none d y g a.number h.linked;
         holder = ap (λ (z : Node). z.holder) (is_else d ns k b low there long a.number other) ∙ h.holder;
-        replaced = λ here. ⊎_elim (λ w. not_y a.number h.met.linked (sym here ∙ w.1)) (λ w. h.replaced (sym w.1 ∙ here)) (home_either d y g a.shape.height a.shape.top);
+        replaced = λ here. ⊎_elim (λ w. not_y (sym w.1 ∙ here)) (λ w. h.replaced (sym w.1 ∙ here)) (home_either d y g (d.shape a.number).height (d.shape a.number).top);
       }
   own_links j ne (trunk c) h =
       let other : 0 ≢ k = λ e. ne (one_seat j id (sym h.0 ∙ (ap (λ (z : ℕ). (node ns z).holder) e ∙ held))) in
       (ap (λ (z : Node). z.holder) (is_else d ns k b low there long 0 other) ∙ h.0, ap (λ (z : Node). z.content) (is_else d ns k b low there long 0 other) ∙ h.1)
 
-  y_met : IsMet d' ns' y
+  pub y_met : IsMet d' ns' y
   y_met = record {
-    spot = record { below_trunk = some_y; low = low_stays d ns k b low there long y.number made.spot.low; shaped = made.spot.shaped };
+    spot = spot_links y made.spot;
     linked = maker_here d y g;
-    current = λ _. home_new d y g hy y.shape.top (reach, ((let e : hy ≤ hy = omega arith in e), way-own y.shape));
+    lasts = λ _. (made.shaped, y_home);
+    current = λ _. ap (home_of d') made.shaped ∙ y_home;
   }
 
-  y_content : (node ns' y.number).content ≡ cy
-  y_content = ap (λ (z : Node). z.content) (is_else d ns k b low there long y.number y_not_k) ∙ made.content
+  pub y_content : cs' y.number ≡ cy
+  y_content = else_cs y.number y_not_k ∙ made.content
+
+  settled_links : IsSettled ns' cs'
+  settled_links = settled_stays d ns k b low there long p.contents cs' p.settled (λ _ _. sym (put_here p.contents k b.content)) else_cs
+
+  alive_links : AreAlive d' ns'
+  alive_links j some_node l here free = dite (ℕ_discrete j k)
+      (λ e. subst IsFree (sym (is_here d ns k b low there long j e)) b_free)
+      (λ ne. let same = is_else d ns k b low there long j ne in
+      let none : (node ns j).holder ≡ None = ap (λ (z : Node). z.holder) (sym same) ∙ free in
+      let low_j : j < length ns = omega (arith, l, length-set ns k b) in
+      subst IsFree (sym same) (⊎_elim
+      (λ w. let is_y : y.number ≡ j = sym w.1 ∙ here in subst (λ (z : ℕ). IsFree (node ns z)) is_y (made.free (ap (λ (z : ℕ). (node ns z).holder) is_y ∙ none)))
+      (λ w. p.alive j some_node low_j (sym w.1 ∙ here) none)
+      (home_either d y g (d.shape j).height (d.shape j).top)))
 
   -- the level above y is node k's
   at_roof : (h t : ℕ) → g < suc h → IsOn d y g h t → d.home (suc h) (t / 256) ≡ k
@@ -228,9 +336,9 @@ module _ (id : ℕ) (v : View) (y : Spot) (cy : Content) (k : ℕ) (b : Node) (n
       let above : d.home (suc h) t ≡ o = ap (d.home (suc h)) (sym on.1.1) ∙ was (suc h) on.1.0 on.0 in
       let here : d.home h (way y.shape h) ≡ o = was h tall_h (let l = on.0 in omega (arith, l)) in
       ⊎_elim
-      (λ zero_is. none_below d ns p.pairs p.tree h t x (let l = on.0 in omega (arith, l, level)) lo (above ∙ zero_is))
+      (λ zero_is. none_below d ns p.contents p.pairs p.tree h t x (let l = on.0 in omega (arith, l, level)) lo (above ∙ zero_is))
       (λ z. dite (ℕ_discrete o 0)
-      (λ zero_is. none_below d ns p.pairs p.tree h t x (let l = on.0 in omega (arith, l, level)) lo (above ∙ zero_is))
+      (λ zero_is. none_below d ns p.contents p.pairs p.tree h t x (let l = on.0 in omega (arith, l, level)) lo (above ∙ zero_is))
       (λ ne.
       let some_o : 1 ≤ o = some_of o ne in
       let lower : (d.shape o).height ≤ h = (let l = z.0 in omega (arith, l, tall_h)) in
@@ -246,7 +354,7 @@ module _ (id : ℕ) (v : View) (y : Spot) (cy : Content) (k : ℕ) (b : Node) (n
   skips_links : (h t x : ℕ) → x < 256 → 1 ≤ d'.home (suc h) t → (d'.shape (d'.home (suc h) t)).height ≤ h → Skips d' h (256 * t + x) (d'.home (suc h) t)
   skips_links h t x lo some_node lower = ⊎_elim
       (λ w.
-      let sh = made.spot.shaped in
+      let sh = made.shaped in
       let tall_h : hy ≤ h = subst (λ (z : Shape). z.height ≤ h) sh (subst (λ (z : ℕ). (d.shape z).height ≤ h) w.1 lower) in
       let low_h : h ≤ g = (let l = w.0.0 in omega (arith, l)) in
       subst (λ (z : ℕ). Skips d' h (256 * t + x) z) (sym w.1) (
@@ -288,15 +396,15 @@ module _ (id : ℕ) (v : View) (y : Spot) (cy : Content) (k : ℕ) (b : Node) (n
       (at_root : IsOn d y g 8 0 → y.shape.height ≡ 8)
       (of_y : IsCurrent d' p.pairs y.shape cy)
       (of_k : 1 ≤ k → home_of d (d.shape k) ≡ k → IsCurrent d' p.pairs (d.shape k) b.content) where
-    links_tree : IsTree d' ns' p.pairs
+    links_tree : IsTree d' ns' cs' p.pairs
     links_tree = let t = p.tree in record {
       root = root;
       rooted = λ some_node. ⊎_elim
-          (λ w. subst (λ (z : ℕ). (d.shape z).height ≡ 8) (sym w.1) (ap (λ (z : Shape). z.height) made.spot.shaped ∙ at_root w.0))
+          (λ w. subst (λ (z : ℕ). (d.shape z).height ≡ 8) (sym w.1) (ap (λ (z : Shape). z.height) made.shaped ∙ at_root w.0))
           (λ w. subst (λ (z : ℕ). (d.shape z).height ≡ 8) (sym w.1) (t.rooted (subst (λ (z : ℕ). 1 ≤ z) w.1 some_node)))
           (home_either d y g 8 0);
       housed = λ h s some_node. ⊎_elim
-          (λ w. let sh = made.spot.shaped in
+          (λ w. let sh = made.shaped in
           subst (λ (z : ℕ). IsHouse d' ns' h s z) (sym w.1) record {
             low = y_met.spot.low;
             linked = maker_here d y g;
@@ -316,15 +424,15 @@ module _ (id : ℕ) (v : View) (y : Spot) (cy : Content) (k : ℕ) (b : Node) (n
       upward = upward_links;
       skips = skips_links;
       current = λ j some_node here. dite (ℕ_discrete j y.number)
-          (λ e. subst (λ (z : ℕ). IsCurrent d' p.pairs (d.shape z) (node ns' z).content) (sym e)
-          (subst (λ (z : Shape × Content). IsCurrent d' p.pairs z.0 z.1) (λ i. (sym made.spot.shaped i, sym y_content i)) of_y))
+          (λ e. subst (λ (z : ℕ). IsCurrent d' p.pairs (d.shape z) (cs' z)) (sym e)
+          (subst (λ (z : Shape × Content). IsCurrent d' p.pairs z.0 z.1) (λ i. (sym made.shaped i, sym y_content i)) of_y))
           (λ not_it. ⊎_elim
           (λ w. absurd (not_it (sym here ∙ w.1)))
           (λ w. let at_home' = sym w.1 ∙ here in dite (ℕ_discrete j k)
-          (λ e. subst (λ (z : Node). IsCurrent d' p.pairs (d.shape j) z.content) (sym (is_here d ns k b low there long j e))
-          (subst (λ (z : ℕ). IsCurrent d' p.pairs (d.shape z) b.content) (sym e) (of_k (subst (λ (z : ℕ). 1 ≤ z) e some_node) (subst (λ (z : ℕ). home_of d (d.shape z) ≡ z) e at_home'))))
-          (λ ne. subst (λ (z : Node). IsCurrent d' p.pairs (d.shape j) z.content) (sym (is_else d ns k b low there long j ne))
-          (current_alike d d' p.pairs (d.shape j) (node ns j).content
+          (λ e. subst (λ (z : ℕ). IsCurrent d' p.pairs (d.shape z) (cs' z)) (sym e)
+          (subst (IsCurrent d' p.pairs (d.shape k)) (sym (put_here p.contents k b.content)) (of_k (subst (λ (z : ℕ). 1 ≤ z) e some_node) (subst (λ (z : ℕ). home_of d (d.shape z) ≡ z) e at_home'))))
+          (λ ne. subst (IsCurrent d' p.pairs (d.shape j)) (sym (else_cs j ne))
+          (current_alike d d' p.pairs (d.shape j) (p.contents j)
           (λ o h x l at_h. leads_old d y g o (suc h) (256 * (d.shape j).top + x) (only_one j ne at_home' w.0 h x l at_h))
           (t.current j some_node at_home'))))
           (home_either d y g (d.shape j).height (d.shape j).top));
@@ -335,12 +443,13 @@ module _ (id : ℕ) (v : View) (y : Spot) (cy : Content) (k : ℕ) (b : Node) (n
         zero_of zero never = refl
         zero_of (suc j) never = absurd (never (omega arith))
 
-    pub links_map : (os : List Own) → Each (IsOwn d' ns' id) os → IsMap ns' (set vs id (view_of v.seen (y ∷ v.met) os))
+    pub links_map : (os : List Own) → Each (IsOwn d' ns' cs' id) os → IsMap ns' (set vs id (view_of v.seen (y ∷ v.met) os))
     links_map os own = let kn = p.each_view id v seat in
-        with_map ns vs id p ns' (view_of v.seen (y ∷ v.met) os) d' p.history p.pairs p.legal
+        with_map ns vs id p ns' (view_of v.seen (y ∷ v.met) os) d' cs' p.history p.pairs p.legal
         (let n = nodes_stay d ns k b low there long p.nodes in record { some_trunk = n.some_trunk; trunk_long = n.trunk_long; placed = n.placed; long = n.long; apart = n.apart })
-        links_tree met_links own_links (λ j ne s h. h) p.unborn record {
+        settled_links alive_links links_tree met_links watch_links own_links (λ j ne s h. h) p.unborn record {
           seen = kn.seen;
           met = (y_met, each_map (IsMet d ns) (IsMet d' ns') v.met met_links kn.met);
           own = own;
+          watched = tt;
         }

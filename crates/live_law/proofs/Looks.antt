@@ -1,38 +1,42 @@
 -- What a check teaches, and that only the history and one view_of change.
-use Rattle.std.proofs.Common.{◌≡◌, ⊎_elim, ℕ, Bool, true, false, zero, suc, ◌-◌, ◌*◌, ◌<◌, ◌≤◌, List, [], ◌∷◌, ◌++◌, length, length-set, set, Option, Some, None, refl, sym, ap, ◌∙◌, subst, arith}
+use Rattle.std.proofs.Common.{◌≡◌, ⊎_elim, ℕ, Bool, true, false, zero, suc, ◌+◌, ◌-◌, ◌*◌, ◌<◌, ◌≤◌, List, [], ◌∷◌, ◌++◌, length, length-set, set, Option, Some, None, refl, sym, ap, ◌∙◌, subst, arith}
 use mathlib.Core.Option.{some}
 use mathlib.Core.Logic.{dite}
 use native.Mathlib.Decide.{ℕ_discrete}
 use lib.ListN.{get_elem?}
 use Rattle.atomic_table.proofs.Lists.{at_set, set_again}
-use Rattle.node_table.specs.TableNode.{Child}
+use Rattle.node_table.specs.TableNode.{TableNode, Child}
 use Rattle.node_table.specs.declared.child.Child.TheVariants.{Payload, Node as Below}
+use Rattle.node_base.specs.Form.{form_place}
 use Rattle.spec_map.specs.Map.{Pairs, lookup}
 use Rattle.share_rule.specs.History.{Entry}
 use Rattle.share_rule.specs.inner.Rule.{HasSeen}
 use Rattle.live_nodes.proofs.Frames.{below, each_in}
-use Rattle.live_nodes.specs.Nodes.{at, Node, node}
-use Rattle.live_nodes.specs.Seats.{Each, IsIn, Place}
-use Rattle.live_nodes.specs.Rule.{PlaceFits}
+use Rattle.live_nodes.specs.Nodes.{Content, at, Node, node}
+use Rattle.live_nodes.specs.Seats.{Each, IsIn, Agree, Place, Read}
+use Rattle.live_nodes.specs.Rule.{PlaceFits, ReadFits}
 use Rattle.live_nodes.specs.Acts as acts
-use Rattle.live_encodes.specs.Encodes.{words_of}
-use Rattle.live_law.specs.Levels.{up, digit, Shape, name_of, Covers, Spot, spot, place_at}
-use Rattle.live_law.specs.Views.{View, view_of, Ask, got}
-use Rattle.live_law.specs.Tree.{Plan, home_of, LeadsTo, HasValue, IsUnder, IsCurrent, IsMet, Knows, IsTree, IsMap, LearnsRoot, GoesTo, HasAnswer, Gets, Finds, Heads, Misses, Looks, IsOfKind, Meets, LearnsNode}
+use Rattle.live_encodes.specs.Encodes.{words_of, Encodes, IsBelow as HasBelow, IsWord}
+use Rattle.live_law.specs.Levels.{up, digit, Shape, name_of, Covers, way, Spot, spot, place_at}
+use Rattle.live_law.specs.Views.{View, view_of, Own, locked, Watch, watch, watching, Ask, got}
+use Rattle.live_law.specs.Tree.{Plan, home_of, IsFree, LeadsTo, HasValue, IsUnder, IsCurrent, IsSpot, IsMet, LeadsDown, IsBound, IsWatched, Knows, IsLocked, IsOwn, AreNodes, IsTree, IsMap, LearnsRoot, GoesTo, HasAnswer, Gets, Finds, Parts, Misses, Looks, IsOfKind, IsNow, IsOf, Meets, LearnsNode, LearnsMiss, Headed, LearnsHead, Watches, LearnsBelow}
 use Rattle.live_law.proofs.Histories.{get_legal, others_alike, sees_all, sees_less}
-use Rattle.live_law.proofs.Plans.{digit-low, joined, at_home, missed, none_there, same_name}
+use Rattle.live_law.proofs.Plans.{digit-low, joined, at_home, missed, none_there, same_name, way-suc}
 
 module _ (ns : List Node) (vs : List View) (id : ℕ) (p : IsMap ns vs) where
   -- ONE VIEW CHANGES
-  pub with_view : (w : View) → Knows p.plan ns p.history id w → IsMap ns (set vs id w)
+  pub with_view : (w : View) → Knows p.plan ns p.contents p.history id w → IsMap ns (set vs id w)
   with_view w knows = record {
     plan = p.plan;
+    contents = p.contents;
     history = p.history;
     pairs = p.pairs;
     legal = p.legal;
     nodes = p.nodes;
+    settled = p.settled;
+    alive = p.alive;
     tree = p.tree;
-    each_view = λ j u e. ⊎_elim (λ t. subst (λ (x : ℕ × View). Knows p.plan ns p.history x.0 x.1) (λ i. (sym t.0 i, t.1 i)) knows) (λ t. p.each_view j u t.1) (at_set vs id j w u e);
+    each_view = λ j u e. ⊎_elim (λ t. subst (λ (x : ℕ × View). Knows p.plan ns p.contents p.history x.0 x.1) (λ i. (sym t.0 i, t.1 i)) knows) (λ t. p.each_view j u t.1) (at_set vs id j w u e);
     unborn = λ c l. p.unborn c (omega (arith, l, length-set vs id w));
   }
 
@@ -43,14 +47,17 @@ module _ (ns : List Node) (vs : List View) (id : ℕ) (p : IsMap ns vs) where
       let longer : List (Entry ℕ) = p.history ++ e ∷ [] in
       let k = p.each_view id v seat in record {
         plan = p.plan;
+        contents = p.contents;
         history = longer;
         pairs = p.pairs;
         legal = get_legal p.history p.pairs q found p.legal is;
         nodes = p.nodes;
+        settled = p.settled;
+        alive = p.alive;
         tree = p.tree;
         each_view = λ j u at_j. ⊎_elim
-            (λ t. subst (λ (x : ℕ × View). Knows p.plan ns longer x.0 x.1) (λ i. (sym t.0 i, t.1 i)) record { seen = sees_all id longer; met = k.met; own = k.own })
-            (λ t. let o = p.each_view j u t.1 in record { seen = sees_less j p.history u.seen e (λ same. t.0 (same ∙ mine)) o.seen; met = o.met; own = o.own })
+            (λ t. subst (λ (x : ℕ × View). Knows p.plan ns p.contents longer x.0 x.1) (λ i. (sym t.0 i, t.1 i)) record { seen = sees_all id longer; met = k.met; own = k.own; watched = tt })
+            (λ t. let o = p.each_view j u t.1 in record { seen = sees_less j p.history u.seen e (λ same. t.0 (same ∙ mine)) o.seen; met = o.met; own = o.own; watched = o.watched })
             (at_set vs id j (view_of longer v.met v.own) u at_j);
         unborn = λ c l. let m : length vs ≤ c = omega (arith, l, length-set vs id (view_of longer v.met v.own)) in others_alike c p.history e (λ same. absurd (let low = below vs id v seat in omega (arith, low, same, mine, m))) ∙ p.unborn c m;
       }
@@ -60,22 +67,31 @@ abbrev first_of : List (ℕ × ℕ) → ℕ
 first_of [] = 0
 first_of (x ∷ xs) = x.1
 
-pub root_learns : (id : ℕ) (v : View) (word x : ℕ) → acts.Learns IsMap id v 0 word ((0, x) ∷ []) (LearnsRoot v 0 word ((0, x) ∷ []))
-root_learns id v word x ns vs p seat low is free agree = ⊎_elim
+-- a node that is current is met
+pub met_there : (ns : List Node) (vs : List View) (p : IsMap ns vs) (h t : ℕ) → 1 ≤ p.plan.home h t → IsMet p.plan ns (spot (p.plan.home h t) (p.plan.shape (p.plan.home h t)))
+met_there ns vs p h t there =
+    let house = p.tree.housed h t there in
+    let here = at_home p.plan ns p.contents p.pairs p.tree h t there in record {
+      spot = record { below_trunk = there; low = house.low; key = refl; form = refl };
+      linked = house.linked;
+      lasts = λ _. (refl, here);
+      current = λ _. here;
+    }
+
+pub root_learns : (id : ℕ) (v : View) (word x : ℕ) (reads : List Read) → acts.Learns IsMap id v 0 word ((0, x) ∷ []) reads (LearnsRoot v 0 word ((0, x) ∷ []))
+root_learns id v word x reads ns vs p seat low is free agree fits = ⊎_elim
     (λ none. ([], tt, (v, subst (IsMap ns) (sym (set_again vs id v seat)) p, (λ x' e. ((λ some_root. absurd (let same : x ≡ x' = ap first_of e in let was : at (node ns 0).content 0 ≡ x = agree.0 in let zero_is = none.0 in omega (arith, same, some_root, was, zero_is))), (λ _. (refl, refl)))))))
     (λ there.
     let k : ℕ = p.plan.home 8 0 in
     let h = p.tree.housed 8 0 there.0 in
     let a : Spot = spot k (p.plan.shape k) in
-    let here : home_of p.plan a.shape ≡ k = at_home p.plan ns p.pairs p.tree 8 0 there.0 in
-    let met : IsMet p.plan ns a = record { spot = record { below_trunk = there.0; low = h.low; shaped = refl }; linked = h.linked; current = λ _. here } in
     let w : View = view_of v.seen (a ∷ v.met) v.own in
     let knows = p.each_view id v seat in (
       place_at a ∷ [],
       ((h.low, p.nodes.placed k there.0 h.low, p.nodes.long k there.0 h.low), tt),
       (
         w,
-        with_view ns vs id p w record { seen = knows.seen; met = (met, knows.met); own = knows.own },
+        with_view ns vs id p w record { seen = knows.seen; met = (met_there ns vs p 8 0 there.0, knows.met); own = knows.own; watched = tt },
         (λ x' e. (
           (λ some_root. record {
             spot = a;
@@ -96,16 +112,16 @@ module _ (ns : List Node) (vs : List View) (id : ℕ) (v : View) (p : IsMap ns v
   pub met : IsMet p.plan ns a
   met = each_in (IsMet p.plan ns) v.met a mine (p.each_view id v seat).met
 
-  pub is_current : home_of p.plan a.shape ≡ a.number → IsCurrent p.plan p.pairs a.shape (node ns a.number).content
-  is_current here = let s = met.spot in
-      subst (λ (z : Shape). IsCurrent p.plan p.pairs z (node ns a.number).content) s.shaped (p.tree.current a.number s.below_trunk (ap (home_of p.plan) s.shaped ∙ here))
+  -- what it is now
+  abbrev pub shape_now : Shape
+  shape_now = p.plan.shape a.number
 
-  -- of this number it has met one node
-  pub one_met : (b : Spot) → IsIn b v.met → b.number ≡ a.number → a ≡ b
-  one_met b known same =
-      let x = met.spot in
-      let y = (each_in (IsMet p.plan ns) v.met b known (p.each_view id v seat).met).spot in
-      λ i. spot (sym same i) ((sym x.shaped ∙ (ap p.plan.shape (sym same) ∙ y.shaped)) i)
+  pub is_now : IsNow a shape_now
+  is_now = record { key = met.spot.key; form = met.spot.form; lasts = λ high. (met.lasts high).0 }
+
+  pub is_current : IsFree (node ns a.number) → IsCurrent p.plan p.pairs shape_now (node ns a.number).content
+  is_current free = let s = met.spot in
+      subst (IsCurrent p.plan p.pairs shape_now) (sym (p.settled a.number s.below_trunk s.low free.0)) (p.tree.current a.number s.below_trunk (met.current free))
 
 pub of_kind : (d : Plan) (m : Pairs ℕ) (height top b : ℕ) (o : Option (Child ℕ)) → IsUnder d m height top b o → IsOfKind height o
 of_kind d m zero top b o u = absurd u
@@ -117,30 +133,14 @@ of_kind d m (suc (suc h)) top b (Some (Payload x)) u = absurd u
 of_kind d m (suc (suc h)) top b (Some (Below s)) u = tt
 
 -- What is under a key's digit: the key's value, or the node that is next on its way.
-module _ (d : Plan) (ns : List Node) (m : Pairs ℕ) (t : IsTree d ns m) (k : ℕ) where
+module _ (d : Plan) (ns : List Node) (cs : ℕ → Content) (m : Pairs ℕ) (t : IsTree d ns cs m) (k : ℕ) where
   pub at_leaf : (top : ℕ) (o : Option (Child ℕ)) → up 1 k ≡ top → IsUnder d m 1 top (digit 1 k) o → HasValue o (lookup m k)
   at_leaf top o is u = subst (λ (x : ℕ). HasValue o (lookup m x)) (joined 0 k top is) u
 
   pub at_inner : (h top : ℕ) (o : Option (Child ℕ)) → up (suc (suc h)) k ≡ top → IsUnder d m (suc (suc h)) top (digit (suc (suc h)) k) o → LeadsTo d o (d.home (suc h) (up (suc h) k))
   at_inner h top o is u = subst (λ (x : ℕ). LeadsTo d o (d.home (suc h) x)) (joined (suc h) k top is) u
 
-  -- the node that is led to
-  pub next_spot : (h s : ℕ) → LeadsTo d (Some (Below s)) (d.home (suc h) (up (suc h) k)) → (a : Spot) × (s ≡ name_of a.shape) × (a.shape.height ≤ suc h) × IsMet d ns a
-  next_spot h s leads =
-      let j : ℕ = d.home (suc h) (up (suc h) k) in
-      let house = t.housed (suc h) (up (suc h) k) leads.0 in
-      let a : Spot = spot j (d.shape j) in (
-        a,
-        leads.1,
-        house.below.0,
-        record {
-          spot = record { below_trunk = leads.0; low = house.low; shaped = refl };
-          linked = house.linked;
-          current = λ _. at_home d ns m t (suc h) (up (suc h) k) leads.0;
-        },
-      )
-
-module _ (q : Ask) (id : ℕ) (by : q.caller ≡ id) (v : View) (a : Spot) (mine : IsIn a v.met) (word : ℕ) (saw : List (ℕ × ℕ)) (m : ℕ) (even : word ≡ 4 * m) where
+module _ (q : Ask) (id : ℕ) (by : q.caller ≡ id) (v : View) (a : Spot) (mine : IsIn a v.met) (word : ℕ) (saw : List (ℕ × ℕ)) (m : ℕ) (even : word ≡ 4 * m) (reads : List Read) where
   abbrev Then : Type 1
   Then = Option (Child ℕ) → List Place → View → Type 0
 
@@ -148,23 +148,28 @@ module _ (q : Ask) (id : ℕ) (by : q.caller ≡ id) (v : View) (a : Spot) (mine
   Owes ns vs then o = (ps : List Place) × Each (PlaceFits ns) ps × ((w : View) × IsMap ns (set vs id w) × then o ps w)
 
   module _ (ns : List Node) (vs : List View) (p : IsMap ns vs) (seat : get_elem? vs id ≡ some v) where
-    goes_to : (h s : ℕ) → suc (suc h) ≡ a.shape.height → LeadsTo p.plan (Some (Below s)) (p.plan.home (suc h) (up (suc h) q.key)) → Owes ns vs (λ o ps w. GoesTo v a s ps w) (Some (Below s))
+    -- the node as it is now
+    abbrev b : Spot
+    b = spot a.number (p.plan.shape a.number)
+
+    goes_to : (h s : ℕ) → suc (suc h) ≡ b.shape.height → LeadsTo p.plan (Some (Below s)) (p.plan.home (suc h) (up (suc h) q.key)) → Owes ns vs (λ o ps w. GoesTo v b s ps w) (Some (Below s))
     goes_to h s is leads =
-        let n = next_spot p.plan ns p.pairs p.tree q.key h s leads in
-        let b : Spot = n.0 in
+        let j : ℕ = p.plan.home (suc h) (up (suc h) q.key) in
+        let house = p.tree.housed (suc h) (up (suc h) q.key) leads.0 in
+        let c : Spot = spot j (p.plan.shape j) in
         let k = p.each_view id v seat in
-        let w : View = view_of v.seen (b ∷ v.met) v.own in (
-          place_at b ∷ [],
-          ((n.3.spot.low, p.nodes.placed b.number n.3.spot.below_trunk n.3.spot.low ∙ ap (λ (z : Shape). z.key) n.3.spot.shaped, p.nodes.long b.number n.3.spot.below_trunk n.3.spot.low ∙ ap (λ (z : Shape). words_of z.form) n.3.spot.shaped), tt),
+        let w : View = view_of v.seen (c ∷ v.met) v.own in (
+          place_at c ∷ [],
+          ((house.low, p.nodes.placed j leads.0 house.low, p.nodes.long j leads.0 house.low), tt),
           (
             w,
-            with_view ns vs id p w record { seen = k.seen; met = (n.3, k.met); own = k.own },
+            with_view ns vs id p w record { seen = k.seen; met = (met_there ns vs p (suc h) (up (suc h) q.key) leads.0, k.met); own = k.own; watched = tt },
             record {
-              spot = b;
+              spot = c;
               place = refl;
               is = refl;
-              named = n.1;
-              lower = (let l = n.2 in omega (arith, l, is));
+              named = leads.1;
+              lower = (let l = house.below.0 in omega (arith, l, is));
             },
           ),
         )
@@ -179,83 +184,285 @@ module _ (q : Ask) (id : ℕ) (by : q.caller ≡ id) (v : View) (a : Spot) (mine
       },
     )
 
-    gets : (height top : ℕ) (o : Option (Child ℕ)) → height ≡ a.shape.height → height < 9 → up height q.key ≡ top → IsUnder p.plan p.pairs height top (digit height q.key) o → Owes ns vs (Gets q v a) o
+    gets : (height top : ℕ) (o : Option (Child ℕ)) → height ≡ b.shape.height → height < 9 → up height q.key ≡ top → IsUnder p.plan p.pairs height top (digit height q.key) o → Owes ns vs (Gets q v b) o
     gets zero top o at_h l is u = absurd u
-    gets (suc zero) top None at_h l is u = ([], tt, has_answer None (at_leaf p.plan ns p.pairs p.tree q.key top None is u))
-    gets (suc zero) top (Some (Payload x)) at_h l is u = ([], tt, has_answer (Some x) (at_leaf p.plan ns p.pairs p.tree q.key top (Some (Payload x)) is u))
+    gets (suc zero) top None at_h l is u = ([], tt, has_answer None (at_leaf p.plan ns p.contents p.pairs p.tree q.key top None is u))
+    gets (suc zero) top (Some (Payload x)) at_h l is u = ([], tt, has_answer (Some x) (at_leaf p.plan ns p.contents p.pairs p.tree q.key top (Some (Payload x)) is u))
     gets (suc zero) top (Some (Below s)) at_h l is u = absurd u
     gets (suc (suc h)) top None at_h l is u =
-        ([], tt, has_answer None (none_there p.plan ns p.pairs p.tree h q.key (omega (arith, l)) (at_inner p.plan ns p.pairs p.tree q.key h top None is u)))
+        ([], tt, has_answer None (none_there p.plan ns p.contents p.pairs p.tree h q.key (omega (arith, l)) (at_inner p.plan ns p.contents p.pairs p.tree q.key h top None is u)))
     gets (suc (suc h)) top (Some (Payload x)) at_h l is u = absurd u
-    gets (suc (suc h)) top (Some (Below s)) at_h l is u = goes_to h s at_h (at_inner p.plan ns p.pairs p.tree q.key h top (Some (Below s)) is u)
+    gets (suc (suc h)) top (Some (Below s)) at_h l is u = goes_to h s at_h (at_inner p.plan ns p.contents p.pairs p.tree q.key h top (Some (Below s)) is u)
 
     same_view : IsMap ns (set vs id v)
     same_view = subst (IsMap ns) (sym (set_again vs id v seat)) p
 
-    finds : (height top : ℕ) (o : Option (Child ℕ)) → height ≡ a.shape.height → height < 9 → up height q.key ≡ top → IsUnder p.plan p.pairs height top (digit height q.key) o → Owes ns vs (Finds q v a) o
+    finds : (height top : ℕ) (o : Option (Child ℕ)) → height ≡ b.shape.height → height < 9 → up height q.key ≡ top → IsUnder p.plan p.pairs height top (digit height q.key) o → Owes ns vs (Finds q v b) o
     finds zero top o at_h l is u = absurd u
     finds (suc zero) top None at_h l is u = ([], tt, (v, same_view, refl))
     finds (suc zero) top (Some (Payload x)) at_h l is u = ([], tt, (v, same_view, refl))
     finds (suc zero) top (Some (Below s)) at_h l is u = absurd u
     finds (suc (suc h)) top None at_h l is u = ([], tt, (v, same_view, refl))
     finds (suc (suc h)) top (Some (Payload x)) at_h l is u = absurd u
-    finds (suc (suc h)) top (Some (Below s)) at_h l is u = goes_to h s at_h (at_inner p.plan ns p.pairs p.tree q.key h top (Some (Below s)) is u)
+    finds (suc (suc h)) top (Some (Below s)) at_h l is u = goes_to h s at_h (at_inner p.plan ns p.contents p.pairs p.tree q.key h top (Some (Below s)) is u)
 
-    -- the node below is no other than one that the seat has met
-    pub same_met : (b : Spot) → IsIn b v.met → (j : ℕ) → 1 ≤ j → j < length ns → name_of b.shape ≡ name_of (p.plan.shape j) → b.shape ≡ p.plan.shape j
-    same_met b known j some_node low named =
-        let s = (each_in (IsMet p.plan ns) v.met b known (p.each_view id v seat).met).spot in
-        sym s.shaped ∙ ap p.plan.shape (same_name p.plan ns p.nodes b s j some_node low named)
+    -- A watched node below this one is what it was.
+    pub same_watched : (x : Watch) → IsIn x v.watched → x.above ≡ a.number → (node ns a.number).holder ≡ None → x.word ≡ Some (node ns a.number).word → LeadsDown p.plan a.number x.spot
+    same_watched x known above free word_is =
+        let w = each_in (IsWatched p.plan ns id) v.watched x known (p.each_view id v seat).watched in
+        subst (λ (z : ℕ). LeadsDown p.plan z x.spot) above (w.leads (subst (λ (o : Option ℕ). IsBound id o (node ns x.above)) (sym word_is) (subst (λ (z : ℕ). IsBound id (Some (node ns a.number).word) (node ns z)) (sym above) (free, refl))))
 
-    misses : (height top : ℕ) (o : Option (Child ℕ)) → height ≡ a.shape.height → height < 9 → up height q.key ≡ top → IsUnder p.plan p.pairs height top (digit height q.key) o → Owes ns vs (Misses q v a) o
-    misses zero top o at_h l is u = absurd u
-    misses (suc zero) top None at_h l is u = ([], tt, (v, same_view, refl))
-    misses (suc zero) top (Some (Payload x)) at_h l is u = ([], tt, (v, same_view, refl))
-    misses (suc zero) top (Some (Below s)) at_h l is u = absurd u
-    misses (suc (suc h)) top None at_h l is u = ([], tt, (v, same_view, refl))
-    misses (suc (suc h)) top (Some (Payload x)) at_h l is u = absurd u
-    misses (suc (suc h)) top (Some (Below s)) at_h l is u =
-        let leads = at_inner p.plan ns p.pairs p.tree q.key h top (Some (Below s)) is u in
+    misses : (node ns a.number).holder ≡ None → (node ns a.number).word ≡ word → (height top : ℕ) (o : Option (Child ℕ)) → height ≡ b.shape.height → height < 9 → up height q.key ≡ top → IsUnder p.plan p.pairs height top (digit height q.key) o → Owes ns vs (Misses word q v b) o
+    misses free word_is zero top o at_h l is u = absurd u
+    misses free word_is (suc zero) top None at_h l is u = ([], tt, (v, same_view, refl))
+    misses free word_is (suc zero) top (Some (Payload x)) at_h l is u = ([], tt, (v, same_view, refl))
+    misses free word_is (suc zero) top (Some (Below s)) at_h l is u = absurd u
+    misses free word_is (suc (suc h)) top None at_h l is u = ([], tt, (v, same_view, refl))
+    misses free word_is (suc (suc h)) top (Some (Payload x)) at_h l is u = absurd u
+    misses free word_is (suc (suc h)) top (Some (Below s)) at_h l is u =
+        let leads = at_inner p.plan ns p.contents p.pairs p.tree q.key h top (Some (Below s)) is u in
         let j : ℕ = p.plan.home (suc h) (up (suc h) q.key) in
         let house = p.tree.housed (suc h) (up (suc h) q.key) leads.0 in
         dite (ℕ_discrete (up (p.plan.shape j).height q.key) (p.plan.shape j).top)
-        (λ covers. ([], tt, (v, same_view, (λ b known named never. absurd (never (subst (λ (z : Shape). Covers z q.key) (sym (same_met b known j leads.0 house.low (sym named ∙ leads.1))) covers))))))
-        (λ ne. let r = has_answer None (missed p.plan ns p.pairs p.tree h q.key j (omega (arith, l)) leads.0 refl ne) in ([], tt, (r.0, r.1, (λ b known named never. r.2))))
+        (λ covers. (
+          [],
+          tt,
+          (
+            v,
+            same_view,
+            (λ x parts. absurd (parts.leaves (
+                let down = same_watched x parts.known parts.above free (parts.free_by ∙ ap (λ (z : ℕ). Some z) (sym word_is)) in
+                let low_x : x.spot.number < length ns = subst (λ (z : ℕ). z < length ns) down.here (p.tree.housed down.level (way x.spot.shape down.level) (subst (λ (z : ℕ). 1 ≤ z) (sym down.here) down.some_node)).low in
+                let number : x.spot.number ≡ j = same_name p.plan ns p.nodes x.spot record { below_trunk = down.some_node; low = low_x; key = ap (λ (z : Shape). z.key) down.shaped; form = ap (λ (z : Shape). z.form) down.shaped } j leads.0 house.low (sym parts.named ∙ leads.1) in
+                subst (λ (z : Shape). Covers z q.key) (sym (ap p.plan.shape number) ∙ down.shaped) covers))),
+          ),
+        ))
+        (λ ne. let r = has_answer None (missed p.plan ns p.contents p.pairs p.tree h q.key j (omega (arith, l)) leads.0 refl ne) in ([], tt, (r.0, r.1, (λ x parts. r.2))))
 
   -- what was read, by what is done then
   pub node_learns : (then : Ask → View → Spot → Option (Child ℕ) → List Place → View → Type 0)
-      → ((ns : List Node) (vs : List View) (p : IsMap ns vs) → get_elem? vs id ≡ some v → (height top : ℕ) (o : Option (Child ℕ)) → height ≡ a.shape.height → height < 9 → up height q.key ≡ top → IsUnder p.plan p.pairs height top (digit height q.key) o → Owes ns vs (then q v a) o)
-      → acts.Learns IsMap id v a.number word saw (LearnsNode then q v a.number word saw)
-  node_learns then owes ns vs p seat low is free agree =
+      → ((ns : List Node) (vs : List View) (p : IsMap ns vs) → get_elem? vs id ≡ some v → (node ns a.number).holder ≡ None → (node ns a.number).word ≡ word → (height top : ℕ) (o : Option (Child ℕ)) → height ≡ (p.plan.shape a.number).height → height < 9 → up height q.key ≡ top
+      → IsUnder p.plan p.pairs height top (digit height q.key) o → Owes ns vs (then q v (spot a.number (p.plan.shape a.number))) o)
+      → acts.Learns IsMap id v a.number word saw reads (LearnsNode then q v a.number word saw)
+  node_learns then owes ns vs p seat low is free agree fits =
       let there = met ns vs id v p seat a mine in
-      let c = is_current ns vs id v p seat a mine (there.current (free, (m, is ∙ even))) in
-      let x : ℕ = digit a.shape.height q.key in
+      let s : Shape = p.plan.shape a.number in
+      let c = is_current ns vs id v p seat a mine (free, (m, is ∙ even)) in
+      let x : ℕ = digit s.height q.key in
       let o : Option (Child ℕ) = lookup c.its.children x in
-      let under = c.under x (digit-low a.shape.height q.key) in
-      let tell : (ps : List Place) (w : View) → (Covers a.shape q.key → then q v a o ps w) → ((Covers a.shape q.key → ⊥) → w ≡ v) → LearnsNode then q v a.number word saw ps w =
-      λ ps w on_way beside b known same. subst (λ (z : Spot). Meets then q v z saw ps w) (one_met ns vs id v p seat a mine b known same) record {
-        content = (node ns a.number).content;
-        its = c.its;
-        agrees = agree;
-        encodes = c.encodes;
-        in_form = c.in_form;
-        deep = c.deep;
-        prefixed = c.prefixed;
-        of_kind = of_kind p.plan p.pairs a.shape.height a.shape.top x o under;
-        on_way = on_way;
+      let under = c.under x (digit-low s.height q.key) in
+      let tell : (ps : List Place) (w : View) → (Covers s q.key → then q v (spot a.number s) o ps w) → ((Covers s q.key → ⊥) → w ≡ v) → LearnsNode then q v a.number word saw ps w =
+      λ ps w on_way beside e known same.
+      let now = is_now ns vs id v p seat e known in
+      let shape_is : p.plan.shape e.number ≡ s = ap p.plan.shape same in
+      record {
+        shape = s;
+        is = record {
+          now = subst (IsNow e) shape_is now;
+          content = (node ns a.number).content;
+          its = c.its;
+          agrees = agree;
+          encodes = c.encodes;
+          in_form = c.in_form ∙ (ap (λ (z : Shape). z.form) (sym shape_is) ∙ now.form);
+          deep = c.deep;
+          prefixed = c.prefixed;
+        };
+        of_kind = of_kind p.plan p.pairs s.height s.top x o under;
+        on_way = λ covers. subst (λ (z : ℕ). then q v (spot z s) o ps w) (sym same) (on_way covers);
         beside = beside;
       } in
-      dite (ℕ_discrete (up a.shape.height q.key) a.shape.top)
-      (λ covers. let r = owes ns vs p seat a.shape.height a.shape.top o refl (let deep = c.deep in omega (arith, deep)) covers under in
+      dite (ℕ_discrete (up s.height q.key) s.top)
+      (λ covers. let r = owes ns vs p seat free is s.height s.top o refl (let deep = c.deep in omega (arith, deep)) covers under in
       (r.0, r.1, (r.2.0, r.2.1, tell r.0 r.2.0 (λ _. r.2.2) (λ ne. absurd (ne covers)))))
       (λ ne. ([], tt, (v, same_view ns vs p seat, tell [] v (λ covers. absurd (ne covers)) (λ _. refl))))
 
-  pub node_looks : (reads : Bool) → acts.Learns IsMap id v a.number word saw (LearnsNode (Looks reads) q v a.number word saw)
-  node_looks true = node_learns Gets gets
-  node_looks false = node_learns Finds finds
+  pub node_looks : (looks : Bool) → acts.Learns IsMap id v a.number word saw reads (LearnsNode (Looks looks) q v a.number word saw)
+  node_looks true = node_learns Gets (λ ns vs p seat free is. gets ns vs p seat)
+  node_looks false = node_learns Finds (λ ns vs p seat free is. finds ns vs p seat)
 
-  pub node_heads : acts.Learns IsMap id v a.number word saw (LearnsNode Heads q v a.number word saw)
-  node_heads = node_learns Heads (λ ns vs p seat height top o at_h l is u. ([], tt, (v, same_view ns vs p seat, refl)))
+  pub node_misses : acts.Learns IsMap id v a.number word saw reads (LearnsMiss q v a.number word saw)
+  node_misses = node_learns (Misses word) misses
 
-  pub node_misses : acts.Learns IsMap id v a.number word saw (LearnsNode Misses q v a.number word saw)
-  node_misses = node_learns Misses misses
+-- A NODE as it is now
+pub node_heads : (id : ℕ) (v : View) (a : Spot) (mine : IsIn a v.met) (word : ℕ) (saw : List (ℕ × ℕ)) (m : ℕ) → word ≡ 4 * m → (reads : List Read) → acts.Learns IsMap id v a.number word saw reads (LearnsHead v a.number word saw)
+node_heads id v a mine word saw m even reads ns vs p seat low is free agree fits =
+    let there = met ns vs id v p seat a mine in
+    let s : Shape = p.plan.shape a.number in
+    let is_free : IsFree (node ns a.number) = (free, (m, is ∙ even)) in
+    let c = is_current ns vs id v p seat a mine is_free in
+    let k = p.each_view id v seat in
+    let w : View = view_of v.seen (spot a.number s ∷ v.met) v.own in
+    let now_met : IsMet p.plan ns (spot a.number s) = record {
+      spot = record { below_trunk = there.spot.below_trunk; low = there.spot.low; key = refl; form = refl };
+      linked = there.linked;
+      lasts = λ _. (refl, there.current is_free);
+      current = there.current;
+    } in (
+      [],
+      tt,
+      (
+        w,
+        with_view ns vs id p w record { seen = k.seen; met = (now_met, k.met); own = k.own; watched = tt },
+        (λ e known same.
+            let now = is_now ns vs id v p seat e known in
+            let shape_is : p.plan.shape e.number ≡ s = ap p.plan.shape same in
+            record {
+              shape = s;
+              is = record {
+                now = subst (IsNow e) shape_is now;
+                content = (node ns a.number).content;
+                its = c.its;
+                agrees = agree;
+                encodes = c.encodes;
+                in_form = c.in_form ∙ (ap (λ (z : Shape). z.form) (sym shape_is) ∙ now.form);
+                deep = c.deep;
+                prefixed = c.prefixed;
+              };
+              heads = ap (λ (z : ℕ). view_of v.seen (spot z s ∷ v.met) v.own) (sym same);
+            }),
+      ),
+    )
+
+-- A NODE BELOW ANOTHER, which leads to it
+named_below : (d : Plan) (j w name : ℕ) (o : Option (Child ℕ)) → HasBelow o (Some w) → ((s : ℕ) → IsWord w (Below s) → s ≡ name) → LeadsTo d o j → (1 ≤ j) × (name ≡ name_of (d.shape j))
+named_below d j w name None below spells leads = absurd below
+named_below d j w name (Some (Payload x)) below spells leads = absurd leads
+named_below d j w name (Some (Below s)) below spells leads = (leads.0, sym (spells s below) ∙ leads.1)
+
+module _ (d : Plan) (ns : List Node) (cs : ℕ → Content) (m : Pairs ℕ) (t : IsTree d ns cs m) (n : AreNodes d ns) (k : ℕ) (at_k : home_of d (d.shape k) ≡ k) (x : ℕ) (lo : x < 256) (o : Option (Child ℕ)) (w : ℕ) (below : HasBelow o (Some w)) (b : Spot) (its : IsSpot d ns b) (spells : (s : ℕ) → IsWord w (Below s) → s ≡ name_of b.shape) where
+  pub leads_down : (height : ℕ) → height ≡ (d.shape k).height → 2 ≤ height → IsUnder d m height (d.shape k).top x o → LeadsDown d k (spot b.number (d.shape b.number))
+  leads_down zero is tall u = absurd u
+  leads_down (suc zero) is tall u = absurd (omega (arith, tall))
+  leads_down (suc (suc h)) is tall u =
+      let top : ℕ = (d.shape k).top in
+      let j : ℕ = d.home (suc h) (256 * top + x) in
+      let named = named_below d j w (name_of b.shape) o below spells u in
+      let house = t.housed (suc h) (256 * top + x) named.0 in
+      let number : b.number ≡ j = same_name d ns n b its j named.0 house.low named.1 in
+      let low_b = subst (λ (z : ℕ). (d.shape z).height ≤ suc h) (sym number) house.below.0 in
+      let way_b : way (d.shape b.number) (suc h) ≡ 256 * top + x = subst (λ (z : ℕ). way (d.shape z) (suc h) ≡ 256 * top + x) (sym number) house.below.1 in
+      let up_b : way (d.shape b.number) (suc (suc h)) ≡ top = (let e = way-suc (d.shape b.number) (suc h) low_b in omega (arith, e, way_b, lo)) in record {
+        level = suc h;
+        some_node = its.below_trunk;
+        shaped = refl;
+        tall = low_b;
+        here = ap (d.home (suc h)) way_b ∙ sym number;
+        above = ap (d.home (suc (suc h))) up_b ∙ subst (λ (z : ℕ). d.home z top ≡ k) (sym is) at_k;
+        above_high = sym is;
+      }
+
+-- what was read of the node above: a child of that word under a byte, and that it is no leaf
+abbrev pub HadBelow : Spot → Read → ℕ → ℕ → Type 0
+HadBelow a r x w = (s : Shape) (is : IsOf a s r.saw) → (2 ≤ s.height) × HasBelow (lookup is.its.children x) (Some w)
+
+pub node_below : (id : ℕ) (v : View) (b : Spot) (mine : IsIn b v.met) (word : ℕ) (saw : List (ℕ × ℕ)) (m : ℕ) → word ≡ 4 * m → (reads : List Read)
+    → (a : Spot) → IsIn a v.met → (r : Read) → IsIn r reads → r.number ≡ a.number → (l : ℕ) → r.word ≡ 4 * l
+    → (x : ℕ) → x < 256 → (w : ℕ) → HadBelow a r x w → ((s : ℕ) → IsWord w (Below s) → s ≡ name_of b.shape)
+    → acts.Learns IsMap id v b.number word saw reads (LearnsBelow a.number (Some r.word) v b.number word saw)
+node_below id v b mine word saw m even reads a known r read_is number l free_by x lo w had spells ns vs p seat low is free agree fits =
+    let mb = met ns vs id v p seat b mine in
+    let ma = met ns vs id v p seat a known in
+    let s : Shape = p.plan.shape b.number in
+    let c = is_current ns vs id v p seat b mine (free, (m, is ∙ even)) in
+    let fit = (each_in (ReadFits ns) reads r read_is fits).1 l free_by in
+    let new : Watch = watch a.number (Some r.word) (spot b.number s) in
+    let k = p.each_view id v seat in
+    let watched : IsWatched p.plan ns id new = record {
+      below_trunk = ma.spot.below_trunk;
+      low = ma.spot.low;
+      later = subst (λ (z : ℕ). r.word ≤ (node ns z).word) number fit.0;
+      leads = λ bound. let free_a = bound.0 in let same = bound.1 in
+          let is_free : IsFree (node ns a.number) = (free_a, (l, sym same ∙ free_by)) in
+          let cur = is_current ns vs id v p seat a known is_free in
+          let agree_a : Agree (node ns a.number).content r.saw = subst (λ (z : ℕ). Agree (node ns z).content r.saw) number (fit.1 (same ∙ ap (λ (z : ℕ). (node ns z).word) (sym number))) in
+          let of_a : IsOf a (p.plan.shape a.number) r.saw = record {
+            now = is_now ns vs id v p seat a known;
+            content = (node ns a.number).content;
+            its = cur.its;
+            agrees = agree_a;
+            encodes = cur.encodes;
+            in_form = cur.in_form ∙ ma.spot.form;
+            deep = cur.deep;
+            prefixed = cur.prefixed;
+          } in
+          let h = had (p.plan.shape a.number) of_a in
+          leads_down p.plan ns p.contents p.pairs p.tree p.nodes a.number (ma.current is_free) x lo (lookup cur.its.children x) w h.1 b mb.spot spells (p.plan.shape a.number).height refl h.0 (cur.under x lo);
+    } in (
+      [],
+      tt,
+      (
+        watching v new,
+        with_view ns vs id p (watching v new) record { seen = k.seen; met = k.met; own = k.own; watched = (watched, tt) },
+        (λ e known_e same.
+            let now = is_now ns vs id v p seat e known_e in
+            let shape_is : p.plan.shape e.number ≡ s = ap p.plan.shape same in
+            record {
+              shape = s;
+              is = record {
+                now = subst (IsNow e) shape_is now;
+                content = (node ns b.number).content;
+                its = c.its;
+                agrees = agree;
+                encodes = c.encodes;
+                in_form = c.in_form ∙ (ap (λ (z : Shape). z.form) (sym shape_is) ∙ now.form);
+                deep = c.deep;
+                prefixed = c.prefixed;
+              };
+              watches = ap (λ (z : ℕ). watching v (watch a.number (Some r.word) (spot z s))) (sym same);
+              one_name = λ f known_f as_e.
+                  let of_f = met ns vs id v p seat f known_f in
+                  let of_e = met ns vs id v p seat e known_e in
+                  λ i. 256 * (sym of_f.spot.key ∙ (ap (λ (z : ℕ). (p.plan.shape z).key) as_e ∙ of_e.spot.key)) i + form_place ((sym of_f.spot.form ∙ (ap (λ (z : ℕ). (p.plan.shape z).form) as_e ∙ of_e.spot.form)) i);
+            }),
+      ),
+    )
+
+-- below a node that the seat has locked
+pub node_below_held : (id : ℕ) (v : View) (b : Spot) (mine : IsIn b v.met) (word : ℕ) (saw : List (ℕ × ℕ)) (m : ℕ) → word ≡ 4 * m → (reads : List Read)
+    → (a : Spot) (c : Content) (os : List Own) → v.own ≡ locked a c ∷ os → 2 ≤ a.shape.height → (x : ℕ) → x < 256 → (w : ℕ)
+    → ((n : TableNode ℕ) → Encodes c n → n.form ≡ a.shape.form → HasBelow (lookup n.children x) (Some w)) → ((s : ℕ) → IsWord w (Below s) → s ≡ name_of b.shape)
+    → acts.Learns IsMap id v b.number word saw reads (LearnsBelow a.number None v b.number word saw)
+node_below_held id v b mine word saw m even reads a c os own tall x lo w had spells ns vs p seat low is free agree fits =
+    let mb = met ns vs id v p seat b mine in
+    let s : Shape = p.plan.shape b.number in
+    let cur_b = is_current ns vs id v p seat b mine (free, (m, is ∙ even)) in
+    let k = p.each_view id v seat in
+    let l : IsLocked p.plan ns p.contents id a c = (subst (Each (IsOwn p.plan ns p.contents id)) own k.own).0 in
+    let at_a : home_of p.plan (p.plan.shape a.number) ≡ a.number = ap (home_of p.plan) l.shaped ∙ l.current in
+    let cur = p.tree.current a.number l.met.spot.below_trunk at_a in
+    let new : Watch = watch a.number None (spot b.number s) in
+    let below = had cur.its (subst (λ (z : Content). Encodes z cur.its) l.content cur.encodes) (cur.in_form ∙ l.met.spot.form) in
+    let watched : IsWatched p.plan ns id new = record {
+      below_trunk = l.met.spot.below_trunk;
+      low = l.met.spot.low;
+      later = tt;
+      leads = λ _. leads_down p.plan ns p.contents p.pairs p.tree p.nodes a.number at_a x lo (lookup cur.its.children x) w below b mb.spot spells (p.plan.shape a.number).height refl (subst (λ (z : Shape). 2 ≤ z.height) (sym l.shaped) tall) (cur.under x lo);
+    } in (
+      [],
+      tt,
+      (
+        watching v new,
+        with_view ns vs id p (watching v new) record { seen = k.seen; met = k.met; own = k.own; watched = (watched, tt) },
+        (λ e known_e same.
+            let now = is_now ns vs id v p seat e known_e in
+            let shape_is : p.plan.shape e.number ≡ s = ap p.plan.shape same in
+            record {
+              shape = s;
+              is = record {
+                now = subst (IsNow e) shape_is now;
+                content = (node ns b.number).content;
+                its = cur_b.its;
+                agrees = agree;
+                encodes = cur_b.encodes;
+                in_form = cur_b.in_form ∙ (ap (λ (z : Shape). z.form) (sym shape_is) ∙ now.form);
+                deep = cur_b.deep;
+                prefixed = cur_b.prefixed;
+              };
+              watches = ap (λ (z : ℕ). watching v (watch a.number None (spot z s))) (sym same);
+              one_name = λ f known_f as_e.
+                  let of_f = met ns vs id v p seat f known_f in
+                  let of_e = met ns vs id v p seat e known_e in
+                  λ i. 256 * (sym of_f.spot.key ∙ (ap (λ (z : ℕ). (p.plan.shape z).key) as_e ∙ of_e.spot.key)) i + form_place ((sym of_f.spot.form ∙ (ap (λ (z : ℕ). (p.plan.shape z).form) as_e ∙ of_e.spot.form)) i);
+            }),
+      ),
+    )

@@ -14,9 +14,9 @@ use Rattle.live_nodes.specs.Acts as acts
 use Rattle.live_cells.specs.Words as cells
 use Rattle.live_cells.specs.Head.{IsHead}
 use Rattle.live_encodes.specs.Encodes.{words_of, long_for, HasChildren, Encodes}
-use Rattle.live_law.specs.Levels.{up, Shape, name_of, IsBelow, Spot, spot}
-use Rattle.live_law.specs.Views.{View, view_of, Own, locked, fresh, outgrown, trunk, Ask}
-use Rattle.live_law.specs.Tree.{Plan, home_of, IsFree, LeadsTo, IsUnder, IsCurrent, NamesRoot, IsSpot, IsMet, IsOwn, AreNodes, IsTree, IsMap, IsMade}
+use Rattle.live_law.specs.Levels.{up, Shape, name_of, way, IsBelow, Spot, spot}
+use Rattle.live_law.specs.Views.{View, with_own, Watch, Own, locked, fresh, outgrown, trunk, Ask}
+use Rattle.live_law.specs.Tree.{Plan, home_of, IsFree, LeadsTo, IsUnder, IsCurrent, NamesRoot, IsSpot, IsMet, LeadsDown, IsBound, NoLater, IsWatched, IsOwn, AreNodes, AreAlive, IsSettled, IsTree, IsMap, IsMade}
 use Rattle.live_law.proofs.Changes.{with_map}
 
 -- how long a content is, and what form it has
@@ -86,6 +86,9 @@ module _ (d : Plan) (id : ℕ) (s : Shape) (ns : List Node) (content : Content) 
     maker = λ j. cond (nat_eq j last) (Some id) (d.maker j);
   }
 
+  abbrev cs' : (ℕ → Content) → ℕ → Content
+  cs' cs j = cond (nat_eq j last) content (cs j)
+
   abbrev none : ℕ → Content
   none _ = []
 
@@ -110,38 +113,88 @@ module _ (d : Plan) (id : ℕ) (s : Shape) (ns : List Node) (content : Content) 
   maker_old : (j : ℕ) → j ≢ last → d'.maker j ≡ d.maker j
   maker_old j ne = ap (λ (t : Bool). cond t (Some id) (d.maker j)) (ne_eqb j last ne)
 
+  content_new : (cs : ℕ → Content) → cs' cs last ≡ content
+  content_new cs = ap (λ (t : Bool). cond t content (cs last)) (eq-eqb last last refl)
+
+  content_old : (cs : ℕ → Content) (j : ℕ) → j ≢ last → cs' cs j ≡ cs j
+  content_old cs j ne = ap (λ (t : Bool). cond t content (cs j)) (ne_eqb j last ne)
+
   lower : (j : ℕ) → j < last → j ≢ last
   lower j l e = omega (arith, l, e)
 
   spot_old : (a : Spot) → IsSpot d ns a → IsSpot d' longer a
-  spot_old a t = record { below_trunk = t.below_trunk; low = (let l = t.low in omega (arith, l, more)); shaped = shape_old a.number (lower a.number t.low) ∙ t.shaped }
-
-  met_old : (a : Spot) → IsMet d ns a → IsMet d' longer a
-  met_old a m = record {
-    spot = spot_old a m.spot;
-    linked = maker_old a.number (lower a.number m.spot.low) ∙ m.linked;
-    current = λ f. m.current (subst IsFree (node_old a.number m.spot.low) f);
+  spot_old a t = let same = shape_old a.number (lower a.number t.low) in record {
+    below_trunk = t.below_trunk;
+    low = (let l = t.low in omega (arith, l, more));
+    key = ap (λ (z : Shape). z.key) same ∙ t.key;
+    form = ap (λ (z : Shape). z.form) same ∙ t.form;
   }
 
-  module _ (some_trunk : 0 < last) (j : ℕ) where
-    own_old : (o : Own) → IsOwn d ns j o → IsOwn d' longer j o
-    own_old (locked a c) h = let same = node_old a.number h.met.spot.low in record {
+  met_old : (a : Spot) → IsMet d ns a → IsMet d' longer a
+  met_old a m = let same = shape_old a.number (lower a.number m.spot.low) in record {
+    spot = spot_old a m.spot;
+    linked = maker_old a.number (lower a.number m.spot.low) ∙ m.linked;
+    lasts = λ high. let l = m.lasts high in (same ∙ l.0, l.1);
+    current = λ f. ap (home_of d) same ∙ m.current (subst IsFree (node_old a.number m.spot.low) f);
+  }
+
+  watch_old : (cs : ℕ → Content) (m : Pairs ℕ) → IsTree d ns cs m → (j : ℕ) (x : Watch) → IsWatched d ns j x → IsWatched d' longer j x
+  watch_old cs m t j x w =
+      let same = node_old x.above w.low in record {
+        below_trunk = w.below_trunk;
+        low = (let l = w.low in omega (arith, l, more));
+        later = subst (NoLater x.word) (sym same) w.later;
+        leads = λ bound.
+            let l = w.leads (subst (IsBound j x.word) same bound) in
+            let low_x = subst (λ (z : ℕ). z < last) l.here (t.housed l.level (way x.spot.shape l.level) (subst (λ (z : ℕ). 1 ≤ z) (sym l.here) l.some_node)).low in record {
+              level = l.level;
+              some_node = l.some_node;
+              shaped = shape_old x.spot.number (lower x.spot.number low_x) ∙ l.shaped;
+              tall = l.tall;
+              here = l.here;
+              above = l.above;
+              above_high = ap (λ (z : Shape). z.height) (shape_old x.above (lower x.above w.low)) ∙ l.above_high;
+            };
+      }
+
+  module _ (some_trunk : 0 < last) (cs : ℕ → Content) (j : ℕ) where
+    own_old : (o : Own) → IsOwn d ns cs j o → IsOwn d' longer (cs' cs) j o
+    own_old (locked a c) h = let l = lower a.number h.met.spot.low in record {
       met = met_old a h.met;
-      holder = ap (λ (z : Node). z.holder) same ∙ h.holder;
-      content = ap (λ (z : Node). z.content) same ∙ h.content;
+      shaped = shape_old a.number l ∙ h.shaped;
+      holder = ap (λ (z : Node). z.holder) (node_old a.number h.met.spot.low) ∙ h.holder;
+      content = content_old cs a.number l ∙ h.content;
       current = h.current;
     }
-    own_old (fresh a c) h = record {
+    own_old (fresh a c) h = let l = lower a.number h.spot.low in record {
       spot = spot_old a h.spot;
-      maker = maker_old a.number (lower a.number h.spot.low) ∙ h.maker;
-      content = ap (λ (z : Node). z.content) (node_old a.number h.spot.low) ∙ h.content;
+      shaped = shape_old a.number l ∙ h.shaped;
+      maker = maker_old a.number l ∙ h.maker;
+      free = subst IsFree (sym (node_old a.number h.spot.low)) h.free;
+      content = content_old cs a.number l ∙ h.content;
     }
-    own_old (outgrown a) h = record {
-      met = met_old a h.met;
-      holder = ap (λ (z : Node). z.holder) (node_old a.number h.met.spot.low) ∙ h.holder;
-      replaced = h.replaced;
+    own_old (outgrown a) h = let l = lower a.number h.spot.low in record {
+      spot = spot_old a h.spot;
+      linked = maker_old a.number l ∙ h.linked;
+      holder = ap (λ (z : Node). z.holder) (node_old a.number h.spot.low) ∙ h.holder;
+      replaced = λ e. h.replaced (ap (home_of d) (sym (shape_old a.number l)) ∙ e);
     }
     own_old (trunk c) h = (ap (λ (z : Node). z.holder) (node_old 0 some_trunk) ∙ h.0, ap (λ (z : Node). z.content) (node_old 0 some_trunk) ∙ h.1)
+
+  settled_longer : (cs : ℕ → Content) → IsSettled ns cs → IsSettled longer (cs' cs)
+  settled_longer cs s k some_node l free = dite (ℕ_discrete k last)
+      (λ e. ap (λ (z : ℕ). (node longer z).content) e ∙ (ap (λ (z : Node). z.content) node_new ∙ sym (ap (cs' cs) e ∙ content_new cs)))
+      (λ ne. let l' : k < last = omega (arith, l, more, ne) in let same = node_old k l' in
+      ap (λ (z : Node). z.content) same ∙ (s k some_node l' (ap (λ (z : Node). z.holder) (sym same) ∙ free) ∙ sym (content_old cs k ne)))
+
+  free_new : IsFree b
+  free_new = (refl, (0, refl))
+
+  alive_longer : AreAlive d ns → AreAlive d' longer
+  alive_longer s k some_node l here free = dite (ℕ_discrete k last)
+      (λ e. subst IsFree (sym (ap (node longer) e ∙ node_new)) free_new)
+      (λ ne. let l' : k < last = omega (arith, l, more, ne) in let same = node_old k l' in
+      subst IsFree (sym same) (s k some_node l' (ap (home_of d) (sym (shape_old k ne)) ∙ here) (ap (λ (z : Node). z.holder) (sym same) ∙ free)))
 
   nodes_longer : length content ≡ words_of s.form → ((k : ℕ) → k < length ns → (node ns k).place ≢ s.key) → AreNodes d ns → AreNodes d' longer
   nodes_longer long elsewhere n = record {
@@ -162,7 +215,7 @@ module _ (d : Plan) (id : ℕ) (s : Shape) (ns : List Node) (content : Content) 
         (λ nf. n.apart j k some_j some_k l' (omega (arith, m, more, nf)) (ap (λ (z : Shape). z.key) (sym (shape_old j ne)) ∙ (same ∙ ap (λ (z : Shape). z.key) (shape_old k nf)))));
   }
 
-  module _ (m : Pairs ℕ) (t : IsTree d ns m) where
+  module _ (cs : ℕ → Content) (m : Pairs ℕ) (t : IsTree d ns cs m) where
     home_low : (h x : ℕ) → 1 ≤ d.home h x → d.home h x ≢ last
     home_low h x some_node = lower (d.home h x) (t.housed h x some_node).low
 
@@ -171,7 +224,7 @@ module _ (d : Plan) (id : ℕ) (s : Shape) (ns : List Node) (content : Content) 
     leads_old (Some (Payload w)) h x l = l
     leads_old (Some (Below w)) h x l = (l.0, l.1 ∙ sym (ap name_of (shape_old (d.home h x) (home_low h x l.0))))
 
-    tree_longer : AreNodes d ns → IsTree d' longer m
+    tree_longer : AreNodes d ns → IsTree d' longer (cs' cs) m
     tree_longer n = record {
       root = subst (λ (z : Node). NamesRoot d' (at z.content 0)) (sym (node_old 0 n.some_trunk)) (⊎_elim
           (λ no. inl no)
@@ -194,8 +247,8 @@ module _ (d : Plan) (id : ℕ) (s : Shape) (ns : List Node) (content : Content) 
           let at_home : 1 ≤ home_of d (d'.shape k) = subst (λ (z : ℕ). 1 ≤ z) (sym here) some_node in
           let low : k < last = subst (λ (z : ℕ). z < last) here (t.housed (d'.shape k).height (d'.shape k).top at_home).low in
           let same = shape_old k (lower k low) in
-          subst (λ (z : Shape × Node). IsCurrent d' m z.0 z.1.content) (λ i. (sym same i, sym (node_old k low) i))
-          (current_alike d d' m (d.shape k) (node ns k).content (λ o h x l e. leads_old o (suc h) (256 * (d.shape k).top + x)) (t.current k some_node (ap (home_of d) (sym same) ∙ here)));
+          subst (λ (z : Shape × Content). IsCurrent d' m z.0 z.1) (λ i. (sym same i, sym (content_old cs k (lower k low)) i))
+          (current_alike d d' m (d.shape k) (cs k) (λ o h x l e. leads_old o (suc h) (256 * (d.shape k).top + x)) (t.current k some_node (ap (home_of d) (sym same) ∙ here)));
       absent = t.absent;
     }
 
@@ -204,26 +257,38 @@ node_makes q id v key content n encodes ns vs p seat elsewhere =
     let s : Shape = record { key = key; form = n.form; height = q.height; top = up q.height q.key } in
     let a : Spot = spot (length ns) s in
     let kn = p.each_view id v seat in
-    let w : View = view_of v.seen v.met (fresh a content ∷ v.own) in
+    let w : View = with_own v (fresh a content ∷ v.own) in
     let nodes = p.nodes in
-    let own_ok : (j : ℕ) (o : Own) → IsOwn p.plan ns j o → IsOwn (d' p.plan id s ns content) (longer p.plan id s ns content) j o = λ j o. own_old p.plan id s ns content nodes.some_trunk j o in (
+    let cs : ℕ → Content = p.contents in
+    let own_ok : (j : ℕ) (o : Own) → IsOwn p.plan ns cs j o → IsOwn (d' p.plan id s ns content) (longer p.plan id s ns content) (cs' p.plan id s ns content cs) j o = λ j o. own_old p.plan id s ns content nodes.some_trunk cs j o in (
       w,
-      with_map ns vs id p (longer p.plan id s ns content) w (d' p.plan id s ns content) p.history p.pairs p.legal
+      with_map ns vs id p (longer p.plan id s ns content) w (d' p.plan id s ns content) (cs' p.plan id s ns content cs) p.history p.pairs p.legal
           (nodes_longer p.plan id s ns content (encodes-long content n encodes) elsewhere nodes)
-          (tree_longer p.plan id s ns content p.pairs p.tree nodes)
+          (settled_longer p.plan id s ns content cs p.settled)
+          (alive_longer p.plan id s ns content p.alive)
+          (tree_longer p.plan id s ns content cs p.pairs p.tree nodes)
           (met_old p.plan id s ns content)
+          (λ j ne. watch_old p.plan id s ns content cs p.pairs p.tree j)
           (λ j ne o. own_ok j o)
           (λ j ne x h. h) p.unborn record {
             seen = kn.seen;
             met = each_map (IsMet p.plan ns) (IsMet (d' p.plan id s ns content) (longer p.plan id s ns content)) v.met (met_old p.plan id s ns content) kn.met;
             own = (
               record {
-                spot = record { below_trunk = nodes.some_trunk; low = (let l = more p.plan id s ns content in omega (arith, l)); shaped = shape_new p.plan id s ns content };
+                spot = record {
+                  below_trunk = nodes.some_trunk;
+                  low = (let l = more p.plan id s ns content in omega (arith, l));
+                  key = ap (λ (z : Shape). z.key) (shape_new p.plan id s ns content);
+                  form = ap (λ (z : Shape). z.form) (shape_new p.plan id s ns content);
+                };
+                shaped = shape_new p.plan id s ns content;
                 maker = maker_new p.plan id s ns content;
-                content = ap (λ (z : Node). z.content) (node_new p.plan id s ns content);
+                free = subst IsFree (sym (node_new p.plan id s ns content)) (free_new p.plan id s ns content);
+                content = content_new p.plan id s ns content cs;
               },
-              each_map (IsOwn p.plan ns id) (IsOwn (d' p.plan id s ns content) (longer p.plan id s ns content) id) v.own (own_ok id) kn.own,
+              each_map (IsOwn p.plan ns cs id) (IsOwn (d' p.plan id s ns content) (longer p.plan id s ns content) (cs' p.plan id s ns content cs) id) v.own (own_ok id) kn.own,
             );
+            watched = each_map (IsWatched p.plan ns id) (IsWatched (d' p.plan id s ns content) (longer p.plan id s ns content) id) v.watched (watch_old p.plan id s ns content cs p.pairs p.tree id) kn.watched;
           },
       record {
         spot = a;

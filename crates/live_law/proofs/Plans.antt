@@ -3,7 +3,7 @@ use Rattle.std.proofs.Common.{◌≡◌, ℕ, zero, suc, ◌+◌, ◌-◌, ◌*�
 use mathlib.Core.Logic.{dite}
 use native.Mathlib.Decide.{ℕ_discrete}
 use Rattle.spec_map.specs.Map.{Pairs, lookup}
-use Rattle.live_nodes.specs.Nodes.{Node}
+use Rattle.live_nodes.specs.Nodes.{Content, Node}
 use Rattle.live_encodes.proofs.StandLaws.{few_forms}
 use Rattle.live_law.specs.Levels.{up, digit, Shape, name_of, Covers, way, IsBelow, Spot}
 use Rattle.live_law.specs.Tree.{Plan, home_of, IsSpot, AreNodes, IsTree}
@@ -53,7 +53,7 @@ zero_of : (j : ℕ) → (1 ≤ j → ⊥) → j ≡ 0
 zero_of zero never = refl
 zero_of (suc j) never = absurd (never (omega arith))
 
-module _ (d : Plan) (ns : List Node) (m : Pairs ℕ) (t : IsTree d ns m) where
+module _ (d : Plan) (ns : List Node) (cs : ℕ → Content) (m : Pairs ℕ) (t : IsTree d ns cs m) where
   -- Where no node is, none is below,
   pub none_below : (h x b : ℕ) → h < 8 → b < 256 → d.home (suc h) x ≡ 0 → d.home h (256 * x + b) ≡ 0
   none_below h x b l lo none = zero_of (d.home h (256 * x + b)) (λ there.
@@ -125,4 +125,4 @@ pub same_key : (s t : Shape) → name_of s ≡ name_of t → s.key ≡ t.key
 same_key s t e = let f = few_forms s.form in let g = few_forms t.form in omega (arith, e, f, g)
 
 pub same_name : (d : Plan) (ns : List Node) → AreNodes d ns → (b : Spot) → IsSpot d ns b → (j : ℕ) → 1 ≤ j → j < length ns → name_of b.shape ≡ name_of (d.shape j) → b.number ≡ j
-same_name d ns n b s j some_node low named = n.apart b.number j s.below_trunk some_node s.low low (ap (λ (z : Shape). z.key) s.shaped ∙ same_key b.shape (d.shape j) named)
+same_name d ns n b s j some_node low named = n.apart b.number j s.below_trunk some_node s.low low (s.key ∙ same_key b.shape (d.shape j) named)

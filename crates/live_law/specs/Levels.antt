@@ -17,7 +17,8 @@ abbrev pub digit : ℕ → ℕ → ℕ
 digit zero k = 0
 digit (suc h) k = up h k % 256
 
--- What a node is for good: the key of its version word, its form, its height, and the bytes above it as a number.
+-- What a node is: the key of its version word and its form, for good, and its height and the bytes above it as a number.
+-- These change where it is used again.
 pub record Shape : Type 0 where
   pub key : ℕ
   pub form : NodeType

@@ -11,24 +11,49 @@ pub data Own : Type 0 where
   locked : Spot → Content → Own
   -- it is new, and nobody else knows it
   fresh : Spot → Content → Own
-  -- it is locked, and no part of the map any more
+  -- it is locked, and no part of the map: any more, or as yet
   outgrown : Spot → Own
   -- the trunk is locked
   trunk : Content → Own
 
--- the history that it has seen, nodes of the map that it has met, and its own
+-- A node as it was read below another: the number of the one above, and the word by which that one was free, or none, where
+-- the seat itself has it locked. While that is so, the node is as it was read.
+pub record Watch : Type 0 where
+  pub above : ℕ
+  pub word : Option ℕ
+  pub spot : Spot
+
+abbrev pub watch : ℕ → Option ℕ → Spot → Watch
+watch k w a = record { above = k; word = w; spot = a }
+
+-- The history that it has seen, nodes of the map that it has met, its own, and those that it watches. What a node that it
+-- has met is for good is its key and its form. Its height and the bytes above it are what they were then.
 pub record View : Type 0 where
   pub seen : List (Entry ℕ)
   pub met : List Spot
   pub own : List Own
+  pub watched : List Watch
 
 abbrev pub view_of : List (Entry ℕ) → List Spot → List Own → View
-view_of s m o = record { seen = s; met = m; own = o }
+view_of s m o = record { seen = s; met = m; own = o; watched = [] }
+
+abbrev pub with_own : View → List Own → View
+with_own v os = record { seen = v.seen; met = v.met; own = os; watched = v.watched }
+
+abbrev pub watching : View → Watch → View
+watching v w = record { seen = v.seen; met = v.met; own = v.own; watched = w ∷ [] }
 
 -- what it has to itself, without the last one, and what that is
 abbrev pub rest_of : List Own → List Own
 rest_of [] = []
 rest_of (o ∷ os) = os
+
+-- which node it is
+abbrev pub number_of : Own → ℕ
+number_of (locked a c) = a.number
+number_of (fresh a c) = a.number
+number_of (outgrown a) = a.number
+number_of (trunk c) = 0
 
 abbrev pub content_of : List Own → Content
 content_of [] = []

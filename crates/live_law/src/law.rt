@@ -71,15 +71,13 @@ impl<A: Asks> Lesson<Mine> for Look<A> {
     ghost told = { LearnsNode (Looks A.reads) A.ask };
 }
 
-/// A node was read, and nothing else is learnt.
-pub struct Head<A> {
-    of: PhantomData<A>,
-}
+/// A node was read, and what it is now.
+pub struct Head;
 
-impl<A: Asks> Lesson<Mine> for Head<A> {
-    ghost use Rattle.live_law.specs.Tree.{LearnsNode, Heads};
+impl Lesson<Mine> for Head {
+    ghost use Rattle.live_law.specs.Tree.{LearnsHead};
 
-    ghost told = { LearnsNode Heads A.ask };
+    ghost told = { LearnsHead };
 }
 
 /// A look-up ends at a node that leads on to one without such keys.
@@ -88,9 +86,38 @@ pub struct Miss<A> {
 }
 
 impl<A: Asks> Lesson<Mine> for Miss<A> {
-    ghost use Rattle.live_law.specs.Tree.{LearnsNode, Misses};
+    ghost use Rattle.live_law.specs.Tree.{LearnsMiss};
 
-    ghost told = { LearnsNode Misses A.ask };
+    ghost told = { LearnsMiss A.ask };
+}
+
+/// Below which node another one is read: its number, and the word by which it was free, or none, where the caller's seat has it
+/// locked. A caller picks it.
+pub trait Above {
+    ghost use Rattle.std.specs.Prelude.{ℕ, Option};
+
+    ghost number: { ℕ };
+
+    ghost word: { Option ℕ };
+}
+
+impl Above for Brand {
+    ghost use Rattle.std.specs.Prelude.{None};
+
+    ghost number = { 0 };
+
+    ghost word = { None };
+}
+
+/// A node was read below another one. While that one is what it was, the node is as it was read.
+pub struct Below<N> {
+    of: PhantomData<N>,
+}
+
+impl<N: Above> Lesson<Mine> for Below<N> {
+    ghost use Rattle.live_law.specs.Tree.{LearnsBelow};
+
+    ghost told = { LearnsBelow N.number N.word };
 }
 
 /// A node was locked.
@@ -100,6 +127,15 @@ impl Change<Mine> for Locked {
     ghost use Rattle.live_law.specs.Tree.{LearnsLocked};
 
     ghost told = { LearnsLocked };
+}
+
+/// An obsolete node was locked again.
+pub struct Regained;
+
+impl Change<Mine> for Regained {
+    ghost use Rattle.live_law.specs.Tree.{LearnsRegained};
+
+    ghost told = { LearnsRegained };
 }
 
 /// The trunk was locked.
@@ -138,6 +174,30 @@ impl Change<Mine> for Link {
     ghost use Rattle.live_law.specs.Tree.{Links};
 
     ghost told = { Links };
+}
+
+/// What a node is going to have. A caller picks it.
+pub trait Fills {
+    ghost use Rattle.live_nodes.specs.Nodes.{Content};
+
+    ghost content: { Content };
+}
+
+impl Fills for Brand {
+    ghost use Rattle.std.specs.Prelude.{[]};
+
+    ghost content = { [] };
+}
+
+/// A node is unlocked, and leads to one that is used again.
+pub struct Again<A, C> {
+    of: PhantomData<(A, C)>,
+}
+
+impl<A: Asks, C: Fills> Change<Mine> for Again<A, C> {
+    ghost use Rattle.live_law.specs.Tree.{LinksAgain};
+
+    ghost told = { LinksAgain A.ask C.content };
 }
 
 /// A node is made.

@@ -6,8 +6,8 @@ use Rattle.live_nodes.specs.Seats.{Place, SeatView}
 use Rattle.live_nodes.specs.Rule.{IsLive}
 use Rattle.live_nodes.specs.Acts as acts
 use Rattle.live_nodes.specs.Plays as plays
-use Rattle.live_nodes.specs.Calls.{KnowsPlace, KnowsCell, HoldsCell, InRoom, MayCheck, MayLock, MayFree, MayKeep, MayMake}
-use Rattle.live_nodes.proofs.Steps.{may_take, may_see, may_look, may_check, may_lock, may_write, may_free, may_keep}
+use Rattle.live_nodes.specs.Calls.{KnowsPlace, KnowsCell, HoldsCell, InRoom, MayCheck, MayLock, MayFree, MayMake}
+use Rattle.live_nodes.proofs.Steps.{may_take, may_see, may_look, may_check, may_lock, may_write, may_free}
 use Rattle.live_nodes.proofs.Rooms.{may_put, may_make, may_grow}
 
 -- a multiple of 4
@@ -30,15 +30,20 @@ module _ {V : Type 0} (root : ℕ) (P : List Node → List V → Type 0) (id : �
   pub checks : (told : V → ℕ → ℕ → List (ℕ × ℕ) → List Place → V → Type 0) (word : ℕ) → word % 4 ≡ 0 → MayCheck v key P id told word → Loads R (plays.Checks told) id v key
   checks told word free k = subst (Loads R (plays.Checks told) id v) k.2.1 (may_check root P id v k.0 k.1 (word / 4) told k.2.0 k.3 (k.4 ∙ fourth word free) k.5)
 
-  pub locks : (told : V → ℕ → Content → V → Type 0) (word : ℕ) → word % 4 ≡ 0 → MayLock v key P id told word → Exchanges R (plays.Locks told) id v key word (word + 2)
+  pub locks : (told : V → ℕ → Content → V → Type 0) (word : ℕ) → word % 4 ≡ 0 → MayLock v key P id told word (word + 2) → Exchanges R (plays.Locks told) id v key word (word + 2)
   locks told word free k = let q : ℕ = word / 4 in let is : word ≡ 4 * q = fourth word free in
-      subst (λ (t : ℕ × ℕ). Exchanges R (plays.Locks told) id v t.0 t.1 (t.1 + 2)) (λ i. (k.1.1 i, sym is i))
-      (may_lock root P id v k.0 q told k.1.0 (subst (λ (z : ℕ). acts.Locks P id v.client k.0.number z (told v.client k.0.number)) is k.2))
+      subst (λ (z : ℕ). Exchanges R (plays.Locks told) id v z word (word + 2)) k.1.1
+      (may_lock root P id v k.0 word (word + 2) q told k.1.0 (λ x e. absurd (omega (arith, is, e))) (omega (arith, is)) (omega arith) k.2)
+
+  pub reclaims : (told : V → ℕ → Content → V → Type 0) (word : ℕ) → word % 4 ≡ 3 → MayLock v key P id told word (word + 3) → Exchanges R (plays.Locks told) id v key word (word + 3)
+  reclaims told word odd k = let q : ℕ = word / 4 in let is : word ≡ 4 * q + 3 = omega (arith, div-add-mod' word 4, odd) in
+      subst (λ (z : ℕ). Exchanges R (plays.Locks told) id v z word (word + 3)) k.1.1
+      (may_lock root P id v k.0 word (word + 3) (q + 1) told k.1.0 (λ x e. absurd (omega (arith, is, e))) (omega (arith, is)) (omega arith) k.2)
 
   pub writes : HoldsCell v key → (x : ℕ) → Stores R plays.Writes id v key x
   writes k x = subst (λ (z : ℕ). Stores R plays.Writes id v z x) k.2.2 (may_write root P id v k.0 k.3.0 k.1 x k.2.0 k.3.1 k.2.1)
 
-  -- a held node by its next version, obsolete, or kept and then used again
+  -- a held node by its next version, or obsolete
   frees_as : (told : V → ℕ → Content → V → Type 0) (word x m : ℕ) → word < x → ((x ≡ 4 * m) ⊎ (x ≡ 4 * m + 3)) → MayFree v key P id told word x → Stores R (plays.Frees told) id v key x
   frees_as told word x m later bits k = let above : k.1.word < x = subst (λ (z : ℕ). z < x) (sym k.4) later in
       subst (λ (z : ℕ). Stores R (plays.Frees told) id v z x) k.2.1 (may_free root P id v k.0 k.1 x m told k.2.0 k.3 above bits k.5)
@@ -48,13 +53,6 @@ module _ {V : Type 0} (root : ℕ) (P : List Node → List V → Type 0) (id : �
 
   pub retires : (told : V → ℕ → Content → V → Type 0) (free : ℕ) → free % 4 ≡ 0 → MayFree v key P id told (free + 2) (free + 3) → Stores R (plays.Frees told) id v key (free + 3)
   retires told free e k = let is = fourth free e in frees_as told (free + 2) (free + 3) (free / 4) (omega arith) (inr (omega (arith, is))) k
-
-  pub reuses : (told : V → ℕ → Content → V → Type 0) (free : ℕ) → free % 4 ≡ 0 → MayFree v key P id told (free + 3) (free + 4) → Stores R (plays.Frees told) id v key (free + 4)
-  reuses told free e k = let is = fourth free e in frees_as told (free + 3) (free + 4) (free / 4 + 1) (omega arith) (inl (omega (arith, is))) k
-
-  pub keeps : (told : V → ℕ → Content → V → Type 0) (free : ℕ) → free % 4 ≡ 0 → MayKeep v key P id told (free + 2) (free + 3) → Stores R (plays.Keeps told) id v key (free + 3)
-  keeps told free e k = let is = fourth free e in let above : k.1.word < free + 3 = subst (λ (z : ℕ). z < free + 3) (sym k.4) (let l : free + 2 < free + 3 = omega arith in l) in
-      subst (λ (z : ℕ). Stores R (plays.Keeps told) id v z (free + 3)) k.2.1 (may_keep root P id v k.0 k.1 (free + 3) (free / 4) told k.2.0 k.3 above (omega (arith, is)) k.5)
 
   pub puts : InRoom v key → (x : ℕ) → Stores R plays.Puts id v key x
   puts k x = subst (λ (z : ℕ). Stores R plays.Puts id v z x) k.2 (may_put root P id v k.0 x k.1)

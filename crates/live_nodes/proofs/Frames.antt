@@ -6,7 +6,7 @@ use native.Mathlib.Decide.{ℕ_discrete}
 use lib.ListN.{get_elem?}
 use Rattle.atomic_table.proofs.Lists.{at_set, set_here, set_else, at_longer}
 use Rattle.live_nodes.specs.Nodes.{Content, at, Node, node, node_at, Owner, counts, in_node, in_room, shown, WordFits, IsNode}
-use Rattle.live_nodes.specs.Seats.{Place, Read, Hold, hold, Room, room_at, SeatView, Each, IsIn, Agree, without, with_draft, with_word}
+use Rattle.live_nodes.specs.Seats.{Place, Read, Hold, hold, Room, room_at, SeatView, Each, IsIn, Agree, without, with_draft}
 use Rattle.live_nodes.specs.Rule.{PlaceFits, ReadFits, HoldFits, Knows, RoomFits}
 
 pub below : {A : Type 0} (l : List A) (i : ℕ) (a : A) → get_elem? l i ≡ some a → i < length l
@@ -246,14 +246,6 @@ module _ (ns : List Node) (ds : ℕ → Content) (k : ℕ) (b : Node) (d' : Cont
         (λ e. subst Part (sym (eq-eqb k h.number e))
         ((omega (arith, low, length-set ns k b), ap (λ (z : Node). z.holder) (node_here ns k b low) ∙ held, put_here ds k d', ap (λ (z : Node). z.word) (node_here ns k b low) ∙ (same ∙ (ap (λ (z : ℕ). (node ns z).word) e ∙ all_.0.3))), drafts_last held same hs all_.1))
         (λ ne. subst Part (sym (ne_eqb k h.number ne)) (other_hold h ne all_.0, drafts_last held same hs all_.1))
-
-    -- with a new word, where it still holds the node with its draft
-    pub words_last : b.holder ≡ Some id → d' ≡ ds k → (hs : List Hold) → Each (HoldFits ns ds id) hs → Each F (with_word k b.word hs)
-    words_last held same [] all_ = tt
-    words_last held same (h ∷ hs) all_ = let Part : Bool → Type 0 = λ z. Each F (cond z (hold k b.word h.draft) h ∷ with_word k b.word hs) in dite (ℕ_discrete k h.number)
-        (λ e. subst Part (sym (eq-eqb k h.number e))
-        ((omega (arith, low, length-set ns k b), ap (λ (z : Node). z.holder) (node_here ns k b low) ∙ held, put_here ds k d' ∙ (same ∙ (ap ds e ∙ all_.0.2)), ap (λ (z : Node). z.word) (node_here ns k b low)), words_last held same hs all_.1))
-        (λ ne. subst Part (sym (ne_eqb k h.number ne)) (other_hold h ne all_.0, words_last held same hs all_.1))
 
 -- a new node joins
 module _ (ns : List Node) (ds : ℕ → Content) (b : Node) (d' : Content) where

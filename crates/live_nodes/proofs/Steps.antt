@@ -14,8 +14,8 @@ use Rattle.live_nodes.specs.Seats.{Place, place, Read, read, Hold, no_room, Seat
 use Rattle.live_nodes.specs.Rule.{PlaceFits, ReadFits, HoldFits, Knows, RoomFits, client, IsLive}
 use Rattle.live_nodes.specs.Acts as acts
 use Rattle.live_nodes.specs.Plays as plays
-use Rattle.live_nodes.specs.Plays.{read_of, hold_of, saw_in, took, saw, learned, locked, wrote, freed, kept, Checked, Tried}
-use Rattle.live_nodes.proofs.Frames.{one_only, each_both, each_in, put_at, put_here, put_else, node_here, node_else, same_node, no_count, no_room_node, other_word, node_version, node_cell, room_else, Lasts, place_lasts, knows_lasts, places_last, reads_last, without_lasts, drafts_last, words_last}
+use Rattle.live_nodes.specs.Plays.{read_of, hold_of, saw_in, took, saw, learned, locked, wrote, freed, Fits, Checked, Tried}
+use Rattle.live_nodes.proofs.Frames.{one_only, each_both, each_in, put_at, put_here, put_else, node_here, node_else, same_node, no_count, no_room_node, other_word, node_version, node_cell, room_else, Lasts, place_lasts, knows_lasts, places_last, reads_last, without_lasts, drafts_last}
 
 abbrev value_or : {A : Type 0} → A → Option A → A
 value_or d None = d
@@ -116,9 +116,16 @@ module _ {V : Type 0} (root : ℕ) (P : List Node → List V → Type 0) where
         agreed = agreed_with ns' s.views id w p;
       }
 
+  -- a word that isn't a held node's
+  shown_none : (h : Option ℕ) (c d : Content) (w : ℕ) → WordFits h w → ((m : ℕ) → w ≢ 4 * m + 2) → (h ≡ None) × (shown h c d ≡ c)
+  shown_none None c d w f ne = (refl, refl)
+  shown_none (Some j) c d w f ne = absurd (ne f.0 f.1)
+
+  not_held : (w m : ℕ) → w ≡ 4 * m → (x : ℕ) → w ≢ 4 * x + 2
+  not_held w m e x f = absurd (omega (arith, e, f))
+
   shown_open : (h : Option ℕ) (c d : Content) (w m : ℕ) → WordFits h w → w ≡ 4 * m → (h ≡ None) × (shown h c d ≡ c)
-  shown_open None c d w m f e = (refl, refl)
-  shown_open (Some j) c d w m f e = absurd (⊎_elim (λ (x : w ≡ 4 * f.0 + 2). let y : ⊥ = omega (arith, e, x) in y) (λ (x : w ≡ 4 * f.0 + 3). let y : ⊥ = omega (arith, e, x) in y) f.1)
+  shown_open h c d w m f e = shown_none h c d w f (not_held w m e)
 
   none_held : (h : Option ℕ) (j : ℕ) → h ≡ None → h ≡ Some j → ⊥
   none_held h j e f = no_some j (sym e ∙ f)
@@ -196,7 +203,7 @@ module _ {V : Type 0} (root : ℕ) (P : List Node → List V → Type 0) where
 
   -- CHECK
   pub may_check : (id : ℕ) (v : View) (p : Place) (rd : Read) (q : ℕ) (told : V → ℕ → ℕ → List (ℕ × ℕ) → List Place → V → Type 0) → IsIn p v.places
-      → read_of p.number v.reads ≡ Some rd → rd.word ≡ 4 * q → acts.Learns P id v.client p.number rd.word rd.saw (told v.client p.number rd.word rd.saw) → Loads R (plays.Checks told) id v p.key
+      → read_of p.number v.reads ≡ Some rd → rd.word ≡ 4 * q → acts.Learns P id v.client p.number rd.word rd.saw v.reads (told v.client p.number rd.word rd.saw) → Loads R (plays.Checks told) id v p.key
   may_check id v p rd q told known last free learns s n r seat there =
       let f = r.each_seat id v seat in let k : ℕ = p.number in let a : Node = node r.nodes k in let T = told v.client k rd.word rd.saw in
       let is = is_node s r id v seat p known in let version = word_found s r id v seat p n known there in let found = read_found k v.reads rd last in
@@ -209,7 +216,7 @@ module _ {V : Type 0} (root : ℕ) (P : List Node → List V → Type 0) where
       (λ hit.
       let word : a.word ≡ rd.word = sym version ∙ hit in let open' = (shown_open a.holder a.content (r.drafts k) a.word q is.bits (word ∙ free)).0 in
       let agree : Agree a.content rd.saw = subst (λ (z : ℕ). Agree (node r.nodes z).content rd.saw) found.1 ((fits.1 q free).1 (sym word ∙ ap (λ (z : ℕ). (node r.nodes z).word) (sym found.1))) in
-      let g = learns r.nodes (map client s.views) r.agreed (client_at s id v seat) (here s r id v seat p known).0 word open' agree in
+      let g = learns r.nodes (map client s.views) r.agreed (client_at s id v seat) (here s r id v seat p known).0 word open' agree f.reads in
       let w : View = learned v g.0 g.2.0 in (
         w,
         quiet s r id w (record { places = each_both (PlaceFits r.nodes) g.0 v.places g.1 f.places; reads = f.reads; holds = f.holds }) (r.each_room id v seat) g.2.1,
@@ -220,20 +227,28 @@ module _ {V : Type 0} (root : ℕ) (P : List Node → List V → Type 0) where
   no_more : (s : St) (key x id : ℕ) (w : View) → R (changed s key x id w) → R (grown s key x id w 0)
   no_more s key x id w h = subst (λ (ns : List ℕ). R record { words = ns; views = set s.views id w }) (sym (append-nil (set s.words key x))) h
 
-  -- LOCK
-  pub may_lock : (id : ℕ) (v : View) (p : Place) (q : ℕ) (told : V → ℕ → Content → V → Type 0) → IsIn p v.places
-      → acts.Locks P id v.client p.number (4 * q) (told v.client p.number) → Exchanges R (plays.Locks told) id v p.key (4 * q) (4 * q + 2)
-  may_lock id v p q told known locks s n r seat there =
+  -- what was read under a free node's word is in its content
+  reads_fit : (ns : List Node) (k word : ℕ) → word ≡ (node ns k).word → (m : ℕ) → word ≡ 4 * m → (rs : List Read) → Each (ReadFits ns) rs → Each (Fits k word (node ns k).content) rs
+  reads_fit ns k word is m free [] all_ = tt
+  reads_fit ns k word is m free (r ∷ rs) all_ = (
+    (λ number same. subst (λ (z : ℕ). Agree (node ns z).content r.saw) number ((all_.0.1 m (same ∙ free)).1 (same ∙ (is ∙ ap (λ (z : ℕ). (node ns z).word) (sym number))))),
+    reads_fit ns k word is m free rs all_.1,
+  )
+
+  -- LOCK: a free node, or one that is obsolete
+  pub may_lock : (id : ℕ) (v : View) (p : Place) (word next m : ℕ) (told : V → ℕ → Content → V → Type 0) → IsIn p v.places → ((x : ℕ) → word ≢ 4 * x + 2) → next ≡ 4 * m + 2 → word < next
+      → acts.Locks P id v.client p.number word next (told v.client p.number) → Exchanges R (plays.Locks told) id v p.key word next
+  may_lock id v p old next m₀ told known no_holder odd rises locks s n r seat there =
       let f = r.each_seat id v seat in let k : ℕ = p.number in let a : Node = node r.nodes k in let T = told v.client k in let at_p = here s r id v seat p known in
       let is = is_node s r id v seat p known in let version = word_found s r id v seat p n known there in
-      let all_alike : (w : View) (m : ℕ) → Tried T k (4 * q) p.len v m w → (p' : Place) → IsIn p' v.places → p'.key ≡ p.key → Tried (told v.client p'.number) p'.number (4 * q) p'.len v m w =
+      let all_alike : (w : View) (m : ℕ) → Tried T k old next p.len v m w → (p' : Place) → IsIn p' v.places → p'.key ≡ p.key → Tried (told v.client p'.number) p'.number old next p'.len v m w =
       λ w m c p' known' key. let number : p'.number ≡ k = one_place s r id v seat p' p known' known key in
       let len : p'.len ≡ p.len = sym (here s r id v seat p' known').2 ∙ (ap (λ (z : ℕ). length (node r.nodes z).content) number ∙ at_p.2) in
-      subst (λ (t : ℕ × ℕ). Tried (told v.client t.0) t.0 (4 * q) t.1 v m w) (λ j. (sym number j, sym len j)) c in (
-        (λ (hit : n ≡ 4 * q).
-            let word : a.word ≡ 4 * q = sym version ∙ hit in let open' = shown_open a.holder a.content (r.drafts k) a.word q is.bits word in let b : Node = acts.held_as P id v.client a (4 * q + 2) id in
-            let g = locks r.nodes (map client s.views) r.agreed (client_at s id v seat) at_p.0 word open'.0 in let w : View = locked v g.0 k (4 * q + 2) a.content in
-            let lasts : Lasts a b = record { place = refl; len = refl; later = λ x m e low. (omega (arith, low, word), λ x'. absurd (omega (arith, e, x'))) } in
+      subst (λ (t : ℕ × ℕ). Tried (told v.client t.0) t.0 old next t.1 v m w) (λ j. (sym number j, sym len j)) c in (
+        (λ (hit : n ≡ old).
+            let word : a.word ≡ old = sym version ∙ hit in let open' = shown_none a.holder a.content (r.drafts k) a.word is.bits (λ x e. no_holder x (sym word ∙ e)) in let b : Node = acts.held_as P id v.client a next id in
+            let g = locks r.nodes (map client s.views) r.agreed (client_at s id v seat) at_p.0 word open'.0 in let w : View = locked v g.0 k next a.content in
+            let lasts : Lasts a b = record { place = refl; len = refl; later = λ x m e low. (omega (arith, low, word, rises), λ x'. absurd (omega (arith, e, x', odd))) } in
             let apart : (j : ℕ) → a.holder ≡ Some j → ⊥ = λ j e. none_held a.holder j open'.0 e in
             let still = knows_lasts r.nodes r.drafts k b a.content at_p.0 lasts id v (apart id) f in let now = node_here r.nodes k b at_p.0 in
             let mine : Knows (set r.nodes k b) (put_at r.drafts k a.content) id w = record {
@@ -241,12 +256,12 @@ module _ {V : Type 0} (root : ℕ) (P : List Node → List V → Type 0) where
               reads = still.reads;
               holds = ((omega (arith, at_p.0, length-set r.nodes k b), ap (λ (z : Node). z.holder) now, put_here r.drafts k a.content, ap (λ (z : Node). z.word) now), still.holds);
             } in
-            let new = node_version r.owner k a b (r.drafts k) a.content s.words is refl refl refl (sym open'.1) (q, inl refl) in
-            let new' : IsNode r.owner k b a.content (set s.words p.key (4 * q + 2)) = subst (λ (z : ℕ). IsNode r.owner k b a.content (set s.words z (4 * q + 2))) at_p.1 new in (
+            let made = node_version r.owner k a b (r.drafts k) a.content s.words is refl refl refl (sym open'.1) (m₀, odd) in
+            let new' : IsNode r.owner k b a.content (set s.words p.key next) = subst (λ (z : ℕ). IsNode r.owner k b a.content (set s.words z next)) at_p.1 made in (
               w,
               0,
-              no_more s p.key (4 * q + 2) id w (stepped s r k p.key (4 * q + 2) b a.content id w at_p.0 (word_of s r id v seat p known) new' lasts (λ j _ e. apart j e) mine (r.each_room id v seat) g.1),
-              all_alike w (4 * q) (record { won = λ _. (a.content, g.0, at_p.2, refl {a = w}, g.2); lost = λ ne. absurd (ne refl) }),
+              no_more s p.key next id w (stepped s r k p.key next b a.content id w at_p.0 (word_of s r id v seat p known) new' lasts (λ j _ e. apart j e) mine (r.each_room id v seat) g.1),
+              all_alike w old (record { won = λ _. (a.content, g.0, at_p.2, refl {a = w}, g.2, λ m free. reads_fit r.nodes k old (sym word) m free v.reads f.reads); lost = λ ne. absurd (ne refl) }),
             )),
         (λ ne. (v, silent s r id v v seat refl refl f, all_alike v n (record { won = λ hit. absurd (ne hit); lost = λ _. refl }))),
       )
@@ -329,28 +344,6 @@ module _ {V : Type 0} (root : ℕ) (P : List Node → List V → Type 0) where
         stepped s r k p.key x b h.draft id w at_p.0 (word_of s r id v seat p known) new' lasts (λ j ne e. one_holder a.holder id j is_held ne e) mine' (r.each_room id v seat) g.1,
         (λ p' h' known' key mine''. let number = one_place s r id v seat p' p known' known key in let same = one_hold s r id v seat p h known mine p' h' number mine'' in
             (g.0, (λ j. freed v g.0 (sym number j)), subst (λ (t : ℕ × Hold). told v.client t.0 t.1.draft g.0) (λ j. (sym number j, same j)) g.2)),
-      )
-
-  -- a held node becomes obsolete, and stays held
-  pub may_keep : (id : ℕ) (v : View) (p : Place) (h : Hold) (x m : ℕ) (told : V → ℕ → Content → V → Type 0) → IsIn p v.places → hold_of p.number v.holds ≡ Some h → h.word < x → x ≡ 4 * m + 3
-      → acts.Keeps P id v.client p.number x (told v.client p.number h.draft) → Stores R (plays.Keeps told) id v p.key x
-  may_keep id v p h x m told known mine later bits keeps s n r seat there =
-      let f = r.each_seat id v seat in let k : ℕ = p.number in let a : Node = node r.nodes k in let at_p = here s r id v seat p known in let is = is_node s r id v seat p known in
-      let is_held = held s r id v seat p h known mine in let word_is = word s r id v seat p h known mine in let d : Content = r.drafts k in
-      let rises : a.word < x = omega (arith, later, word_is) in let g = keeps r.nodes (map client s.views) r.agreed (client_at s id v seat) at_p.0 is_held rises in
-      let b : Node = acts.held_as P id v.client a x id in
-      let new = node_version r.owner k a b d d s.words is refl refl is.drafted (sym (ap (λ (z : Option ℕ). shown z a.content d) is_held)) (m, inr bits) in
-      let new' : IsNode r.owner k b d (set s.words p.key x) = subst (λ (z : ℕ). IsNode r.owner k b d (set s.words z x)) at_p.1 new in
-      let lasts : Lasts a b = record { place = refl; len = refl; later = λ y m' e low. (omega (arith, low, rises), λ z. absurd (omega (arith, low, rises, z))) } in let w : View = kept v g.0 k x in
-      let mine' : Knows (set r.nodes k b) (put_at r.drafts k d) id w = record {
-        places = places_last r.nodes r.drafts k b d at_p.0 lasts v.places f.places;
-        reads = reads_last r.nodes r.drafts k b d at_p.0 lasts v.reads f.reads;
-        holds = words_last r.nodes r.drafts k b d at_p.0 lasts id refl refl v.holds f.holds;
-      } in (
-        w,
-        stepped s r k p.key x b d id w at_p.0 (word_of s r id v seat p known) new' lasts (λ j ne e. one_holder a.holder id j is_held ne e) mine' (r.each_room id v seat) g.1,
-        (λ p' h' known' key mine''. let number = one_place s r id v seat p' p known' known key in let same = one_hold s r id v seat p h known mine p' h' number mine'' in
-            (g.0, (λ j. kept v g.0 (sym number j) x), subst (λ (t : ℕ × Hold). told v.client t.0 t.1.draft g.0) (λ j. (sym number j, same j)) g.2)),
       )
 
   -- ENTER

@@ -3,8 +3,8 @@ use Rattle.std.specs.Prelude.{◌≡◌, ◌≢◌, ℕ, ◌+◌, ◌<◌, List,
 use mathlib.Core.Option.{some}
 use lib.ListN.{get_elem?}
 use Rattle.live_nodes.specs.Nodes.{Content, Node, node, node_at}
-use Rattle.live_nodes.specs.Seats.{Place, Each, Agree}
-use Rattle.live_nodes.specs.Rule.{PlaceFits}
+use Rattle.live_nodes.specs.Seats.{Place, Read, Each, Agree}
+use Rattle.live_nodes.specs.Rule.{PlaceFits, ReadFits}
 
 module _ {V : Type 0} (P : List Node → List V → Type 0) (id : ℕ) (v : V) where
   -- The nodes become others, and the seat's view is chosen.
@@ -14,29 +14,25 @@ module _ {V : Type 0} (P : List Node → List V → Type 0) (id : ℕ) (v : V) w
   abbrev pub Whatever : (List Node → List V → Type 0) → Type 0
   Whatever follows = (ns : List Node) (vs : List V) → P ns vs → get_elem? vs id ≡ some v → follows ns vs
 
-  -- A free node's word was found again, so what was read of it is so now. The client may know where other nodes lie.
-  abbrev pub Learns : ℕ → ℕ → List (ℕ × ℕ) → (List Place → V → Type 0) → Type 0
-  Learns k word saw told = Whatever (λ ns vs. k < length ns → (node ns k).word ≡ word
-      → (node ns k).holder ≡ None → Agree (node ns k).content saw
+  -- A free node's word was found again, so what was read of it is so now. What was read of other nodes is so where their
+  -- words are still there. The client may know where other nodes lie.
+  abbrev pub Learns : ℕ → ℕ → List (ℕ × ℕ) → List Read → (List Place → V → Type 0) → Type 0
+  Learns k word saw reads told = Whatever (λ ns vs. k < length ns → (node ns k).word ≡ word
+      → (node ns k).holder ≡ None → Agree (node ns k).content saw → Each (ReadFits ns) reads
       → (ps : List Place) × Each (PlaceFits ns) ps × Goes ns vs (told ps))
 
   abbrev pub held_as : Node → ℕ → ℕ → Node
   held_as a word seat = node_at a.place word a.content (Some seat)
 
-  -- A free node is locked, and its content is known from now on.
-  abbrev pub Locks : ℕ → ℕ → (Content → V → Type 0) → Type 0
-  Locks k word told = Whatever (λ ns vs. k < length ns → (node ns k).word ≡ word → (node ns k).holder ≡ None
-      → Goes (slice_set ns k (held_as (node ns k) (word + 2) id)) vs (told (node ns k).content))
+  -- A node that no seat holds, by this word, is locked by the new one. Its content is known from now on.
+  abbrev pub Locks : ℕ → ℕ → ℕ → (Content → V → Type 0) → Type 0
+  Locks k word new told = Whatever (λ ns vs. k < length ns → (node ns k).word ≡ word → (node ns k).holder ≡ None
+      → Goes (slice_set ns k (held_as (node ns k) new id)) vs (told (node ns k).content))
 
   -- A held node is free again, by this word. Its draft is its content.
   abbrev pub Frees : ℕ → ℕ → Content → (V → Type 0) → Type 0
   Frees k word draft told = Whatever (λ ns vs. k < length ns → (node ns k).holder ≡ Some id → (node ns k).word < word
       → Goes (slice_set ns k (node_at (node ns k).place word draft None)) vs told)
-
-  -- A held node becomes obsolete, and its holder keeps it for another use.
-  abbrev pub Keeps : ℕ → ℕ → (V → Type 0) → Type 0
-  Keeps k word told = Whatever (λ ns vs. k < length ns → (node ns k).holder ≡ Some id → (node ns k).word < word
-      → Goes (slice_set ns k (held_as (node ns k) word id)) vs told)
 
   -- A new node joins, where no other lies. It is free, and nobody but the client knows of it.
   abbrev pub Makes : ℕ → Content → (ℕ → V → Type 0) → Type 0

@@ -33,19 +33,16 @@ module _ {V : Type 0} (v : SeatView V) (key : ℕ) where
     -- The node's word was taken as `word`, which says that it is free, and what was read since is of use.
     abbrev pub MayCheck : (V → ℕ → ℕ → List (ℕ × ℕ) → List Place → V → Type 0) → ℕ → Type 0
     MayCheck told word = (p : Place) × (r : Read) × IsPlace p × (read_of p.number v.reads ≡ Some r) × (r.word ≡ word)
-        × acts.Learns P id v.client p.number r.word r.saw (told v.client p.number r.word r.saw)
+        × acts.Learns P id v.client p.number r.word r.saw v.reads (told v.client p.number r.word r.saw)
 
-    abbrev pub MayLock : (V → ℕ → Content → V → Type 0) → ℕ → Type 0
-    MayLock told word = (p : Place) × IsPlace p × acts.Locks P id v.client p.number word (told v.client p.number)
+    -- No seat holds the node where its word is `word`. It may be locked by the word `new`.
+    abbrev pub MayLock : (V → ℕ → Content → V → Type 0) → ℕ → ℕ → Type 0
+    MayLock told word new = (p : Place) × IsPlace p × acts.Locks P id v.client p.number word new (told v.client p.number)
 
     -- The seat holds the node, whose word is `word`. The node may be free again by the word `new`.
     abbrev pub MayFree : (V → ℕ → Content → V → Type 0) → ℕ → ℕ → Type 0
     MayFree told word new = (p : Place) × (h : Hold) × IsPlace p × (hold_of p.number v.holds ≡ Some h) × (h.word ≡ word)
         × acts.Frees P id v.client p.number new h.draft (told v.client p.number h.draft)
-
-    abbrev pub MayKeep : (V → ℕ → Content → V → Type 0) → ℕ → ℕ → Type 0
-    MayKeep told word new = (p : Place) × (h : Hold) × IsPlace p × (hold_of p.number v.holds ≡ Some h) × (h.word ≡ word)
-        × acts.Keeps P id v.client p.number new (told v.client p.number h.draft)
 
     -- The word is the last of a new node, whose first one is the first of the room, and 0.
     abbrev pub MayMake : (V → ℕ → Content → ℕ → V → Type 0) → ℕ → Type 0

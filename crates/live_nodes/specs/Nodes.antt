@@ -29,10 +29,10 @@ pub data Owner : Type 0 where
   in_node : ℕ → Owner
   in_room : ℕ → Owner
 
--- A free node's word is 4 times its version, and 3 more once it is obsolete. A held one's is 2 more, or 3.
+-- A free node's word is 4 times its version, and 3 more once it is obsolete. A held one's is 2 more.
 abbrev pub WordFits : Option ℕ → ℕ → Type 0
 WordFits None w = (m : ℕ) × ((w ≡ 4 * m) ⊎ (w ≡ 4 * m + 3))
-WordFits (Some id) w = (m : ℕ) × ((w ≡ 4 * m + 2) ⊎ (w ≡ 4 * m + 3))
+WordFits (Some id) w = (m : ℕ) × (w ≡ 4 * m + 2)
 
 -- What its words show: while a seat holds it, what that seat has written so far.
 abbrev pub shown : Option ℕ → Content → Content → Content

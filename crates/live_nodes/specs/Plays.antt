@@ -1,10 +1,10 @@
 -- What each step tells its seat. A `told` is what the client picks.
-use Rattle.std.specs.Prelude.{◌≡◌, ◌≢◌, ℕ, ◌+◌, ◌<◌, List, [], ◌∷◌, ◌++◌, length, slice_index, slice_set, take, drop, replicate, cond, nat_eq, Option, Some, None}
+use Rattle.std.specs.Prelude.{◌≡◌, ◌≢◌, ℕ, ◌+◌, ◌*◌, ◌<◌, List, [], ◌∷◌, ◌++◌, length, slice_index, slice_set, take, drop, replicate, cond, nat_eq, Option, Some, None}
 use mathlib.Core.Option.{some}
 use lib.ListN.{get_elem?}
 use Rattle.word_book.specs.Book.{reads, writes, compares, Tells}
 use Rattle.live_nodes.specs.Nodes.{Content}
-use Rattle.live_nodes.specs.Seats.{Place, Read, Hold, SeatView, seat_view, place, read, hold, room_at, IsIn, without, with_draft, with_word}
+use Rattle.live_nodes.specs.Seats.{Place, Read, Hold, SeatView, seat_view, place, read, hold, room_at, IsIn, Each, Agree, without, with_draft}
 use Rattle.word_segments.specs.Segments.{size}
 use Rattle.live_nodes.specs.Rule.{first_key}
 
@@ -24,6 +24,10 @@ saw_in k x (r ∷ rs) = cond (nat_eq k r.number) (read r.number r.word (x ∷ r.
 -- the content of a new node of n numbers, whose last one is x, by what was written of it
 abbrev pub new_content : Content → ℕ → ℕ → Content
 new_content draft n x = take n (drop 1 (slice_set draft n x))
+
+-- What was read of a node under that word is so in this content.
+abbrev pub Fits : ℕ → ℕ → Content → Read → Type 0
+Fits k word d r = r.number ≡ k → r.word ≡ word → Agree d r.saw
 
 module _ {V : Type 0} where
   abbrev pub took : SeatView V → ℕ → ℕ → SeatView V
@@ -47,9 +51,6 @@ module _ {V : Type 0} where
   abbrev pub freed : SeatView V → V → ℕ → SeatView V
   freed v c k = seat_view c v.places v.reads (without k v.holds) v.room
 
-  abbrev pub kept : SeatView V → V → ℕ → ℕ → SeatView V
-  kept v c k word = seat_view c v.places v.reads (with_word k word v.holds) v.room
-
   abbrev pub put : SeatView V → ℕ → ℕ → SeatView V
   put v i x = seat_view v.client v.places v.reads v.holds (room_at v.room.start (slice_set v.room.draft i x))
 
@@ -66,8 +67,9 @@ module _ {V : Type 0} where
     pub miss : n ≢ word → w ≡ v
 
   -- the node is locked, or not
-  pub record Tried (told : Content → V → Type 0) (k word len : ℕ) (v : SeatView V) (n : ℕ) (w : SeatView V) : Type 0 where
-    pub won : n ≡ word → (d : Content) × (c : V) × (length d ≡ len) × (w ≡ locked v c k (word + 2) d) × told d c
+  pub record Tried (told : Content → V → Type 0) (k word new len : ℕ) (v : SeatView V) (n : ℕ) (w : SeatView V) : Type 0 where
+    pub won : n ≡ word → (d : Content) × (c : V) × (length d ≡ len) × (w ≡ locked v c k new d) × told d c
+        × ((m : ℕ) → word ≡ 4 * m → Each (Fits k word d) v.reads)
     pub lost : n ≢ word → w ≡ v
 
   -- Nothing changes. The number found is the one that the seat has written last, at a word that no other seat writes: of a
@@ -114,7 +116,7 @@ module _ {V : Type 0} where
   Locks told (reads key) v n more w = ⊥
   Locks told (writes key new) v n more w = ⊥
   Locks told (compares key old new) v n more w = (p : Place) → IsIn p v.places → p.key ≡ key
-      → Tried (told v.client p.number) p.number old p.len v n w
+      → Tried (told v.client p.number) p.number old new p.len v n w
 
   -- A number of a held node's content is written.
   abbrev pub Writes : Tells (SeatView V)
@@ -129,13 +131,6 @@ module _ {V : Type 0} where
   Frees told (writes key x) v n more w = (p : Place) (h : Hold) → IsIn p v.places → p.key ≡ key
       → hold_of p.number v.holds ≡ Some h → (c : V) × (w ≡ freed v c p.number) × told v.client p.number h.draft c
   Frees told (compares key old new) v n more w = ⊥
-
-  -- A held node becomes obsolete and stays held.
-  abbrev pub Keeps : (V → ℕ → Content → V → Type 0) → Tells (SeatView V)
-  Keeps told (reads key) v n more w = ⊥
-  Keeps told (writes key x) v n more w = (p : Place) (h : Hold) → IsIn p v.places → p.key ≡ key
-      → hold_of p.number v.holds ≡ Some h → (c : V) × (w ≡ kept v c p.number x) × told v.client p.number h.draft c
-  Keeps told (compares key old new) v n more w = ⊥
 
   -- A number of the seat's own room is written.
   abbrev pub Puts : Tells (SeatView V)

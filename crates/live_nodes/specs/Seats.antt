@@ -68,7 +68,3 @@ without k (h ∷ hs) = cond (nat_eq k h.number) (without k hs) (h ∷ without k 
 abbrev pub with_draft : ℕ → Content → List Hold → List Hold
 with_draft k d [] = []
 with_draft k d (h ∷ hs) = cond (nat_eq k h.number) (hold k h.word d) h ∷ with_draft k d hs
-
-abbrev pub with_word : ℕ → ℕ → List Hold → List Hold
-with_word k w [] = []
-with_word k w (h ∷ hs) = cond (nat_eq k h.number) (hold k w h.draft) h ∷ with_word k w hs

@@ -3,11 +3,11 @@
 //! By its version word a node is free (a multiple of 4), locked (2 more) or obsolete (3 more).
 ghost use Rattle.std.specs.Prelude.{◌≡◌, ℕ, ◌+◌, ◌%◌, ◌<◌, ◌^◌, ◌↔◌, IsTrue};
 ghost use Rattle.word_book.specs.Book.{reads, writes, compares, none_joined, Joined};
-ghost use Rattle.live_nodes.specs.Plays.{Takes, Sees, Looks, Checks, Locks, Writes, Frees, Keeps};
-ghost use Rattle.live_nodes.specs.Calls.{KnowsPlace, KnowsCell, HoldsCell, MayCheck, MayLock, MayFree, MayKeep};
+ghost use Rattle.live_nodes.specs.Plays.{Takes, Sees, Looks, Checks, Locks, Writes, Frees};
+ghost use Rattle.live_nodes.specs.Calls.{KnowsPlace, KnowsCell, HoldsCell, MayCheck, MayLock, MayFree};
 
 use crate::law::{NodeLaw, Seat, Word};
-use crate::plays::{Change, Check, Free, Keep, Lesson, Lock, Look, See, Take, Write};
+use crate::plays::{Change, Check, Free, Lesson, Lock, Look, See, Take, Write};
 
 /// Takes the version word of a node.
 pub fn take<V, L: NodeLaw<V>>(word: &Word<V, L>, seat: &mut Seat<V, L>) -> u64
@@ -63,7 +63,7 @@ pub fn lock<V, L: NodeLaw<V>, M: Change<V>>(
 ) -> bool
     requires book { seat.old.book ≡ word.now.book }
     requires free { (free % 4 ≡ 0) × (free < 2 ^ 63) }
-    requires locks { MayLock seat.old.view word.now.key L.holds seat.old.id M.told free }
+    requires locks { MayLock seat.old.view word.now.key L.holds seat.old.id M.told free (free + 2) }
     ensures seat { (seat.new.book ≡ seat.old.book) × (seat.new.id ≡ seat.old.id) }
     ensures told { (n : ℕ) × (j : Joined) × (IsTrue result ↔ (n ≡ free))
         × Locks M.told (compares word.now.key free (free + 2)) seat.old.view n j seat.new.view }
@@ -93,7 +93,7 @@ pub fn unlock<V, L: NodeLaw<V>, M: Change<V>>(word: &Word<V, L>, free: u64, seat
     word.store::<Free<M>>(free + 4, seat)
 }
 
-/// Makes a held node obsolete, for good.
+/// Makes a held node obsolete. It is so until it is reclaimed.
 pub fn retire<V, L: NodeLaw<V>, M: Change<V>>(word: &Word<V, L>, free: u64, seat: &mut Seat<V, L>)
     requires book { seat.old.book ≡ word.now.book }
     requires free { (free % 4 ≡ 0) × (free < 2 ^ 63) }
@@ -104,25 +104,20 @@ pub fn retire<V, L: NodeLaw<V>, M: Change<V>>(word: &Word<V, L>, free: u64, seat
     word.store::<Free<M>>(free + 3, seat)
 }
 
-/// Makes a held node obsolete, and keeps it for another use.
-pub fn keep<V, L: NodeLaw<V>, M: Change<V>>(word: &Word<V, L>, free: u64, seat: &mut Seat<V, L>)
+/// Locks a node again that is obsolete by this version word. `false` where its word is another. It is free again only once
+/// its holder unlocks it, by the version after that one.
+pub fn reclaim<V, L: NodeLaw<V>, M: Change<V>>(
+    word: &Word<V, L>,
+    obsolete: u64,
+    seat: &mut Seat<V, L>,
+) -> bool
     requires book { seat.old.book ≡ word.now.book }
-    requires free { (free % 4 ≡ 0) × (free < 2 ^ 63) }
-    requires keeps { MayKeep seat.old.view word.now.key L.holds seat.old.id M.told (free + 2) (free + 3) }
+    requires obsolete { (obsolete % 4 ≡ 3) × (obsolete < 2 ^ 63) }
+    requires locks { MayLock seat.old.view word.now.key L.holds seat.old.id M.told obsolete (obsolete + 3) }
     ensures seat { (seat.new.book ≡ seat.old.book) × (seat.new.id ≡ seat.old.id) }
-    ensures told { Keeps M.told (writes word.now.key (free + 3)) seat.old.view (free + 3) none_joined seat.new.view }
+    ensures told { (n : ℕ) × (j : Joined) × (IsTrue result ↔ (n ≡ obsolete))
+        × Locks M.told (compares word.now.key obsolete (obsolete + 3)) seat.old.view n j seat.new.view }
 {
-    word.store::<Keep<M>>(free + 3, seat)
-}
-
-/// Uses a node again that was kept. It is free by the next version, with what was written since.
-pub fn reuse<V, L: NodeLaw<V>, M: Change<V>>(word: &Word<V, L>, free: u64, seat: &mut Seat<V, L>)
-    requires book { seat.old.book ≡ word.now.book }
-    requires free { (free % 4 ≡ 0) × (free < 2 ^ 63) }
-    requires frees { MayFree seat.old.view word.now.key L.holds seat.old.id M.told (free + 3) (free + 4) }
-    ensures seat { (seat.new.book ≡ seat.old.book) × (seat.new.id ≡ seat.old.id) }
-    ensures told { Frees M.told (writes word.now.key (free + 4)) seat.old.view (free + 4) none_joined seat.new.view }
-{
-    let next = free + 4;
-    word.store::<Free<M>>(next, seat)
+    let (found, _) = word.compare_exchange::<Lock<M>>(obsolete, obsolete + 3, seat);
+    found == obsolete
 }

@@ -1,5 +1,5 @@
 //! What the steps tell, and what a caller picks of it.
-ghost use Rattle.live_nodes.specs.Plays.{Takes, Sees, Looks, Idles, Checks, Locks, Writes, Frees, Keeps, Puts, Makes, Grows, Meets};
+ghost use Rattle.live_nodes.specs.Plays.{Takes, Sees, Looks, Idles, Checks, Locks, Writes, Frees, Puts, Makes, Grows, Meets};
 
 use crate::law::{NodeLaw, View};
 use std::marker::PhantomData;
@@ -89,14 +89,6 @@ pub struct Free<M> {
 
 impl<V, L: NodeLaw<V>, M: Change<V>> Play<View<V, L>> for Free<M> {
     ghost then = { Frees M.told };
-}
-
-pub struct Keep<M> {
-    of: PhantomData<M>,
-}
-
-impl<V, L: NodeLaw<V>, M: Change<V>> Play<View<V, L>> for Keep<M> {
-    ghost then = { Keeps M.told };
 }
 
 pub struct Put;

@@ -1,5 +1,5 @@
 -- What was read at one moment, and one after the other.
-use Rattle.std.proofs.Common.{◌≡◌, ◌⊎◌, ℕ, ◌/◌, ◌%◌, ◌<◌, ◌≤◌, Bool, true, cond, nat_lt, nat_eq, List, [], ◌++◌, refl, sym, ap, ◌∙◌, subst, inl, inr, arith, append-nil, append_assoc}
+use Rattle.std.proofs.Common.{◌≡◌, ◌⊎◌, ℕ, ◌/◌, ◌%◌, ◌<◌, ◌≤◌, Bool, true, cond, nat_lt, nat_eq, List, [], ◌++◌, Option, Some, None, IfSome, refl, sym, ap, ◌∙◌, subst, inl, inr, arith, append-nil, append_assoc}
 use Rattle.std.proofs.lemmas.Bool.{cases_lt, lt-ltb, le-ltb}
 use Rattle.spec_map.specs.Map.{Pairs, lookup, Rises}
 use Rattle.spec_map.proofs.JoinLaws.{Rises-append, lookup-append_left, lookup-append_right}
@@ -135,6 +135,18 @@ read_since up older old new low high ps first r = record {
   leaf = r.leaf;
   ascend = r.ascend;
 }
+
+pub none_since : (id : ℕ) (u v w : Seen) (Is : ℕ → Type 0) → HasSeen v.client.seen id u.client.seen → HasNone id v w Is → HasNone id u w Is
+none_since id u v w Is first n = record {
+  fits = has_seen_then id u.client.seen v.client.seen w.client.seen first n.fits;
+  pairs = n.pairs;
+  legal = n.legal;
+  none = n.none;
+}
+
+pub nones_since : (id : ℕ) (u v w : Seen) (Is : ℕ → ℕ → Type 0) (r : Option ℕ) → HasSeen v.client.seen id u.client.seen → IfSome r (λ b. HasNone id v w (Is b)) → IfSome r (λ b. HasNone id u w (Is b))
+nones_since id u v w Is None first h = tt
+nones_since id u v w Is (Some b) first h = none_since id u v w (Is b) first h
 
 pub reads_since : (id : ℕ) (u v w : Seen) (low high : ℕ) (ps : Pairs ℕ) → HasSeen v.client.seen id u.client.seen → ReadsOn id v w low high ps → ReadsOn id u w low high ps
 reads_since id u v w low high ps first r = record {

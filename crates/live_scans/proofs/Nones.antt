@@ -3,39 +3,38 @@ use Rattle.std.proofs.Common.{◌≡◌, ◌≢◌, ℕ, zero, suc, ◌+◌, ◌
 use Rattle.spec_map.specs.Map.{Pairs, lookup, Rises}
 use Rattle.node_table.specs.TableNode.{Child}
 use Rattle.node_table.specs.declared.child.Child.TheVariants.{Payload, Node as Below}
-use Rattle.share_rule.specs.inner.Rule.{HasSeen}
+use Rattle.word_book.specs.Book.{Book, Name}
 use Rattle.live_nodes.specs.Seats.{SeatView}
-use Rattle.live_encodes.specs.Encodes.{IsBelow, IsWord, payload_of}
+use Rattle.live_encodes.specs.Encodes.{IsBelow, payload_of}
 use Rattle.live_order.specs.Order.{HasNearest}
 use Rattle.live_order.specs.Page.{AreListed}
-use Rattle.live_law.specs.Levels.{up, digit, Covers, Spot}
+use Rattle.live_law.specs.Levels.{up, digit, Covers}
 use Rattle.live_law.specs.Views.{View}
 use Rattle.live_law.specs.Tree.{IsOfKind}
 use Rattle.live_law.proofs.Plans.{way-key, joined, up-up, digit-low}
-use Rattle.live_calls.specs.Ways.{Names, Leaves}
+use Rattle.live_calls.specs.Ways.{Names}
+use Rattle.live_calls.specs.Forks.{IsForked}
 use Rattle.live_scans.specs.inner.Moments.{HasUnder, IsRead, HasNone, IsByteBefore, IsWithin, IsBeside, IsPassed, ReadsOn}
+use Rattle.live_scans.specs.inner.Forks.{IsAside}
 use Rattle.live_scans.proofs.Uppers.{up-rises}
 use Rattle.live_scans.proofs.Composed.{one_moment, none_read}
 
 abbrev Seen : Type 0
 Seen = SeatView View
 
-pub seen_same : (id : ℕ) (v w : Seen) → w.client ≡ v.client → HasSeen v.client.seen id v.client.seen → HasSeen w.client.seen id v.client.seen
-seen_same id v w e h = subst (λ (z : View). HasSeen z.seen id v.client.seen) (sym e) h
-
 -- WITHIN
 within_found : (fs : List (ℕ × Child ℕ)) (first b d : ℕ) (found : Option (ℕ × ℕ)) → first ≤ d → d ≤ b → HasNearest true fs first found → IsByteBefore found first (Some b) → lookup fs d ≡ None
 within_found fs first b d None low high near is = near d low
 within_found fs first b d (Some e) low high near is = let l = is.1 in near.2 d low (omega (arith, high, l))
 
-module _ (id : ℕ) (v w : Seen) (name key height : ℕ) (n : Names v name key height) (saw : List (ℕ × ℕ)) (x : IsRead id v.client n.spot saw w.client) where
+module _ (id : ℕ) (v w : Seen) (name key height : ℕ) (n : Names v name key height) (word : ℕ) (saw : List (ℕ × ℕ)) (x : IsRead id v.client n.spot n.spot.shape word saw w.client) where
   pub covers_like : (k : ℕ) → up height k ≡ up height key → Covers n.spot.shape k
   covers_like k e = subst (λ (z : ℕ). up z k ≡ up z key) (sym n.high) e ∙ n.covers
 
-  pub at_digit : (k : ℕ) → HasUnder v.client.met x.pairs k (lookup x.its.children (digit n.spot.shape.height k)) → HasUnder v.client.met x.pairs k (lookup x.its.children (digit height k))
-  at_digit k h = subst (λ (z : ℕ). HasUnder v.client.met x.pairs k (lookup x.its.children (digit z k))) n.high h
+  pub at_digit : (k : ℕ) → HasUnder v.client n.spot.number word x.pairs k (lookup x.node.its.children (digit n.spot.shape.height k)) → HasUnder v.client n.spot.number word x.pairs k (lookup x.node.its.children (digit height k))
+  at_digit k h = subst (λ (z : ℕ). HasUnder v.client n.spot.number word x.pairs k (lookup x.node.its.children (digit z k))) n.high h
 
-  pub has_none_within : (byte : ℕ) (found : Option (ℕ × ℕ)) (r : Option ℕ) → byte ≡ digit height key → HasNearest true x.its.children byte found → IsByteBefore found byte r → IfSome r (λ b. HasNone id v w (IsWithin height key b))
+  pub has_none_within : (byte : ℕ) (found : Option (ℕ × ℕ)) (r : Option ℕ) → byte ≡ digit height key → HasNearest true x.node.its.children byte found → IsByteBefore found byte r → IfSome r (λ b. HasNone id v w (IsWithin height key b))
   has_none_within byte found None is near before = tt
   has_none_within byte found (Some b) is near before = record {
     fits = x.fits;
@@ -43,48 +42,65 @@ module _ (id : ℕ) (v w : Seen) (name key height : ℕ) (n : Names v name key h
     legal = x.legal;
     none = λ k l.
         let low = l.1 in
-        let none : lookup x.its.children (digit height k) ≡ None = within_found x.its.children byte b (digit height k) found (omega (arith, is, low)) l.2 near before in
-        subst (λ (o : Option (Child ℕ)). HasUnder v.client.met x.pairs k o) none (at_digit k (x.under k (covers_like k l.0)));
+        let none : lookup x.node.its.children (digit height k) ≡ None = within_found x.node.its.children byte b (digit height k) found (omega (arith, is, low)) l.2 near before in
+        subst (λ (o : Option (Child ℕ)). HasUnder v.client n.spot.number word x.pairs k o) none (at_digit k (x.under k (covers_like k l.0)));
   }
 
-  -- BESIDE
-  module _ (below at b : ℕ) (l : Leaves v below key at b) where
-    not_covered : (k : ℕ) → up (at - 1) k ≢ 256 * up at key + b → Covers l.sighted.spot.shape k → ⊥
-    not_covered k other covers = let lower = l.lower in other (sym (way-key l.sighted.spot.shape (at - 1) k covers (omega (arith, lower))) ∙ l.byte_is)
+-- BESIDE
+module _ (id : ℕ) (v w : Seen) (book : Book) (words : List Name) (t name key height at b : ℕ) (l : IsAside v book words t name key height at b) (x : IsRead id v.client l.forked.names.spot l.forked.names.spot.shape t l.forked.saw w.client) where
+  abbrev f : IsForked v book words t name key height
+  f = l.forked
 
-    under_node : (h k word : ℕ) (o : Option (Child ℕ)) → 2 ≤ h → IsOfKind h o → IsBelow o (Some word) → ((s : ℕ) → IsWord word (Below s) → s ≡ below) → up (at - 1) k ≢ 256 * up at key + b → HasUnder v.client.met x.pairs k o → lookup x.pairs k ≡ None
-    under_node h k word None high kind is spells other u = absurd is
-    under_node zero k word (Some y) high kind is spells other u = absurd kind
-    under_node (suc zero) k word (Some y) high kind is spells other u = absurd (omega (arith, high))
-    under_node (suc (suc h)) k word (Some (Payload y)) high kind is spells other u = absurd kind
-    under_node (suc (suc h)) k word (Some (Below s)) high kind is spells other u = u l.sighted.spot l.sighted.met (spells s is ∙ l.sighted.named) (not_covered k other)
+  not_covered : (k : ℕ) → up (at - 1) k ≢ 256 * up at key + b → Covers f.watch.spot.shape k → ⊥
+  not_covered k other covers = let lower = l.lower in other (sym (way-key f.watch.spot.shape (at - 1) k covers (omega (arith, lower))) ∙ l.byte_is)
 
-    same_up : (k : ℕ) → 1 ≤ height → up (height - 1) k ≡ up (height - 1) key → up height k ≡ up height key
-    same_up k some e = subst (λ (z : ℕ). up z k ≡ up z key) (let s : suc (height - 1) ≡ height = omega (arith, some) in s) (ap (λ (z : ℕ). z / 256) e)
+  under_node : (h k : ℕ) (o : Option (Child ℕ)) → 2 ≤ h → IsOfKind h o → IsBelow o (Some f.word) → up (at - 1) k ≢ 256 * up at key + b → HasUnder v.client f.names.spot.number t x.pairs k o → lookup x.pairs k ≡ None
+  under_node h k None high kind is other u = absurd is
+  under_node zero k (Some y) high kind is other u = absurd kind
+  under_node (suc zero) k (Some y) high kind is other u = absurd (omega (arith, high))
+  under_node (suc (suc h)) k (Some (Payload y)) high kind is other u = absurd kind
+  under_node (suc (suc h)) k (Some (Below s)) high kind is other u = u f.watch f.known f.above f.free_by (f.spells s is) (not_covered k other)
 
-    same_digit : (k : ℕ) → 1 ≤ height → up (height - 1) k ≡ up (height - 1) key → digit height k ≡ digit height key
-    same_digit k some e = subst (λ (z : ℕ). digit z k ≡ digit z key) (let s : suc (height - 1) ≡ height = omega (arith, some) in s) (ap (λ (z : ℕ). z % 256) e)
+  same_up : (k : ℕ) → 1 ≤ height → up (height - 1) k ≡ up (height - 1) key → up height k ≡ up height key
+  same_up k some e = subst (λ (z : ℕ). up z k ≡ up z key) (let s : suc (height - 1) ≡ height = omega (arith, some) in s) (ap (λ (z : ℕ). z / 256) e)
 
-    pub has_none_beside : (byte word : ℕ) → 2 ≤ height → byte ≡ digit height key → IsBelow (lookup x.its.children byte) (Some word) → ((s : ℕ) → IsWord word (Below s) → s ≡ below) → HasNone id v w (IsBeside height key at b)
-    has_none_beside byte word some is found spells = record {
-      fits = x.fits;
-      pairs = x.pairs;
-      legal = x.legal;
-      none = λ k h.
-          let d : byte ≡ digit height k = is ∙ sym (same_digit k (omega (arith, some)) h.0) in
-          let kind : IsOfKind height (lookup x.its.children (digit height k)) = subst (λ (z : ℕ). IsOfKind z (lookup x.its.children (digit height k))) n.high (x.of_kind (digit height k) (digit-low height k)) in
-          under_node height k word (lookup x.its.children (digit height k)) some kind (subst (λ (z : ℕ). IsBelow (lookup x.its.children z) (Some word)) d found) spells h.1
-          (at_digit k (x.under k (covers_like k (same_up k (omega (arith, some)) h.0))));
-    }
+  same_digit : (k : ℕ) → 1 ≤ height → up (height - 1) k ≡ up (height - 1) key → digit height k ≡ digit height key
+  same_digit k some e = subst (λ (z : ℕ). digit z k ≡ digit z key) (let s : suc (height - 1) ≡ height = omega (arith, some) in s) (ap (λ (z : ℕ). z % 256) e)
+
+  pub has_none_beside : 2 ≤ height → HasNone id v w (IsBeside height key at b)
+  has_none_beside some = record {
+    fits = x.fits;
+    pairs = x.pairs;
+    legal = x.legal;
+    none = λ k h.
+        let d : digit height key ≡ digit height k = sym (same_digit k (omega (arith, some)) h.0) in
+        let o : Option (Child ℕ) = lookup x.node.its.children (digit height k) in
+        let kind : IsOfKind height o = subst (λ (z : ℕ). IsOfKind z o) f.names.high (x.of_kind (digit height k) (digit-low height k)) in
+        let found = f.finds x.node.content x.node.its x.node.agrees x.node.encodes x.node.in_form in
+        under_node height k o some kind (subst (λ (z : ℕ). IsBelow (lookup x.node.its.children z) (Some f.word)) d found) h.1
+        (at_digit id v w name key height f.names t f.saw x k (x.under k (covers_like id v w name key height f.names t f.saw x k (same_up k (omega (arith, some)) h.0))));
+  }
 
 -- A LEAF
-pub leaf_value : (met : List Spot) (m : Pairs ℕ) (k : ℕ) (o : Option (Child ℕ)) → IsOfKind 1 o → HasUnder met m k o → payload_of o ≡ lookup m k
-leaf_value met m k None kind u = sym u
-leaf_value met m k (Some (Payload x)) kind u = sym u
-leaf_value met m k (Some (Below s)) kind u = absurd kind
+pub leaf_value : (v : View) (number word : ℕ) (m : Pairs ℕ) (k : ℕ) (o : Option (Child ℕ)) → IsOfKind 1 o → HasUnder v number word m k o → payload_of o ≡ lookup m k
+leaf_value v number word m k None kind u = sym u
+leaf_value v number word m k (Some (Payload x)) kind u = sym u
+leaf_value v number word m k (Some (Below s)) kind u = absurd kind
 
-pub leaf_reads : (id : ℕ) (v w : Seen) (name base from to : ℕ) (n : Names v name (base + from) 1) (saw : List (ℕ × ℕ)) (x : IsRead id v.client n.spot saw w.client) (ps : Pairs ℕ) → base % 256 ≡ 0 → from ≤ to → to ≤ 255 → AreListed x.its base from (to + 1) ps → ReadsOn id v w (base + from) (base + to + 1) ps
-leaf_reads id v w name base from to n saw x ps whole low high listed = record {
+-- what the map has at a key of the leaf
+pub value_at : (id : ℕ) (v w : Seen) (name base from to : ℕ) (n : Names v name (base + from) 1) (word : ℕ) (saw : List (ℕ × ℕ)) (x : IsRead id v.client n.spot n.spot.shape word saw w.client) → base % 256 ≡ 0 → from ≤ 255 → to ≤ 255 → (k : ℕ) → base ≤ k → k < base + to + 1 → payload_of (lookup x.node.its.children (k - base)) ≡ lookup x.pairs k
+value_at id v w name base from to n word saw x whole small high k lk hk =
+    let b : ℕ = k - base in
+    let is : base + b ≡ k = omega (arith, lk) in
+    let up1 : up 1 k ≡ up 1 (base + from) = omega (arith, whole, lk, hk, high, small) in
+    let dig : digit 1 k ≡ b = omega (arith, whole, lk, hk, high) in
+    let covers : Covers n.spot.shape k = subst (λ (z : ℕ). up z k ≡ up z (base + from)) (sym n.high) up1 ∙ n.covers in
+    let kind : IsOfKind 1 (lookup x.node.its.children b) = subst (λ (z : ℕ). IsOfKind z (lookup x.node.its.children b)) n.high (x.of_kind b (omega (arith, hk, high, is))) in
+    let under : HasUnder v.client n.spot.number word x.pairs k (lookup x.node.its.children b) = subst (λ (z : ℕ). HasUnder v.client n.spot.number word x.pairs k (lookup x.node.its.children z)) (ap (λ (z : ℕ). digit z k) n.high ∙ dig) (x.under k covers) in
+    leaf_value v.client n.spot.number word x.pairs k (lookup x.node.its.children b) kind under
+
+pub leaf_reads : (id : ℕ) (v w : Seen) (name base from to : ℕ) (n : Names v name (base + from) 1) (word : ℕ) (saw : List (ℕ × ℕ)) (x : IsRead id v.client n.spot n.spot.shape word saw w.client) (ps : Pairs ℕ) → base % 256 ≡ 0 → from ≤ to → to ≤ 255 → AreListed x.node.its base from (to + 1) ps → ReadsOn id v w (base + from) (base + to + 1) ps
+leaf_reads id v w name base from to n word saw x ps whole low high listed = record {
   fits = x.fits;
   legal = (x.pairs, x.legal);
   read = one_moment true v.client.seen w.client.seen x.pairs (base + from) (base + to + 1) ps x.fits.begins x.legal
@@ -92,12 +108,8 @@ leaf_reads id v w name base from to n saw x ps whole low high listed = record {
       (λ k lk hk.
       let b : ℕ = k - base in
       let is : base + b ≡ k = omega (arith, lk) in
-      let up1 : up 1 k ≡ up 1 (base + from) = omega (arith, whole, lk, hk, high, low) in
-      let dig : digit 1 k ≡ b = omega (arith, whole, lk, hk, high, low) in
-      let covers : Covers n.spot.shape k = subst (λ (z : ℕ). up z k ≡ up z (base + from)) (sym n.high) up1 ∙ n.covers in
-      let kind : IsOfKind 1 (lookup x.its.children b) = subst (λ (z : ℕ). IsOfKind z (lookup x.its.children b)) n.high (x.of_kind b (omega (arith, hk, high, is))) in
-      let under : HasUnder v.client.met x.pairs k (lookup x.its.children b) = subst (λ (z : ℕ). HasUnder v.client.met x.pairs k (lookup x.its.children z)) (ap (λ (z : ℕ). digit z k) n.high ∙ dig) (x.under k covers) in
-      subst (λ (z : ℕ). lookup ps z ≡ lookup x.pairs k) is (listed.value b (omega (arith, lk, is)) (omega (arith, hk, is)) ∙ leaf_value v.client.met x.pairs k (lookup x.its.children b) kind under));
+      let value = value_at id v w name base from to n word saw x whole (omega (arith, low, high)) high k (omega (arith, lk)) hk in
+      subst (λ (z : ℕ). lookup ps z ≡ lookup x.pairs k) is (listed.value b (omega (arith, lk, is)) (omega (arith, hk, is)) ∙ value));
 }
 
 -- RANGES of keys

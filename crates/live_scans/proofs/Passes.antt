@@ -38,11 +38,8 @@ passed_since c id u v w key last is first p = record {
 }
 
 -- what is next on the way of a reader, which isn't a look-up
-pub follow_none : (look : Bool) (q : Ask) (v w : Seen) (key height : ℕ) (o : Option Next) → Follows (Ended look q None) v w key height o → o ≡ None → w.client.seen ≡ v.client.seen
-follow_none look q v w key height o f e = subst (λ (z : Option Next). Follows (Ended look q None) v w key height z) e f
-
 pub follow_ends : (look : Bool) (q : Ask) (v w : Seen) (key height : ℕ) (o : Option Next) → look ≡ false → Follows (Ended look q None) v w key height o → o ≡ Some nexts.Ends → w.client.seen ≡ v.client.seen
-follow_ends look q v w key height o is f e = ap (λ (z : View). z.seen) (subst (λ (b : Bool). Ended b q None v w) is (subst (λ (z : Option Next). Follows (Ended look q None) v w key height z) e f))
+follow_ends look q v w key height o is f e = subst (λ (b : Bool). Ended b q None v w) is (subst (λ (z : Option Next). Follows (Ended look q None) v w key height z) e f)
 
 -- THE STEPS OF A PAGE
 pub gap_step : (id : ℕ) (u w : Seen) (key limit start last l : ℕ) (buffer : List (ℕ × ℕ)) → IsPassed id u w key last → l ≤ last → l ≤ limit → (l < limit → l ≡ last) → key ≤ l → start < length buffer → IsStep id u w key limit start buffer start l

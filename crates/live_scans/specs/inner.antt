@@ -1,3 +1,4 @@
 pub mod Moments
+pub mod Forks
 pub mod Steps
 pub mod Stops

@@ -6,6 +6,7 @@
 //! Tested in `test_live_scans`.
 #![tactic(auto)]
 
+pub mod fork;
 pub mod keys;
 pub mod laws;
 pub mod lesson;

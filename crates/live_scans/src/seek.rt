@@ -5,8 +5,8 @@ ghost use Rattle.live_calls.specs.Ways.{KnowsTrunk, Keeps};
 ghost use Rattle.live_scans.specs.inner.Stops.{Stops};
 
 use crate::steps::{around, gap};
-use live_calls::sight::{Next, follow};
-use live_calls::way::{Nodes, Pass, root};
+use live_calls::sight::{Next, step};
+use live_calls::way::{Nodes, Pass, open, root};
 use live_law::law::Asks;
 
 /// Where a reader's way ends: at the leaf of its key, or above. Then this key and all before it, from its own on, are
@@ -29,8 +29,10 @@ pub fn seek<A: Asks>(nodes: &Nodes, key: u64, pass: &mut Pass) -> Option<Stop>
 {
     let mut name = root(nodes, key, pass)?;
     let mut height = 8usize;
+    let mut here = open(nodes, name, pass)?;
     while height > 1 {
-        match follow::<A>(nodes, name, height, key, pass)? {
+        let step = step::<A>(nodes, here, name, height, key, pass)?;
+        match step.next {
             Next::Ends => {
                 let last = gap::<A>(nodes, name, height, key, pass)?;
                 return Some(Stop::Gap(last));
@@ -38,6 +40,7 @@ pub fn seek<A: Asks>(nodes: &Nodes, key: u64, pass: &mut Pass) -> Option<Stop>
             Next::Goes(below, lower) => {
                 name = below;
                 height = lower;
+                here = step.here;
             }
             Next::Forks(fork) => {
                 let last = around::<A>(nodes, name, height, fork, key, pass)?;

@@ -6,17 +6,18 @@ ghost use Rattle.live_order.specs.Page.{pairs_of};
 ghost use Rattle.live_calls.specs.Ways.{Names, Leaves, Keeps};
 ghost use Rattle.live_scans.specs.inner.Moments.{HasNone, IsByteBefore, IsWithin, IsBeside, IsPassed, ReadsOn};
 
+use crate::fork::watch;
 use crate::keys::last_of;
 use crate::lesson::Whole;
-use live_calls::sight::Fork;
-use live_calls::way::{Nodes, Pass, byte_at, words_at};
-use live_encodes::form::{form_below, slot_below};
-use live_encodes::search::find;
+use live_calls::sight::{Fork, enter};
+use live_calls::way::{Nodes, Opened, Pass, byte_at};
+use live_encodes::form::form_below;
 use live_law::law::{Asks, Levels, Mine};
 use live_nodes::node;
 use live_order::nearest::nearest;
 use live_order::page::{Filled, Part, RangeEntry, fill};
 use live_rows::rows::Row;
+use std::marker::Brand;
 
 // The byte before the one that was found, or the last of all. `None` where that one is the first.
 fn byte_before(found: Option<(u8, u64)>, first: u8) -> Option<u8>
@@ -48,13 +49,10 @@ fn last_byte<A: Asks>(
         × IfSome result (λ b. HasNone pass.old.id pass.old.view pass.new.view
         (IsWithin height key b)) }
 {
-    let words = words_at(nodes, name)?;
+    let here = enter(nodes, name, height, key, pass)?;
+    let Opened { words, taken } = here;
     let form = form_below(name);
     let byte = byte_at(key, height);
-    let taken = node::take(&words[0], pass);
-    if taken % 4 != 0 {
-        return None;
-    }
     let row = Row { words };
     let found = nearest(&row, form, true, byte, pass);
     if !node::check::<Mine, Levels, Whole<A>>(&words[0], taken, pass) {
@@ -84,23 +82,13 @@ pub fn leads_aside<A: Asks>(
         × (IsTrue result → HasNone pass.old.id pass.old.view pass.new.view
         (IsBeside height key fork.at fork.byte)) }
 {
-    let Some(words) = words_at(nodes, name) else {
+    let Some(here) = enter(nodes, name, height, key, pass) else {
         return false;
     };
-    let form = form_below(name);
-    let byte = byte_at(key, height);
-    let taken = node::take(&words[0], pass);
-    if taken % 4 != 0 {
+    if !watch::<Brand>(nodes, here, name, height, fork, key, pass) {
         return false;
     }
-    let row = Row { words };
-    let Some(word) = find(&row, form, byte, pass) else {
-        return false;
-    };
-    if slot_below(word) != fork.below {
-        return false;
-    }
-    node::check::<Mine, Levels, Whole<A>>(&words[0], taken, pass)
+    node::check::<Mine, Levels, Whole<A>>(&here.words[0], here.taken, pass)
 }
 
 /// Writes a part of a leaf into a buffer, from a place there on. `None` where a writer came in between.
@@ -129,12 +117,9 @@ pub fn leaf_page<A: Asks, P: RangeEntry>(
         (part.base + part.first) (part.base + f.reached + 1)
         (drop start (take f.count (pairs_of P.pair buffer.new)))) }
 {
-    let words = words_at(nodes, name)?;
+    let here = enter(nodes, name, 1, part.base + part.first as u64, pass)?;
+    let Opened { words, taken } = here;
     let form = form_below(name);
-    let taken = node::take(&words[0], pass);
-    if taken % 4 != 0 {
-        return None;
-    }
     let row = Row { words };
     let filled = fill(&row, form, part, buffer, start, pass);
     if !node::check::<Mine, Levels, Whole<A>>(&words[0], taken, pass) {

@@ -1,8 +1,8 @@
 -- The entries of calls are true: they lead from a map with what was found to what is left of it.
-use Rattle.std.proofs.Common.{◌≡◌, ◌≢◌, ℕ, Bool, nat_eq, List, [], ◌∷◌, ◌++◌, Option, Some, None, Result, Ok, Err, if◌then◌else◌, refl, sym, ap, ◌∙◌, subst, eq-eqb}
+use Rattle.std.proofs.Common.{◌≡◌, ℕ, Bool, nat_eq, List, [], ◌∷◌, ◌++◌, Option, Some, None, Result, Ok, Err, if◌then◌else◌, refl, sym, ap, ◌∙◌, subst, eq-eqb}
 use Rattle.spec_map.specs.Call.{Operation, old_value, exchanged}
 use Rattle.spec_map.specs.Legal.{IsLegal, Allows, exchange, after_exchange, after_operation}
-use Rattle.spec_map.specs.Map.{Pairs, lookup, without, with_answer}
+use Rattle.spec_map.specs.Map.{Pairs, lookup, without}
 use Rattle.spec_map.specs.Refusal.{never}
 use Rattle.spec_map.proofs.MapLaws.{without-absent}
 use Rattle.share_rule.specs.History.{Entry, entry, operations_of, IsHistory}

@@ -1,4 +1,3 @@
-pub mod Ordered
 pub mod Rising
 pub mod Sought
 pub mod Seeks

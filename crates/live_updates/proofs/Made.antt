@@ -1,5 +1,5 @@
 -- A call that ends by what was found, or by an update.
-use Rattle.std.proofs.Common.{◌≡◌, ◌≢◌, ℕ, Bool, List, Option, Some, None, IsSome, Result, Ok, Err, if◌then◌else◌, rules, ◌∙◌, subst, eq-eqb, ne_eqb}
+use Rattle.std.proofs.Common.{◌≡◌, ◌≢◌, ℕ, Bool, List, Option, Some, None, IsSome, Ok, Err, if◌then◌else◌, rules, subst, eq-eqb, ne_eqb}
 use Rattle.share_rule.specs.History.{Entry}
 use Rattle.live_nodes.specs.Seats.{SeatView}
 use Rattle.live_law.specs.Views.{View}

@@ -1,5 +1,5 @@
 -- The keys of a map ascend, whatever its history.
-use Rattle.std.proofs.Common.{◌≡◌, ℕ, ◌+◌, ◌<◌, ◌≤◌, nat_eq, List, [], ◌∷◌, Option, Some, None, Result, Ok, Err, sym, ap, subst, arith}
+use Rattle.std.proofs.Common.{◌≡◌, ℕ, ◌+◌, nat_eq, List, [], ◌∷◌, Option, Some, None, Result, Ok, Err, sym, subst, arith}
 use Rattle.spec_map.specs.Map.{Pairs, Rises, lookup, put, without, with_answer}
 use Rattle.spec_map.specs.Call.{Call, get, insert, remove, compare_exchange, compute_if_present, compute_or_insert, is_empty, keys, range, nearest, count}
 use Rattle.spec_map.specs.Call.{ClosureCall, Answer, replied, refused, Operation}

@@ -1,5 +1,5 @@
 -- What a seat knows after a node was read in a look-up.
-use Rattle.std.proofs.Common.{◌≡◌, ◌≢◌, ℕ, ◌*◌, ◌≤◌, zero, suc, List, ◌∷◌, ◌++◌, Option, Some, None, refl, sym, ap, ◌∙◌, subst, arith}
+use Rattle.std.proofs.Common.{◌≡◌, ◌≢◌, ℕ, ◌*◌, ◌≤◌, zero, suc, Bool, true, false, IsTrue, List, ◌∷◌, ◌++◌, Option, Some, None, refl, sym, ap, ◌∙◌, subst, arith}
 use Rattle.node_table.specs.TableNode.{TableNode, Child}
 use Rattle.node_table.specs.declared.child.Child.TheVariants.{Payload, Node as Below}
 use Rattle.spec_map.specs.Map.{lookup}
@@ -8,37 +8,53 @@ use Rattle.word_book.specs.Book.{Book, Name, reads, none_joined}
 use Rattle.live_nodes.specs.Calls.{MayCheck}
 use Rattle.live_nodes.specs.Nodes.{Content}
 use Rattle.live_nodes.specs.Plays as Plays
-use Rattle.live_nodes.specs.Plays.{Takes, Checks}
+use Rattle.live_nodes.specs.Plays.{Checks}
 use Rattle.live_nodes.specs.Seats.{Place, Read, read, SeatView, seat_view, IsIn, Agree}
 use Rattle.live_rows.specs.Rows.{last_saw, without_reads}
-use Rattle.live_encodes.specs.Encodes.{IsBelow, IsWord, Encodes}
-use Rattle.live_law.specs.Levels.{up, digit, Spot, Covers, place_at}
+use Rattle.live_encodes.specs.Encodes.{IsBelow, Encodes}
+use Rattle.live_law.specs.Levels.{up, digit, Shape, Spot, spot, Covers, place_at}
 use Rattle.live_law.specs.Views.{View}
-use Rattle.live_law.specs.Tree.{IsMap, LearnsNode, IsOfKind, Answers}
-use Rattle.live_calls.specs.Ways.{Names, AreNamed, Keeps}
-use Rattle.live_calls.specs.Exchanges.{IsNoWay, MayLeave}
-use Rattle.live_calls.proofs.Views.{head_read, reading, reading_keeps, learned_keeps, reads_on, node_taken}
-use Rattle.live_calls.proofs.Sights.{leaves_none}
+use Rattle.live_law.specs.Tree.{IsMap, IsOfKind, Answers}
+use Rattle.live_calls.specs.Forks.{IsForked}
+use Rattle.live_calls.specs.Ways.{IsOpen, Keeps, Sights}
+use Rattle.live_calls.proofs.Views.{learned_keeps, may_check_open, open_checked, open_missed}
 use Rattle.live_updates.specs.declared.lookup.Site.{Site}
 use Rattle.live_updates.specs.declared.lookup.Site.TheVariants as sites
-use Rattle.live_updates.specs.inner.Lookups.{Lookup, IsLookup, asked_by, HasEnded, MayEnd, Seeks, Found, EndsBy, Sought}
+use Rattle.live_updates.specs.inner.Lookups.{Lookup, IsLookup, asked_by, MayEnd, MaySight, Seeks, LearnsSeek, EndsBy, Found, Lacks, Sought}
 use Rattle.live_updates.proofs.Sought.{node_seeks}
 
 abbrev Seen : Type 0
 Seen = SeatView View
 
 -- What ends changes the history alone.
-pub ended_keeps : (c : ℕ) (o : Option (Entry ℕ)) (v w : View) → MayEnd c o v w → (w.met ≡ v.met) × (w.own ≡ v.own)
+ended_keeps : (c : ℕ) (o : Option (Entry ℕ)) (v w : View) → MayEnd c o v w → (w.met ≡ v.met) × (w.own ≡ v.own)
 ended_keeps c None v w e = (ap (λ (z : View). z.met) e, ap (λ (z : View). z.own) e)
 ended_keeps c (Some x) v w e = (ap (λ (z : View). z.met) e.is, ap (λ (z : View). z.own) e.is)
 
-pub ended_by : (c : ℕ) (o : Option (Entry ℕ)) (v w : Seen) → MayEnd c o v.client w.client → EndsBy c o v w
+ended_by : (c : ℕ) (o : Option (Entry ℕ)) (v w : Seen) → MayEnd c o v.client w.client → EndsBy c o v w
 ended_by c None v w e = ap (λ (z : View). z.seen) e
 ended_by c (Some x) v w e = e.answers
 
 pub ends_later : (c : ℕ) (o : Option (Entry ℕ)) (u v w : Seen) → v.client.seen ≡ u.client.seen → EndsBy c o v w → EndsBy c o u w
 ends_later c None u v w e n = n ∙ e
 ends_later c (Some x) u v w e n = subst (λ (z : List (Entry ℕ)). Answers c x z w.client.seen) e n
+
+pub lacks_later : (q : Lookup) (b : Bool) (u v w : Seen) → v.client.seen ≡ u.client.seen → Lacks q b v w → Lacks q b u w
+lacks_later q true u v w e l = ends_later q.caller (q.entry None) u v w e l
+lacks_later q false u v w e l = l ∙ e
+
+off_on : false ≡ true → ⊥
+off_on e = cc
+
+pub lacks_by : (q : Lookup) (b : Bool) (v w : Seen) → (IsTrue b → EndsBy q.caller (q.entry None) v w) → ((IsTrue b → ⊥) → w.client.seen ≡ v.client.seen) → Lacks q b v w
+lacks_by q true v w ends same = ends refl
+lacks_by q false v w ends same = same off_on
+
+pub lacks_so : (q : Lookup) (b : Bool) (v w : Seen) → b ≡ true → Lacks q b v w → EndsBy q.caller (q.entry None) v w
+lacks_so q b v w e l = subst (λ (z : Bool). Lacks q z v w) e l
+
+pub lacks_not : (q : Lookup) (b : Bool) (v w : Seen) → b ≡ false → Lacks q b v w → w.client.seen ≡ v.client.seen
+lacks_not q b v w e l = subst (λ (z : Bool). Lacks q z v w) e l
 
 pub sought_later : (q : Lookup) (o : Option Site) (u v w : Seen) → v.client.seen ≡ u.client.seen → Sought q o v w → Sought q o u w
 sought_later q None u v w e s = s ∙ e
@@ -48,88 +64,110 @@ sought_later q (Some (sites.At name x)) u v w e s = (ends_later q.caller (q.entr
 pub sought_none : (q : Lookup) (o : Option Site) (v w : Seen) → o ≡ None → w.client.seen ≡ v.client.seen → Sought q o v w
 sought_none q o v w e same = subst (λ (z : Option Site). Sought q z v w) (sym e) same
 
-pub found_some : (q : Lookup) (o : Option (Option ℕ)) (x : Option ℕ) (v w : Seen) → Found q o v w → o ≡ Some x → MayEnd q.caller (q.entry x) v.client w.client
+pub found_some : (q : Lookup) (o : Option (Option ℕ)) (x : Option ℕ) (v w : Seen) → Found q o v w → o ≡ Some x → EndsBy q.caller (q.entry x) v w
 found_some q o x v w f e = subst (λ (z : Option (Option ℕ)). Found q z v w) e f
 
-pub found_none : (q : Lookup) (o : Option (Option ℕ)) (v w : Seen) → Found q o v w → o ≡ None → w.client ≡ v.client
+pub found_none : (q : Lookup) (o : Option (Option ℕ)) (v w : Seen) → Found q o v w → o ≡ None → w.client.seen ≡ v.client.seen
 found_none q o v w f e = subst (λ (z : Option (Option ℕ)). Found q z v w) e f
 
-module _ (q : Lookup) (v w : Seen) (a : Spot) (ps : List Place) (rs : List Read) (c : View) (is : w ≡ seat_view c (ps ++ v.places) rs v.holds v.room) where
-  ended : (found : Option ℕ) → MayEnd q.caller (q.entry found) v.client c → Keeps v w × MayEnd q.caller (q.entry found) v.client w.client
+pub may_sight : (v : Seen) (o : Option ℕ) (b : ℕ) → o ≡ Some b → MaySight v o → Sights v b
+may_sight v o b e s = subst (λ (z : Option ℕ). MaySight v z) e s
+
+-- A value ends a call in a leaf alone.
+abbrev pub IsEnd : ℕ → Option ℕ → Type 0
+IsEnd height None = Unit {0}
+IsEnd height (Some x) = height ≡ 1
+
+module _ (q : Lookup) (v w : Seen) (ps : List Place) (rs : List Read) (c : View) (is : w ≡ seat_view c (ps ++ v.places) rs v.holds v.room) where
+  ended : (found : Option ℕ) → MayEnd q.caller (q.entry found) v.client c → Keeps v w × EndsBy q.caller (q.entry found) v w
   ended found f = let k = ended_keeps q.caller (q.entry found) v.client c f in (
     learned_keeps v w ps c rs is (λ z in_it. subst (λ (l : List Spot). IsIn z l) (sym k.0) in_it) k.1,
-    subst (λ (z : Seen). MayEnd q.caller (q.entry found) v.client z.client) (sym is) f,
+    ended_by q.caller (q.entry found) v w (subst (λ (z : Seen). MayEnd q.caller (q.entry found) v.client z.client) (sym is) f),
   )
 
-  at_end : (o : Option (Child ℕ)) (found : Option ℕ) → IsOfKind 1 o → IsBelow o found → Seeks q (asked_by q) v.client a o ps c → Keeps v w × MayEnd q.caller (q.entry found) v.client w.client
-  at_end None None kind below then = ended None then
-  at_end None (Some y) kind below then = absurd below
-  at_end (Some z) None kind below then = absurd below
-  at_end (Some (Payload z)) (Some y) kind below then = subst (λ (t : ℕ). Keeps v w × MayEnd q.caller (q.entry (Some t)) v.client w.client) (sym below) (ended (Some z) then)
-  at_end (Some (Below s)) (Some y) kind below then = absurd kind
+  at_end : (word height : ℕ) (a : Spot) (o : Option (Child ℕ)) (found : Option ℕ) → IsEnd height found → IsOfKind height o → IsBelow o found → Seeks q word (asked_by q) v.client a o ps c → Keeps v w × EndsBy q.caller (q.entry found) v w
+  at_end word height a None None end kind below then = ended None then
+  at_end word height a None (Some y) end kind below then = absurd below
+  at_end word height a (Some z) None end kind below then = absurd below
+  at_end word height a (Some (Payload z)) (Some y) end kind below then = subst (λ (t : ℕ). Keeps v w × EndsBy q.caller (q.entry (Some t)) v w) (sym below) (ended (Some z) then)
+  at_end word height a (Some (Below s)) (Some y) end kind below then = absurd (subst (λ (h : ℕ). IsOfKind h (Some (Below s))) end kind)
 
-  -- nothing is there, or a node whose way the key leaves
-  absent : (o : Option (Child ℕ)) (found below : Option ℕ) (height : ℕ) → 2 ≤ height → IsOfKind height o → IsBelow o found → IsNoWay found below → MayLeave v q.key below → Seeks q (asked_by q) v.client a o ps c
-      → Keeps v w × MayEnd q.caller (q.entry None) v.client w.client
-  absent None found below height high kind is none leaves then = ended None then
-  absent (Some z) None below height high kind is none leaves then = absurd is
-  absent (Some z) (Some y) None height high kind is none leaves then = absurd none
-  absent (Some z) (Some y) (Some b) zero high kind is none leaves then = absurd kind
-  absent (Some z) (Some y) (Some b) (suc zero) high kind is none leaves then = absurd (omega (arith, high))
-  absent (Some (Payload z)) (Some y) (Some b) (suc (suc h)) high kind is none leaves then = absurd kind
-  absent (Some (Below s)) (Some y) (Some b) (suc (suc h)) high kind is none leaves then =
-      let l = leaves.2 in
-      ended None (then l.sighted.spot l.sighted.met (none s is ∙ l.sighted.named) (leaves_none v b q.key leaves.0 leaves.1 l))
-
-module _ (v : Seen) (name key height : ℕ) (n : Names v name key height) (b : Book) (words : List Name) (are : AreNamed b name words) (k : ℕ) (at_k : (place_at n.spot).key ≡ k) (v₁ : Seen) (t : ℕ) (took_it : Takes (reads k) v t none_joined v₁) (v₂ : Seen) (rest : without_reads v₂ ≡ without_reads v₁) where
+-- AN OPEN NODE was read.
+module _ (v : Seen) (b : Book) (words : List Name) (t name key height : ℕ) (o : IsOpen v b words t name key height) (v₂ : Seen) (rest : without_reads v₂ ≡ without_reads v) (k : ℕ) (at_k : (place_at o.names.spot).key ≡ k) (q : Lookup) (asked : q.key ≡ key) where
   abbrev its : Spot
-  its = n.spot
+  its = o.names.spot
 
   abbrev saw_it : List (ℕ × ℕ)
   saw_it = last_saw v₂.reads
 
-  node_read : v₂ ≡ reading v its.number t saw_it
-  node_read = reads_on v v₂ its.number t (rest ∙ ap without_reads (node_taken v name key height n b words are k at_k v₁ t took_it))
+  pub may_seek : (law : IsLookup q) (id m : ℕ) → q.caller ≡ id → t ≡ 4 * m → MayCheck v₂ k IsMap id (LearnsSeek q) t
+  may_seek law id m by even = may_check_open v b words t its o.names.placed o.opened v₂ rest k at_k (LearnsSeek q) id (node_seeks q law id by v.client its o.names.met t saw_it m even (read its.number t saw_it ∷ o.opened.before))
 
-  pub seek_read : Keeps v v₂ × (v₂.client ≡ v.client)
-  seek_read = reading_keeps v v₂ its.number t saw_it node_read
+  module _ (w : Seen) (m : ℕ) (told : Checks (LearnsSeek q) (reads k) v₂ m none_joined w) where
+    pub seek_missed : m ≢ t → Keeps v w × (w.client ≡ v.client)
+    seek_missed ne = open_missed v b words t its o.names.placed o.opened v₂ rest k at_k (LearnsSeek q) w m told ne
 
-  module _ (k' : ℕ) (at_k' : (place_at n.spot).key ≡ k') (q : Lookup) (asked : q.key ≡ key) where
-    abbrev Then : View → ℕ → ℕ → List (ℕ × ℕ) → List Place → View → Type 0
-    Then = LearnsNode (Seeks q) (asked_by q)
+    -- what was read before is so still
+    pub seek_ends : m ≡ t → ((c : Content) → Agree c saw_it → Agree c o.opened.saw) → (found : Option ℕ) → IsEnd height found
+        → ((c : Content) (n : TableNode ℕ) → Agree c saw_it → Encodes c n → n.form ≡ its.shape.form → IsBelow (lookup n.children (digit height key)) found)
+        → Keeps v w × EndsBy q.caller (q.entry found) v w
+    seek_ends hit kept found end finds =
+        let h = (open_checked v b words t its o.names.placed o.opened v₂ rest k at_k (LearnsSeek q) w m told).hit hit in
+        let x = h.3 its o.names.met refl in
+        let shape_is : x.shape ≡ its.shape = o.sure x.shape record {
+          now = x.is.now;
+          content = x.is.content;
+          its = x.is.its;
+          agrees = kept x.is.content x.is.agrees;
+          encodes = x.is.encodes;
+          in_form = x.is.in_form;
+          deep = x.is.deep;
+          prefixed = x.is.prefixed;
+        } in
+        let under : Option (Child ℕ) = lookup x.is.its.children (digit its.shape.height q.key) in
+        let covers : Covers its.shape q.key = ap (up its.shape.height) asked ∙ o.names.covers in
+        let below : IsBelow under found = subst (λ (z : ℕ × ℕ). IsBelow (lookup x.is.its.children (digit z.0 z.1)) found) (λ i. (sym o.names.high i, sym asked i)) (finds x.is.content x.is.its x.is.agrees x.is.encodes x.is.in_form) in
+        let kind : IsOfKind its.shape.height under = subst (λ (z : Shape). IsOfKind z.height (lookup x.is.its.children (digit z.height q.key))) shape_is x.of_kind in
+        let then : Seeks q t (asked_by q) v.client its under h.0 h.1 = subst (λ (z : Shape). Covers z q.key → Seeks q t (asked_by q) v.client (spot its.number z) (lookup x.is.its.children (digit z.height q.key)) h.0 h.1) shape_is x.on_way covers in
+        at_end q v w h.0 (read its.number t saw_it ∷ o.opened.before) h.1 h.2 t height its under found end (subst (λ (z : ℕ). IsOfKind z under) o.names.high kind) below then
 
-    covers : Covers its.shape q.key
-    covers = ap (up its.shape.height) asked ∙ n.covers
+-- AN OPEN NODE was read that leads on to one whose way the key leaves.
+module _ (v : Seen) (b : Book) (words : List Name) (t name key height : ℕ) (f : IsForked v b words t name key height) (high : 2 ≤ height) (k : ℕ) (at_k : (place_at f.names.spot).key ≡ k) (q : Lookup) (asked : q.key ≡ key) where
+  abbrev x : Spot
+  x = f.names.spot
 
-    pub may_seek_node : (law : IsLookup q) (id m : ℕ) → q.caller ≡ id → t ≡ 4 * m → MayCheck v₂ k' IsMap id Then t
-    may_seek_node law id m by even = subst (λ (z : Seen). MayCheck z k' IsMap id Then t) (sym node_read)
-        (place_at its, read its.number t saw_it, (n.placed, at_k'), head_read its.number t saw_it v.reads, refl, node_seeks q law id by v.client its n.met t saw_it m even)
+  pub may_part : (law : IsLookup q) (id m : ℕ) → q.caller ≡ id → t ≡ 4 * m → MayCheck v k IsMap id (LearnsSeek q) t
+  may_part law id m by even = (place_at x, read x.number t f.saw, (f.names.placed, at_k), f.reads, refl, node_seeks q law id by v.client x f.names.met t f.saw m even v.reads)
 
-    module _ (w : Seen) (m : ℕ) (told : Checks Then (reads k') v₂ m none_joined w) where
-      node_checked : Plays.Checked (Then v.client its.number t saw_it) t (reading v its.number t saw_it) m w
-      node_checked = subst (λ (z : Seen). Checks Then (reads k') z m none_joined w) node_read told (place_at its) (read its.number t saw_it) n.placed at_k' (head_read its.number t saw_it v.reads)
+  module _ (w : Seen) (m : ℕ) (told : Checks (LearnsSeek q) (reads k) v m none_joined w) where
+    part_checked : Plays.Checked (LearnsSeek q v.client x.number t f.saw) t v m w
+    part_checked = told (place_at x) (read x.number t f.saw) f.names.placed at_k f.reads
 
-      pub seek_missed : m ≢ t → Keeps v w × (w.client ≡ v.client)
-      seek_missed ne = reading_keeps v w its.number t saw_it (node_checked.miss ne)
+    pub part_lost : m ≢ t → Keeps v w × (w.client.seen ≡ v.client.seen)
+    part_lost ne = subst (λ (z : Seen). Keeps v z × (z.client.seen ≡ v.client.seen)) (sym (part_checked.miss ne))
+        (record { places = λ p h. h; met = λ s h. h; own = refl; holds = refl; room = refl }, refl)
 
-      pub seek_ends : m ≡ t → height ≡ 1 → (found : Option ℕ)
-          → ((c : Content) (o : TableNode ℕ) → Agree c saw_it → Encodes c o → o.form ≡ its.shape.form → IsBelow (lookup o.children (digit height key)) found)
-          → Keeps v w × MayEnd q.caller (q.entry found) v.client w.client
-      seek_ends hit leaf found finds =
-          let h = node_checked.hit hit in
-          let r = h.3 its n.met refl in
-          let below : IsBelow (lookup r.its.children (digit its.shape.height q.key)) found =
-          subst (λ (z : ℕ × ℕ). IsBelow (lookup r.its.children (digit z.0 z.1)) found) (λ i. (sym n.high i, sym asked i)) (finds r.content r.its r.agrees r.encodes r.in_form) in
-          at_end q v w its h.0 (read its.number t saw_it ∷ v.reads) h.1 h.2 (lookup r.its.children (digit its.shape.height q.key)) found
-          (subst (λ (z : ℕ). IsOfKind z (lookup r.its.children (digit its.shape.height q.key))) (n.high ∙ leaf) r.of_kind) below (r.on_way covers)
+    aside : (lv : ℕ) (o : Option (Child ℕ)) (ps : List Place) (c : View) → 2 ≤ lv → IsOfKind lv o → IsBelow o (Some f.word) → Seeks q t (asked_by q) v.client x o ps c → MayEnd q.caller (q.entry None) v.client c
+    aside lv None ps c tall kind below then = absurd below
+    aside zero (Some z) ps c tall kind below then = absurd kind
+    aside (suc zero) (Some z) ps c tall kind below then = absurd (omega (arith, tall))
+    aside (suc (suc lv)) (Some (Payload z)) ps c tall kind below then = absurd kind
+    aside (suc (suc lv)) (Some (Below s)) ps c tall kind below then = then f.watch record {
+      known = f.known;
+      above = f.above;
+      free_by = f.free_by;
+      named = f.spells s below;
+      leaves = λ covers. f.leaves (ap (up f.watch.spot.shape.height) (sym asked) ∙ covers);
+    }
 
-      pub seek_absent : m ≡ t → 2 ≤ height → (found below : Option ℕ) → IsNoWay found below → MayLeave v key below
-          → ((c : Content) (o : TableNode ℕ) → Agree c saw_it → Encodes c o → o.form ≡ its.shape.form → IsBelow (lookup o.children (digit height key)) found)
-          → Keeps v w × MayEnd q.caller (q.entry None) v.client w.client
-      seek_absent hit high found below none leaves finds =
-          let h = node_checked.hit hit in
-          let r = h.3 its n.met refl in
-          let is : IsBelow (lookup r.its.children (digit its.shape.height q.key)) found =
-          subst (λ (z : ℕ × ℕ). IsBelow (lookup r.its.children (digit z.0 z.1)) found) (λ i. (sym n.high i, sym asked i)) (finds r.content r.its r.agrees r.encodes r.in_form) in
-          absent q v w its h.0 (read its.number t saw_it ∷ v.reads) h.1 h.2 (lookup r.its.children (digit its.shape.height q.key)) found below height high
-          (subst (λ (z : ℕ). IsOfKind z (lookup r.its.children (digit its.shape.height q.key))) n.high r.of_kind) is none (subst (λ (z : ℕ). MayLeave v z below) (sym asked) leaves) (r.on_way covers)
+    pub part_ends : m ≡ t → Keeps v w × EndsBy q.caller (q.entry None) v w
+    part_ends hit =
+        let h = part_checked.hit hit in
+        let y = h.3 x f.names.met refl in
+        let shape_is : y.shape ≡ x.shape = f.sure y.shape y.is in
+        let under : Option (Child ℕ) = lookup y.is.its.children (digit x.shape.height q.key) in
+        let covers : Covers x.shape q.key = ap (up x.shape.height) asked ∙ f.names.covers in
+        let kind : IsOfKind x.shape.height under = subst (λ (z : Shape). IsOfKind z.height (lookup y.is.its.children (digit z.height q.key))) shape_is y.of_kind in
+        let then : Seeks q t (asked_by q) v.client x under h.0 h.1 = subst (λ (z : Shape). Covers z q.key → Seeks q t (asked_by q) v.client (spot x.number z) (lookup y.is.its.children (digit z.height q.key)) h.0 h.1) shape_is y.on_way covers in
+        let below : IsBelow under (Some f.word) = subst (λ (z : ℕ × ℕ). IsBelow (lookup y.is.its.children (digit z.0 z.1)) (Some f.word)) (λ i. (sym f.names.high i, sym asked i)) (f.finds y.is.content y.is.its y.is.agrees y.is.encodes y.is.in_form) in
+        ended q v w h.0 v.reads h.1 h.2 None (aside x.shape.height under h.0 h.1 (subst (λ (z : ℕ). 2 ≤ z) (sym f.names.high) high) kind below then)

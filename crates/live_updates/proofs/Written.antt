@@ -1,18 +1,16 @@
 -- A leaf where a key was given another value, or none, by what is known of the writing.
-use Rattle.std.proofs.Common.{◌≡◌, ℕ, ◌≤◌, List, length, Option, Some, None, sym, ap, ◌∙◌, subst, arith}
+use Rattle.std.proofs.Common.{◌≡◌, ℕ, ◌≤◌, List, length, Option, Some, None, sym, ◌∙◌, subst, arith}
 use Rattle.node_base.specs.Form.{limit}
 use Rattle.node_base.specs.declared.base_node.NodeType.{NodeType}
 use Rattle.node_table.specs.TableNode.{TableNode}
 use Rattle.spec_map.specs.Map.{lookup}
 use Rattle.spec_map.proofs.ByteMapLaws.{length-from_Rises}
 use Rattle.live_nodes.specs.Nodes.{Content}
-use Rattle.live_nodes.specs.Seats.{SeatView}
 use Rattle.live_encodes.specs.Encodes.{counted, most, HasChildren, IsCounted, Encodes, with_child}
 use Rattle.live_law.specs.Levels.{digit}
-use Rattle.live_law.specs.Views.{View}
 use Rattle.live_law.specs.Tree.{HasValue}
 use Rattle.live_updates.specs.declared.leaf.Missed.{Missed}
-use Rattle.live_updates.specs.inner.Updates.{Update, child_for, IsSet, Updated}
+use Rattle.live_updates.specs.inner.Updates.{Update, child_for, IsSet}
 
 abbrev Sets : ℕ → Option ℕ → Option ℕ → NodeType → Option Missed → Content → Content → Type 0
 Sets byte old new form r c d = (n : TableNode ℕ) → Encodes c n → n.form ≡ form → length n.prefix ≡ 7 → IsSet byte old new r c d n

@@ -1,5 +1,5 @@
 -- THE ENTRIES of calls in a history, by what they return.
-use Rattle.std.specs.Prelude.{ℕ, Option, Some, None, Result}
+use Rattle.std.specs.Prelude.{ℕ, Option, None, Result}
 use Rattle.spec_map.specs.Call.{remove, compare_exchange, old_value, exchanged, replied}
 use Rattle.share_rule.specs.History.{Entry, entry}
 

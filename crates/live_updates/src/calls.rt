@@ -1,14 +1,14 @@
 //! Removals and exchanges.
-ghost use Rattle.std.specs.Prelude.{◌≡◌, ℕ, [], IfOk, IfSome, OnErr};
+ghost use Rattle.std.specs.Prelude.{◌≡◌, IfOk, IfSome, OnErr};
 ghost use Rattle.std.specs.Option.{option_map};
 ghost use Rattle.live_law.specs.Known.{MadeCall};
-ghost use Rattle.live_calls.specs.Ways.{KnowsTrunk};
 ghost use Rattle.live_calls.specs.Calls.{IsReady};
 ghost use Rattle.live_updates.specs.Entries.{removed, swapped};
 ghost use Rattle.live_updates.specs.inner.Lookups.{swap_of, EndsBy};
 
-use crate::leaf::update_here;
+use crate::leaf::exchange_here;
 use crate::lookup::{Site, seek};
+use live_calls::link::Room;
 use live_calls::map::{Busy, Congee, Guard, TRIES};
 use live_calls::way::{Nodes, Pass};
 use std::marker::Brand;
@@ -28,19 +28,18 @@ impl Swaps for Brand {
 }
 
 /// Removes a key: the value that it had. `None` where a writer came in between.
-fn remove_once(nodes: &Nodes, key: u64, pass: &mut Pass) -> Option<Option<u64>>
+fn remove_once(nodes: &Nodes, key: u64, room: &mut Room, pass: &mut Pass) -> Option<Option<u64>>
     requires book { pass.old.book ≡ nodes.now }
-    requires trunk { KnowsTrunk pass.old.view }
-    requires rests { (pass.old.view.client.own ≡ []) × (pass.old.view.holds ≡ []) }
+    requires ready { IsReady pass.old.view room.old }
     ensures told { (pass.new.book ≡ pass.old.book) × (pass.new.id ≡ pass.old.id)
-        × ((start left : ℕ) → IsReady pass.old.view start left → IsReady pass.new.view start left)
+        × IsReady pass.new.view room.new
         × EndsBy pass.old.id (option_map (removed pass.old.id key) result)
         pass.old.view pass.new.view }
 {
     match seek::<Brand>(nodes, key, pass)? {
         Site::Absent => Some(None),
         Site::At(leaf, value) => {
-            if update_here::<Brand>(nodes, leaf, key, Some(value), None, pass).is_some() {
+            if exchange_here::<Brand>(nodes, leaf, key, Some(value), None, room, pass).is_some() {
                 return None;
             }
             Some(Some(value))
@@ -54,14 +53,14 @@ fn exchange_once<X: Swaps>(
     key: u64,
     old: u64,
     new: Option<u64>,
+    room: &mut Room,
     pass: &mut Pass,
 ) -> Option<Result<Option<u64>, Option<u64>>>
     requires book { pass.old.book ≡ nodes.now }
     requires swap { X.swap ≡ swap_of pass.old.id key old new }
-    requires trunk { KnowsTrunk pass.old.view }
-    requires rests { (pass.old.view.client.own ≡ []) × (pass.old.view.holds ≡ []) }
+    requires ready { IsReady pass.old.view room.old }
     ensures told { (pass.new.book ≡ pass.old.book) × (pass.new.id ≡ pass.old.id)
-        × ((start left : ℕ) → IsReady pass.old.view start left → IsReady pass.new.view start left)
+        × IsReady pass.new.view room.new
         × EndsBy pass.old.id (option_map (swapped pass.old.id key old new) result)
         pass.old.view pass.new.view }
     ensures stored { IfSome result (λ answer. IfOk answer (λ stored. stored ≡ new)) }
@@ -72,7 +71,7 @@ fn exchange_once<X: Swaps>(
             if value != old {
                 return Some(Err(Some(value)));
             }
-            if update_here::<Brand>(nodes, leaf, key, Some(old), new, pass).is_some() {
+            if exchange_here::<Brand>(nodes, leaf, key, Some(old), new, room, pass).is_some() {
                 return None;
             }
             Some(Ok(new))
@@ -80,8 +79,8 @@ fn exchange_once<X: Swaps>(
     }
 }
 
-/// Removes a key: the value that it had. Takes no memory, and gives none back: a leaf that is empty is used by later
-/// insertions.
+/// Removes a key: the value that it had. Takes no memory. A leaf without keys is taken out of the map, and so are the nodes
+/// above it that have no others below them.
 pub fn remove(map: &Congee, guard: &mut Guard, key: u64) -> Result<Option<u64>, Busy>
     requires { guard.old.book ≡ map.now }
     ensures made { IfOk result (λ before. MadeCall guard.old
@@ -89,7 +88,7 @@ pub fn remove(map: &Congee, guard: &mut Guard, key: u64) -> Result<Option<u64>, 
     ensures busy { OnErr result (guard.new ≡ guard.old) }
 {
     for _ in 0..TRIES {
-        if let Some(before) = remove_once(&map.nodes, key, &mut guard.pass) {
+        if let Some(before) = remove_once(&map.nodes, key, &mut guard.room, &mut guard.pass) {
             return Ok(before);
         }
     }
@@ -112,7 +111,14 @@ pub fn compare_exchange(
     ensures busy { OnErr result (guard.new ≡ guard.old) }
 {
     for _ in 0..TRIES {
-        if let Some(answer) = exchange_once::<Brand>(&map.nodes, key, old, new, &mut guard.pass) {
+        if let Some(answer) = exchange_once::<Brand>(
+            &map.nodes,
+            key,
+            old,
+            new,
+            &mut guard.room,
+            &mut guard.pass,
+        ) {
             return Ok(answer);
         }
     }

@@ -1,15 +1,19 @@
 //! A leaf is locked, and a key there gets another value, or none.
 ghost use Rattle.std.specs.Prelude.{◌≡◌, ℕ, ◌+◌, ◌<◌, ◌≤◌, List, [], length, Some, None};
 ghost use Rattle.node_table.specs.TableNode.{TableNode};
-ghost use Rattle.live_cells.specs.Words.{Stays};
+ghost use Rattle.live_cells.specs.Words.{Stays, Looks};
 ghost use Rattle.live_encodes.specs.Encodes.{words_of, IsCounted, Encodes};
 ghost use Rattle.live_calls.specs.Ways.{Names};
 ghost use Rattle.live_calls.specs.Holds.{HasRest};
-ghost use Rattle.live_updates.specs.inner.Updates.{IsUpdate, IsSet, Updated};
+ghost use Rattle.live_calls.specs.Calls.{IsReady};
+ghost use Rattle.live_updates.specs.inner.Updates.{IsUpdate, IsSet, Updated, missed_by};
 
 use live_calls::held::{lock_node, unlock_same};
+use live_calls::link::Room;
 use live_calls::way::{Nodes, Pass, byte_at, words_at};
 use live_cells::words::{Draft, Drafted};
+use live_detach::detach::is_empty;
+use live_detach::tidy::tidy;
 use live_encodes::change::{change, is_full, put, take};
 use live_encodes::form::{form_below, words_in};
 use live_encodes::search::find;
@@ -168,6 +172,53 @@ fn set<S, D: Draft<S>>(
     }
 }
 
+/// Whether a leaf has no keys, where one was taken out.
+fn is_emptied<S, D: Draft<S>>(draft: &D, form: NodeType, new: Option<u64>, seat: &mut S) -> bool
+    requires may { D.may_write draft.now seat.old }
+    requires long { length (D.words draft.now seat.old) ≡ words_of form }
+    ensures seat { Looks D.may_write D.words draft.now seat.old seat.new }
+{
+    new.is_none() && is_empty(draft, form, seat)
+}
+
+/// Gives a key of a leaf what it is to have, if it has what is expected. Otherwise nothing is written. `true` where the leaf
+/// has no keys then.
+fn update_leaf<U: Updates>(
+    nodes: &Nodes,
+    name: u64,
+    key: u64,
+    old: Option<u64>,
+    new: Option<u64>,
+    pass: &mut Pass,
+) -> Result<bool, Missed>
+    requires book { pass.old.book ≡ nodes.now }
+    requires asks { (U.update.key ≡ key) × (U.update.caller ≡ pass.old.id) }
+    requires values { (U.update.old ≡ old) × (U.update.new ≡ new) }
+    requires legal { IsUpdate U.update }
+    requires named { Names pass.old.view name key 1 }
+    requires rests { (pass.old.view.client.own ≡ []) × (pass.old.view.holds ≡ []) }
+    ensures told { (pass.new.book ≡ pass.old.book) × (pass.new.id ≡ pass.old.id)
+        × HasRest pass.old.view pass.new.view
+        × Updated U.update (missed_by result) pass.old.view pass.new.view }
+{
+    let Some(words) = words_at(nodes, name) else {
+        return Err(Missed::Busy);
+    };
+    let form = form_below(name);
+    let byte = byte_at(key, 1);
+    let Some(free) = lock_node(words, name, 1, key, pass) else {
+        return Err(Missed::Busy);
+    };
+    let held: Held<'_, Mine, Levels, 0> = Held { words };
+    if let Some(missed) = set(&held, form, byte, old, new, pass) {
+        unlock_same(words, free, pass);
+        return Err(missed);
+    }
+    let emptied = is_emptied(&held, form, new, pass);
+    node::unlock::<Mine, Levels, Write<U>>(&words[0], free, pass);
+    Ok(emptied)
+}
+
 /// Gives a key of a leaf what it is to have, if it has what is expected. Otherwise nothing is written.
 pub fn update_here<U: Updates>(
     nodes: &Nodes,
@@ -187,19 +238,38 @@ pub fn update_here<U: Updates>(
         × HasRest pass.old.view pass.new.view
         × Updated U.update result pass.old.view pass.new.view }
 {
-    let Some(words) = words_at(nodes, name) else {
-        return Some(Missed::Busy);
-    };
-    let form = form_below(name);
-    let byte = byte_at(key, 1);
-    let Some(free) = lock_node(words, name, 1, key, pass) else {
-        return Some(Missed::Busy);
-    };
-    let held: Held<'_, Mine, Levels, 0> = Held { words };
-    if let Some(missed) = set(&held, form, byte, old, new, pass) {
-        unlock_same(words, free, pass);
-        return Some(missed);
+    match update_leaf::<U>(nodes, name, key, old, new, pass) {
+        Ok(_) => None,
+        Err(missed) => Some(missed),
     }
-    node::unlock::<Mine, Levels, Write<U>>(&words[0], free, pass);
-    None
+}
+
+/// The same. A leaf without keys is taken out of the map.
+pub fn exchange_here<U: Updates>(
+    nodes: &Nodes,
+    name: u64,
+    key: u64,
+    old: Option<u64>,
+    new: Option<u64>,
+    room: &mut Room,
+    pass: &mut Pass,
+) -> Option<Missed>
+    requires book { pass.old.book ≡ nodes.now }
+    requires asks { (U.update.key ≡ key) × (U.update.caller ≡ pass.old.id) }
+    requires values { (U.update.old ≡ old) × (U.update.new ≡ new) }
+    requires legal { IsUpdate U.update }
+    requires ready { IsReady pass.old.view room.old }
+    requires named { Names pass.old.view name key 1 }
+    ensures told { (pass.new.book ≡ pass.old.book) × (pass.new.id ≡ pass.old.id)
+        × IsReady pass.new.view room.new
+        × Updated U.update result pass.old.view pass.new.view }
+{
+    match update_leaf::<U>(nodes, name, key, old, new, pass) {
+        Ok(true) => {
+            tidy(nodes, key, room, pass);
+            None
+        }
+        Ok(false) => None,
+        Err(missed) => Some(missed),
+    }
 }

@@ -1,12 +1,12 @@
 //! A look-up of a key, which may end a call: the key's value, and its leaf.
-ghost use Rattle.std.specs.Prelude.{◌≡◌, ℕ, ◌+◌, ◌<◌, ◌≤◌, true, false, None, IsTrue};
-ghost use Rattle.live_calls.specs.Ways.{KnowsTrunk, Names, Keeps};
-ghost use Rattle.live_calls.specs.Exchanges.{IsNoWay, MayLeave};
-ghost use Rattle.live_updates.specs.inner.Lookups.{IsLookup, MayEnd, Found, Sought};
+ghost use Rattle.std.specs.Prelude.{◌≡◌, ℕ, ◌+◌, ◌<◌, ◌≤◌};
+ghost use Rattle.live_calls.specs.Ways.{KnowsTrunk, Names, Sights, IsOpen, Keeps};
+ghost use Rattle.live_updates.specs.inner.Lookups.{IsLookup, MaySight, Found, Lacks, Sought};
 
-use live_calls::sight::{Next, step};
-use live_calls::way::{Nodes, Pass, byte_at, open, root, words_at};
-use live_encodes::form::{form_below, slot_below};
+use live_calls::fork::watch;
+use live_calls::sight::{Next, enter, step};
+use live_calls::way::{Nodes, Opened, Pass, byte_at, open, root};
+use live_encodes::form::form_below;
 use live_encodes::search::find;
 use live_law::law::{Levels, Mine};
 use live_nodes::node;
@@ -41,34 +41,28 @@ pub struct Learn<Q> {
 }
 
 impl<Q: Lookups> Lesson<Mine> for Learn<Q> {
-    ghost use Rattle.live_law.specs.Tree.{LearnsNode};
-    ghost use Rattle.live_updates.specs.inner.Lookups.{Seeks, asked_by};
+    ghost use Rattle.live_updates.specs.inner.Lookups.{LearnsSeek};
 
-    ghost told = { LearnsNode (Seeks Q.lookup) (asked_by Q.lookup) };
+    ghost told = { LearnsSeek Q.lookup };
 }
 
-/// What a leaf has under the key's digit. `None` where a writer came in between.
+/// What an open leaf has under the key's digit. `None` where a writer came in between.
 pub fn ends_in<Q: Lookups>(
-    nodes: &Nodes,
+    here: Opened<'_>,
     name: u64,
     key: u64,
     pass: &mut Pass,
 ) -> Option<Option<u64>>
-    requires book { pass.old.book ≡ nodes.now }
     requires asks { (Q.lookup.key ≡ key) × (Q.lookup.caller ≡ pass.old.id) }
     requires legal { IsLookup Q.lookup }
-    requires named { Names pass.old.view name key 1 }
+    requires open { IsOpen pass.old.view pass.old.book here.words.now here.taken name key 1 }
     ensures told { (pass.new.book ≡ pass.old.book) × (pass.new.id ≡ pass.old.id)
         × Keeps pass.old.view pass.new.view
         × Found Q.lookup result pass.old.view pass.new.view }
 {
-    let words = words_at(nodes, name)?;
+    let Opened { words, taken } = here;
     let form = form_below(name);
     let byte = byte_at(key, 1);
-    let taken = node::take(&words[0], pass);
-    if taken % 4 != 0 {
-        return None;
-    }
     let row = Row { words };
     let found = find(&row, form, byte, pass);
     if !node::check::<Mine, Levels, Learn<Q>>(&words[0], taken, pass) {
@@ -77,24 +71,62 @@ pub fn ends_in<Q: Lookups>(
     Some(found)
 }
 
-// Whether a way ends at what was found: nothing, or the node that the key leaves.
-fn is_end(found: Option<u64>, below: Option<u64>) -> bool
-    ensures { result ≡ true → IsNoWay found below }
+/// Whether the key is absent, as an open inner node has no child for it. `false` where it has one, or a writer came in
+/// between.
+fn has_no_child<Q: Lookups>(
+    here: Opened<'_>,
+    name: u64,
+    height: usize,
+    key: u64,
+    pass: &mut Pass,
+) -> bool
+    requires asks { (Q.lookup.key ≡ key) × (Q.lookup.caller ≡ pass.old.id) }
+    requires legal { IsLookup Q.lookup }
+    requires open { IsOpen pass.old.view pass.old.book here.words.now here.taken name key height }
+    requires height { (2 ≤ height) × (height ≤ 8) }
+    ensures told { (pass.new.book ≡ pass.old.book) × (pass.new.id ≡ pass.old.id)
+        × Keeps pass.old.view pass.new.view
+        × Lacks Q.lookup result pass.old.view pass.new.view }
 {
-    let Some(word) = found else {
-        return true;
-    };
-    let Some(below) = below else {
-        return false;
-    };
-    if slot_below(word) != below {
+    let Opened { words, taken } = here;
+    let form = form_below(name);
+    let byte = byte_at(key, height);
+    let row = Row { words };
+    if find(&row, form, byte, pass).is_some() {
         return false;
     }
-    true
+    node::check::<Mine, Levels, Learn<Q>>(&words[0], taken, pass)
 }
 
-/// Whether the key is absent, as an inner node has no child for it, or leads on to a node that the key leaves. `false` where
-/// a writer came in between.
+/// Whether the key is absent, as an open node leads on to one whose way the key leaves. `false` where a writer came in
+/// between.
+fn leads_aside<Q: Lookups>(
+    nodes: &Nodes,
+    here: Opened<'_>,
+    name: u64,
+    height: usize,
+    below: u64,
+    key: u64,
+    pass: &mut Pass,
+) -> bool
+    requires book { pass.old.book ≡ nodes.now }
+    requires asks { (Q.lookup.key ≡ key) × (Q.lookup.caller ≡ pass.old.id) }
+    requires legal { IsLookup Q.lookup }
+    requires open { IsOpen pass.old.view pass.old.book here.words.now here.taken name key height }
+    requires height { (2 ≤ height) × (height ≤ 8) }
+    requires below { Sights pass.old.view below }
+    ensures told { (pass.new.book ≡ pass.old.book) × (pass.new.id ≡ pass.old.id)
+        × Keeps pass.old.view pass.new.view
+        × Lacks Q.lookup result pass.old.view pass.new.view }
+{
+    if !watch::<Brand>(nodes, here, name, height, below, key, pass) {
+        return false;
+    }
+    node::check::<Mine, Levels, Learn<Q>>(&here.words[0], here.taken, pass)
+}
+
+/// Whether the key is absent, as an inner node has no child for it, or leads on to a node whose way the key leaves. `false`
+/// where a writer came in between.
 pub fn is_absent<Q: Lookups>(
     nodes: &Nodes,
     name: u64,
@@ -106,30 +138,20 @@ pub fn is_absent<Q: Lookups>(
     requires book { pass.old.book ≡ nodes.now }
     requires asks { (Q.lookup.key ≡ key) × (Q.lookup.caller ≡ pass.old.id) }
     requires legal { IsLookup Q.lookup }
-    requires named { Names pass.old.view name key height }
+    requires sighted { Sights pass.old.view name }
     requires height { (2 ≤ height) × (height ≤ 8) }
-    requires leaves { MayLeave pass.old.view key below }
+    requires below { MaySight pass.old.view below }
     ensures told { (pass.new.book ≡ pass.old.book) × (pass.new.id ≡ pass.old.id)
-        × Keeps pass.old.view pass.new.view }
-    ensures ends { IsTrue result
-        → MayEnd Q.lookup.caller (Q.lookup.entry None) pass.old.view.client pass.new.view.client }
-    ensures busy { result ≡ false → pass.new.view.client ≡ pass.old.view.client }
+        × Keeps pass.old.view pass.new.view
+        × Lacks Q.lookup result pass.old.view pass.new.view }
 {
-    let Some(words) = words_at(nodes, name) else {
+    let Some(here) = enter(nodes, name, height, key, pass) else {
         return false;
     };
-    let form = form_below(name);
-    let byte = byte_at(key, height);
-    let taken = node::take(&words[0], pass);
-    if taken % 4 != 0 {
-        return false;
+    match below {
+        Some(below) => leads_aside::<Q>(nodes, here, name, height, below, key, pass),
+        None => has_no_child::<Q>(here, name, height, key, pass),
     }
-    let row = Row { words };
-    let found = find(&row, form, byte, pass);
-    if !is_end(found, below) {
-        return false;
-    }
-    node::check::<Mine, Levels, Learn<Q>>(&words[0], taken, pass)
 }
 
 // The key is absent at a node where its way ends. `None` where a writer came in between.
@@ -144,9 +166,9 @@ fn absent_at<Q: Lookups>(
     requires book { pass.old.book ≡ nodes.now }
     requires asks { (Q.lookup.key ≡ key) × (Q.lookup.caller ≡ pass.old.id) }
     requires legal { IsLookup Q.lookup }
-    requires named { Names pass.old.view name key height }
+    requires sighted { Sights pass.old.view name }
     requires height { (2 ≤ height) × (height ≤ 8) }
-    requires leaves { MayLeave pass.old.view key below }
+    requires below { MaySight pass.old.view below }
     ensures told { (pass.new.book ≡ pass.old.book) × (pass.new.id ≡ pass.old.id)
         × Keeps pass.old.view pass.new.view
         × Sought Q.lookup result pass.old.view pass.new.view }
@@ -184,7 +206,7 @@ pub fn seek<Q: Lookups>(nodes: &Nodes, key: u64, pass: &mut Pass) -> Option<Site
             }
         }
     }
-    match ends_in::<Q>(nodes, name, key, pass)? {
+    match ends_in::<Q>(here, name, key, pass)? {
         Some(value) => Some(Site::At(name, value)),
         None => Some(Site::Absent),
     }

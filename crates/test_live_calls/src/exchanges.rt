@@ -1,6 +1,7 @@
 //! Exchanges, by one thread and by four.
 
 use live_calls::map::{Busy, Congee};
+use live_updates::calls::compare_exchange;
 use std::alloc::Global;
 use std::test::Fail;
 use std::thread::{Threads, join};
@@ -13,7 +14,7 @@ fn swapped(
     new: u64,
 ) -> Result<Result<Option<u64>, Option<u64>>, Busy> {
     let mut guard = map.pin();
-    map.compare_exchange(&mut guard, key, old, new)
+    compare_exchange(map, &mut guard, key, old, Some(new))
 }
 
 // The value of a key, by a caller of its own.
@@ -77,7 +78,8 @@ fn counted_up(map: &Congee, key: u64, times: u32) -> u32 {
         if done >= times {
             return done;
         }
-        match map.compare_exchange(&mut guard, key, expected, expected.wrapping_add(1)) {
+        let next = Some(expected.wrapping_add(1));
+        match compare_exchange(map, &mut guard, key, expected, next) {
             Ok(Ok(_)) => {
                 done += 1;
                 expected = expected.wrapping_add(1);

@@ -2,6 +2,10 @@
 #![tactic(auto)]
 
 #[cfg(test)]
+mod again;
+#[cfg(test)]
+mod detached;
+#[cfg(test)]
 mod exchanges;
 #[cfg(test)]
 mod tests;

@@ -7,7 +7,7 @@ use lib.ListN.{get_elem?}
 use Rattle.atomic_table.proofs.Lists.{at_set, at_snoc, set_again}
 use Rattle.live_nodes.proofs.Frames.{node_here, node_else, node_before, node_last, one_more}
 use Rattle.live_nodes.specs.Nodes.{Content, at, Node, node, node_at}
-use Rattle.live_nodes.specs.Seats.{place}
+use Rattle.live_nodes.specs.Seats.{place, Read}
 use Rattle.live_nodes.specs.Acts as acts
 use Rattle.test_live_nodes.specs.Pairs.{IsPair, LeadsTo, ArePairs, LearnsChild, LearnsEqual, StaysSame, KnowsLeaf}
 
@@ -26,16 +26,16 @@ second_of [] = 0
 second_of (x ∷ xs) = first_of xs
 
 -- the root's number, where it was read
-pub child_learns : (id v word key : ℕ) → acts.Learns ArePairs id v 0 word ((0, key) ∷ []) (LearnsChild v 0 word ((0, key) ∷ []))
-child_learns id v word key ns vs p seat low is free agree = ⊎_elim
+pub child_learns : (id v word key : ℕ) (reads : List Read) → acts.Learns ArePairs id v 0 word ((0, key) ∷ []) reads (LearnsChild v 0 word ((0, key) ∷ []))
+child_learns id v word key reads ns vs p seat low is free agree fits = ⊎_elim
     (λ none. ([], tt, (v, same_views ns vs id v seat p, (λ key' e some_key. absurd (let same : key ≡ key' = ap first_of e in let was : at (node ns 0).content 0 ≡ key = agree.0 in omega (arith, same, some_key, none, was))))))
     (λ leaf. let k : ℕ = leaf.0 in let at_key : (node ns k).place ≡ key = leaf.1.2 ∙ agree.0 in
     (place k key 2 ∷ [], ((leaf.1.1, at_key, (p.leaves k leaf.1.0 leaf.1.1).0), tt), (v, same_views ns vs id v seat p, (λ key' e some_key. (k, leaf.1.0, (λ i. place k (first_of (e i)) 2 ∷ []))))))
     p.child
 
 -- a leaf's numbers, where both were read
-pub pair_learns : (id v k word a b : ℕ) → 1 ≤ k → acts.Learns ArePairs id v k word ((1, b) ∷ (0, a) ∷ []) (LearnsEqual v k word ((1, b) ∷ (0, a) ∷ []))
-pair_learns id v k word a b some_leaf ns vs p seat low is free agree =
+pub pair_learns : (id v k word a b : ℕ) (reads : List Read) → 1 ≤ k → acts.Learns ArePairs id v k word ((1, b) ∷ (0, a) ∷ []) reads (LearnsEqual v k word ((1, b) ∷ (0, a) ∷ []))
+pair_learns id v k word a b reads some_leaf ns vs p seat low is free agree fits =
     let pair = p.leaves k some_leaf low in let equal : a ≡ b = sym agree.1.0 ∙ (pair.1 ∙ agree.0) in
     ([], tt, (v, same_views ns vs id v seat p, (λ a' b' e. sym (ap second_of e) ∙ (equal ∙ ap first_of e))))
 
@@ -70,20 +70,11 @@ module _ (ns : List Node) (k : ℕ) (b : Node) (low : k < length ns) (there : b.
     known = λ j key e. leads_stay key (p.known j key e);
   }
 
-pub locks_keep : (id v k word : ℕ) → acts.Locks ArePairs id v k word (StaysSame v k)
-locks_keep id v k word ns vs p seat low is free =
+pub locks_keep : (id v k word new : ℕ) → acts.Locks ArePairs id v k word new (StaysSame v k)
+locks_keep id v k word new ns vs p seat low is free =
     let a : Node = node ns k in (
       v,
-      changes ns k (node_at a.place (word + 2) a.content (Some id)) low refl vs id v p seat (λ some_leaf. p.leaves k some_leaf low)
-          (λ e. (ap (λ (z : ℕ). length (node ns z).content) e ∙ p.root_long, subst (λ (z : ℕ). LeadsTo ns (at (node ns z).content 0)) (sym e) p.child)),
-      refl,
-    )
-
-pub node_keeps : (id v k word : ℕ) (d : Content) → acts.Keeps ArePairs id v k word (StaysSame v k d)
-node_keeps id v k word d ns vs p seat low held rises =
-    let a : Node = node ns k in (
-      v,
-      changes ns k (node_at a.place word a.content (Some id)) low refl vs id v p seat (λ some_leaf. p.leaves k some_leaf low)
+      changes ns k (node_at a.place new a.content (Some id)) low refl vs id v p seat (λ some_leaf. p.leaves k some_leaf low)
           (λ e. (ap (λ (z : ℕ). length (node ns z).content) e ∙ p.root_long, subst (λ (z : ℕ). LeadsTo ns (at (node ns z).content 0)) (sym e) p.child)),
       refl,
     )

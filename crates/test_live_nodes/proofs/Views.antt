@@ -4,14 +4,14 @@ use mathlib.Core.Logic.{dite}
 use native.Mathlib.Decide.{ℕ_discrete}
 use Rattle.word_book.specs.Book.{reads, writes, compares, none_joined, Joined}
 use Rattle.live_nodes.specs.Nodes.{Content}
-use Rattle.live_nodes.specs.Seats.{Place, place, Read, read, Hold, hold, IsIn, SeatView, seat_view, room_at, with_draft, with_word}
+use Rattle.live_nodes.specs.Seats.{Place, place, Read, read, Hold, hold, IsIn, SeatView, seat_view, room_at, with_draft}
 use Rattle.live_nodes.specs.Acts.{Frees}
 use Rattle.live_nodes.specs.declared.heap.Grown.{Grown}
 use Rattle.live_nodes.specs.Plays as plays
-use Rattle.live_nodes.specs.Plays.{read_of, hold_of, saw_in, took, saw, learned, wrote, put, given, Checked, Tried, Takes, Sees, Checks, Locks, Writes, Keeps, Puts, Makes}
-use Rattle.live_nodes.specs.Calls.{MayCheck, MayLock, MayFree, MayKeep, MayMake, HoldsCell}
+use Rattle.live_nodes.specs.Plays.{read_of, hold_of, saw_in, took, saw, learned, wrote, put, given, Checked, Tried, Takes, Sees, Checks, Locks, Writes, Puts, Makes}
+use Rattle.live_nodes.specs.Calls.{MayCheck, MayLock, MayFree, MayMake, HoldsCell}
 use Rattle.test_live_nodes.specs.Pairs.{ArePairs, LearnsChild, LearnsEqual, StaysSame, KnowsLeaf, KnowsRoot, KnowsLeafAt}
-use Rattle.test_live_nodes.proofs.Laws.{child_learns, pair_learns, locks_keep, node_keeps, leaf_frees, root_frees, leaf_makes}
+use Rattle.test_live_nodes.proofs.Laws.{child_learns, pair_learns, locks_keep, leaf_frees, root_frees, leaf_makes}
 
 abbrev View : Type 0
 View = SeatView ℕ
@@ -64,7 +64,7 @@ root_read v v₁ v₂ n key k₁ k₂ known at₁ at₂ took_it saw_it =
 
 module _ (v : View) (n key : ℕ) (r : RootRead v n key) where
   pub may_check_root : (id k : ℕ) → 1 ≡ k → MayCheck v k ArePairs id LearnsChild n
-  may_check_root id k e = (root, read 0 n ((0, key) ∷ []), (r.0, e), r.1, refl, child_learns id v.client n key)
+  may_check_root id k e = (root, read 0 n ((0, key) ∷ []), (r.0, e), r.1, refl, child_learns id v.client n key v.reads)
 
   root_checked : (w : View) (m k : ℕ) → 1 ≡ k → Checks LearnsChild (reads k) v m none_joined w → Checked (LearnsChild v.client 0 n ((0, key) ∷ [])) n v m w
   root_checked w m k e told = told root (read 0 n ((0, key) ∷ [])) r.0 e r.1
@@ -103,7 +103,7 @@ module _ (v : View) (key : ℕ) (known : KnowsLeafAt v key) where
 
   module _ (w : View) (n a b : ℕ) (r : LeafRead w n a b) where
     pub may_check_leaf : (id k : ℕ) → key ≡ k → MayCheck w k ArePairs id LearnsEqual n
-    may_check_leaf id k e = (leaf, read known.0 n ((1, b) ∷ (0, a) ∷ []), (r.0, e), r.1, refl, pair_learns id w.client known.0 n a b known.1)
+    may_check_leaf id k e = (leaf, read known.0 n ((1, b) ∷ (0, a) ∷ []), (r.0, e), r.1, refl, pair_learns id w.client known.0 n a b w.reads known.1)
 
     pub are_equal : (w' : View) (m k : ℕ) → key ≡ k → Checks LearnsEqual (reads k) w m none_joined w' → m ≡ n → a ≡ b
     are_equal w' m k e told hit = ((told leaf (read known.0 n ((1, b) ∷ (0, a) ∷ [])) r.0 e r.1).hit hit).3 a b refl
@@ -118,9 +118,6 @@ hold_head k n d hs = ap (λ (b : Bool). cond b (Some (hold k n d)) (hold_of k hs
 draft_head : (k n : ℕ) (d e : Content) (hs : Holds) → with_draft k e (hold k n d ∷ hs) ≡ hold k n e ∷ with_draft k e hs
 draft_head k n d e hs = ap (λ (b : Bool). cond b (hold k n e) (hold k n d) ∷ with_draft k e hs) (eq-eqb k k refl)
 
-word_head : (k n m : ℕ) (d : Content) (hs : Holds) → with_word k m (hold k n d ∷ hs) ≡ hold k m d ∷ with_word k m hs
-word_head k n m d hs = ap (λ (b : Bool). cond b (hold k m d) (hold k n d) ∷ with_word k m hs) (eq-eqb k k refl)
-
 -- the seat's client view is v, and it holds the node by the word n, with this draft
 module _ (p : Place) (v : ℕ) where
   abbrev pub Idle : View → Type 0
@@ -132,18 +129,29 @@ module _ (p : Place) (v : ℕ) where
   pub idle_taken : (u w : View) (n k : ℕ) → Idle u → p.key ≡ k → Takes (reads k) u n none_joined w → Idle w
   idle_taken u w n k r at told = subst Idle (sym (taken u w n k p r.0 at told)) r
 
-  pub may_lock_it : (u : View) (id k n : ℕ) → Idle u → p.key ≡ k → MayLock u k ArePairs id StaysSame n
-  may_lock_it u id k n r at = (p, (r.0, at), locks_keep id u.client p.number n)
+  -- by a new word
+  module _ (new : ℕ) where
+    pub may_lock_by : (u : View) (id k n : ℕ) → Idle u → p.key ≡ k → MayLock u k ArePairs id StaysSame n new
+    may_lock_by u id k n r at = (p, (r.0, at), locks_keep id u.client p.number n new)
 
-  tried : (u w : View) (k n m : ℕ) → Idle u → p.key ≡ k → (j : Joined) → Locks StaysSame (compares k n (n + 2)) u m j w → Tried (StaysSame u.client p.number) p.number n p.len u m w
-  tried u w k n m r at j told = told p r.0 at
+    tried : (u w : View) (k n m : ℕ) → Idle u → p.key ≡ k → (j : Joined) → Locks StaysSame (compares k n new) u m j w → Tried (StaysSame u.client p.number) p.number n new p.len u m w
+    tried u w k n m r at j told = told p r.0 at
+
+    pub not_locked_by : (u w : View) (k n m : ℕ) → Idle u → p.key ≡ k → (j : Joined) → Locks StaysSame (compares k n new) u m j w → m ≢ n → Idle w
+    not_locked_by u w k n m r at j told ne = subst Idle (sym ((tried u w k n m r at j told).lost ne)) r
+
+    pub is_locked_by : (u w : View) (k n m : ℕ) → Idle u → p.key ≡ k → (j : Joined) → Locks StaysSame (compares k n new) u m j w → m ≡ n → (d : Content) × (length d ≡ p.len) × Holding w new d
+    is_locked_by u w k n m r at j told hit = let h = (tried u w k n m r at j told).won hit in
+        (h.0, h.2, ((subst (λ (z : View). IsIn p z.places) (sym h.3) r.0, ap (λ (z : View). z.client) h.3 ∙ (h.4 ∙ r.1)), (u.holds, ap (λ (z : View). z.holds) h.3)))
+
+  pub may_lock_it : (u : View) (id k n : ℕ) → Idle u → p.key ≡ k → MayLock u k ArePairs id StaysSame n (n + 2)
+  may_lock_it u id k n r at = may_lock_by (n + 2) u id k n r at
 
   pub not_locked : (u w : View) (k n m : ℕ) → Idle u → p.key ≡ k → (j : Joined) → Locks StaysSame (compares k n (n + 2)) u m j w → m ≢ n → Idle w
-  not_locked u w k n m r at j told ne = subst Idle (sym ((tried u w k n m r at j told).lost ne)) r
+  not_locked u w k n m r at j told ne = not_locked_by (n + 2) u w k n m r at j told ne
 
   pub is_locked : (u w : View) (k n m : ℕ) → Idle u → p.key ≡ k → (j : Joined) → Locks StaysSame (compares k n (n + 2)) u m j w → m ≡ n → (d : Content) × (length d ≡ p.len) × Holding w (n + 2) d
-  is_locked u w k n m r at j told hit = let h = (tried u w k n m r at j told).won hit in
-      (h.0, h.2, ((subst (λ (z : View). IsIn p z.places) (sym h.3) r.0, ap (λ (z : View). z.client) h.3 ∙ (h.4 ∙ r.1)), (u.holds, ap (λ (z : View). z.holds) h.3)))
+  is_locked u w k n m r at j told hit = is_locked_by (n + 2) u w k n m r at j told hit
 
   pub may_write_it : (u : View) (k n i : ℕ) (d : Content) → Holding u n d → i < p.len → p.key + i + 1 ≡ k → HoldsCell u k
   may_write_it u k n i d r low at = (p, i, (r.0.0, low, at), (hold p.number n d, ap (hold_of p.number) r.1.1 ∙ hold_head p.number n d r.1.0))
@@ -164,18 +172,6 @@ module _ (p : Place) (v : ℕ) where
   pub is_freed : (u w : View) (k n m : ℕ) (d : Content) → Holding u n d → p.key ≡ k → plays.Frees StaysSame (writes k m) u m none_joined w → IsIn p w.places
   is_freed u w k n m d r at told = let h = told p (hold p.number n d) r.0.0 at (ap (hold_of p.number) r.1.1 ∙ hold_head p.number n d r.1.0) in
       subst (λ (z : View). IsIn p z.places) (sym h.1) r.0.0
-
-  pub may_keep_it : (u : View) (id k n m : ℕ) (d : Content) → Holding u n d → p.key ≡ k → MayKeep u k ArePairs id StaysSame n m
-  may_keep_it u id k n m d r at = (p, hold p.number n d, (r.0.0, at), ap (hold_of p.number) r.1.1 ∙ hold_head p.number n d r.1.0, refl, node_keeps id u.client p.number m d)
-
-  pub is_kept : (u w : View) (k n m : ℕ) (d : Content) → Holding u n d → p.key ≡ k → Keeps StaysSame (writes k m) u m none_joined w → Holding w m d
-  is_kept u w k n m d r at told = let h = told p (hold p.number n d) r.0.0 at (ap (hold_of p.number) r.1.1 ∙ hold_head p.number n d r.1.0) in (
-    (subst (λ (z : View). IsIn p z.places) (sym h.1) r.0.0, ap (λ (z : View). z.client) h.1 ∙ (h.2 ∙ r.0.1)),
-    (
-      with_word p.number m r.1.0,
-      ap (λ (z : View). z.holds) h.1 ∙ (ap (with_word p.number m) r.1.1 ∙ word_head p.number n m d r.1.0),
-    ),
-  )
 
 pub named : (d : Content) (x : ℕ) → length d ≡ 1 → set d 0 x ≡ x ∷ []
 named [] x long = absurd (omega (arith, long))

@@ -42,6 +42,19 @@ pub fn renew_pair(nodes: &Nodes, key: u64, x: u64, seat: &mut Mine) -> bool
     ensures book { seat.new.book ≡ seat.old.book }
     ensures leaf { KnowsLeafAt seat.new.view key }
 {
+    if !retire_pair(nodes, key, x, seat) {
+        return false;
+    }
+    reclaim_pair(nodes, key, x, seat)
+}
+
+// A leaf that is obsolete begins anew.
+fn reclaim_pair(nodes: &Nodes, key: u64, x: u64, seat: &mut Mine) -> bool
+    requires book { seat.old.book ≡ nodes.now }
+    requires leaf { KnowsLeafAt seat.old.view key × (key < 2 ^ 60) }
+    ensures book { seat.new.book ≡ seat.old.book }
+    ensures leaf { KnowsLeafAt seat.new.view key }
+{
     let Some(leaf) = nodes.word(key) else {
         return false;
     };
@@ -51,16 +64,15 @@ pub fn renew_pair(nodes: &Nodes, key: u64, x: u64, seat: &mut Mine) -> bool
     let Some(second) = nodes.word(key + 2) else {
         return false;
     };
-    let free = node::take(leaf, seat);
-    if free % 4 != 0 || free >= 1 << 62 {
+    let obsolete = node::take(leaf, seat);
+    if obsolete % 4 != 3 || obsolete >= 1 << 62 {
         return false;
     }
-    if !node::lock::<u64, Pairs, Same>(leaf, free, seat) {
+    if !node::reclaim::<u64, Pairs, Same>(leaf, obsolete, seat) {
         return false;
     }
-    node::keep::<u64, Pairs, Same>(leaf, free, seat);
     node::write(first, x, seat);
     node::write(second, x, seat);
-    node::reuse::<u64, Pairs, Same>(leaf, free, seat);
+    node::unlock::<u64, Pairs, Same>(leaf, obsolete + 1, seat);
     true
 }

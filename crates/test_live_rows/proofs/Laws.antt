@@ -10,7 +10,7 @@ use Rattle.node_base.specs.declared.base_node.NodeType.{NodeType}
 use Rattle.node_base.specs.declared.base_node.NodeType.TheVariants.{N4, N16, N48, N256}
 use Rattle.live_nodes.proofs.Frames.{each_map, each_in, node_here, node_else, node_before, node_last, one_more}
 use Rattle.live_nodes.specs.Nodes.{Content, at, Node, node, node_at}
-use Rattle.live_nodes.specs.Seats.{Each, IsIn}
+use Rattle.live_nodes.specs.Seats.{Each, IsIn, Read}
 use Rattle.live_nodes.specs.Acts as acts
 use Rattle.live_cells.specs.Words as cells
 use Rattle.live_cells.specs.Head.{IsHead}
@@ -81,8 +81,8 @@ abbrev first_of : Saw → ℕ
 first_of [] = 0
 first_of (x ∷ xs) = x.1
 
-pub child_learns : (id : ℕ) (v : View) (word x : ℕ) → acts.Learns AreLeaves id v 0 word ((0, x) ∷ []) (LearnsChild v 0 word ((0, x) ∷ []))
-child_learns id v word x ns vs p seat low is free agree = ⊎_elim
+pub child_learns : (id : ℕ) (v : View) (word x : ℕ) (reads : List Read) → acts.Learns AreLeaves id v 0 word ((0, x) ∷ []) reads (LearnsChild v 0 word ((0, x) ∷ []))
+child_learns id v word x reads ns vs p seat low is free agree right = ⊎_elim
     (λ none. ([], tt, (v, same_views ns vs id v seat p, (λ x' e some_leaf. absurd (let same : x ≡ x' = ap first_of e in let was : at (node ns 0).content 0 ≡ x = agree.0 in omega (arith, same, some_leaf, none, was))))))
     (λ leaf. let a : Known = leaf.0 in let f = leaf.1 in (
       place_at a ∷ [],
@@ -91,8 +91,8 @@ child_learns id v word x ns vs p seat low is free agree = ⊎_elim
     ))
     p.child
 
-pub leaf_learns : (id : ℕ) (v : View) (k word : ℕ) (saw : Saw) → acts.Learns AreLeaves id v k word saw (LearnsLeaf v k word saw)
-leaf_learns id v k word saw ns vs p seat low is free agree =
+pub leaf_learns : (id : ℕ) (v : View) (k word : ℕ) (saw : Saw) (reads : List Read) → acts.Learns AreLeaves id v k word saw reads (LearnsLeaf v k word saw)
+leaf_learns id v k word saw reads ns vs p seat low is free agree right =
     ([], tt, (v, same_views ns vs id v seat p, (refl, (λ a mine same. ((node ns k).content, its_content ns vs id v p seat a mine k same, agree)))))
 
 -- A NODE CHANGES: what it has to be then
@@ -131,11 +131,11 @@ module _ (ns : List Node) (k : ℕ) (b : Node) (low : k < length ns) (there : b.
 stays_as : (ns : List Node) (vs : List View) (p : AreLeaves ns vs) (k : ℕ) → k ≡ 0 → (length (node ns k).content ≡ 1) × LeadsTo ns p.forms (at (node ns k).content 0)
 stays_as ns vs p k e = (ap (λ (z : ℕ). length (node ns z).content) e ∙ p.root_long, subst (λ (z : ℕ). LeadsTo ns p.forms (at (node ns z).content 0)) (sym e) p.child)
 
-pub locks : (id : ℕ) (v : View) (k word : ℕ) → acts.Locks AreLeaves id v k word (LearnsHeld v k)
-locks id v k word ns vs p seat low is free =
+pub locks : (id : ℕ) (v : View) (k word new : ℕ) → acts.Locks AreLeaves id v k word new (LearnsHeld v k)
+locks id v k word new ns vs p seat low is free =
     let a : Node = node ns k in (
       v,
-      changes ns k (node_at a.place (word + 2) a.content (Some id)) low refl vs id v p seat (λ some_leaf. p.leaves k some_leaf low) (stays_as ns vs p k),
+      changes ns k (node_at a.place new a.content (Some id)) low refl vs id v p seat (λ some_leaf. p.leaves k some_leaf low) (stays_as ns vs p k),
       (refl, (λ a mine same. its_content ns vs id v p seat a mine k same)),
     )
 

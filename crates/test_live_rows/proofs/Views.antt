@@ -60,7 +60,7 @@ module _ (v : View) (known : KnowsRoot v) (v₁ : View) (n k₁ k₂ : ℕ) (at�
 
     pub may_check_root : (id : ℕ) → MayCheck v₂ k₁ AreLeaves id LearnsChild n
     may_check_root id = subst (λ (z : View). MayCheck z k₁ AreLeaves id LearnsChild n) (sym root_read)
-        (root, read 0 n ((0, x) ∷ []), (known, at₁), head_read 0 n ((0, x) ∷ []) v.reads, refl, child_learns id v.client n x)
+        (root, read 0 n ((0, x) ∷ []), (known, at₁), head_read 0 n ((0, x) ∷ []) v.reads, refl, child_learns id v.client n x (read 0 n ((0, x) ∷ []) ∷ v.reads))
 
     pub names_leaf : (w : View) (m : ℕ) → Checks LearnsChild (reads k₁) v₂ m none_joined w → m ≡ n → 0 < x → KnowsLeaf w x
     names_leaf w m told hit some_leaf =
@@ -135,7 +135,7 @@ module _ (v : View) (x : ℕ) (leaf : KnowsLeaf v x) where
 
           pub may_check_leaf : (id : ℕ) → MayCheck v₂ k' AreLeaves id LearnsLeaf n
           may_check_leaf id = subst (λ (z : View). MayCheck z k' AreLeaves id LearnsLeaf n) (sym leaf_read)
-              (place_at its, found, (leaf.2, at_key'), head_read its.number n (last_saw v₂.reads) v.reads, refl, leaf_learns id v.client its.number n (last_saw v₂.reads))
+              (place_at its, found, (leaf.2, at_key'), head_read its.number n (last_saw v₂.reads) v.reads, refl, leaf_learns id v.client its.number n (last_saw v₂.reads) (found ∷ v.reads))
 
           pub is_leaf : (w : View) (m : ℕ) → Checks LearnsLeaf (reads k') v₂ m none_joined w → m ≡ n → (c : Content) × IsLeaf its.form c × Agree c (last_saw v₂.reads)
           is_leaf w m told hit =
@@ -225,15 +225,15 @@ module _ (v : View) (p : Place) (here : IsIn p v.places) (v₁ : View) (n k : �
   pub node_taken : v₁ ≡ took v p.number n
   node_taken = took_it p here at_k
 
-  pub may_lock : (id : ℕ) → MayLock v₁ k₂ AreLeaves id LearnsHeld n
-  may_lock id = subst (λ (z : View). MayLock z k₂ AreLeaves id LearnsHeld n) (sym node_taken) (p, (here, at_k₂), locks id v.client p.number n)
+  pub may_lock : (id : ℕ) → MayLock v₁ k₂ AreLeaves id LearnsHeld n (n + 2)
+  may_lock id = subst (λ (z : View). MayLock z k₂ AreLeaves id LearnsHeld n (n + 2)) (sym node_taken) (p, (here, at_k₂), locks id v.client p.number n (n + 2))
 
   pub not_locked : (v₂ : View) (m : ℕ) (j : Joined) → Locks LearnsHeld (compares k₂ n (n + 2)) v₁ m j v₂ → m ≢ n → v₂ ≡ took v p.number n
   not_locked v₂ m j told ne = (subst (λ (z : View). Locks LearnsHeld (compares k₂ n (n + 2)) z m j v₂) node_taken told p here at_k₂).lost ne
 
   module _ (v₂ : View) (m : ℕ) (j : Joined) (told : Locks LearnsHeld (compares k₂ n (n + 2)) v₁ m j v₂) (hit : m ≡ n) where
     won : (d : Content) × (c : List Known) × (length d ≡ p.len) × (v₂ ≡ locked (took v p.number n) c p.number (n + 2) d) × LearnsHeld v.client p.number d c
-    won = (subst (λ (z : View). Locks LearnsHeld (compares k₂ n (n + 2)) z m j v₂) node_taken told p here at_k₂).won hit
+    won = let h = (subst (λ (z : View). Locks LearnsHeld (compares k₂ n (n + 2)) z m j v₂) node_taken told p here at_k₂).won hit in (h.0, h.1, h.2, h.3, h.4)
 
     abbrev pub draft : Content
     draft = draft_of (nth 0 v₂.holds)

@@ -163,6 +163,13 @@ module _ {P : Type 0} (s : NodeTable P) (root : ℕ) (forms : FormCounts) (count
           subst (λ k. lookup (tree_pairs s root) k ≡ None) (key_number-be_bytes (set key 7 other) (length-set key 7 other ∙ at.full))
           (nothing_there s root (set key 7 other) (seen_at (set key 7 other) e.slot e.parent e.above (Leaf other)) aside (are_bytes key 7 other less at.bytes) (length-set key 7 other ∙ at.full) nothing)
 
+    -- a later byte is that of a later key
+    pub rises_here : (next : ℕ) → b < next → from_be_bytes w64 key < from_be_bytes w64 (set key 7 next)
+    rises_here next less =
+        let last : b ≡ get_or key 7 0 = leaf_stop.0 ∙ ap (λ i. get_or key i 0) leaf_stop.2 in
+        let to = number_set key next at.full in
+        omega (arith, last, to, less)
+
     -- so none is before that of the next byte
     pub none_beside : (next : ℕ) → next < 256 → HasNoneBetween s (name_of e.slot) b next → HasNoneAfter (tree_pairs s root) (from_be_bytes w64 key + 1) (from_be_bytes w64 (set key 7 next))
     none_beside next byte none = λ k from below.
@@ -174,6 +181,26 @@ module _ {P : Type 0} (s : NodeTable P) (root : ℕ) (forms : FormCounts) (count
         let same : from_be_bytes w64 (set key 7 other) ≡ k = omega (arith, last, is, from) in
         subst (λ i. lookup (tree_pairs s root) i ≡ None) same
         (lacks_aside other (omega (arith, less, byte)) (λ n here. none n here other (omega (arith, from)) less))
+
+    -- the next payload in the leaf, where this one stays
+    module _ (next : ℕ) (byte : next < 256) (present : (n : TableNode P) → node_at s (name_of e.slot) ≡ Some n → IsSome (lookup n.children next)) where
+      beyond : Stored ends_here.node next
+      beyond = stored_in ends_here.node next leaf_stop.2 (leads_kind s root key e.above (name_of e.slot) (name_of e.parent) ends_here.node ends_here.leads ends_here.here) (present ends_here.node ends_here.here)
+
+      pub along : IsAtPair s root forms count (set key 7 next) (map name_of trail) (record e { stop = Leaf next })
+      along = record {
+        whole = at.whole;
+        bytes = are_bytes key 7 next byte at.bytes;
+        full = length-set key 7 next ∙ at.full;
+        ends = aside next byte;
+        pair = tt;
+        on_trail = record { at = λ i less. leads_alike s root key (set key 7 next) (are_bytes key 7 next byte at.bytes) (length-set key 7 next ∙ at.full) (begins_still key next) i (get_or (map name_of trail) i 0) (get_or (map name_of trail) (i - 1) 0) (at.on_trail.at i less) };
+        payload = beyond.payload;
+        there = λ m here.
+            let both : Some ends_here.node ≡ Some m = sym ends_here.here ∙ here in
+            let same : ends_here.node ≡ m = cc in
+            subst (λ (n : TableNode P). lookup n.children next ≡ Some (Payload beyond.payload)) same beyond.is;
+      }
 
     -- what is taken out is the key's
     pub taken_here : (t : NodeTable P) (v : P) → TakesPayload s t (name_of e.slot) b v → Some v ≡ lookup (tree_pairs s root) (from_be_bytes w64 key)

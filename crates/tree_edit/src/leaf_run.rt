@@ -30,9 +30,9 @@ use tree_links::linked_node::LinkedNode;
 use tree_path::reads::ReadCount;
 use tree_path::supply::Supply;
 
-// The next byte under which the node in a slot has a child.
+/// The next byte under which the node in a slot has a child.
 #[inline(always)]
-fn byte_after<P: Drop>(nodes: &Nodes<P>, slot: usize, byte: u8) -> Option<u8>
+pub(crate) fn byte_after<P: Drop>(nodes: &Nodes<P>, slot: usize, byte: u8) -> Option<u8>
     requires { IsSome (node_at nodes.now.table (name_of slot)) }
     ensures above { IfSome result (λ next. byte < next) }
     ensures present { IfSome result (λ next. (n : TableNode P)
@@ -48,10 +48,10 @@ fn byte_after<P: Drop>(nodes: &Nodes<P>, slot: usize, byte: u8) -> Option<u8>
     }
 }
 
-// Takes the payload of the key out of the leaf where its descent ended. Under another byte the leaf has a payload, too: so it
-// isn't empty then, but may shrink. The descent of that one's key ends there as well.
+/// Takes the payload of the key out of the leaf where its descent ended. Under another byte the leaf has a payload, too: so it
+/// isn't empty then, but may shrink. The descent of that one's key ends there as well.
 #[inline(always)]
-fn take_beside<P: Drop, A: Allocator>(
+pub(crate) fn take_beside<P: Drop, A: Allocator>(
     nodes: &mut Nodes<P>,
     supply: &mut Supply<A>,
     count: &mut u128,

@@ -9,6 +9,7 @@ pub mod beside;
 pub mod computation;
 pub mod ends;
 pub mod insertion;
+pub mod kept_run;
 pub mod leaf_run;
 pub mod receiver;
 pub mod removal;

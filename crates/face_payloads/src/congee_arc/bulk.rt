@@ -4,19 +4,16 @@
 
 ghost use Rattle.std.specs.Prelude.{◌≡◌, [], ◌+◌, length};
 ghost use Rattle.std.specs.List.{FoldsTo};
-ghost use Rattle.congee_tree.specs.Bulk.{outside, Retains, CalledAtEntry, next_of};
-ghost use Rattle.congee_tree.specs.inner.Step.{Asks};
+ghost use Rattle.congee_tree.specs.Bulk.{outside, Retains, CalledAtEntry};
 ghost use Rattle.spec_map.specs.Map.{between};
 ghost use Rattle.tree_edit.specs.Tree.{root_alone, ChargesForNodes};
 
 use super::PayloadCongee;
-use congee_tree::by_number;
 use node_table::allocator::Allocator;
 use spec_map::payload::Payload;
 use spec_map::traits::Word;
-use std::marker::{Brand, PhantomData};
-use std::sync::ledger::Blank;
-use tree_edit::receiver::Receiver;
+use std::marker::PhantomData;
+use tree_edit::receiver::{Asker, Receiver};
 
 /// The way to a closure of keys and payloads: it is called with the keys that the numbers mean.
 pub struct Keys<K> {
@@ -30,6 +27,17 @@ impl<K: Word, P: Payload, F: FnMut(K, P)> Receiver<P, F> for Keys<K> {
 
     fn receive(f: &mut F, key: u64, payload: P) {
         f(K::from_u64(key), payload);
+    }
+}
+
+impl<K: Word, P: Payload, F: FnMut(K, &P) -> bool> Asker<P, F> for Keys<K> {
+    ghost step = { λ f pair stays next.
+        CalledAtEntry F.FnMut f (K.of_number pair.0) pair.1 stays next };
+
+    ghost ready = { λ f. F.IsAlwaysCallable f };
+
+    fn ask(f: &mut F, key: u64, payload: &P) -> bool {
+        f(K::from_u64(key), payload)
     }
 }
 
@@ -94,8 +102,8 @@ impl<K: Word, P: Payload, A: Allocator> PayloadCongee<K, P, A> {
     }
 
     /// Calls the closure with each pair, once, keys ascending, each key read back from its number, and removes those for
-    /// which it returns false, each as `remove` does; their payloads are dropped. Never fails. Reads one path through
-    /// the tree for each pair, and at most one that is a dead end, and one more for each that is removed.
+    /// which it returns false, each as `remove` does; their payloads are dropped. Never fails. Reads at most four paths
+    /// through the tree for each leaf, and one beside them that is a dead end.
     pub fn retain<F: FnMut(K, &P) -> bool>(&mut self, f: &mut F)
         requires { F.IsAlwaysCallable f.old }
         ensures retains { Retains
@@ -104,27 +112,6 @@ impl<K: Word, P: Payload, A: Allocator> PayloadCongee<K, P, A> {
             f.old self.old.pairs self.new.pairs f.new }
         ensures charge { ChargesForNodes A.charge self.old self.new }
     {
-        self.law_ordered();
-        let mut last = None;
-        while let Some(key) = self.ask_after(last, f) {
-            last = Some(key);
-        }
-    }
-
-    // Asks the closure about the pair after a key, and removes that pair if it returns false. Returns its key.
-    fn ask_after<F: FnMut(K, &P) -> bool>(&mut self, last: Option<u64>, f: &mut F) -> Option<u64>
-        requires { F.IsAlwaysCallable f.old }
-        ensures asks { Asks
-            (λ state pair stays next.
-            CalledAtEntry F.FnMut state (K.of_number pair.0) pair.1 stays next)
-            f.old self.old.pairs (next_of last) result f.new self.new.pairs }
-        ensures again { F.IsAlwaysCallable f.new }
-        ensures charge { ChargesForNodes A.charge self.old self.new }
-    {
-        let (key, payload) = self.tree.pair_after(last)?;
-        if !f(K::from_u64(key), payload) {
-            let _ = by_number::remove::<Brand, P, A>(&mut self.tree, key, Blank::new(1));
-        }
-        Some(key)
+        self.tree.retain::<F, Keys<K>>(f);
     }
 }

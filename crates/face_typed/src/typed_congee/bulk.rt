@@ -4,20 +4,17 @@
 
 ghost use Rattle.std.specs.Prelude.{◌≡◌, ℕ, [], ◌+◌, ◌<◌, length, take, fold, IfOk, IfErr, OnOk, slice_get, IsSomeAnd};
 ghost use Rattle.std.specs.List.{FoldsTo};
-ghost use Rattle.congee_tree.specs.Bulk.{outside, Retains, put_all, next_of};
-ghost use Rattle.congee_tree.specs.inner.Step.{Asks};
+ghost use Rattle.congee_tree.specs.Bulk.{outside, Retains, put_all};
 ghost use Rattle.spec_map.specs.Map.{Pairs, put, between};
 ghost use Rattle.spec_map.specs.Refusal.{NeedsNode};
 ghost use Rattle.tree_edit.specs.Tree.{root_alone, ChargesForNodes};
 
 use super::Congee;
 use crate::many::InsertManyError;
-use congee_tree::by_number;
 use node_table::allocator::Allocator;
 use spec_map::traits::{Drainer, Word};
-use std::marker::{Brand, PhantomData};
-use std::sync::ledger::Blank;
-use tree_edit::receiver::Receiver;
+use std::marker::PhantomData;
+use tree_edit::receiver::{Asker, Receiver};
 
 /// The way to a closure of keys and values: it is called with those that the numbers mean.
 pub struct Numbers<K, V> {
@@ -31,6 +28,19 @@ impl<K: Word, V: Word, F: FnMut(K, V)> Receiver<u64, F> for Numbers<K, V> {
 
     fn receive(f: &mut F, key: u64, number: u64) {
         f(K::from_u64(key), V::from_u64(number));
+    }
+}
+
+/// The way to a closure of numbers that is asked about pairs.
+pub struct Asked {}
+
+impl<F: FnMut(u64, u64) -> bool> Asker<u64, F> for Asked {
+    ghost step = { λ f pair stays next. F.step f pair.0 pair.1 stays next };
+
+    ghost ready = { λ f. F.IsAlwaysCallable f };
+
+    fn ask(f: &mut F, key: u64, number: &u64) -> bool {
+        f(key, *number)
     }
 }
 
@@ -97,8 +107,8 @@ impl<K: Word, V: Word, A: Allocator, D: Drainer<K, V>> Congee<K, V, A, D> {
     }
 
     /// Calls the closure with each pair by its numbers, once, keys ascending, and removes those for which it returns
-    /// false, each as `remove` does. Never fails. Reads one path through the tree for each pair, and at most one that is
-    /// a dead end, and one more for each that is removed.
+    /// false, each as `remove` does. Never fails. Reads at most four paths through the tree for each leaf, and one beside
+    /// them that is a dead end.
     pub fn retain<F: FnMut(u64, u64) -> bool>(&mut self, f: &mut F)
         requires { F.IsAlwaysCallable f.old }
         ensures retains { Retains
@@ -106,27 +116,7 @@ impl<K: Word, V: Word, A: Allocator, D: Drainer<K, V>> Congee<K, V, A, D> {
             f.old self.old.pairs self.new.pairs f.new }
         ensures charge { ChargesForNodes A.charge self.old self.new }
     {
-        self.law_ordered();
-        let mut last = None;
-        while let Some(key) = self.ask_after(last, f) {
-            last = Some(key);
-        }
-    }
-
-    // Asks the closure about the pair after a key, and removes that pair if it returns false. Returns its key.
-    fn ask_after<F: FnMut(u64, u64) -> bool>(&mut self, last: Option<u64>, f: &mut F) -> Option<u64>
-        requires { F.IsAlwaysCallable f.old }
-        ensures asks { Asks
-            (λ state pair stays next. F.step state pair.0 pair.1 stays next)
-            f.old self.old.pairs (next_of last) result f.new self.new.pairs }
-        ensures again { F.IsAlwaysCallable f.new }
-        ensures charge { ChargesForNodes A.charge self.old self.new }
-    {
-        let (key, number) = self.tree.pair_after(last)?;
-        if !f(key, *number) {
-            let _ = by_number::remove::<Brand, u64, A>(&mut self.tree, key, Blank::new(1));
-        }
-        Some(key)
+        self.tree.retain::<F, Asked>(f);
     }
 
     /// Inserts the pairs in their order, so of two with one key the later one counts. Where memory is missing for one of

@@ -68,8 +68,8 @@ impl<V: Word, A: Allocator> U64Congee<V, A> {
     }
 
     /// Calls the closure with each pair by its numbers, once, keys ascending, and removes those for which it returns
-    /// false, each as `remove` does. Never fails. Reads one path through the tree for each pair, and at most one that is
-    /// a dead end, and one more for each that is removed.
+    /// false, each as `remove` does. Never fails. Reads at most four paths through the tree for each leaf, and one beside
+    /// them that is a dead end.
     pub fn retain<F: FnMut(u64, u64) -> bool>(&mut self, f: &mut F)
         requires { F.IsAlwaysCallable f.old }
         ensures retains { Retains

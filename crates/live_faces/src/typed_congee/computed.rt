@@ -7,7 +7,6 @@ ghost use Rattle.live_faces.specs.Returned.{ReturnsComputed};
 
 use super::{Congee, Guard, Refusal, read_back};
 use crossbeam_utils::Backoff;
-use live_computes::present;
 use spec_map::error::OOMError;
 use spec_map::traits::Word;
 use std::alloc::Global;
@@ -30,7 +29,7 @@ impl<K: Word, V: Word> Congee<K, V> {
             (K.number key) (λ current. sum_with current number) before guard.new) }
         ensures refused { OnErr result (guard.new ≡ guard.old) }
     {
-        let before = present::add(&self.numbers, alloc, guard, key.into_u64(), number)?;
+        let before = self.pool.add(alloc, guard, key.into_u64(), number)?;
         Ok(read_back(before))
     }
 
@@ -76,13 +75,9 @@ impl<K: Word, V: Word> Congee<K, V> {
             (K.number key) (λ current. unwrap_or current (V.number value)) found guard.new) }
         ensures refused { OnErr result (guard.new ≡ guard.old) }
     {
-        let found = present::get_or_insert(
-            &self.numbers,
-            alloc,
-            guard,
-            key.into_u64(),
-            value.into_u64(),
-        )?;
+        let found = self
+            .pool
+            .get_or_insert(alloc, guard, key.into_u64(), value.into_u64())?;
         Ok(read_back(found))
     }
 

@@ -7,7 +7,6 @@ ghost use Rattle.live_faces.specs.Returned.{ReturnsInserted};
 
 use super::{Busy, Congee, Guard, Refusal, read_back};
 use crossbeam_utils::Backoff;
-use live_computes::present;
 use spec_map::error::OOMError;
 use spec_map::traits::Word;
 use std::alloc::Global;
@@ -35,7 +34,7 @@ impl<K: Word, V: Word> Congee<K, V> {
             (state : F) × F.step state pair.0 pair.1 f.new)) }
         ensures busy { OnErr result (guard.new ≡ guard.old) }
     {
-        present::compute_if_present(&self.numbers, guard, key.into_u64(), f)
+        self.pool.compute_if_present(guard, key.into_u64(), f)
     }
 
     /// The same, which pauses where `try_compute_if_present` is busy, and goes on.
@@ -84,7 +83,9 @@ impl<K: Word, V: Word> Congee<K, V> {
             (K.number key) before guard.new) }
         ensures refused { OnErr result (guard.new ≡ guard.old) }
     {
-        let number = present::compute_or_insert(&self.numbers, alloc, guard, key.into_u64(), f)?;
+        let number = self
+            .pool
+            .compute_or_insert(alloc, guard, key.into_u64(), f)?;
         Ok(read_back(number))
     }
 

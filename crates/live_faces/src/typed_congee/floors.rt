@@ -24,7 +24,7 @@ impl<K: Word, V: Word> Congee<K, V> {
             guard.old (K.number key.now + 1) found guard.new) }
         ensures busy { OnErr result (EntersNothing guard.old guard.new) }
     {
-        let found = floors::floor(&self.numbers, guard, key.into_u64())?;
+        let found = floors::floor(&self.pool.map, guard, key.into_u64())?;
         Ok(pair_back(found))
     }
 
@@ -53,7 +53,7 @@ impl<K: Word, V: Word> Congee<K, V> {
             guard.old (K.number key.now) found guard.new) }
         ensures busy { OnErr result (EntersNothing guard.old guard.new) }
     {
-        let found = floors::below(&self.numbers, guard, key.into_u64())?;
+        let found = floors::below(&self.pool.map, guard, key.into_u64())?;
         Ok(pair_back(found))
     }
 
@@ -82,7 +82,7 @@ impl<K: Word, V: Word> Congee<K, V> {
             guard.old (2 ^ 64) found guard.new) }
         ensures busy { OnErr result (EntersNothing guard.old guard.new) }
     {
-        let found = floors::last(&self.numbers, guard)?;
+        let found = floors::last(&self.pool.map, guard)?;
         Ok(pair_back(found))
     }
 

@@ -44,7 +44,7 @@ impl<K: Word, V: Word> Congee<K, V> {
         ensures busy { OnErr result (EntersNothing guard.old guard.new) }
     {
         scans::range(
-            &self.numbers,
+            &self.pool.map,
             guard,
             start.into_u64(),
             end.into_u64(),
@@ -93,7 +93,7 @@ impl<K: Word, V: Word> Congee<K, V> {
         ensures busy { OnErr result (EntersNothing guard.old guard.new) }
     {
         scans::range_inclusive(
-            &self.numbers,
+            &self.pool.map,
             guard,
             first.into_u64(),
             last.into_u64(),
@@ -134,7 +134,7 @@ impl<K: Word, V: Word> Congee<K, V> {
             guard.old (K.number key.now) found guard.new) }
         ensures busy { OnErr result (EntersNothing guard.old guard.new) }
     {
-        let found = scans::ceiling(&self.numbers, guard, key.into_u64())?;
+        let found = scans::ceiling(&self.pool.map, guard, key.into_u64())?;
         Ok(pair_back(found))
     }
 
@@ -163,7 +163,7 @@ impl<K: Word, V: Word> Congee<K, V> {
             guard.old (K.number key.now + 1) found guard.new) }
         ensures busy { OnErr result (EntersNothing guard.old guard.new) }
     {
-        let found = scans::above(&self.numbers, guard, key.into_u64())?;
+        let found = scans::above(&self.pool.map, guard, key.into_u64())?;
         Ok(pair_back(found))
     }
 
@@ -192,7 +192,7 @@ impl<K: Word, V: Word> Congee<K, V> {
             guard.old 0 found guard.new) }
         ensures busy { OnErr result (EntersNothing guard.old guard.new) }
     {
-        let found = scans::ceiling(&self.numbers, guard, 0)?;
+        let found = scans::ceiling(&self.pool.map, guard, 0)?;
         Ok(pair_back(found))
     }
 

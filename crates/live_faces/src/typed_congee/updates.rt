@@ -6,7 +6,6 @@ ghost use Rattle.live_faces.specs.Returned.{ReturnsOld, ReturnsExchanged};
 
 use super::{Busy, Congee, Guard, read_back};
 use crossbeam_utils::Backoff;
-use live_updates::calls;
 use spec_map::traits::Word;
 use std::sync::Wait;
 
@@ -20,7 +19,7 @@ fn numbered<V: Word>(value: &Option<V>) -> Option<u64>
 }
 
 impl<K: Word, V: Word> Congee<K, V> {
-    /// Removes the key, and returns the previous value, read back from its number. Takes no memory. `Busy` if too many writers
+    /// Removes the key, and returns the previous value, read back from its number. Needs no memory. `Busy` if too many writers
     /// came in between: then nothing has changed.
     pub fn try_remove(&self, guard: &mut Guard, key: &K) -> Result<Option<V>, Busy>
         requires map { guard.old.book ≡ self.now }
@@ -29,7 +28,7 @@ impl<K: Word, V: Word> Congee<K, V> {
             (removed guard.old.caller (K.number key.now)) before guard.new) }
         ensures busy { OnErr result (guard.new ≡ guard.old) }
     {
-        let number = calls::remove(&self.numbers, guard, key.into_u64())?;
+        let number = self.pool.remove(guard, key.into_u64())?;
         Ok(read_back(number))
     }
 
@@ -52,7 +51,7 @@ impl<K: Word, V: Word> Congee<K, V> {
 
     /// If the number of `old` is stored at the key, stores `new`, or removes the key for `None`, and returns `Ok` with `new`
     /// itself. Otherwise changes nothing, and returns `Err` with the current value, read back from its number, or with `None`
-    /// if the key is absent. Takes no memory. `Busy` if too many writers came in between: then nothing has changed.
+    /// if the key is absent. Needs no memory. `Busy` if too many writers came in between: then nothing has changed.
     pub fn try_compare_exchange(
         &self,
         guard: &mut Guard,
@@ -67,13 +66,9 @@ impl<K: Word, V: Word> Congee<K, V> {
         ensures busy { OnErr result (guard.new ≡ guard.old) }
     {
         let wanted = numbered(&new);
-        let answer = calls::compare_exchange(
-            &self.numbers,
-            guard,
-            key.into_u64(),
-            old.into_u64(),
-            wanted,
-        )?;
+        let answer = self
+            .pool
+            .compare_exchange(guard, key.into_u64(), old.into_u64(), wanted)?;
         match answer {
             Ok(_) => Ok(Ok(new)),
             Err(current) => Ok(Err(read_back(current))),

@@ -1,41 +1,36 @@
 -- What a seat learns at one moment of many keys.
-use Rattle.std.specs.Prelude.{◌≡◌, ◌≢◌, ℕ, ◌+◌, ◌-◌, ◌*◌, ◌%◌, ◌<◌, ◌≤◌, true, nat_eq, List, [], length, Option, Some, None}
+use Rattle.std.specs.Prelude.{◌≡◌, ◌≢◌, ℕ, ◌+◌, ◌-◌, ◌*◌, ◌%◌, ◌<◌, ◌≤◌, true, nat_eq, List, [], Option, Some, None}
 use Rattle.spec_map.specs.Map.{Pairs, lookup}
-use Rattle.node_table.specs.TableNode.{TableNode, Child}
+use Rattle.node_table.specs.TableNode.{Child}
 use Rattle.node_table.specs.declared.child.Child.TheVariants as below
 use Rattle.share_rule.specs.History.{IsHistory, IsLegalHistory}
 use Rattle.share_rule.specs.inner.Rule.{HasSeen}
-use Rattle.live_nodes.specs.Nodes.{Content}
-use Rattle.live_nodes.specs.Seats.{Place, SeatView, IsIn, Agree}
-use Rattle.live_encodes.specs.Encodes.{Encodes}
-use Rattle.live_law.specs.Levels.{up, digit, name_of, Covers, Spot}
-use Rattle.live_law.specs.Views.{View, view_of}
-use Rattle.live_law.specs.Tree.{IsOfKind}
+use Rattle.live_nodes.specs.Seats.{Place, SeatView, IsIn}
+use Rattle.live_law.specs.Levels.{up, digit, name_of, Covers, Shape, Spot}
+use Rattle.live_law.specs.Views.{Watch, View, view_of}
+use Rattle.live_law.specs.Tree.{IsOfKind, IsOf}
 use Rattle.live_scans.specs.Scans.{HasRead}
 
--- What a map has at a key, by what a node has under the key's digit. If that is a node without such keys, it has nothing.
-abbrev pub HasUnder : List Spot → Pairs ℕ → ℕ → Option (Child ℕ) → Type 0
-HasUnder met m k None = lookup m k ≡ None
-HasUnder met m k (Some (below.Payload x)) = lookup m k ≡ Some x
-HasUnder met m k (Some (below.Node s)) = (b : Spot) → IsIn b met → s ≡ name_of b.shape → (Covers b.shape k → ⊥) → lookup m k ≡ None
+-- What a map has at a key, by what a node has under the key's digit. If that is a node without such keys, which the seat has
+-- watched below this one, it has nothing.
+abbrev pub HasUnder : View → ℕ → ℕ → Pairs ℕ → ℕ → Option (Child ℕ) → Type 0
+HasUnder v number word m k None = lookup m k ≡ None
+HasUnder v number word m k (Some (below.Payload x)) = lookup m k ≡ Some x
+HasUnder v number word m k (Some (below.Node s)) = (b : Watch) → IsIn b v.watched → b.above ≡ number → b.word ≡ Some word → s ≡ name_of b.spot.shape → (Covers b.spot.shape k → ⊥) → lookup m k ≡ None
 
--- A NODE was read: the map has at this moment what the node has, at all keys that begin like it.
-pub record IsRead (caller : ℕ) (v : View) (a : Spot) (saw : List (ℕ × ℕ)) (w : View) : Type 0 where
-  pub content : Content
-  pub its : TableNode ℕ
-  pub agrees : Agree content saw
-  pub encodes : Encodes content its
-  pub in_form : its.form ≡ a.shape.form
-  pub deep : length its.prefix + a.shape.height ≡ 8
-  pub of_kind : (b : ℕ) → b < 256 → IsOfKind a.shape.height (lookup its.children b)
+-- A NODE was read, which was met as a and is of that shape now: the map has at this moment what the node has, at all keys
+-- that begin like it.
+pub record IsRead (caller : ℕ) (v : View) (a : Spot) (s : Shape) (word : ℕ) (saw : List (ℕ × ℕ)) (w : View) : Type 0 where
+  pub node : IsOf a s saw
+  pub of_kind : (b : ℕ) → b < 256 → IsOfKind s.height (lookup node.its.children b)
   pub is : w ≡ view_of w.seen v.met v.own
   pub fits : HasSeen w.seen caller v.seen
   pub pairs : Pairs ℕ
   pub legal : IsHistory nat_eq w.seen pairs
-  pub under : (k : ℕ) → Covers a.shape k → HasUnder v.met pairs k (lookup its.children (digit a.shape.height k))
+  pub under : (k : ℕ) → Covers s k → HasUnder v a.number word pairs k (lookup node.its.children (digit s.height k))
 
 abbrev pub LearnsAll : ℕ → View → ℕ → ℕ → List (ℕ × ℕ) → List Place → View → Type 0
-LearnsAll caller v k word saw ps w = (a : Spot) → IsIn a v.met → a.number ≡ k → IsRead caller v a saw w
+LearnsAll caller v k word saw ps w = (a : Spot) → IsIn a v.met → a.number ≡ k → (s : Shape) × IsRead caller v a s word saw w
 
 -- Of these keys the map has none at this moment.
 pub record HasNone (caller : ℕ) (v w : SeatView View) (Is : ℕ → Type 0) : Type 0 where

@@ -1,15 +1,15 @@
 -- LOOK-UPS of a key, which may end a call.
-use Rattle.std.specs.Prelude.{◌≡◌, ℕ, nat_eq, List, [], ◌∷◌, ◌++◌, Option, Some, None, Result, Ok, Err}
+use Rattle.std.specs.Prelude.{◌≡◌, ℕ, nat_eq, Bool, true, false, List, [], ◌∷◌, ◌++◌, Option, Some, None, Result, Ok, Err}
 use Rattle.node_table.specs.TableNode.{Child}
 use Rattle.node_table.specs.declared.child.Child.TheVariants.{Payload, Node}
 use Rattle.spec_map.specs.Legal.{exchange}
 use Rattle.spec_map.specs.Map.{Pairs, lookup}
 use Rattle.share_rule.specs.History.{Entry, IsHistory}
-use Rattle.live_nodes.specs.Seats.{Place, SeatView, IsIn}
-use Rattle.live_law.specs.Levels.{Spot, name_of, Covers}
-use Rattle.live_law.specs.Views.{View, view_of, Ask, ask}
-use Rattle.live_law.specs.Tree.{Answers}
-use Rattle.live_calls.specs.Ways.{Names}
+use Rattle.live_nodes.specs.Seats.{Place, SeatView}
+use Rattle.live_law.specs.Levels.{Spot}
+use Rattle.live_law.specs.Views.{Watch, View, view_of, Ask, ask}
+use Rattle.live_law.specs.Tree.{Answers, Parts, LearnsNode}
+use Rattle.live_calls.specs.Ways.{Names, Sights}
 use Rattle.live_updates.specs.Entries.{removed, swapped}
 use Rattle.live_updates.specs.declared.lookup.Site.{Site}
 use Rattle.live_updates.specs.declared.lookup.Site.TheVariants as sites
@@ -42,21 +42,34 @@ abbrev pub MayEnd : ℕ → Option (Entry ℕ) → View → View → Type 0
 MayEnd c None v w = w ≡ v
 MayEnd c (Some e) v w = HasEnded c e v w
 
--- A NODE was read where the way ends: in a leaf, where nothing is below, or above a node without such keys.
-abbrev pub Seeks : Lookup → Ask → View → Spot → Option (Child ℕ) → List Place → View → Type 0
-Seeks q a v s None ps w = MayEnd q.caller (q.entry None) v w
-Seeks q a v s (Some (Payload y)) ps w = MayEnd q.caller (q.entry (Some y)) v w
-Seeks q a v s (Some (Node n)) ps w = (b : Spot) → IsIn b v.met → n ≡ name_of b.shape → (Covers b.shape a.key → ⊥) → MayEnd q.caller (q.entry None) v w
+-- A NODE was read where the way ends: in a leaf, where nothing is below, or above a watched node without such keys.
+abbrev pub Seeks : Lookup → ℕ → Ask → View → Spot → Option (Child ℕ) → List Place → View → Type 0
+Seeks q word a v s None ps w = MayEnd q.caller (q.entry None) v w
+Seeks q word a v s (Some (Payload y)) ps w = MayEnd q.caller (q.entry (Some y)) v w
+Seeks q word a v s (Some (Node n)) ps w = (b : Watch) → Parts a v word s n b → MayEnd q.caller (q.entry None) v w
 
--- What a leaf has, or nothing, where a writer came in between.
-abbrev pub Found : Lookup → Option (Option ℕ) → SeatView View → SeatView View → Type 0
-Found q None v w = w.client ≡ v.client
-Found q (Some found) v w = MayEnd q.caller (q.entry found) v.client w.client
+abbrev pub LearnsSeek : Lookup → View → ℕ → ℕ → List (ℕ × ℕ) → List Place → View → Type 0
+LearnsSeek q v k word saw ps w = LearnsNode (Seeks q word) (asked_by q) v k word saw ps w
+
+-- The seat has met that node, if there is one.
+abbrev pub MaySight : SeatView View → Option ℕ → Type 0
+MaySight v None = Unit {0}
+MaySight v (Some b) = Sights v b
 
 -- The call has ended, if it ends there, or the seat has seen no more.
 abbrev pub EndsBy : ℕ → Option (Entry ℕ) → SeatView View → SeatView View → Type 0
 EndsBy c None v w = w.client.seen ≡ v.client.seen
 EndsBy c (Some e) v w = Answers c e v.client.seen w.client.seen
+
+-- What a leaf has, or nothing, where a writer came in between.
+abbrev pub Found : Lookup → Option (Option ℕ) → SeatView View → SeatView View → Type 0
+Found q None v w = w.client.seen ≡ v.client.seen
+Found q (Some found) v w = EndsBy q.caller (q.entry found) v w
+
+-- The key is absent, or nothing is known.
+abbrev pub Lacks : Lookup → Bool → SeatView View → SeatView View → Type 0
+Lacks q true v w = EndsBy q.caller (q.entry None) v w
+Lacks q false v w = w.client.seen ≡ v.client.seen
 
 -- The key is absent, or is in a leaf. Nothing is known where a writer came in between.
 abbrev pub Sought : Lookup → Option Site → SeatView View → SeatView View → Type 0

@@ -46,6 +46,11 @@ pub record HasUpdated (u : Update) (v w : View) : Type 0 where
 abbrev pub Writes : Update → View → ℕ → Content → View → Type 0
 Writes u v k c w = HasUpdated u v w
 
+-- why nothing was written, if so
+abbrev pub missed_by : {A : Type 0} → Result A Missed → Option Missed
+missed_by (Ok a) = None
+missed_by (Err missed) = Some missed
+
 -- The call has ended, or the seat has seen no more.
 abbrev pub Updated : Update → Option Missed → SeatView View → SeatView View → Type 0
 Updated u None v w = Answers u.caller u.entry v.client.seen w.client.seen

@@ -1,6 +1,7 @@
 //! Calls that change many pairs, against plain loops over the keys.
 
 mod faces;
+mod kept;
 mod slices;
 
 use super::asserts::{assert_number, assert_pairs, assert_test};

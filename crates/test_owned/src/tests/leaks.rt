@@ -169,6 +169,51 @@ fn owners_are_given_back(rt: HostRuntime) -> Result<(), Fail> {
     Ok(())
 }
 
+// Keeps every third of 300 owners of one value, and then one. Returns how many there are, the first included, after each;
+// and at how many pairs the closure saw other owners than those that it hadn't refused.
+fn owners_retained(map: &mut Owners<'_>, owner: &Arc<u64>) -> Result<[usize; 3], OOMError> {
+    for key in 0..300u64 {
+        map.insert(key, owner.clone()?)?;
+    }
+    let (mut wanted, mut wrong) = (301usize, 0usize);
+    map.retain(&mut |key: u64, given: &Arc<u64>| {
+        if Arc::strong_count(given) != wanted {
+            wrong = wrong.wrapping_add(1);
+        }
+        let stays = key % 3 == 0;
+        if !stays {
+            wanted = wanted.wrapping_sub(1);
+        }
+        stays
+    });
+    let thirds = Arc::strong_count(owner);
+    map.retain(&mut |key: u64, _given: &Arc<u64>| key == 255);
+    Ok([thirds, Arc::strong_count(owner), wrong])
+}
+
+fn retained_until_dropped(
+    alloc: Global,
+    counts: &Counts,
+    owner: &Arc<u64>,
+) -> Result<[usize; 3], OOMError> {
+    counts.grant(100);
+    owners_retained(&mut CongeeArc::new_in(alloc, Counted { counts })?, owner)
+}
+
+// The same, how many there are at the end, and the bytes that are still held then.
+fn owners_after_retain(alloc: Global) -> Result<([usize; 3], usize, u64), OOMError> {
+    let counts = Counts::new();
+    let owner = Arc::new(alloc, 7u64)?;
+    let within = retained_until_dropped(alloc, &counts, &owner)?;
+    Ok((within, Arc::strong_count(&owner), counts.charged()))
+}
+
+#[test]
+fn refused_owners_are_given_back_one_after_another(rt: HostRuntime) -> Result<(), Fail> {
+    assert_eq!(rt; owners_after_retain(rt.alloc())?, ([101, 2, 0], 1, 0));
+    Ok(())
+}
+
 // Inserts owners of one value until one is refused. Returns how many weren't.
 fn stored_until_refused(
     map: &mut CongeeArc<u64, u64, Budget>,

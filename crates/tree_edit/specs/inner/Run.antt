@@ -1,6 +1,7 @@
--- A run of removals in one leaf. Only private contracts cite this.
-use Rattle.std.specs.Prelude.{◌≡◌, ℕ, ◌+◌, ◌<◌, List, length, Some, None}
-use Rattle.spec_map.specs.Map.{lookup}
+-- A run of removals in one leaf, or of questions. Only private contracts cite this.
+use Rattle.std.specs.Prelude.{◌≡◌, ℕ, ◌+◌, ◌<◌, ◌≤◌, Bool, List, length, Some, None}
+use Rattle.spec_map.specs.Map.{Pairs, lookup}
+use Rattle.tree_edit.specs.Calls.{Asking, HasNoneAfter}
 use Rattle.node_table.specs.Key.{AreBytes}
 use Rattle.node_table.specs.Table.{NodeTable, node_at}
 use Rattle.node_table.specs.TableNode.{TableNode}
@@ -25,3 +26,10 @@ pub record IsAtPair {P : Type 0} (s : NodeTable P) (root : ℕ) (forms : FormCou
 -- the slot's node has nothing between two bytes
 abbrev pub HasNoneBetween : {P : Type 0} → NodeTable P → ℕ → ℕ → ℕ → Type 0
 HasNoneBetween {P} s slot a b = (n : TableNode P) → node_at s slot ≡ Some n → (byte : ℕ) → a < byte → byte < b → lookup n.children byte ≡ None
+
+-- from a start on pairs were asked about, and none is left before this key
+pub record HasAsked {F P : Type 0} (step : F → ℕ × P → Bool → F → Type 0) (f : F) (m : Pairs P) (start : ℕ) (g : F) (n : Pairs P) (key : ℕ) : Type 0 where
+  pub from : ℕ
+  pub order : from ≤ key
+  pub none : HasNoneAfter n from key
+  pub asks : (f' : F) (first : Pairs P) → Asking step f' first f m start → Asking step f' first g n from

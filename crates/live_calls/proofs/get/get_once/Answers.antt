@@ -4,7 +4,7 @@ use Rattle.live_calls.specs.Ways.{IsOpen, Found, Ended}
 use Rattle.live_calls.specs.Sees.{Follows, IsNextOpen}
 use Rattle.live_calls.specs.declared.sight.Next.TheVariants as nexts
 use Rattle.live_calls.proofs.Finds.{keeps_then, seen_more, looked_leaf, ended_none, names_kept}
-use Rattle.live_calls.proofs.Sights.{sights_names}
+use Rattle.live_calls.proofs.Sights.{sights_names, sure_root}
 use Rattle.live_calls.proofs.get.get_once.Goals as goal
 
 pub returns-in_err-here : goal.returns-in_err-here
@@ -33,7 +33,12 @@ loop-height-init g c =
       seen = ap (λ (z : View). z.seen) o.3 ∙ r.3;
       low = omega arith;
       high = omega arith;
-      node = record { names = names_kept v w name c.args.key 8 o.2 n; opened = there.1 (sights_names v name c.args.key 8 n); free = there.0 };
+      node = record {
+        names = names_kept v w name c.args.key 8 o.2 n;
+        opened = there.1 (sights_names v name c.args.key 8 n);
+        free = there.0;
+        sure = sure_root n.spot (there.1 (sights_names v name c.args.key 8 n)).saw n.high;
+      };
     }
 
 pub returns-in_err-step : goal.returns-in_err-step
@@ -95,8 +100,16 @@ loop-height-preserved g c =
       node = node;
     }
 
-pub ends_above-requires-clause-named : goal.ends_above-requires-clause-named
-ends_above-requires-clause-named g c = names_kept c.loop-height.pass.view c.step.new.pass.view c.loop-height.name c.args.key c.loop-height.height c.step.ensures.told.2 c.loop-height.invariant.node.names
+pub ends_above-requires-clause-sighted : goal.ends_above-requires-clause-sighted
+ends_above-requires-clause-sighted g c =
+    let v = c.loop-height.pass.view in
+    let w = c.step.new.pass.view in
+    let h = c.loop-height.height in
+    let key = c.args.key in
+    let Ends = Ended g.A.Asks.reads g.A.Asks.ask None in
+    let is : c.in_ok-step.step.next ≡ nexts.Forks c.in-Forks.fork = search rules in
+    let f = subst (λ z. Follows Ends v w key h (Some z)) is c.in_ok-step.ensures.next.0 in
+    (sights_names w c.loop-height.name key h (names_kept v w c.loop-height.name key h c.step.ensures.told.2 c.loop-height.invariant.node.names), f.1.sighted)
 
 pub returns-then-ends_above : goal.returns-then-ends_above
 returns-then-ends_above g c =
@@ -116,7 +129,7 @@ returns-then-ends_above g c =
     let x = c.ends_above.new.pass.view in
     let e = c.ends_above.ensures.told in
     let a = c.ends_above.ensures.ends (search rules) in
-    record { told = (e.0 ∙ (t.0 ∙ i.book), e.1 ∙ (t.1 ∙ i.id), keeps_then u w x keeps e.2, seen_more q (Some None) u w x (f.0 ∙ i.seen) a.answers) }
+    record { told = (e.0 ∙ (t.0 ∙ i.book), e.1 ∙ (t.1 ∙ i.id), keeps_then u w x keeps e.2, seen_more q (Some None) u w x (f.0 ∙ i.seen) a) }
 
 pub returns-in-Forks : goal.returns-in-Forks
 returns-in-Forks g c =
@@ -136,7 +149,7 @@ returns-in-Forks g c =
     let x = c.ends_above.new.pass.view in
     let e = c.ends_above.ensures.told in
     let same = c.ends_above.ensures.busy (search rules) in
-    record { told = (e.0 ∙ (t.0 ∙ i.book), e.1 ∙ (t.1 ∙ i.id), keeps_then u w x keeps e.2, ap (λ (z : View). z.seen) same ∙ (f.0 ∙ i.seen)) }
+    record { told = (e.0 ∙ (t.0 ∙ i.book), e.1 ∙ (t.1 ∙ i.id), keeps_then u w x keeps e.2, same ∙ (f.0 ∙ i.seen)) }
 
 pub look-requires-clause-open : goal.look-requires-clause-open
 look-requires-clause-open g c =

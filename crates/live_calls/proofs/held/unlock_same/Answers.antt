@@ -1,4 +1,4 @@
-use Rattle.std.proofs.Common.{sym, ap, refl, ◌+◌, ◌∙◌}
+use Rattle.std.proofs.Common.{sym, ap, refl, arith, [], ◌+◌, ◌/◌, ◌∙◌}
 use Rattle.live_law.specs.Levels.{place_at}
 use Rattle.live_law.specs.Views.{View, rest_of}
 use Rattle.live_law.specs.Tree.{StaysSame}
@@ -19,7 +19,7 @@ unlock-requires-clause-frees c =
     let h = c.requires.holds.2 in
     let first = c.index-words-0.result in
     let at_k = (first_word (place_at a) b words h.are first first (sym c.index-words-0.is)).0 in
-    may_free v b words free a x x h first.key at_k StaysSame c.args.pass.now.id (free + 4) (node_stays c.args.pass.now.id v.client a x h.own (free + 4) x refl)
+    may_free v b words free a x x h first.key at_k StaysSame c.args.pass.now.id (free + 4) (node_stays c.args.pass.now.id v.client a x [] h.own tt (free + 4) (free / 4 + 1) (let even = c.requires.word.0 in omega (arith, even)) x refl)
 
 pub returns : goal.returns
 returns c =

@@ -4,7 +4,7 @@ use Rattle.live_calls.specs.Ways.{Ended}
 use Rattle.live_calls.specs.Sees.{Follows, IsNextOpen}
 use Rattle.live_calls.specs.declared.sight.Next.TheVariants as nexts
 use Rattle.live_calls.proofs.Finds.{keeps_then, names_kept, when_out}
-use Rattle.live_calls.proofs.Sights.{sights_names}
+use Rattle.live_calls.proofs.Sights.{sights_names, sure_root}
 use Rattle.live_calls.proofs.Stood.{stands_first, stands_kept, stands_below}
 use Rattle.live_calls.proofs.insert.descend.Goals as goal
 
@@ -34,7 +34,12 @@ loop-stand-init c =
       keeps = keeps_then u v w r.2 o.2;
       seen = ap (λ (z : View). z.seen) o.3 ∙ r.3;
       stands = stands_first w c.args.key name names;
-      node = record { names = names; opened = there.1 (sights_names v name c.args.key 8 n); free = there.0 };
+      node = record {
+        names = names;
+        opened = there.1 (sights_names v name c.args.key 8 n);
+        free = there.0;
+        sure = sure_root n.spot (there.1 (sights_names v name c.args.key 8 n)).saw n.high;
+      };
     }
 
 pub returns-in_err-step : goal.returns-in_err-step
@@ -67,7 +72,7 @@ returns-in-Ends c =
     let next = c.in_ok-step.ensures.next in
     let is : c.in_ok-step.step.next ≡ nexts.Ends = search rules in
     let f = subst (λ z. Follows Ends v w key s.height (Some z)) is next.0 in
-    record { told = (t.0 ∙ i.book, t.1 ∙ i.id, keeps, ap (λ (z : View). z.seen) f ∙ i.seen, (stands_kept v w key s t.2 i.stands, tt)) }
+    record { told = (t.0 ∙ i.book, t.1 ∙ i.id, keeps, f ∙ i.seen, (stands_kept v w key s t.2 i.stands, tt)) }
 
 pub loop-stand-preserved : goal.loop-stand-preserved
 loop-stand-preserved c =

@@ -1,9 +1,15 @@
-use Rattle.live_calls.proofs.Ready.{ready_grown}
+use Rattle.live_calls.proofs.Ready.{ready_spare, sights_grown}
 use Rattle.live_calls.proofs.insert.enlarge.Goals as goal
 
-pub returns-then-height-lt8 : goal.returns-then-height-lt8
-returns-then-height-lt8 c =
+pub returns-then-outgrown : goal.returns-then-outgrown
+returns-then-outgrown c =
     let v = c.args.pass.now.view in
-    let w = c.widen.new.pass.view in
-    let t = c.widen.ensures.told in
-    record { told = (t.0, t.1, ready_grown v w c.args.room.now.start c.args.room.now.left c.widen.new.room.start c.widen.new.room.left c.requires.ready t.2 t.3, t.2.seen) }
+    let w = c.replace-outgrown.new.pass.view in
+    let room = c.replace-outgrown.new.room in
+    let t = c.replace-outgrown.ensures.told in
+    let s = c.args.stand in
+    let met = sights_grown v w s.name c.args.key s.height t.3 c.requires.stands.named in
+    record { told = (t.0, t.1, ready_spare w room c.keep.new.self t.2 (c.keep.ensures.kept w t.2.spare met), t.3.seen) }
+
+pub returns-else-outgrown : goal.returns-else-outgrown
+returns-else-outgrown c = let t = c.replace-outgrown.ensures.told in record { told = (t.0, t.1, t.2, t.3.seen) }

@@ -12,11 +12,11 @@ returns-in-Ok c =
     let v = c.args.pass.now.view in
     let x = c.insert_here.new.pass.view in
     let l = c.insert_here.ensures.told in
-    record { told = (l.0, l.1, ready_rest v x c.args.room.now.start c.args.room.now.left c.requires.ready l.2, c.in-Ok.ensures.told.3) }
+    record { told = (l.0, l.1, ready_rest v x c.args.room.now c.requires.ready l.2, c.in-Ok.ensures.told.3) }
 
 pub enlarge-requires-clause-ready : goal.enlarge-requires-clause-ready
 enlarge-requires-clause-ready c =
-    ready_rest c.args.pass.now.view c.insert_here.new.pass.view c.args.room.now.start c.args.room.now.left c.requires.ready c.insert_here.ensures.told.2
+    ready_rest c.args.pass.now.view c.insert_here.new.pass.view c.args.room.now c.requires.ready c.insert_here.ensures.told.2
 
 pub enlarge-requires-clause-stands : goal.enlarge-requires-clause-stands
 enlarge-requires-clause-stands c = stands_rest c.args.pass.now.view c.insert_here.new.pass.view c.args.key c.args.stand c.insert_here.ensures.told.2 c.requires.stands
@@ -26,4 +26,4 @@ returns-in-Err-Busy c =
     let v = c.args.pass.now.view in
     let x = c.insert_here.new.pass.view in
     let l = c.insert_here.ensures.told in
-    record { told = (l.0, l.1, ready_rest v x c.args.room.now.start c.args.room.now.left c.requires.ready l.2, c.in-Err-Busy.ensures.told.4) }
+    record { told = (l.0, l.1, ready_rest v x c.args.room.now c.requires.ready l.2, c.in-Err-Busy.ensures.told.4) }

@@ -1,4 +1,4 @@
-use Rattle.std.proofs.Common.{rules, arith, sym, ap, subst, length, refl, ℕ, Some, None, List, ◌∷◌, ◌≡◌, ◌+◌, ◌-◌, ◌∙◌}
+use Rattle.std.proofs.Common.{rules, arith, sym, ap, subst, length, refl, ℕ, Some, None, List, ◌∷◌, ◌≡◌, ◌+◌, ◌-◌, ◌/◌, ◌∙◌}
 use Rattle.node_base.specs.declared.base_node.NodeType.TheVariants.{N4 as NEW_form}
 use Rattle.live_nodes.specs.Seats.{SeatView}
 use Rattle.live_rows.specs.Rows.{draft_of, nth}
@@ -170,7 +170,7 @@ unlock-requires-clause-frees g c =
     let absent = none_under h.content (draft_of (nth 0 w.holds)) was_w c.form_below-form.result a.shape.form (sym form) c.byte_at-byte.result (digit a.shape.height q.key) digit_is ob.1 in
     let changes = link_changes q key h.content (draft_of (nth 0 m.holds)) was d c.form_below-form.result a y c.byte_at-byte.result digit_is form c.word_below.result c.make_empty-child.result c.word_below.ensures.child laid.made.named height h.names.high c.requires.height.0 absent c.put.ensures.is in
     let long = c.put.ensures.long ∙ ap words_of form in
-    let frees = child_frees c.put.new.seat.id q u u.client a h.content height (y, laid.content, own, empty, laid.made.high, laid.made.covers) (let lo = c.requires.height.0 in omega (arith, asks.1, lo)) (omega (arith, asks.1)) h.names.high covers (free + 4) d long changes absent in
+    let frees = child_frees c.put.new.seat.id q u u.client a h.content height (y, laid.content, own, empty, laid.made.high, laid.made.covers) (let lo = c.requires.height.0 in omega (arith, asks.1, lo)) (omega (arith, asks.1)) h.names.high covers (free + 4) (free / 4 + 1) (let even = h.even in omega (arith, even)) d long changes absent in
     let first = c.index-words-0.result in
     let at_k = (first_word (place_at a) b' words held.are first first (sym c.index-words-0.is)).0 in
     grip_frees u b' words free (place_at a) d held first.key at_k Links c.put.new.seat.id (free + 4) frees
@@ -219,7 +219,7 @@ returns g c =
     let absent = none_under h.content (draft_of (nth 0 w.holds)) was_w c.form_below-form.result a.shape.form (sym form) c.byte_at-byte.result (digit a.shape.height q.key) digit_is ob.1 in
     let changes = link_changes q key h.content (draft_of (nth 0 m.holds)) was d c.form_below-form.result a y c.byte_at-byte.result digit_is form c.word_below.result c.make_empty-child.result c.word_below.ensures.child laid.made.named height h.names.high c.requires.height.0 absent c.put.ensures.is in
     let long = c.put.ensures.long ∙ ap words_of form in
-    let frees = child_frees c.put.new.seat.id q u u.client a h.content height (y, laid.content, own, empty, laid.made.high, laid.made.covers) (let lo = c.requires.height.0 in omega (arith, asks.1, lo)) (omega (arith, asks.1)) h.names.high covers (free + 4) d long changes absent in
+    let frees = child_frees c.put.new.seat.id q u u.client a h.content height (y, laid.content, own, empty, laid.made.high, laid.made.covers) (let lo = c.requires.height.0 in omega (arith, asks.1, lo)) (omega (arith, asks.1)) h.names.high covers (free + 4) (free / 4 + 1) (let even = h.even in omega (arith, even)) d long changes absent in
     let first = c.index-words-0.result in
     let at_k = (first_word (place_at a) b' words held.are first first (sym c.index-words-0.is)).0 in
     let x = c.unlock.new.seat.view in
@@ -241,5 +241,6 @@ returns g c =
         grown,
         room_after m x (start + words_of NEW_form + 1) (left - (words_of NEW_form + 1)) (start + (c.words_in-2.result + 1)) (left - (c.words_in-3.result + 1))
             (ap (λ (z : SeatView View). z.room) f.1 ∙ ap (λ (z : SeatView View). z.room) others) (omega (arith, n2)) (omega (arith, n3)) after,
+        refl,
       );
     }

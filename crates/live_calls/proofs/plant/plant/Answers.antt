@@ -1,4 +1,4 @@
-use Rattle.std.proofs.Common.{rules, arith, sym, ap, subst, length, refl, ℕ, List, ◌∷◌, [], ◌≡◌, ◌+◌, ◌-◌, ◌≤◌, ◌∙◌, get_or-set_same, length-set, set}
+use Rattle.std.proofs.Common.{rules, arith, sym, ap, subst, length, refl, ℕ, List, ◌∷◌, [], ◌≡◌, ◌+◌, ◌-◌, ◌%◌, ◌/◌, ◌≤◌, ◌∙◌, get_or-set_same, length-set, set}
 use Rattle.node_base.specs.declared.base_node.NodeType.TheVariants.{N256}
 use Rattle.node_base.specs.Form.{form_place}
 use Rattle.live_nodes.specs.Nodes.{at}
@@ -262,7 +262,7 @@ unlock-requires-2-clause-frees g c =
     let zero : c.get.result ≡ 0 = search rules in
     let zero_is : at h.content 0 ≡ 0 = ap (λ (z : List ℕ). at z 0) (sym (grip_draft w bw words free p h.content grip)) ∙ (sym c.get.ensures.is ∙ zero) in
     let some_name : 1 ≤ name_of y.shape = (let f = ap form_place laid.made.in_form in omega (arith, f)) in
-    let frees = root_frees c.set.new.seat.id q u.client y laid.content h.content u_own zero_is laid.made.high laid.made.covers c.requires.asks.1 c.requires.asks.0 (free + 4) d d_long d_names some_name empty in
+    let frees = root_frees c.set.new.seat.id q u.client y laid.content h.content u_own zero_is laid.made.high laid.made.covers c.requires.asks.1 c.requires.asks.0 (free + 4) (free / 4 + 1) (let even : free % 4 ≡ 0 = search rules in omega (arith, even)) d d_long d_names some_name empty in
     let third = c.index-words-0-3.result in
     let at_third = (first_word p ub words held.are third third (sym c.index-words-0-3.is)).0 in
     grip_frees u ub words free p d held third.key at_third Links c.set.new.seat.id (free + 4) frees
@@ -352,7 +352,7 @@ returns g c =
     let zero : c.get.result ≡ 0 = search rules in
     let zero_is : at h.content 0 ≡ 0 = ap (λ (z : List ℕ). at z 0) (sym (grip_draft w bw words free p h.content grip)) ∙ (sym c.get.ensures.is ∙ zero) in
     let some_name : 1 ≤ name_of y.shape = (let f = ap form_place laid.made.in_form in omega (arith, f)) in
-    let frees = root_frees c.set.new.seat.id q u.client y laid.content h.content u_own zero_is laid.made.high laid.made.covers c.requires.asks.1 c.requires.asks.0 (free + 4) d d_long d_names some_name empty in
+    let frees = root_frees c.set.new.seat.id q u.client y laid.content h.content u_own zero_is laid.made.high laid.made.covers c.requires.asks.1 c.requires.asks.0 (free + 4) (free / 4 + 1) (let even : free % 4 ≡ 0 = search rules in omega (arith, even)) d d_long d_names some_name empty in
     let third = c.index-words-0-3.result in
     let at_third = (first_word p ub words held.are third third (sym c.index-words-0-3.is)).0 in
     let x = c.unlock-2.new.seat.view in

@@ -1,18 +1,15 @@
-use Rattle.std.proofs.Common.{rules, arith, refl, sym, ap, subst, get_or, ℕ, ◌≤◌, ◌/◌, ◌∙◌}
-use Rattle.node_base.specs.Form.{form_place}
-use Rattle.live_cells.specs.Head.{IsHead}
+use Rattle.std.proofs.Common.{rules, arith, refl, sym, ap, subst, get_or, ◌/◌, ◌∙◌}
 use Rattle.live_law.specs.Levels.{place_at}
-use Rattle.live_calls.specs.Ways.{HasOpened}
+use Rattle.live_law.specs.Views.{View}
 use Rattle.live_calls.proofs.Finds.{keeps_then}
-use Rattle.live_calls.proofs.Views.{first_word, may_read_open, open_long, may_meet, meet_missed, meet_head}
+use Rattle.live_calls.proofs.Views.{first_word, may_read_open, open_long, IsHeaded, saw_head, may_meet, meet_missed, meet_head}
 use Rattle.live_calls.proofs.Sights.{sights_kept, sees_head}
 use Rattle.live_calls.proofs.sight.meet.Goals as goal
 
 pub word-head-requires-clause-may : goal.word-head-requires-clause-may
-word-head-requires-clause-may g c =
+word-head-requires-clause-may c =
     let v = c.args.pass.now.view in
     let u = c.open.new.pass.view in
-    let q = g.A.Asks.ask in
     let name = c.args.name in
     let b = c.open.new.pass.book in
     let words = c.in_ok-here.here.words.now in
@@ -25,10 +22,9 @@ word-head-requires-clause-may g c =
     may_read_open u b words t n.spot kept.placed o
 
 pub word-head-requires-clause-inside : goal.word-head-requires-clause-inside
-word-head-requires-clause-inside g c =
+word-head-requires-clause-inside c =
     let v = c.args.pass.now.view in
     let u = c.open.new.pass.view in
-    let q = g.A.Asks.ask in
     let name = c.args.name in
     let b = c.open.new.pass.book in
     let words = c.in_ok-here.here.words.now in
@@ -41,10 +37,9 @@ word-head-requires-clause-inside g c =
     open_long u b words t n.spot kept.placed o
 
 pub check-requires-clause-learns : goal.check-requires-clause-learns
-check-requires-clause-learns g c =
+check-requires-clause-learns c =
     let v = c.args.pass.now.view in
     let u = c.open.new.pass.view in
-    let q = g.A.Asks.ask in
     let name = c.args.name in
     let b = c.open.new.pass.book in
     let words = c.in_ok-here.here.words.now in
@@ -59,13 +54,12 @@ check-requires-clause-learns g c =
     let v₂ = c.word-head.new.seat.view in
     let r = c.word-head.ensures.seat.others in
     let rest = ap (λ s. s.view) r in
-    may_meet u b words t name kept o v₂ rest first.key at_k q c.word-head.new.seat.id (t / 4) (c.requires.asks ∙ sym (ap (λ s. s.id) r ∙ told.1)) (omega (arith, free))
+    may_meet u b words t name kept o v₂ rest first.key at_k c.word-head.new.seat.id (t / 4) (omega (arith, free))
 
 pub returns-then-not-check-clause-told : goal.returns-then-not-check-clause-told
-returns-then-not-check-clause-told g c =
+returns-then-not-check-clause-told c =
     let v = c.args.pass.now.view in
     let u = c.open.new.pass.view in
-    let q = g.A.Asks.ask in
     let name = c.args.name in
     let b = c.open.new.pass.book in
     let words = c.in_ok-here.here.words.now in
@@ -85,14 +79,13 @@ returns-then-not-check-clause-told g c =
     let w = c.check.new.seat.view in
     let book = s.0 ∙ (ap (λ s. s.book) r ∙ told.0) in
     let id = s.1 ∙ (ap (λ s. s.id) r ∙ told.1) in
-    let keeps = meet_missed u b words t name kept o v₂ rest first.key at_k q w e.0 e.2 (search rules) in
-    (book, id, keeps_then v u w told.2 keeps.0, keeps.1 ∙ told.3)
+    let keeps = meet_missed u b words t name kept o v₂ rest first.key at_k w e.0 e.2 (search rules) in
+    (book, id, keeps_then v u w told.2 keeps.0, ap (λ (z : View). z.seen) (keeps.1 ∙ told.3))
 
 pub returns-clause-told : goal.returns-clause-told
-returns-clause-told g c =
+returns-clause-told c =
     let v = c.args.pass.now.view in
     let u = c.open.new.pass.view in
-    let q = g.A.Asks.ask in
     let name = c.args.name in
     let b = c.open.new.pass.book in
     let words = c.in_ok-here.here.words.now in
@@ -112,14 +105,13 @@ returns-clause-told g c =
     let w = c.check.new.seat.view in
     let book = s.0 ∙ (ap (λ s. s.book) r ∙ told.0) in
     let id = s.1 ∙ (ap (λ s. s.id) r ∙ told.1) in
-    let h = meet_head u b words t name kept o v₂ rest first.key at_k q w e.0 e.2 (search rules) in
-    (book, id, keeps_then v u w told.2 h.0, h.1 ∙ told.3)
+    let h = meet_head u b words t name kept o v₂ rest first.key at_k w e.0 e.2 (search rules) in
+    (book, id, keeps_then v u w told.2 h.0, h.1 ∙ ap (λ (z : View). z.seen) told.3)
 
 pub returns-clause-met : goal.returns-clause-met
-returns-clause-met g c =
+returns-clause-met c =
     let v = c.args.pass.now.view in
     let u = c.open.new.pass.view in
-    let q = g.A.Asks.ask in
     let name = c.args.name in
     let b = c.open.new.pass.book in
     let words = c.in_ok-here.here.words.now in
@@ -139,13 +131,8 @@ returns-clause-met g c =
     let w = c.check.new.seat.view in
     let book = s.0 ∙ (ap (λ s. s.book) r ∙ told.0) in
     let id = s.1 ∙ (ap (λ s. s.id) r ∙ told.1) in
-    let h = meet_head u b words t name kept o v₂ rest first.key at_k q w e.0 e.2 (search rules) in
-    let x = h.3 in
-    let head_is = (c.word-head.ensures.read x.0 x.2).0 in
-    let sees = c.compare-sight.ensures (form_place x.1.form) x.1.prefix (subst (λ (z : ℕ). IsHead z (form_place x.1.form) x.1.prefix) head_is x.3.head) in
-    let deep = x.4 in
-    let short = x.3.head.short in
-    let tall : 1 ≤ n.spot.shape.height = omega (arith, deep, short) in
+    let h = meet_head u b words t name kept o v₂ rest first.key at_k w e.0 e.2 (search rules) in
+    let saw = saw_head u b words t name kept o v₂ rest first.key at_k in
     let its = sym (s.0 ∙ ap (λ s. s.book) r) in
-    let opened = subst (λ z. HasOpened w z words t n.spot) its h.2 in
-    sees_head u w h.0 c.check.new.seat.book words t name c.args.key c.ranges.key.fits kept opened free x.1.prefix x.4 x.5 tall c.compare-sight.result sees
+    let headed = subst (λ z. IsHeaded w z words t name saw) its h.2 in
+    sees_head w c.check.new.seat.book words t name c.args.key c.ranges.key.fits saw c.word-head.result (λ content agrees. (c.word-head.ensures.read content agrees).0) headed free c.compare-sight.result c.compare-sight.ensures

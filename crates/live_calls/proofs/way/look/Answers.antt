@@ -1,6 +1,8 @@
 use Rattle.std.proofs.Common.{rules, arith, sym, ap, subst, ◌/◌, ◌∙◌}
 use Rattle.spec_map.specs.Map.{lookup}
 use Rattle.live_encodes.specs.Encodes.{words_of, IsBelow}
+use Rattle.live_nodes.specs.Seats.{Agree}
+use Rattle.live_rows.specs.Rows.{last_saw}
 use Rattle.live_law.specs.Levels.{place_at}
 use Rattle.live_calls.proofs.Views.{first_word, may_read_open, may_look, look_missed, look_ends}
 use Rattle.live_calls.proofs.way.look.Goals as goal
@@ -89,6 +91,6 @@ returns g c =
     let book = s.0 ∙ ap (λ s. s.book) r in
     let id = s.1 ∙ ap (λ s. s.id) r in
     let form = c.form_below-form.ensures spot.shape.key spot.shape.form o.names.named in
-    let ends = look_ends v b words t name key height o v₂ rest first.key at_k g.A.Asks.reads q c.requires.asks.0 w told.0 told.2 (search rules) c.find-found.result
+    let ends = look_ends v b words t name key height o v₂ rest first.key at_k g.A.Asks.reads q c.requires.asks.0 w told.0 told.2 (search rules) (λ content agrees. subst (λ z. Agree content (last_saw z)) o.opened.reads (c.find-found.ensures.kept content agrees)) c.find-found.result
     (λ content n agrees encodes formed. subst (λ z. IsBelow (lookup n.children z) c.find-found.result) c.byte_at-byte.ensures (c.find-found.ensures.is content n agrees encodes (formed ∙ sym form))) in
     record { told = (book, id, ends.0, ends.1) }

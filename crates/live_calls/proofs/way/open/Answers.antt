@@ -1,7 +1,7 @@
 use Rattle.std.proofs.Common.{sym, subst, ◌∙◌}
 use Rattle.live_law.specs.Levels.{place_at}
 use Rattle.live_calls.specs.Ways.{AreNamed}
-use Rattle.live_calls.proofs.Views.{first_word, seen_of, seen_at, seen_keeps, seen_open}
+use Rattle.live_calls.proofs.Views.{first_word, seen_of, seen_at, seen_keeps, seen_reads, seen_open}
 use Rattle.live_calls.proofs.way.open.Goals as goal
 
 pub take-taken-requires-clause-known : goal.take-taken-requires-clause-known
@@ -26,7 +26,7 @@ returns-then-taken-ne0 c =
     let at_k = (first_word (place_at n.spot) b words (seen_of v c.args.name n b words are) first first (sym c.index-words-0.is)).0 in
     let keeps = seen_keeps v c.args.name n b words are first.key at_k c.take-taken.new.seat.view c.take-taken.result c.take-taken.ensures.told in
     let s = c.take-taken.ensures.seat in
-    record { told = (s.0, s.1, keeps.0, keeps.1); opened = tt }
+    record { told = (s.0, s.1, keeps.0, keeps.1); opened = tt; taken = tt }
 
 pub returns : goal.returns
 returns c =
@@ -49,4 +49,7 @@ returns c =
             (let at_m = (first_word (place_at m.spot) b words (seen_of v c.args.name m b words are) first first (sym c.index-words-0.is)).0 in
             seen_open v c.args.name m c.take-taken.new.seat.book words here first.key at_m c.take-taken.new.seat.view c.take-taken.result c.take-taken.ensures.told),
       );
+      taken = λ m.
+          (let at_m = (first_word (place_at m.spot) b words (seen_of v c.args.name m b words are) first first (sym c.index-words-0.is)).0 in
+          seen_reads v c.args.name m c.take-taken.new.seat.book words here first.key at_m c.take-taken.new.seat.view c.take-taken.result c.take-taken.ensures.told);
     }

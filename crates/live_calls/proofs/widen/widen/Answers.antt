@@ -398,7 +398,7 @@ unlock-requires-clause-frees g c =
     let hx_high = hx.names.high in
     let first = c.index-words_above-0.result in
     let at_p = (first_word (place_at p) nb words_p pair_n.are_p first first (sym c.index-words_above-0.is)).0 in
-    let frees = link_grown c.change.new.seat.id n.client q.key y x p cy hx.content hp.content own_n (free_p + 4) d (let ht = c.requires.height in omega (arith, high_y, hp_high, ht)) (let lo = c.requires.height.0 in omega (arith, high_y, lo)) made.covers covers_p (hx_high ∙ sym high_y) covers_x long changes has.0 named spells grows in
+    let frees = link_grown c.change.new.seat.id n.client q.key y x p cy hx.content hp.content own_n (free_p + 4) (free_p / 4 + 1) (let even = hp.even in omega (arith, even)) d (let ht = c.requires.height in omega (arith, high_y, hp_high, ht)) (let lo = c.requires.height.0 in omega (arith, high_y, lo)) made.covers covers_p (hx_high ∙ sym high_y) covers_x long changes has.0 named spells grows in
     pair_frees n nb words words_p free free_p x p hx.content d pair_n first.key at_p Links c.change.new.seat.id (free_p + 4) frees
 
 pub retire-requires-clause-frees : goal.retire-requires-clause-frees
@@ -470,7 +470,7 @@ retire-requires-clause-frees g c =
     let hx_high = hx.names.high in
     let first = c.index-words_above-0.result in
     let at_p = (first_word (place_at p) nb words_p pair_n.are_p first first (sym c.index-words_above-0.is)).0 in
-    let frees = link_grown c.change.new.seat.id n.client q.key y x p cy hx.content hp.content own_n (free_p + 4) d (let ht = c.requires.height in omega (arith, high_y, hp_high, ht)) (let lo = c.requires.height.0 in omega (arith, high_y, lo)) made.covers covers_p (hx_high ∙ sym high_y) covers_x long changes has.0 named spells grows in
+    let frees = link_grown c.change.new.seat.id n.client q.key y x p cy hx.content hp.content own_n (free_p + 4) (free_p / 4 + 1) (let even = hp.even in omega (arith, even)) d (let ht = c.requires.height in omega (arith, high_y, hp_high, ht)) (let lo = c.requires.height.0 in omega (arith, high_y, lo)) made.covers covers_p (hx_high ∙ sym high_y) covers_x long changes has.0 named spells grows in
     let z = c.unlock.new.seat.view in
     let zb = c.unlock.new.seat.book in
     let zs = c.unlock.ensures.seat in
@@ -484,7 +484,7 @@ retire-requires-clause-frees g c =
     let last = c.index-words-0.result in
     let at_x = (first_word (place_at x) zb words grip.are last last (sym c.index-words-0.is)).0 in
     let even = hx.even in
-    let retires = node_retires c.unlock.new.seat.id z.client x own_z (free + 3) (free / 4) (omega (arith, even)) hx.content hx.long in
+    let retires = node_retires c.unlock.new.seat.id z.client x [] own_z tt (free + 3) (free / 4) (omega (arith, even)) hx.content hx.long in
     grip_frees z zb words free (place_at x) hx.content grip last.key at_x StaysSame c.unlock.new.seat.id (free + 3) retires
 
 pub returns : goal.returns
@@ -556,7 +556,7 @@ returns g c =
     let hx_high = hx.names.high in
     let first = c.index-words_above-0.result in
     let at_p = (first_word (place_at p) nb words_p pair_n.are_p first first (sym c.index-words_above-0.is)).0 in
-    let frees = link_grown c.change.new.seat.id n.client q.key y x p cy hx.content hp.content own_n (free_p + 4) d (let ht = c.requires.height in omega (arith, high_y, hp_high, ht)) (let lo = c.requires.height.0 in omega (arith, high_y, lo)) made.covers covers_p (hx_high ∙ sym high_y) covers_x long changes has.0 named spells grows in
+    let frees = link_grown c.change.new.seat.id n.client q.key y x p cy hx.content hp.content own_n (free_p + 4) (free_p / 4 + 1) (let even = hp.even in omega (arith, even)) d (let ht = c.requires.height in omega (arith, high_y, hp_high, ht)) (let lo = c.requires.height.0 in omega (arith, high_y, lo)) made.covers covers_p (hx_high ∙ sym high_y) covers_x long changes has.0 named spells grows in
     let z = c.unlock.new.seat.view in
     let zb = c.unlock.new.seat.book in
     let zs = c.unlock.ensures.seat in
@@ -570,7 +570,7 @@ returns g c =
     let last = c.index-words-0.result in
     let at_x = (first_word (place_at x) zb words grip.are last last (sym c.index-words-0.is)).0 in
     let even = hx.even in
-    let retires = node_retires c.unlock.new.seat.id z.client x own_z (free + 3) (free / 4) (omega (arith, even)) hx.content hx.long in
+    let retires = node_retires c.unlock.new.seat.id z.client x [] own_z tt (free + 3) (free / 4) (omega (arith, even)) hx.content hx.long in
     let x' = c.retire.new.seat.view in
     let e = c.retire.ensures.seat in
     let o = grip_freed z zb words free (place_at x) hx.content grip last.key at_x StaysSame x' (free + 3) c.retire.ensures.told in
@@ -589,5 +589,6 @@ returns g c =
         grown,
         room_after m x' (start + words_of (next_form c.form_below-form.result) + 1) (left - (words_of (next_form c.form_below-form.result) + 1)) (start + (c.words_in-2.result + 1)) (left - (c.words_in-3.result + 1))
             (ap (λ (z : SeatView View). z.room) o.1 ∙ (ap (λ (z : SeatView View). z.room) f.1 ∙ ap (λ (z : SeatView View). z.room) others)) (omega (arith, n2)) (omega (arith, n3)) after,
+        refl,
       );
     }

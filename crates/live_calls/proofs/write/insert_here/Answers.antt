@@ -1,4 +1,4 @@
-use Rattle.std.proofs.Common.{rules, arith, sym, ap, subst, length, ℕ, Some, None, List, ◌≡◌, ◌+◌, ◌∙◌}
+use Rattle.std.proofs.Common.{rules, arith, sym, ap, subst, length, ℕ, Some, None, List, ◌≡◌, ◌+◌, ◌/◌, ◌∙◌}
 use Rattle.live_nodes.specs.Acts as acts
 use Rattle.live_nodes.specs.Seats.{SeatView}
 use Rattle.live_rows.specs.Rows.{draft_of, nth}
@@ -156,7 +156,7 @@ unlock-requires-clause-frees g c =
     let long = c.write.ensures.long ∙ ap words_of form in
     let changes = changes_leaf q c.byte_at-byte.result c.args.value digit_is c.requires.asks.1 c.form_below-form.result h.content (draft_of (nth 0 w.holds)) d was c.write.result old some written a.shape.form (sym form) in
     let frees = subst (λ (z : View). acts.Frees IsMap c.write.new.seat.id z a.number (free + 4) d (Inserts q z a.number d)) (sym on.2)
-    (leaf_inserts q c.write.new.seat.id by w.client a h.content one.own h.names.high covers (free + 4) d long changes) in
+    (leaf_inserts q c.write.new.seat.id by w.client a h.content one.own h.names.high covers (free + 4) (free / 4 + 1) (let even = h.even in omega (arith, even)) d long changes) in
     may_free u c.write.new.seat.book words free a h.content d on_book first.key at_k (Inserts q) c.write.new.seat.id (free + 4) frees
 
 pub returns : goal.returns
@@ -195,7 +195,7 @@ returns g c =
     let long = c.write.ensures.long ∙ ap words_of form in
     let changes = changes_leaf q c.byte_at-byte.result c.args.value digit_is c.requires.asks.1 c.form_below-form.result h.content (draft_of (nth 0 w.holds)) d was c.write.result old some written a.shape.form (sym form) in
     let frees = subst (λ (z : View). acts.Frees IsMap c.write.new.seat.id z a.number (free + 4) d (Inserts q z a.number d)) (sym on.2)
-    (leaf_inserts q c.write.new.seat.id by w.client a h.content one.own h.names.high covers (free + 4) d long changes) in
+    (leaf_inserts q c.write.new.seat.id by w.client a h.content one.own h.names.high covers (free + 4) (free / 4 + 1) (let even = h.even in omega (arith, even)) d long changes) in
     let x = c.unlock.new.seat.view in
     let e = c.unlock.ensures.seat in
     let f = is_freed u c.write.new.seat.book words free a h.content d on_book first.key at_k (Inserts q) x (free + 4) c.unlock.ensures.told in

@@ -7,5 +7,5 @@ invariant-loop g l = record {
   book : l.pass.book ≡ l.fn.pass.book;
   id : l.pass.id ≡ l.fn.pass.id;
   seen : l.pass.view.client.seen ≡ l.fn.pass.view.client.seen;
-  ready : IsReady l.pass.view l.room.start l.room.left;
+  ready : IsReady l.pass.view l.room;
 }

@@ -15,7 +15,7 @@ returns-in-None g c =
     let w = c.update_here.new.pass.view in
     let t = c.update_here.ensures.told in
     let done : c.update_here.result ≡ None = search rules in
-    record { told = (t.0, t.1, ready_rest v w c.args.room.now.start c.args.room.now.left c.requires.ready t.2, subst (λ z. Updated g.U.Updates.update z v w) done t.3) }
+    record { told = (t.0, t.1, ready_rest v w c.args.room.now c.requires.ready t.2, subst (λ z. Updated g.U.Updates.update z v w) done t.3) }
 
 pub returns-in-Some-Changed : goal.returns-in-Some-Changed
 returns-in-Some-Changed g c =
@@ -23,7 +23,7 @@ returns-in-Some-Changed g c =
     let w = c.update_here.new.pass.view in
     let t = c.update_here.ensures.told in
     let is : c.update_here.result ≡ Some missed.Changed = search rules in
-    record { told = (t.0, t.1, ready_rest v w c.args.room.now.start c.args.room.now.left c.requires.ready t.2, subst (λ z. Updated g.U.Updates.update z v w) is t.3) }
+    record { told = (t.0, t.1, ready_rest v w c.args.room.now c.requires.ready t.2, subst (λ z. Updated g.U.Updates.update z v w) is t.3) }
 
 pub returns-in-Some-Busy : goal.returns-in-Some-Busy
 returns-in-Some-Busy g c =
@@ -31,10 +31,10 @@ returns-in-Some-Busy g c =
     let w = c.update_here.new.pass.view in
     let t = c.update_here.ensures.told in
     let is : c.update_here.result ≡ Some missed.Busy = search rules in
-    record { told = (t.0, t.1, ready_rest v w c.args.room.now.start c.args.room.now.left c.requires.ready t.2, subst (λ z. Updated g.U.Updates.update z v w) is t.3) }
+    record { told = (t.0, t.1, ready_rest v w c.args.room.now c.requires.ready t.2, subst (λ z. Updated g.U.Updates.update z v w) is t.3) }
 
 pub enlarge-requires-clause-ready : goal.enlarge-requires-clause-ready
-enlarge-requires-clause-ready g c = ready_rest c.args.pass.now.view c.update_here.new.pass.view c.args.room.now.start c.args.room.now.left c.requires.ready c.update_here.ensures.told.2
+enlarge-requires-clause-ready g c = ready_rest c.args.pass.now.view c.update_here.new.pass.view c.args.room.now c.requires.ready c.update_here.ensures.told.2
 
 pub enlarge-requires-clause-stands : goal.enlarge-requires-clause-stands
 enlarge-requires-clause-stands g c = stands_rest c.args.pass.now.view c.update_here.new.pass.view c.args.key c.args.stand c.update_here.ensures.told.2 c.requires.stands

@@ -23,7 +23,7 @@ returns-then-is_some c =
     let id = c.args.pass.now.id in
     let key = c.args.key in
     let room = c.args.room.now in
-    let ready = ready_kept v w room.start room.left c.requires.ready t.2 in
+    let ready = ready_kept v w room c.requires.ready t.2 in
     let value = c.in-Some-At.value in
     let new = sum_with (Some value) c.args.number in
     let u = c.update_here.new.pass.view in
@@ -33,7 +33,7 @@ returns-then-is_some c =
     let some_missed : IsSome c.update_here.result = search rules in
     let later = c.seek.new.pass.id in
     let missed = missed_same (update_of later key (Some value) (Some new) (inserted_with later key (Some value) new)) c.update_here.result w u some_missed e.3 in
-    record { told = (e.0 ∙ t.0, e.1 ∙ t.1, ready_rest w u room.start room.left ready e.2, missed ∙ same) }
+    record { told = (e.0 ∙ t.0, e.1 ∙ t.1, ready_rest w u room ready e.2, missed ∙ same) }
 
 pub returns-else-is_some : goal.returns-else-is_some
 returns-else-is_some c =
@@ -43,7 +43,7 @@ returns-else-is_some c =
     let id = c.args.pass.now.id in
     let key = c.args.key in
     let room = c.args.room.now in
-    let ready = ready_kept v w room.start room.left c.requires.ready t.2 in
+    let ready = ready_kept v w room c.requires.ready t.2 in
     let value = c.in-Some-At.value in
     let new = sum_with (Some value) c.args.number in
     let u = c.update_here.new.pass.view in
@@ -53,13 +53,13 @@ returns-else-is_some c =
     let none : c.update_here.result ≡ None = search rules in
     let later = c.seek.new.pass.id in
     let answers = updated_by (update_of later key (Some value) (Some new) (inserted_with later key (Some value) new)) c.update_here.result w u none e.3 in
-    record { told = (e.0 ∙ t.0, e.1 ∙ t.1, ready_rest w u room.start room.left ready e.2, (new, answers_from later id (λ (z : ℕ). inserted_with z key (Some value) new) w.client.seen v.client.seen u.client.seen t.1 same answers, refl)) }
+    record { told = (e.0 ∙ t.0, e.1 ∙ t.1, ready_rest w u room ready e.2, (new, answers_from later id (λ (z : ℕ). inserted_with z key (Some value) new) w.client.seen v.client.seen u.client.seen t.1 same answers, refl)) }
 
 pub enter-requires-clause-legal : goal.enter-requires-clause-legal
 enter-requires-clause-legal c = always_update c.seek.new.pass.id c.args.key None c.args.number
 
 pub enter-requires-clause-ready : goal.enter-requires-clause-ready
-enter-requires-clause-ready c = ready_kept c.args.pass.now.view c.seek.new.pass.view c.args.room.now.start c.args.room.now.left c.requires.ready c.seek.ensures.told.2
+enter-requires-clause-ready c = ready_kept c.args.pass.now.view c.seek.new.pass.view c.args.room.now c.requires.ready c.seek.ensures.told.2
 
 pub returns-in-None : goal.returns-in-None
 returns-in-None c =
@@ -70,4 +70,4 @@ returns-in-None c =
     let key = c.args.key in
     let room = c.args.room.now in
     let none : c.seek.result ≡ None = search rules in
-    record { told = (t.0, t.1, ready_kept v w room.start room.left c.requires.ready t.2, no_more (lookup_of id key nowhere) c.seek.result v w none t.3) }
+    record { told = (t.0, t.1, ready_kept v w room c.requires.ready t.2, no_more (lookup_of id key nowhere) c.seek.result v w none t.3) }

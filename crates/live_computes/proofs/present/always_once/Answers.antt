@@ -27,7 +27,7 @@ returns-then-is_some-clause-told g c =
     let id = c.args.pass.now.id in
     let key = c.args.key in
     let room = c.args.room.now in
-    let ready = ready_kept v w room.start room.left c.requires.ready t.2 in
+    let ready = ready_kept v w room c.requires.ready t.2 in
     let value = c.in-Some-At.value in
     let new = c.f-new.result in
     let u = c.update_here.new.pass.view in
@@ -37,7 +37,7 @@ returns-then-is_some-clause-told g c =
     let some_missed : IsSome c.update_here.result = search rules in
     let later = c.seek.new.pass.id in
     let missed = missed_same (update_of later key (Some value) (Some new) (inserted_with later key (Some value) new)) c.update_here.result w u some_missed e.3 in
-    (e.0 ∙ t.0, e.1 ∙ t.1, ready_rest w u room.start room.left ready e.2, missed ∙ same)
+    (e.0 ∙ t.0, e.1 ∙ t.1, ready_rest w u room ready e.2, missed ∙ same)
 
 pub returns-else-is_some-clause-reached : goal.returns-else-is_some-clause-reached
 returns-else-is_some-clause-reached g c = call_on (goal.F-step g) c.args.f.now c.args.f.now c.f-new.new.self (Some c.in-Some-At.value) c.f-new.result (no_call (goal.F-step g) c.args.f.now) c.f-new.ensures
@@ -50,7 +50,7 @@ returns-else-is_some-clause-told g c =
     let id = c.args.pass.now.id in
     let key = c.args.key in
     let room = c.args.room.now in
-    let ready = ready_kept v w room.start room.left c.requires.ready t.2 in
+    let ready = ready_kept v w room c.requires.ready t.2 in
     let value = c.in-Some-At.value in
     let new = c.f-new.result in
     let u = c.update_here.new.pass.view in
@@ -60,13 +60,13 @@ returns-else-is_some-clause-told g c =
     let none : c.update_here.result ≡ None = search rules in
     let later = c.seek.new.pass.id in
     let answers = updated_by (update_of later key (Some value) (Some new) (inserted_with later key (Some value) new)) c.update_here.result w u none e.3 in
-    (e.0 ∙ t.0, e.1 ∙ t.1, ready_rest w u room.start room.left ready e.2, (new, answers_from later id (λ (z : ℕ). inserted_with z key (Some value) new) w.client.seen v.client.seen u.client.seen t.1 same answers, (c.args.f.now, c.f-new.ensures)))
+    (e.0 ∙ t.0, e.1 ∙ t.1, ready_rest w u room ready e.2, (new, answers_from later id (λ (z : ℕ). inserted_with z key (Some value) new) w.client.seen v.client.seen u.client.seen t.1 same answers, (c.args.f.now, c.f-new.ensures)))
 
 pub enter-requires-clause-legal : goal.enter-requires-clause-legal
 enter-requires-clause-legal g c = always_update c.seek.new.pass.id c.args.key None c.f-new-in-Some-Absent.result
 
 pub enter-requires-clause-ready : goal.enter-requires-clause-ready
-enter-requires-clause-ready g c = ready_kept c.args.pass.now.view c.seek.new.pass.view c.args.room.now.start c.args.room.now.left c.requires.ready c.seek.ensures.told.2
+enter-requires-clause-ready g c = ready_kept c.args.pass.now.view c.seek.new.pass.view c.args.room.now c.requires.ready c.seek.ensures.told.2
 
 pub returns-in_err-enter-in-Some-Absent-clause-reached : goal.returns-in_err-enter-in-Some-Absent-clause-reached
 returns-in_err-enter-in-Some-Absent-clause-reached g c = call_on (goal.F-step g) c.args.f.now c.args.f.now c.f-new-in-Some-Absent.new.self None c.f-new-in-Some-Absent.result (no_call (goal.F-step g) c.args.f.now) c.f-new-in-Some-Absent.ensures
@@ -85,6 +85,6 @@ returns-in-None-clause-told g c =
     let id = c.args.pass.now.id in
     let key = c.args.key in
     let room = c.args.room.now in
-    let ready = ready_kept v w room.start room.left c.requires.ready t.2 in
+    let ready = ready_kept v w room c.requires.ready t.2 in
     let none : c.seek.result ≡ None = search rules in
     (t.0, t.1, ready, no_more (lookup_of id key nowhere) c.seek.result v w none t.3)

@@ -11,7 +11,7 @@ pub invariant_of-guard-in-Some : goal.invariant_of-guard-in-Some
 invariant_of-guard-in-Some g c =
     let i = c.loop.invariant in
     let t = c.present_once.ensures.told in
-    t.2 c.loop.guard-inside.room.start c.loop.guard-inside.room.left i.ready
+    t.2
 
 pub returns-in-Some-clause-reached : goal.returns-in-Some-clause-reached
 returns-in-Some-clause-reached g c = calls_on (goal.F-step g) c.args.f.now c.loop.f c.present_once.new.f c.loop.invariant.reached c.present_once.ensures.reached
@@ -40,7 +40,7 @@ loop-preserved g c =
       book = t.0 ∙ i.book;
       id = t.1 ∙ i.id;
       seen = subst (λ z. EndsBy id (option_map (computed_with id c.args.key) z) v w) none t.3 ∙ i.seen;
-      ready = t.2 c.loop.guard-inside.room.start c.loop.guard-inside.room.left i.ready;
+      ready = t.2;
       callable = c.present_once.ensures.callable;
       reached = calls_on (goal.F-step g) c.args.f.now c.loop.f c.present_once.new.f i.reached c.present_once.ensures.reached;
     }

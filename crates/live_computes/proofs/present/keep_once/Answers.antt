@@ -20,13 +20,13 @@ returns-in-Some-At c =
     let room = c.args.room.now in
     let found = c.in-Some-At.found in
     let is : c.seek.result ≡ Some (sites.At c.in-Some-At._leaf found) = search rules in
-    record { told = (t.0, t.1, ready_kept v w room.start room.left c.requires.ready t.2, (found, at_some (lookup_of id key (kept id key)) c.seek.result c.in-Some-At._leaf found v w is t.3, refl)) }
+    record { told = (t.0, t.1, ready_kept v w room c.requires.ready t.2, (found, at_some (lookup_of id key (kept id key)) c.seek.result c.in-Some-At._leaf found v w is t.3, refl)) }
 
 pub enter-requires-clause-legal : goal.enter-requires-clause-legal
 enter-requires-clause-legal c = always_update c.seek.new.pass.id c.args.key None c.args.value
 
 pub enter-requires-clause-ready : goal.enter-requires-clause-ready
-enter-requires-clause-ready c = ready_kept c.args.pass.now.view c.seek.new.pass.view c.args.room.now.start c.args.room.now.left c.requires.ready c.seek.ensures.told.2
+enter-requires-clause-ready c = ready_kept c.args.pass.now.view c.seek.new.pass.view c.args.room.now c.requires.ready c.seek.ensures.told.2
 
 pub returns-in-None : goal.returns-in-None
 returns-in-None c =
@@ -37,4 +37,4 @@ returns-in-None c =
     let key = c.args.key in
     let room = c.args.room.now in
     let none : c.seek.result ≡ None = search rules in
-    record { told = (t.0, t.1, ready_kept v w room.start room.left c.requires.ready t.2, no_more (lookup_of id key (kept id key)) c.seek.result v w none t.3) }
+    record { told = (t.0, t.1, ready_kept v w room c.requires.ready t.2, no_more (lookup_of id key (kept id key)) c.seek.result v w none t.3) }

@@ -6,5 +6,5 @@ use Rattle.live_computes.proofs.present.present_once.Given as goal
 abbrev pub ghosts-seek : goal.ghosts-seek
 ghosts-seek g a = record { lookup = lookup_of a.pass.now.id a.key (without_call a.pass.now.id a.key) }
 
-abbrev pub ghosts-update_here : goal.ghosts-update_here
-ghosts-update_here g a = record { update = update_of a.pass.now.id a.key a.old a.new (called_with a.pass.now.id a.key a.old a.new) }
+abbrev pub ghosts-exchange_here : goal.ghosts-exchange_here
+ghosts-exchange_here g a = record { update = update_of a.pass.now.id a.key a.old a.new (called_with a.pass.now.id a.key a.old a.new) }

@@ -1,4 +1,4 @@
-use Rattle.std.proofs.Common.{rules, arith, subst, Some, None, IfSome, IfNone, ◌≡◌, ◌∙◌, ◌+◌, ◌-◌, ◌%◌}
+use Rattle.std.proofs.Common.{rules, arith, subst, Some, None, IfSome, IfNone, ◌≡◌, ◌∙◌, ◌-◌, ◌%◌}
 use Rattle.live_calls.proofs.Finds.{keeps_then, when_out}
 use Rattle.live_scans.proofs.Passes.{seen_since}
 use Rattle.live_floors.specs.inner.Stops.{Stops, IsStep}

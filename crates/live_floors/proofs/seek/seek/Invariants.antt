@@ -1,5 +1,5 @@
 use Rattle.std.proofs.Common.{◌≡◌, ◌≤◌}
-use Rattle.live_calls.specs.Ways.{Names, Keeps}
+use Rattle.live_calls.specs.Ways.{IsOpen, Keeps}
 use Rattle.live_floors.proofs.seek.seek.Given as goal
 
 abbrev pub invariant-loop-height : goal.invariant-loop-height
@@ -10,7 +10,7 @@ invariant-loop-height g l = record {
   seen : l.pass.view.client.seen ≡ l.fn.pass.view.client.seen;
   low : 1 ≤ l.height;
   high : l.height ≤ 8;
-  names : Names l.pass.view l.name l.key l.height;
+  node : IsOpen l.pass.view l.pass.book l.here.words.now l.here.taken l.name l.key l.height;
 }
 
 abbrev pub decreases-loop-height : goal.decreases-loop-height

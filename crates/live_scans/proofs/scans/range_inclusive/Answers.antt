@@ -17,7 +17,7 @@ returns-then-is_empty-clause-page g c =
     page_roomless c.args.guard.now c.args.first (c.args.last + 1) (length c.args.buffer.now) (omega arith) none
 
 pub invariant_of-guard : goal.invariant_of-guard
-invariant_of-guard g c = ready_kept c.guard.inside.pass.view c.page.new.pass.view c.guard.inside.room.start c.guard.inside.room.left c.guard.invariant c.page.ensures.told.2
+invariant_of-guard g c = ready_kept c.guard.inside.pass.view c.page.new.pass.view c.guard.inside.room c.guard.invariant c.page.ensures.told.2
 
 pub returns-clause-page : goal.returns-clause-page
 returns-clause-page g c =
@@ -33,4 +33,4 @@ returns-clause-page g c =
     (page_seat c.guard.inside.pass.book c.page.new.pass.book c.guard.inside.pass.id c.page.new.pass.id v w c.args.first c.args.last s.count s.last (pairs_of pair l) t.0 t.1 t.3 t.4)
 
 pub invariant_of-guard-2 : goal.invariant_of-guard-2
-invariant_of-guard-2 g c = ready_kept c.guard.inside.pass.view c.page.new.pass.view c.guard.inside.room.start c.guard.inside.room.left c.guard.invariant c.page.ensures.told.2
+invariant_of-guard-2 g c = ready_kept c.guard.inside.pass.view c.page.new.pass.view c.guard.inside.room c.guard.invariant c.page.ensures.told.2

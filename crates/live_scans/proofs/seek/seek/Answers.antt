@@ -1,35 +1,102 @@
-use Rattle.std.proofs.Common.{rules, arith, sym, subst, Some, None, ◌≡◌, ◌∙◌}
+use Rattle.std.proofs.Common.{rules, arith, sym, ap, subst, Some, None, ◌≡◌, ◌∙◌}
+use Rattle.live_law.specs.Views.{View}
 use Rattle.live_calls.specs.Ways.{Ended}
-use Rattle.live_calls.specs.Sees.{Follows}
+use Rattle.live_calls.specs.Sees.{Follows, IsNextOpen}
+use Rattle.live_calls.specs.declared.sight.Next.{Next}
 use Rattle.live_calls.specs.declared.sight.Next.TheVariants as nexts
 use Rattle.live_calls.proofs.Finds.{keeps_then, names_kept}
+use Rattle.live_calls.proofs.Sights.{sights_names, sure_root}
 use Rattle.live_scans.specs.inner.Stops.{Stops}
-use Rattle.live_scans.proofs.Passes.{seen_equal, seen_since, passed_since, follow_none, follow_ends}
+use Rattle.live_scans.proofs.Passes.{seen_equal, seen_since, passed_since, follow_ends}
 use Rattle.live_scans.proofs.seek.seek.Goals as goal
 
-pub returns-in_err-follow : goal.returns-in_err-follow
-returns-in_err-follow g c =
+pub returns-in_err-here : goal.returns-in_err-here
+returns-in_err-here g c =
+    let u = c.args.pass.now.view in
+    let id = c.args.pass.now.id in
+    let rooted = c.root.ensures.told in
+    let opened = c.open.ensures.told in
+    let a = c.open.new.pass.view in
+    let key = c.args.key in
+    let out : c.from_residual-in_err-here.result ≡ None = search rules in
+    record { told = (opened.0 ∙ rooted.0, opened.1 ∙ rooted.1, keeps_then u c.root.new.pass.view a rooted.2 opened.2, seen_equal id u a (ap (λ (z : View). z.seen) opened.3 ∙ rooted.3), subst (λ z. Stops id u a key z) (sym out) tt) }
+
+pub loop-height-init : goal.loop-height-init
+loop-height-init g c =
+    let u = c.args.pass.now.view in
+    let id = c.args.pass.now.id in
+    let rooted = c.root.ensures.told in
+    let opened = c.open.ensures.told in
+    let a = c.open.new.pass.view in
+    let key = c.args.key in
+    let r = c.root.new.pass.view in
+    let n = c.in_ok-name.ensures.told.4 in
+    let root_name = c.in_ok-name.name in
+    let sighted = sights_names r root_name key 8 n in
+    let there = c.in_ok-here.ensures.opened in
+    record {
+      book = opened.0 ∙ rooted.0;
+      id = opened.1 ∙ rooted.1;
+      keeps = keeps_then u r a rooted.2 opened.2;
+      seen = ap (λ (z : View). z.seen) opened.3 ∙ rooted.3;
+      low = omega arith;
+      high = omega arith;
+      node = record {
+        names = names_kept r a root_name key 8 opened.2 n;
+        opened = there.1 sighted;
+        free = there.0;
+        sure = sure_root n.spot (there.1 sighted).saw n.high;
+      };
+    }
+
+pub returns-in_err-step : goal.returns-in_err-step
+returns-in_err-step g c =
     let u = c.args.pass.now.view in
     let id = c.args.pass.now.id in
     let i = c.loop-height.invariant in
     let v = c.loop-height.pass.view in
-    let h = c.loop-height.height in
-    let w = c.follow.new.pass.view in
-    let t = c.follow.ensures.told in
-    let q = g.A.Asks.ask in
+    let w = c.step.new.pass.view in
+    let t = c.step.ensures.told in
     let key = c.args.key in
-    let keeps = keeps_then u v w i.keeps t.2 in
-    let Ends = Ended g.A.Asks.reads q None in
-    let is : c.follow.result ≡ None = search rules in
-    let out : c.from_residual-in_err-follow.result ≡ None = search rules in
-    let seen = follow_none g.A.Asks.reads q v w key h c.follow.result t.3 is ∙ i.seen in
-    record { told = (t.0 ∙ i.book, t.1 ∙ i.id, keeps, seen_equal id u w seen, subst (λ z. Stops id u w key z) (sym out) tt) }
+    let all_kept = keeps_then u v w i.keeps t.2 in
+    let same = t.1 ∙ i.id in
+    let out : c.from_residual-in_err-step.result ≡ None = search rules in
+    record { told = (t.0 ∙ i.book, same, all_kept, seen_equal id u w (c.in_err-step.ensures.none ∙ i.seen), subst (λ z. Stops id u w key z) (sym out) tt) }
 
 pub gap-requires-clause-named : goal.gap-requires-clause-named
-gap-requires-clause-named g c = names_kept c.loop-height.pass.view c.follow.new.pass.view c.loop-height.name c.args.key c.loop-height.height c.follow.ensures.told.2 c.loop-height.invariant.names
+gap-requires-clause-named g c =
+    let i = c.loop-height.invariant in
+    let v = c.loop-height.pass.view in
+    let h = c.loop-height.height in
+    let name = c.loop-height.name in
+    let w = c.step.new.pass.view in
+    let t = c.step.ensures.told in
+    let key = c.args.key in
+    names_kept v w name key h t.2 i.node.names
 
 pub around-requires-clause-named : goal.around-requires-clause-named
-around-requires-clause-named g c = names_kept c.loop-height.pass.view c.follow.new.pass.view c.loop-height.name c.args.key c.loop-height.height c.follow.ensures.told.2 c.loop-height.invariant.names
+around-requires-clause-named g c =
+    let i = c.loop-height.invariant in
+    let v = c.loop-height.pass.view in
+    let h = c.loop-height.height in
+    let name = c.loop-height.name in
+    let w = c.step.new.pass.view in
+    let t = c.step.ensures.told in
+    let key = c.args.key in
+    names_kept v w name key h t.2 i.node.names
+
+pub around-requires-clause-leaves : goal.around-requires-clause-leaves
+around-requires-clause-leaves g c =
+    let v = c.loop-height.pass.view in
+    let h = c.loop-height.height in
+    let w = c.step.new.pass.view in
+    let q = g.A.Asks.ask in
+    let key = c.args.key in
+    let Ends = Ended g.A.Asks.reads q None in
+    let next = c.in_ok-step.ensures.next in
+    let forks : c.in_ok-step.step.next ≡ nexts.Forks c.in-Forks.fork = search rules in
+    let forked = subst (λ z. Follows Ends v w key h (Some z)) forks next.0 in
+    forked.1
 
 pub returns-in_err-last-in-Ends : goal.returns-in_err-last-in-Ends
 returns-in_err-last-in-Ends g c =
@@ -38,21 +105,21 @@ returns-in_err-last-in-Ends g c =
     let i = c.loop-height.invariant in
     let v = c.loop-height.pass.view in
     let h = c.loop-height.height in
-    let w = c.follow.new.pass.view in
-    let t = c.follow.ensures.told in
+    let w = c.step.new.pass.view in
+    let t = c.step.ensures.told in
     let q = g.A.Asks.ask in
     let key = c.args.key in
-    let keeps = keeps_then u v w i.keeps t.2 in
-    let Ends = Ended g.A.Asks.reads q None in
-    let is : c.follow.result ≡ Some nexts.Ends = search rules in
-    let seen = follow_ends g.A.Asks.reads q v w key h c.follow.result c.requires.asks.2 t.3 is ∙ i.seen in
-    let x = c.gap.new.pass.view in
-    let e = c.gap.ensures.told in
-    let first = seen_equal id u w seen in
+    let all_kept = keeps_then u v w i.keeps t.2 in
+    let next = c.in_ok-step.ensures.next in
+    let ends : c.in_ok-step.step.next ≡ nexts.Ends = search rules in
+    let ended = follow_ends g.A.Asks.reads q v w key h (Some c.in_ok-step.step.next) c.requires.asks.2 next.0 (ap (λ (z : Next). Some z) ends) in
     let same = t.1 ∙ i.id in
-    let since = seen_since c.follow.new.pass.id id u w x same first e.3 in
+    let gap_seen = seen_equal id u w (ended ∙ i.seen) in
+    let gap_view = c.gap.new.pass.view in
+    let gap_told = c.gap.ensures.told in
+    let gap_since = seen_since c.step.new.pass.id id u w gap_view same gap_seen gap_told.3 in
     let out : c.from_residual-in_err-last-in-Ends.result ≡ None = search rules in
-    record { told = (e.0 ∙ (t.0 ∙ i.book), e.1 ∙ same, keeps_then u w x keeps e.2, since, subst (λ z. Stops id u x key z) (sym out) tt) }
+    record { told = (gap_told.0 ∙ (t.0 ∙ i.book), gap_told.1 ∙ same, keeps_then u w gap_view all_kept gap_told.2, gap_since, subst (λ z. Stops id u gap_view key z) (sym out) tt) }
 
 pub returns-in-Ends : goal.returns-in-Ends
 returns-in-Ends g c =
@@ -61,21 +128,20 @@ returns-in-Ends g c =
     let i = c.loop-height.invariant in
     let v = c.loop-height.pass.view in
     let h = c.loop-height.height in
-    let w = c.follow.new.pass.view in
-    let t = c.follow.ensures.told in
+    let w = c.step.new.pass.view in
+    let t = c.step.ensures.told in
     let q = g.A.Asks.ask in
     let key = c.args.key in
-    let keeps = keeps_then u v w i.keeps t.2 in
-    let Ends = Ended g.A.Asks.reads q None in
-    let is : c.follow.result ≡ Some nexts.Ends = search rules in
-    let seen = follow_ends g.A.Asks.reads q v w key h c.follow.result c.requires.asks.2 t.3 is ∙ i.seen in
-    let x = c.gap.new.pass.view in
-    let e = c.gap.ensures.told in
-    let first = seen_equal id u w seen in
+    let all_kept = keeps_then u v w i.keeps t.2 in
+    let next = c.in_ok-step.ensures.next in
+    let ends : c.in_ok-step.step.next ≡ nexts.Ends = search rules in
+    let ended = follow_ends g.A.Asks.reads q v w key h (Some c.in_ok-step.step.next) c.requires.asks.2 next.0 (ap (λ (z : Next). Some z) ends) in
     let same = t.1 ∙ i.id in
-    let since = seen_since c.follow.new.pass.id id u w x same first e.3 in
-    let passed = c.in_ok-last-in-Ends.ensures.told.4 in
-    record { told = (e.0 ∙ (t.0 ∙ i.book), e.1 ∙ same, keeps_then u w x keeps e.2, since, passed_since c.follow.new.pass.id id u w x key c.in_ok-last-in-Ends.last same first passed) }
+    let gap_seen = seen_equal id u w (ended ∙ i.seen) in
+    let gap_view = c.gap.new.pass.view in
+    let gap_told = c.gap.ensures.told in
+    let gap_since = seen_since c.step.new.pass.id id u w gap_view same gap_seen gap_told.3 in
+    record { told = (gap_told.0 ∙ (t.0 ∙ i.book), gap_told.1 ∙ same, keeps_then u w gap_view all_kept gap_told.2, gap_since, passed_since c.step.new.pass.id id u w gap_view key c.in_ok-last-in-Ends.last same gap_seen c.in_ok-last-in-Ends.ensures.told.4) }
 
 pub returns-in_err-last-in-Forks : goal.returns-in_err-last-in-Forks
 returns-in_err-last-in-Forks g c =
@@ -84,21 +150,22 @@ returns-in_err-last-in-Forks g c =
     let i = c.loop-height.invariant in
     let v = c.loop-height.pass.view in
     let h = c.loop-height.height in
-    let w = c.follow.new.pass.view in
-    let t = c.follow.ensures.told in
+    let w = c.step.new.pass.view in
+    let t = c.step.ensures.told in
     let q = g.A.Asks.ask in
     let key = c.args.key in
-    let keeps = keeps_then u v w i.keeps t.2 in
+    let all_kept = keeps_then u v w i.keeps t.2 in
     let Ends = Ended g.A.Asks.reads q None in
-    let is : c.follow.result ≡ Some (nexts.Forks c.in-Forks.fork) = search rules in
-    let f = subst (λ z. Follows Ends v w key h z) is t.3 in
-    let x = c.around.new.pass.view in
-    let e = c.around.ensures.told in
-    let first = seen_equal id u w (f.0 ∙ i.seen) in
+    let next = c.in_ok-step.ensures.next in
+    let forks : c.in_ok-step.step.next ≡ nexts.Forks c.in-Forks.fork = search rules in
+    let forked = subst (λ z. Follows Ends v w key h (Some z)) forks next.0 in
     let same = t.1 ∙ i.id in
-    let since = seen_since c.follow.new.pass.id id u w x same first e.3 in
+    let fork_seen = seen_equal id u w (forked.0 ∙ i.seen) in
+    let fork_view = c.around.new.pass.view in
+    let fork_told = c.around.ensures.told in
+    let fork_since = seen_since c.step.new.pass.id id u w fork_view same fork_seen fork_told.3 in
     let out : c.from_residual-in_err-last-in-Forks.result ≡ None = search rules in
-    record { told = (e.0 ∙ (t.0 ∙ i.book), e.1 ∙ same, keeps_then u w x keeps e.2, since, subst (λ z. Stops id u x key z) (sym out) tt) }
+    record { told = (fork_told.0 ∙ (t.0 ∙ i.book), fork_told.1 ∙ same, keeps_then u w fork_view all_kept fork_told.2, fork_since, subst (λ z. Stops id u fork_view key z) (sym out) tt) }
 
 pub returns-in-Forks : goal.returns-in-Forks
 returns-in-Forks g c =
@@ -107,21 +174,21 @@ returns-in-Forks g c =
     let i = c.loop-height.invariant in
     let v = c.loop-height.pass.view in
     let h = c.loop-height.height in
-    let w = c.follow.new.pass.view in
-    let t = c.follow.ensures.told in
+    let w = c.step.new.pass.view in
+    let t = c.step.ensures.told in
     let q = g.A.Asks.ask in
     let key = c.args.key in
-    let keeps = keeps_then u v w i.keeps t.2 in
+    let all_kept = keeps_then u v w i.keeps t.2 in
     let Ends = Ended g.A.Asks.reads q None in
-    let is : c.follow.result ≡ Some (nexts.Forks c.in-Forks.fork) = search rules in
-    let f = subst (λ z. Follows Ends v w key h z) is t.3 in
-    let x = c.around.new.pass.view in
-    let e = c.around.ensures.told in
-    let first = seen_equal id u w (f.0 ∙ i.seen) in
+    let next = c.in_ok-step.ensures.next in
+    let forks : c.in_ok-step.step.next ≡ nexts.Forks c.in-Forks.fork = search rules in
+    let forked = subst (λ z. Follows Ends v w key h (Some z)) forks next.0 in
     let same = t.1 ∙ i.id in
-    let since = seen_since c.follow.new.pass.id id u w x same first e.3 in
-    let passed = c.in_ok-last-in-Forks.ensures.told.4 in
-    record { told = (e.0 ∙ (t.0 ∙ i.book), e.1 ∙ same, keeps_then u w x keeps e.2, since, passed_since c.follow.new.pass.id id u w x key c.in_ok-last-in-Forks.last same first passed) }
+    let fork_seen = seen_equal id u w (forked.0 ∙ i.seen) in
+    let fork_view = c.around.new.pass.view in
+    let fork_told = c.around.ensures.told in
+    let fork_since = seen_since c.step.new.pass.id id u w fork_view same fork_seen fork_told.3 in
+    record { told = (fork_told.0 ∙ (t.0 ∙ i.book), fork_told.1 ∙ same, keeps_then u w fork_view all_kept fork_told.2, fork_since, passed_since c.step.new.pass.id id u w fork_view key c.in_ok-last-in-Forks.last same fork_seen c.in_ok-last-in-Forks.ensures.told.4) }
 
 pub loop-height-preserved : goal.loop-height-preserved
 loop-height-preserved g c =
@@ -130,20 +197,23 @@ loop-height-preserved g c =
     let i = c.loop-height.invariant in
     let v = c.loop-height.pass.view in
     let h = c.loop-height.height in
-    let w = c.follow.new.pass.view in
-    let t = c.follow.ensures.told in
+    let w = c.step.new.pass.view in
+    let t = c.step.ensures.told in
     let q = g.A.Asks.ask in
     let key = c.args.key in
-    let keeps = keeps_then u v w i.keeps t.2 in
+    let all_kept = keeps_then u v w i.keeps t.2 in
     let Ends = Ended g.A.Asks.reads q None in
-    let is : c.follow.result ≡ Some (nexts.Goes c.in-Goes.below c.in-Goes.lower) = search rules in
-    let f = subst (λ z. Follows Ends v w key h z) is t.3 in
+    let next = c.in_ok-step.ensures.next in
+    let goes : c.in_ok-step.step.next ≡ nexts.Goes c.in-Goes.below c.in-Goes.lower = search rules in
+    let gone = subst (λ z. Follows Ends v w key h (Some z)) goes next.0 in
+    let open_next = subst (λ z. IsNextOpen w c.step.new.pass.book c.in_ok-step.step.here.words.now c.in_ok-step.step.here.taken key z) goes next.1 in
+    let same = t.1 ∙ i.id in
     record {
       book = t.0 ∙ i.book;
-      id = t.1 ∙ i.id;
-      keeps = keeps;
-      seen = f.0 ∙ i.seen;
-      low = f.2;
-      high = (let x = i.high in let y = f.3 in omega (arith, x, y));
-      names = f.1;
+      id = same;
+      keeps = all_kept;
+      seen = gone.0 ∙ i.seen;
+      low = gone.2;
+      high = (let l = i.high in let below = gone.3 in omega (arith, l, below));
+      node = open_next;
     }

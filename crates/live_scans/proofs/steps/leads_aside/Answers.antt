@@ -1,180 +1,104 @@
-use Rattle.std.proofs.Common.{rules, arith, sym, ap, subst, ◌≡◌, ℕ, ◌/◌, ◌∙◌, false, IsTrue, Option, Some}
+use Rattle.std.proofs.Common.{rules, arith, refl, sym, ap, subst, get_or, ◌/◌, ◌∙◌, false, IsTrue}
 use mathlib.Core.Logic.{dite}
 use native.Mathlib.Decide.{ℕ_discrete}
-use Rattle.node_table.specs.declared.child.Child.TheVariants.{Node}
-use Rattle.spec_map.specs.Map.{lookup}
-use Rattle.live_encodes.specs.Encodes.{words_of, IsBelow, IsWord}
 use Rattle.live_law.specs.Levels.{place_at}
-use Rattle.live_calls.specs.Ways.{AreNamed}
-use Rattle.live_calls.proofs.Views.{of, first_word, at_place, taken_keeps, may_read_node}
-use Rattle.live_rows.specs.Rows.{last_saw}
-use Rattle.live_scans.specs.inner.Moments.{IsRead}
-use Rattle.live_scans.proofs.Wholes.{may_whole, whole_missed, whole_hit, whole_read_keeps}
-use Rattle.live_scans.proofs.Composed.{has_seen_same}
-use Rattle.live_scans.proofs.Nones.{seen_same, has_none_beside}
+use Rattle.live_law.specs.Views.{View}
+use Rattle.live_calls.proofs.Finds.{keeps_then}
+use Rattle.live_calls.proofs.Views.{first_word}
+use Rattle.live_calls.proofs.Sights.{sights_kept}
+use Rattle.live_scans.specs.inner.Moments.{IsRead, IsBeside}
+use Rattle.live_scans.proofs.Wholes.{may_whole_above, above_missed, above_hit}
+use Rattle.live_scans.proofs.Composed.{has_seen_then, none_since}
+use Rattle.live_scans.proofs.Nones.{has_none_beside}
+use Rattle.live_scans.proofs.Passes.{seen_equal}
 use Rattle.live_scans.proofs.steps.leads_aside.Goals as goal
 
 not_true : IsTrue false → ⊥
 not_true h = search rules
 
-pub take-taken-requires-clause-known : goal.take-taken-requires-clause-known
-take-taken-requires-clause-known g c =
+pub returns-in_default : goal.returns-in_default
+returns-in_default g c =
     let v = c.args.pass.now.view in
-    let n = c.requires.named in
-    let name = c.args.name in
-    let key = c.args.key in
-    let height = c.args.height in
-    let b = c.args.nodes.now in
-    let words = c.in-Some.words.now in
-    let are = c.in-Some.ensures in
-    let first = c.index-words-0.result in
+    let u = c.enter.new.pass.view in
+    let entered = c.enter.ensures.told in
     let id = c.args.pass.now.id in
-    let at_k = (first_word (place_at n.spot) b words (of v name key height n b words are) first first (sym c.index-words-0.is)).0 in
-    at_place v name key height n b words are first.key at_k
+    record { told = (entered.0, entered.1, entered.2, seen_equal id v u entered.3, λ h. absurd (not_true h)) }
 
-pub returns-then-taken-ne0 : goal.returns-then-taken-ne0
-returns-then-taken-ne0 g c =
+pub watch-requires-clause-below : goal.watch-requires-clause-below
+watch-requires-clause-below g c =
     let v = c.args.pass.now.view in
-    let n = c.requires.named in
-    let name = c.args.name in
-    let key = c.args.key in
-    let height = c.args.height in
-    let b = c.args.nodes.now in
-    let words = c.in-Some.words.now in
-    let are = c.in-Some.ensures in
-    let first = c.index-words-0.result in
-    let id = c.args.pass.now.id in
-    let at_k = (first_word (place_at n.spot) b words (of v name key height n b words are) first first (sym c.index-words-0.is)).0 in
-    let v₁ = c.take-taken.new.seat.view in
-    let t = c.take-taken.result in
-    let took_it = c.take-taken.ensures.told in
-    let keeps = taken_keeps v name key height n b words are first.key at_k v₁ t took_it in
-    record { told = (c.take-taken.ensures.seat.0, c.take-taken.ensures.seat.1, keeps.0, seen_same id v v₁ keeps.1 (has_seen_same id v.client.seen), λ h. absurd (not_true h)) }
+    let u = c.enter.new.pass.view in
+    let entered = c.enter.ensures.told in
+    sights_kept v u entered.2 c.args.fork.below c.requires.leaves.sighted
 
-pub find-requires : goal.find-requires
-find-requires g c =
+pub returns-then-not-watch : goal.returns-then-not-watch
+returns-then-not-watch g c =
     let v = c.args.pass.now.view in
-    let n = c.requires.named in
-    let name = c.args.name in
-    let key = c.args.key in
-    let height = c.args.height in
-    let b = c.args.nodes.now in
-    let words = c.in-Some.words.now in
-    let are = c.in-Some.ensures in
-    let first = c.index-words-0.result in
+    let u = c.enter.new.pass.view in
+    let entered = c.enter.ensures.told in
     let id = c.args.pass.now.id in
-    let at_k = (first_word (place_at n.spot) b words (of v name key height n b words are) first first (sym c.index-words-0.is)).0 in
-    let v₁ = c.take-taken.new.seat.view in
-    let t = c.take-taken.result in
-    let took_it = c.take-taken.ensures.told in
-    let book = sym (c.take-taken.ensures.seat.0 ∙ c.requires.book) in
-    let may = may_read_node v name key height n c.take-taken.new.seat.book words (subst (λ z. AreNamed z name words) book are) first.key at_k v₁ t took_it in
-    record { cells = (may, (let l = (of v name key height n b words are).0 in let e = ap words_of (c.form_below-form.ensures n.spot.shape.key n.spot.shape.form n.named) in omega (arith, l, e))) }
-
-pub returns-in_default-find : goal.returns-in_default-find
-returns-in_default-find g c =
-    let v = c.args.pass.now.view in
-    let n = c.requires.named in
-    let name = c.args.name in
-    let key = c.args.key in
-    let height = c.args.height in
-    let b = c.args.nodes.now in
-    let words = c.in-Some.words.now in
-    let are = c.in-Some.ensures in
-    let first = c.index-words-0.result in
-    let id = c.args.pass.now.id in
-    let at_k = (first_word (place_at n.spot) b words (of v name key height n b words are) first first (sym c.index-words-0.is)).0 in
-    let v₁ = c.take-taken.new.seat.view in
-    let t = c.take-taken.result in
-    let took_it = c.take-taken.ensures.told in
-    let v₂ = c.find.new.seat.view in
-    let rest = ap (λ s. s.view) c.find.ensures.seat.others in
-    let u = c.take-taken.ensures.seat in
-    let r = c.find.ensures.seat.others in
-    let keeps = whole_read_keeps v n.spot n.met n.placed first.key at_k v₁ t took_it v₂ rest in
-    record { told = (ap (λ z. z.book) r ∙ u.0, ap (λ z. z.id) r ∙ u.1, keeps.0, seen_same id v v₂ keeps.1 (has_seen_same id v.client.seen), λ h. absurd (not_true h)) }
-
-pub returns-then-slot_below-fork : goal.returns-then-slot_below-fork
-returns-then-slot_below-fork g c =
-    let v = c.args.pass.now.view in
-    let n = c.requires.named in
-    let name = c.args.name in
-    let key = c.args.key in
-    let height = c.args.height in
-    let b = c.args.nodes.now in
-    let words = c.in-Some.words.now in
-    let are = c.in-Some.ensures in
-    let first = c.index-words-0.result in
-    let id = c.args.pass.now.id in
-    let at_k = (first_word (place_at n.spot) b words (of v name key height n b words are) first first (sym c.index-words-0.is)).0 in
-    let v₁ = c.take-taken.new.seat.view in
-    let t = c.take-taken.result in
-    let took_it = c.take-taken.ensures.told in
-    let v₂ = c.find.new.seat.view in
-    let rest = ap (λ s. s.view) c.find.ensures.seat.others in
-    let u = c.take-taken.ensures.seat in
-    let r = c.find.ensures.seat.others in
-    let keeps = whole_read_keeps v n.spot n.met n.placed first.key at_k v₁ t took_it v₂ rest in
-    record { told = (ap (λ z. z.book) r ∙ u.0, ap (λ z. z.id) r ∙ u.1, keeps.0, seen_same id v v₂ keeps.1 (has_seen_same id v.client.seen), λ h. absurd (not_true h)) }
+    let w = c.watch.new.pass.view in
+    let watched = c.watch.ensures.told in
+    let keeps = keeps_then v u w entered.2 watched.2 in
+    let seen = watched.3 ∙ entered.3 in
+    let since = seen_equal id v w seen in
+    record { told = (watched.0 ∙ entered.0, watched.1 ∙ entered.1, keeps, since, λ h. absurd (not_true h)) }
 
 pub check-requires-clause-learns : goal.check-requires-clause-learns
 check-requires-clause-learns g c =
-    let v = c.args.pass.now.view in
-    let n = c.requires.named in
+    let entered = c.enter.ensures.told in
     let name = c.args.name in
     let key = c.args.key in
     let height = c.args.height in
-    let b = c.args.nodes.now in
-    let words = c.in-Some.words.now in
-    let are = c.in-Some.ensures in
-    let first = c.index-words-0.result in
-    let id = c.args.pass.now.id in
-    let at_k = (first_word (place_at n.spot) b words (of v name key height n b words are) first first (sym c.index-words-0.is)).0 in
-    let v₁ = c.take-taken.new.seat.view in
-    let t = c.take-taken.result in
-    let took_it = c.take-taken.ensures.told in
-    let v₂ = c.find.new.seat.view in
-    let rest = ap (λ s. s.view) c.find.ensures.seat.others in
-    let again = c.index-words-0-2.result in
-    let at_again = (first_word (place_at n.spot) b words (of v name key height n b words are) again again (sym c.index-words-0-2.is)).0 in
-    may_whole v n.spot n.met n.placed first.key at_k v₁ t took_it v₂ rest again.key at_again g.A.Asks.ask.caller c.find.new.seat.id (t / 4) (c.requires.asks ∙ sym (ap (λ s. s.id) c.find.ensures.seat.others ∙ c.take-taken.ensures.seat.1)) (omega (arith, c.if-taken-ne0.false))
+    let words = c.in-Some.here.words.now in
+    let t = c.in-Some.here.taken in
+    let w = c.watch.new.pass.view in
+    let watched = c.watch.ensures.told in
+    let aside = c.watch.ensures.aside (search rules) in
+    let f = aside.forked in
+    let spot = f.names.spot in
+    let b = c.watch.new.pass.book in
+    let first = get_or words 0 c.index-here-0.result in
+    let at_k = (first_word (place_at spot) b words f.are first c.index-here-0.result refl).0 in
+    let caller = g.A.Asks.ask.caller in
+    may_whole_above w b words t name key height f first.key at_k caller c.watch.new.pass.id (t / 4) (c.requires.asks ∙ sym (watched.1 ∙ entered.1)) (let free = f.free in omega (arith, free))
 
 pub returns : goal.returns
 returns g c =
     let v = c.args.pass.now.view in
-    let n = c.requires.named in
+    let u = c.enter.new.pass.view in
+    let entered = c.enter.ensures.told in
+    let id = c.args.pass.now.id in
     let name = c.args.name in
     let key = c.args.key in
     let height = c.args.height in
-    let b = c.args.nodes.now in
-    let words = c.in-Some.words.now in
-    let are = c.in-Some.ensures in
-    let first = c.index-words-0.result in
-    let id = c.args.pass.now.id in
-    let at_k = (first_word (place_at n.spot) b words (of v name key height n b words are) first first (sym c.index-words-0.is)).0 in
-    let v₁ = c.take-taken.new.seat.view in
-    let t = c.take-taken.result in
-    let took_it = c.take-taken.ensures.told in
-    let v₂ = c.find.new.seat.view in
-    let rest = ap (λ s. s.view) c.find.ensures.seat.others in
-    let again = c.index-words-0-2.result in
-    let at_again = (first_word (place_at n.spot) b words (of v name key height n b words are) again again (sym c.index-words-0-2.is)).0 in
-    let w = c.check.new.seat.view in
-    let told = c.check.ensures.told in
-    let u = c.take-taken.ensures.seat in
-    let r = c.find.ensures.seat.others in
-    let s = c.check.ensures.seat in
-    let book = s.0 ∙ (ap (λ z. z.book) r ∙ u.0) in
-    let same = s.1 ∙ (ap (λ z. z.id) r ∙ u.1) in
-    let form = c.form_below-form.ensures n.spot.shape.key n.spot.shape.form n.named in
-    let some : c.find.result ≡ Some c.in-Some-find.word = search rules in
-    let spells = λ (s : ℕ) (word : IsWord c.in-Some-find.word (Node s)). sym (c.slot_below.ensures s word) ∙ (search rules) in
-    dite (ℕ_discrete told.0 t)
+    let words = c.in-Some.here.words.now in
+    let t = c.in-Some.here.taken in
+    let w = c.watch.new.pass.view in
+    let watched = c.watch.ensures.told in
+    let aside = c.watch.ensures.aside (search rules) in
+    let f = aside.forked in
+    let spot = f.names.spot in
+    let b = c.watch.new.pass.book in
+    let first = get_or words 0 c.index-here-0.result in
+    let at_k = (first_word (place_at spot) b words f.are first c.index-here-0.result refl).0 in
+    let caller = g.A.Asks.ask.caller in
+    let tells = c.check.ensures.told in
+    let seat = c.check.ensures.seat in
+    let x = c.check.new.seat.view in
+    let book = seat.0 ∙ (watched.0 ∙ entered.0) in
+    let same = seat.1 ∙ (watched.1 ∙ entered.1) in
+    let keeps = keeps_then v u w entered.2 watched.2 in
+    let seen = watched.3 ∙ entered.3 in
+    let since = seen_equal id v w seen in
+    let Aside = IsBeside height key c.args.fork.at c.args.fork.byte in
+    let missed = above_missed w b words t name key height f first.key at_k caller x tells.0 tells.2 in
+    let hit = above_hit w b words t name key height f first.key at_k caller x tells.0 tells.2 in
+    dite (ℕ_discrete tells.0 t)
     (λ same_word.
-    let hit = whole_hit v n.spot n.met n.placed first.key at_k v₁ t took_it v₂ rest again.key at_again g.A.Asks.ask.caller w told.0 told.2 same_word in
-    let x = subst (λ z. IsRead z v.client n.spot (last_saw v₂.reads) w.client) c.requires.asks hit.1 in
-    let found = subst (λ (o : Option ℕ). IsBelow (lookup x.its.children c.byte_at-byte.result) o) some (c.find.ensures.is x.content x.its x.agrees x.encodes (x.in_form ∙ sym form)) in
-    record { told = (book, same, hit.0, x.fits, λ _. has_none_beside id v w name key height n (last_saw v₂.reads) x c.args.fork.below c.args.fork.at c.args.fork.byte c.requires.leaves c.byte_at-byte.result c.in-Some-find.word c.requires.height.0 c.byte_at-byte.ensures found spells) })
+    let found = hit same_word in
+    let r = subst (λ z. IsRead z w.client spot spot.shape t f.saw x.client) c.requires.asks found.1 in
+    record { told = (book, same, keeps_then v w x keeps found.0, has_seen_then id v.client.seen w.client.seen x.client.seen since r.fits, λ _. none_since id v w x Aside since (has_none_beside id w x b words t name key height c.args.fork.at c.args.fork.byte aside r c.requires.height.0)) })
     (λ other.
-    let keeps = whole_missed v n.spot n.met n.placed first.key at_k v₁ t took_it v₂ rest again.key at_again g.A.Asks.ask.caller w told.0 told.2 other in
-    record { told = (book, same, keeps.0, seen_same id v w keeps.1 (has_seen_same id v.client.seen), λ h. absurd (other (told.1.0 h))) })
+    let kept = missed other in
+    record { told = (book, same, keeps_then v w x keeps kept.0, seen_equal id v x (ap (λ (z : View). z.seen) kept.1 ∙ seen), λ h. absurd (other (tells.1.0 h))) })

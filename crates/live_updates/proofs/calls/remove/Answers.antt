@@ -10,7 +10,7 @@ pub invariant_of-guard-in-Some : goal.invariant_of-guard-in-Some
 invariant_of-guard-in-Some c =
     let i = c.loop.invariant in
     let t = c.remove_once.ensures.told in
-    t.2 c.loop.guard-inside.room.start c.loop.guard-inside.room.left i.ready
+    t.2
 
 pub returns-in-Some-clause-made : goal.returns-in-Some-clause-made
 returns-in-Some-clause-made c =
@@ -36,5 +36,5 @@ loop-preserved c =
       book = t.0 ∙ i.book;
       id = t.1 ∙ i.id;
       seen = subst (λ z. EndsBy id (option_map (removed id c.args.key) z) v w) none t.3 ∙ i.seen;
-      ready = t.2 c.loop.guard-inside.room.start c.loop.guard-inside.room.left i.ready;
+      ready = t.2;
     }

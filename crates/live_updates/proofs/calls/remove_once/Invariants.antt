@@ -6,5 +6,5 @@ use Rattle.live_updates.proofs.calls.remove_once.Given as goal
 abbrev pub ghosts-seek : goal.ghosts-seek
 ghosts-seek a = record { lookup = lookup_of a.pass.now.id a.key (removal a.pass.now.id a.key) }
 
-abbrev pub ghosts-update_here : goal.ghosts-update_here
-ghosts-update_here a = record { update = update_of a.pass.now.id a.key a.old a.new (removed a.pass.now.id a.key a.old) }
+abbrev pub ghosts-exchange_here : goal.ghosts-exchange_here
+ghosts-exchange_here a = record { update = update_of a.pass.now.id a.key a.old a.new (removed a.pass.now.id a.key a.old) }

@@ -1,4 +1,4 @@
-use Rattle.std.proofs.Common.{rules, ◌≡◌, ◌∙◌, Some, None, refl, sym, ap, subst}
+use Rattle.std.proofs.Common.{rules, ◌≡◌, ◌∙◌, None, refl, sym, ap, subst}
 use Rattle.spec_map.specs.Map.{lookup}
 use Rattle.node_table.specs.declared.child.Child.TheVariants.{Payload}
 use Rattle.live_encodes.specs.Encodes.{Encodes}

@@ -1,11 +1,11 @@
-use Rattle.std.proofs.Common.{rules, arith, sym, ap, subst, false, Some, None, ◌≡◌, ◌∙◌}
+use Rattle.std.proofs.Common.{rules, arith, sym, ap, subst, false, ℕ, Some, None, ◌≡◌, ◌∙◌}
 use Rattle.live_law.specs.Views.{View, ask}
-use Rattle.live_calls.specs.Ways.{Names, Ended}
+use Rattle.live_calls.specs.Ways.{Names, IsOpen, Ended}
 use Rattle.live_calls.specs.Sees.{Follows, IsNextOpen}
 use Rattle.live_calls.specs.declared.sight.Next.TheVariants as nexts
 use Rattle.live_calls.proofs.Finds.{keeps_then, names_kept}
-use Rattle.live_calls.proofs.Sights.{sights_names}
-use Rattle.live_updates.proofs.Seeks.{found_none, found_some, ended_by, ends_later, sought_later, sought_none}
+use Rattle.live_calls.proofs.Sights.{sights_names, sights_kept, sure_root}
+use Rattle.live_updates.proofs.Seeks.{found_none, found_some, ends_later, sought_later, sought_none}
 use Rattle.live_updates.proofs.lookup.seek.Goals as goal
 
 pub returns-in_err-here : goal.returns-in_err-here
@@ -35,7 +35,12 @@ loop-height-init g c =
       seen = ap (λ (z : View). z.seen) o.3 ∙ r.3;
       low = omega arith;
       high = omega arith;
-      node = record { names = names_kept v w name c.args.key 8 o.2 n; opened = there.1 (sights_names v name c.args.key 8 n); free = there.0 };
+      node = record {
+        names = names_kept v w name c.args.key 8 o.2 n;
+        opened = there.1 (sights_names v name c.args.key 8 n);
+        free = there.0;
+        sure = sure_root n.spot (there.1 (sights_names v name c.args.key 8 n)).saw n.high;
+      };
     }
 
 pub returns-in_err-step : goal.returns-in_err-step
@@ -51,8 +56,12 @@ returns-in_err-step g c =
     let out : c.from_residual-in_err-step.result ≡ None = search rules in
     record { told = (t.0 ∙ i.book, t.1 ∙ i.id, keeps, sought_none l c.from_residual-in_err-step.result u w out (seen ∙ i.seen)) }
 
-pub absent_at-requires-clause-named : goal.absent_at-requires-clause-named
-absent_at-requires-clause-named g c = names_kept c.loop-height.pass.view c.step.new.pass.view c.loop-height.name c.args.key c.loop-height.height c.step.ensures.told.2 c.loop-height.invariant.node.names
+pub absent_at-requires-clause-sighted : goal.absent_at-requires-clause-sighted
+absent_at-requires-clause-sighted g c =
+    let v = c.loop-height.pass.view in
+    let w = c.step.new.pass.view in
+    let name = c.loop-height.name in
+    sights_kept v w c.step.ensures.told.2 name (sights_names v name c.args.key c.loop-height.height c.loop-height.invariant.node.names)
 
 pub returns-in-Ends : goal.returns-in-Ends
 returns-in-Ends g c =
@@ -71,7 +80,7 @@ returns-in-Ends g c =
     let f = subst (λ z. Follows Ends v w key h (Some z)) is c.in_ok-step.ensures.next.0 in
     let y = c.absent_at.new.pass.view in
     let e = c.absent_at.ensures.told in
-    record { told = (e.0 ∙ (t.0 ∙ i.book), e.1 ∙ (t.1 ∙ i.id), keeps_then u w y keeps e.2, sought_later l c.absent_at.result u w y (ap (λ (z : View). z.seen) f ∙ i.seen) e.3) }
+    record { told = (e.0 ∙ (t.0 ∙ i.book), e.1 ∙ (t.1 ∙ i.id), keeps_then u w y keeps e.2, sought_later l c.absent_at.result u w y (f ∙ i.seen) e.3) }
 
 pub loop-height-preserved : goal.loop-height-preserved
 loop-height-preserved g c =
@@ -99,8 +108,23 @@ loop-height-preserved g c =
       node = subst (λ z. IsNextOpen w c.step.new.pass.book here.words.now here.taken key z) is c.in_ok-step.ensures.next.1;
     }
 
-pub absent_at-requires-in-Forks-clause-named : goal.absent_at-requires-in-Forks-clause-named
-absent_at-requires-in-Forks-clause-named g c = names_kept c.loop-height.pass.view c.step.new.pass.view c.loop-height.name c.args.key c.loop-height.height c.step.ensures.told.2 c.loop-height.invariant.node.names
+pub absent_at-requires-in-Forks-clause-sighted : goal.absent_at-requires-in-Forks-clause-sighted
+absent_at-requires-in-Forks-clause-sighted g c =
+    let v = c.loop-height.pass.view in
+    let w = c.step.new.pass.view in
+    let name = c.loop-height.name in
+    sights_kept v w c.step.ensures.told.2 name (sights_names v name c.args.key c.loop-height.height c.loop-height.invariant.node.names)
+
+pub absent_at-requires-in-Forks-clause-below : goal.absent_at-requires-in-Forks-clause-below
+absent_at-requires-in-Forks-clause-below g c =
+    let v = c.loop-height.pass.view in
+    let w = c.step.new.pass.view in
+    let h = c.loop-height.height in
+    let key = c.args.key in
+    let Ends = Ended false (ask c.loop-height.pass.id c.args.key 0 0) None in
+    let is : c.in_ok-step.step.next ≡ nexts.Forks c.in-Forks.fork = search rules in
+    let f = subst (λ z. Follows Ends v w key h (Some z)) is c.in_ok-step.ensures.next.0 in
+    f.1.sighted
 
 pub returns-in-Forks : goal.returns-in-Forks
 returns-in-Forks g c =
@@ -121,6 +145,14 @@ returns-in-Forks g c =
     let e = c.absent_at-in-Forks.ensures.told in
     record { told = (e.0 ∙ (t.0 ∙ i.book), e.1 ∙ (t.1 ∙ i.id), keeps_then u w y keeps e.2, sought_later l c.absent_at-in-Forks.result u w y (f.0 ∙ i.seen) e.3) }
 
+pub ends_in-requires-clause-open : goal.ends_in-requires-clause-open
+ends_in-requires-clause-open g c =
+    let l = c.loop-height in
+    let i = l.invariant in
+    let low = i.low in
+    let one : l.height ≡ 1 = omega (arith, low, c.loop-height-test.false) in
+    subst (λ (z : ℕ). IsOpen l.pass.view l.pass.book l.here.words.now l.here.taken l.name c.args.key z) one i.node
+
 pub returns-in_err-value : goal.returns-in_err-value
 returns-in_err-value g c =
     let u = c.args.pass.now.view in
@@ -132,7 +164,7 @@ returns-in_err-value g c =
     let none : c.ends_in.result ≡ None = search rules in
     let out : c.from_residual-in_err-value.result ≡ None = search rules in
     let same = found_none l c.ends_in.result v w t.3 none in
-    record { told = (t.0 ∙ i.book, t.1 ∙ i.id, keeps_then u v w i.keeps t.2, sought_none l c.from_residual-in_err-value.result u w out (ap (λ (z : View). z.seen) same ∙ i.seen)) }
+    record { told = (t.0 ∙ i.book, t.1 ∙ i.id, keeps_then u v w i.keeps t.2, sought_none l c.from_residual-in_err-value.result u w out (same ∙ i.seen)) }
 
 pub returns-in-Some : goal.returns-in-Some
 returns-in-Some g c =
@@ -152,7 +184,7 @@ returns-in-Some g c =
         t.0 ∙ i.book,
         t.1 ∙ i.id,
         keeps_then u v w i.keeps t.2,
-        (ends_later l.caller (l.entry (Some c.in-Some.value)) u v w i.seen (ended_by l.caller (l.entry (Some c.in-Some.value)) v w ended), subst (λ k. Names w c.loop-height.name k 1) (sym c.requires.asks.0) names),
+        (ends_later l.caller (l.entry (Some c.in-Some.value)) u v w i.seen ended, subst (λ k. Names w c.loop-height.name k 1) (sym c.requires.asks.0) names),
       );
     }
 
@@ -166,4 +198,4 @@ returns-in-None g c =
     let l = g.Q.Lookups.lookup in
     let is : c.ends_in.result ≡ Some None = search rules in
     let ended = found_some l c.ends_in.result None v w t.3 is in
-    record { told = (t.0 ∙ i.book, t.1 ∙ i.id, keeps_then u v w i.keeps t.2, ends_later l.caller (l.entry None) u v w i.seen (ended_by l.caller (l.entry None) v w ended)) }
+    record { told = (t.0 ∙ i.book, t.1 ∙ i.id, keeps_then u v w i.keeps t.2, ends_later l.caller (l.entry None) u v w i.seen ended) }

@@ -1,4 +1,4 @@
-use Rattle.std.proofs.Common.{◌∙◌, refl, ap, subst, sym}
+use Rattle.std.proofs.Common.{◌∙◌, refl, subst, sym}
 use Rattle.std.specs.List.{FoldsTo}
 use Rattle.tree_edit.proofs.TidyLaws.{moves_trans}
 use Rattle.congee_tree.proofs.BulkLaws.{first_inside, is_present, all_outside, none_comes_before, none_of_first}

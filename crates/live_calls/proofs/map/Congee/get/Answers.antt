@@ -11,7 +11,7 @@ invariant_of-guard-in-Some c =
     let room = c.loop.guard-inside.room in
     let w = c.get_once.new.pass.view in
     let t = c.get_once.ensures.told in
-    ready_kept v w room.start room.left i.ready t.2
+    ready_kept v w room i.ready t.2
 
 pub returns-in-Some-clause-made : goal.returns-in-Some-clause-made
 returns-in-Some-clause-made c =
@@ -34,5 +34,5 @@ loop-preserved c =
       book = t.0 ∙ i.book;
       id = t.1 ∙ i.id;
       seen = found_none (ask c.loop.guard-inside.pass.id c.args.key 0 0) c.get_once.result v w t.3 none ∙ i.seen;
-      ready = ready_kept v w room.start room.left i.ready t.2;
+      ready = ready_kept v w room i.ready t.2;
     }

@@ -11,5 +11,5 @@ invariant-loop l = record {
   book : l.guard-inside.pass.book ≡ l.fn.guard.book;
   id : l.guard-inside.pass.id ≡ l.fn.guard.caller;
   seen : l.guard-inside.pass.view.client.seen ≡ l.fn.guard.seen;
-  ready : IsReady l.guard-inside.pass.view l.guard-inside.room.start l.guard-inside.room.left;
+  ready : IsReady l.guard-inside.pass.view l.guard-inside.room;
 }

@@ -1,4 +1,0 @@
-use Rattle.face_payloads.proofs.congee_arc.PayloadCongee.ask_after.Given as goal
-
-abbrev pub ghosts-remove : goal.ghosts-remove
-ghosts-remove g a = record { name = a.blank.name; parts = a.blank.parts }

@@ -1,4 +1,0 @@
-use Rattle.face_typed.proofs.typed_congee.Congee.ask_after.Given as goal
-
-abbrev pub ghosts-remove : goal.ghosts-remove
-ghosts-remove g a = record { name = a.blank.name; parts = a.blank.parts }

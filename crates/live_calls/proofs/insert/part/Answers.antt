@@ -1,0 +1,27 @@
+use Rattle.std.proofs.Common.{rules, sym, subst, arith, ◌≢◌}
+use Rattle.node_base.specs.declared.base_node.NodeType.TheVariants.{N4}
+use Rattle.live_calls.specs.Ways.{Sights}
+use Rattle.live_calls.proofs.Ready.{ready_grown, ready_again_met}
+use Rattle.live_calls.proofs.insert.part.Goals as goal
+
+pub returns-then-spare-eq0 : goal.returns-then-spare-eq0
+returns-then-spare-eq0 c =
+    let t = c.split.ensures.told in
+    let l = c.split.new in
+    record { told = (t.0, t.1, ready_grown c.args.pass.now.view l.pass.view c.args.room.now l.room c.requires.ready t.2 t.3 t.4, t.2.seen) }
+
+pub split_again-requires-clause-spare : goal.split_again-requires-clause-spare
+split_again-requires-clause-spare c =
+    let some : c.get-spare.result ≢ 0 = search rules in
+    let kept = c.get-spare.ensures in
+    subst (Sights c.args.pass.now.view) (sym kept) (c.requires.ready.spare.0 N4 (omega (arith, kept, some))).sighted
+
+pub returns : goal.returns
+returns c =
+    let t = c.split_again.ensures.told in
+    let l = c.split_again.new in
+    let some : c.get-spare.result ≢ 0 = search rules in
+    let kept = c.get-spare.ensures in
+    let v = c.args.pass.now.view in
+    let sighted = subst (Sights v) (sym kept) (c.requires.ready.spare.0 N4 (omega (arith, kept, some))).sighted in
+    record { told = (t.0, t.1, ready_again_met v l.pass.view c.args.room.now l.spares c.get-spare.result c.requires.ready t.2 t.3 sighted c.split_again.ensures.spares, t.2.seen) }

@@ -1,0 +1,92 @@
+//! Nodes that are no part of the map any more, and may be used again.
+ghost use Rattle.std.specs.Prelude.{◌≡◌, IfSome};
+ghost use Rattle.live_nodes.specs.Seats.{SeatView};
+ghost use Rattle.live_law.specs.Views.{View};
+ghost use Rattle.live_calls.specs.Ways.{Sights};
+ghost use Rattle.live_calls.specs.Spares.{IsSpare, slot_of, with_slot, HasSpares};
+
+use live_encodes::form::form_below;
+use node_base::base_node::NodeType;
+
+/// Names of nodes that are no part of the map and that nobody uses: one for each form, and a further one of any form. 0 for
+/// none.
+#[derive(Clone, Copy, Debug, PartialEq, Eq)]
+pub struct Spares {
+    pub n4: u64,
+    pub n16: u64,
+    pub n48: u64,
+    pub n256: u64,
+    pub more: u64,
+}
+
+impl Spares {
+    /// No node.
+    pub fn none() -> Spares
+        ensures { (v : SeatView View) → HasSpares v result }
+    {
+        Spares {
+            n4: 0,
+            n16: 0,
+            n48: 0,
+            n256: 0,
+            more: 0,
+        }
+    }
+
+    /// The name that is kept for a form.
+    pub fn get(&self, form: NodeType) -> u64
+        ensures { result ≡ slot_of self.now form }
+    {
+        match form {
+            NodeType::N4 => self.n4,
+            NodeType::N16 => self.n16,
+            NodeType::N48 => self.n48,
+            NodeType::N256 => self.n256,
+        }
+    }
+
+    fn set(&mut self, form: NodeType, name: u64)
+        ensures { self.new ≡ with_slot self.old form name }
+    {
+        match form {
+            NodeType::N4 => self.n4 = name,
+            NodeType::N16 => self.n16 = name,
+            NodeType::N48 => self.n48 = name,
+            NodeType::N256 => self.n256 = name,
+        }
+    }
+
+    /// Takes the node of a form, which is kept no longer.
+    pub fn take(&mut self, form: NodeType) -> Option<u64>
+        ensures gone { slot_of self.new form ≡ 0 }
+        ensures left { (v : SeatView View) → HasSpares v self.old → HasSpares v self.new }
+        ensures taken { (v : SeatView View) → HasSpares v self.old
+            → IfSome result (λ name. IsSpare v form name) }
+    {
+        let name = self.get(form);
+        self.set(form, 0);
+        if name == 0 { None } else { Some(name) }
+    }
+
+    /// Keeps a node: for its form, or where one is kept for that, as the further one. `false` where there is no place.
+    pub fn keep(&mut self, name: u64) -> bool
+        ensures kept { (v : SeatView View) → HasSpares v self.old → Sights v name
+            → HasSpares v self.new }
+    {
+        let form = form_below(name);
+        if self.get(form) == 0 {
+            self.set(form, name);
+            return true;
+        }
+        if self.more == 0 {
+            self.more = name;
+            return true;
+        }
+        false
+    }
+
+    /// Whether a node of each form is kept.
+    pub fn is_full(&self) -> bool {
+        self.n4 != 0 && self.n16 != 0 && self.n48 != 0 && self.n256 != 0
+    }
+}

@@ -1,0 +1,31 @@
+use Rattle.std.proofs.Common.{◌∙◌}
+use Rattle.live_calls.proofs.Ready.{ready_kept, ready_spare}
+use Rattle.live_detach.proofs.tidy.tidy.Goals as goal
+
+pub returns-in_default : goal.returns-in_default
+returns-in_default c =
+    let i = c.loop.invariant in
+    let w = c.detach_one.new.pass.view in
+    let t = c.detach_one.ensures.told in
+    record { told = (t.0 ∙ i.book, t.1 ∙ i.id, ready_kept c.loop.pass.view w c.loop.room i.ready t.2, t.3 ∙ i.seen) }
+
+pub returns-then-not-taken : goal.returns-then-not-taken
+returns-then-not-taken c =
+    let i = c.loop.invariant in
+    let w = c.detach_one.new.pass.view in
+    let t = c.detach_one.ensures.told in
+    let ready = ready_kept c.loop.pass.view w c.loop.room i.ready t.2 in
+    record { told = (t.0 ∙ i.book, t.1 ∙ i.id, ready_spare w c.loop.room c.keep.new.self ready (c.keep.ensures.kept w ready.spare c.in-Some.ensures.named), t.3 ∙ i.seen) }
+
+pub loop-preserved : goal.loop-preserved
+loop-preserved c =
+    let i = c.loop.invariant in
+    let w = c.detach_one.new.pass.view in
+    let t = c.detach_one.ensures.told in
+    let ready = ready_kept c.loop.pass.view w c.loop.room i.ready t.2 in
+    record {
+      book = t.0 ∙ i.book;
+      id = t.1 ∙ i.id;
+      ready = ready_spare w c.loop.room c.keep.new.self ready (c.keep.ensures.kept w ready.spare c.in-Some.ensures.named);
+      seen = t.3 ∙ i.seen;
+    }

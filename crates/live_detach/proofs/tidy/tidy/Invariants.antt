@@ -1,0 +1,11 @@
+use Rattle.std.proofs.Common.{◌≡◌}
+use Rattle.live_calls.specs.Calls.{IsReady}
+use Rattle.live_detach.proofs.tidy.tidy.Given as goal
+
+abbrev pub invariant-loop : goal.invariant-loop
+invariant-loop l = record {
+  book : l.pass.book ≡ l.fn.pass.book;
+  id : l.pass.id ≡ l.fn.pass.id;
+  ready : IsReady l.pass.view l.room;
+  seen : l.pass.view.client.seen ≡ l.fn.pass.view.client.seen;
+}

@@ -1,0 +1,2 @@
+pub mod Unlinks
+pub mod Two

@@ -1,0 +1,52 @@
+-- A NODE AND THE ONE ABOVE IT are locked, and nothing was written in either.
+use Rattle.std.specs.Prelude.{◌≡◌, ◌≢◌, ℕ, ◌+◌, ◌%◌, ◌<◌, ◌^◌, List, [], ◌∷◌, length}
+use Rattle.node_table.specs.TableNode.{TableNode}
+use Rattle.word_book.specs.Book.{Book, Name}
+use Rattle.live_nodes.specs.Nodes.{Content}
+use Rattle.live_nodes.specs.Seats.{hold, SeatView, IsIn}
+use Rattle.live_rows.specs.Rows.{AreOf}
+use Rattle.live_encodes.specs.Encodes.{words_of, Encodes}
+use Rattle.live_law.specs.Levels.{digit, Spot, name_of, place_at}
+use Rattle.live_law.specs.Views.{View, locked}
+use Rattle.live_calls.specs.Holds.{HasWordOf}
+use Rattle.live_calls.specs.declared.insert.Stand.{Stand}
+
+-- a node that is locked: its words, and the word by which it was free
+pub record IsHeld (v : SeatView View) (b : Book) (words : List Name) (free : ℕ) (a : Spot) (c : Content) : Type 0 where
+  pub placed : IsIn (place_at a) v.places
+  pub are : AreOf (place_at a) b words
+  pub its : TableNode ℕ
+  pub encodes : Encodes c its
+  pub in_form : its.form ≡ a.shape.form
+  pub long : length c ≡ words_of a.shape.form
+  pub even : free % 4 ≡ 0
+  pub small : free < 2 ^ 62
+
+pub record HoldsTwo (v : SeatView View) (b : Book) (words words_above : List Name) (free free_above : ℕ) : Type 0 where
+  pub below : Spot
+  pub above : Spot
+  pub content : Content
+  pub content_above : Content
+  pub own : v.client.own ≡ locked below content ∷ locked above content_above ∷ []
+  pub holds : v.holds ≡ hold below.number (free + 2) content ∷ hold above.number (free_above + 2) content_above ∷ []
+  pub apart : above.number ≢ below.number
+  pub held : IsHeld v b words free below content
+  pub held_above : IsHeld v b words_above free_above above content_above
+
+-- The upper one leads to the lower, by a key's digit.
+pub record LeadsTwo (v : SeatView View) (b : Book) (words words_above : List Name) (free free_above : ℕ) (s : Stand) (key : ℕ) : Type 0 where
+  pub two : HoldsTwo v b words words_above free free_above
+  pub named : s.name ≡ name_of two.below.shape
+  pub named_above : s.above ≡ name_of two.above.shape
+  pub high : two.below.shape.height ≡ s.height
+  pub high_above : two.above.shape.height ≡ s.level
+  pub leads : HasWordOf two.content_above two.above.shape.form (digit s.level key) s.name
+
+-- A node's words are of one without children.
+abbrev pub HasNone : Spot → Content → Type 0
+HasNone a c = (n : TableNode ℕ) → Encodes c n → n.form ≡ a.shape.form → n.children ≡ []
+
+-- The lower one is to be taken out.
+pub record PartsTwo (v : SeatView View) (b : Book) (words words_above : List Name) (free free_above : ℕ) (s : Stand) (key : ℕ) : Type 0 where
+  pub lead : LeadsTwo v b words words_above free free_above s key
+  pub none : HasNone lead.two.below lead.two.content

@@ -1,0 +1,49 @@
+//! The way of a key is tidied, which was removed.
+ghost use Rattle.std.specs.Prelude.{◌≡◌, [], IfSome};
+ghost use Rattle.live_calls.specs.Ways.{KnowsTrunk, Sights, Keeps};
+ghost use Rattle.live_calls.specs.Calls.{IsReady};
+
+use crate::detach::{Taken, detach};
+use live_calls::insert::{End, descend};
+use live_calls::link::Room;
+use live_calls::way::{Nodes, Pass};
+
+/// Takes the node out at which a key's way ends, if it has no children and isn't the root. `None` where nothing was taken out.
+pub fn detach_one(nodes: &Nodes, key: u64, pass: &mut Pass) -> Option<Taken>
+    requires book { pass.old.book ≡ nodes.now }
+    requires trunk { KnowsTrunk pass.old.view }
+    requires rests { (pass.old.view.client.own ≡ []) × (pass.old.view.holds ≡ []) }
+    ensures told { (pass.new.book ≡ pass.old.book) × (pass.new.id ≡ pass.old.id)
+        × Keeps pass.old.view pass.new.view
+        × (pass.new.view.client.seen ≡ pass.old.view.client.seen) }
+    ensures named { IfSome result (λ taken. Sights pass.new.view taken.name) }
+{
+    let End { stand, fork } = descend(nodes, key, pass)?;
+    if fork.is_some() || stand.height >= 8 {
+        return None;
+    }
+    detach(nodes, stand, key, pass)
+}
+
+/// Takes the nodes out that have no children on the way of a key. One of each form is kept, to be used again. Where a writer
+/// comes in between, they stay.
+pub fn tidy(nodes: &Nodes, key: u64, room: &mut Room, pass: &mut Pass)
+    requires book { pass.old.book ≡ nodes.now }
+    requires ready { IsReady pass.old.view room.old }
+    ensures told { (pass.new.book ≡ pass.old.book) × (pass.new.id ≡ pass.old.id)
+        × IsReady pass.new.view room.new
+        × (pass.new.view.client.seen ≡ pass.old.view.client.seen) }
+{
+    for _ in 0..7 {
+        if room.spare.more != 0 {
+            return;
+        }
+        let Some(taken) = detach_one(nodes, key, pass) else {
+            return;
+        };
+        let _ = room.spare.keep(taken.name);
+        if !taken.again {
+            return;
+        }
+    }
+}

@@ -1,6 +1,0 @@
-use Rattle.live_nodes.proofs.Faces.{keeps}
-use Rattle.live_nodes.proofs.node.keep.Goals as goal
-
-pub store-requires-clause-rule : goal.store-requires-clause-rule
-store-requires-clause-rule g c = let s = c.args.seat.now in
-    keeps g.L.NodeLaw.root g.L.NodeLaw.holds s.id s.view c.args.word.now.key g.M.Change.told c.args.free c.requires.free.0 c.requires.keeps

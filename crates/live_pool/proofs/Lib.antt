@@ -1,0 +1,4 @@
+pub mod Successions
+pub mod Lists
+pub mod Informed
+pub mod Tellings

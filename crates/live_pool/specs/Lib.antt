@@ -1,0 +1,3 @@
+pub mod Successions
+pub mod Pools
+pub mod Stocks

@@ -1,0 +1,155 @@
+//! The calls that make nodes or take nodes out, with the guard's spare nodes kept in order.
+//!
+//! Each is the call of the map. Before it a guard with little room gets nodes, and after it one too many goes to the others.
+ghost use Rattle.std.specs.Prelude.{◌≡◌, ℕ, IfOk, IfSome, OnErr, unwrap_or};
+ghost use Rattle.live_law.specs.Views.{ask, inserted};
+ghost use Rattle.live_law.specs.Known.{MadeCall};
+ghost use Rattle.live_updates.specs.Entries.{removed, swapped};
+ghost use Rattle.live_computes.specs.Closures.{Reaches};
+ghost use Rattle.live_computes.specs.Entries.{computed_with, inserted_with, sum_with};
+
+use crate::pool::Pool;
+use live_calls::map::{Busy, Guard, Refusal};
+use live_computes::present;
+use live_updates::calls;
+use std::alloc::Global;
+
+impl Pool {
+    /// Gives a key a value. The value before.
+    pub fn insert(
+        &self,
+        alloc: Global,
+        guard: &mut Guard,
+        key: u64,
+        value: u64,
+    ) -> Result<Option<u64>, Refusal>
+        requires { guard.old.book ≡ self.now }
+        ensures made { IfOk result (λ old. MadeCall guard.old
+            (inserted (ask guard.old.caller key value 1) old) guard.new) }
+        ensures refused { OnErr result (guard.new ≡ guard.old) }
+    {
+        let before = self.ready(guard);
+        let done = self.map.insert(alloc, guard, key, value);
+        self.settle(guard, before);
+        done
+    }
+
+    /// Removes a key: the value that it had. Needs no memory.
+    pub fn remove(&self, guard: &mut Guard, key: u64) -> Result<Option<u64>, Busy>
+        requires { guard.old.book ≡ self.now }
+        ensures made { IfOk result (λ before. MadeCall guard.old
+            (removed guard.old.caller key before) guard.new) }
+        ensures busy { OnErr result (guard.new ≡ guard.old) }
+    {
+        let before = guard.room;
+        let done = calls::remove(&self.map, guard, key);
+        self.settle_way(guard, before, key);
+        done
+    }
+
+    /// Replaces a key's value by `new`, or removes it for `None`, if it is `old`. `Ok` with `new`, or `Err` with the current
+    /// value, or with `None` where the key is absent. Needs no memory.
+    pub fn compare_exchange(
+        &self,
+        guard: &mut Guard,
+        key: u64,
+        old: u64,
+        new: Option<u64>,
+    ) -> Result<Result<Option<u64>, Option<u64>>, Busy>
+        requires { guard.old.book ≡ self.now }
+        ensures made { IfOk result (λ answer. MadeCall guard.old
+            (swapped guard.old.caller key old new answer) guard.new) }
+        ensures stored { IfOk result (λ answer. IfOk answer (λ stored. stored ≡ new)) }
+        ensures busy { OnErr result (guard.new ≡ guard.old) }
+    {
+        let before = guard.room;
+        let done = calls::compare_exchange(&self.map, guard, key, old, new);
+        self.settle_way(guard, before, key);
+        done
+    }
+
+    /// Gives an absent key a value. The value of a present one.
+    pub fn get_or_insert(
+        &self,
+        alloc: Global,
+        guard: &mut Guard,
+        key: u64,
+        value: u64,
+    ) -> Result<Option<u64>, Refusal>
+        requires { guard.old.book ≡ self.now }
+        ensures made { IfOk result (λ found. MadeCall guard.old
+            (inserted_with guard.old.caller key found (unwrap_or found value)) guard.new) }
+        ensures refused { OnErr result (guard.new ≡ guard.old) }
+    {
+        let before = self.ready(guard);
+        let done = present::get_or_insert(&self.map, alloc, guard, key, value);
+        self.settle(guard, before);
+        done
+    }
+
+    /// Adds a number to a key's value, modulo 2 to the 64. An absent key gets the number itself. The value before.
+    pub fn add(
+        &self,
+        alloc: Global,
+        guard: &mut Guard,
+        key: u64,
+        number: u64,
+    ) -> Result<Option<u64>, Refusal>
+        requires { guard.old.book ≡ self.now }
+        ensures made { IfOk result (λ before. MadeCall guard.old
+            (inserted_with guard.old.caller key before (sum_with before number)) guard.new) }
+        ensures refused { OnErr result (guard.new ≡ guard.old) }
+    {
+        let before = self.ready(guard);
+        let done = present::add(&self.map, alloc, guard, key, number);
+        self.settle(guard, before);
+        done
+    }
+
+    /// Stores what a closure returns for a present key's value, or removes the key for `None`. What it was called with last, and
+    /// what it returned.
+    pub fn compute_if_present<F: FnMut(u64) -> Option<u64>>(
+        &self,
+        guard: &mut Guard,
+        key: u64,
+        f: &mut F,
+    ) -> Result<Option<(u64, Option<u64>)>, Busy>
+        requires map { guard.old.book ≡ self.now }
+        requires callable { F.IsAlwaysCallable f.old }
+        ensures callable { F.IsAlwaysCallable f.new }
+        ensures reached { Reaches F.step f.old f.new }
+        ensures made { IfOk result (λ both. MadeCall guard.old
+            (computed_with guard.old.caller key both) guard.new) }
+        ensures asked { IfOk result (λ both. IfSome both (λ pair.
+            (state : F) × F.step state pair.0 pair.1 f.new)) }
+        ensures busy { OnErr result (guard.new ≡ guard.old) }
+    {
+        let before = guard.room;
+        let done = present::compute_if_present(&self.map, guard, key, f);
+        self.settle_way(guard, before, key);
+        done
+    }
+
+    /// Stores what a closure returns for a key's value, or for none. The value that it was called with last.
+    pub fn compute_or_insert<F: FnMut(Option<u64>) -> u64>(
+        &self,
+        alloc: Global,
+        guard: &mut Guard,
+        key: u64,
+        f: &mut F,
+    ) -> Result<Option<u64>, Refusal>
+        requires map { guard.old.book ≡ self.now }
+        requires callable { F.IsAlwaysCallable f.old }
+        ensures callable { F.IsAlwaysCallable f.new }
+        ensures reached { Reaches F.step f.old f.new }
+        ensures made { IfOk result (λ before. (new : ℕ)
+            × MadeCall guard.old (inserted_with guard.old.caller key before new) guard.new
+            × ((state : F) × F.step state before new f.new)) }
+        ensures refused { OnErr result (guard.new ≡ guard.old) }
+    {
+        let before = self.ready(guard);
+        let done = present::compute_or_insert(&self.map, alloc, guard, key, f);
+        self.settle(guard, before);
+        done
+    }
+}

@@ -1,0 +1,15 @@
+//! A map with what its guards have left over, for other guards.
+//!
+//! A guard that has inserted has words for further nodes to itself, of 512 KiB at most. They are the map's for good, so they
+//! would be lost with the guard. Here its room goes to the next guard instead: as many rooms are in use as there were guards
+//! at one time. A guard also keeps a node or two of each form that were taken out of the map. It gives further ones to all, and
+//! takes others' before it uses words of its room. So a map that changes for ever has as many nodes as it needs at most.
+//!
+//! Tested in `test_live_pool`.
+#![tactic(auto)]
+
+pub mod calls;
+pub mod pool;
+mod slot;
+pub mod stock;
+pub mod succession;

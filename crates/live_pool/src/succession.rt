@@ -1,0 +1,59 @@
+//! A guard's room for nodes becomes another guard's.
+ghost use Rattle.std.specs.Prelude.{◌≡◌};
+ghost use Rattle.live_pool.specs.Successions.{Succeeds, Informs};
+
+use live_calls::map::Guard;
+use live_calls::way::Pass;
+use live_law::law::{Levels, Mine};
+use live_nodes::law::{NodeLaw, Seat, View};
+use word_book::seat::Meeting;
+
+/// A seat takes another's room over.
+pub struct Succession;
+
+impl<V, L: NodeLaw<V>> Meeting<View<V, L>> for Succession {
+    ghost use Rattle.live_pool.specs.Successions.{Succeeds};
+
+    ghost then = { Succeeds };
+}
+
+/// The first seat's room is the second's from then on, whose own is lost. It touches no word.
+pub fn hand_over<V, L: NodeLaw<V>>(from: &mut Seat<V, L>, to: &mut Seat<V, L>)
+    requires book { from.old.book ≡ to.old.book }
+    ensures first { (from.new.book ≡ from.old.book) × (from.new.id ≡ from.old.id) }
+    ensures second { (to.new.book ≡ to.old.book) × (to.new.id ≡ to.old.id) }
+    ensures told { Succeeds from.old.view to.old.view from.new.view to.new.view }
+{
+    from.meet::<Succession>(to)
+}
+
+/// Two seats tell each other where nodes are.
+pub struct Information;
+
+impl Meeting<View<Mine, Levels>> for Information {
+    ghost use Rattle.live_pool.specs.Successions.{Informs};
+
+    ghost then = { Informs };
+}
+
+/// Both seats know where the nodes are that either has met. It touches no word.
+pub fn inform(a: &mut Pass, b: &mut Pass)
+    requires book { a.old.book ≡ b.old.book }
+    ensures first { (a.new.book ≡ a.old.book) × (a.new.id ≡ a.old.id) }
+    ensures second { (b.new.book ≡ b.old.book) × (b.new.id ≡ b.old.id) }
+    ensures told { Informs a.old.view b.old.view a.new.view b.new.view }
+{
+    a.meet::<Information>(b)
+}
+
+/// What a guard that ends has for new nodes is the other guard's from then on, whose own is lost. That one has seen no more.
+pub fn succeed(from: Guard, to: &mut Guard)
+    requires book { from.book ≡ to.old.book }
+    ensures { to.new ≡ to.old }
+{
+    let Guard { mut pass, room } = from;
+    inform(&mut pass, &mut to.pass);
+    hand_over(&mut pass, &mut to.pass);
+    to.room = room;
+    drop(pass);
+}

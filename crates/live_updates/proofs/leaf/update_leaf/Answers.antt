@@ -1,0 +1,250 @@
+use Rattle.std.proofs.Common.{rules, arith, sym, ap, subst, length, ℕ, Some, None, List, ◌≡◌, ◌+◌, ◌/◌, ◌∙◌}
+use Rattle.live_nodes.specs.Acts as acts
+use Rattle.live_nodes.specs.Seats.{SeatView}
+use Rattle.live_rows.specs.Rows.{draft_of, nth}
+use Rattle.live_encodes.specs.Encodes.{words_of, IsCounted}
+use Rattle.live_law.specs.Levels.{up, digit, place_at}
+use Rattle.live_law.specs.Views.{View}
+use Rattle.live_law.specs.Tree.{IsMap, Answers}
+use Rattle.live_calls.specs.Ways.{AreNamed}
+use Rattle.live_calls.specs.Holds.{HasLocked, HoldsOne}
+use Rattle.live_calls.proofs.Views.{first_word}
+use Rattle.share_rule.specs.History.{Entry}
+use Rattle.live_updates.specs.inner.Updates.{Writes}
+use Rattle.live_updates.proofs.Leaves.{leaf_updates}
+use Rattle.live_updates.proofs.Written.{set_leaf, kept_leaf, encodes_few}
+use Rattle.live_calls.proofs.Locks.{taken_by, holds_one, may_hold, draft_is, wrote_one, may_free, is_freed, alike_then}
+use Rattle.live_updates.proofs.leaf.update_leaf.Goals as goal
+
+pub set-requires-clause-may : goal.set-requires-clause-may
+set-requires-clause-may g c =
+    let v = c.args.pass.now.view in
+    let name = c.args.name in
+    let key = c.args.key in
+    let words = c.in-Some.words.now in
+    let free = c.in-Some-lock_node.free in
+    let w = c.lock_node.new.pass.view in
+    let t = c.lock_node.ensures.told in
+    let locked : c.lock_node.result ≡ Some free = search rules in
+    let h = taken_by c.lock_node.result free locked (HasLocked v w name key 1) t.2 in
+    let book = t.0 ∙ c.requires.book in
+    let b = c.lock_node.new.pass.book in
+    let are = subst (λ z. AreNamed z name words) (sym book) c.in-Some.ensures in
+    let one = holds_one v w name key 1 free h b words are c.requires.rests.0 c.requires.rests.1 in
+    let a = h.names.spot in
+    let form = c.form_below-form.ensures a.shape.key a.shape.form h.names.named in
+    may_hold w b words free a h.content h.content one h.long
+
+pub set-requires-clause-long : goal.set-requires-clause-long
+set-requires-clause-long g c =
+    let v = c.args.pass.now.view in
+    let name = c.args.name in
+    let key = c.args.key in
+    let words = c.in-Some.words.now in
+    let free = c.in-Some-lock_node.free in
+    let w = c.lock_node.new.pass.view in
+    let t = c.lock_node.ensures.told in
+    let locked : c.lock_node.result ≡ Some free = search rules in
+    let h = taken_by c.lock_node.result free locked (HasLocked v w name key 1) t.2 in
+    let book = t.0 ∙ c.requires.book in
+    let b = c.lock_node.new.pass.book in
+    let are = subst (λ z. AreNamed z name words) (sym book) c.in-Some.ensures in
+    let one = holds_one v w name key 1 free h b words are c.requires.rests.0 c.requires.rests.1 in
+    let a = h.names.spot in
+    let form = c.form_below-form.ensures a.shape.key a.shape.form h.names.named in
+    ap (λ (z : List ℕ). length z) (draft_is w b words free a h.content h.content one) ∙ (h.long ∙ ap words_of (sym form))
+
+pub set-requires-clause-few : goal.set-requires-clause-few
+set-requires-clause-few g c =
+    let v = c.args.pass.now.view in
+    let name = c.args.name in
+    let key = c.args.key in
+    let words = c.in-Some.words.now in
+    let free = c.in-Some-lock_node.free in
+    let w = c.lock_node.new.pass.view in
+    let t = c.lock_node.ensures.told in
+    let locked : c.lock_node.result ≡ Some free = search rules in
+    let h = taken_by c.lock_node.result free locked (HasLocked v w name key 1) t.2 in
+    let book = t.0 ∙ c.requires.book in
+    let b = c.lock_node.new.pass.book in
+    let are = subst (λ z. AreNamed z name words) (sym book) c.in-Some.ensures in
+    let one = holds_one v w name key 1 free h b words are c.requires.rests.0 c.requires.rests.1 in
+    let a = h.names.spot in
+    let form = c.form_below-form.ensures a.shape.key a.shape.form h.names.named in
+    subst (λ (z : List ℕ). IsCounted c.form_below-form.result z) (sym (draft_is w b words free a h.content h.content one)) (encodes_few h.content h.its c.form_below-form.result (h.in_form ∙ sym form) h.encodes)
+
+pub unlock_same-requires-clause-holds : goal.unlock_same-requires-clause-holds
+unlock_same-requires-clause-holds g c =
+    let v = c.args.pass.now.view in
+    let name = c.args.name in
+    let key = c.args.key in
+    let words = c.in-Some.words.now in
+    let free = c.in-Some-lock_node.free in
+    let w = c.lock_node.new.pass.view in
+    let t = c.lock_node.ensures.told in
+    let locked : c.lock_node.result ≡ Some free = search rules in
+    let h = taken_by c.lock_node.result free locked (HasLocked v w name key 1) t.2 in
+    let book = t.0 ∙ c.requires.book in
+    let b = c.lock_node.new.pass.book in
+    let are = subst (λ z. AreNamed z name words) (sym book) c.in-Some.ensures in
+    let one = holds_one v w name key 1 free h b words are c.requires.rests.0 c.requires.rests.1 in
+    let a = h.names.spot in
+    let form = c.form_below-form.ensures a.shape.key a.shape.form h.names.named in
+    let u = c.set.new.seat.view in
+    let r = c.set.ensures.seat.others in
+    let d = draft_of (nth 0 u.holds) in
+    let on = wrote_one w u b words free a h.content h.content one (ap (λ s. s.view) r) in
+    let same_book = ap (λ s. s.book) r in
+    let on_book = subst (λ z. HoldsOne u z words free a h.content d) (sym same_book) on.0 in
+    let written = c.set.ensures.is in
+    let was = draft_is w b words free a h.content h.content one in
+    let missed = c.in-Some-set.missed in
+    let kept : c.set.result ≡ Some missed = search rules in
+    let deep : length h.its.prefix ≡ 7 = (let e = h.deep in omega (arith, e)) in
+    let digit_is = c.byte_at-byte.ensures ∙ ap (digit 1) (sym c.requires.asks.0) in
+    let same = kept_leaf g.U.Updates.update c.byte_at-byte.result c.args.old c.args.new digit_is c.requires.values.0 c.requires.values.1 c.form_below-form.result h.content (draft_of (nth 0 w.holds)) d was c.set.result missed kept written h.its h.encodes (h.in_form ∙ sym form) deep in
+    (a, h.content, subst (λ z. HoldsOne u c.set.new.seat.book words free a h.content z) same on_book)
+
+pub returns-in-Some-set : goal.returns-in-Some-set
+returns-in-Some-set g c =
+    let v = c.args.pass.now.view in
+    let name = c.args.name in
+    let key = c.args.key in
+    let words = c.in-Some.words.now in
+    let free = c.in-Some-lock_node.free in
+    let w = c.lock_node.new.pass.view in
+    let t = c.lock_node.ensures.told in
+    let locked : c.lock_node.result ≡ Some free = search rules in
+    let h = taken_by c.lock_node.result free locked (HasLocked v w name key 1) t.2 in
+    let book = t.0 ∙ c.requires.book in
+    let b = c.lock_node.new.pass.book in
+    let are = subst (λ z. AreNamed z name words) (sym book) c.in-Some.ensures in
+    let one = holds_one v w name key 1 free h b words are c.requires.rests.0 c.requires.rests.1 in
+    let a = h.names.spot in
+    let form = c.form_below-form.ensures a.shape.key a.shape.form h.names.named in
+    let u = c.set.new.seat.view in
+    let r = c.set.ensures.seat.others in
+    let d = draft_of (nth 0 u.holds) in
+    let on = wrote_one w u b words free a h.content h.content one (ap (λ s. s.view) r) in
+    let same_book = ap (λ s. s.book) r in
+    let on_book = subst (λ z. HoldsOne u z words free a h.content d) (sym same_book) on.0 in
+    let written = c.set.ensures.is in
+    let was = draft_is w b words free a h.content h.content one in
+    let e = c.unlock_same.ensures.told in
+    record {
+      told = (
+        e.0 ∙ (same_book ∙ t.0),
+        e.1 ∙ (ap (λ s. s.id) r ∙ t.1),
+        record { own = e.2.own; holds = e.2.holds; alike = alike_then v u c.unlock_same.new.pass.view (alike_then v w u h.alike on.1) e.2.alike },
+        e.3 ∙ (ap (λ (z : View). z.seen) on.2 ∙ h.seen),
+      );
+    }
+
+pub unlock-requires-clause-frees : goal.unlock-requires-clause-frees
+unlock-requires-clause-frees g c =
+    let v = c.args.pass.now.view in
+    let name = c.args.name in
+    let key = c.args.key in
+    let words = c.in-Some.words.now in
+    let free = c.in-Some-lock_node.free in
+    let w = c.lock_node.new.pass.view in
+    let t = c.lock_node.ensures.told in
+    let locked : c.lock_node.result ≡ Some free = search rules in
+    let h = taken_by c.lock_node.result free locked (HasLocked v w name key 1) t.2 in
+    let book = t.0 ∙ c.requires.book in
+    let b = c.lock_node.new.pass.book in
+    let are = subst (λ z. AreNamed z name words) (sym book) c.in-Some.ensures in
+    let one = holds_one v w name key 1 free h b words are c.requires.rests.0 c.requires.rests.1 in
+    let a = h.names.spot in
+    let form = c.form_below-form.ensures a.shape.key a.shape.form h.names.named in
+    let u = c.set.new.seat.view in
+    let r = c.set.ensures.seat.others in
+    let d = draft_of (nth 0 u.holds) in
+    let on = wrote_one w u b words free a h.content h.content one (ap (λ s. s.view) r) in
+    let same_book = ap (λ s. s.book) r in
+    let on_set = subst (λ z. HoldsOne u z words free a h.content d) (sym same_book) on.0 in
+    let looked = c.is_emptied-emptied.ensures.seat.same in
+    let y = c.is_emptied-emptied.new.seat.view in
+    let y_book = c.is_emptied-emptied.new.seat.book in
+    let y_id = c.is_emptied-emptied.new.seat.id in
+    let on_book = subst (λ s. HoldsOne s.view s.book words free a h.content d) (sym looked) on_set in
+    let y_client = ap (λ s. s.view.client) looked ∙ on.2 in
+    let written = c.set.ensures.is in
+    let was = draft_is w b words free a h.content h.content one in
+    let first = c.index-words-0.result in
+    let at_k = (first_word (place_at a) y_book words on_book.are first first (sym c.index-words-0.is)).0 in
+    let q = g.U.Updates.update in
+    let done : c.set.result ≡ None = search rules in
+    let by = c.requires.asks.1 ∙ sym (ap (λ s. s.id) looked ∙ (ap (λ s. s.id) r ∙ t.1)) in
+    let digit_is = c.byte_at-byte.ensures ∙ ap (digit 1) (sym c.requires.asks.0) in
+    let covers = ap (up a.shape.height) c.requires.asks.0 ∙ h.names.covers in
+    let long = c.set.ensures.long ∙ ap words_of form in
+    let changes = set_leaf q c.byte_at-byte.result c.args.old c.args.new digit_is c.requires.values.0 c.requires.values.1 c.form_below-form.result h.content (draft_of (nth 0 w.holds)) d was c.set.result done written a.shape.form (sym form) in
+    let frees = subst (λ (z : View). acts.Frees IsMap y_id z a.number (free + 4) d (Writes q z a.number d)) (sym y_client)
+    (leaf_updates q c.requires.legal y_id by w.client a h.content one.own h.names.high covers (free + 4) (free / 4 + 1) (let even = h.even in omega (arith, even)) d long changes) in
+    may_free y y_book words free a h.content d on_book first.key at_k (Writes q) y_id (free + 4) frees
+
+pub returns : goal.returns
+returns g c =
+    let v = c.args.pass.now.view in
+    let name = c.args.name in
+    let key = c.args.key in
+    let words = c.in-Some.words.now in
+    let free = c.in-Some-lock_node.free in
+    let w = c.lock_node.new.pass.view in
+    let t = c.lock_node.ensures.told in
+    let locked : c.lock_node.result ≡ Some free = search rules in
+    let h = taken_by c.lock_node.result free locked (HasLocked v w name key 1) t.2 in
+    let book = t.0 ∙ c.requires.book in
+    let b = c.lock_node.new.pass.book in
+    let are = subst (λ z. AreNamed z name words) (sym book) c.in-Some.ensures in
+    let one = holds_one v w name key 1 free h b words are c.requires.rests.0 c.requires.rests.1 in
+    let a = h.names.spot in
+    let form = c.form_below-form.ensures a.shape.key a.shape.form h.names.named in
+    let u = c.set.new.seat.view in
+    let r = c.set.ensures.seat.others in
+    let d = draft_of (nth 0 u.holds) in
+    let on = wrote_one w u b words free a h.content h.content one (ap (λ s. s.view) r) in
+    let same_book = ap (λ s. s.book) r in
+    let on_set = subst (λ z. HoldsOne u z words free a h.content d) (sym same_book) on.0 in
+    let looked = c.is_emptied-emptied.ensures.seat.same in
+    let y = c.is_emptied-emptied.new.seat.view in
+    let y_book = c.is_emptied-emptied.new.seat.book in
+    let y_id = c.is_emptied-emptied.new.seat.id in
+    let on_book = subst (λ s. HoldsOne s.view s.book words free a h.content d) (sym looked) on_set in
+    let y_client = ap (λ s. s.view.client) looked ∙ on.2 in
+    let written = c.set.ensures.is in
+    let was = draft_is w b words free a h.content h.content one in
+    let first = c.index-words-0.result in
+    let at_k = (first_word (place_at a) y_book words on_book.are first first (sym c.index-words-0.is)).0 in
+    let q = g.U.Updates.update in
+    let done : c.set.result ≡ None = search rules in
+    let by = c.requires.asks.1 ∙ sym (ap (λ s. s.id) looked ∙ (ap (λ s. s.id) r ∙ t.1)) in
+    let digit_is = c.byte_at-byte.ensures ∙ ap (digit 1) (sym c.requires.asks.0) in
+    let covers = ap (up a.shape.height) c.requires.asks.0 ∙ h.names.covers in
+    let long = c.set.ensures.long ∙ ap words_of form in
+    let changes = set_leaf q c.byte_at-byte.result c.args.old c.args.new digit_is c.requires.values.0 c.requires.values.1 c.form_below-form.result h.content (draft_of (nth 0 w.holds)) d was c.set.result done written a.shape.form (sym form) in
+    let frees = subst (λ (z : View). acts.Frees IsMap y_id z a.number (free + 4) d (Writes q z a.number d)) (sym y_client)
+    (leaf_updates q c.requires.legal y_id by w.client a h.content one.own h.names.high covers (free + 4) (free / 4 + 1) (let even = h.even in omega (arith, even)) d long changes) in
+    let x = c.unlock.new.seat.view in
+    let e = c.unlock.ensures.seat in
+    let f = is_freed y y_book words free a h.content d on_book first.key at_k (Writes q) x (free + 4) c.unlock.ensures.told in
+    let i = f.2 in
+    let seen = ap (λ (z : View). z.seen) y_client ∙ h.seen in
+    let answers = subst (λ (z : List (Entry ℕ) × List (Entry ℕ)). Answers q.caller q.entry z.0 z.1) (λ i. (seen i, sym (ap (λ (z : SeatView View). z.client.seen) f.1) i)) i.answers in
+    record {
+      told = (
+        e.0 ∙ (ap (λ s. s.book) looked ∙ (same_book ∙ t.0)),
+        e.1 ∙ (ap (λ s. s.id) looked ∙ (ap (λ s. s.id) r ∙ t.1)),
+        record {
+          own = ap (λ (z : SeatView View). z.client.own) f.1 ∙ ap (λ (z : View). z.own) i.is;
+          holds = ap (λ (z : SeatView View). z.holds) f.1;
+          alike = alike_then v u x (alike_then v w u h.alike on.1) record {
+            places = ap (λ (z : SeatView View). z.places) f.1 ∙ ap (λ s. s.view.places) looked;
+            met = ap (λ (z : SeatView View). z.client.met) f.1 ∙ (ap (λ (z : View). z.met) i.is ∙ ap (λ s. s.view.client.met) looked);
+            room = ap (λ (z : SeatView View). z.room) f.1 ∙ ap (λ s. s.view.room) looked;
+          };
+        },
+        answers,
+      );
+    }

@@ -1,0 +1,7 @@
+//! Tests of the map with guards that were given back.
+#![tactic(auto)]
+
+#[cfg(test)]
+mod emptied;
+#[cfg(test)]
+mod rooms;

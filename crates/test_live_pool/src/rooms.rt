@@ -1,0 +1,238 @@
+//! Rooms by number: whose words a new guard has for its nodes.
+
+ghost use Rattle.std.specs.Prelude.{◌≡◌};
+
+use live_calls::link::Room;
+use live_calls::map::Guard;
+use live_pool::pool::Pool;
+use std::alloc::Global;
+use std::test::Fail;
+use std::thread::{Threads, join};
+
+// The root's words come first, then 1,024 with the root's node. The next 2,048 are the first guard's that inserts.
+const START: u64 = 3 + 1024;
+
+const COUNT: u64 = 2048;
+
+// How many guards there are at once.
+const GUARDS: u64 = 20;
+
+// How often each thread has a guard.
+const TURNS: u64 = 1_000;
+
+// Whether the guard stores a new key, and reads it back.
+fn has_stored(map: &Pool, alloc: Global, guard: &mut Guard, key: u64) -> bool
+    requires { guard.old.book ≡ map.now }
+    ensures { guard.new.book ≡ map.now }
+{
+    let before = map.insert(alloc, guard, key, key ^ 3);
+    before == Ok(None) && map.map.get(guard, key) == Ok(Some(key ^ 3))
+}
+
+// The room of a new guard, which is dropped.
+fn next_room(map: &Pool) -> Room {
+    map.pin().room
+}
+
+// The room of a new guard, which stores a key and is given back.
+fn given_back(map: &Pool, alloc: Global, key: u64) -> Option<Room> {
+    let mut guard = map.pin();
+    if !has_stored(map, alloc, &mut guard, key) {
+        return None;
+    }
+    let room = guard.room;
+    map.unpin(guard);
+    Some(room)
+}
+
+#[test]
+fn the_next_guard_has_the_room(rt: HostRuntime) -> Result<(), Fail> {
+    let map = Pool::new(rt.alloc())?;
+    assert!(rt; next_room(&map).left == 0);
+    let room = given_back(&map, rt.alloc(), 5).ok_or("no key is stored")?;
+    assert!(rt; room.start > START && room.left > 0);
+    assert!(rt; room.start.wrapping_add(room.left) == START.wrapping_add(COUNT));
+    // Keys in other leaves take further words of the same room.
+    let next = given_back(&map, rt.alloc(), 500).ok_or("no second key is stored")?;
+    assert!(rt; next.start > room.start);
+    assert!(rt; next.start.wrapping_add(next.left) == START.wrapping_add(COUNT));
+    // A guard has a room to itself: the next one has none.
+    assert!(rt; next_room(&map) == next);
+    assert!(rt; next_room(&map).left == 0);
+    Ok(())
+}
+
+// A guard stores a key, and is dropped.
+fn dropped(map: &Pool, alloc: Global, key: u64) -> bool {
+    let mut guard = map.pin();
+    has_stored(map, alloc, &mut guard, key)
+}
+
+#[test]
+fn a_guard_that_is_dropped_leaves_no_room(rt: HostRuntime) -> Result<(), Fail> {
+    let map = Pool::new(rt.alloc())?;
+    assert!(rt; dropped(&map, rt.alloc(), 5));
+    assert!(rt; next_room(&map).left == 0);
+    // One without a room isn't kept, and doesn't come before those that have one.
+    let room = given_back(&map, rt.alloc(), 6).ok_or("no key is stored")?;
+    map.unpin(map.map.pin());
+    assert!(rt; next_room(&map) == room);
+    Ok(())
+}
+
+// So many guards at once, each of which stores a key and is given back: how many have stored it.
+fn all_stored(map: &Pool, alloc: Global, count: u64) -> u64 {
+    if count == 0 {
+        return 0;
+    }
+    let mut guard = map.pin();
+    let stored = has_stored(map, alloc, &mut guard, count.wrapping_mul(1000));
+    let others = all_stored(map, alloc, count - 1);
+    map.unpin(guard);
+    others.wrapping_add(stored as u64)
+}
+
+// So many new guards at once, which are dropped: how many have a room.
+fn rooms(map: &Pool, count: u64) -> u64 {
+    if count == 0 {
+        return 0;
+    }
+    let guard = map.pin();
+    let others = rooms(map, count - 1);
+    others.wrapping_add((guard.room.left > 0) as u64)
+}
+
+#[test]
+fn guards_at_once_have_rooms_of_their_own(rt: HostRuntime) -> Result<(), Fail> {
+    let map = Pool::new(rt.alloc())?;
+    assert!(rt; all_stored(&map, rt.alloc(), GUARDS) == GUARDS);
+    assert!(rt; rooms(&map, 3 * GUARDS) == GUARDS);
+    // (those were dropped with their rooms)
+    assert!(rt; rooms(&map, GUARDS) == 0);
+    Ok(())
+}
+
+// One guard after another stores a key that is new: how many have.
+fn in_turn(map: &Pool, alloc: Global, first: u64) -> u64 {
+    let mut stored = 0u64;
+    for turn in 0..TURNS {
+        let key = first.wrapping_add(turn.wrapping_mul(4));
+        if given_back(map, alloc, key).is_some() {
+            stored = stored.wrapping_add(1);
+        }
+    }
+    stored
+}
+
+#[test]
+fn a_thousand_guards_in_turn_have_one_room(rt: HostRuntime) -> Result<(), Fail> {
+    let map = Pool::new(rt.alloc())?;
+    assert!(rt; in_turn(&map, rt.alloc(), 0) == TURNS);
+    // Sixteen leaves take less than 16 * 500 words, so the fourth segment of that room has more than enough.
+    assert!(rt; next_room(&map).start < START + 2048 + 4096 + 8192);
+    assert!(rt; next_room(&map).left == 0);
+    Ok(())
+}
+
+// Two threads, each with a guard for each of its keys: how many keys are stored.
+fn by_two<R: Threads + Sync>(rt: &R, alloc: Global, map: &Pool, first: u64) -> (u64, u64) {
+    join(
+        rt,
+        || in_turn(map, alloc, first),
+        || in_turn(map, alloc, first.wrapping_add(1)),
+    )
+}
+
+#[test]
+fn threads_share_rooms(rt: HostRuntime) -> Result<(), Fail> {
+    let map = Pool::new(rt.alloc())?;
+    for round in 0..4u64 {
+        let first = round.wrapping_mul(100_000);
+        assert!(rt; by_two(&rt, rt.alloc(), &map, first) == (TURNS, TURNS));
+    }
+    // (a thread that finds the other at the list goes without now and then)
+    assert!(rt; rooms(&map, 1_000) < 100);
+    Ok(())
+}
+
+// Keys whose leaves are apart.
+const LEAVES: u64 = 16;
+
+// Stores keys in leaves of their own and removes them again: how many were there.
+fn come_and_go(map: &Pool, alloc: Global, guard: &mut Guard) -> u64
+    requires { guard.old.book ≡ map.now }
+    ensures { guard.new.book ≡ map.now }
+{
+    let mut there = 0u64;
+    for leaf in 0..LEAVES {
+        let _ = has_stored(map, alloc, guard, leaf.wrapping_mul(256));
+    }
+    for leaf in 0..LEAVES {
+        let key = leaf.wrapping_mul(256);
+        if map.remove(guard, key) == Ok(Some(key ^ 3)) {
+            there = there.wrapping_add(1);
+        }
+    }
+    there
+}
+
+// A new guard stores keys in leaves of their own: how many it has stored, and its room.
+fn by_another(map: &Pool, alloc: Global) -> (u64, Room) {
+    let mut guard = map.pin();
+    let mut stored = 0u64;
+    for leaf in 0..LEAVES {
+        let key = leaf.wrapping_mul(256).wrapping_add(1);
+        if has_stored(map, alloc, &mut guard, key) {
+            stored = stored.wrapping_add(1);
+        }
+    }
+    let room = guard.room;
+    (stored, room)
+}
+
+#[test]
+fn nodes_that_are_taken_out_are_the_next_of_any_guard(rt: HostRuntime) -> Result<(), Fail> {
+    let map = Pool::new(rt.alloc())?;
+    let mut guard = map.pin();
+    assert!(rt; come_and_go(&map, rt.alloc(), &mut guard) == LEAVES);
+    assert!(rt; guard.room.spare.n4 > 0 && guard.room.spare.more == 0);
+    let left = guard.room.left;
+    // It does so again with the same nodes, and one of seven words more: where the second key parts from the first, a call needs
+    // two of one form.
+    assert!(rt; come_and_go(&map, rt.alloc(), &mut guard) == LEAVES);
+    assert!(rt; left.wrapping_sub(guard.room.left) <= 7);
+    // Another guard has a segment of its own, the next larger one. All its leaves but one are those of the first guard. It makes
+    // that leaf, and an inner node for sixteen, since the first guard keeps its own.
+    let (stored, room) = by_another(&map, rt.alloc());
+    assert!(rt; stored == LEAVES);
+    let used = room.start.wrapping_sub(START + COUNT);
+    assert!(rt; used < 40 && used.wrapping_add(room.left) == 2 * COUNT);
+    Ok(())
+}
+
+// A window of keys moves on by so many steps: how many keys came and went.
+fn move_on(map: &Pool, alloc: Global, guard: &mut Guard, steps: u64) -> u64
+    requires { guard.old.book ≡ map.now }
+    ensures { guard.new.book ≡ map.now }
+{
+    let mut moved = 0u64;
+    for step in 0..steps {
+        let came = has_stored(map, alloc, guard, step.wrapping_add(100));
+        let went = map.remove(guard, step);
+        if came && (step < 100 || went == Ok(Some(step ^ 3))) {
+            moved = moved.wrapping_add(1);
+        }
+    }
+    moved
+}
+
+#[test]
+fn a_window_that_moves_on_stays_in_its_room(rt: HostRuntime) -> Result<(), Fail> {
+    let map = Pool::new(rt.alloc())?;
+    let mut guard = map.pin();
+    assert!(rt; move_on(&map, rt.alloc(), &mut guard, 20_000) == 20_000);
+    let room = guard.room;
+    // (two leaves of the largest form, and one of each other form)
+    assert!(rt; room.start < START + COUNT);
+    Ok(())
+}

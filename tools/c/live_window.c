@@ -1,0 +1,109 @@
+/* A window of keys that moves on for ever, in a map that is read without a lock: each step stores the next key and removes the
+ * one that leaves the window. Threads share the steps, and each has a handle of its own. The map holds at most three times the
+ * memory of its start, since nodes that were taken out are used again. So it does over keys that are spread, by one thread.
+ * Handles that come and go meanwhile leave nothing behind.
+ *
+ *     live_window [STEPS] [THREADS]     so many steps, in all */
+#define _POSIX_C_SOURCE 200809L
+#include "congee.h"
+#include <inttypes.h>
+#include <malloc.h>
+#include <pthread.h>
+#include <sched.h>
+#include <stdatomic.h>
+#include <stdio.h>
+#include <stdlib.h>
+
+enum { MOST = 64, WINDOW = 1000, TURNS = 100000 };
+
+static uint64_t steps = 300000, threads = 4;
+static _Atomic uint64_t taken;
+static uint64_t (*key_of)(uint64_t);
+
+static void need(int holds, const char *what) {
+    if (!holds) {
+        fprintf(stderr, "live_window: wrong: %s\n", what);
+        exit(1);
+    }
+}
+
+static uint64_t dense(uint64_t step) {
+    return step;
+}
+
+/* Neighbours in time are apart, and in 32 runs. */
+static uint64_t spread(uint64_t step) {
+    return (step % 32 << 56) + step / 32 * 0x10001;
+}
+
+/* The bytes that malloc has lent. (Under a sanitizer it isn't asked, and 0 each time.) */
+static size_t lent(void) {
+    return mallinfo2().uordblks;
+}
+
+static void step_on(struct congee_live *map, uint64_t step) {
+    uint64_t before = 0;
+    need(congee_live_insert(map, key_of(step + WINDOW), step + WINDOW, NULL) == 0, "a key that comes into the window");
+    /* (the thread that stores the key may have stopped) */
+    while (congee_live_remove(map, key_of(step), &before) == 0)
+        sched_yield();
+    need(before == step, "the value of a key that leaves the window");
+}
+
+static void *move_on(void *at) {
+    struct congee_live *map = at, *other;
+    uint64_t step;
+    while ((step = atomic_fetch_add(&taken, 1)) < steps) {
+        step_on(map, step);
+        if (step % TURNS == 0) {
+            /* (another handle takes its place) */
+            need(congee_live_another(map, &other) == 0, "another handle");
+            congee_live_free(map);
+            map = other;
+        }
+    }
+    congee_live_free(map);
+    return NULL;
+}
+
+/* The window moves by all threads. Returns the memory at the end in thousandths of that at the start. */
+static uint64_t move(uint64_t (*keys)(uint64_t), uint64_t threads) {
+    pthread_t workers[MOST];
+    struct congee_live *map, *handles[MOST];
+    uint64_t value;
+    size_t before = lent(), start, end;
+    key_of = keys;
+    need(congee_live_new(&map) == 0, "a map");
+    for (uint64_t i = 0; i < WINDOW; i++)
+        need(congee_live_insert(map, key_of(i), i, NULL) == 0, "a key of the first window");
+    /* (each handle takes its room by a step) */
+    for (uint64_t i = 0; i < threads; i++) {
+        need(congee_live_another(map, &handles[i]) == 0, "a handle");
+        step_on(handles[i], i);
+    }
+    start = lent() - before;
+    atomic_store(&taken, threads);
+    for (uint64_t i = 0; i < threads; i++)
+        need(pthread_create(&workers[i], NULL, move_on, handles[i]) == 0, "a thread");
+    for (uint64_t i = 0; i < threads; i++)
+        pthread_join(workers[i], NULL);
+    end = lent() - before;
+    for (uint64_t i = steps; i < steps + WINDOW; i++)
+        need(congee_live_remove(map, key_of(i), &value) == 1 && value == i, "a key of the last window");
+    need(congee_live_first(map, NULL) == 0, "a map without keys");
+    congee_live_free(map);
+    need(end <= 3 * start, "memory that stays within three times that of the start");
+    return start ? end * 1000 / start : 0;
+}
+
+int main(int argc, char **argv) {
+    if (argc > 1)
+        steps = strtoull(argv[1], NULL, 10);
+    if (argc > 2)
+        threads = strtoull(argv[2], NULL, 10);
+    need(threads >= 1 && threads <= MOST && steps > threads, "STEPS above THREADS, and at most 64 threads");
+    uint64_t first = move(dense, threads), second = move(spread, 1);
+    printf("%" PRIu64 " steps by %" PRIu64 " threads: memory over that of the start %" PRIu64 ".%03" PRIu64 " dense, by one %" PRIu64 ".%03" PRIu64 " spread\n", steps,
+           threads, first / 1000, first % 1000, second / 1000, second % 1000);
+    return 0;
+}
