@@ -117,9 +117,10 @@ static void hand_over(void) {
     }
 }
 
-/* The bytes that malloc has lent. (Under a sanitizer it isn't asked, and 0 each time.) */
+/* The bytes that malloc has lent, by mmap too. (Under a sanitizer it isn't asked, and 0 each time.) */
 static size_t lent(void) {
-    return mallinfo2().uordblks;
+    struct mallinfo2 now = mallinfo2();
+    return now.uordblks + now.hblkhd;
 }
 
 static void leave_nothing_behind(void) {
