@@ -25,6 +25,8 @@ with_slot s N16 n = record s { n16 = n }
 with_slot s N48 n = record s { n48 = n }
 with_slot s N256 n = record s { n256 = n }
 
--- Each name that is kept for a form is of such a node, and the further one of a node of any form. 0 names none.
+-- Each name that is kept for a form is of such a node, the second one of the smallest form, and the further one of a node of any
+-- form. 0 names none.
 abbrev pub HasSpares : SeatView View → Spares → Type 0
-HasSpares v s = ((form : NodeType) → 1 ≤ slot_of s form → IsSpare v form (slot_of s form)) × (1 ≤ s.more → Sights v s.more)
+HasSpares v s = ((form : NodeType) → 1 ≤ slot_of s form → IsSpare v form (slot_of s form)) × (1 ≤ s.second → IsSpare v N4 s.second)
+    × (1 ≤ s.more → Sights v s.more)

@@ -6,7 +6,7 @@ ghost use Rattle.live_calls.specs.Stands.{Stands, HasFork, IsEnd};
 ghost use Rattle.live_calls.specs.Rooms.{HasGrown};
 ghost use Rattle.live_calls.specs.Calls.{IsReady, Inserts};
 
-use crate::link::{NEW, Room, link, link_again};
+use crate::link::{Room, link, link_again};
 use crate::sight::{Fork, Next, step};
 use crate::split::{split, split_again};
 use crate::way::{Nodes, Pass, open, root};
@@ -154,7 +154,7 @@ fn lead_on(
     ensures told { (pass.new.book ≡ pass.old.book) × (pass.new.id ≡ pass.old.id)
         × IsReady pass.new.view room.new × HasGrown pass.old.view pass.new.view }
 {
-    let spare = room.spare.get(NEW);
+    let spare = room.spare.smallest();
     if spare == 0 {
         return link::<Brand>(nodes, stand.name, stand.height, key, room, pass);
     }
@@ -223,7 +223,7 @@ pub fn part(nodes: &Nodes, stand: Stand, fork: Fork, key: u64, room: &mut Room, 
         × IsReady pass.new.view room.new
         × (pass.new.view.client.seen ≡ pass.old.view.client.seen) }
 {
-    let spare = room.spare.get(NEW);
+    let spare = room.spare.smallest();
     if spare == 0 {
         let _ = split::<Brand>(nodes, stand.name, stand.height, fork, key, room, pass);
         return;

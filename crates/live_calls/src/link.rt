@@ -151,7 +151,7 @@ pub fn link_again<A: Asks>(
         unlock_same(words, free, pass);
         return end;
     }
-    let _ = spares.take(kind);
+    spares.forget(spare);
     let Some(again) = regain(others, spare, pass) else {
         unlock_same(words, free, pass);
         return Err(Hindrance::Busy);

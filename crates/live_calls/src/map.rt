@@ -1,5 +1,6 @@
 //! The map, and its callers.
-ghost use Rattle.std.specs.Prelude.{◌≡◌, ◌≢◌, ℕ, [], IfOk, OnErr};
+ghost use Rattle.std.specs.Prelude.{◌≡◌, ◌≢◌, ℕ, ◌*◌, [], IfOk, OnErr};
+ghost use Rattle.word_segments.specs.Segments.{before};
 ghost use Rattle.live_law.specs.Views.{ask, got, inserted};
 ghost use Rattle.live_law.specs.Known.{MadeCall};
 ghost use Rattle.live_calls.specs.Meetings.{SeenMore};
@@ -17,6 +18,9 @@ use std::marker::{Brand, Model};
 
 /// How often a call is tried before it gives up.
 pub const TRIES: u32 = 1000;
+
+/// How often a call is tried without memory for more nodes. It may need none, or have nodes to use again for all on its way.
+pub const SPARE_TRIES: u32 = 16;
 
 /// Too many writers came in between.
 #[derive(Clone, Copy, Debug, PartialEq, Eq)]
@@ -81,9 +85,15 @@ impl Guard {
 }
 
 impl Congee {
-    /// An empty map. It has a root of 2,104 bytes.
+    /// An empty map. It has a root of 2,104 bytes. There is no limit.
     pub fn new(alloc: Global) -> Result<Congee, AllocError> {
-        let nodes: Nodes = Heap::new(alloc, 1)?;
+        Congee::with_limit(alloc, u64::MAX)
+    }
+
+    /// An empty map, whose segments may take so many bytes together. `AllocError` also where the first one of 8,192 bytes
+    /// is more.
+    pub fn with_limit(alloc: Global, limit: u64) -> Result<Congee, AllocError> {
+        let nodes: Nodes = Heap::with_limit(alloc, 1, limit)?;
         let mut pass = nodes.enter();
         let mut room = Room {
             start: 0,
@@ -95,6 +105,18 @@ impl Congee {
             return Err(AllocError);
         }
         Ok(Congee { nodes })
+    }
+
+    /// The limit in bytes that the map was made with, or `u64::MAX`.
+    pub fn limit(&self) -> u64 {
+        self.nodes.limit()
+    }
+
+    /// The bytes of the segments that the map has so far.
+    pub fn charged(&self) -> u64
+        ensures whole { (n : ℕ) × (result ≡ 8 * before n) }
+    {
+        self.nodes.charged(&mut self.nodes.enter())
     }
 
     /// A caller, which has seen nothing yet.
@@ -126,7 +148,7 @@ impl Congee {
         Err(Busy)
     }
 
-    /// Gives a key a value. The value before.
+    /// Gives a key a value. The value before. Where there is no memory for more nodes, it is made if it needs none.
     pub fn insert(
         &self,
         alloc: Global,
@@ -139,13 +161,14 @@ impl Congee {
             (inserted (ask guard.old.caller key value 1) old) guard.new) }
         ensures refused { OnErr result (guard.new ≡ guard.old) }
     {
-        for _ in 0..TRIES {
-            if reserve(&self.nodes, alloc, &mut guard.room, &mut guard.pass).is_err() {
-                return Err(Refusal::OutOfMemory);
-            }
+        for tried in 0..TRIES {
+            let lacks = reserve(&self.nodes, alloc, &mut guard.room, &mut guard.pass).is_err();
             let done = insert_once(&self.nodes, key, value, &mut guard.room, &mut guard.pass);
             if let Some(old) = done {
                 return Ok(old);
+            }
+            if lacks && tried >= SPARE_TRIES {
+                return Err(Refusal::OutOfMemory);
             }
         }
         Err(Refusal::Busy)

@@ -1,5 +1,6 @@
 //! Nodes that are no part of the map any more, and may be used again.
-ghost use Rattle.std.specs.Prelude.{◌≡◌, IfSome};
+ghost use Rattle.std.specs.Prelude.{◌≡◌, ◌≤◌};
+ghost use Rattle.node_base.specs.declared.base_node.NodeType.TheVariants.{N4};
 ghost use Rattle.live_nodes.specs.Seats.{SeatView};
 ghost use Rattle.live_law.specs.Views.{View};
 ghost use Rattle.live_calls.specs.Ways.{Sights};
@@ -8,14 +9,15 @@ ghost use Rattle.live_calls.specs.Spares.{IsSpare, slot_of, with_slot, HasSpares
 use live_encodes::form::form_below;
 use node_base::base_node::NodeType;
 
-/// Names of nodes that are no part of the map and that nobody uses: one for each form, and a further one of any form. 0 for
-/// none.
+/// Names of nodes that are no part of the map and that nobody uses: one for each form, a second one of the smallest, as a call may
+/// need two of that, and a further one of any form. 0 for none.
 #[derive(Clone, Copy, Debug, PartialEq, Eq)]
 pub struct Spares {
     pub n4: u64,
     pub n16: u64,
     pub n48: u64,
     pub n256: u64,
+    pub second: u64,
     pub more: u64,
 }
 
@@ -29,6 +31,7 @@ impl Spares {
             n16: 0,
             n48: 0,
             n256: 0,
+            second: 0,
             more: 0,
         }
     }
@@ -56,19 +59,32 @@ impl Spares {
         }
     }
 
-    /// Takes the node of a form, which is kept no longer.
-    pub fn take(&mut self, form: NodeType) -> Option<u64>
-        ensures gone { slot_of self.new form ≡ 0 }
-        ensures left { (v : SeatView View) → HasSpares v self.old → HasSpares v self.new }
-        ensures taken { (v : SeatView View) → HasSpares v self.old
-            → IfSome result (λ name. IsSpare v form name) }
+    /// The name of a node of the smallest form. A new node has that.
+    pub fn smallest(&self) -> u64
+        ensures { (v : SeatView View) → HasSpares v self.now → 1 ≤ result → IsSpare v N4 result }
     {
-        let name = self.get(form);
-        self.set(form, 0);
-        if name == 0 { None } else { Some(name) }
+        if self.second != 0 {
+            self.second
+        } else {
+            self.n4
+        }
     }
 
-    /// Keeps a node: for its form, or where one is kept for that, as the further one. `false` where there is no place.
+    /// A name is kept no longer.
+    pub fn forget(&mut self, name: u64)
+        ensures left { (v : SeatView View) → HasSpares v self.old → HasSpares v self.new }
+    {
+        if self.second == name {
+            self.second = 0;
+            return;
+        }
+        let form = form_below(name);
+        if self.get(form) == name {
+            self.set(form, 0);
+        }
+    }
+
+    /// Keeps a node: for its form, or where one is kept for that, as the second or the further one. `false` where there is no place.
     pub fn keep(&mut self, name: u64) -> bool
         ensures kept { (v : SeatView View) → HasSpares v self.old → Sights v name
             → HasSpares v self.new }
@@ -76,6 +92,10 @@ impl Spares {
         let form = form_below(name);
         if self.get(form) == 0 {
             self.set(form, name);
+            return true;
+        }
+        if self.second == 0 && form == NodeType::N4 {
+            self.second = name;
             return true;
         }
         if self.more == 0 {

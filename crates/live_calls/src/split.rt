@@ -121,7 +121,7 @@ pub fn split_again<A: Asks>(
         unlock_same(words, free, pass);
         return false;
     }
-    let _ = spares.take(kind);
+    spares.forget(spare);
     let Some(back) = regain(others, spare, pass) else {
         unlock_same(words, free, pass);
         return false;

@@ -164,7 +164,7 @@ pub fn widen_again<A: Asks>(
         unlock_same(words_above, free_above, pass);
         return false;
     };
-    let _ = spares.take(wider);
+    spares.forget(spare);
     let Some(back) = regain(others, spare, pass) else {
         unlock_last(full, free, pass);
         unlock_same(words_above, free_above, pass);

@@ -7,7 +7,7 @@ ghost use Rattle.live_computes.specs.inner.Ends.{Tries, Enters};
 
 use live_calls::insert::{End, Stand, descend, enlarge, extend, part, reserve};
 use live_calls::link::Room;
-use live_calls::map::{Refusal, TRIES};
+use live_calls::map::{Refusal, SPARE_TRIES, TRIES};
 use live_calls::way::{Nodes, Pass};
 use live_updates::leaf::{Missed, Updates, update_here};
 use std::alloc::Global;
@@ -100,14 +100,16 @@ pub fn enter<U: Updates>(
         × IsReady pass.new.view room.new
         × Enters U.update result pass.old.view pass.new.view }
 {
-    for _ in 0..TRIES {
-        if reserve(nodes, alloc, room, pass).is_err() {
-            return Err(Refusal::OutOfMemory);
-        }
+    for tried in 0..TRIES {
+        let lacks = reserve(nodes, alloc, room, pass).is_err();
         match enter_once::<U>(nodes, key, value, room, pass) {
             Tried::Entered => return Ok(true),
             Tried::Present => return Ok(false),
-            Tried::Again => {}
+            Tried::Again => {
+                if lacks && tried >= SPARE_TRIES {
+                    return Err(Refusal::OutOfMemory);
+                }
+            }
         }
     }
     Err(Refusal::Busy)

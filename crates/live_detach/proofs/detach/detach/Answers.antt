@@ -36,8 +36,8 @@ is_empty-requires-clause-long c =
     let was = first_draft w b words words_p two.free two.free_above h.below h.above h.content h.content_above pair in
     ap (λ (t : List ℕ). length t) was ∙ (h.held.long ∙ ap words_of (sym form))
 
-pub part-again-requires-clause-parts : goal.part-again-requires-clause-parts
-part-again-requires-clause-parts c =
+pub part-left-requires-clause-parts : goal.part-left-requires-clause-parts
+part-left-requires-clause-parts c =
     let v = c.args.pass.now.view in
     let words = c.in_ok-words.words.now in
     let words_p = c.in_ok-words_above.words_above.now in

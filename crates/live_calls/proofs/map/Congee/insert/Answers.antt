@@ -6,7 +6,7 @@ use Rattle.live_calls.proofs.map.Congee.insert.Goals as goal
 
 pub returns-in-Some-clause-made : goal.returns-in-Some-clause-made
 returns-in-Some-clause-made c =
-    let i = c.loop.invariant in
+    let i = c.loop-tried.invariant in
     let r = c.reserve.ensures.told in
     let v = c.reserve.new.pass.view in
     let w = c.insert_once-done.new.pass.view in
