@@ -154,7 +154,7 @@ impl<P: Drop, A: Allocator> Tree<P, A> {
         ensures { self.new ≡ self.old }
     {
         self.root = self.nodes.compact(self.root, self.supply.memory());
-        self.nodes.shrink_to_fit();
+        self.trim();
     }
 
     /// Gives the slots of former nodes back to the machine once no pair is left, and where nodes are to shrink, also once
@@ -163,10 +163,27 @@ impl<P: Drop, A: Allocator> Tree<P, A> {
         ensures { self.new ≡ self.old }
     {
         if self.count == 0 {
-            self.nodes.shrink_to_fit();
+            self.trim();
         } else if shrinks {
-            self.root = self.nodes.compact_if_sparse(self.root, self.supply.memory());
+            self.compact_if_sparse();
         }
+    }
+
+    // Gives the free slots past the last node back to the machine, where each pair is in a leaf that has a slot.
+    fn trim(&mut self)
+        ensures { self.new ≡ self.old }
+    {
+        self.nodes.shrink_to_fit();
+    }
+
+    // Moves the nodes into a smaller table where fewer than a quarter of the slots are needed.
+    #[inline(always)]
+    fn compact_if_sparse(&mut self)
+        ensures { self.new ≡ self.old }
+    {
+        self.root = self
+            .nodes
+            .compact_if_sparse(self.root, self.supply.memory());
     }
 
     /// The table of the nodes and the slot of the root in it, for walks.

@@ -1,9 +1,8 @@
 -- A tree whose nodes all have other places in another table is the same tree.
-use Rattle.std.proofs.Common.{◌≡◌, ℕ, zero, suc, ◌+◌, ◌<◌, List, [], ◌∷◌, ◌++◌, length, Some, refl, ap, sym, subst, ◌∙◌, arith, length-append}
+use Rattle.std.proofs.Common.{◌≡◌, ℕ, zero, suc, ◌+◌, List, [], ◌∷◌, ◌++◌, length, Some, refl, ap, sym, subst, ◌∙◌, arith, length-append}
 use Rattle.spec_map.specs.Map.{Rises}
-use Rattle.node_table.specs.Key.{Begins}
 use Rattle.node_table.specs.TableNode.{TableNode, Child}
-use Rattle.node_table.specs.Table.{IsSound, NodeTable, node_at, node_info, pairs_under, pairs_of, pairs_at, nodes_under, nodes_of, nodes_at, IsChild, AreChildren, IsTree}
+use Rattle.node_table.specs.Table.{IsSound, NodeTable, node_at, node_info, pairs_under, pairs_of, pairs_at, nodes_under, nodes_of, IsChild, AreChildren, IsTree}
 use Rattle.node_table.specs.declared.child.Child.TheVariants.{Payload, Node}
 use Rattle.node_table.proofs.BeginLaws.{after}
 use Rattle.node_table.proofs.NodesLaws.{below}
@@ -86,8 +85,8 @@ module _ {P : Type 0} (R : ℕ → ℕ → Type 0) where
           (same_first levels b p (Payload v) (Payload v) es a.others h.0 refl refl (same_under p es a.others h.1 a.rest))
       same_under p ((b, Node j) ∷ es) fs h a =
           let k = a.alike.0 in
-          let x = same (p ++ b ∷ []) j k a.alike.1.1 h.0 in
-          subst (λ gs. SameUnder levels p ((b, Node j) ∷ es) gs) (sym (a.is ∙ ap (λ y. (b, y) ∷ a.others) a.alike.1.0))
+          let x = same (p ++ b ∷ []) j k a.alike.2 h.0 in
+          subst (λ gs. SameUnder levels p ((b, Node j) ∷ es) gs) (sym (a.is ∙ ap (λ y. (b, y) ∷ a.others) a.alike.1))
           (same_first levels b p (Node j) (Node k) es a.others x.tree x.pairs x.nodes (same_under p es a.others h.1 a.rest))
 
     -- THE WHOLE SUBTREE, where each node has one like it in the place that goes with its own

@@ -19,3 +19,4 @@ pub mod ReadLaws
 pub mod SpareLaws
 pub mod AlikeLaws
 pub mod CompactLaws
+pub mod OverLaws

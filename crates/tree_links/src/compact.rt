@@ -10,7 +10,8 @@ ghost use Rattle.slab.specs.Slab.{slab_len, HasRoomFor};
 ghost use Rattle.tree_links.specs.SameTree.{MovesTree};
 ghost use Rattle.tree_links.specs.SeenTable.{link_at, links_of, name_of};
 ghost use Rattle.tree_links.specs.inner.Pairs.{pairs_in_table};
-ghost use Rattle.tree_links.specs.inner.Compact.{GoesAllOver, GoesOver, Redirects, RedirectsEach};
+ghost use Rattle.tree_links.specs.inner.Compact.{GoesAllOver, GoesOver, Redirects, RedirectsEach, RedirectsIn};
+ghost use Rattle.tree_links.specs.inner.Slots.{SameSlots};
 ghost use Rattle.tree_path.specs.inner.Root.{HasTree};
 
 use crate::link::{Link, LinkRef};
@@ -86,6 +87,8 @@ fn redirect<P: Drop, N: LinkedNode<P>>(node: &mut N, slots: &[usize])
     if node.is_leaf() {
         return;
     }
+    // (for the proof: brings the order of the links into scope, here and at the end)
+    let _ = node.base();
     let mut from = 0;
     'links: while let Some((byte, link)) = node.first_from(from) {
         from = byte as usize + 1;
@@ -93,6 +96,22 @@ fn redirect<P: Drop, N: LinkedNode<P>>(node: &mut N, slots: &[usize])
             let _ = node.exchange(byte, Link::Slot(new_slot(slots, slot)));
         }
     }
+    let _ = node.base();
+}
+
+// The same for the node in a slot, if there is one.
+fn redirect_at<P: Drop, N: LinkedNode<P>>(nodes: &mut Slab<N>, slot: usize, slots: &[usize])
+    ensures redirects { RedirectsIn slots.now (link_at (links_of N.node nodes.old.slots) slot)
+        (link_at (links_of N.node nodes.new.slots) slot) }
+    ensures others { SameSlots (links_of N.node nodes.old.slots)
+        (links_of N.node nodes.new.slots) slot }
+    ensures len { slab_len nodes.new ≡ slab_len nodes.old }
+    ensures capacity { nodes.new.capacity ≡ nodes.old.capacity }
+{
+    let Some(node) = nodes.get_mut(slot) else {
+        return;
+    };
+    redirect(node, slots);
 }
 
 // The same for all nodes.
@@ -103,9 +122,7 @@ fn redirect_all<P: Drop, N: LinkedNode<P>>(nodes: &mut Slab<N>, slots: &[usize])
     ensures capacity { nodes.new.capacity ≡ nodes.old.capacity }
 {
     for slot in 0..nodes.capacity() {
-        if let Some(node) = nodes.get_mut(slot) {
-            redirect(node, slots);
-        }
+        redirect_at(nodes, slot, slots);
     }
 }
 
@@ -131,7 +148,7 @@ impl<P: Drop> Links<P> {
         ensures { MovesTree self.old.table self.new.table (name_of root) (name_of result) }
     {
         let kept = self.nodes.len() + self.pairs;
-        if self.nodes.capacity() / 4 <= kept + FEW {
+        if self.nodes.capacity() / 4 <= kept.saturating_add(FEW) {
             return root;
         }
         self.move_nodes(root, kept / 8, alloc)
@@ -143,12 +160,15 @@ impl<P: Drop> Links<P> {
         ensures { MovesTree self.old.table self.new.table (name_of root) (name_of result) }
     {
         let mut others = Slab::new(alloc);
-        if reserve_slots(&mut others, self.nodes.len() + self.pairs, spare).is_err() {
+        let kept = self.nodes.len() + self.pairs;
+        let Ok(()) = reserve_slots(&mut others, kept, spare) else {
             return root;
-        }
+        };
         let Ok(mut slots) = Vec::with_capacity(alloc, self.nodes.capacity()) else {
             return root;
         };
+        // (for the proof: brings the capacity's bound into scope)
+        let _ = others.capacity();
         take_all_over(&mut self.nodes, &mut others, &mut slots);
         redirect_all(&mut others, slots.as_slice());
         self.nodes = others;
