@@ -75,7 +75,7 @@ pub spares_fewer : (v : SeatView View) (s t : Spares) → ((form : NodeType) →
 spares_fewer v s t f second more h = (
   (λ form some. subst (IsSpare v form) (sym (f form some)) (h.0 form (subst (λ (x : ℕ). 1 ≤ x) (f form some) some))),
   (λ some. subst (IsSpare v N4) (sym (second some)) (h.1 (subst (λ (x : ℕ). 1 ≤ x) (second some) some))),
-  (λ some. subst (Sights v) (sym (more some)) (h.2 (subst (λ (x : ℕ). 1 ≤ x) (more some) some)))
+  (λ some. subst (Sights v) (sym (more some)) (h.2 (subst (λ (x : ℕ). 1 ≤ x) (more some) some))),
 )
 
 pub one_form : (f g : NodeType) → form_place f ≡ form_place g → f ≡ g

@@ -121,10 +121,10 @@ pub fn detach(nodes: &Nodes, stand: Stand, key: u64, pass: &mut Pass) -> Option<
     let words = words_at(nodes, stand.name)?;
     let two = lock_two(words, words_above, stand, key, pass)?;
     let held: Held<'_, Mine, Levels, 0> = Held { words };
-    if fill_of(&held, form_below(stand.name), pass) != Fill::Empty {
+    let Fill::Empty = fill_of(&held, form_below(stand.name), pass) else {
         unlock_two(words, words_above, two, pass);
         return None;
-    }
+    };
     let left = part(words, words_above, stand, key, two, pass);
     Some(Taken {
         name: stand.name,
