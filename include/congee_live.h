@@ -24,7 +24,6 @@
  *
  *   - congee_live_new has no limit, and congee_live_new_with_limit has one of other bytes. Shards have no use, since nodes are
  *     locked one by one.
- *   - congee_live_insert may be out of memory for a present key, too, where writers come in between.
  *   - Ranges, ends and neighbours aren't of one moment.
  *   - congee_shared_range_descending: here congee_live_below, from pair to pair.
  *   - congee_shared_pop_first: here congee_live_first, and then congee_live_compare_remove of that pair, both again until
@@ -140,7 +139,7 @@ static inline int congee_live_get(const struct congee_live *map, uint64_t key, u
     return 1;
 }
 
-/* As congee_insert, or CONGEE_BUSY. It may be out of memory for a present key, too. */
+/* As congee_insert, or CONGEE_BUSY. A present key needs no memory. */
 static inline int congee_live_try_insert(struct congee_live *map, uint64_t key, uint64_t value, uint64_t *old) {
     struct congee_live_handle handle = {map};
     uint64_t it = 0;

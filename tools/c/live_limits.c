@@ -49,14 +49,14 @@ static uint64_t fill(struct congee_live *map, uint64_t i) {
     return i;
 }
 
-/* An insertion into a full map, again where it is out of memory, so often. One thread alone has to be served at once. Beside
- * others a call may be refused where a writer is in its way. Where two nodes of one form went, a call may need both, and
- * the next one has the other. */
+/* An insertion of a new key into a full map, again where it is out of memory, so often. One thread alone has to be served at
+ * once. Beside others the nodes that went may be with their handles. Where two nodes of one form went, a call may need both,
+ * and the next one has the other. */
 static int patience;
 
-static int put(struct congee_live *map, uint64_t i, uint64_t value, uint64_t *old) {
+static int put(struct congee_live *map, uint64_t i) {
     int code;
-    for (int tries = 0; (code = congee_live_insert(map, key_of(i), value, old)) == CONGEE_OOM && tries < patience; tries++)
+    for (int tries = 0; (code = congee_live_insert(map, key_of(i), i, NULL)) == CONGEE_OOM && tries < patience; tries++)
         sched_yield();
     return code;
 }
@@ -67,11 +67,11 @@ static void use(struct congee_live *map, uint64_t first, uint64_t end) {
     need(congee_live_get(map, key_of(end), &value) == 0 && value == 99, "a key that was refused");
     for (uint64_t i = first; i < end; i += THREADS) {
         need(congee_live_get(map, key_of(i), &value) == 1 && value == i, "a key of a full map");
-        need(put(map, i, i + 1, &value) == 1 && value == i, "another value");
+        need(congee_live_insert(map, key_of(i), i + 1, &value) == 1 && value == i, "another value, which needs no memory");
         need(congee_live_add(map, key_of(i), 1, &value) == 1 && value == i + 1, "a sum");
         need(congee_live_get_or_insert(map, key_of(i), 7, &value) == 1 && value == i + 2, "a present key");
         need(congee_live_remove(map, key_of(i), &value) == 1 && value == i + 2, "a removal");
-        need(put(map, i, i, NULL) == 0, "a key in the place of a removed one");
+        need(put(map, i) == 0, "a key in the place of a removed one");
     }
 }
 

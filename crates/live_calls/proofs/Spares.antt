@@ -70,6 +70,14 @@ spares_more v s n h i = (forms_more v s n h.0, h.1, i)
 pub spares_none : (v : SeatView View) (s : Spares) → ((form : NodeType) → slot_of s form ≡ 0) → s.second ≡ 0 → s.more ≡ 0 → HasSpares v s
 spares_none v s none none_second none_more = ((λ form some. absurd (let e = none form in omega (arith, e, some))), (λ some. absurd (omega (arith, none_second, some))), (λ some. absurd (omega (arith, none_more, some))))
 
+-- where each name that is kept was kept before
+pub spares_fewer : (v : SeatView View) (s t : Spares) → ((form : NodeType) → 1 ≤ slot_of t form → slot_of t form ≡ slot_of s form) → (1 ≤ t.second → t.second ≡ s.second) → (1 ≤ t.more → t.more ≡ s.more) → HasSpares v s → HasSpares v t
+spares_fewer v s t f second more h = (
+  (λ form some. subst (IsSpare v form) (sym (f form some)) (h.0 form (subst (λ (x : ℕ). 1 ≤ x) (f form some) some))),
+  (λ some. subst (IsSpare v N4) (sym (second some)) (h.1 (subst (λ (x : ℕ). 1 ≤ x) (second some) some))),
+  (λ some. subst (Sights v) (sym (more some)) (h.2 (subst (λ (x : ℕ). 1 ≤ x) (more some) some))),
+)
+
 pub one_form : (f g : NodeType) → form_place f ≡ form_place g → f ≡ g
 one_form N4 N4 e = refl
 one_form N4 N16 e = absurd (omega (arith, e))

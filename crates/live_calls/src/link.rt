@@ -37,6 +37,13 @@ pub struct Room {
     pub spare: Spares,
 }
 
+impl Room {
+    /// Whether there is neither this node to be used again nor room for a new one of any form.
+    pub fn lacks(&self, spare: u64) -> bool {
+        spare == 0 && self.left < 263
+    }
+}
+
 /// Why no child can be put under a byte: there is one, or no room. `None` where it can.
 fn obstacle<S, D: Draft<S>>(
     draft: &D,

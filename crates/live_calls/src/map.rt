@@ -19,9 +19,6 @@ use std::marker::{Brand, Model};
 /// How often a call is tried before it gives up.
 pub const TRIES: u32 = 1000;
 
-/// How often a call is tried without memory for more nodes. It may need none, or have nodes to use again for all on its way.
-pub const SPARE_TRIES: u32 = 16;
-
 /// Too many writers came in between.
 #[derive(Clone, Copy, Debug, PartialEq, Eq)]
 pub struct Busy;
@@ -161,14 +158,12 @@ impl Congee {
             (inserted (ask guard.old.caller key value 1) old) guard.new) }
         ensures refused { OnErr result (guard.new ≡ guard.old) }
     {
-        for tried in 0..TRIES {
+        for _ in 0..TRIES {
             let lacks = reserve(&self.nodes, alloc, &mut guard.room, &mut guard.pass).is_err();
-            let done = insert_once(&self.nodes, key, value, &mut guard.room, &mut guard.pass);
-            if let Some(old) = done {
-                return Ok(old);
-            }
-            if lacks && tried >= SPARE_TRIES {
-                return Err(Refusal::OutOfMemory);
+            match insert_once(&self.nodes, key, value, &mut guard.room, &mut guard.pass) {
+                Ok(old) => return Ok(old),
+                Err(Refusal::OutOfMemory) if lacks => return Err(Refusal::OutOfMemory),
+                Err(_) => {}
             }
         }
         Err(Refusal::Busy)

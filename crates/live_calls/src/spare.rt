@@ -1,13 +1,22 @@
 //! Nodes that are no part of the map any more, and may be used again.
-ghost use Rattle.std.specs.Prelude.{◌≡◌, ◌≤◌};
+ghost use Rattle.std.specs.Prelude.{◌≡◌, ◌≢◌, ◌≤◌};
 ghost use Rattle.node_base.specs.declared.base_node.NodeType.TheVariants.{N4};
 ghost use Rattle.live_nodes.specs.Seats.{SeatView};
 ghost use Rattle.live_law.specs.Views.{View};
 ghost use Rattle.live_calls.specs.Ways.{Sights};
-ghost use Rattle.live_calls.specs.Spares.{IsSpare, slot_of, with_slot, HasSpares};
+ghost use Rattle.live_calls.specs.Spares.{IsSpare, slot_of, with_slot, HasSpares, Lacks, KeepsOthers};
 
 use live_encodes::form::form_below;
 use node_base::base_node::NodeType;
+
+// A name, or none where it is this one.
+fn other_than(kept: u64, name: u64) -> u64
+    ensures same { kept ≡ name → result ≡ 0 }
+    ensures other { kept ≢ name → result ≡ kept }
+    ensures none { 1 ≤ result → result ≡ kept }
+{
+    if kept == name { 0 } else { kept }
+}
 
 /// Names of nodes that are no part of the map and that nobody uses: one for each form, a second one of the smallest, as a call may
 /// need two of that, and a further one of any form. 0 for none.
@@ -70,18 +79,18 @@ impl Spares {
         }
     }
 
-    /// A name is kept no longer.
+    /// A name is kept no longer. The others are.
     pub fn forget(&mut self, name: u64)
+        ensures gone { 1 ≤ name → Lacks self.new name }
+        ensures others { KeepsOthers self.old self.new name }
         ensures left { (v : SeatView View) → HasSpares v self.old → HasSpares v self.new }
     {
-        if self.second == name {
-            self.second = 0;
-            return;
-        }
-        let form = form_below(name);
-        if self.get(form) == name {
-            self.set(form, 0);
-        }
+        self.n4 = other_than(self.n4, name);
+        self.n16 = other_than(self.n16, name);
+        self.n48 = other_than(self.n48, name);
+        self.n256 = other_than(self.n256, name);
+        self.second = other_than(self.second, name);
+        self.more = other_than(self.more, name);
     }
 
     /// Keeps a node: for its form, or where one is kept for that, as the second or the further one. `false` where there is no place.

@@ -8,7 +8,7 @@ use Rattle.live_calls.specs.declared.map.Refusal.{Refusal}
 use Rattle.live_updates.specs.inner.Updates.{Update}
 use Rattle.live_computes.specs.Entries.{inserted_with}
 use Rattle.live_computes.specs.declared.absent.Tried.{Tried}
-use Rattle.live_computes.specs.declared.absent.Tried.TheVariants.{Entered, Present, Again}
+use Rattle.live_computes.specs.declared.absent.Tried.TheVariants.{Entered, Present, Again, Lacks}
 use Rattle.live_computes.specs.inner.Ends.{Tries, Enters, Stores}
 
 abbrev Seen : Type 0
@@ -22,6 +22,9 @@ present_same u o v w e t = subst (λ (z : Tried). Tries u z v w) e t
 
 pub again_same : (u : Update) (o : Tried) (v w : Seen) → o ≡ Again → Tries u o v w → w.client.seen ≡ v.client.seen
 again_same u o v w e t = subst (λ (z : Tried). Tries u z v w) e t
+
+pub lacks_same : (u : Update) (o : Tried) (v w : Seen) → o ≡ Lacks → Tries u o v w → w.client.seen ≡ v.client.seen
+lacks_same u o v w e t = subst (λ (z : Tried). Tries u z v w) e t
 
 pub answers_later : (c : ℕ) (e : Entry ℕ) (s t u : List (Entry ℕ)) → s ≡ t → Answers c e s u → Answers c e t u
 answers_later c e s t u same a = subst (λ (z : List (Entry ℕ)). Answers c e z u) same a

@@ -1,8 +1,5 @@
 //! Nodes without children are taken out.
-ghost use Rattle.std.specs.Prelude.{◌≡◌, ◌↔◌, ℕ, ◌+◌, ◌%◌, ◌<◌, ◌≤◌, ◌^◌, [], length, IsTrue, IfSome, IfNone};
-ghost use Rattle.node_table.specs.TableNode.{TableNode};
-ghost use Rattle.live_cells.specs.Words.{Looks};
-ghost use Rattle.live_encodes.specs.Encodes.{words_of, Encodes};
+ghost use Rattle.std.specs.Prelude.{◌≡◌, ℕ, ◌+◌, ◌%◌, ◌<◌, ◌≤◌, ◌^◌, [], length, IfSome, IfNone};
 ghost use Rattle.live_nodes.specs.Nodes.{Content};
 ghost use Rattle.live_law.specs.Levels.{digit};
 ghost use Rattle.live_calls.specs.Ways.{KnowsTrunk, Names, Sights, AreNamed, Keeps};
@@ -16,14 +13,11 @@ use live_calls::held::{lock_node, unlock_same};
 use live_calls::insert::Stand;
 use live_calls::way::{Cell, Nodes, Pass, byte_at, words_at};
 use live_calls::widen::leads_to;
-use live_cells::list;
-use live_cells::words::Draft;
 use live_encodes::change::take;
-use live_encodes::form::{form_below, room_of};
+use live_encodes::form::form_below;
 use live_law::law::{Levels, Mine, Same};
 use live_nodes::node;
 use live_rows::rows::Held;
-use node_base::base_node::NodeType;
 
 /// The words by which two locked nodes were free: one, and the one above it.
 #[derive(Clone, Copy)]
@@ -38,20 +32,6 @@ pub struct Taken {
     pub name: u64,
     pub above: u64,
     pub left: Fill,
-}
-
-/// Whether a node has no children.
-pub fn is_empty<S, D: Draft<S>>(draft: &D, form: NodeType, seat: &mut S) -> bool
-    requires may { D.may_write draft.now seat.old }
-    requires long { length (D.words draft.now seat.old) ≡ words_of form }
-    ensures seat { Looks D.may_write D.words draft.now seat.old seat.new }
-    ensures told { (n : TableNode ℕ) → Encodes (D.words draft.now seat.old) n → n.form ≡ form
-        → (IsTrue result ↔ (n.children ≡ [])) }
-{
-    match room_of(form) {
-        Some(_) => list::count_of(draft, seat) == 0,
-        None => draft.get(1, seat) == 0,
-    }
 }
 
 /// Locks a node and the one above it, which leads to it.
@@ -141,10 +121,10 @@ pub fn detach(nodes: &Nodes, stand: Stand, key: u64, pass: &mut Pass) -> Option<
     let words = words_at(nodes, stand.name)?;
     let two = lock_two(words, words_above, stand, key, pass)?;
     let held: Held<'_, Mine, Levels, 0> = Held { words };
-    if !is_empty(&held, form_below(stand.name), pass) {
+    let Fill::Empty = fill_of(&held, form_below(stand.name), pass) else {
         unlock_two(words, words_above, two, pass);
         return None;
-    }
+    };
     let left = part(words, words_above, stand, key, two, pass);
     Some(Taken {
         name: stand.name,

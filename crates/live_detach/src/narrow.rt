@@ -1,5 +1,5 @@
 //! A node of few children is replaced by one of the next smaller form.
-ghost use Rattle.std.specs.Prelude.{◌≡◌, ◌≢◌, ℕ, ◌+◌, ◌<◌, ◌≤◌, ◌^◌, [], length};
+ghost use Rattle.std.specs.Prelude.{◌≡◌, ◌≢◌, ◌↔◌, ℕ, ◌+◌, ◌<◌, ◌≤◌, ◌^◌, [], length};
 ghost use Rattle.node_base.specs.Form.{limit, smaller_form, few_in};
 ghost use Rattle.live_cells.specs.Words.{Looks};
 ghost use Rattle.live_encodes.specs.Encodes.{words_of, counted};
@@ -10,7 +10,7 @@ ghost use Rattle.live_calls.specs.Calls.{IsReady};
 ghost use Rattle.live_calls.specs.Rooms.{HasGrown};
 ghost use Rattle.live_calls.specs.Spares.{HasSpares};
 ghost use Rattle.live_calls.specs.Stands.{Stands};
-ghost use Rattle.live_detach.specs.declared.narrow.Fill.TheVariants.{Few};
+ghost use Rattle.live_detach.specs.declared.narrow.Fill.TheVariants.{Empty, Few, Enough};
 ghost use Rattle.live_detach.specs.Three.{HasThree};
 
 use crate::detach::{Two, lock_two, unlock_two};
@@ -81,7 +81,10 @@ pub fn fill_of<S, D: Draft<S>>(draft: &D, form: NodeType, seat: &mut S) -> Fill
     requires may { D.may_write draft.now seat.old }
     requires long { length (D.words draft.now seat.old) ≡ words_of form }
     ensures seat { Looks D.may_write D.words draft.now seat.old seat.new }
+    ensures empty { (result ≡ Empty) ↔ (counted (limit form) (D.words draft.now seat.old) ≡ 0) }
     ensures few { result ≡ Few → counted (limit form) (D.words draft.now seat.old) ≤ few_in form }
+    ensures enough { result ≡ Enough
+        → few_in form < counted (limit form) (D.words draft.now seat.old) }
 {
     let count = count_in(draft, form, seat);
     if count == 0 {

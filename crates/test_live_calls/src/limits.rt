@@ -2,7 +2,10 @@
 
 ghost use Rattle.std.specs.Prelude.{◌≡◌};
 
-use live_calls::map::{Congee, Guard, Refusal};
+use live_calls::held::lock_node;
+use live_calls::insert::descend;
+use live_calls::map::{Busy, Congee, Guard, Refusal};
+use live_calls::way::words_at;
 use live_computes::present::add;
 use live_updates::calls::remove;
 use std::alloc::Global;
@@ -106,5 +109,43 @@ fn a_full_map_keeps_its_pairs(rt: HostRuntime) -> Result<(), Fail> {
     assert!(rt; replaced(&map, rt.alloc(), &mut guard, count) == count);
     assert!(rt; found(&map, &mut guard, count) == count);
     assert!(rt; map.charged() == 122_880);
+    Ok(())
+}
+
+// Locks the node at which a key's way ends, for ever. Whether it did.
+fn is_locked(map: &Congee, key: u64) -> bool {
+    let mut pass = map.pin().pass;
+    let Some(end) = descend(&map.nodes, key, &mut pass) else {
+        return false;
+    };
+    let name = end.stand.name;
+    let Some(words) = words_at(&map.nodes, name) else {
+        return false;
+    };
+    lock_node(words, name, end.stand.height, key, &mut pass).is_some()
+}
+
+// Whether the calls at a locked leaf are busy, and not out of memory. The key of this number is there, others are elsewhere.
+fn is_busy_when_full(map: &Congee, alloc: Global, i: u64) -> bool {
+    let mut guard = map.pin();
+    let inserted = map.insert(alloc, &mut guard, key_of(i), 1) == Err(Refusal::Busy);
+    let absent = map.insert(alloc, &mut guard, key_of(i) ^ 1, 1) == Err(Refusal::Busy);
+    let added = add(map, alloc, &mut guard, key_of(i), 1) == Err(Refusal::Busy);
+    let removed = remove(map, &mut guard, key_of(i)) == Err(Busy);
+    let found = map.get(&mut guard, key_of(i)) == Err(Busy);
+    let beside = map.insert(alloc, &mut guard, key_of(1), 1) == Ok(Some(1));
+    inserted && absent && added && removed && found && beside
+}
+
+#[test]
+fn a_full_map_is_busy_at_a_locked_leaf(rt: HostRuntime) -> Result<(), Fail> {
+    let map = Congee::with_limit(rt.alloc(), 30_000)?;
+    let mut guard = map.pin();
+    let count = stored(&map, rt.alloc(), &mut guard);
+    assert!(rt; count > 100 && is_locked(&map, key_of(0)));
+    assert!(rt; is_busy_when_full(&map, rt.alloc(), 0));
+    let mut other = map.pin();
+    let lacks = map.insert(rt.alloc(), &mut other, key_of(count), 1) == Err(Refusal::OutOfMemory);
+    assert!(rt; lacks);
     Ok(())
 }

@@ -5,7 +5,7 @@ use Rattle.live_computes.proofs.absent.enter.Goals as goal
 
 pub returns-in-Entered : goal.returns-in-Entered
 returns-in-Entered g c =
-    let i = c.loop-tried.invariant in
+    let i = c.loop.invariant in
     let r = c.reserve.ensures.told in
     let t = c.enter_once.ensures.told in
     let v = c.reserve.new.pass.view in
@@ -17,7 +17,7 @@ returns-in-Entered g c =
 
 pub returns-in-Present : goal.returns-in-Present
 returns-in-Present g c =
-    let i = c.loop-tried.invariant in
+    let i = c.loop.invariant in
     let r = c.reserve.ensures.told in
     let t = c.enter_once.ensures.told in
     let v = c.reserve.new.pass.view in
@@ -25,9 +25,9 @@ returns-in-Present g c =
     let is : c.enter_once.result ≡ Present = search rules in
     record { told = (t.0 ∙ (r.0 ∙ i.book), t.1 ∙ (r.1 ∙ i.id), t.2, present_same g.U.Updates.update c.enter_once.result v w is t.3 ∙ (r.3 ∙ i.seen)) }
 
-pub loop-tried-preserved : goal.loop-tried-preserved
-loop-tried-preserved g c =
-    let i = c.loop-tried.invariant in
+pub loop-preserved : goal.loop-preserved
+loop-preserved g c =
+    let i = c.loop.invariant in
     let r = c.reserve.ensures.told in
     let t = c.enter_once.ensures.told in
     let v = c.reserve.new.pass.view in

@@ -2,8 +2,8 @@ use Rattle.std.proofs.Common.{◌≡◌}
 use Rattle.live_calls.specs.Calls.{IsReady}
 use Rattle.live_computes.proofs.absent.enter.Given as goal
 
-abbrev pub invariant-loop-tried : goal.invariant-loop-tried
-invariant-loop-tried g l = record {
+abbrev pub invariant-loop : goal.invariant-loop
+invariant-loop g l = record {
   book : l.pass.book ≡ l.fn.pass.book;
   id : l.pass.id ≡ l.fn.pass.id;
   seen : l.pass.view.client.seen ≡ l.fn.pass.view.client.seen;

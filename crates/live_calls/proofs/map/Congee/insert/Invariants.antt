@@ -2,8 +2,8 @@ use Rattle.std.proofs.Common.{◌≡◌}
 use Rattle.live_calls.specs.Calls.{IsReady}
 use Rattle.live_calls.proofs.map.Congee.insert.Given as goal
 
-abbrev pub invariant-loop-tried : goal.invariant-loop-tried
-invariant-loop-tried l = record {
+abbrev pub invariant-loop : goal.invariant-loop
+invariant-loop l = record {
   book : l.guard-inside.pass.book ≡ l.fn.guard.book;
   id : l.guard-inside.pass.id ≡ l.fn.guard.caller;
   seen : l.guard-inside.pass.view.client.seen ≡ l.fn.guard.seen;

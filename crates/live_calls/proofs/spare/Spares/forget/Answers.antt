@@ -1,9 +1,6 @@
-use Rattle.std.proofs.Common.{sym, subst, arith}
-use Rattle.live_calls.specs.Spares.{HasSpares}
-use Rattle.live_calls.proofs.Spares.{spares_put}
+use Rattle.node_base.specs.declared.base_node.NodeType.TheVariants.{N4, N16, N48, N256}
+use Rattle.live_calls.proofs.Spares.{spares_fewer}
 use Rattle.live_calls.proofs.spare.Spares.forget.Goals as goal
 
-pub returns-then-get-name : goal.returns-then-get-name
-returns-then-get-name c = record {
-  left = λ v h. subst (HasSpares v) (sym c.set.ensures) (spares_put v c.args.self.now c.form_below-form.result 0 h (λ some. absurd (omega (arith, some))));
-}
+pub returns-clause-left : goal.returns-clause-left
+returns-clause-left c = λ v h. spares_fewer v c.args.self.now _ (elim [ N4 ↦ c.other_than-self.ensures.none | N16 ↦ c.other_than-self-2.ensures.none | N48 ↦ c.other_than-self-3.ensures.none | N256 ↦ c.other_than-self-4.ensures.none ]) c.other_than-self-5.ensures.none c.other_than-self-6.ensures.none h
