@@ -1,24 +1,20 @@
 //! All nodes below one are locked, and then itself.
-ghost use Rattle.std.specs.Prelude.{◌≡◌, ◌≢◌, ℕ, ◌+◌, ◌<◌, ◌≤◌, length, slice_index, IfOk, IsTrue};
-ghost use Rattle.spec_map.specs.Map.{lookup};
-ghost use Rattle.node_table.specs.TableNode.{TableNode};
-ghost use Rattle.live_cells.specs.Words.{Looks};
-ghost use Rattle.live_encodes.specs.Encodes.{words_of, Encodes};
-ghost use Rattle.live_calls.specs.Ways.{Names, Keeps};
-ghost use Rattle.live_copies.specs.inner.Told.{IsNoted};
-ghost use Rattle.live_copies.specs.inner.Locks.{HasLocks, Grows, Takes};
+ghost use Rattle.std.specs.Prelude.{◌≡◌, ℕ, ◌≤◌, IfOk};
+ghost use Rattle.spec_map.specs.Map.{Pairs};
+ghost use Rattle.live_calls.specs.Ways.{Names};
+ghost use Rattle.live_copies.specs.inner.Noted.{HasNoted};
+ghost use Rattle.live_copies.specs.inner.Locks.{HasLocks, Grows, place_above, HasTold, Takes};
 
 use crate::children::{Child, next_child};
 use crate::locks::{Work, lock_noted};
+use crate::names::has_children;
 use live_calls::map::Refusal;
 use live_calls::way::{Nodes, Pass};
-use live_cells::words::{Cells, Draft, Drafted};
-use live_encodes::form::{form_below, slot_below, words_in};
-use live_encodes::search::find;
+use live_cells::words::Drafted;
+use live_encodes::form::{form_below, words_in};
 use live_law::law::{Levels, Mine};
 use live_order::page::{Part, fill};
 use live_rows::rows::Held;
-use node_base::base_node::NodeType;
 
 // Locks a leaf, and copies its pairs.
 fn take_leaf<'a>(
@@ -34,7 +30,8 @@ fn take_leaf<'a>(
     ensures told { (pass.new.book ≡ pass.old.book) × (pass.new.id ≡ pass.old.id)
         × Grows pass.old.view pass.new.view
         × HasLocks pass.new.view pass.new.book work.new.locks.items
-        × IfOk result (λ _. Takes pass.new.view name key 1 work.old.pairs.items work.new.pairs.items) }
+        × IfOk result (λ _. Takes pass.new.view name key 1
+        work.old.pairs.items work.new.pairs.items) }
 {
     let words = lock_noted(nodes, name, 1, key, &mut work.locks, pass)?;
     let form = form_below(name);
@@ -59,35 +56,6 @@ fn take_leaf<'a>(
     Ok(())
 }
 
-// Whether the child under a byte has this name. 0 is for none.
-fn has_child<S, R: Cells<S>>(cells: &R, form: NodeType, byte: u8, name: u64, seat: &mut S) -> bool
-{
-    match find(cells, form, byte, seat) {
-        None => name == 0,
-        Some(word) => name != 0 && slot_below(word) == name,
-    }
-}
-
-// Whether a node has these children, and no other.
-fn has_children<S, D: Draft<S>>(
-    draft: &D,
-    form: NodeType,
-    names: &[u64; 256],
-    seat: &mut S,
-) -> bool
-{
-    let cells = Drafted {
-        draft,
-        long: words_in(form),
-    };
-    for byte in 0..256usize {
-        if !has_child(&cells, form, byte as u8, names[byte], seat) {
-            return false;
-        }
-    }
-    true
-}
-
 // Locks a node whose children are locked, if it still has these, and no other.
 fn close<'a>(
     nodes: &'a Nodes,
@@ -98,6 +66,17 @@ fn close<'a>(
     work: &mut Work<'a>,
     pass: &mut Pass,
 ) -> Result<(), Refusal>
+    requires book { pass.old.book ≡ nodes.now }
+    requires named { Names pass.old.view name key height }
+    requires height { (2 ≤ height) × (height ≤ 8) }
+    requires locks { HasLocks pass.old.view pass.old.book work.old.locks.items }
+    ensures told { (pass.new.book ≡ pass.old.book) × (pass.new.id ≡ pass.old.id)
+        × Grows pass.old.view pass.new.view
+        × HasLocks pass.new.view pass.new.book work.new.locks.items
+        × (work.new.pairs ≡ work.old.pairs) }
+    ensures has { IfOk result (λ _. (pairs : Pairs ℕ)
+        → HasNoted pass.old.view.client.own (place_above key height) 256 names.now pairs
+        → HasTold pass.new.view name key height pairs) }
 {
     let words = lock_noted(nodes, name, height, key, &mut work.locks, pass)?;
     let held: Held<'_, Mine, Levels, 0> = Held { words };
@@ -116,6 +95,15 @@ pub fn take<'a>(
     work: &mut Work<'a>,
     pass: &mut Pass,
 ) -> Result<(), Refusal>
+    requires book { pass.old.book ≡ nodes.now }
+    requires named { Names pass.old.view name key height }
+    requires height { (1 ≤ height) × (height ≤ 8) }
+    requires locks { HasLocks pass.old.view pass.old.book work.old.locks.items }
+    ensures told { (pass.new.book ≡ pass.old.book) × (pass.new.id ≡ pass.old.id)
+        × Grows pass.old.view pass.new.view
+        × HasLocks pass.new.view pass.new.book work.new.locks.items
+        × IfOk result (λ _. Takes pass.new.view name key height
+        work.old.pairs.items work.new.pairs.items) }
 {
     if height < 2 {
         return take_leaf(nodes, name, key, work, pass);

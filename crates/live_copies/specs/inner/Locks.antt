@@ -1,13 +1,14 @@
 -- What a copy has locked.
 use Rattle.std.specs.Prelude.{◌≡◌, ℕ, ◌+◌, ◌-◌, ◌%◌, ◌<◌, ◌≤◌, ◌^◌, List, [], ◌∷◌, ◌++◌, length}
-use Rattle.node_table.specs.TableNode.{TableNode}
+use Rattle.node_base.specs.declared.base_node.NodeType.TheVariants.{N4}
 use Rattle.spec_map.specs.Map.{Pairs}
 use Rattle.word_book.specs.Book.{Book, Name}
 use Rattle.live_nodes.specs.Nodes.{Content}
 use Rattle.live_nodes.specs.Seats.{Place, Hold, hold, SeatView, IsIn, Each}
 use Rattle.live_rows.specs.Rows.{AreOf}
 use Rattle.live_encodes.specs.Encodes.{words_of, Encodes}
-use Rattle.live_law.specs.Levels.{up, digit, Spot, name_of, Covers, place_at}
+use Rattle.node_table.specs.TableNode.{TableNode}
+use Rattle.live_law.specs.Levels.{up, digit, Spot, spot, name_of, Covers, place_at}
 use Rattle.live_law.specs.Views.{View, Own, locked}
 use Rattle.live_law.specs.Tree.{IsApart}
 use Rattle.live_calls.specs.Ways.{Names}
@@ -64,11 +65,16 @@ pub record IsTop (v : SeatView View) (b : Book) (words : List Name) (free : ℕ)
   pub its_words : top.lock.words.now ≡ words
   pub its_free : top.lock.free ≡ free
 
--- The seat knows more, and has more locked.
-pub record Grows (v w : SeatView View) : Type 0 where
+-- The seat knows as much.
+pub record Knows (v w : SeatView View) : Type 0 where
   pub places : (p : Place) → IsIn p v.places → IsIn p w.places
   pub met : (a : Spot) → IsIn a v.client.met → IsIn a w.client.met
   pub room : w.room ≡ v.room
+
+-- It has as much to itself, too, and has seen no more.
+pub record Grows (v w : SeatView View) : Type 0 where
+  pub knows : Knows v w
+  pub own : (o : Own) → IsIn o v.client.own → IsIn o w.client.own
   pub seen : w.client.seen ≡ v.client.seen
 
 -- The node of that name was locked last.
@@ -96,12 +102,18 @@ pub record IsChild (w : SeatView View) (key height : ℕ) (c : Child) : Type 0 w
   pub upper : up height c.key ≡ up height key
   pub byte : digit height c.key ≡ c.byte
 
--- ALL NODES FROM ONE ON DOWNWARDS were locked, and their pairs were copied.
-pub record Takes (w : SeatView View) (name key height : ℕ) (old new : Pairs ℕ) : Type 0 where
-  pub spot : Spot
-  pub named : name ≡ name_of spot.shape
-  pub high : spot.shape.height ≡ height
-  pub covers : Covers spot.shape key
-  pub pairs : Pairs ℕ
-  pub more : new ≡ old ++ pairs
-  pub has : HasPairs w.client.own spot pairs
+-- where a node of this height is that has this key
+abbrev pub place_above : ℕ → ℕ → Spot
+place_above key height = spot 0 record { key = 0; form = N4; height = height; top = up height key }
+
+-- ALL NODES FROM ONE ON DOWNWARDS are locked, and tell these pairs.
+pub record HasTold (w : SeatView View) (name key height : ℕ) (pairs : Pairs ℕ) : Type 0 where
+  pub its : Spot
+  pub named : name ≡ name_of its.shape
+  pub high : its.shape.height ≡ height
+  pub covers : Covers its.shape key
+  pub has : HasPairs w.client.own its pairs
+
+-- These were copied.
+abbrev pub Takes : SeatView View → ℕ → ℕ → ℕ → Pairs ℕ → Pairs ℕ → Type 0
+Takes w name key height old new = (pairs : Pairs ℕ) × (new ≡ old ++ pairs) × HasTold w name key height pairs
