@@ -11,5 +11,6 @@ pub mod children;
 pub mod copy;
 pub mod lesson;
 pub mod locks;
+pub mod names;
 pub mod walk;
 pub mod whole;
