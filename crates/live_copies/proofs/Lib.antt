@@ -1,3 +1,4 @@
 pub mod Whole
 pub mod Spans
 pub mod Told
+pub mod Locking
