@@ -1,3 +1,4 @@
 pub mod Told
 pub mod Noted
 pub mod Whole
+pub mod Locks

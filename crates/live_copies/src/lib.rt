@@ -4,8 +4,13 @@
 //! no node of the map can change. At that moment the caller learns the whole history, and that it leads to these pairs. Then
 //! all nodes are unlocked.
 //!
-//! Tested in `test_live_scans`.
+//! Tested in `test_live_copies`.
 #![tactic(auto)]
 
+pub mod children;
+pub mod copy;
 pub mod lesson;
+pub mod locks;
+pub mod names;
+pub mod walk;
 pub mod whole;
