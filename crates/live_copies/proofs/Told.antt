@@ -10,7 +10,7 @@ use Rattle.spec_map.proofs.JoinLaws.{Rises-append, lookup-above, lookup-append_l
 use Rattle.share_rule.specs.History.{IsHistory}
 use Rattle.live_nodes.specs.Nodes.{Content}
 use Rattle.live_nodes.specs.Seats.{IsIn}
-use Rattle.live_encodes.specs.Encodes.{AreOfKind, payload_of}
+use Rattle.live_encodes.specs.Encodes.{Encodes, AreOfKind, IsBelow, IsWord, payload_of}
 use Rattle.live_law.specs.Levels.{up, digit, Shape, name_of, Covers, way, Spot}
 use Rattle.live_law.specs.Views.{Own, locked, View}
 use Rattle.live_law.proofs.Plans.{joined, way-key, root-top}
@@ -264,6 +264,22 @@ noted_under : (P : Spot → Pairs ℕ → Type 0) (a : Spot) (m : Pairs ℕ) (b 
 noted_under P a m b name t None is = t.0 is
 noted_under P a m b name t (Some (Payload x)) is = absurd is
 noted_under P a m b name t (Some (Node s)) is = subst (TellsBelow P a m b) (sym is.1) (t.1 is.0)
+
+noted_word : (p : List ℕ) (o : Option (Child ℕ)) (w name : ℕ) → is_kind p o → length p < 7 → IsBelow o (Some w) → 1 ≤ name → ((s : ℕ) → IsWord w (Node s) → s ≡ name) → IsNoted o name
+unfolding is_kind
+noted_word p None w name kind few is some_name spelt = absurd is
+noted_word p (Some (Payload x)) w name kind few is some_name spelt = absurd (omega (arith, kind, few))
+noted_word p (Some (Node s)) w name kind few is some_name spelt = (some_name, spelt s is)
+
+noted_absent : (o : Option (Child ℕ)) (name : ℕ) → IsBelow o None → name ≡ 0 → IsNoted o name
+noted_absent None name is zero_is = zero_is
+noted_absent (Some x) name is zero_is = absurd is
+
+pub named_word : (c : Content) (n : TableNode ℕ) (b w name : ℕ) → Encodes c n → length n.prefix < 7 → IsBelow (lookup n.children b) (Some w) → 1 ≤ name → ((s : ℕ) → IsWord w (Node s) → s ≡ name) → IsNoted (lookup n.children b) name
+named_word c n b w name e few is some_name spelt = noted_word n.prefix (lookup n.children b) w name (kind_found n.prefix n.children b e.of_kind) few is some_name spelt
+
+pub named_absent : (n : TableNode ℕ) (b name : ℕ) → IsBelow (lookup n.children b) None → name ≡ 0 → IsNoted (lookup n.children b) name
+named_absent n b name is zero_is = noted_absent (lookup n.children b) name is zero_is
 
 pub inner_pairs : (own own' : List Own) → ((o : Own) → IsIn o own → IsIn o own') → (a : Spot) (c : Content) (table : List ℕ) (m : Pairs ℕ) → HasNoted own a 256 table m → IsIn (locked a c) own' → ((n : TableNode ℕ) → IsContent c a n → (b : ℕ) → b < 256 → IsNoted (lookup n.children b) (slice_index table b)) → HasPairs own' a m
 inner_pairs own own' more a c table m n held are = record {
