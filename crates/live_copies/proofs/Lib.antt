@@ -1,3 +1,3 @@
-pub mod Whole
+pub mod Wholes
 pub mod Spans
 pub mod Told
