@@ -1,4 +1,4 @@
-pub mod Whole
+pub mod Wholes
 pub mod Spans
 pub mod Told
 pub mod Locking

@@ -13,6 +13,7 @@ use crate::whole::whole;
 use live_calls::map::{Congee, Guard, Refusal};
 use live_calls::way::{Nodes, Pass, root};
 use std::alloc::Global;
+use std::marker::Brand;
 
 // How often a copy is begun before it is given up.
 const TRIES: u32 = 64;
@@ -33,7 +34,7 @@ fn take_all<'a>(nodes: &'a Nodes, work: &mut Work<'a>, pass: &mut Pass) -> Resul
         return Err(Refusal::Busy);
     };
     take(nodes, name, 8, 0, work, pass)?;
-    if !whole(nodes, pass) {
+    if !whole::<Brand>(nodes, pass) {
         return Err(Refusal::Busy);
     }
     Ok(())

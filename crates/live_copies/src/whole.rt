@@ -5,14 +5,14 @@ ghost use Rattle.live_copies.specs.inner.Whole.{HasWhole};
 
 use crate::lesson::Whole;
 use live_calls::way::{Nodes, Pass};
-use live_law::law::{Levels, Mine};
+use live_law::law::{Asks, Levels, Mine};
 use live_nodes::node;
-use std::marker::Brand;
 
 /// Whether the whole history was seen at this moment, at which the map has what the locked nodes have. `false` where the trunk
 /// is locked, and then nothing is learnt.
-pub fn whole(nodes: &Nodes, pass: &mut Pass) -> bool
+pub fn whole<A: Asks>(nodes: &Nodes, pass: &mut Pass) -> bool
     requires book { pass.old.book ≡ nodes.now }
+    requires asks { A.ask.caller ≡ pass.old.id }
     requires trunk { KnowsTrunk pass.old.view }
     ensures told { (pass.new.book ≡ pass.old.book) × (pass.new.id ≡ pass.old.id)
         × Keeps pass.old.view pass.new.view }
@@ -27,5 +27,5 @@ pub fn whole(nodes: &Nodes, pass: &mut Pass) -> bool
     if taken % 4 != 0 {
         return false;
     }
-    node::check::<Mine, Levels, Whole<Brand>>(trunk, taken, pass)
+    node::check::<Mine, Levels, Whole<A>>(trunk, taken, pass)
 }
