@@ -2,3 +2,4 @@ pub mod Wholes
 pub mod Spans
 pub mod Told
 pub mod Locking
+pub mod Finding
