@@ -1,3 +1,4 @@
 pub mod Wholes
 pub mod Spans
 pub mod Told
+pub mod Locking

@@ -2,7 +2,7 @@
 ghost use Rattle.std.specs.Prelude.{◌≡◌, ℕ, ◌+◌, ◌-◌, ◌<◌, ◌≤◌, IfOk, IfSome, Some};
 ghost use Rattle.live_law.specs.Levels.{up, digit};
 ghost use Rattle.live_calls.specs.Ways.{Names, Sights, Keeps};
-ghost use Rattle.live_copies.specs.inner.Locks.{IsChild};
+ghost use Rattle.live_copies.specs.inner.Children.{IsChild};
 
 use live_calls::map::Refusal;
 use live_calls::sight::{Sight, enter, meet};

@@ -1,8 +1,9 @@
 //! The nodes that a copy has locked, one after the other.
-ghost use Rattle.std.specs.Prelude.{◌≡◌, ℕ, ◌+◌, ◌%◌, ◌<◌, ◌^◌, [], ◌∷◌, ◌++◌, drop, length, IfOk, OnErr, IfSome, IfNone};
+ghost use Rattle.std.specs.Prelude.{◌≡◌, ◌%◌, ◌<◌, ◌^◌, [], drop, List, IfOk, IfSome, IfNone};
 ghost use Rattle.live_law.specs.Views.{rest_of};
-ghost use Rattle.live_calls.specs.Ways.{Names, AreNamed, Keeps};
+ghost use Rattle.live_calls.specs.Ways.{Names, AreNamed};
 ghost use Rattle.live_calls.specs.Holds.{Alike, HasLocked};
+ghost use Rattle.live_copies.specs.declared.locks.Lock.{Lock};
 ghost use Rattle.live_copies.specs.inner.Locks.{IsTop, HasLocks, Grows, HasTaken};
 
 use live_calls::held::lock_node;
@@ -30,7 +31,8 @@ pub struct Work<'a> {
 
 /// Unlocks the node that was locked last.
 fn unlock_one(words: &[Cell], free: u64, pass: &mut Pass)
-    requires top { IsTop pass.old.view pass.old.book words.now free }
+    requires word { (free % 4 ≡ 0) × (free < 2 ^ 62) }
+    requires top { (before : List Lock) × IsTop pass.old.view pass.old.book words.now free before }
     ensures told { (pass.new.book ≡ pass.old.book) × (pass.new.id ≡ pass.old.id)
         × Alike pass.old.view pass.new.view
         × (pass.new.view.client.own ≡ rest_of pass.old.view.client.own)

@@ -1,18 +1,15 @@
 -- What a copy has locked.
-use Rattle.std.specs.Prelude.{◌≡◌, ℕ, ◌+◌, ◌-◌, ◌%◌, ◌<◌, ◌≤◌, ◌^◌, List, [], ◌∷◌, ◌++◌, length}
+use Rattle.std.specs.Prelude.{◌≡◌, ℕ, ◌+◌, ◌%◌, ◌<◌, ◌^◌, List, [], ◌∷◌, ◌++◌, length}
 use Rattle.node_base.specs.declared.base_node.NodeType.TheVariants.{N4}
 use Rattle.spec_map.specs.Map.{Pairs}
 use Rattle.word_book.specs.Book.{Book, Name}
 use Rattle.live_nodes.specs.Nodes.{Content}
 use Rattle.live_nodes.specs.Seats.{Place, Hold, hold, SeatView, IsIn, Each}
 use Rattle.live_rows.specs.Rows.{AreOf}
-use Rattle.live_encodes.specs.Encodes.{words_of, Encodes}
-use Rattle.node_table.specs.TableNode.{TableNode}
-use Rattle.live_law.specs.Levels.{up, digit, Spot, spot, name_of, Covers, place_at}
+use Rattle.live_encodes.specs.Encodes.{words_of}
+use Rattle.live_law.specs.Levels.{up, Spot, spot, name_of, Covers, place_at}
 use Rattle.live_law.specs.Views.{View, Own, locked}
 use Rattle.live_law.specs.Tree.{IsApart}
-use Rattle.live_calls.specs.Ways.{Names}
-use Rattle.live_copies.specs.declared.children.Child.{Child}
 use Rattle.live_copies.specs.declared.locks.Lock.{Lock}
 use Rattle.live_copies.specs.inner.Told.{HasPairs}
 
@@ -35,17 +32,17 @@ abbrev pub AreNoted : List Grip → List Lock → Type 0
 AreNoted [] ls = ls ≡ []
 AreNoted (g ∷ gs) ls = (before : List Lock) × (ls ≡ before ++ g.lock ∷ []) × AreNoted gs before
 
--- It lies there, and is none of the others.
-pub record IsGrip (places : List Place) (b : Book) (g : Grip) (others : List Own) : Type 0 where
-  pub placed : IsIn (place_at g.spot) places
-  pub are : AreOf (place_at g.spot) b g.lock.words.now
-  pub even : g.lock.free % 4 ≡ 0
-  pub small : g.lock.free < 2 ^ 62
-  pub apart : Each (IsApart g.spot.number) others
+-- These are its words, and it was free by that word. It is none of the others.
+pub record IsGrip (places : List Place) (b : Book) (words : List Name) (free : ℕ) (a : Spot) (others : List Own) : Type 0 where
+  pub placed : IsIn (place_at a) places
+  pub are : AreOf (place_at a) b words
+  pub even : free % 4 ≡ 0
+  pub small : free < 2 ^ 62
+  pub apart : Each (IsApart a.number) others
 
 abbrev pub AreGrips : List Place → Book → List Grip → Type 0
 AreGrips places b [] = Unit {0}
-AreGrips places b (g ∷ gs) = IsGrip places b g (own_of gs) × AreGrips places b gs
+AreGrips places b (g ∷ gs) = IsGrip places b g.lock.words.now g.lock.free g.spot (own_of gs) × AreGrips places b gs
 
 -- These nodes are locked, and no others. Nothing was written there.
 pub record HasLocks (v : SeatView View) (b : Book) (ls : List Lock) : Type 0 where
@@ -55,15 +52,16 @@ pub record HasLocks (v : SeatView View) (b : Book) (ls : List Lock) : Type 0 whe
   pub holds : v.holds ≡ holds_of grips
   pub are : AreGrips v.places b grips
 
--- The node with these words was locked last, which was free by that word.
-pub record IsTop (v : SeatView View) (b : Book) (words : List Name) (free : ℕ) : Type 0 where
-  pub top : Grip
-  pub others : List Grip
-  pub own : v.client.own ≡ own_of (top ∷ others)
-  pub holds : v.holds ≡ holds_of (top ∷ others)
-  pub is : IsGrip v.places b top (own_of others)
-  pub its_words : top.lock.words.now ≡ words
-  pub its_free : top.lock.free ≡ free
+-- The node with these words was locked last, after those.
+pub record IsTop (v : SeatView View) (b : Book) (words : List Name) (free : ℕ) (ls : List Lock) : Type 0 where
+  pub spot : Spot
+  pub content : Content
+  pub grips : List Grip
+  pub noted : AreNoted grips ls
+  pub own : v.client.own ≡ locked spot content ∷ own_of grips
+  pub holds : v.holds ≡ hold spot.number (free + 2) content ∷ holds_of grips
+  pub is : IsGrip v.places b words free spot (own_of grips)
+  pub are : AreGrips v.places b grips
 
 -- The seat knows as much.
 pub record Knows (v w : SeatView View) : Type 0 where
@@ -92,15 +90,6 @@ pub record HasTaken (w : SeatView View) (b : Book) (name key height : ℕ) (word
   pub placed : IsIn (place_at spot) w.places
   pub are : AreOf (place_at spot) b words
   pub long : length content ≡ words_of spot.shape.form
-
--- A child of a node of this height, whose keys begin like this one.
-pub record IsChild (w : SeatView View) (key height : ℕ) (c : Child) : Type 0 where
-  pub names : Names w c.name c.key c.height
-  pub low : 1 ≤ c.height
-  pub lower : c.height < height
-  pub named : 1 ≤ c.name
-  pub upper : up height c.key ≡ up height key
-  pub byte : digit height c.key ≡ c.byte
 
 -- where a node of this height is that has this key
 abbrev pub place_above : ℕ → ℕ → Spot
