@@ -1,5 +1,5 @@
 -- Nodes are locked one by one, and unlocked again.
-use Rattle.std.proofs.Common.{◌≡◌, ℕ, ◌+◌, ◌%◌, ◌<◌, ◌^◌, Bool, cond, List, [], ◌∷◌, ◌++◌, drop, refl, sym, ap, ◌∙◌, subst}
+use Rattle.std.proofs.Common.{◌≡◌, ℕ, ◌+◌, ◌%◌, ◌<◌, ◌^◌, Bool, cond, List, [], ◌∷◌, ◌++◌, drop, refl, sym, ap, ◌∙◌, subst, inr}
 use Rattle.word_book.specs.Book.{Book, Name}
 use Rattle.live_nodes.specs.Seats.{Place, Hold, hold, SeatView, IsIn, Each}
 use Rattle.live_rows.specs.Rows.{AreOf}
@@ -164,4 +164,62 @@ keeps_grows v w k seen = record {
   knows = record { places = k.places; met = k.met; room = k.room };
   own = λ o i. subst (λ (z : List Own). IsIn o z) (sym k.own) i;
   seen = seen;
+}
+
+-- ONE NODE was locked
+pub locked_since : (u v w : Seen) (name key height free : ℕ) → Alike u v → v.client ≡ u.client → v.holds ≡ u.holds → HasLocked v w name key height free → HasLocked u w name key height free
+locked_since u v w name key height free a client holds l = record {
+  names = record {
+    spot = l.names.spot;
+    met = subst (λ (z : View). IsIn l.names.spot z.met) client l.names.met;
+    placed = subst (λ (z : List Place). IsIn (place_at l.names.spot) z) a.places l.names.placed;
+    named = l.names.named;
+    high = l.names.high;
+    covers = l.names.covers;
+  };
+  content = l.content;
+  own = l.own ∙ ap (λ (z : View). locked l.names.spot l.content ∷ z.own) client;
+  holds = l.holds ∙ ap (λ (z : List Hold). hold l.names.spot.number (free + 2) l.content ∷ z) holds;
+  alike = record { places = l.alike.places ∙ a.places; met = l.alike.met ∙ a.met; room = l.alike.room ∙ a.room };
+  seen = l.seen ∙ ap (λ (z : View). z.seen) client;
+  its = l.its;
+  encodes = l.encodes;
+  in_form = l.in_form;
+  deep = l.deep;
+  long = l.long;
+  even = l.even;
+  small = l.small;
+  apart = subst (λ (z : View). Each (IsApart l.names.spot.number) z.own) client l.apart;
+}
+
+pub locked_grows : (v w : Seen) (name key height free : ℕ) → HasLocked v w name key height free → Grows v w
+locked_grows v w name key height free l = record {
+  knows = alike_knows v w l.alike;
+  own = λ o i. subst (λ (z : List Own). IsIn o z) (sym l.own) (inr i);
+  seen = l.seen;
+}
+
+pub locked_taken : (v w : Seen) (b : Book) (name key height free : ℕ) (words : List Name) → HasLocked v w name key height free → AreNamed b name words → HasTaken w b name key height words
+locked_taken v w b name key height free words l are = record {
+  spot = l.names.spot;
+  named = l.names.named;
+  high = l.names.high;
+  covers = l.names.covers;
+  content = l.content;
+  free = free;
+  others = v.client.own;
+  holds_before = v.holds;
+  own = l.own;
+  holds = l.holds;
+  placed = subst (λ (z : List Place). IsIn (place_at l.names.spot) z) (sym l.alike.places) l.names.placed;
+  are = are l.names.spot l.names.named;
+  long = l.long;
+}
+
+-- A NODE WAS UNLOCKED, which was locked then: it is as before
+pub unlocked_grows : (u v w : Seen) (name key height free : ℕ) → HasLocked u v name key height free → Alike v w → w.client.own ≡ rest_of v.client.own → w.client.seen ≡ v.client.seen → Grows u w
+unlocked_grows u v w name key height free l a own seen = record {
+  knows = knows_then u v w (alike_knows u v l.alike) (alike_knows v w a);
+  own = λ o i. subst (λ (z : List Own). IsIn o z) (sym (own ∙ ap rest_of l.own)) i;
+  seen = seen ∙ l.seen;
 }

@@ -1,12 +1,11 @@
 //! The children of a node, as a reader finds them.
-ghost use Rattle.std.specs.Prelude.{◌≡◌, ℕ, ◌+◌, ◌-◌, ◌<◌, ◌≤◌, IfOk, IfSome, Some};
+ghost use Rattle.std.specs.Prelude.{◌≡◌, ◌<◌, ◌≤◌, IfSome};
 ghost use Rattle.live_law.specs.Levels.{up, digit};
 ghost use Rattle.live_calls.specs.Ways.{Names, Sights, Keeps};
-ghost use Rattle.live_copies.specs.inner.Children.{IsChild};
+ghost use Rattle.live_copies.specs.inner.Children.{IsChild, IsFound};
 
-use live_calls::map::Refusal;
 use live_calls::sight::{Sight, enter, meet};
-use live_calls::way::{Nodes, Opened, Pass, byte_at, look, open};
+use live_calls::way::{Nodes, Pass, byte_at, look, open};
 use live_encodes::form::{form_below, slot_below};
 use live_order::nearest::nearest;
 use live_rows::rows::Row;
@@ -35,20 +34,24 @@ fn with_byte(key: u64, height: usize, byte: u8) -> u64 {
     above | (byte as u64) << shift
 }
 
-// The next byte from this one on, under which a node seems to have a child. A writer may come in between.
-fn next_byte(nodes: &Nodes, name: u64, from: u8, pass: &mut Pass) -> Option<Option<u8>>
+// The next child from a byte on, as it seems: its byte and its word. A writer may come in between.
+fn next_byte(
+    nodes: &Nodes,
+    name: u64,
+    from: u8,
+    pass: &mut Pass,
+) -> Option<Option<(u8, u64)>>
     requires book { pass.old.book ≡ nodes.now }
     requires sighted { Sights pass.old.view name }
     ensures told { (pass.new.book ≡ pass.old.book) × (pass.new.id ≡ pass.old.id)
         × Keeps pass.old.view pass.new.view
         × (pass.new.view.client.seen ≡ pass.old.view.client.seen) }
 {
-    let Opened { words, taken: _ } = open(nodes, name, pass)?;
-    let row = Row { words };
-    match nearest(&row, form_below(name), true, from, pass) {
-        Some((byte, _)) => Some(Some(byte)),
-        None => Some(None),
-    }
+    let here = open(nodes, name, pass)?;
+    let form = form_below(name);
+    let row = Row { words: here.words };
+    let found = nearest(&row, form, true, from, pass);
+    Some(found)
 }
 
 // A node with a key that it has, near to this one. `None` where a writer came in between.
@@ -79,7 +82,41 @@ fn meet_some(nodes: &Nodes, name: u64, key: u64, byte: u8, pass: &mut Pass) -> O
     None
 }
 
-// A node that has that byte of a key, and that key.
+// The name of the child under a key's byte. `None` where there is none, or a writer came in between.
+fn name_under(nodes: &Nodes, name: u64, height: usize, key: u64, pass: &mut Pass) -> Option<u64>
+    requires book { pass.old.book ≡ nodes.now }
+    requires sighted { Sights pass.old.view name }
+    requires height { (2 ≤ height) × (height ≤ 8) }
+    ensures told { (pass.new.book ≡ pass.old.book) × (pass.new.id ≡ pass.old.id)
+        × Keeps pass.old.view pass.new.view
+        × (pass.new.view.client.seen ≡ pass.old.view.client.seen)
+        × IfSome result (λ below. Sights pass.new.view below) }
+{
+    let here = enter(nodes, name, height, key, pass)?;
+    match look::<Brand>(here, name, height, key, pass) {
+        Some(Some(word)) => Some(slot_below(word)),
+        Some(None) => None,
+        None => None,
+    }
+}
+
+// The child, if it is lower than this height, and its key has that byte, and begins like this one above.
+fn fitting(child: Child, height: usize, key: u64, byte: u8) -> Option<Child>
+    requires height { (2 ≤ height) × (height ≤ 8) }
+    ensures same { IfSome result (λ c. c ≡ child) }
+    ensures fits { IfSome result (λ c. (c.height < height) × (1 ≤ c.name)
+        × (up height c.key ≡ up height key) × (digit height c.key ≡ byte) × (c.byte ≡ byte)) }
+{
+    if child.height >= height || child.name == 0 || child.byte != byte {
+        return None;
+    }
+    if byte_at(child.key, height) != byte || upper(child.key, height) != upper(key, height) {
+        return None;
+    }
+    Some(child)
+}
+
+// A child under a byte, with a key that it has.
 fn child_under(
     nodes: &Nodes,
     name: u64,
@@ -89,7 +126,7 @@ fn child_under(
     pass: &mut Pass,
 ) -> Option<Child>
     requires book { pass.old.book ≡ nodes.now }
-    requires named { Names pass.old.view name key height }
+    requires sighted { Sights pass.old.view name }
     requires height { (2 ≤ height) × (height ≤ 8) }
     ensures told { (pass.new.book ≡ pass.old.book) × (pass.new.id ≡ pass.old.id)
         × Keeps pass.old.view pass.new.view
@@ -97,16 +134,9 @@ fn child_under(
         × IfSome result (λ c. IsChild pass.new.view key height c × (c.byte ≡ byte)) }
 {
     let first = with_byte(key, height, byte);
-    let here = enter(nodes, name, height, first, pass)?;
-    let word = look::<Brand>(here, name, height, first, pass)??;
-    let child = meet_some(nodes, slot_below(word), first, byte, pass)?;
-    if child.height >= height || child.name == 0 {
-        return None;
-    }
-    if byte_at(child.key, height) != byte || upper(child.key, height) != upper(key, height) {
-        return None;
-    }
-    Some(child)
+    let below = name_under(nodes, name, height, first, pass)?;
+    let child = meet_some(nodes, below, first, byte, pass)?;
+    fitting(child, height, key, byte)
 }
 
 // The next child from a byte on, if there is one.
@@ -119,25 +149,25 @@ fn try_next(
     pass: &mut Pass,
 ) -> Option<Option<Child>>
     requires book { pass.old.book ≡ nodes.now }
-    requires named { Names pass.old.view name key height }
+    requires sighted { Sights pass.old.view name }
     requires height { (2 ≤ height) × (height ≤ 8) }
     ensures told { (pass.new.book ≡ pass.old.book) × (pass.new.id ≡ pass.old.id)
         × Keeps pass.old.view pass.new.view
         × (pass.new.view.client.seen ≡ pass.old.view.client.seen)
-        × IfSome result (λ found. IfSome found (λ c.
-        IsChild pass.new.view key height c × (from ≤ c.byte))) }
+        × IsFound pass.new.view key height from result }
 {
-    let Some(byte) = next_byte(nodes, name, from, pass)? else {
-        return Some(None);
-    };
-    if byte < from {
-        return None;
+    match next_byte(nodes, name, from, pass)? {
+        None => Some(None),
+        Some((byte, _)) if byte < from => None,
+        Some((byte, _)) => match child_under(nodes, name, height, key, byte, pass) {
+            Some(child) => Some(Some(child)),
+            None => None,
+        },
     }
-    let child = child_under(nodes, name, height, key, byte, pass)?;
-    Some(Some(child))
 }
 
-/// The next child of a node from a byte on, as it seems. It has keys that begin like this one above the node's height.
+/// The next child of a node from a byte on, as it seems. It has keys that begin like this one above the node's height. `None`
+/// where writers came in between.
 pub fn next_child(
     nodes: &Nodes,
     name: u64,
@@ -145,20 +175,19 @@ pub fn next_child(
     key: u64,
     from: u8,
     pass: &mut Pass,
-) -> Result<Option<Child>, Refusal>
+) -> Option<Option<Child>>
     requires book { pass.old.book ≡ nodes.now }
-    requires named { Names pass.old.view name key height }
+    requires sighted { Sights pass.old.view name }
     requires height { (2 ≤ height) × (height ≤ 8) }
     ensures told { (pass.new.book ≡ pass.old.book) × (pass.new.id ≡ pass.old.id)
         × Keeps pass.old.view pass.new.view
         × (pass.new.view.client.seen ≡ pass.old.view.client.seen)
-        × IfOk result (λ found. IfSome found (λ c.
-        IsChild pass.new.view key height c × (from ≤ c.byte))) }
+        × IsFound pass.new.view key height from result }
 {
     for _ in 0..TRIES {
         if let Some(found) = try_next(nodes, name, height, key, from, pass) {
-            return Ok(found);
+            return Some(found);
         }
     }
-    Err(Refusal::Busy)
+    None
 }

@@ -5,7 +5,7 @@ ghost use Rattle.live_calls.specs.Ways.{Names};
 ghost use Rattle.live_copies.specs.inner.Noted.{HasNoted};
 ghost use Rattle.live_copies.specs.inner.Locks.{HasLocks, Grows, place_above, HasTold, Takes};
 
-use crate::children::{Child, next_child};
+use crate::children::next_child;
 use crate::locks::{Work, lock_noted};
 use crate::names::has_children;
 use live_calls::map::Refusal;
@@ -111,7 +111,10 @@ pub fn take<'a>(
     let mut names = [0u64; 256];
     let mut from = 0usize;
     while from < 256 {
-        let Some(child) = next_child(nodes, name, height, key, from as u8, pass)? else {
+        let Some(found) = next_child(nodes, name, height, key, from as u8, pass) else {
+            return Err(Refusal::Busy);
+        };
+        let Some(child) = found else {
             break;
         };
         take(nodes, child.name, child.height, child.key, work, pass)?;

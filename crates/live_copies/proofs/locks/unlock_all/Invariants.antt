@@ -3,8 +3,8 @@ use Rattle.live_calls.specs.Holds.{Alike}
 use Rattle.live_copies.specs.inner.Locks.{HasLocks}
 use Rattle.live_copies.proofs.locks.unlock_all.Given as goal
 
-abbrev pub invariant-loop : goal.invariant-loop
-invariant-loop l = record {
+abbrev pub invariant-loop-words : goal.invariant-loop-words
+invariant-loop-words l = record {
   book : l.pass.book ≡ l.fn.pass.book;
   id : l.pass.id ≡ l.fn.pass.id;
   alike : Alike l.fn.pass.view l.pass.view;
@@ -12,5 +12,5 @@ invariant-loop l = record {
   locks : HasLocks l.pass.view l.pass.book l.locks.items;
 }
 
-abbrev pub decreases-loop : goal.decreases-loop
-decreases-loop l = vec_len l.locks
+abbrev pub decreases-loop-words : goal.decreases-loop-words
+decreases-loop-words l = vec_len l.locks
