@@ -3,3 +3,4 @@ pub mod Spans
 pub mod Told
 pub mod Locking
 pub mod Finding
+pub mod Walking
