@@ -1,4 +1,5 @@
 pub mod Wholes
 pub mod Spans
 pub mod Told
+pub mod Leaves
 pub mod Locking
