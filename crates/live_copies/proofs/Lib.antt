@@ -3,3 +3,4 @@ pub mod Spans
 pub mod Told
 pub mod Leaves
 pub mod Locking
+pub mod Finding
