@@ -1,6 +1,7 @@
 pub mod Wholes
 pub mod Spans
 pub mod Told
+pub mod Leaves
 pub mod Locking
 pub mod Finding
 pub mod Walking

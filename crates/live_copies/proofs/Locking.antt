@@ -1,5 +1,5 @@
 -- Nodes are locked one by one, and unlocked again.
-use Rattle.std.proofs.Common.{◌≡◌, ℕ, ◌+◌, ◌%◌, ◌<◌, ◌^◌, Bool, cond, List, [], ◌∷◌, ◌++◌, drop, refl, sym, ap, ◌∙◌, subst, inr}
+use Rattle.std.proofs.Common.{◌≡◌, ℕ, ◌+◌, ◌%◌, ◌<◌, ◌^◌, Bool, cond, List, [], ◌∷◌, ◌++◌, drop, length, refl, sym, ap, ◌∙◌, subst, inr}
 use Rattle.word_book.specs.Book.{Book, Name}
 use Rattle.live_nodes.specs.Seats.{Place, Hold, hold, SeatView, IsIn, Each}
 use Rattle.live_rows.specs.Rows.{AreOf}
@@ -214,6 +214,8 @@ locked_taken v w b name key height free words l are = record {
   placed = subst (λ (z : List Place). IsIn (place_at l.names.spot) z) (sym l.alike.places) l.names.placed;
   are = are l.names.spot l.names.named;
   long = l.long;
+  its = l.its;
+  is = record { encodes = l.encodes; in_form = l.in_form; deep = ap (λ (z : ℕ). length l.its.prefix + z) l.names.high ∙ l.deep };
 }
 
 -- A NODE WAS UNLOCKED, which was locked then: it is as before

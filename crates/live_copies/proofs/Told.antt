@@ -180,11 +180,11 @@ module _ (own own' : List Own) (more : (o : Own) → IsIn o own → IsIn o own')
   earlier : (m' : Pairs ℕ) → ((k : ℕ) → k < start_of n.level a.shape.top b → lookup m' k ≡ lookup m k) → (i : ℕ) → i < b → TellsNoted (Tells own' n.level) a m' i (slice_index table i)
   earlier m' same i l =
       let bound : (k : ℕ) → Covers a.shape k → digit a.shape.height k ≡ i → k < start_of n.level a.shape.top b = λ k c d.
-          let r = spans k i c d in
-          let s = start_rises n.level a.shape.top (i + 1) b (omega (arith, l)) in
-          omega (arith, r, s) in
+      let r = spans k i c d in
+      let s = start_rises n.level a.shape.top (i + 1) b (omega (arith, l)) in
+      omega (arith, r, s) in
       noted_goes (Tells own n.level) (Tells own' n.level) a m m' i (omega (arith, l, low)) (λ k c d. same k (bound k c d))
-          (λ e lower inside t. tells_goes own own' more n.level n.level (omega arith) e m m' (λ k c. let x = inside k c in same k (bound k x.0 x.1)) t) (slice_index table i) (n.noted i l)
+      (λ e lower inside t. tells_goes own own' more n.level n.level (omega arith) e m m' (λ k c. let x = inside k c in same k (bound k x.0 x.1)) t) (slice_index table i) (n.noted i l)
 
   -- it has more to itself, and there is no child under the next bytes,
   pub noted_on : (b' : ℕ) → b ≤ b' → b' ≤ 256 → HasNoted own' a b' table m
@@ -196,14 +196,13 @@ module _ (own own' : List Own) (more : (o : Own) → IsIn o own → IsIn o own')
     noted = λ i l.
         elim (cases_lt i b) [
           | inl less ↦ earlier m (λ k x. refl) i less
-          | inr over ↦
-              (
-                λ z k c d.
-                    let r = spans k i c d in
-                    let s = start_rises n.level a.shape.top b i over in
-                    lookup-above (first_of a.shape) (start_of n.level a.shape.top b) m k n.rises (omega (arith, r, s)),
-                λ some_name. absurd (let zero_is = n.later i over (omega (arith, l, to)) in omega (arith, some_name, zero_is)),
-              )
+          | inr over ↦ (
+            λ z k c d.
+                let r = spans k i c d in
+                let s = start_rises n.level a.shape.top b i over in
+                lookup-above (first_of a.shape) (start_of n.level a.shape.top b) m k n.rises (omega (arith, r, s)),
+            λ some_name. absurd (let zero_is = n.later i over (omega (arith, l, to)) in omega (arith, some_name, zero_is)),
+          )
         ];
     later = λ i l h. n.later i (omega (arith, l, from)) h;
   }
@@ -250,11 +249,11 @@ module _ (own own' : List Own) (more : (o : Own) → IsIn o own → IsIn o own')
               elim (cases_lt i b) [
                 | inl less ↦
                     subst (TellsNoted (Tells own' n.level) a (m ++ s) i) (sym (get_or-set_other table b i name 0 (λ same. omega (arith, same, less))))
-                        (earlier (m ++ s) (λ k x. lookup-append_left (start_of n.level a.shape.top b) (start_of n.level a.shape.top (b + 1)) m s k rise_then x) i less)
+                    (earlier (m ++ s) (λ k x. lookup-append_left (start_of n.level a.shape.top b) (start_of n.level a.shape.top (b + 1)) m s k rise_then x) i less)
                 | inr from ↦
                     let at : b ≡ i = omega (arith, from, l) in
                     subst (λ (z : ℕ). TellsNoted (Tells own' n.level) a (m ++ s) z (slice_index table' z)) at
-                        (λ z. absurd (omega (arith, z, is, some_name)), λ x. subst (TellsBelow (Tells own' n.level) a (m ++ s) b) (sym is) this_one)
+                    (λ z. absurd (omega (arith, z, is, some_name)), λ x. subst (TellsBelow (Tells own' n.level) a (m ++ s) b) (sym is) this_one)
               ];
           later = λ i l h. get_or-set_other table b i name 0 (λ same. omega (arith, same, l)) ∙ n.later i (omega (arith, l)) h;
         }
@@ -289,7 +288,7 @@ inner_pairs own own' more a c table m n held are = record {
     held = held;
     under = λ x is b low.
         under_goes (Tells own n.level) (Tells own' n.level) a m m b low (λ k _ _. refl) (λ e lower inside t. tells_more own own' more n.level e m t) (lookup x.children b)
-            (noted_under (Tells own n.level) a m b (slice_index table b) (n.noted b low) (lookup x.children b) (are x is b low));
+        (noted_under (Tells own n.level) a m b (slice_index table b) (n.noted b low) (lookup x.children b) (are x is b low));
   };
 }
 

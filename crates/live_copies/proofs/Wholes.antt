@@ -53,19 +53,19 @@ module _ (ns : List Node) (vs : List View) (p : IsMap ns vs) where
   no_more : (k : ℕ) → 2 ^ 64 ≤ k → lookup p.pairs k ≡ None
   no_more k large =
       p.tree.absent k
-          (zero_of (p.plan.home 1 (k / 256)) (λ there.
-            let j : ℕ = p.plan.home 1 (k / 256) in
-            let s : Shape = p.plan.shape j in
-            let h = p.tree.housed 1 (k / 256) there in
-            let low = h.below.0 in
-            let tall = h.some_height in
-            let one : s.height ≡ 1 = omega (arith, low, tall) in
-            let x = (p.tree.current j there (at_home p.plan ns p.contents p.pairs p.tree 1 (k / 256) there)).prefixed in
-            let top : s.top ≡ k / 256 = sym (ap (λ (z : ℕ). up (1 - z) s.top) one) ∙ h.below.1 in
-            let same : x.key / 256 ≡ k / 256 = ap (λ (z : ℕ). up z x.key) (sym one) ∙ (x.covers ∙ top) in
-            let all : 2 ^ 64 ≡ 256 * 2 ^ 56 = refl in
-            let fits = x.fits in
-            omega (arith, same, fits, large, all)))
+      (zero_of (p.plan.home 1 (k / 256)) (λ there.
+      let j : ℕ = p.plan.home 1 (k / 256) in
+      let s : Shape = p.plan.shape j in
+      let h = p.tree.housed 1 (k / 256) there in
+      let low = h.below.0 in
+      let tall = h.some_height in
+      let one : s.height ≡ 1 = omega (arith, low, tall) in
+      let x = (p.tree.current j there (at_home p.plan ns p.contents p.pairs p.tree 1 (k / 256) there)).prefixed in
+      let top : s.top ≡ k / 256 = sym (ap (λ (z : ℕ). up (1 - z) s.top) one) ∙ h.below.1 in
+      let same : x.key / 256 ≡ k / 256 = ap (λ (z : ℕ). up z x.key) (sym one) ∙ (x.covers ∙ top) in
+      let all : 2 ^ 64 ≡ 256 * 2 ^ 56 = refl in
+      let fits = x.fits in
+      omega (arith, same, fits, large, all)))
 
   all_rise : Rises 0 (2 ^ 64) p.pairs
   all_rise = let r = history_ascends p.history p.pairs p.legal in rises_within 0 r.0 (2 ^ 64) p.pairs r.1 no_more
@@ -103,8 +103,8 @@ module _ (ns : List Node) (vs : List View) (p : IsMap ns vs) where
         let number_is : e.number ≡ j = same_name p.plan ns p.nodes e there.0 j leads.0 house.low (sym told.named ∙ leads.1) in
         let shape_is : p.plan.shape j ≡ e.shape = ap p.plan.shape (sym number_is) ∙ there.1 in
         dite (ℕ_discrete (up e.shape.height k) e.shape.top)
-            (λ yes. rec e told.tells yes)
-            (λ no. missed p.plan ns p.contents p.pairs p.tree h k j (omega (arith, l)) leads.0 refl (λ c. no (subst (λ (z : Shape). Covers z k) shape_is c)) ∙ sym (told.beside k covers (ap (λ (z : ℕ). digit z k) high) no))
+        (λ yes. rec e told.tells yes)
+        (λ no. missed p.plan ns p.contents p.pairs p.tree h k j (omega (arith, l)) leads.0 refl (λ c. no (subst (λ (z : Shape). Covers z k) shape_is c)) ∙ sym (told.beside k covers (ap (λ (z : ℕ). digit z k) high) no))
 
     told_same : (n : ℕ) (a : Spot) (m : Pairs ℕ) → Tells v.own n a m → (k : ℕ) → Covers a.shape k → lookup p.pairs k ≡ lookup m k
     told_same zero a m t k covers = absurd t

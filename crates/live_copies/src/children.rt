@@ -30,17 +30,16 @@ fn with_byte(key: u64, height: usize, byte: u8) -> u64 {
         return key;
     }
     let shift = 8 * (height - 1) as u32;
-    let above = if height == 8 { 0 } else { key >> (shift + 8) << (shift + 8) };
+    let above = if height == 8 {
+        0
+    } else {
+        key >> (shift + 8) << (shift + 8)
+    };
     above | (byte as u64) << shift
 }
 
 // The next child from a byte on, as it seems: its byte and its word. A writer may come in between.
-fn next_byte(
-    nodes: &Nodes,
-    name: u64,
-    from: u8,
-    pass: &mut Pass,
-) -> Option<Option<(u8, u64)>>
+fn next_byte(nodes: &Nodes, name: u64, from: u8, pass: &mut Pass) -> Option<Option<(u8, u64)>>
     requires book { pass.old.book ≡ nodes.now }
     requires sighted { Sights pass.old.view name }
     ensures told { (pass.new.book ≡ pass.old.book) × (pass.new.id ≡ pass.old.id)

@@ -9,6 +9,7 @@
 
 pub mod children;
 pub mod copy;
+pub mod leaf;
 pub mod lesson;
 pub mod locks;
 pub mod names;

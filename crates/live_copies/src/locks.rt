@@ -43,7 +43,13 @@ fn unlock_one(words: &[Cell], free: u64, pass: &mut Pass)
 }
 
 // The word by which a node was free that is locked then. `None` where writers are busy there, or it is another node by now.
-fn lock_patiently(words: &[Cell], name: u64, height: usize, key: u64, pass: &mut Pass) -> Option<u64>
+fn lock_patiently(
+    words: &[Cell],
+    name: u64,
+    height: usize,
+    key: u64,
+    pass: &mut Pass,
+) -> Option<u64>
     requires words { AreNamed pass.old.book name words.now }
     requires named { Names pass.old.view name key height }
     ensures told { (pass.new.book ≡ pass.old.book) × (pass.new.id ≡ pass.old.id)

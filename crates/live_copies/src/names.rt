@@ -10,13 +10,7 @@ use live_encodes::search::find;
 use node_base::base_node::NodeType;
 
 // Whether the child under a byte has this name. 0 is for none.
-fn has_child<S, D: Draft<S>>(
-    draft: &D,
-    form: NodeType,
-    byte: u8,
-    name: u64,
-    seat: &mut S,
-) -> bool
+fn has_child<S, D: Draft<S>>(draft: &D, form: NodeType, byte: u8, name: u64, seat: &mut S) -> bool
     requires may { D.may_write draft.now seat.old }
     requires long { length (D.words draft.now seat.old) ≡ words_of form }
     ensures seat { Looks D.may_write D.words draft.now seat.old seat.new }

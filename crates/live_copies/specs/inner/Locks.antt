@@ -1,6 +1,7 @@
 -- What a copy has locked.
 use Rattle.std.specs.Prelude.{◌≡◌, ℕ, ◌+◌, ◌%◌, ◌<◌, ◌^◌, List, [], ◌∷◌, ◌++◌, length}
 use Rattle.node_base.specs.declared.base_node.NodeType.TheVariants.{N4}
+use Rattle.node_table.specs.TableNode.{TableNode}
 use Rattle.spec_map.specs.Map.{Pairs}
 use Rattle.word_book.specs.Book.{Book, Name}
 use Rattle.live_nodes.specs.Nodes.{Content}
@@ -11,7 +12,7 @@ use Rattle.live_law.specs.Levels.{up, Spot, spot, name_of, Covers, place_at}
 use Rattle.live_law.specs.Views.{View, Own, locked}
 use Rattle.live_law.specs.Tree.{IsApart}
 use Rattle.live_copies.specs.declared.locks.Lock.{Lock}
-use Rattle.live_copies.specs.inner.Told.{HasPairs}
+use Rattle.live_copies.specs.inner.Told.{IsContent, HasPairs}
 
 -- a node that is locked: its words, the word by which it was free, and what it has
 pub record Grip : Type 0 where
@@ -90,6 +91,8 @@ pub record HasTaken (w : SeatView View) (b : Book) (name key height : ℕ) (word
   pub placed : IsIn (place_at spot) w.places
   pub are : AreOf (place_at spot) b words
   pub long : length content ≡ words_of spot.shape.form
+  pub its : TableNode ℕ
+  pub is : IsContent content spot its
 
 -- where a node of this height is that has this key
 abbrev pub place_above : ℕ → ℕ → Spot

@@ -47,8 +47,8 @@ returns-clause-told g c =
       s.0 ∙ r.0,
       s.1 ∙ r.1,
       dite (ℕ_discrete t.0 n)
-      (λ hit. (whole_hit v c.requires.trunk k at_one v₁ n c.take-taken.ensures.told by w t.0 t.2 hit).0)
-      (λ ne. (whole_missed v c.requires.trunk k at_one v₁ n c.take-taken.ensures.told by w t.0 t.2 ne).0),
+          (λ hit. (whole_hit v c.requires.trunk k at_one v₁ n c.take-taken.ensures.told by w t.0 t.2 hit).0)
+          (λ ne. (whole_missed v c.requires.trunk k at_one v₁ n c.take-taken.ensures.told by w t.0 t.2 ne).0),
     )
 
 pub returns-clause-whole : goal.returns-clause-whole
