@@ -1,5 +1,5 @@
 -- Nodes are locked, those below before those above.
-use Rattle.std.proofs.Common.{◌≡◌, ℕ, ◌+◌, ◌<◌, ◌≤◌, List, [], ◌∷◌, ◌++◌, length, slice_index, slice_set, Some, refl, sym, ap, ◌∙◌, subst, inl, inr, arith, append_assoc}
+use Rattle.std.proofs.Common.{◌≡◌, ℕ, zero, suc, ◌+◌, ◌<◌, ◌≤◌, List, [], ◌∷◌, ◌++◌, length, slice_index, slice_set, Some, refl, sym, ap, ◌∙◌, subst, inl, inr, arith, append_assoc}
 use Rattle.node_table.specs.TableNode.{TableNode}
 use Rattle.node_base.specs.declared.base_node.NodeType.{NodeType}
 use Rattle.spec_map.specs.Map.{Pairs}
@@ -9,7 +9,7 @@ use Rattle.live_nodes.specs.Seats.{Hold, hold, SeatView, IsIn}
 use Rattle.live_nodes.specs.Plays.{hold_of}
 use Rattle.live_rows.specs.Rows.{nth, draft_of, MayHold}
 use Rattle.live_encodes.specs.Encodes.{Encodes}
-use Rattle.live_law.specs.Levels.{up, name_of, place_at}
+use Rattle.live_law.specs.Levels.{up, digit, name_of, place_at}
 use Rattle.live_law.specs.Views.{View, Own, locked}
 use Rattle.live_calls.specs.Ways.{Names, Keeps}
 use Rattle.live_calls.proofs.Locks.{hold_head}
@@ -19,27 +19,19 @@ use Rattle.live_copies.specs.inner.Noted.{HasNoted, HasNamed}
 use Rattle.live_copies.specs.inner.Children.{IsChild}
 use Rattle.live_copies.specs.inner.Locks.{HasLocks, Grows, HasTaken, place_above, HasTold}
 use Rattle.live_copies.proofs.Told.{noted_first, noted_as, noted_on, noted_child, inner_pairs}
+use Rattle.live_copies.proofs.Leaves.{taken_own}
 use Rattle.live_copies.proofs.Locking.{locks_kept}
 
 abbrev Seen : Type 0
 Seen = SeatView View
 
--- THE NODE that was locked last may be read.
+-- THE NODE that was locked last
 module _ (w : Seen) (b : Book) (name key height : ℕ) (words : List Name) (t : HasTaken w b name key height words) where
-  its_hold : hold_of t.spot.number w.holds ≡ Some (hold t.spot.number (t.free + 2) t.content)
-  its_hold = ap (hold_of t.spot.number) t.holds ∙ hold_head t.spot.number (t.free + 2) t.content t.holds_before
-
-  pub taken_holds : MayHold 0 words b w
-  taken_holds = (place_at t.spot, hold t.spot.number (t.free + 2) t.content, t.placed, t.are, ap (nth 0) t.holds, its_hold, t.long)
-
-  pub taken_draft : draft_of (nth 0 w.holds) ≡ t.content
-  taken_draft = ap (λ (hs : List Hold). draft_of (nth 0 hs)) t.holds
-
-  -- It has the children that were noted.
+  -- has the children that were noted.
   pub taken_told : 2 ≤ height → (own : List Own) → ((o : Own) → IsIn o own → IsIn o w.client.own) → (table : List ℕ) (m : Pairs ℕ) (c : Content) (form : NodeType) → c ≡ t.content → form ≡ t.spot.shape.form → ((i : ℕ) → i < 256 → HasNamed c form i (slice_index table i)) → HasNoted own (place_above key height) 256 table m → HasTold w name key height m
   taken_told tall own more table m c form c_is form_is named n =
       let top : up height key ≡ t.spot.shape.top = ap (λ (z : ℕ). up z key) (sym t.high) ∙ t.covers in
-      let held : IsIn (locked t.spot t.content) w.client.own = subst (λ (os : List Own). IsIn (locked t.spot t.content) os) (sym t.own) (inl refl) in record {
+      let held : IsIn (locked t.spot t.content) w.client.own = taken_own w b name key height words t in record {
         its = t.spot;
         named = t.named;
         high = t.high;
@@ -62,7 +54,7 @@ noted_then own v w more key height from table m s c child low few n t =
     let lower = child.lower in
     let high = t.high in
     subst (λ (z : ℕ). HasNoted w.client.own a (c.byte + 1) (slice_set table c.byte z) (m ++ s)) (sym t.named)
-        (noted_child own w.client.own more a c.byte (omega (arith, few)) table m on few t.its s t.has c.key (omega (arith, lower, high)) child.upper child.byte t.covers (subst (λ (z : ℕ). 1 ≤ z) t.named child.named))
+    (noted_child own w.client.own more a c.byte (omega (arith, few)) table m on few t.its s t.has c.key (omega (arith, lower, high)) child.upper child.byte t.covers (subst (λ (z : ℕ). 1 ≤ z) t.named child.named))
 
 -- WHAT WAS COPIED so far
 pub copied_then : (old old' new m s : Pairs ℕ) → old' ≡ old ++ m → new ≡ old' ++ s → new ≡ old ++ (m ++ s)
@@ -81,3 +73,7 @@ names_grown v w name key height g n = record {
 
 pub locks_keep : (v w : Seen) (b b' : Book) (ls : List Lock) → Keeps v w → b' ≡ b → HasLocks v b ls → HasLocks w b' ls
 locks_keep v w b b' ls k same h = locks_kept v w b b' ls k.places k.own k.holds same h
+
+pub digit_low : (h k : ℕ) → digit h k < 256
+digit_low zero k = omega arith
+digit_low (suc h) k = omega arith

@@ -11,8 +11,7 @@ use crate::locks::{Work, lock_noted};
 use crate::names::has_children;
 use live_calls::map::Refusal;
 use live_calls::way::{Nodes, Pass};
-use live_cells::words::Drafted;
-use live_encodes::form::{form_below, words_in};
+use live_encodes::form::form_below;
 use live_law::law::{Levels, Mine};
 use live_rows::rows::Held;
 
@@ -74,12 +73,14 @@ pub fn take<'a>(
         let Some(found) = next_child(nodes, name, height, key, from as u8, pass) else {
             return Err(Refusal::Busy);
         };
-        let Some(child) = found else {
-            break;
-        };
-        take(nodes, child.name, child.height, child.key, work, pass)?;
-        names[child.byte as usize] = child.name;
-        from = child.byte as usize + 1;
+        match found {
+            None => from = 256,
+            Some(child) => {
+                take(nodes, child.name, child.height, child.key, work, pass)?;
+                names[child.byte as usize] = child.name;
+                from = child.byte as usize + 1;
+            }
+        }
     }
     close(nodes, name, height, key, &names, work, pass)
 }

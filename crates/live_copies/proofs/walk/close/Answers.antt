@@ -2,7 +2,8 @@ use Rattle.std.proofs.Common.{rules, sym, ap, subst, length, ℕ, List, ◌∙�
 use Rattle.live_rows.specs.Rows.{nth, draft_of}
 use Rattle.live_encodes.specs.Encodes.{words_of}
 use Rattle.live_copies.specs.inner.Locks.{HasTold}
-use Rattle.live_copies.proofs.Walking.{taken_holds, taken_draft, taken_told}
+use Rattle.live_copies.proofs.Leaves.{taken_holds, taken_draft}
+use Rattle.live_copies.proofs.Walking.{taken_told}
 use Rattle.live_copies.proofs.walk.close.Goals as goal
 
 pub has_children-requires-clause-may : goal.has_children-requires-clause-may
@@ -35,4 +36,4 @@ returns-clause-has c = λ pairs n.
     let form = c.form_below.ensures t.spot.shape.key t.spot.shape.form t.named in
     let named = c.has_children.ensures.are (search rules) in
     subst (λ s. HasTold s.view name key height pairs) (sym c.has_children.ensures.seat.same)
-        (taken_told w b name key height words t c.requires.height.0 c.args.pass.now.view.client.own l.2.own c.args.names.now pairs (draft_of (nth 0 w.holds)) c.form_below.result draft form named n)
+    (taken_told w b name key height words t c.requires.height.0 c.args.pass.now.view.client.own l.2.own c.args.names.now pairs (draft_of (nth 0 w.holds)) c.form_below.result draft form named n)
