@@ -1,5 +1,5 @@
 -- The keys of a node lie in a row, and so do those under each of its bytes.
-use Rattle.std.proofs.Common.{◌≡◌, ℕ, zero, suc, ◌+◌, ◌-◌, ◌*◌, ◌/◌, ◌%◌, ◌^◌, ◌<◌, ◌≤◌, None, refl, sym, ap, ◌∙◌, subst, inl, inr, arith}
+use Rattle.std.proofs.Common.{◌≡◌, ℕ, zero, suc, ◌+◌, ◌-◌, ◌*◌, ◌^◌, ◌<◌, ◌≤◌, None, refl, ap, ◌∙◌, inl, inr, arith}
 use Rattle.std.proofs.Math.Nat.{pow-succ', mul-le-mul_right}
 use Rattle.std.proofs.lemmas.Bool.{cases_lt}
 use Rattle.std.proofs.lemmas.Nat.{pow-add}
@@ -7,7 +7,7 @@ use Rattle.spec_map.specs.Map.{Pairs, lookup, Rises}
 use Rattle.spec_map.proofs.MapLaws.{lookup-below}
 use Rattle.spec_map.proofs.JoinLaws.{lookup-above}
 use Rattle.live_law.specs.Levels.{up, digit, Shape, Covers, way}
-use Rattle.live_law.proofs.Plans.{joined, way-key}
+use Rattle.live_law.proofs.Plans.{joined}
 use Rattle.live_scans.proofs.Uppers.{up-filled}
 use Rattle.live_copies.specs.inner.Told.{first_of, end_of}
 use Rattle.live_copies.specs.inner.Noted.{start_of}

@@ -14,7 +14,7 @@ use Rattle.live_encodes.specs.Encodes.{Encodes, AreOfKind, IsBelow, IsWord, payl
 use Rattle.live_law.specs.Levels.{up, digit, Shape, name_of, Covers, way, Spot}
 use Rattle.live_law.specs.Views.{Own, locked, View}
 use Rattle.live_law.proofs.Plans.{joined, way-key, root-top}
-use Rattle.live_copies.specs.inner.Told.{HasNoneUnder, TellsBelow, TellsUnder, TellsNoted, IsNoted, IsContent, IsTold, Tells, first_of, end_of, HasPairs}
+use Rattle.live_copies.specs.inner.Told.{TellsBelow, TellsUnder, TellsNoted, IsNoted, IsContent, Tells, first_of, end_of, HasPairs}
 use Rattle.live_copies.specs.inner.Noted.{start_of, HasNoted}
 use Rattle.live_copies.specs.inner.Whole.{HasWhole}
 use Rattle.live_copies.proofs.Spans.{covered, none_outside, start_first, start_end, start_rises, under_byte, child_between}

@@ -1,18 +1,14 @@
 -- Nodes are locked, those below before those above.
-use Rattle.std.proofs.Common.{◌≡◌, ℕ, zero, suc, ◌+◌, ◌<◌, ◌≤◌, List, [], ◌∷◌, ◌++◌, length, slice_index, slice_set, Some, refl, sym, ap, ◌∙◌, subst, inl, inr, arith, append_assoc}
-use Rattle.node_table.specs.TableNode.{TableNode}
+use Rattle.std.proofs.Common.{◌≡◌, ℕ, zero, suc, ◌+◌, ◌<◌, ◌≤◌, List, [], ◌++◌, length, slice_index, slice_set, sym, ap, ◌∙◌, subst, arith, append_assoc}
 use Rattle.node_base.specs.declared.base_node.NodeType.{NodeType}
 use Rattle.spec_map.specs.Map.{Pairs}
 use Rattle.word_book.specs.Book.{Book, Name}
 use Rattle.live_nodes.specs.Nodes.{Content}
-use Rattle.live_nodes.specs.Seats.{Hold, hold, SeatView, IsIn}
-use Rattle.live_nodes.specs.Plays.{hold_of}
-use Rattle.live_rows.specs.Rows.{nth, draft_of, MayHold}
+use Rattle.live_nodes.specs.Seats.{SeatView, IsIn}
 use Rattle.live_encodes.specs.Encodes.{Encodes}
-use Rattle.live_law.specs.Levels.{up, digit, name_of, place_at}
+use Rattle.live_law.specs.Levels.{up, digit, place_at}
 use Rattle.live_law.specs.Views.{View, Own, locked}
 use Rattle.live_calls.specs.Ways.{Names, Keeps}
-use Rattle.live_calls.proofs.Locks.{hold_head}
 use Rattle.live_copies.specs.declared.children.Child.{Child}
 use Rattle.live_copies.specs.declared.locks.Lock.{Lock}
 use Rattle.live_copies.specs.inner.Noted.{HasNoted, HasNamed}

@@ -1,6 +1,6 @@
 -- At the check of the trunk a seat learns the whole history, and what the map has then.
 use Rattle.std.proofs.Common.{◌≡◌, ◌≢◌, ℕ, zero, suc, ◌+◌, ◌-◌, ◌*◌, ◌/◌, ◌<◌, ◌≤◌, ◌^◌, List, [], ◌∷◌, Option, Some, None, refl, sym, ap, ◌∙◌, subst, inl, inr, arith}
-use Rattle.std.proofs.lemmas.Bool.{cases_lt, cases_eq}
+use Rattle.std.proofs.lemmas.Bool.{cases_lt}
 use mathlib.Core.Option.{some}
 use mathlib.Core.Logic.{dite}
 use native.Mathlib.Decide.{ℕ_discrete}
@@ -17,9 +17,9 @@ use Rattle.live_nodes.specs.Seats.{Read, read, place, SeatView, IsIn}
 use Rattle.live_nodes.specs.Acts as acts
 use Rattle.live_nodes.specs.Plays as plays
 use Rattle.live_nodes.specs.Plays.{Takes, Checks}
-use Rattle.live_nodes.specs.Calls.{KnowsPlace, MayCheck}
-use Rattle.live_law.specs.Levels.{up, digit, Covers, way, Shape, Spot}
-use Rattle.live_law.specs.Views.{View, view_of, Own, locked}
+use Rattle.live_nodes.specs.Calls.{MayCheck}
+use Rattle.live_law.specs.Levels.{up, digit, Covers, Shape, Spot}
+use Rattle.live_law.specs.Views.{View, view_of, locked}
 use Rattle.live_law.specs.Tree.{IsMap, IsCurrent, IsUnder, IsSpot, IsOwn, IsLocked, home_of}
 use Rattle.live_law.proofs.Histories.{sees_all}
 use Rattle.live_law.proofs.Looks.{with_view, at_leaf, at_inner}

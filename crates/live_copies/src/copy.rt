@@ -69,8 +69,9 @@ pub fn copy(map: &Congee, alloc: Global, guard: &mut Guard) -> Result<Vec<(u64, 
 {
     for _ in 0..TRIES {
         match copy_once(&map.nodes, alloc, &mut guard.pass) {
+            Ok(pairs) => return Ok(pairs),
+            Err(Refusal::OutOfMemory) => return Err(Refusal::OutOfMemory),
             Err(Refusal::Busy) => {}
-            done => return done,
         }
     }
     Err(Refusal::Busy)

@@ -1,4 +1,4 @@
-use Rattle.std.proofs.Common.{rules, Option, Some, None, ◌≡◌, ◌∙◌}
+use Rattle.std.proofs.Common.{rules, None, ◌≡◌, ◌∙◌}
 use Rattle.live_calls.proofs.Finds.{keeps_then, when_out}
 use Rattle.live_copies.specs.inner.Children.{IsChild}
 use Rattle.live_copies.proofs.Finding.{child_fits}

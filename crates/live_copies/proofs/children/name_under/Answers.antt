@@ -1,4 +1,4 @@
-use Rattle.std.proofs.Common.{rules, sym, subst, ap, Option, Some, None, ◌≡◌, ◌∙◌, false}
+use Rattle.std.proofs.Common.{rules, sym, subst, ap, Some, None, ◌≡◌, ◌∙◌, false}
 use Rattle.live_law.specs.Views.{View, ask}
 use Rattle.live_calls.specs.Ways.{Sights}
 use Rattle.live_calls.proofs.Finds.{keeps_then, looked_below, looked_none, looked_empty}

@@ -1,4 +1,4 @@
-use Rattle.std.proofs.Common.{rules, subst, sym, refl, List, [], ◌∷◌, ◌++◌, ◌≡◌, ◌∙◌}
+use Rattle.std.proofs.Common.{rules, subst, sym, refl, [], ◌∷◌, ◌++◌, ◌≡◌, ◌∙◌}
 use Rattle.live_calls.specs.Ways.{AreNamed}
 use Rattle.live_copies.specs.declared.locks.Lock.{Lock}
 use Rattle.live_copies.specs.inner.Locks.{HasLocks}

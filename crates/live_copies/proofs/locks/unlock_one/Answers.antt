@@ -1,7 +1,7 @@
-use Rattle.std.proofs.Common.{sym, ap, refl, arith, drop, List, [], ◌∷◌, ◌+◌, ◌/◌, ◌∙◌}
+use Rattle.std.proofs.Common.{sym, ap, refl, arith, drop, List, ◌+◌, ◌/◌, ◌∙◌}
 use Rattle.live_nodes.specs.Seats.{SeatView, Hold}
 use Rattle.live_law.specs.Levels.{place_at}
-use Rattle.live_law.specs.Views.{View, rest_of}
+use Rattle.live_law.specs.Views.{View}
 use Rattle.live_law.specs.Tree.{StaysSame}
 use Rattle.live_law.proofs.Writes.{node_stays}
 use Rattle.live_calls.proofs.Views.{first_word}

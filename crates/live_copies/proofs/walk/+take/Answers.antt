@@ -1,8 +1,7 @@
-use Rattle.std.proofs.Common.{rules, arith, refl, sym, ap, subst, ℕ, ◌+◌, ◌<◌, ◌≤◌, ◌≡◌, ◌∙◌, ◌++◌, List, [], replicate, append-nil, Some, None, Option, IfOk}
+use Rattle.std.proofs.Common.{rules, arith, refl, sym, ap, subst, ℕ, ◌<◌, ◌≡◌, ◌∙◌, ◌++◌, List, [], replicate, append-nil, Some, IfOk}
 use Rattle.std.proofs.lemmas.List.{get_or-replicate}
 use Rattle.std.proofs.lemmas.Result.{IfOk-weaker}
 use Rattle.spec_map.specs.Map.{Pairs}
-use Rattle.live_nodes.specs.Seats.{IsIn}
 use Rattle.live_law.specs.Views.{Own}
 use Rattle.live_calls.proofs.Sights.{sights_names}
 use Rattle.live_copies.specs.inner.Noted.{HasNoted}
