@@ -3,7 +3,7 @@ use Rattle.tree_edit.proofs.SameLaws.{moved_view, moved_whole}
 use Rattle.tree_edit.proofs.tree.Tree.shrink_to_fit.Goals as goal
 
 pub invariant_of-self : goal.invariant_of-self
-invariant_of-self g c = moved_whole _ _ _ _ c.compact.ensures _ _ c.self.invariant
+invariant_of-self g c = moved_whole _ _ _ _ c.compact-self-inside.ensures _ _ c.self.invariant
 
 pub returns : goal.returns
-returns g c = moved_view _ _ _ _ c.compact.ensures _ ∙ c.self.view_is
+returns g c = c.trim.ensures ∙ (moved_view _ _ _ _ c.compact-self-inside.ensures _ ∙ c.self.view_is)
