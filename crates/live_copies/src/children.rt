@@ -17,11 +17,11 @@ const TRIES: u32 = 256;
 
 /// A child of a node: its name, its height, a key that it has, and the key's byte in the node above.
 #[derive(Clone, Copy, Debug, PartialEq, Eq)]
-pub struct Child {
-    pub name: u64,
-    pub height: usize,
-    pub key: u64,
-    pub byte: u8,
+pub(crate) struct Child {
+    pub(crate) name: u64,
+    pub(crate) height: usize,
+    pub(crate) key: u64,
+    pub(crate) byte: u8,
 }
 
 // The key with another byte at a height, and all lower bytes 0.
@@ -167,7 +167,7 @@ fn try_next(
 
 /// The next child of a node from a byte on, as it seems. It has keys that begin like this one above the node's height. `None`
 /// where writers came in between.
-pub fn next_child(
+pub(crate) fn next_child(
     nodes: &Nodes,
     name: u64,
     height: usize,

@@ -47,7 +47,7 @@ fn copy_leaf(
 }
 
 /// Locks a leaf, and copies its pairs.
-pub fn take_leaf<'a>(
+pub(crate) fn take_leaf<'a>(
     nodes: &'a Nodes,
     name: u64,
     key: u64,

@@ -5,7 +5,7 @@ use live_nodes::plays::Lesson;
 use std::marker::PhantomData;
 
 /// The whole history, and that what the locked nodes have is so in the map.
-pub struct Whole<A> {
+pub(crate) struct Whole<A> {
     of: PhantomData<A>,
 }
 

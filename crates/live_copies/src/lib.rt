@@ -7,11 +7,11 @@
 //! Tested in `test_live_copies`.
 #![tactic(auto)]
 
-pub mod children;
+mod children;
 pub mod copy;
-pub mod leaf;
-pub mod lesson;
-pub mod locks;
-pub mod names;
-pub mod walk;
-pub mod whole;
+mod leaf;
+mod lesson;
+mod locks;
+mod names;
+mod walk;
+mod whole;

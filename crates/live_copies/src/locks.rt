@@ -17,16 +17,16 @@ const TRIES: u32 = 256;
 
 /// A node that is locked: its words, and the version word by which it was free.
 #[derive(Clone, Copy)]
-pub struct Lock<'a> {
-    pub words: &'a [Cell],
-    pub free: u64,
+pub(crate) struct Lock<'a> {
+    pub(crate) words: &'a [Cell],
+    pub(crate) free: u64,
 }
 
 /// What a copy has so far: the nodes that it has locked, the last one last, and their pairs.
 #[derive(Drop)]
-pub struct Work<'a> {
-    pub locks: Vec<Lock<'a>>,
-    pub pairs: Vec<(u64, u64)>,
+pub(crate) struct Work<'a> {
+    pub(crate) locks: Vec<Lock<'a>>,
+    pub(crate) pairs: Vec<(u64, u64)>,
 }
 
 /// Unlocks the node that was locked last.
@@ -67,7 +67,7 @@ fn lock_patiently(
 }
 
 /// Locks the node that a number names, and notes it.
-pub fn lock_noted<'a>(
+pub(crate) fn lock_noted<'a>(
     nodes: &'a Nodes,
     name: u64,
     height: usize,
@@ -98,7 +98,7 @@ pub fn lock_noted<'a>(
 }
 
 /// Unlocks all nodes, the last one first.
-pub fn unlock_all(locks: &mut Vec<Lock<'_>>, pass: &mut Pass)
+pub(crate) fn unlock_all(locks: &mut Vec<Lock<'_>>, pass: &mut Pass)
     requires locks { HasLocks pass.old.view pass.old.book locks.old.items }
     ensures told { (pass.new.book ≡ pass.old.book) × (pass.new.id ≡ pass.old.id)
         × Alike pass.old.view pass.new.view

@@ -25,7 +25,7 @@ fn has_child<S, D: Draft<S>>(draft: &D, form: NodeType, byte: u8, name: u64, sea
 }
 
 /// Whether an inner node has these children and no others. 0 is for none.
-pub fn has_children<S, D: Draft<S>>(
+pub(crate) fn has_children<S, D: Draft<S>>(
     draft: &D,
     form: NodeType,
     names: &[u64; 256],

@@ -46,7 +46,7 @@ fn close<'a>(
 }
 
 /// Locks all nodes from one on downwards, those below before those above, and copies their pairs, keys ascending.
-pub fn take<'a>(
+pub(crate) fn take<'a>(
     nodes: &'a Nodes,
     name: u64,
     height: usize,

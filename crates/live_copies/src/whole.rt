@@ -10,7 +10,7 @@ use live_nodes::node;
 
 /// Whether the whole history was seen at this moment, at which the map has what the locked nodes have. `false` where the trunk
 /// is locked, and then nothing is learnt.
-pub fn whole<A: Asks>(nodes: &Nodes, pass: &mut Pass) -> bool
+pub(crate) fn whole<A: Asks>(nodes: &Nodes, pass: &mut Pass) -> bool
     requires book { pass.old.book ≡ nodes.now }
     requires asks { A.ask.caller ≡ pass.old.id }
     requires trunk { KnowsTrunk pass.old.view }
