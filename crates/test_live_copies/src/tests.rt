@@ -79,7 +79,7 @@ fn is_new(map: &Congee, alloc: Global, guard: &mut Guard, key: u64) -> bool
     requires { guard.old.book ≡ map.now }
     ensures { guard.new.book ≡ map.now }
 {
-    for _ in 0..10_000_000u32 {
+    for _ in 0..1_000_000u32 {
         if let Ok(before) = map.insert(alloc, guard, key, value_of(key)) {
             return before.is_none();
         }
@@ -180,9 +180,51 @@ fn copies_on(map: &Congee, alloc: Global, keys: Keys) -> bool {
     false
 }
 
+// A map, also where memory is refused once.
+fn made(alloc: Global) -> Option<Congee> {
+    match Congee::new(alloc) {
+        Ok(map) => Some(map),
+        Err(_) => Congee::new(alloc).ok(),
+    }
+}
+
+// Whether no node stays locked after a copy that may be refused: each key is inserted again, and all are copied then.
+fn is_free_again(map: &Congee, alloc: Global, keys: Keys) -> bool {
+    if fill(map, alloc, keys) != keys.count {
+        return false;
+    }
+    let mut guard = map.pin();
+    let refused = match copy(map, alloc, &mut guard) {
+        Ok(pairs) => pairs.len() != keys.count as usize,
+        Err(refusal) => refusal != Refusal::OutOfMemory,
+    };
+    if refused || fill(map, alloc, keys) != 0 {
+        return false;
+    }
+    match copied(map, alloc) {
+        Some(pairs) => pairs.len() == keys.count as usize && has_all(&pairs, keys),
+        None => false,
+    }
+}
+
+// It passes whichever allocation is refused.
+#[test]
+fn a_copy_that_is_refused_memory_leaves_all_nodes_free(rt: HostRuntime) {
+    let keys = Keys {
+        first: 0,
+        step: 0x0001_0002_0003_0005,
+        count: 300,
+    };
+    if let Some(map) = made(rt.alloc()) {
+        assert!(rt; is_free_again(&map, rt.alloc(), keys));
+    } else {
+        assert!(rt; false);
+    }
+}
+
 // One thread inserts keys, and another copies them as they come.
 fn by_two<R: Threads + Sync>(rt: &R, alloc: Global, keys: Keys) -> Option<(u32, bool)> {
-    let map = Congee::new(alloc).ok()?;
+    let map = made(alloc)?;
     let shared = &map;
     Some(join(
         rt,
