@@ -5,7 +5,6 @@ ghost use Rattle.std.specs.Prelude.{◌≡◌};
 use live_calls::map::{Congee, Guard, Refusal};
 use live_copies::copy::copy;
 use std::alloc::Global;
-use std::test::Fail;
 use std::thread::{Threads, join};
 
 // Keys that lie so far apart.
@@ -54,6 +53,14 @@ const KEYS: [Keys; 7] = [
         count: 900,
     },
 ];
+
+// A map, also where memory is refused once.
+fn made(alloc: Global) -> Option<Congee> {
+    match Congee::new(alloc) {
+        Ok(map) => Some(map),
+        Err(_) => Congee::new(alloc).ok(),
+    }
+}
 
 // The value of a key.
 fn value_of(key: u64) -> u64 {
@@ -132,27 +139,28 @@ fn has_all(pairs: &[(u64, u64)], keys: Keys) -> bool {
 }
 
 // Whether the copy of a map with these keys has their pairs and no others, and the map takes one more key then.
-fn copies(map: &Congee, alloc: Global, keys: Keys) -> bool {
-    if fill(map, alloc, keys) != keys.count {
+fn copies(alloc: Global, keys: Keys) -> bool {
+    let Some(map) = made(alloc) else {
+        return false;
+    };
+    if fill(&map, alloc, keys) != keys.count {
         return false;
     }
-    let Some(pairs) = copied(map, alloc) else {
+    let Some(pairs) = copied(&map, alloc) else {
         return false;
     };
     if pairs.len() != keys.count as usize || !are_right(&pairs) || !has_all(&pairs, keys) {
         return false;
     }
     let mut guard = map.pin();
-    is_new(map, alloc, &mut guard, 0x0f0f_0f0f_0f0f_0f0e)
+    is_new(&map, alloc, &mut guard, 0x0f0f_0f0f_0f0f_0f0e)
 }
 
 #[test]
-fn a_copy_has_the_pairs_that_were_inserted(rt: HostRuntime) -> Result<(), Fail> {
+fn a_copy_has_the_pairs_that_were_inserted(rt: HostRuntime) {
     for keys in KEYS {
-        let map = Congee::new(rt.alloc())?;
-        assert!(rt; copies(&map, rt.alloc(), keys));
+        assert!(rt; copies(rt.alloc(), keys));
     }
-    Ok(())
 }
 
 // Copies again and again, while another thread inserts these keys, until all are there. Whether each copy has the first ones
@@ -178,14 +186,6 @@ fn copies_on(map: &Congee, alloc: Global, keys: Keys) -> bool {
         }
     }
     false
-}
-
-// A map, also where memory is refused once.
-fn made(alloc: Global) -> Option<Congee> {
-    match Congee::new(alloc) {
-        Ok(map) => Some(map),
-        Err(_) => Congee::new(alloc).ok(),
-    }
 }
 
 // Whether no node stays locked after a copy that may be refused: each key is inserted again, and all are copied then.
