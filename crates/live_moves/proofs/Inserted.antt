@@ -1,10 +1,12 @@
 -- Insertions of the pairs of a map, keys ascending, into an empty one: they lead to the same map.
-use Rattle.std.proofs.Common.{◌≡◌, ℕ, ◌+◌, ◌≤◌, nat_eq, List, [], ◌∷◌, ◌++◌, sym, ap, ◌∙◌, append-nil, arith}
+use Rattle.std.proofs.Common.{◌≡◌, ℕ, ◌+◌, ◌≤◌, nat_eq, List, [], ◌∷◌, ◌++◌, Result, Ok, Err, IfOk, sym, ap, subst, ◌∙◌, append-nil, arith}
 use Rattle.std.proofs.lemmas.List.{append_assoc}
 use Rattle.spec_map.specs.Map.{Pairs, Rises, put}
 use Rattle.spec_map.proofs.JoinLaws.{Rises-append, put-append_right}
 use Rattle.share_rule.specs.History.{Entry, IsHistory}
 use Rattle.congee_tree.specs.Bulk.{put_all}
+use Rattle.live_law.specs.Known.{Known}
+use Rattle.live_copies.specs.Copies.{HasCopied}
 use Rattle.live_updates.proofs.Rising.{history_ascends}
 
 -- insertions of pairs by their numbers
@@ -25,3 +27,9 @@ put_behind low high m (e ∷ es) h rest =
 pub put_into_none : (history : List (Entry ℕ)) (es : Pairs ℕ) → IsHistory nat_eq history es → all_in [] es ≡ es
 put_into_none history es legal =
     let ascends = history_ascends history es legal in put_behind 0 ascends.0 [] es tt ascends.1
+
+-- what is copied, and then inserted into an empty map
+pub if_moved : {T E : Type 0} (r : Result T E) (pairs : T → Pairs ℕ) (k n : Known) (ps qs : Pairs ℕ) → HasCopied k ps n → qs ≡ ps → IfOk r (λ owned. pairs owned ≡ all_in [] qs) → IfOk r (λ owned. HasCopied k (pairs owned) n)
+if_moved (Ok owned) pairs k n ps qs copied same is =
+    let all = is ∙ ap (λ (z : Pairs ℕ). all_in [] z) same ∙ put_into_none n.seen ps copied.whole in subst (λ (z : Pairs ℕ). HasCopied k z n) (sym all) copied
+if_moved (Err e) pairs k n ps qs copied same is = tt

@@ -5,7 +5,7 @@ ghost use Rattle.share_rule.specs.History.{IsHistory};
 ghost use Rattle.live_scans.specs.Scans.{EntersNothing};
 ghost use Rattle.live_copies.specs.Copies.{HasCopied};
 
-use crate::numbers::{numbers_of, owned_of};
+use crate::numbers::{is_same, numbers_of, owned_of};
 use crossbeam_utils::Backoff;
 use live_calls::map::{Guard, Refusal};
 use live_copies::copy::copy;
@@ -81,7 +81,7 @@ fn try_filled(alloc: Global, numbers: &[(u64, u64)]) -> Result<(Pool, Guard), Re
     let mut guard = pool.pin();
     fill(&pool, alloc, &mut guard, numbers)?;
     let found = copy(&pool.map, alloc, &mut guard)?;
-    if found.as_slice() != numbers {
+    if !is_same(&found, numbers) {
         return Err(Refusal::Busy);
     }
     Ok((pool, guard))

@@ -1,7 +1,6 @@
 //! Lists of pairs, by their numbers.
 
-ghost use Rattle.std.specs.Prelude.{◌≡◌, [], map, IfOk};
-ghost use Rattle.spec_map.specs.Map.{IsMap};
+ghost use Rattle.std.specs.Prelude.{◌≡◌, [], map, IfOk, IsTrue};
 ghost use Rattle.congee_tree.specs.Bulk.{put_all};
 
 use face_typed::typed_congee::Congee;
@@ -52,4 +51,11 @@ pub fn owned_of<K: Word, V: Word>(
     let mut owned = Congee::new(alloc, DefaultAllocator {})?;
     owned.insert_numbers(numbers)?;
     Ok(owned)
+}
+
+/// Whether two lists of pairs are the same.
+pub fn is_same(a: &[(u64, u64)], b: &[(u64, u64)]) -> bool
+    ensures { IsTrue result → a.now ≡ b.now }
+{
+    a == b
 }
