@@ -4,6 +4,8 @@
 #[cfg(test)]
 mod moved;
 #[cfg(test)]
+mod refusals;
+#[cfg(test)]
 mod snapshots;
 #[cfg(test)]
 mod threads;

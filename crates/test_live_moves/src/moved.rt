@@ -1,12 +1,11 @@
-//! Maps that go both ways: empty ones, and near, far and greatest keys. Each test but the first passes whichever allocation is
-//! refused: the map that was to be moved is there, and is moved again.
+//! Maps that go both ways: empty ones, and near, far and greatest keys.
 
 ghost use Rattle.std.specs.Prelude.{◌≡◌};
 
 use face_typed::typed_congee;
 use live_faces::live::{Congee, Guard};
 use spec_map::error::OOMError;
-use std::alloc::{AllocFailed, Global};
+use std::alloc::Global;
 use std::sync::Wait;
 use std::test::Fail;
 

@@ -147,9 +147,9 @@ impl<K: Word, V: Word, A: Allocator, D: Drainer<K, V>> Congee<K, V, A, D> {
             (λ pair. NeedsNode self.new.pairs pair.0)) }
         ensures charge { ChargesForNodes A.charge self.old self.new }
     {
-        match self.tree.insert_many(pairs) {
-            Ok(()) => Ok(()),
-            Err(inserted) => Err(InsertManyError { inserted }),
+        if let Err(inserted) = self.tree.insert_many(pairs) {
+            return Err(InsertManyError { inserted });
         }
+        Ok(())
     }
 }
