@@ -11,6 +11,7 @@ mod computed;
 mod computes;
 mod counts;
 mod floors;
+mod moves;
 mod scans;
 mod updates;
 

@@ -135,4 +135,20 @@ impl<K: Word, V: Word, A: Allocator, D: Drainer<K, V>> Congee<K, V, A, D> {
             Err(inserted) => Err(InsertManyError { inserted }),
         }
     }
+
+    /// As `insert_many`, by the numbers of keys and values.
+    pub fn insert_numbers(&mut self, pairs: &[(u64, u64)]) -> Result<(), InsertManyError>
+        ensures ok { OnOk result
+            (self.new.pairs ≡ put_all (λ key. key) (λ value. value) self.old.pairs pairs.now) }
+        ensures err { IfErr result (λ error. self.new.pairs
+            ≡ put_all (λ key. key) (λ value. value) self.old.pairs (take error.inserted pairs.now)) }
+        ensures refused { IfErr result (λ error. IsSomeAnd (slice_get pairs.now error.inserted)
+            (λ pair. NeedsNode self.new.pairs pair.0)) }
+        ensures charge { ChargesForNodes A.charge self.old self.new }
+    {
+        if let Err(inserted) = self.tree.insert_many(pairs) {
+            return Err(InsertManyError { inserted });
+        }
+        Ok(())
+    }
 }
