@@ -75,7 +75,7 @@ static void empty_it(const char *how, bool dense, void (*empty)(struct congee *,
 
 /* All but few of a million keys go. What is held for them does too, and then what congee_shrink_to_fit finds. */
 static void shrink_it(bool dense, bool one_by_one) {
-    enum { MANY = 1000000, KEPT = 1000, MOST = 600, LEAST = 200 };
+    enum { MANY = 1000000, KEPT = 1000, MOST = 800, LEAST = 300 };
     size_t before = lent();
     struct congee *map;
     need(congee_new(&map) == 0, "a map");
