@@ -10,17 +10,17 @@ use std::alloc::Global;
 use std::sync::Wait;
 use std::test::Fail;
 
-/// Written as its value divided by ten; n is read back as 10n + 100, which is written as another number.
+/// Written as its value divided by ten; n is read back as 20n, which is written as 2n.
 #[derive(Clone, Copy, Debug, PartialEq, Eq)]
 struct Tens(u64);
 
 impl Word for Tens {
     ghost number = { λ t. t.0 / 10 };
 
-    ghost of_number = { λ n. record { 0 = (n * 10 + 100) % 2 ^ 64 } };
+    ghost of_number = { λ n. record { 0 = (n * 20) % 2 ^ 64 } };
 
     fn from_u64(n: u64) -> Tens {
-        Tens(n.wrapping_mul(10).wrapping_add(100))
+        Tens(n.wrapping_mul(20))
     }
 
     fn into_u64(self) -> u64 {
@@ -48,7 +48,7 @@ fn looked_up<R: Wait>(
 #[test]
 fn numbers_stay_as_they_are(rt: HostRuntime) -> Result<(), Fail> {
     let (out, back, pair) = looked_up(&rt, rt.alloc())?;
-    assert!(rt; out == Some(Tens(170)) && back == Some(Tens(170)));
-    assert!(rt; pair == Some((Tens(110), Tens(170))));
+    assert!(rt; out == Some(Tens(140)) && back == Some(Tens(140)));
+    assert!(rt; pair == Some((Tens(20), Tens(140))));
     Ok(())
 }

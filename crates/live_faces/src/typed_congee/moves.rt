@@ -78,8 +78,8 @@ impl<K: Word, V: Word> Congee<K, V> {
         }
     }
 
-    /// A map for threads from one with an owner, and a guard. The guard's history leads to the pairs of that one. If memory
-    /// is missing, the error gives the map back.
+    /// A map for threads, without a limit, from one with an owner, and a guard. The guard's history leads to the pairs of that
+    /// one. If memory is missing, the error gives the map back. Beside both maps it takes 32 bytes a pair meanwhile.
     pub fn from_owned<R: Wait>(
         rt: &R,
         alloc: Global,
