@@ -22,7 +22,7 @@ pub(super) enum Call {
 }
 
 // The calls on a map of 10, 20 and the greatest key, whose values are 1, 2 and 3.
-pub(super) const ROWS: [(Call, Option<(u64, u64)>); 27] = [
+pub(super) const ROWS: [(Call, Option<(u64, u64)>); 23] = [
     (Call::First, Some((10, 1))),
     (Call::Last, Some((u64::MAX, 3))),
     (Call::Floor(9), None),
@@ -46,10 +46,6 @@ pub(super) const ROWS: [(Call, Option<(u64, u64)>); 27] = [
     (Call::PopLast, None),
     (Call::First, None),
     (Call::Last, None),
-    (Call::Floor(u64::MAX), None),
-    (Call::Below(u64::MAX), None),
-    (Call::Ceiling(0), None),
-    (Call::Above(0), None),
 ];
 
 fn found<L: Ledger, R: Wait>(
@@ -124,7 +120,7 @@ fn by_rows<L: Ledger, R: Wait>(rt: &R, alloc: Global, blank: Blank) -> Result<(u
 #[test]
 fn ends_neighbours_and_pops(rt: HostRuntime) -> Result<(), Fail> {
     let done = by_rows::<Brand, _>(&rt, rt.alloc(), Blank::new((1 << 63) + 1))?;
-    assert!(rt; done == (27, true));
+    assert!(rt; done == (23, true));
     Ok(())
 }
 

@@ -93,7 +93,7 @@ fn by_rows<L: Ledger, R: Wait>(rt: &R, alloc: Global, blank: Blank) -> Result<(u
 #[test]
 fn ends_neighbours_and_pops_of_owners(rt: HostRuntime) -> Result<(), Fail> {
     let done = by_rows::<Brand, _>(&rt, rt.alloc(), Blank::new((1 << 63) + 1))?;
-    assert!(rt; done == (27, true));
+    assert!(rt; done == (23, true));
     Ok(())
 }
 

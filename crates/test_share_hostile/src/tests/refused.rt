@@ -4,7 +4,6 @@
 ghost use Rattle.std.specs.Prelude.{◌≡◌, ◌+◌, ◌^◌, IfOk};
 
 use node_table::allocator::DefaultAllocator;
-use share_backend::owner_ends::OrderedOwners;
 use share_backend::snapshots::{Made, Owners, Pages};
 use share_faces::congee_arc::{CongeeArc, OwnerGuard};
 use share_faces::typed_congee::{Congee, Guard, meet};
@@ -353,117 +352,6 @@ fn each_call_with_owners(rt: HostRuntime) -> Result<(), Fail> {
     assert!(rt; owners_over::<OwnedMachine, _>(&rt, rt.alloc(), &owner)? == Some(true));
     assert!(rt; Arc::strong_count(&owner) == 1);
     assert!(rt; owners_over::<OwnedTree, _>(&rt, rt.alloc(), &owner)? == Some(true));
-    assert!(rt; Arc::strong_count(&owner) == 1);
-    Ok(())
-}
-
-// The ends of a map of owners, and the neighbours of 5, by their place among these calls.
-fn owner_near<L: Ledger, M: OrderedOwners<u64>, R: Wait>(
-    rt: &R,
-    map: &Owned<L, M>,
-    guard: &mut OwnerGuard<'_, L, u64, M>,
-    place: usize,
-) -> Result<Option<(u64, Arc<u64>)>, OOMError>
-    requires { guard.old.table ≡ map.now }
-    ensures { guard.new.table ≡ guard.old.table }
-{
-    match place {
-        0 => map.first(rt, guard),
-        1 => map.last(rt, guard),
-        2 => map.floor(rt, guard, 5),
-        3 => map.below(rt, guard, 5),
-        4 => map.ceiling(rt, guard, 5),
-        _ => map.above(rt, guard, 5),
-    }
-}
-
-// What they find in a map of these keys.
-const NEAR: [(usize, u64); 6] = [(0, 1), (1, 9), (2, 5), (3, 1), (4, 5), (5, 9)];
-
-// How many of them find their key and a right owner, in a map of three pairs, and how many none, in an empty one.
-fn ends_found<L: Ledger, M: OrderedOwners<u64>, R: Wait>(
-    rt: &R,
-    map: &Owned<L, M>,
-    guard: &mut OwnerGuard<'_, L, u64, M>,
-) -> Result<(usize, usize), OOMError>
-    requires { guard.old.table ≡ map.now }
-    ensures { guard.new.table ≡ guard.old.table }
-{
-    let mut right = 0usize;
-    let mut none = 0usize;
-    for (place, key) in NEAR {
-        let found = match owner_near(rt, map, guard, place) {
-            Ok(found) => found,
-            Err(_) => owner_near(rt, map, guard, place)?,
-        };
-        match found {
-            Some((at, owner)) if at == key && *owner == 5 => right = right.wrapping_add(1),
-            Some(_) => {}
-            None => none = none.wrapping_add(1),
-        }
-    }
-    Ok((right, none))
-}
-
-// Whether both pops return the pairs of these keys, and then the map's last one.
-fn ends_popped<L: Ledger, M: OrderedOwners<u64>, R: Wait>(
-    rt: &R,
-    map: &Owned<L, M>,
-    guard: &mut OwnerGuard<'_, L, u64, M>,
-) -> bool
-    requires { guard.old.table ≡ map.now }
-    ensures { guard.new.table ≡ guard.old.table }
-{
-    let least = map.pop_first(rt, guard);
-    let greatest = map.pop_last(rt, guard);
-    let last = map.pop_last(rt, guard);
-    let more = map.pop_first(rt, guard).is_some() || map.pop_last(rt, guard).is_some();
-    match (least, greatest, last) {
-        (Some((1, _)), Some((9, _)), Some((5, _))) => !more,
-        _ => false,
-    }
-}
-
-// The same of the ends of a map of owners, where pairs are found by their order.
-fn ends_are_right<L: Ledger, R: Wait>(
-    rt: &R,
-    alloc: Global,
-    blank: Blank,
-    owner: &Arc<u64>,
-) -> Result<Option<bool>, OOMError>
-    requires name { blank.name ≡ L.name }
-    requires parts { blank.parts ≡ L.parts }
-    requires whole { L.parts ≡ 2 ^ 63 + 1 }
-{
-    let Ok((map, mut share)) = Owned::<L, OwnedTree>::new(alloc, blank) else {
-        return Ok(None);
-    };
-    let mut guard = pinned_owner(rt, &map)?;
-    let filled = insert_owner(rt, &map, &mut guard, &mut share, 1, owner)? == None
-        && insert_owner(rt, &map, &mut guard, &mut share, 5, owner)? == None
-        && insert_owner(rt, &map, &mut guard, &mut share, 9, owner)? == None;
-    let found = ends_found(rt, &map, &mut guard)? == (6, 0);
-    let popped = ends_popped(rt, &map, &mut guard);
-    let none = ends_found(rt, &map, &mut guard)? == (0, 6);
-    map.unpin(rt, guard);
-    Ok(Some(filled && found && popped && none))
-}
-
-// The same, once more where there was no map.
-fn ends_over<R: Wait>(rt: &R, alloc: Global, owner: &Arc<u64>) -> Result<Option<bool>, OOMError> {
-    let blank = Blank::new((1 << 63) + 1);
-    let right = ends_are_right::<Brand, R>(rt, alloc, blank, owner)?;
-    if right.is_some() {
-        return Ok(right);
-    }
-    let blank = Blank::new((1 << 63) + 1);
-    ends_are_right::<Brand, R>(rt, alloc, blank, owner)
-}
-
-#[test]
-fn each_end_with_owners(rt: HostRuntime) -> Result<(), Fail> {
-    let owner = made_owner(rt.alloc())?;
-    assert!(rt; ends_over(&rt, rt.alloc(), &owner)? == Some(true));
     assert!(rt; Arc::strong_count(&owner) == 1);
     Ok(())
 }
