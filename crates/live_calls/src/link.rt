@@ -1,5 +1,5 @@
 //! A new node comes below another.
-ghost use Rattle.std.specs.Prelude.{◌≡◌, ℕ, ◌+◌, ◌<◌, ◌≤◌, ◌^◌, [], length, None, IfNone};
+ghost use Rattle.std.specs.Prelude.{◌≡◌, ℕ, ◌≤◌, [], length, None, IfNone};
 ghost use Rattle.node_table.specs.TableNode.{TableNode};
 ghost use Rattle.spec_map.specs.Map.{lookup};
 ghost use Rattle.live_cells.specs.Words.{Looks};

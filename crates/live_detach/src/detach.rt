@@ -1,8 +1,6 @@
 //! Nodes without children are taken out.
-ghost use Rattle.std.specs.Prelude.{◌≡◌, ℕ, ◌+◌, ◌%◌, ◌<◌, ◌≤◌, ◌^◌, [], length, IfSome, IfNone};
-ghost use Rattle.live_nodes.specs.Nodes.{Content};
-ghost use Rattle.live_law.specs.Levels.{digit};
-ghost use Rattle.live_calls.specs.Ways.{KnowsTrunk, Names, Sights, AreNamed, Keeps};
+ghost use Rattle.std.specs.Prelude.{◌≡◌, ◌<◌, ◌≤◌, [], IfSome, IfNone};
+ghost use Rattle.live_calls.specs.Ways.{AreNamed, Keeps};
 ghost use Rattle.live_calls.specs.Holds.{Alike, HasRest};
 ghost use Rattle.live_calls.specs.Stands.{Stands};
 ghost use Rattle.live_detach.specs.Two.{HoldsTwo, LeadsTwo, PartsTwo};

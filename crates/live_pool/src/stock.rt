@@ -2,7 +2,7 @@
 //!
 //! A node that is no part of the map any more is named in the stock of its form. Beside the names is a seat that has met these nodes.
 //! Whoever adds a name or takes one meets that seat, and so either knows where the node is.
-ghost use Rattle.std.specs.Prelude.{◌≡◌, ◌<◌, [], IfSome};
+ghost use Rattle.std.specs.Prelude.{◌≡◌, ◌<◌, IfSome};
 ghost use Rattle.live_nodes.specs.Seats.{Each};
 ghost use Rattle.live_calls.specs.Ways.{Sights, Keeps};
 ghost use Rattle.live_pool.specs.Stocks.{IsStock};
