@@ -2,7 +2,7 @@
 //!
 //! Tested in `share_maps` and `test_share_hostile`.
 
-ghost use Rattle.std.specs.Prelude.{◌≡◌, ◌+◌, ℕ, [], Some, None, IfOk, IfSome, IsSome, IsTrue, MatchOption, length, map};
+ghost use Rattle.std.specs.Prelude.{◌≡◌, ℕ, [], Some, None, IfOk, IfSome, IsSome, IsTrue, MatchOption, length, map};
 ghost use Rattle.std.specs.Arc.{arc_value};
 ghost use Rattle.spec_map.specs.Map.{Pairs, IsMap};
 ghost use Rattle.node_stats.specs.LevelCounts.{capped};

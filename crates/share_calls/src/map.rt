@@ -2,7 +2,7 @@
 //!
 //! Tested in `test_share_sharded` and `tools/c-library`.
 
-ghost use Rattle.std.specs.Prelude.{◌≡◌, ℕ, [], IfOk};
+ghost use Rattle.std.specs.Prelude.{◌≡◌, [], IfOk};
 ghost use Rattle.share_visits.specs.Whole.{IsCount};
 ghost use Rattle.share_visits.specs.declared.part.Part.{Part};
 ghost use Rattle.share_calls.specs.inner.Filled.{Filled};

@@ -2,8 +2,8 @@
 //!
 //! Tested in `tools/c-library`.
 
-ghost use Rattle.std.specs.Prelude.{◌≡◌, ◌≢◌, ℕ, ◌+◌, ◌++◌, [], ◌∷◌, Err, IfOk, OnErr, length, map, min, take, drop, reverse};
-ghost use Rattle.spec_map.specs.Call.{count, counted, range, ranged};
+ghost use Rattle.std.specs.Prelude.{◌≡◌, ◌≢◌, ℕ, ◌+◌, ◌++◌, Err, IfOk, OnErr, length, map, min, take, drop, reverse};
+ghost use Rattle.spec_map.specs.Call.{range, ranged};
 ghost use Rattle.spec_map.specs.Map.{Pairs};
 ghost use Rattle.spec_olc.specs.Runs.{same_number};
 ghost use Rattle.share_rule.specs.Known.{MadeCall, MadeCalls};

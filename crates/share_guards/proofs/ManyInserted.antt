@@ -1,5 +1,5 @@
 -- How a map goes on by an insertion of many pairs, and what is known after it.
-use Rattle.std.proofs.Common.{◌≡◌, ℕ, Bool, List, [], ◌∷◌, ◌++◌, ◌<◌, length, map, refl, sym, ◌∙◌, subst, append-nil}
+use Rattle.std.proofs.Common.{◌≡◌, ℕ, Bool, List, [], ◌∷◌, ◌++◌, ◌<◌, length, refl, sym, ◌∙◌, subst, append-nil}
 use Rattle.std.proofs.lemmas.List.{take-map}
 use Rattle.std.specs.Prelude.{Result, Ok, Err, IfErr, OnOk, take}
 use Rattle.congee_tree.specs.Bulk.{put_all}

@@ -3,7 +3,7 @@
 //!
 //! Tested in `test_share_guards` and `share_maps/guards`.
 
-ghost use Rattle.std.specs.Prelude.{◌≡◌, Some, IfOk, IfSome, OnErr};
+ghost use Rattle.std.specs.Prelude.{◌≡◌, IfOk, IfSome, OnErr};
 ghost use Rattle.spec_map.specs.Call.{compare_exchange, exchanged, get, insert, old_value, remove};
 ghost use Rattle.spec_olc.specs.Meaning.{both_of, exchanged_of, in_some};
 ghost use Rattle.share_backend.specs.Changing.{IsOld, IsComputed, IsExchangeReply, if_present};

@@ -2,7 +2,6 @@
 //!
 //! Tested in `share_maps` and `test_share_hostile`.
 
-ghost use Rattle.std.specs.Prelude.{◌≡◌};
 ghost use Rattle.share_holds.specs.Closures.{StepsAlways, StepsIfPresent, StepsNot};
 
 /// How a call calls its closure F, while the lock is free.

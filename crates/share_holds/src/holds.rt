@@ -3,8 +3,7 @@
 //!
 //! Tested in `share_maps` and `test_share_hostile`.
 
-ghost use Rattle.std.specs.Prelude.{◌≡◌, ◌≢◌, ◌+◌, ◌++◌, ℕ, Some, None, Err, IfOk, IfSome, OnErr, length, map, min, take, drop};
-ghost use Rattle.spec_map.specs.Map.{Pairs, IsMap, between};
+ghost use Rattle.std.specs.Prelude.{◌≡◌, ◌≢◌, Some, None, Err, IfOk, OnErr, take};
 ghost use Rattle.spec_olc.specs.Calls.{outline_of};
 ghost use Rattle.spec_olc.specs.Meaning.{in_some, op_of, outcome_of};
 ghost use Rattle.spec_olc.specs.declared.types.Asking.{Asking as ClosureState};
@@ -12,7 +11,7 @@ ghost use Rattle.share_backend.specs.declared.lent.CallStage.{CallStage};
 ghost use Rattle.share_backend.specs.declared.lent.CallStage.TheVariants.{Ready, Running};
 ghost use Rattle.share_backend.specs.Changing.{IsReply, reply_in, reply_opened};
 ghost use Rattle.share_state.specs.Booking.{Books};
-ghost use Rattle.share_rule.specs.inner.Steps.{IsIdle, SeesNoMore, at_of};
+ghost use Rattle.share_rule.specs.inner.Steps.{IsIdle, at_of};
 ghost use Rattle.share_holds.specs.inner.Events.{AfterEvent, AfterLast, Begun, IsOver, KnowsOf};
 
 use share_backend::event::EventResult;

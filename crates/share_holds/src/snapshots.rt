@@ -2,7 +2,7 @@
 //!
 //! Tested in `share_maps` and `test_share_hostile`.
 
-ghost use Rattle.std.specs.Prelude.{◌≡◌, ◌≢◌, ◌^◌, ℕ, None, IfOk, IfSome, IsSome, IsTrue, MatchResult, map};
+ghost use Rattle.std.specs.Prelude.{◌≡◌, ◌≢◌, ◌^◌, None, IfOk, IfSome, IsSome, IsTrue, MatchResult, map};
 ghost use Rattle.spec_map.specs.Map.{Pairs, IsMap};
 ghost use Rattle.share_rule.specs.inner.Steps.{IsIdle, at_of, seen_of};
 ghost use Rattle.share_holds.specs.Moments.{HasPage};

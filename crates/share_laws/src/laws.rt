@@ -3,11 +3,11 @@
 //! `P` is the type of what the map's values represent.
 
 ghost use Rattle.std.specs.Prelude.{◌≡◌, ℕ, Bool, List, [], ◌∷◌, ◌++◌, Option, Some};
-ghost use Rattle.spec_map.specs.Call.{Operation, get, insert, old_value, replied};
+ghost use Rattle.spec_map.specs.Call.{Operation};
 ghost use Rattle.spec_map.specs.Legal.{Allows, IsLegal, after_operation};
 ghost use Rattle.spec_map.specs.Map.{Pairs, between, lookup};
 ghost use Rattle.spec_map.specs.Refusal.{never};
-ghost use Rattle.share_rule.specs.History.{Entry, entries_of, entry, operations_of, IsHistory};
+ghost use Rattle.share_rule.specs.History.{Entry, entries_of, operations_of, IsHistory};
 ghost use Rattle.share_rule.specs.Known.{Known, MadeCall};
 ghost use Rattle.share_laws.specs.Keys.{AllLeave, AllRaise, IsAtLeast, OwnsKeys, finds, inserts};
 

@@ -2,7 +2,7 @@
 //!
 //! Tested in `share_maps`.
 
-ghost use Rattle.std.specs.Prelude.{◌≡◌, ◌≢◌, ◌+◌, ◌≤◌, ◌^◌, ℕ, [], Some, None, Err, IfOk, OnErr, MatchOption, map};
+ghost use Rattle.std.specs.Prelude.{◌≡◌, ◌≢◌, ℕ, [], Some, None, Err, IfOk, OnErr, MatchOption, map};
 ghost use Rattle.spec_map.specs.Map.{Pairs, IsMap};
 ghost use Rattle.spec_olc.specs.Calls.{outline_of};
 ghost use Rattle.spec_olc.specs.Content.{IsContent};

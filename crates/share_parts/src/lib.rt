@@ -3,7 +3,7 @@
 //! Its user is `share_shards`.
 #![tactic(auto)]
 
-ghost use Rattle.std.specs.Prelude.{◌≡◌, ℕ, Bool, List, []};
+ghost use Rattle.std.specs.Prelude.{ℕ, Bool, List};
 ghost use Rattle.spec_map.specs.Call.{Operation};
 ghost use Rattle.spec_map.specs.Legal.{IsLegal};
 ghost use Rattle.spec_map.specs.Map.{Pairs};

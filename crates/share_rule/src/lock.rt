@@ -2,7 +2,7 @@
 //!
 //! Tested in `test_share_guards`.
 
-ghost use Rattle.std.specs.Prelude.{◌≡◌, ◌≢◌, [], ◌∷◌, Some, None, IfOk, IfSome, IsTrue, IsFalse, MatchOption};
+ghost use Rattle.std.specs.Prelude.{◌≡◌, ◌≢◌, [], ◌∷◌, Some, None, IfSome, IsTrue, IsFalse};
 ghost use Rattle.share_rule.specs.inner.SeatView.{Blank};
 ghost use Rattle.share_rule.specs.inner.Steps.{IsIdle, MayRelease, Released, Won, at_of, caller_of, seen_of};
 ghost use Rattle.share_rule.specs.inner.Meeting.{SeesMore};

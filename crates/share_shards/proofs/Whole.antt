@@ -1,7 +1,7 @@
 -- What visits of all shards that are held come to.
 use Rattle.std.proofs.Common.{◌≡◌, ◌≢◌, ℕ, ◌+◌, ◌<◌, Bool, true, false, true≢false, cond, List, [], ◌∷◌, ◌++◌, reverse, append-nil, length, refl, sym, ap, ◌∙◌, subst, inl, inr, arith, eqb, eq-eqb, ne_eqb}
 use Rattle.std.proofs.lemmas.Bool.{cases_eq, cases_Bool, eqb-true, or_cases, or_from, or_left, or_right}
-use Rattle.std.specs.Prelude.{Option, Some, None, ◌||◌, ◌⊎◌}
+use Rattle.std.specs.Prelude.{Option, Some, None, ◌||◌}
 use Rattle.atomic_table.specs.Table.{Me}
 use Rattle.share_parts.specs.Nearest.{nearer}
 use Rattle.share_parts.specs.Parts.{kept, Ascends, AreWithin}

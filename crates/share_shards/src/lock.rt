@@ -2,7 +2,7 @@
 //!
 //! Tested in `test_share_shards`.
 
-ghost use Rattle.std.specs.Prelude.{◌≡◌, ◌≢◌, ◌<◌, ◌≤◌, ◌*◌, ◌++◌, ℕ, List, [], ◌∷◌, map, reverse, Option, Some, None, IfOk, IsTrue, IsFalse, All, length};
+ghost use Rattle.std.specs.Prelude.{◌≡◌, ◌≢◌, ◌<◌, ◌≤◌, ◌*◌, ◌++◌, ℕ, List, [], ◌∷◌, map, reverse, Option, Some, IfOk, IsTrue, IsFalse, All, length};
 ghost use Rattle.atomic_table.specs.Table.{rest};
 ghost use Rattle.share_shards.specs.Held.{Visited, numbers, slots_of, values_of};
 ghost use Rattle.share_shards.specs.inner.Steps.{Appended, HeldBy, Holds, IsIdle, MayAppend, SeesMore, Took, Won, caller_of, held_of, seen_of, without_last};

@@ -1,6 +1,5 @@
 //! What a call does while it has the lock of a shard, or of several.
 
-ghost use Rattle.std.specs.Prelude.{◌≡◌};
 
 use crate::rule::Sharded;
 

@@ -2,7 +2,7 @@
 //!
 //! Tested in `share_maps` and `test_share_hostile/changes`.
 
-ghost use Rattle.std.specs.Prelude.{◌≡◌, Option, Some, None, IfOk, OnErr};
+ghost use Rattle.std.specs.Prelude.{◌≡◌, Option, Some, None, IfOk};
 ghost use Rattle.spec_map.specs.Map.{lookup};
 ghost use Rattle.node_table.specs.inner.Kinds.{mapped};
 ghost use Rattle.spec_olc.specs.Meaning.{in_some};

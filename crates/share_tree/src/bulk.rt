@@ -6,7 +6,7 @@ ghost use Rattle.std.specs.Prelude.{◌≡◌, None, Some};
 ghost use Rattle.std.specs.List.{FoldsTo};
 ghost use Rattle.congee_tree.specs.Bulk.{outside, next_of, Retains};
 ghost use Rattle.congee_tree.specs.inner.Step.{Asks, Extracts};
-ghost use Rattle.spec_map.specs.Map.{IsMap, between};
+ghost use Rattle.spec_map.specs.Map.{between};
 
 use congee_tree::by_number::remove;
 use congee_tree::tree::RawCongee;

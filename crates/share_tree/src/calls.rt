@@ -3,7 +3,6 @@
 //! Tested in `share_maps` and `test_share_hostile/changes`.
 
 ghost use Rattle.std.specs.Prelude.{◌≡◌, Some, IfOk, OnErr};
-ghost use Rattle.spec_olc.specs.Meaning.{in_some};
 ghost use Rattle.spec_olc.specs.declared.types.Asking.TheVariants.{Fresh};
 ghost use Rattle.spec_olc.specs.declared.types.Op.TheVariants.{CompareExchange};
 ghost use Rattle.share_tree.specs.inner.Current.{CountsRise, IsCurrent};

@@ -6,7 +6,7 @@ ghost use Rattle.std.specs.Prelude.{◌≡◌, ◌<◌, ◌++◌, ℕ, List, Opt
 ghost use Rattle.share_shards.specs.Held.{keys_at};
 ghost use Rattle.share_parts.specs.Parts.{kept};
 ghost use Rattle.share_visits.specs.Near.{near_of};
-ghost use Rattle.share_visits.specs.Whole.{Contains, IsCount, shard_of};
+ghost use Rattle.share_visits.specs.Whole.{Contains, shard_of};
 ghost use Rattle.share_visits.specs.declared.part.Part.{Part};
 ghost use Rattle.share_visits.specs.inner.One.{VisitedOne};
 ghost use Rattle.spec_map.specs.Map.{Pairs};

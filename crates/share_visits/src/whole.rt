@@ -8,7 +8,7 @@ ghost use Rattle.share_shards.specs.inner.SeatView.{ShardSeat};
 ghost use Rattle.share_shards.specs.inner.Steps.{HeldBy, IsIdle, pairs_of};
 ghost use Rattle.share_visits.specs.Charged.{IsChargeOfAll, sum_of};
 ghost use Rattle.share_visits.specs.Near.{near_of};
-ghost use Rattle.share_visits.specs.Whole.{Contains, IsCount, TookAll, down, shard_of};
+ghost use Rattle.share_visits.specs.Whole.{Contains, IsCount, TookAll, down};
 ghost use Rattle.share_visits.specs.declared.part.Part.{Part};
 ghost use Rattle.spec_map.specs.Map.{Pairs, without};
 ghost use Rattle.spec_map.specs.Near.{pair_near, without_pair};

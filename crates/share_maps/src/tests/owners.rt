@@ -1,6 +1,6 @@
 //! Owners are counted back to one.
 
-ghost use Rattle.std.specs.Prelude.{◌≡◌, ◌+◌, ◌^◌, ◌<◌};
+ghost use Rattle.std.specs.Prelude.{◌≡◌, ◌+◌, ◌^◌};
 
 use node_table::allocator::DefaultAllocator;
 use share_backend::snapshots::{Made, Owners};
