@@ -25,6 +25,9 @@ const SLOTS: usize = 8;
 /// The forms of nodes, by their places.
 const FORMS: [NodeType; 4] = [NodeType::N4, NodeType::N16, NodeType::N48, NodeType::N256];
 
+/// How many stocks a form has. Where a thread stops at one, others use the next.
+const ROWS: usize = 4;
+
 /// How many nodes a removal takes out at most.
 const MOST: usize = 7;
 
@@ -83,12 +86,12 @@ fn free_slots(alloc: Global, map: &Congee) -> Result<Vec<Counted<Left>>, AllocEr
     Ok(slots)
 }
 
-// A stock for each form, without nodes.
+// The stocks of each form, without nodes: a row of one for each form after another.
 fn no_stocks(alloc: Global, map: &Congee) -> Result<Vec<Counted<Stock>>, AllocError>
     ensures { IfOk result (λ stocks. AreFor map.now stocks.items) }
 {
-    let mut stocks = Vec::with_capacity(alloc, FORMS.len())?;
-    for _ in 0..FORMS.len() {
+    let mut stocks = Vec::with_capacity(alloc, 4 * ROWS)?;
+    for _ in 0..4 * ROWS {
         stocks.push(Counted::new(Stock::none(map, alloc), map))?;
     }
     Ok(stocks)
@@ -162,8 +165,21 @@ impl Pool {
         tidy(&self.map.nodes, key, &mut guard.room, &mut guard.pass);
     }
 
-    // The guard's further node goes to the stock of its form, if there is one.
+    // The guard's further node goes to a stock of its form, if there is one.
     fn leave(&self, guard: &mut Guard)
+        requires map { guard.old.book ≡ self.now }
+        ensures { guard.new ≡ guard.old }
+    {
+        for row in 0..ROWS {
+            if guard.room.spare.more == 0 {
+                return;
+            }
+            self.leave_at(guard, row);
+        }
+    }
+
+    // The same to the stock in a row.
+    fn leave_at(&self, guard: &mut Guard, row: usize)
         requires map { guard.old.book ≡ self.now }
         ensures { guard.new ≡ guard.old }
     {
@@ -171,12 +187,20 @@ impl Pool {
         if name == 0 {
             return;
         }
-        let Some(slot) = self.stocks.get(place_of(form_below(name)) as usize) else {
+        let Some(slot) = self.stock_at(form_below(name), row) else {
             return;
         };
         if add_to(slot, &self.map, self.alloc, name, &mut guard.pass) {
             guard.room.spare.more = 0;
         }
+    }
+
+    // The stock of a form in a row.
+    fn stock_at(&self, form: NodeType, row: usize) -> Option<&Counted<Stock>>
+        ensures { IfSome result (λ slot. slot.now ≡ self.now) }
+    {
+        let place = row.wrapping_mul(4).wrapping_add(place_of(form) as usize);
+        self.stocks.get(place)
     }
 
     // A node of each form that the guard has none of, if there is one, and a second one of the smallest.
@@ -194,16 +218,31 @@ impl Pool {
         }
     }
 
+    // A node of a form, out of the first stock of it that has one.
     fn supply_one(&self, guard: &mut Guard, form: NodeType)
         requires map { guard.old.book ≡ self.now }
         ensures { guard.new ≡ guard.old }
     {
-        let Some(slot) = self.stocks.get(place_of(form) as usize) else {
-            return;
+        for row in 0..ROWS {
+            if self.supply_at(guard, form, row) {
+                return;
+            }
+        }
+    }
+
+    // The same out of the stock in a row. Whether there was one.
+    fn supply_at(&self, guard: &mut Guard, form: NodeType, row: usize) -> bool
+        requires map { guard.old.book ≡ self.now }
+        ensures { guard.new ≡ guard.old }
+    {
+        let Some(slot) = self.stock_at(form, row) else {
+            return false;
         };
         if let Some(name) = take_from(slot, &self.map, self.alloc, &mut guard.pass) {
             let _ = guard.room.spare.keep(name);
+            return true;
         }
+        false
     }
 
     /// A guard that has seen nothing. It has the room of one that was given back, if there is one.

@@ -16,7 +16,7 @@ use std::alloc::Global;
 use std::hint::spin_loop;
 
 /// How often a stock is looked for, where another thread is at it.
-const LOOKS: u32 = 1000;
+const LOOKS: u32 = 100;
 
 /// Names of nodes of one form.
 #[derive(Drop)]
