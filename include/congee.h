@@ -350,9 +350,9 @@ static inline void congee_clear(struct congee *map) {
     congee_c_clear(&handle);
 }
 
-/* Gives memory back to malloc that is held for nodes that are gone: what is free behind the last node. Not while a pair is
- * alone under the first seven bytes of its key: a place for a node is kept for each such pair. Pairs and charge stay. Never
- * fails. An empty map has done it already. */
+/* Gives memory back to malloc that is held for nodes that are gone: moves those that are left into a smaller table, unless
+ * malloc has no memory for that. A removal does it where three quarters of a table are free. Pairs and charge stay. Never
+ * fails. Its cost is that of reading each node once. */
 static inline void congee_shrink_to_fit(struct congee *map) {
     struct congee_handle handle = {map};
     congee_c_shrink_to_fit(&handle);

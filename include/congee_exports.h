@@ -133,7 +133,9 @@ int32_t congee_c_shared_is_empty(struct congee_const_shared_handle *handle, uint
 int32_t congee_c_shared_count(struct congee_const_shared_handle *handle, uint64_t *out);
 int32_t congee_c_shared_charged(struct congee_const_shared_handle *handle, uint64_t *out);
 
-int32_t congee_c_live_new(struct congee_live_handle *out);
+int32_t congee_c_live_new(uint64_t limit, struct congee_live_handle *out);
+uint64_t congee_c_live_limit(struct congee_const_live_handle *handle);
+uint64_t congee_c_live_charged(struct congee_const_live_handle *handle);
 int32_t congee_c_live_another(struct congee_live_handle *handle, struct congee_live_handle *out);
 void congee_c_live_free(struct congee_live_handle handle);
 int32_t congee_c_live_get(struct congee_const_live_handle *handle, uint64_t key, uint64_t *value);
@@ -155,6 +157,7 @@ int32_t congee_c_live_above(struct congee_const_live_handle *handle, uint64_t ke
 int32_t congee_c_live_floor(struct congee_const_live_handle *handle, uint64_t key, struct congee_pair *pair);
 int32_t congee_c_live_below(struct congee_const_live_handle *handle, uint64_t key, struct congee_pair *pair);
 int32_t congee_c_live_last(struct congee_const_live_handle *handle, struct congee_pair *pair);
+int32_t congee_c_live_count(struct congee_const_live_handle *handle, uint64_t *out);
 
 #ifdef __cplusplus
 }

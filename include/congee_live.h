@@ -2,8 +2,8 @@
  *
  * congee.h includes this header. A handle is one caller of the map. A look-up takes no lock, and writes nothing that other
  * threads read. A writer locks single nodes, one or two at a time, and calls nothing of the program meanwhile. A node
- * stays where its last pair is removed, for keys that are inserted later. For pops, counts, limits, pages downwards and
- * pages of one moment take congee_shared.h.
+ * that keeps no pair is taken out, and is used again. For pops, pages downwards and pages of one moment take
+ * congee_shared.h.
  *
  * A call is tried a bounded number of times. If a writer came in between each time, the call ends, and nothing has changed.
  *
@@ -15,24 +15,23 @@
  * What a call of the library's own functions returns is proved of their code (congee_exports.h). There is one order of
  * the calls of all handles of a map, in which each reply is that of an ordered map. A handle's own calls are in it in
  * their order, and each comes after all that its handle had seen before. A new handle has seen what its maker had. A
- * call that is busy or finds no memory isn't in it. Ranges and the next pairs aren't in it either: each key that they pass or
- * give has its value at a moment of the call, and no moment is before that of a lower key. The functions for use are
+ * call that is busy or finds no memory isn't in it. Ranges, next pairs and counts aren't in it either: each key that they pass
+ * or give has its value at a moment of the call, and no moment is before that of a lower key. The functions for use are
  * plain C around the exports, and are tested.
  *
  * A program moves here from congee_shared.h call by call. A call that both headers have takes the same arguments and
  * returns the same numbers. Those of one key promise the same, too. What differs:
  *
- *   - congee_live_new has no limit. Shards have no use, since nodes are locked one by one.
- *   - congee_live_insert may be out of memory for a present key, too.
+ *   - congee_live_new has no limit, and congee_live_new_with_limit has one of other bytes. Shards have no use, since nodes are
+ *     locked one by one.
  *   - Ranges, ends and neighbours aren't of one moment.
  *   - congee_shared_range_descending: here congee_live_below, from pair to pair.
  *   - congee_shared_pop_first: here congee_live_first, and then congee_live_compare_remove of that pair, both again until
  *     the latter returns 1. So each pair goes to one caller. A lesser key may have come in between. Likewise of the last.
- *   - congee_shared_count and congee_shared_is_empty: a program counts the insertions that return 0, and the removals that
- *     return 1.
+ *   - congee_live_count takes no constant time, and isn't of one moment.
  *   - congee_shared_clear: here pages of congee_live_range_inclusive and a removal for each pair, or a new map.
  *   - congee_shared_each and congee_shared_insert_many: loops by pages and by insertions.
- *   - congee_shared_charged: nothing.
+ *   - congee_shared_charged: here congee_live_charged, of segments of nodes.
  *
  * What a program owes, beside the rules of congee.h on places, buffers, stack and malloc. Nothing checks it:
  *
@@ -64,13 +63,38 @@ struct congee_live;
 
 /* -- Live maps -- */
 
-/* Makes an empty map and its first handle. Its first node takes 2,104 bytes. There is no limit. Returns 0 with the handle
- * in *out, or CONGEE_OOM with null there. */
-static inline int congee_live_new(struct congee_live **out) {
+/* Makes an empty map whose nodes may take so many bytes, and its first handle. UINT64_MAX is no limit. The nodes lie in
+ * segments. The first has 8,192 bytes, each further one twice as many up to 524,288. A handle that inserts has one to
+ * itself. Below 8,192 bytes there is no map, and below 24,576 nothing can be inserted.
+ *
+ * A call that needs one more segment than the limit is for is out of memory, and changes no pair. One that needs no new
+ * node is made. A node that removals took out is the next of its size, so a program removes keys until one comes in.
+ * That the limit isn't passed is tested, and no theorem states it. malloc lends some kilobytes more. Threads that need
+ * the next segment at one time may each ask malloc for it. All but one then free theirs.
+ *
+ * Returns 0 with the handle in *out, or CONGEE_OOM with null there. */
+static inline int congee_live_new_with_limit(uint64_t limit, struct congee_live **out) {
     struct congee_live_handle made = {NULL};
-    int code = congee_c_live_new(&made);
+    int code = congee_c_live_new(limit, &made);
     *out = made.guard;
     return code;
+}
+
+/* The same without a limit. */
+static inline int congee_live_new(struct congee_live **out) {
+    return congee_live_new_with_limit(UINT64_MAX, out);
+}
+
+/* The limit in bytes that the map was made with, UINT64_MAX for none, in constant time. */
+static inline uint64_t congee_live_limit(const struct congee_live *map) {
+    struct congee_const_live_handle handle = {map};
+    return congee_c_live_limit(&handle);
+}
+
+/* The bytes of the segments that the map has so far, in constant time. It never sinks. */
+static inline uint64_t congee_live_charged(const struct congee_live *map) {
+    struct congee_const_live_handle handle = {map};
+    return congee_c_live_charged(&handle);
 }
 
 /* Makes one more handle of the map, for another thread. Takes a small block. A handle that has inserted has room for
@@ -115,7 +139,7 @@ static inline int congee_live_get(const struct congee_live *map, uint64_t key, u
     return 1;
 }
 
-/* As congee_insert, or CONGEE_BUSY. It may be out of memory for a present key, too. */
+/* As congee_insert, or CONGEE_BUSY. A present key needs no memory. */
 static inline int congee_live_try_insert(struct congee_live *map, uint64_t key, uint64_t value, uint64_t *old) {
     struct congee_live_handle handle = {map};
     uint64_t it = 0;
@@ -416,6 +440,43 @@ static inline int congee_live_below(const struct congee_live *map, uint64_t key,
     if (pair)
         *pair = it;
     return 1;
+}
+
+/* -- Counts -- */
+
+/* As congee_is_empty, but for other threads' calls meanwhile: by a look for the first pair. 1 where there is no pair, and 0
+ * where there is one. Or CONGEE_BUSY. */
+static inline int congee_live_try_is_empty(const struct congee_live *map) {
+    int code = congee_live_try_first(map, NULL);
+    return code == CONGEE_BUSY ? code : code == 0;
+}
+
+/* The same. Waits while nodes on its way are busy. */
+static inline bool congee_live_is_empty(const struct congee_live *map) {
+    int code;
+    while ((code = congee_live_try_is_empty(map)) == CONGEE_BUSY)
+        CONGEE_YIELD();
+    return code == 1;
+}
+
+/* As congee_count, but it reads all nodes that have values, so takes time by their number. It is exact where no other thread
+ * writes. Else each key is counted, or not, as it was at a moment of the call. Returns 0 with the number in *count, or
+ * CONGEE_BUSY. */
+static inline int congee_live_try_count(const struct congee_live *map, uint64_t *count) {
+    struct congee_const_live_handle handle = {map};
+    uint64_t it = 0;
+    int code = congee_c_live_count(&handle, &it);
+    if (code == 0)
+        *count = it;
+    return code;
+}
+
+/* The same. Waits while nodes on its way are busy, and returns the number. */
+static inline uint64_t congee_live_count(const struct congee_live *map) {
+    uint64_t count = 0;
+    while (congee_live_try_count(map, &count) == CONGEE_BUSY)
+        CONGEE_YIELD();
+    return count;
 }
 
 #ifdef __cplusplus

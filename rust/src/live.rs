@@ -8,16 +8,16 @@ use crate::{OutOfMemory, Pair};
 use std::borrow::Borrow;
 use std::fmt;
 use std::ops::RangeBounds;
-use std::sync::{Mutex, PoisonError};
+use std::sync::{Mutex, MutexGuard, PoisonError};
 
 /// A map that threads share, each by a [`LiveGuard`] of its own, whose look-ups take no lock. They write nothing that other
-/// threads read. A writer locks single nodes. A node stays where its last pair is removed, for keys that are inserted later.
-/// For pops, counts, limits, pages downwards and pages of one moment take a [`SharedMap`](crate::SharedMap). Which call of
-/// its guards has which in its place here is listed in `docs/LIVE.md`.
+/// threads read. A writer locks single nodes. A node that keeps no pair is taken out, and is used again. For pops, pages
+/// downwards and pages of one moment take a [`SharedMap`](crate::SharedMap). Which call of its guards has which in its place
+/// here is listed in `docs/LIVE.md`.
 ///
 /// There is one order of the calls of all guards in which each reply is that of an ordered map. A guard's own calls are in
-/// it in their order, and each comes after all that its guard had seen before. Ranges and the next pairs aren't in it: each
-/// key has its value at a moment of the call.
+/// it in their order, and each comes after all that its guard had seen before. Ranges, next pairs and counts aren't in it:
+/// each key has its value at a moment of the call.
 ///
 /// ```
 /// use proved_congee::LiveMap;
@@ -56,13 +56,71 @@ impl LiveMap {
     /// # }
     /// ```
     pub fn new() -> Result<LiveMap, OutOfMemory> {
+        LiveMap::with_limit(u64::MAX)
+    }
+
+    /// An empty map whose nodes may take so many bytes. They lie in segments: the first has 8,192 bytes, each further one twice
+    /// as many up to 524,288. A guard takes one to itself as it inserts, and a later guard what is left of it. A call that
+    /// needs one more than the limit is for is out of memory, and changes no pair. One that needs no new node is made. Nodes
+    /// that removals took out are used again. Refused where there is no memory, or the limit is below the first segment.
+    ///
+    /// ```
+    /// use proved_congee::{LiveMap, OutOfMemory};
+    ///
+    /// let map = LiveMap::with_limit(1_000_000).unwrap();
+    /// let guard = map.pin().unwrap();
+    /// let stored = (0..1 << 20).take_while(|i| guard.insert(i << 20, *i).is_ok()).count() as u64;
+    /// assert!((1_000..100_000).contains(&stored));
+    /// assert!(map.charged() <= map.limit());
+    /// // (what is there can be read, replaced and removed, and a removal makes room)
+    /// assert_eq!(guard.get(7 << 20), Some(7));
+    /// assert_eq!(guard.insert(7 << 20, 8), Ok(Some(7)));
+    /// assert_eq!(guard.insert(stored << 20, 1), Err(OutOfMemory));
+    /// assert_eq!(guard.remove(7 << 20), Some(8));
+    /// assert_eq!(guard.insert(7 << 20, 9), Ok(None));
+    /// assert!(LiveMap::with_limit(8_191).is_err());
+    /// ```
+    pub fn with_limit(bytes: u64) -> Result<LiveMap, OutOfMemory> {
         let mut made = LiveHandle::none();
-        match unsafe { congee_c_live_new(&mut made) } {
+        match unsafe { congee_c_live_new(bytes, &mut made) } {
             0 => Ok(LiveMap {
                 first: Mutex::new(LiveGuard { guard: made.guard }),
             }),
             _ => Err(OutOfMemory),
         }
+    }
+
+    /// The limit that the map was made with, or `u64::MAX`.
+    ///
+    /// ```
+    /// # fn main() -> Result<(), proved_congee::OutOfMemory> {
+    /// assert_eq!(proved_congee::LiveMap::with_limit(10_000)?.limit(), 10_000);
+    /// assert_eq!(proved_congee::LiveMap::new()?.limit(), u64::MAX);
+    /// # Ok(())
+    /// # }
+    /// ```
+    pub fn limit(&self) -> u64 {
+        self.first().limit()
+    }
+
+    /// The bytes of the segments that the map has so far, in constant time. Waits while another thread takes a guard.
+    ///
+    /// ```
+    /// # fn main() -> Result<(), proved_congee::OutOfMemory> {
+    /// let map = proved_congee::LiveMap::new()?;
+    /// assert_eq!(map.charged(), 8_192);
+    /// map.pin()?.insert(7, 70)?;
+    /// assert_eq!(map.charged(), 8_192 + 16_384);
+    /// # Ok(())
+    /// # }
+    /// ```
+    pub fn charged(&self) -> u64 {
+        self.first().charged()
+    }
+
+    fn first(&self) -> MutexGuard<'_, LiveGuard> {
+        // (a call that panicked left the guard as it was)
+        self.first.lock().unwrap_or_else(PoisonError::into_inner)
     }
 
     /// A guard, by which one thread at a time calls the map. It may go to another thread, and may outlive this value. It
@@ -79,11 +137,7 @@ impl LiveMap {
     /// # }
     /// ```
     pub fn pin(&self) -> Result<LiveGuard, OutOfMemory> {
-        // (a call that panicked left the guard as it was)
-        self.first
-            .lock()
-            .unwrap_or_else(PoisonError::into_inner)
-            .try_clone()
+        self.first().try_clone()
     }
 }
 
@@ -126,6 +180,30 @@ impl LiveGuard {
             0 => Ok(LiveGuard { guard: made.guard }),
             _ => Err(OutOfMemory),
         }
+    }
+
+    /// The map's limit, as [`LiveMap::limit`].
+    ///
+    /// ```
+    /// # fn main() -> Result<(), proved_congee::OutOfMemory> {
+    /// assert_eq!(proved_congee::LiveMap::with_limit(10_000)?.pin()?.limit(), 10_000);
+    /// # Ok(())
+    /// # }
+    /// ```
+    pub fn limit(&self) -> u64 {
+        unsafe { congee_c_live_limit(&mut self.handle()) }
+    }
+
+    /// The bytes of the map's segments, as [`LiveMap::charged`].
+    ///
+    /// ```
+    /// # fn main() -> Result<(), proved_congee::OutOfMemory> {
+    /// assert_eq!(proved_congee::LiveMap::new()?.pin()?.charged(), 8_192);
+    /// # Ok(())
+    /// # }
+    /// ```
+    pub fn charged(&self) -> u64 {
+        unsafe { congee_c_live_charged(&mut self.handle()) }
     }
 
     /// The value at the key.
@@ -376,6 +454,70 @@ impl LiveGuard {
         let code =
             unsafe { congee_c_live_compare_remove(&mut self.handle(), key, expected, &mut found) };
         unless_busy(code, |code| if_expected(code, found))
+    }
+
+    /// Whether there is no pair, by a look for the first one.
+    ///
+    /// ```
+    /// # fn main() -> Result<(), proved_congee::OutOfMemory> {
+    /// let guard = proved_congee::LiveMap::new()?.pin()?;
+    /// assert!(guard.is_empty());
+    /// guard.insert(7, 70)?;
+    /// assert!(!guard.is_empty());
+    /// # Ok(())
+    /// # }
+    /// ```
+    pub fn is_empty(&self) -> bool {
+        waiting(|| self.try_is_empty())
+    }
+
+    /// The same, which doesn't wait.
+    ///
+    /// ```
+    /// # fn main() -> Result<(), Box<dyn std::error::Error>> {
+    /// let guard = proved_congee::LiveMap::new()?.pin()?;
+    /// guard.insert(7, 70)?;
+    /// assert!(!guard.try_is_empty()?);
+    /// # Ok(())
+    /// # }
+    /// ```
+    pub fn try_is_empty(&self) -> Result<bool, Busy> {
+        Ok(self.try_first()?.is_none())
+    }
+
+    /// How many pairs there are. It reads all nodes that have values, so takes time by their number. It is exact where no other
+    /// thread writes. Else each key is counted, or not, as it was at a moment of the call.
+    ///
+    /// ```
+    /// # fn main() -> Result<(), proved_congee::OutOfMemory> {
+    /// let guard = proved_congee::LiveMap::new()?.pin()?;
+    /// for key in [5, 7, 9] {
+    ///     guard.insert(key, 10 * key)?;
+    /// }
+    /// assert_eq!(guard.len(), 3);
+    /// # Ok(())
+    /// # }
+    /// ```
+    pub fn len(&self) -> usize {
+        waiting(|| self.try_len())
+    }
+
+    /// The same, which doesn't wait.
+    ///
+    /// ```
+    /// # fn main() -> Result<(), Box<dyn std::error::Error>> {
+    /// let guard = proved_congee::LiveMap::new()?.pin()?;
+    /// for key in [5, 7, 9] {
+    ///     guard.insert(key, 10 * key)?;
+    /// }
+    /// assert_eq!(guard.try_len()?, 3);
+    /// # Ok(())
+    /// # }
+    /// ```
+    pub fn try_len(&self) -> Result<usize, Busy> {
+        let mut count = 0;
+        let code = unsafe { congee_c_live_count(&mut self.handle(), &mut count) };
+        unless_busy(code, |_| as_length(count))
     }
 
     /// The pair with the least key. It was there at a moment of the call, and no key below it is there throughout.

@@ -430,9 +430,9 @@ impl Map {
         unsafe { congee_c_clear(&mut self.handle()) }
     }
 
-    /// Gives memory back that is held for nodes that are gone: what is free behind the last node. Not while a pair is alone under
-    /// the first seven bytes of its key: a place for a node is kept for each such pair. Pairs and charge stay. Never fails. An
-    /// empty map has done it already.
+    /// Gives memory back that is held for nodes that are gone: moves those that are left into a smaller table, unless there is no
+    /// memory for that. A removal does it where three quarters of a table are free. Pairs and charge stay. Never fails. Its cost
+    /// is that of reading each node once.
     ///
     /// ```
     /// # fn main() -> Result<(), proved_congee::OutOfMemory> {

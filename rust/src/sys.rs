@@ -287,7 +287,9 @@ extern "C" {
     pub(crate) fn congee_c_shared_is_empty(handle: *mut SharedHandle, out: *mut u64) -> i32;
     pub(crate) fn congee_c_shared_count(handle: *mut SharedHandle, out: *mut u64) -> i32;
     pub(crate) fn congee_c_shared_charged(handle: *mut SharedHandle, out: *mut u64) -> i32;
-    pub(crate) fn congee_c_live_new(out: *mut LiveHandle) -> i32;
+    pub(crate) fn congee_c_live_new(limit: u64, out: *mut LiveHandle) -> i32;
+    pub(crate) fn congee_c_live_limit(handle: *mut LiveHandle) -> u64;
+    pub(crate) fn congee_c_live_charged(handle: *mut LiveHandle) -> u64;
     pub(crate) fn congee_c_live_another(handle: *mut LiveHandle, out: *mut LiveHandle) -> i32;
     pub(crate) fn congee_c_live_free(handle: LiveHandle);
     pub(crate) fn congee_c_live_get(handle: *mut LiveHandle, key: u64, value: *mut u64) -> i32;
@@ -345,4 +347,5 @@ extern "C" {
     pub(crate) fn congee_c_live_floor(handle: *mut LiveHandle, key: u64, pair: *mut Pair) -> i32;
     pub(crate) fn congee_c_live_below(handle: *mut LiveHandle, key: u64, pair: *mut Pair) -> i32;
     pub(crate) fn congee_c_live_last(handle: *mut LiveHandle, pair: *mut Pair) -> i32;
+    pub(crate) fn congee_c_live_count(handle: *mut LiveHandle, out: *mut u64) -> i32;
 }

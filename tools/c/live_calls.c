@@ -236,13 +236,24 @@ static void call_ends(struct congee_live *map, bool is_some) {
     need(is_there(c, is_some ? THERE - 1 : THERE) && is_there(d, is_some ? THERE - 1 : THERE), "the pair of last");
 }
 
+/* Counts of so many keys, by both forms. */
+static void call_counts(struct congee_live *map, uint64_t keys) {
+    uint64_t count = 99;
+    need(congee_live_count(map) == keys, "count");
+    need(congee_live_try_count(map, &count) == 0 && count == keys, "try_count");
+    need(congee_live_is_empty(map) == (keys == 0) && congee_live_try_is_empty(map) == (keys == 0), "is_empty");
+}
+
 /* Each range, each next pair and each one before, of the keys above, and of no keys. They are removed, so nodes without pairs are there. */
 static void call_ranges(void) {
     struct congee_live *map;
     need(congee_live_new(&map) == 0, "a map");
     call_ends(map, false);
-    for (size_t i = 0; i < THERE; i++)
+    call_counts(map, 0);
+    for (size_t i = 0; i < THERE; i++) {
         need(congee_live_insert(map, there[THERE - 1 - i], 10 * there[THERE - 1 - i], NULL) == 0, "a key");
+        call_counts(map, i + 1);
+    }
     for (size_t i = 0; i < sizeof ranges / sizeof *ranges; i++) {
         call_range(map, &ranges[i], true);
         call_range(map, &ranges[i], false);
@@ -259,6 +270,7 @@ static void call_ranges(void) {
     for (size_t i = 0; i < sizeof nears / sizeof *nears; i++)
         call_before(map, nears[i].key, THERE, THERE);
     call_ends(map, false);
+    call_counts(map, 0);
     need(congee_live_range_inclusive(map, 0, UINT64_MAX, (struct congee_pair[1]){{0, 0}}, 1) == 0, "a range of no keys");
     congee_live_free(map);
 }
@@ -317,6 +329,8 @@ static void call_mixed(void) {
         need(code == its && one == other, "a call beside a map with one owner");
         if (call % 16 == 0)
             compare_pairs(map, handles[next(&seed) % 2], row.key, &seed);
+        if (call % 4096 == 0)
+            need(congee_count(map) == congee_live_count(handles[next(&seed) % 2]), "a count beside a map with one owner");
     }
     for (uint64_t i = 0; i < KEYS; i++) {
         uint64_t one = NOTHING, other = NOTHING;

@@ -1,6 +1,6 @@
 /* Each request for memory of a map that is read without a lock, and of its handles, fails in turn, alone and with all after it:
- * the call returns CONGEE_OOM, everything is as it was, no node stays locked, and no block is lost. Linked with --wrap for
- * malloc, realloc and free. */
+ * the call is made without, or it returns CONGEE_OOM and everything is as it was. No node stays locked, and no block is lost.
+ * Linked with --wrap for malloc, realloc and free. */
 #include "congee.h"
 #include <stdio.h>
 #include <stdlib.h>

@@ -84,6 +84,8 @@ static bool is_busy(struct congee_live *map) {
         need(congee_live_try_below(map, LEAF + 1, &pair) == CONGEE_BUSY, "a pair below, in its leaf");
         need(congee_live_try_range(map, LEAF, LEAF + 4, &page, 1, &n) == CONGEE_BUSY, "a range in its leaf");
         need(congee_live_try_range_inclusive(map, 0, LEAF, &page, 1, &n) == CONGEE_BUSY, "a range to its leaf");
+        need(congee_live_try_count(map, &found) == CONGEE_BUSY, "a count of all leaves");
+        need(congee_live_try_is_empty(map) == CONGEE_BUSY, "a test for no pair, by its leaf");
         need(pair.key == 99 && n == 99, "a busy reader writes no pair and no number");
         need(value == 99 && old == 99 && found == 99, "a busy call writes nothing");
     }

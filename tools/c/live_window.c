@@ -1,7 +1,7 @@
 /* A window of keys that moves on for ever, in a map that is read without a lock: each step stores the next key and removes the
  * one that leaves the window. Threads share the steps, and each has a handle of its own. The map holds at most three times the
- * memory that it has after a tenth of the steps, and two segments, since nodes that were taken out are used again. Handles that come and go
- * meanwhile leave nothing behind. Over keys that are spread the map grows as yet, and what it holds is only printed.
+ * memory that it has after a tenth of the steps, and two segments, since nodes that were taken out are used again. So it is over
+ * dense keys and over spread ones. Handles that come and go meanwhile leave nothing behind.
  *
  *     live_window [STEPS] [THREADS]     so many steps, in all */
 #define _POSIX_C_SOURCE 200809L
@@ -103,11 +103,12 @@ int main(int argc, char **argv) {
     if (argc > 2)
         threads = strtoull(argv[2], NULL, 10);
     need(threads >= 1 && threads <= MOST && steps > 10 * threads, "STEPS above ten times THREADS, and at most 64 threads");
-    size_t start, end;
+    size_t start, end, start_dense, end_dense;
     move(spread, &start, &end);
-    printf("%" PRIu64 " steps by %" PRIu64 " threads: from %zu to %zu bytes over spread keys", steps, threads, start, end);
-    move(dense, &start, &end);
-    printf(", from %zu to %zu over dense ones\n", start, end);
-    need(end <= 3 * start + 2 * SEGMENT, "memory that stays within three times what it was, and two segments");
+    move(dense, &start_dense, &end_dense);
+    printf("%" PRIu64 " steps by %" PRIu64 " threads: from %zu to %zu bytes over spread keys, from %zu to %zu over dense ones\n", steps, threads,
+           start, end, start_dense, end_dense);
+    need(end <= 3 * start + 2 * SEGMENT, "memory over spread keys that stays within three times what it was, and two segments");
+    need(end_dense <= 3 * start_dense + 2 * SEGMENT, "memory over dense keys that stays within three times what it was, and two segments");
     return 0;
 }

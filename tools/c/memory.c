@@ -1,5 +1,6 @@
 /* What malloc lends to a map: little once no pair is left, after congee_clear, removals one by one and pops, and again and again.
- * A map of dense keys that is left small holds little after congee_shrink_to_fit. */
+ * A map that removals leave small holds as much for each pair as one that was never larger, or four times as much until
+ * congee_shrink_to_fit. */
 #include "congee.h"
 #include <inttypes.h>
 #include <malloc.h>
@@ -31,11 +32,6 @@ static size_t lent(void) {
 static void fill(struct congee *map, bool dense) {
     for (uint64_t i = 0; i < KEYS; i++)
         need(congee_insert(map, dense ? i : key_of(i), i, NULL) == 0, "a new key");
-}
-
-static void fill_again(struct congee *map, uint64_t from) {
-    for (uint64_t i = from; i < KEYS; i++)
-        need(congee_insert(map, i, i, NULL) == 0, "a key that was removed");
 }
 
 static void remove_each(struct congee *map, bool dense) {
@@ -77,25 +73,32 @@ static void empty_it(const char *how, bool dense, void (*empty)(struct congee *,
     need(lent() < before + LEFT, "a freed map holds nothing");
 }
 
-/* Most pairs of a map of dense keys go. What it held for them does where it is told to shrink, and nothing else. */
-static void shrink_it(void) {
-    enum { KEPT = 1000 };
+/* All but few of a million keys go. What is held for them does too, and then what congee_shrink_to_fit finds. */
+static void shrink_it(bool dense, bool one_by_one) {
+    enum { MANY = 1000000, KEPT = 1000, MOST = 800, LEAST = 300 };
     size_t before = lent();
     struct congee *map;
     need(congee_new(&map) == 0, "a map");
-    fill(map, true);
-    need(congee_remove_range_inclusive(map, KEPT, UINT64_MAX) == KEYS - KEPT, "the pairs of a range");
+    for (uint64_t i = 0; i < MANY; i++)
+        need(congee_insert(map, dense ? i : key_of(i), i, NULL) == 0, "a new key");
+    size_t full = lent() - before;
+    for (uint64_t i = KEPT; one_by_one && i < MANY; i++)
+        need(congee_remove(map, dense ? i : key_of(i), NULL) == 1, "a key that is there");
+    if (!one_by_one)
+        need(congee_remove_range_inclusive(map, KEPT, UINT64_MAX) == MANY - KEPT, "the pairs of a range");
     size_t held = lent() - before, charged = congee_charged(map);
     congee_shrink_to_fit(map);
     size_t left = lent() - before;
-    printf("shrunk, dense: %d keys held %zu bytes, then %zu\n", KEPT, held, left);
-    need(left + KEYS / 10 < held, "a map that shrinks gives back what it held for other pairs");
+    printf("%s, %s: %d keys held %zu bytes, %d left %zu, and shrunk %zu\n", one_by_one ? "one by one" : "a range", dense ? "dense" : "random",
+           MANY, full, KEPT, held, left);
+    need(held < MOST * KEPT && left < LEAST * KEPT, "a map that removals leave small holds little");
     need(congee_count(map) == KEPT && congee_charged(map) == charged, "the pairs and the charge stay");
     for (uint64_t i = 0; i < KEPT; i++) {
         uint64_t value = 0;
-        need(congee_get(map, i, &value) && value == i, "each pair is there");
+        need(congee_get(map, dense ? i : key_of(i), &value) && value == i, "each pair is there");
     }
-    fill_again(map, KEPT);
+    for (uint64_t i = KEPT; i < KEYS; i++)
+        need(congee_insert(map, dense ? i : key_of(i), i, NULL) == 0, "a key that was removed");
     congee_free(map);
     need(lent() < before + LEFT, "a freed map holds nothing");
 }
@@ -107,6 +110,8 @@ int main(void) {
         empty_it("removed one by one", dense, remove_each);
         empty_it("popped", dense, pop_each);
     }
-    shrink_it();
+    shrink_it(true, false);
+    shrink_it(true, true);
+    shrink_it(false, true);
     return 0;
 }

@@ -1,6 +1,7 @@
 /* Each of the first 400 allocations fails in turn: the call answers CONGEE_OOM, everything is as it was, and nothing leaks.
- * Then each that removals make, alone and with all after it: none of them is refused. Then each that freezing a map and
- * another reader take. Then the least limits, and one below each. Linked with --wrap for malloc, realloc and free. */
+ * Then each that removals make, alone and with all after it: none of them is refused. Then each that a map makes which shrinks,
+ * and each that freezing a map and another reader take. Then the least limits, and one below each. Linked with --wrap for
+ * malloc, realloc and free. */
 #include "congee.h"
 #include <stdio.h>
 #include <stdlib.h>
@@ -119,6 +120,28 @@ static bool empty(long granted, bool all_after) {
     return failed > 0;
 }
 
+/* Removes most keys of a map without memory for a smaller table, and shrinks it with so many allocations granted. Returns
+ * whether one failed. */
+static bool shrink(long granted) {
+    enum { KEPT = 45 };
+    struct congee *map;
+    need(congee_new(&map) == 0, "a map");
+    need(fill(map) == 0, "an insertion with memory");
+    left = 0;
+    for (uint64_t i = KEYS; i-- > KEPT;)
+        need(congee_remove(map, key_of(i), NULL) == 1, "a removal without memory");
+    uint64_t charged = congee_charged(map);
+    left = granted;
+    failed = 0;
+    congee_shrink_to_fit(map);
+    left = -1;
+    need(congee_charged(map) == charged, "the charge of a map that shrinks");
+    check(map, KEPT);
+    congee_free(map);
+    need(live == 0, "a block leaks");
+    return failed > 0;
+}
+
 /* Freezes a map and makes another reader, with so many allocations granted, and thaws it again. Returns whether one
  * failed. */
 static bool freeze(long granted) {
@@ -167,7 +190,7 @@ static int insert_with_limit(uint64_t limit) {
 }
 
 int main(void) {
-    long maps = 0, insertions = 0, removals = 0, readers = 0;
+    long maps = 0, insertions = 0, removals = 0, tables = 0, readers = 0;
     for (long fail = 0; fail < FIRST; fail++) {
         struct congee *map;
         left = fail;
@@ -188,6 +211,9 @@ int main(void) {
     while (empty(removals, false) && empty(removals, true))
         removals++;
     need(removals >= IN_LEAVES / 20 + (KEYS - IN_LEAVES) / 40, "each leaf and each node above takes memory for a smaller one");
+    while (shrink(tables))
+        tables++;
+    need(tables >= 2, "a map that shrinks takes a smaller table, and a list of slots");
     while (freeze(readers))
         readers++;
     need(readers == 3, "a frozen map takes two blocks, and another reader one");
@@ -195,7 +221,7 @@ int main(void) {
     need(insert_with_limit(2104) == CONGEE_OOM && insert_with_limit(2167) == CONGEE_OOM, "a limit below a leaf's size");
     need(insert_with_limit(2168) == 0, "the least limit for one pair");
     need(live == 0, "a block leaks");
-    printf("%ld maps, %ld insertions, %ld smaller nodes and %ld readers refused, no block lost\n", maps, insertions, removals,
-           readers);
+    printf("%ld maps, %ld insertions, %ld smaller nodes, %ld tables and %ld readers refused, no block lost\n", maps, insertions,
+           removals, tables, readers);
     return 0;
 }

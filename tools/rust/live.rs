@@ -1,5 +1,5 @@
 //! Guards of a `LiveMap`: mixed calls by two of them in turn, each answer compared with that of a `BTreeMap`. Then threads that
-//! add, remove and read ranges on one map, so that sums have to agree and keys that stay have to be read.
+//! add, remove, read ranges and count on one map, so that sums have to agree and keys that stay have to be read.
 
 use proved_congee::{LiveGuard, LiveMap, OutOfMemory, Pair};
 use std::collections::BTreeMap;
@@ -125,17 +125,27 @@ fn read(guard: &LiveGuard, plain: &Plain, at: u64, seed: &mut u64) {
     }
 }
 
+fn count(guard: &LiveGuard, plain: &Plain) {
+    assert_eq!((guard.len(), guard.try_len()), (plain.len(), Ok(plain.len())));
+    assert_eq!(guard.is_empty(), plain.is_empty());
+    assert_eq!(guard.try_is_empty(), Ok(plain.is_empty()));
+}
+
 fn beside_btree() -> Result<(), OutOfMemory> {
     let map = LiveMap::new()?;
     let guards = [map.pin()?, map.pin()?];
     let mut plain = Plain::new();
     let mut seed = 7;
-    for _ in 0..CALLS {
+    count(&guards[0], &plain);
+    for call in 0..CALLS {
         let guard = &guards[(next(&mut seed) % 2) as usize];
         let (at, value) = (key(&mut seed), next(&mut seed) % 4);
         change(guard, &mut plain, at, value, &mut seed);
         if next(&mut seed) % 4 == 0 {
             read(guard, &plain, at, &mut seed);
+        }
+        if call % 5000 == 0 {
+            count(guard, &plain);
         }
     }
     assert!(guards[0].iter().eq(plain));
@@ -153,6 +163,8 @@ fn work(guard: &LiveGuard, id: u64) {
         if i % 256 == 0 {
             let shared = guard.range(..64 * 256).filter(|(key, _)| key % 256 == 0);
             assert!(shared.map(|(key, _)| key).eq((0..64).map(|key| key * 256)));
+            // (the keys that stay, and at most all that the other threads store and remove)
+            assert!((64..=64 * THREADS as usize).contains(&guard.len()));
         }
     }
 }
@@ -170,7 +182,7 @@ fn by_threads() -> Result<(), OutOfMemory> {
         }
         Ok::<(), OutOfMemory>(())
     })?;
-    assert_eq!(first.iter().count(), 64);
+    assert_eq!((first.iter().count(), first.len()), (64, 64));
     assert_eq!(
         first.iter().map(|(_, sum)| sum).sum::<u64>(),
         THREADS * EACH

@@ -6,8 +6,8 @@
 //!
 //! An answer is an `i32`: 0, 1 or 2 with the meaning that each call documents, `OOM` or `BUSY`.
 //!
-//! Here are the calls that make a map and its handles, and get, set and remove one key. `computed`, `next_pair` and `ranges`
-//! have the others.
+//! Here are the calls that make a map and its handles, its limit, and those that get, set and remove one key. `computed`,
+//! `next_pair` and `ranges` have the others.
 //!
 //! Tested in `tools/c-library`.
 #![tactic(auto)]
@@ -20,6 +20,7 @@ ghost use Rattle.live_updates.specs.Entries.{removed, swapped};
 ghost use Rattle.congee_live_c.specs.Answer.{oom, busy};
 
 mod computed;
+mod counts;
 mod handle;
 mod held;
 mod next_pair;
@@ -60,16 +61,17 @@ impl RangeEntry for Pair {
     }
 }
 
-/// Writes the first handle of a new, empty map to `out` and answers 0, or answers `OOM` and writes nothing.
+/// Writes the first handle of a new, empty map to `out` and answers 0, or answers `OOM` and writes nothing. The segments of the
+/// map's nodes may take so many bytes together; `u64::MAX` is no limit.
 #[unsafe(no_mangle)]
-pub extern "C" fn congee_c_live_new(alloc: Global, out: &mut Room) -> i32
+pub extern "C" fn congee_c_live_new(alloc: Global, limit: u64, out: &mut Room) -> i32
     requires { out.old.held ≡ None }
     ensures code { (result ≡ pos 0) ⊎ (result ≡ oom) }
     ensures made { result ≡ pos 0 → IsSome out.new.held }
     ensures unseen { result ≡ pos 0 → IfSome out.new.held (λ held. held.guard.seen ≡ []) }
     ensures refused { result ≡ oom → out.new ≡ out.old }
 {
-    let Ok(guard) = Caller::first(alloc) else {
+    let Ok(guard) = Caller::first(alloc, limit) else {
         return OOM;
     };
     let Ok(handle) = Handle::new(alloc, Held { guard }) else {
@@ -77,6 +79,24 @@ pub extern "C" fn congee_c_live_new(alloc: Global, out: &mut Room) -> i32
     };
     *out = Room::of(handle);
     0
+}
+
+/// The limit in bytes that the map was made with, or `u64::MAX`. Takes constant time.
+#[unsafe(no_mangle)]
+pub extern "C" fn congee_c_live_limit(handle: &mut Handle) -> u64
+    ensures same { handle.new.held ≡ handle.old.held }
+    ensures place { handle.new.ptr ≡ handle.old.ptr }
+{
+    handle.as_mut().guard.limit()
+}
+
+/// The bytes of the segments that the map has so far. Takes constant time.
+#[unsafe(no_mangle)]
+pub extern "C" fn congee_c_live_charged(handle: &mut Handle) -> u64
+    ensures same { handle.new.held ≡ handle.old.held }
+    ensures place { handle.new.ptr ≡ handle.old.ptr }
+{
+    handle.as_mut().guard.charged()
 }
 
 /// Writes one more handle of the map to `out` and answers 0, or answers `OOM`, writes nothing and changes nothing. Both

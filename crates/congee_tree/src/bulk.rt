@@ -56,8 +56,8 @@ impl<P: Payload, A: Allocator> RawCongee<P, A> {
         self.law_empty();
     }
 
-    /// Gives memory back to the machine that is held for nodes that are gone: the free slots past the last node. Not
-    /// while a pair is alone under the first seven bytes of its key: a slot is kept for each such pair. Never fails.
+    /// Gives memory back to the machine that is held for nodes that are gone: moves those that are left into a smaller
+    /// table, where it has memory for that. A removal does so once three quarters of a table are free. Never fails.
     pub fn shrink_to_fit(&mut self)
         ensures { self.new ≡ self.old }
     {

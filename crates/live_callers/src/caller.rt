@@ -11,8 +11,10 @@ ghost use Rattle.live_computes.specs.Entries.{inserted_with, sum_with};
 ghost use Rattle.live_order.specs.Page.{pairs_of};
 ghost use Rattle.live_scans.specs.Scans.{EntersNothing, HasPage, HasNext};
 ghost use Rattle.live_floors.specs.Floors.{HasBefore};
+ghost use Rattle.live_counts.specs.Counts.{HasCounted};
 
 use live_calls::map::{Busy, Guard, Refusal};
+use live_counts::counts;
 use live_floors::floors;
 use live_order::page::RangeEntry;
 use live_pool::pool::Pool;
@@ -41,12 +43,12 @@ impl Model for Caller {
 }
 
 impl Caller {
-    /// The first caller of a new, empty map. It has seen nothing. `OOMError` if there is no memory for the map, whose root
-    /// has 2,104 bytes.
-    pub fn first(alloc: Global) -> Result<Caller, OOMError>
+    /// The first caller of a new, empty map. It has seen nothing. The map's segments may take so many bytes together.
+    /// `OOMError` if there is no memory for the map, or the limit is below 8,192 bytes.
+    pub fn first(alloc: Global, limit: u64) -> Result<Caller, OOMError>
         ensures { IfOk result (λ first. first.seen ≡ []) }
     {
-        let made = Pool::new(alloc)?;
+        let made = Pool::with_limit(alloc, limit)?;
         let Ok(pool) = Arc::new(alloc, made) else {
             return Err(OOMError::new());
         };
@@ -63,6 +65,16 @@ impl Caller {
         };
         let guard = pool.pin();
         Ok(Caller { pool, guard })
+    }
+
+    /// The limit in bytes that the map was made with.
+    pub fn limit(&self) -> u64 {
+        self.pool.map.limit()
+    }
+
+    /// The bytes of the segments that the map has so far, which its limit is for.
+    pub fn charged(&self) -> u64 {
+        self.pool.map.charged()
     }
 
     /// Two callers of one map meet. Both have then seen one legal history, which begins with what each had seen.
@@ -217,6 +229,15 @@ impl Caller {
         ensures busy { OnErr result (EntersNothing self.old self.new) }
     {
         floors::last(&self.pool.map, &mut self.guard)
+    }
+
+    /// How many pairs there are: 2 to the 64 at most. Each key is read at a moment of the call. Takes no memory. `Busy` if too
+    /// many writers came in between.
+    pub fn count(&mut self) -> Result<u128, Busy>
+        ensures counted { IfOk result (λ count. HasCounted self.old count self.new) }
+        ensures busy { OnErr result (EntersNothing self.old self.new) }
+    {
+        counts::count(&self.pool.map, &mut self.guard)
     }
 }
 

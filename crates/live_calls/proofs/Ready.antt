@@ -29,7 +29,11 @@ sights_kept v w n places met s = record { spot = s.spot; met = met s.spot s.met;
 
 spares_kept : (v w : Seen) (s : Spares) → ((p : Place) → IsIn p v.places → IsIn p w.places) → ((a : Spot) → IsIn a v.client.met → IsIn a w.client.met) → HasSpares v s → HasSpares w s
 unfolding sights_kept
-spares_kept v w s places met h = ((λ form some. let i = h.0 form some in record { sighted = sights_kept v w (slot_of s form) places met i.sighted; in_form = i.in_form }), (λ some. sights_kept v w s.more places met (h.1 some)))
+spares_kept v w s places met h = (
+  (λ form some. let i = h.0 form some in record { sighted = sights_kept v w (slot_of s form) places met i.sighted; in_form = i.in_form }),
+  (λ some. let i = h.1 some in record { sighted = sights_kept v w s.second places met i.sighted; in_form = i.in_form }),
+  (λ some. sights_kept v w s.more places met (h.2 some)),
+)
 
 pub spares_last : (v w : Seen) (s : Spares) → Keeps v w → HasSpares v s → HasSpares w s
 spares_last v w s k h = spares_kept v w s k.places k.met h

@@ -1,5 +1,5 @@
 -- What a caller knows between two calls, and what a call does.
-use Rattle.std.specs.Prelude.{◌≡◌, ℕ, [], Option, Some, None}
+use Rattle.std.specs.Prelude.{◌≡◌, ℕ, [], Option, Result, Ok, Err}
 use Rattle.word_book.specs.Book.{Book}
 use Rattle.live_nodes.specs.Seats.{SeatView}
 use Rattle.live_law.specs.Views.{View, Ask, inserted}
@@ -9,6 +9,7 @@ use Rattle.live_calls.specs.Ways.{KnowsTrunk}
 use Rattle.live_calls.specs.Rooms.{HasRoom}
 use Rattle.live_calls.specs.Spares.{HasSpares}
 use Rattle.live_calls.specs.declared.link.Room.{Room}
+use Rattle.live_calls.specs.declared.map.Refusal.{Refusal}
 
 -- what a caller knows, by its seat
 abbrev pub known_of : Book → ℕ → SeatView View → Known
@@ -23,6 +24,6 @@ pub record IsReady (v : SeatView View) (room : Room) : Type 0 where
   pub spare : HasSpares v room.spare
 
 -- An insertion is done, or the seat has seen no more.
-abbrev pub Inserts : Ask → Option (Option ℕ) → SeatView View → SeatView View → Type 0
-Inserts q None v w = w.client.seen ≡ v.client.seen
-Inserts q (Some found) v w = Answers q.caller (inserted q found) v.client.seen w.client.seen
+abbrev pub Inserts : Ask → Result (Option ℕ) Refusal → SeatView View → SeatView View → Type 0
+Inserts q (Err refused) v w = w.client.seen ≡ v.client.seen
+Inserts q (Ok found) v w = Answers q.caller (inserted q found) v.client.seen w.client.seen

@@ -1,5 +1,5 @@
 -- Nodes that a seat may use again.
-use Rattle.std.specs.Prelude.{◌≡◌, ℕ, ◌≤◌}
+use Rattle.std.specs.Prelude.{◌≡◌, ◌≢◌, ℕ, ◌≤◌}
 use Rattle.node_base.specs.declared.base_node.NodeType.{NodeType}
 use Rattle.node_base.specs.declared.base_node.NodeType.TheVariants.{N4, N16, N48, N256}
 use Rattle.live_nodes.specs.Seats.{SeatView}
@@ -25,6 +25,17 @@ with_slot s N16 n = record s { n16 = n }
 with_slot s N48 n = record s { n48 = n }
 with_slot s N256 n = record s { n256 = n }
 
--- Each name that is kept for a form is of such a node, and the further one of a node of any form. 0 names none.
+-- Each name that is kept for a form is of such a node, the second one of the smallest form, and the further one of a node of any
+-- form. 0 names none.
 abbrev pub HasSpares : SeatView View → Spares → Type 0
-HasSpares v s = ((form : NodeType) → 1 ≤ slot_of s form → IsSpare v form (slot_of s form)) × (1 ≤ s.more → Sights v s.more)
+HasSpares v s = ((form : NodeType) → 1 ≤ slot_of s form → IsSpare v form (slot_of s form)) × (1 ≤ s.second → IsSpare v N4 s.second)
+    × (1 ≤ s.more → Sights v s.more)
+
+-- This name isn't kept.
+abbrev pub Lacks : Spares → ℕ → Type 0
+Lacks s name = ((form : NodeType) → slot_of s form ≢ name) × (s.second ≢ name) × (s.more ≢ name)
+
+-- What is kept in s by another name than this is kept in t.
+abbrev pub KeepsOthers : Spares → Spares → ℕ → Type 0
+KeepsOthers s t name = ((form : NodeType) → slot_of s form ≢ name → slot_of t form ≡ slot_of s form) × (s.second ≢ name → t.second ≡ s.second)
+    × (s.more ≢ name → t.more ≡ s.more)

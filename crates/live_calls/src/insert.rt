@@ -6,7 +6,8 @@ ghost use Rattle.live_calls.specs.Stands.{Stands, HasFork, IsEnd};
 ghost use Rattle.live_calls.specs.Rooms.{HasGrown};
 ghost use Rattle.live_calls.specs.Calls.{IsReady, Inserts};
 
-use crate::link::{NEW, Room, link, link_again};
+use crate::link::{Room, link, link_again};
+use crate::map::Refusal;
 use crate::sight::{Fork, Next, step};
 use crate::split::{split, split_again};
 use crate::way::{Nodes, Pass, open, root};
@@ -122,8 +123,9 @@ fn replace(nodes: &Nodes, stand: Stand, key: u64, room: &mut Room, pass: &mut Pa
     widen_again::<Brand>(nodes, above, level, name, height, key, spare, spares, pass)
 }
 
-/// Puts a larger node in the place of a full one, which may be used again. The root has the largest form, and stays.
-pub fn enlarge(nodes: &Nodes, stand: Stand, key: u64, room: &mut Room, pass: &mut Pass)
+/// Puts a larger node in the place of a full one, which may be used again. The root has the largest form, and stays. Whether
+/// a node is lacking for that.
+pub fn enlarge(nodes: &Nodes, stand: Stand, key: u64, room: &mut Room, pass: &mut Pass) -> bool
     requires book { pass.old.book ≡ nodes.now }
     requires ready { IsReady pass.old.view room.old }
     requires stands { Stands pass.old.view key stand }
@@ -131,12 +133,16 @@ pub fn enlarge(nodes: &Nodes, stand: Stand, key: u64, room: &mut Room, pass: &mu
         × IsReady pass.new.view room.new
         × (pass.new.view.client.seen ≡ pass.old.view.client.seen) }
 {
-    if stand.height < 8 {
-        let outgrown = replace(nodes, stand, key, room, pass);
-        if outgrown {
-            let _ = room.spare.keep(stand.name);
-        }
+    if stand.height >= 8 {
+        return false;
     }
+    if room.lacks(room.spare.get(next_of(form_below(stand.name)))) {
+        return true;
+    }
+    if replace(nodes, stand, key, room, pass) {
+        let _ = room.spare.keep(stand.name);
+    }
+    false
 }
 
 /// Makes an empty leaf for a key below a node. A node that may be used again is taken, where there is one.
@@ -154,7 +160,7 @@ fn lead_on(
     ensures told { (pass.new.book ≡ pass.old.book) × (pass.new.id ≡ pass.old.id)
         × IsReady pass.new.view room.new × HasGrown pass.old.view pass.new.view }
 {
-    let spare = room.spare.get(NEW);
+    let spare = room.spare.smallest();
     if spare == 0 {
         return link::<Brand>(nodes, stand.name, stand.height, key, room, pass);
     }
@@ -169,8 +175,8 @@ fn lead_on(
     )
 }
 
-/// Brings a key's way nearer to its leaf: by a new leaf, or by room for one.
-pub fn extend(nodes: &Nodes, stand: Stand, key: u64, room: &mut Room, pass: &mut Pass)
+/// Brings a key's way nearer to its leaf: by a new leaf, or by room for one. Whether a node is lacking for that.
+pub fn extend(nodes: &Nodes, stand: Stand, key: u64, room: &mut Room, pass: &mut Pass) -> bool
     requires book { pass.old.book ≡ nodes.now }
     requires ready { IsReady pass.old.view room.old }
     requires stands { Stands pass.old.view key stand }
@@ -179,14 +185,27 @@ pub fn extend(nodes: &Nodes, stand: Stand, key: u64, room: &mut Room, pass: &mut
         × IsReady pass.new.view room.new
         × (pass.new.view.client.seen ≡ pass.old.view.client.seen) }
 {
+    if room.lacks(room.spare.smallest()) {
+        return true;
+    }
     match lead_on(nodes, stand, key, room, pass) {
-        Ok(()) => {}
+        Ok(()) => false,
         Err(Hindrance::Full) => enlarge(nodes, stand, key, room, pass),
-        Err(Hindrance::Busy) => {}
+        Err(Hindrance::Busy) => false,
     }
 }
 
-/// Gives a leaf's key a value, or makes room there for it: `None`. So it is too where a writer came in between.
+/// Why a call isn't made as yet.
+fn refusal_of(lacks: bool) -> Refusal {
+    if lacks {
+        Refusal::OutOfMemory
+    } else {
+        Refusal::Busy
+    }
+}
+
+/// Gives a leaf's key a value, or makes room there for it: `Busy`. So it is too where a writer came in between. `OutOfMemory`
+/// where a node is lacking.
 fn insert_at(
     nodes: &Nodes,
     stand: Stand,
@@ -194,7 +213,7 @@ fn insert_at(
     value: u64,
     room: &mut Room,
     pass: &mut Pass,
-) -> Option<Option<u64>>
+) -> Result<Option<u64>, Refusal>
     requires book { pass.old.book ≡ nodes.now }
     requires ready { IsReady pass.old.view room.old }
     requires stands { Stands pass.old.view key stand }
@@ -204,17 +223,22 @@ fn insert_at(
         × Inserts (ask pass.old.id key value 1) result pass.old.view pass.new.view }
 {
     match insert_here::<Brand>(nodes, stand.name, key, value, pass) {
-        Ok(old) => Some(old),
-        Err(Hindrance::Full) => {
-            enlarge(nodes, stand, key, room, pass);
-            None
-        }
-        Err(Hindrance::Busy) => None,
+        Ok(old) => Ok(old),
+        Err(Hindrance::Full) => Err(refusal_of(enlarge(nodes, stand, key, room, pass))),
+        Err(Hindrance::Busy) => Err(Refusal::Busy),
     }
 }
 
 /// Makes a node where the key's way leaves that of a node below. A node that may be used again is taken, where there is one.
-pub fn part(nodes: &Nodes, stand: Stand, fork: Fork, key: u64, room: &mut Room, pass: &mut Pass)
+/// Whether a node is lacking for that.
+pub fn part(
+    nodes: &Nodes,
+    stand: Stand,
+    fork: Fork,
+    key: u64,
+    room: &mut Room,
+    pass: &mut Pass,
+) -> bool
     requires book { pass.old.book ≡ nodes.now }
     requires ready { IsReady pass.old.view room.old }
     requires stands { Stands pass.old.view key stand }
@@ -223,37 +247,42 @@ pub fn part(nodes: &Nodes, stand: Stand, fork: Fork, key: u64, room: &mut Room, 
         × IsReady pass.new.view room.new
         × (pass.new.view.client.seen ≡ pass.old.view.client.seen) }
 {
-    let spare = room.spare.get(NEW);
+    let spare = room.spare.smallest();
+    if room.lacks(spare) {
+        return true;
+    }
     if spare == 0 {
         let _ = split::<Brand>(nodes, stand.name, stand.height, fork, key, room, pass);
-        return;
+        return false;
     }
     let Stand { name, height, .. } = stand;
     let _ = split_again::<Brand>(nodes, name, height, fork, key, spare, &mut room.spare, pass);
+    false
 }
 
-/// Inserts a value, or comes nearer to it by a node: `None`. So it is too where a writer came in between.
+/// Inserts a value, or comes nearer to it by a node: `Busy`. So it is too where a writer came in between. `OutOfMemory` where
+/// a node is lacking.
 pub(crate) fn insert_once(
     nodes: &Nodes,
     key: u64,
     value: u64,
     room: &mut Room,
     pass: &mut Pass,
-) -> Option<Option<u64>>
+) -> Result<Option<u64>, Refusal>
     requires book { pass.old.book ≡ nodes.now }
     requires ready { IsReady pass.old.view room.old }
     ensures told { (pass.new.book ≡ pass.old.book) × (pass.new.id ≡ pass.old.id)
         × IsReady pass.new.view room.new
         × Inserts (ask pass.old.id key value 1) result pass.old.view pass.new.view }
 {
-    let End { stand, fork } = descend(nodes, key, pass)?;
+    let Some(End { stand, fork }) = descend(nodes, key, pass) else {
+        return Err(Refusal::Busy);
+    };
     if let Some(fork) = fork {
-        part(nodes, stand, fork, key, room, pass);
-        return None;
+        return Err(refusal_of(part(nodes, stand, fork, key, room, pass)));
     }
     if stand.height > 1 {
-        extend(nodes, stand, key, room, pass);
-        return None;
+        return Err(refusal_of(extend(nodes, stand, key, room, pass)));
     }
     insert_at(nodes, stand, key, value, room, pass)
 }

@@ -37,6 +37,13 @@ pub struct Room {
     pub spare: Spares,
 }
 
+impl Room {
+    /// Whether there is neither this node to be used again nor room for a new one of any form.
+    pub fn lacks(&self, spare: u64) -> bool {
+        spare == 0 && self.left < 263
+    }
+}
+
 /// Why no child can be put under a byte: there is one, or no room. `None` where it can.
 fn obstacle<S, D: Draft<S>>(
     draft: &D,
@@ -151,7 +158,7 @@ pub fn link_again<A: Asks>(
         unlock_same(words, free, pass);
         return end;
     }
-    let _ = spares.take(kind);
+    spares.forget(spare);
     let Some(again) = regain(others, spare, pass) else {
         unlock_same(words, free, pass);
         return Err(Hindrance::Busy);

@@ -1,5 +1,6 @@
 //! The map, and its callers.
-ghost use Rattle.std.specs.Prelude.{◌≡◌, ◌≢◌, ℕ, [], IfOk, OnErr};
+ghost use Rattle.std.specs.Prelude.{◌≡◌, ◌≢◌, ℕ, ◌*◌, [], IfOk, OnErr};
+ghost use Rattle.word_segments.specs.Segments.{before};
 ghost use Rattle.live_law.specs.Views.{ask, got, inserted};
 ghost use Rattle.live_law.specs.Known.{MadeCall};
 ghost use Rattle.live_calls.specs.Meetings.{SeenMore};
@@ -81,9 +82,15 @@ impl Guard {
 }
 
 impl Congee {
-    /// An empty map. It has a root of 2,104 bytes.
+    /// An empty map. It has a root of 2,104 bytes. There is no limit.
     pub fn new(alloc: Global) -> Result<Congee, AllocError> {
-        let nodes: Nodes = Heap::new(alloc, 1)?;
+        Congee::with_limit(alloc, u64::MAX)
+    }
+
+    /// An empty map, whose segments may take so many bytes together. `AllocError` also where the first one of 8,192 bytes
+    /// is more.
+    pub fn with_limit(alloc: Global, limit: u64) -> Result<Congee, AllocError> {
+        let nodes: Nodes = Heap::with_limit(alloc, 1, limit)?;
         let mut pass = nodes.enter();
         let mut room = Room {
             start: 0,
@@ -95,6 +102,18 @@ impl Congee {
             return Err(AllocError);
         }
         Ok(Congee { nodes })
+    }
+
+    /// The limit in bytes that the map was made with, or `u64::MAX`.
+    pub fn limit(&self) -> u64 {
+        self.nodes.limit()
+    }
+
+    /// The bytes of the segments that the map has so far.
+    pub fn charged(&self) -> u64
+        ensures whole { (n : ℕ) × (result ≡ 8 * before n) }
+    {
+        self.nodes.charged(&mut self.nodes.enter())
     }
 
     /// A caller, which has seen nothing yet.
@@ -126,7 +145,7 @@ impl Congee {
         Err(Busy)
     }
 
-    /// Gives a key a value. The value before.
+    /// Gives a key a value. The value before. Where there is no memory for more nodes, it is made if it needs none.
     pub fn insert(
         &self,
         alloc: Global,
@@ -140,12 +159,11 @@ impl Congee {
         ensures refused { OnErr result (guard.new ≡ guard.old) }
     {
         for _ in 0..TRIES {
-            if reserve(&self.nodes, alloc, &mut guard.room, &mut guard.pass).is_err() {
-                return Err(Refusal::OutOfMemory);
-            }
-            let done = insert_once(&self.nodes, key, value, &mut guard.room, &mut guard.pass);
-            if let Some(old) = done {
-                return Ok(old);
+            let lacks = reserve(&self.nodes, alloc, &mut guard.room, &mut guard.pass).is_err();
+            match insert_once(&self.nodes, key, value, &mut guard.room, &mut guard.pass) {
+                Ok(old) => return Ok(old),
+                Err(Refusal::OutOfMemory) if lacks => return Err(Refusal::OutOfMemory),
+                Err(_) => {}
             }
         }
         Err(Refusal::Busy)

@@ -1,9 +1,9 @@
 //! A key leaves the way of a node: a new node comes above that, where both ways part.
-ghost use Rattle.std.specs.Prelude.{◌≡◌, ℕ, ◌+◌, ◌<◌, ◌≤◌, ◌^◌, []};
+ghost use Rattle.std.specs.Prelude.{◌≡◌, ℕ, ◌+◌, ◌<◌, ◌≤◌, ◌^◌, [], IsTrue};
 ghost use Rattle.live_nodes.specs.Seats.{SeatView};
 ghost use Rattle.live_law.specs.Views.{View};
 ghost use Rattle.live_calls.specs.Ways.{Names, Sights, Leaves};
-ghost use Rattle.live_calls.specs.Spares.{HasSpares};
+ghost use Rattle.live_calls.specs.Spares.{HasSpares, Lacks};
 ghost use Rattle.live_calls.specs.Rooms.{HasRoom, HasGrown};
 
 use crate::fork::parts;
@@ -99,6 +99,7 @@ pub fn split_again<A: Asks>(
         × (pass.new.view.room ≡ pass.old.view.room) }
     ensures spares { (v : SeatView View) → HasSpares v spares.old → Sights v spare
         → HasSpares v spares.new }
+    ensures gone { IsTrue result → 1 ≤ spare → Lacks spares.new spare }
 {
     if fork.at >= height || fork.below >= 1 << 56 || spare >= 1 << 56 {
         return false;
@@ -121,7 +122,7 @@ pub fn split_again<A: Asks>(
         unlock_same(words, free, pass);
         return false;
     }
-    let _ = spares.take(kind);
+    spares.forget(spare);
     let Some(back) = regain(others, spare, pass) else {
         unlock_same(words, free, pass);
         return false;

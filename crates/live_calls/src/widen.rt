@@ -5,7 +5,7 @@ ghost use Rattle.live_encodes.specs.Encodes.{words_of};
 ghost use Rattle.live_nodes.specs.Seats.{SeatView};
 ghost use Rattle.live_law.specs.Views.{View};
 ghost use Rattle.live_calls.specs.Ways.{Names, Sights};
-ghost use Rattle.live_calls.specs.Spares.{HasSpares};
+ghost use Rattle.live_calls.specs.Spares.{HasSpares, Lacks};
 ghost use Rattle.live_calls.specs.Holds.{HasWordOf};
 ghost use Rattle.live_calls.specs.Rooms.{HasRoom, HasGrown};
 
@@ -131,6 +131,7 @@ pub fn widen_again<A: Asks>(
         × HasGrown pass.old.view pass.new.view
         × (pass.new.view.room ≡ pass.old.view.room) }
     ensures spares { (v : SeatView View) → HasSpares v spares.old → HasSpares v spares.new }
+    ensures gone { IsTrue result → 1 ≤ spare → Lacks spares.new spare }
 {
     let form = form_below(name);
     let wider = form_below(spare);
@@ -164,7 +165,7 @@ pub fn widen_again<A: Asks>(
         unlock_same(words_above, free_above, pass);
         return false;
     };
-    let _ = spares.take(wider);
+    spares.forget(spare);
     let Some(back) = regain(others, spare, pass) else {
         unlock_last(full, free, pass);
         unlock_same(words_above, free_above, pass);

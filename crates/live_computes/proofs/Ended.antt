@@ -1,5 +1,5 @@
 -- How a try ended, seen from before it.
-use Rattle.std.proofs.Common.{◌≡◌, ℕ, Bool, true, false, List, Option, Some, None, Result, Ok, Err, subst}
+use Rattle.std.proofs.Common.{◌≡◌, ◌⊎◌, inl, inr, ℕ, Bool, true, false, List, Option, Some, None, Result, Ok, Err, subst}
 use Rattle.share_rule.specs.History.{Entry}
 use Rattle.live_nodes.specs.Seats.{SeatView}
 use Rattle.live_law.specs.Views.{View}
@@ -8,7 +8,7 @@ use Rattle.live_calls.specs.declared.map.Refusal.{Refusal}
 use Rattle.live_updates.specs.inner.Updates.{Update}
 use Rattle.live_computes.specs.Entries.{inserted_with}
 use Rattle.live_computes.specs.declared.absent.Tried.{Tried}
-use Rattle.live_computes.specs.declared.absent.Tried.TheVariants.{Entered, Present, Again}
+use Rattle.live_computes.specs.declared.absent.Tried.TheVariants.{Entered, Present, Again, Lacks}
 use Rattle.live_computes.specs.inner.Ends.{Tries, Enters, Stores}
 
 abbrev Seen : Type 0
@@ -20,8 +20,12 @@ entered_by u o v w e t = subst (λ (z : Tried). Tries u z v w) e t
 pub present_same : (u : Update) (o : Tried) (v w : Seen) → o ≡ Present → Tries u o v w → w.client.seen ≡ v.client.seen
 present_same u o v w e t = subst (λ (z : Tried). Tries u z v w) e t
 
-pub again_same : (u : Update) (o : Tried) (v w : Seen) → o ≡ Again → Tries u o v w → w.client.seen ≡ v.client.seen
-again_same u o v w e t = subst (λ (z : Tried). Tries u z v w) e t
+-- it has seen no more where it isn't the end of the call
+pub goes_on : (u : Update) (o : Tried) (v w : Seen) → (o ≡ Again) ⊎ (o ≡ Lacks) → Tries u o v w → w.client.seen ≡ v.client.seen
+goes_on u o v w e t = elim e [
+  | inl x ↦ subst (λ (z : Tried). Tries u z v w) x t
+  | inr x ↦ subst (λ (z : Tried). Tries u z v w) x t
+]
 
 pub answers_later : (c : ℕ) (e : Entry ℕ) (s t u : List (Entry ℕ)) → s ≡ t → Answers c e s u → Answers c e t u
 answers_later c e s t u same a = subst (λ (z : List (Entry ℕ)). Answers c e z u) same a

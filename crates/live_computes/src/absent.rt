@@ -2,7 +2,9 @@
 ghost use Rattle.std.specs.Prelude.{◌≡◌, ℕ, Some, None, IfOk, OnErr};
 ghost use Rattle.live_calls.specs.Stands.{Stands};
 ghost use Rattle.live_calls.specs.Calls.{IsReady};
-ghost use Rattle.live_updates.specs.inner.Updates.{IsUpdate};
+ghost use Rattle.live_nodes.specs.Seats.{SeatView};
+ghost use Rattle.live_law.specs.Views.{View};
+ghost use Rattle.live_updates.specs.inner.Updates.{Update, IsUpdate};
 ghost use Rattle.live_computes.specs.inner.Ends.{Tries, Enters};
 
 use live_calls::insert::{End, Stand, descend, enlarge, extend, part, reserve};
@@ -12,12 +14,21 @@ use live_calls::way::{Nodes, Pass};
 use live_updates::leaf::{Missed, Updates, update_here};
 use std::alloc::Global;
 
-/// How a try ends: the key has the value, it has another one already, or it is to be tried again.
+/// How a try ends: the key has the value, it has another one already, it is to be tried again, or a node is lacking.
 #[derive(Clone, Copy, Debug, PartialEq, Eq)]
 pub enum Tried {
     Entered,
     Present,
     Again,
+    Lacks,
+}
+
+/// How a try ends that came nearer, or lacks a node.
+fn tried_with(lacks: bool) -> Tried
+    ensures { (u : Update) (v w : SeatView View) → w.client.seen ≡ v.client.seen
+        → Tries u result v w }
+{
+    if lacks { Tried::Lacks } else { Tried::Again }
 }
 
 /// Gives an absent key of a leaf a value, or makes room there for it.
@@ -44,8 +55,8 @@ fn enter_at<U: Updates>(
         None => Tried::Entered,
         Some(Missed::Changed) => Tried::Present,
         Some(Missed::Full) => {
-            enlarge(nodes, stand, key, room, pass);
-            Tried::Again
+            let lacks = enlarge(nodes, stand, key, room, pass);
+            tried_with(lacks)
         }
         Some(Missed::Busy) => Tried::Again,
     }
@@ -72,12 +83,10 @@ fn enter_once<U: Updates>(
         return Tried::Again;
     };
     if let Some(fork) = fork {
-        part(nodes, stand, fork, key, room, pass);
-        return Tried::Again;
+        return tried_with(part(nodes, stand, fork, key, room, pass));
     }
     if stand.height > 1 {
-        extend(nodes, stand, key, room, pass);
-        return Tried::Again;
+        return tried_with(extend(nodes, stand, key, room, pass));
     }
     enter_at::<U>(nodes, stand, key, value, room, pass)
 }
@@ -101,12 +110,15 @@ pub fn enter<U: Updates>(
         × Enters U.update result pass.old.view pass.new.view }
 {
     for _ in 0..TRIES {
-        if reserve(nodes, alloc, room, pass).is_err() {
-            return Err(Refusal::OutOfMemory);
-        }
+        let lacks = reserve(nodes, alloc, room, pass).is_err();
         match enter_once::<U>(nodes, key, value, room, pass) {
             Tried::Entered => return Ok(true),
             Tried::Present => return Ok(false),
+            Tried::Lacks => {
+                if lacks {
+                    return Err(Refusal::OutOfMemory);
+                }
+            }
             Tried::Again => {}
         }
     }

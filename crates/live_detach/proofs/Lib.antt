@@ -1,3 +1,4 @@
 pub mod Ordered
 pub mod Unlinks
 pub mod Twos
+pub mod Threes

@@ -1,5 +1,5 @@
 -- A node and the one above it are held.
-use Rattle.std.proofs.Common.{◌≡◌, ◌≢◌, ℕ, ◌+◌, Bool, cond, List, [], ◌∷◌, Option, Some, None, IfSome, refl, sym, ap, ◌∙◌, subst, eq-eqb, ne_eqb}
+use Rattle.std.proofs.Common.{◌≡◌, ◌≢◌, ℕ, ◌+◌, Bool, cond, List, [], ◌∷◌, length, Option, Some, None, IfSome, refl, sym, ap, ◌∙◌, subst, eq-eqb, ne_eqb, arith}
 use Rattle.word_book.specs.Book.{Book, Name, writes, none_joined}
 use Rattle.live_nodes.specs.Nodes.{Content}
 use Rattle.live_nodes.specs.Seats.{Place, Hold, hold, SeatView, seat_view, IsIn, without}
@@ -8,10 +8,12 @@ use Rattle.live_nodes.specs.Plays as plays
 use Rattle.live_nodes.specs.Plays.{hold_of}
 use Rattle.live_nodes.specs.Calls.{MayFree}
 use Rattle.live_rows.specs.Rows.{AreOf}
+use Rattle.node_base.specs.Form.{limit}
 use Rattle.node_base.specs.declared.base_node.NodeType.{NodeType}
 use Rattle.node_table.specs.TableNode.{TableNode, Child}
 use Rattle.spec_map.specs.Map.{lookup}
-use Rattle.live_encodes.specs.Encodes.{Encodes, IsBelow, with_child}
+use Rattle.live_encodes.specs.Encodes.{Encodes, IsBelow, counted, with_child}
+use Rattle.live_encodes.proofs.StandLaws.{encodes-counted}
 use Rattle.live_law.specs.Levels.{digit, Spot, place_at}
 use Rattle.live_law.specs.Views.{View}
 use Rattle.live_law.specs.Tree.{IsMap}
@@ -24,6 +26,15 @@ use Rattle.live_detach.proofs.Unlinks.{Loses}
 
 abbrev Seen : Type 0
 Seen = SeatView View
+
+none_long : (fs : List (ℕ × Child ℕ)) → length fs ≡ 0 → fs ≡ []
+none_long [] e = refl
+none_long (f ∷ fs) e = absurd (omega (arith, e))
+
+-- a node has no children where none is counted in its words
+pub none_counted : (form its : NodeType) (a c : Content) → a ≡ c → form ≡ its → counted (limit form) a ≡ 0 → (n : TableNode ℕ) → Encodes c n → n.form ≡ its → n.children ≡ []
+none_counted form its a c same formed none n encodes is =
+    none_long n.children (encodes-counted c n encodes ∙ (ap (λ k. counted (limit k) c) (is ∙ sym formed) ∙ (ap (λ z. counted (limit form) z) (sym same) ∙ none)))
 
 module _ (v : Seen) (b : Book) (words words_above : List Name) (free free_above : ℕ) (h : HoldsTwo v b words words_above free free_above) where
   pub as_pair : Pair v b words words_above free free_above h.below h.above h.content h.content_above

@@ -1,2 +1,3 @@
 pub mod Unlinks
 pub mod Two
+pub mod Three

@@ -6,7 +6,7 @@ use Rattle.live_nodes.specs.Nodes.{Content}
 use Rattle.live_nodes.specs.Seats.{hold, SeatView, IsIn}
 use Rattle.live_rows.specs.Rows.{AreOf}
 use Rattle.live_encodes.specs.Encodes.{words_of, Encodes}
-use Rattle.live_law.specs.Levels.{digit, Spot, name_of, place_at}
+use Rattle.live_law.specs.Levels.{digit, Spot, name_of, Covers, place_at}
 use Rattle.live_law.specs.Views.{View, locked}
 use Rattle.live_calls.specs.Holds.{HasWordOf}
 use Rattle.live_calls.specs.declared.insert.Stand.{Stand}
@@ -33,13 +33,15 @@ pub record HoldsTwo (v : SeatView View) (b : Book) (words words_above : List Nam
   pub held : IsHeld v b words free below content
   pub held_above : IsHeld v b words_above free_above above content_above
 
--- The upper one leads to the lower, by a key's digit.
+-- The upper one leads to the lower, by a key's digit. Both have keys that begin like this one.
 pub record LeadsTwo (v : SeatView View) (b : Book) (words words_above : List Name) (free free_above : ℕ) (s : Stand) (key : ℕ) : Type 0 where
   pub two : HoldsTwo v b words words_above free free_above
   pub named : s.name ≡ name_of two.below.shape
   pub named_above : s.above ≡ name_of two.above.shape
   pub high : two.below.shape.height ≡ s.height
   pub high_above : two.above.shape.height ≡ s.level
+  pub covers : Covers two.below.shape key
+  pub covers_above : Covers two.above.shape key
   pub leads : HasWordOf two.content_above two.above.shape.form (digit s.level key) s.name
 
 -- A node's words are of one without children.

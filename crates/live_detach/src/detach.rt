@@ -1,8 +1,5 @@
 //! Nodes without children are taken out.
-ghost use Rattle.std.specs.Prelude.{◌≡◌, ◌↔◌, ℕ, ◌+◌, ◌%◌, ◌<◌, ◌≤◌, ◌^◌, [], length, IsTrue, IfSome, IfNone};
-ghost use Rattle.node_table.specs.TableNode.{TableNode};
-ghost use Rattle.live_cells.specs.Words.{Looks};
-ghost use Rattle.live_encodes.specs.Encodes.{words_of, Encodes};
+ghost use Rattle.std.specs.Prelude.{◌≡◌, ℕ, ◌+◌, ◌%◌, ◌<◌, ◌≤◌, ◌^◌, [], length, IfSome, IfNone};
 ghost use Rattle.live_nodes.specs.Nodes.{Content};
 ghost use Rattle.live_law.specs.Levels.{digit};
 ghost use Rattle.live_calls.specs.Ways.{KnowsTrunk, Names, Sights, AreNamed, Keeps};
@@ -11,49 +8,34 @@ ghost use Rattle.live_calls.specs.Stands.{Stands};
 ghost use Rattle.live_detach.specs.Two.{HoldsTwo, LeadsTwo, PartsTwo};
 
 use crate::law::Unlink;
+use crate::narrow::{Fill, fill_of};
 use live_calls::held::{lock_node, unlock_same};
 use live_calls::insert::Stand;
 use live_calls::way::{Cell, Nodes, Pass, byte_at, words_at};
 use live_calls::widen::leads_to;
-use live_cells::list;
-use live_cells::words::Draft;
 use live_encodes::change::take;
-use live_encodes::form::{form_below, room_of};
+use live_encodes::form::form_below;
 use live_law::law::{Levels, Mine, Same};
 use live_nodes::node;
 use live_rows::rows::Held;
-use node_base::base_node::NodeType;
 
 /// The words by which two locked nodes were free: one, and the one above it.
 #[derive(Clone, Copy)]
-struct Two {
-    free: u64,
-    free_above: u64,
+pub(crate) struct Two {
+    pub(crate) free: u64,
+    pub(crate) free_above: u64,
 }
 
-/// A node that was taken out: its name, and whether the one above it has no children then either.
+/// A node that was taken out: its name, that of the node above it, and how many children that one has then.
 #[derive(Clone, Copy, Debug, PartialEq, Eq)]
 pub struct Taken {
     pub name: u64,
-    pub again: bool,
-}
-
-/// Whether a node has no children.
-pub fn is_empty<S, D: Draft<S>>(draft: &D, form: NodeType, seat: &mut S) -> bool
-    requires may { D.may_write draft.now seat.old }
-    requires long { length (D.words draft.now seat.old) ≡ words_of form }
-    ensures seat { Looks D.may_write D.words draft.now seat.old seat.new }
-    ensures told { (n : TableNode ℕ) → Encodes (D.words draft.now seat.old) n → n.form ≡ form
-        → (IsTrue result ↔ (n.children ≡ [])) }
-{
-    match room_of(form) {
-        Some(_) => list::count_of(draft, seat) == 0,
-        None => draft.get(1, seat) == 0,
-    }
+    pub above: u64,
+    pub left: Fill,
 }
 
 /// Locks a node and the one above it, which leads to it.
-fn lock_two(
+pub(crate) fn lock_two(
     words: &[Cell],
     words_above: &[Cell],
     stand: Stand,
@@ -87,7 +69,7 @@ fn lock_two(
 }
 
 /// Unlocks two nodes that are as they were.
-fn unlock_two(words: &[Cell], words_above: &[Cell], two: Two, pass: &mut Pass)
+pub(crate) fn unlock_two(words: &[Cell], words_above: &[Cell], two: Two, pass: &mut Pass)
     requires holds { HoldsTwo pass.old.view pass.old.book words.now words_above.now
         two.free two.free_above }
     ensures told { (pass.new.book ≡ pass.old.book) × (pass.new.id ≡ pass.old.id)
@@ -98,7 +80,7 @@ fn unlock_two(words: &[Cell], words_above: &[Cell], two: Two, pass: &mut Pass)
     unlock_same(words_above, two.free_above, pass);
 }
 
-/// Takes the lower of two nodes out, which has no children. Whether the upper one has none then either.
+/// Takes the lower of two nodes out, which has no children. How many the upper one has then.
 fn part(
     words: &[Cell],
     words_above: &[Cell],
@@ -106,7 +88,7 @@ fn part(
     key: u64,
     two: Two,
     pass: &mut Pass,
-) -> bool
+) -> Fill
     requires height { (1 ≤ stand.height) × (stand.height < stand.level) × (stand.level ≤ 8) }
     requires parts { PartsTwo pass.old.view pass.old.book words.now words_above.now
         two.free two.free_above stand key }
@@ -117,10 +99,10 @@ fn part(
     let form = form_below(stand.above);
     let held: Held<'_, Mine, Levels, 1> = Held { words: words_above };
     let _ = take(&held, form, byte_at(key, stand.level), pass);
-    let again = is_empty(&held, form, pass);
+    let left = fill_of(&held, form, pass);
     node::unlock::<Mine, Levels, Unlink>(&words_above[0], two.free_above, pass);
     node::retire::<Mine, Levels, Same>(&words[0], two.free, pass);
-    again
+    left
 }
 
 /// Takes a node without children out, below the node above it, on the way of a key. `None` where it has children, or a writer
@@ -139,13 +121,14 @@ pub fn detach(nodes: &Nodes, stand: Stand, key: u64, pass: &mut Pass) -> Option<
     let words = words_at(nodes, stand.name)?;
     let two = lock_two(words, words_above, stand, key, pass)?;
     let held: Held<'_, Mine, Levels, 0> = Held { words };
-    if !is_empty(&held, form_below(stand.name), pass) {
+    let Fill::Empty = fill_of(&held, form_below(stand.name), pass) else {
         unlock_two(words, words_above, two, pass);
         return None;
-    }
-    let again = part(words, words_above, stand, key, two, pass);
+    };
+    let left = part(words, words_above, stand, key, two, pass);
     Some(Taken {
         name: stand.name,
-        again,
+        above: stand.above,
+        left,
     })
 }

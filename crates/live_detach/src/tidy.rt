@@ -4,6 +4,7 @@ ghost use Rattle.live_calls.specs.Ways.{KnowsTrunk, Sights, Keeps};
 ghost use Rattle.live_calls.specs.Calls.{IsReady};
 
 use crate::detach::{Taken, detach};
+use crate::narrow::{Fill, narrow_way};
 use live_calls::insert::{End, descend};
 use live_calls::link::Room;
 use live_calls::way::{Nodes, Pass};
@@ -25,8 +26,8 @@ pub fn detach_one(nodes: &Nodes, key: u64, pass: &mut Pass) -> Option<Taken>
     detach(nodes, stand, key, pass)
 }
 
-/// Takes the nodes out that have no children on the way of a key. One of each form is kept, to be used again. Where a writer
-/// comes in between, they stay.
+/// Takes the nodes out that have no children on the way of a key. The one above them is narrowed, if it is left with few. One of
+/// each form is kept, to be used again. Where a writer comes in between, they stay.
 pub fn tidy(nodes: &Nodes, key: u64, room: &mut Room, pass: &mut Pass)
     requires book { pass.old.book ≡ nodes.now }
     requires ready { IsReady pass.old.view room.old }
@@ -42,7 +43,8 @@ pub fn tidy(nodes: &Nodes, key: u64, room: &mut Room, pass: &mut Pass)
             return;
         };
         let _ = room.spare.keep(taken.name);
-        if !taken.again {
+        if taken.left != Fill::Empty {
+            narrow_way(nodes, taken.above, taken.left, key, room, pass);
             return;
         }
     }

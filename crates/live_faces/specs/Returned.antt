@@ -1,13 +1,15 @@
 -- WHAT A CALL RETURNS, and the entry with which the history ends that its guard has then seen. Keys and values are written
 -- as numbers, and values are read back from them.
-use Rattle.std.specs.Prelude.{◌≡◌, ℕ, Option, Result, Ok, Err}
+use Rattle.std.specs.Prelude.{◌≡◌, ℕ, List, map, Option, Result, Ok, Err}
 use Rattle.std.specs.Option.{option_map}
+use Rattle.spec_map.specs.Map.{Pairs}
 use Rattle.share_rule.specs.History.{Entry}
 use Rattle.live_law.specs.Known.{Known, MadeCall}
 use Rattle.live_updates.specs.Entries.{swapped}
 use Rattle.live_scans.specs.Scans.{HasNext}
 use Rattle.live_floors.specs.Floors.{HasBefore}
 use Rattle.live_computes.specs.Entries.{inserted_with}
+use Rattle.live_copies.specs.Copies.{HasCopied}
 
 -- A CALL, by a guard that knew k
 module _ {V : Type 0} (of_number : ℕ → V) (k : Known) where
@@ -44,3 +46,7 @@ ReturnsNext of_pair k low found n = (pair : Option (ℕ × ℕ)) × (found ≡ o
 -- The same of the last pair below a key
 abbrev pub ReturnsBefore : {P : Type 0} → (ℕ × ℕ → P) → Known → ℕ → Option P → Known → Type 0
 ReturnsBefore of_pair k high found n = (pair : Option (ℕ × ℕ)) × (found ≡ option_map of_pair pair) × HasBefore k high pair n
+
+-- All pairs of one moment were returned, to a guard that knew k
+abbrev pub ReturnsAll : {P : Type 0} → (ℕ × ℕ → P) → Known → List P → Known → Type 0
+ReturnsAll of_pair k found n = (pairs : Pairs ℕ) × (found ≡ map of_pair pairs) × HasCopied k pairs n

@@ -9,7 +9,9 @@ ghost use Rattle.live_faces.specs.Returned.{ReturnsOld};
 
 mod computed;
 mod computes;
+mod counts;
 mod floors;
+mod moves;
 mod scans;
 mod updates;
 
@@ -59,10 +61,28 @@ fn read_back<V: Word>(number: Option<u64>) -> Option<V>
 impl<K: Word, V: Word> Congee<K, V> {
     /// An empty map. It has a root of 2,104 bytes. `OOMError` if there is no memory for it.
     pub fn new(alloc: Global) -> Result<Self, OOMError> {
+        Congee::with_limit(alloc, u64::MAX)
+    }
+
+    /// An empty map, whose nodes lie in segments that may take so many bytes together. The first has 8,192 bytes, each
+    /// further one twice as many up to 524,288. `OOMError` if memory is missing, or the limit is below the first.
+    ///
+    /// A call that needs one more than the limit is for is out of memory. Nodes that were taken out are used again.
+    pub fn with_limit(alloc: Global, limit: u64) -> Result<Self, OOMError> {
         Ok(Congee {
-            pool: Pool::new(alloc)?,
+            pool: Pool::with_limit(alloc, limit)?,
             of: PhantomData,
         })
+    }
+
+    /// The limit in bytes that the map was made with, or `u64::MAX`.
+    pub fn limit(&self) -> u64 {
+        self.pool.map.limit()
+    }
+
+    /// The bytes of the segments that the map has so far. Other threads may make more meanwhile.
+    pub fn charged(&self) -> u64 {
+        self.pool.map.charged()
     }
 
     /// A guard that has seen nothing. It takes no memory, and waits for nobody.

@@ -4,7 +4,6 @@ use Rattle.word_book.specs.Book.{State, Loads, Stores, Exchanges}
 use Rattle.live_nodes.specs.Nodes.{Content, Node}
 use Rattle.live_nodes.specs.Seats.{Place, SeatView}
 use Rattle.live_nodes.specs.Rule.{IsLive}
-use Rattle.live_nodes.specs.Acts as acts
 use Rattle.live_nodes.specs.Plays as plays
 use Rattle.live_nodes.specs.Calls.{KnowsPlace, KnowsCell, HoldsCell, InRoom, MayCheck, MayLock, MayFree, MayMake}
 use Rattle.live_nodes.proofs.Steps.{may_take, may_see, may_look, may_check, may_lock, may_write, may_free}

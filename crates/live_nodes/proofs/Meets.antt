@@ -1,7 +1,7 @@
 -- Two seats meet, and the rule is kept.
-use Rattle.std.proofs.Common.{◌≡◌, ◌≢◌, ℕ, List, map, set, sym, refl, subst}
+use Rattle.std.proofs.Common.{ℕ, List, map, set, sym, refl, subst}
 use lib.Seq.{map-set}
-use Rattle.word_book.specs.Book.{State, Meets}
+use Rattle.word_book.specs.Book.{Meets}
 use Rattle.live_nodes.specs.Nodes.{Node}
 use Rattle.live_nodes.specs.Seats.{SeatView}
 use Rattle.live_nodes.specs.Rule.{Knows, RoomFits, client, IsLive}

@@ -1,7 +1,7 @@
 //! All nodes of one book, with their words in memory: the root's, and segments that come in while others read.
-ghost use Rattle.std.specs.Prelude.{◌≡◌, ℕ, ◌+◌, ◌<◌, ◌≤◌, ◌^◌, [], ◌∷◌, length, replicate, None, IfOk, IfSome, IfNone, OnErr};
+ghost use Rattle.std.specs.Prelude.{◌≡◌, ℕ, ◌+◌, ◌*◌, ◌<◌, ◌≤◌, ◌^◌, [], ◌∷◌, length, replicate, None, IfOk, IfSome, IfNone, OnErr};
 ghost use Rattle.word_book.specs.Book.{Book, book_coded, name};
-ghost use Rattle.word_segments.specs.Segments.{AreWords};
+ghost use Rattle.word_segments.specs.Segments.{AreWords, before};
 ghost use Rattle.live_nodes.specs.Nodes.{node_at};
 ghost use Rattle.live_nodes.specs.Seats.{seat_view, place, no_room};
 ghost use Rattle.live_nodes.specs.Acts.{Admits};
@@ -13,7 +13,7 @@ use crate::room;
 use std::alloc::{AllocError, Global};
 use std::marker::Model;
 use word_book::seat::Pens;
-use word_segments::place::{before_of, size_of};
+use word_segments::place::{before_of, fitting, size_of};
 use word_segments::segments::{Segments, filled};
 
 /// A segment that a seat has as its room: the key of its first word, and how many words it has.
@@ -23,12 +23,13 @@ pub struct Grown {
     pub count: usize,
 }
 
-/// The words of all nodes. `door` lets threads enter.
+/// The words of all nodes. `door` lets threads enter. `limit` is of the bytes of all segments.
 #[derive(Drop)]
 pub struct Heap<V, L: NodeLaw<V>> {
     trunk: Vec<Word<V, L>>,
     segments: Segments<View<V, L>, Law<L>>,
     door: Seat<V, L>,
+    limit: u64,
 }
 
 impl<V, L: NodeLaw<V>> Model for Heap<V, L> {
@@ -43,8 +44,16 @@ impl<V, L: NodeLaw<V>> Model for Heap<V, L> {
 }
 
 impl<V, L: NodeLaw<V>> Heap<V, L> {
-    /// The root alone, whose content is all 0.
+    /// The root alone, whose content is all 0. There is no limit.
     pub fn new(alloc: Global, root: usize) -> Result<Heap<V, L>, AllocError>
+        requires root { (root ≡ L.root) × (root < 2 ^ 32) }
+        requires law { L.holds (node_at 1 0 (replicate root 0) None ∷ []) (L.first ∷ []) }
+    {
+        Heap::with_limit(alloc, root, u64::MAX)
+    }
+
+    /// The same, whose segments may take so many bytes together.
+    pub fn with_limit(alloc: Global, root: usize, limit: u64) -> Result<Heap<V, L>, AllocError>
         requires root { (root ≡ L.root) × (root < 2 ^ 32) }
         requires law { L.holds (node_at 1 0 (replicate root 0) None ∷ []) (L.first ∷ []) }
     {
@@ -55,7 +64,23 @@ impl<V, L: NodeLaw<V>> Heap<V, L> {
             trunk,
             segments,
             door,
+            limit,
         })
+    }
+
+    /// How many bytes all segments may take together.
+    pub fn limit(&self) -> u64 {
+        self.limit
+    }
+
+    /// How many bytes the segments take that were counted so far: those of so many first ones.
+    pub fn charged(&self, seat: &mut Seat<V, L>) -> u64
+        requires { seat.old.book ≡ self.now }
+        ensures seat { (seat.new.book ≡ seat.old.book) × (seat.new.id ≡ seat.old.id) × (seat.new.view ≡ seat.old.view) }
+        ensures whole { (n : ℕ) × (result ≡ 8 * before n) }
+    {
+        let number = self.trunk[0].load::<Idle>(seat);
+        8 * before_of(number.min((1 << 44) - 1))
     }
 
     /// One more seat. It knows the root's place.
@@ -96,7 +121,8 @@ impl<V, L: NodeLaw<V>> Heap<V, L> {
         Some(&self.trunk[at..at + count])
     }
 
-    /// One more segment, whose words are the seat's room from then on. `None` where another thread is just making one.
+    /// One more segment, whose words are the seat's room from then on. `None` where another thread is just making one. An
+    /// error where the limit would be passed.
     pub fn grow(&self, alloc: Global, seat: &mut Seat<V, L>) -> Result<Option<Grown>, AllocError>
         requires { seat.old.book ≡ self.now }
         ensures seat { (seat.new.book ≡ seat.old.book) × (seat.new.id ≡ seat.old.id) }
@@ -105,10 +131,29 @@ impl<V, L: NodeLaw<V>> Heap<V, L> {
         ensures lost { IfOk result (λ grown. IfNone grown (seat.new.view ≡ seat.old.view)) }
         ensures refused { OnErr result (seat.new.view ≡ seat.old.view) }
     {
+        self.grow_within(alloc, fitting(self.limit), seat)
+    }
+
+    /// The same among so many first segments. An error where there are as many, before any memory is taken.
+    pub fn grow_within(
+        &self,
+        alloc: Global,
+        most: u64,
+        seat: &mut Seat<V, L>,
+    ) -> Result<Option<Grown>, AllocError>
+        requires { seat.old.book ≡ self.now }
+        ensures seat { (seat.new.book ≡ seat.old.book) × (seat.new.id ≡ seat.old.id) }
+        ensures room { IfOk result (λ grown. IfSome grown (λ g. (1024 ≤ g.count)
+            × (g.start < 2 ^ 62) × (seat.new.view ≡ given seat.old.view g.start g.count))) }
+        ensures within { IfOk result (λ grown. IfSome grown (λ g.
+            g.start + g.count ≤ L.root + 2 + before most)) }
+        ensures lost { IfOk result (λ grown. IfNone grown (seat.new.view ≡ seat.old.view)) }
+        ensures refused { OnErr result (seat.new.view ≡ seat.old.view) }
+    {
         let first = self.trunk.len() as u64;
         let count = &self.trunk[0];
         let number = count.load::<Idle>(seat);
-        if number >= 1 << 44 || first >= 1 << 33 {
+        if number >= most || number >= 1 << 44 || first >= 1 << 33 {
             return Err(AllocError);
         }
         let Some(words) = self.segments.reserve(alloc, number)? else {

@@ -74,6 +74,15 @@ ready_after v w a b t m n r s ea eb et =
           };
           in_form = k.in_form;
         }),
-        (λ some. sights m.spare.more (r.spare.1 some)),
+        (λ some. let k = r.spare.1 some in record {
+          sighted = record {
+            spot = k.sighted.spot;
+            met = in_first k.sighted.spot v.client.met w.client.met k.sighted.met;
+            placed = in_first (place_at k.sighted.spot) v.places w.places k.sighted.placed;
+            named = k.sighted.named;
+          };
+          in_form = k.in_form;
+        }),
+        (λ some. sights m.spare.more (r.spare.2 some)),
       );
     }

@@ -95,9 +95,15 @@ fn no_stocks(alloc: Global, map: &Congee) -> Result<Vec<Counted<Stock>>, AllocEr
 }
 
 impl Pool {
-    /// An empty map. It has a root of 2,104 bytes, the slots and the stocks.
+    /// An empty map without a limit.
     pub fn new(alloc: Global) -> Result<Pool, AllocError> {
-        let map = Congee::new(alloc)?;
+        Pool::with_limit(alloc, u64::MAX)
+    }
+
+    /// An empty map. It has a root of 2,104 bytes, the slots and the stocks. Its segments may take so many bytes together, as
+    /// in `Congee::with_limit`.
+    pub fn with_limit(alloc: Global, limit: u64) -> Result<Pool, AllocError> {
+        let map = Congee::with_limit(alloc, limit)?;
         let slots = free_slots(alloc, &map)?;
         let stocks = no_stocks(alloc, &map)?;
         Ok(Pool {
@@ -173,7 +179,7 @@ impl Pool {
         }
     }
 
-    // A node of each form that the guard has none of, if there is one.
+    // A node of each form that the guard has none of, if there is one, and a second one of the smallest.
     fn supply(&self, guard: &mut Guard)
         requires map { guard.old.book ≡ self.now }
         ensures { guard.new ≡ guard.old }
@@ -182,6 +188,9 @@ impl Pool {
             if guard.room.spare.get(form) == 0 {
                 self.supply_one(guard, form);
             }
+        }
+        if guard.room.spare.second == 0 {
+            self.supply_one(guard, NodeType::N4);
         }
     }
 

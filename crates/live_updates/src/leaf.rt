@@ -12,7 +12,7 @@ use live_calls::held::{lock_node, unlock_same};
 use live_calls::link::Room;
 use live_calls::way::{Nodes, Pass, byte_at, words_at};
 use live_cells::words::{Draft, Drafted};
-use live_detach::detach::is_empty;
+use live_detach::narrow::{Fill, fill_of, narrow_way};
 use live_detach::tidy::tidy;
 use live_encodes::change::{change, is_full, put, take};
 use live_encodes::form::{form_below, words_in};
@@ -172,17 +172,20 @@ fn set<S, D: Draft<S>>(
     }
 }
 
-/// Whether a leaf has no keys, where one was taken out.
-fn is_emptied<S, D: Draft<S>>(draft: &D, form: NodeType, new: Option<u64>, seat: &mut S) -> bool
+/// How many keys a leaf has, where one was taken out.
+fn left_in<S, D: Draft<S>>(draft: &D, form: NodeType, new: Option<u64>, seat: &mut S) -> Fill
     requires may { D.may_write draft.now seat.old }
     requires long { length (D.words draft.now seat.old) ≡ words_of form }
     ensures seat { Looks D.may_write D.words draft.now seat.old seat.new }
 {
-    new.is_none() && is_empty(draft, form, seat)
+    if new.is_some() {
+        return Fill::Enough;
+    }
+    fill_of(draft, form, seat)
 }
 
-/// Gives a key of a leaf what it is to have, if it has what is expected. Otherwise nothing is written. `true` where the leaf
-/// has no keys then.
+/// Gives a key of a leaf what it is to have, if it has what is expected. Otherwise nothing is written. How many keys the leaf has
+/// then, where one was taken out.
 fn update_leaf<U: Updates>(
     nodes: &Nodes,
     name: u64,
@@ -190,7 +193,7 @@ fn update_leaf<U: Updates>(
     old: Option<u64>,
     new: Option<u64>,
     pass: &mut Pass,
-) -> Result<bool, Missed>
+) -> Result<Fill, Missed>
     requires book { pass.old.book ≡ nodes.now }
     requires asks { (U.update.key ≡ key) × (U.update.caller ≡ pass.old.id) }
     requires values { (U.update.old ≡ old) × (U.update.new ≡ new) }
@@ -214,9 +217,9 @@ fn update_leaf<U: Updates>(
         unlock_same(words, free, pass);
         return Err(missed);
     }
-    let emptied = is_emptied(&held, form, new, pass);
+    let left = left_in(&held, form, new, pass);
     node::unlock::<Mine, Levels, Write<U>>(&words[0], free, pass);
-    Ok(emptied)
+    Ok(left)
 }
 
 /// Gives a key of a leaf what it is to have, if it has what is expected. Otherwise nothing is written.
@@ -244,7 +247,7 @@ pub fn update_here<U: Updates>(
     }
 }
 
-/// The same. A leaf without keys is taken out of the map.
+/// The same. A leaf without keys is taken out of the map, and one that is left with few goes into the next smaller form.
 pub fn exchange_here<U: Updates>(
     nodes: &Nodes,
     name: u64,
@@ -265,11 +268,14 @@ pub fn exchange_here<U: Updates>(
         × Updated U.update result pass.old.view pass.new.view }
 {
     match update_leaf::<U>(nodes, name, key, old, new, pass) {
-        Ok(true) => {
+        Ok(Fill::Empty) => {
             tidy(nodes, key, room, pass);
             None
         }
-        Ok(false) => None,
+        Ok(left) => {
+            narrow_way(nodes, name, left, key, room, pass);
+            None
+        }
         Err(missed) => Some(missed),
     }
 }

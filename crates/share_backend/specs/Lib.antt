@@ -2,3 +2,4 @@ pub mod Changing
 pub mod Stages
 pub mod Owners
 pub mod Reads
+pub mod Upward

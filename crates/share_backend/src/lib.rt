@@ -3,8 +3,10 @@
 //! Tested in `share_maps` and `test_share_hostile`.
 #![tactic(auto)]
 
+pub mod ascending;
 pub mod change;
 pub mod event;
 pub mod lent;
 pub mod ordered;
+pub mod owner_ends;
 pub mod snapshots;

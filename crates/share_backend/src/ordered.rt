@@ -2,17 +2,18 @@
 //!
 //! Tested in `test_share_ends`.
 
-ghost use Rattle.std.specs.Prelude.{◌≡◌, ◌+◌, ◌++◌, ℕ, [], length, map, min, take, drop, reverse};
+ghost use Rattle.std.specs.Prelude.{◌≡◌, ◌+◌, ◌<◌, ◌++◌, ℕ, [], length, map, min, take, drop, reverse, OnOk, IfErr};
 ghost use Rattle.std.specs.List.{FoldsTo};
-ghost use Rattle.congee_tree.specs.Bulk.{outside, Retains};
+ghost use Rattle.congee_tree.specs.Bulk.{outside, put_all, Retains};
 ghost use Rattle.spec_map.specs.Map.{Pairs, IsMap, between};
 ghost use Rattle.spec_map.specs.Near.{first_of, last_of, floor_of, below_of, ceiling_of, above_of, without_pair};
 
-use crate::snapshots::Pages;
+use crate::ascending::Ascending;
+use spec_map::traits::Word;
 use tree_walk::range_scan::RangeEntry;
 
 /// A map of numbers that finds and removes pairs by their order.
-pub trait Ordered: Pages {
+pub trait Ordered: Ascending {
     ghost use Rattle.std.specs.Prelude.{ℕ};
     ghost use Rattle.spec_map.specs.Map.{Pairs};
 
@@ -85,6 +86,16 @@ pub trait Ordered: Pages {
     fn pop_last(&mut self) -> Option<(u64, u64)>
         ensures pair { result ≡ last_of (pairs self.old) }
         ensures pairs { pairs self.new ≡ without_pair (pairs self.old) (last_of (pairs self.old)) }
+        ensures places { (k : ℕ) → Self.place self.new k ≡ Self.place self.old k };
+
+    /// Inserts the pairs in their order, so of two with one key the later one counts. Where memory is missing for one of
+    /// them, those before it are in the map, and `Err` has their number.
+    fn insert_many<K: Word, V: Word>(&mut self, many: &[(K, V)]) -> Result<(), usize>
+        ensures ok { OnOk result
+            (pairs self.new ≡ put_all K.number V.number (pairs self.old) many.now) }
+        ensures err { IfErr result (λ inserted. (inserted < length many.now)
+            × (pairs self.new ≡ put_all K.number V.number (pairs self.old)
+            (take inserted many.now))) }
         ensures places { (k : ℕ) → Self.place self.new k ≡ Self.place self.old k };
 
     /// Removes all pairs.

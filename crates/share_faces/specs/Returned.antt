@@ -2,6 +2,8 @@
 -- written as numbers, and values are read back from them.
 use Rattle.std.specs.Prelude.{◌≡◌, ℕ, Option, Result, Ok, Err, IfSome}
 use Rattle.share_backend.specs.Owners.{never_same}
+use Rattle.std.specs.Option.{option_map}
+use Rattle.share_guards.specs.Many.{popping_owned}
 use Rattle.share_guards.specs.Operations.{WasLastCalled, computed_with, inserted_with, returned}
 use Rattle.share_rule.specs.Known.{Known, MadeCall, MadeCalls}
 use Rattle.share_works.specs.Ends.{popping}
@@ -45,6 +47,23 @@ module _ {K V : Type 0} (key_of : ℕ → K) (value_of : ℕ → V) (k : Known �
   ReturnsPopped near pair n =
       (numbers : Option (ℕ × ℕ)) × (pair ≡ in_some (λ (both : ℕ × ℕ). (key_of both.0, value_of both.1)) numbers)
       × MadeCalls same_number k (popping near numbers) n
+
+-- THE ENDS AND NEIGHBOURS of a map of owners, by a guard that knew k
+module _ {K P V : Type 0} (key_of : ℕ → K) (owned : P → V) (k : Known V) where
+  -- the pair is that of this key and an owner of this value
+  abbrev pub IsOwnerPair : Option (K × P) → Option (ℕ × V) → Type 0
+  IsOwnerPair pair both =
+      option_map {U = K × V} (λ (one : K × P). (one.0, owned one.1)) pair ≡ option_map {U = K × V} (λ (one : ℕ × V). (key_of one.0, one.1)) both
+
+  -- the call returned the pair there
+  abbrev pub ReturnsOwner : Near ℕ → Option (K × P) → Known V → Type 0
+  ReturnsOwner near pair n =
+      (both : Option (ℕ × V)) × IsOwnerPair pair both × MadeCall never_same k (returned (nearest near) (found both)) n
+
+  -- the call removed the pair there, and returned it
+  abbrev pub ReturnsPoppedOwner : Near ℕ → Option (K × P) → Known V → Type 0
+  ReturnsPoppedOwner near pair n =
+      (both : Option (ℕ × V)) × IsOwnerPair pair both × MadeCalls never_same k (popping_owned near both) n
 
 -- COMPUTE_IF_PRESENT OF A MAP OF OWNERS returned the previous owner. `step` are the calls of its closure, of which the
 -- last one, with an owner of the previous value, left it as `last`

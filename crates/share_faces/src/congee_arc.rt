@@ -14,6 +14,8 @@ ghost use Rattle.share_holds.specs.Closures.{Reaches};
 ghost use Rattle.share_guards.specs.Operations.{returned};
 ghost use Rattle.share_faces.specs.Returned.{ReturnsComputed};
 
+mod ends;
+
 use node_stats::NodeStats;
 use node_table::allocator::DefaultAllocator;
 use share_backend::snapshots::{Made, Owners};

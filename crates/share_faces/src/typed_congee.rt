@@ -15,7 +15,9 @@ ghost use Rattle.share_guards.specs.Operations.{computed_with, returned};
 ghost use Rattle.share_faces.specs.Returned.{ReturnsExchanged, ReturnsInserted, ReturnsOld};
 
 mod ends;
+mod many;
 mod ranges;
+mod upward;
 
 use node_stats::NodeStats;
 use share_backend::snapshots::{Made, Pages};

@@ -14,6 +14,7 @@ ghost use Rattle.share_guards.specs.Operations.{returned};
 ghost use Rattle.share_faces.specs.Returned.{ReturnsOld};
 
 mod ends;
+mod upward;
 
 use crate::typed_congee::{Congee, Guard};
 use node_stats::NodeStats;

@@ -1,2 +1,4 @@
 pub mod KeyList
+pub mod ManyInserted
+pub mod OwnerEnds
 pub mod Replies

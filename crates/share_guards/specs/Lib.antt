@@ -1,3 +1,4 @@
 pub mod Made
+pub mod Many
 pub mod Operations
 pub mod inner

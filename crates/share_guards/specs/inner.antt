@@ -1,3 +1,4 @@
 pub mod Kept
 pub mod Listing
 pub mod Settling
+pub mod Trying

@@ -6,13 +6,16 @@
 
 pub mod calls;
 pub mod ends;
+pub mod inserting;
 pub mod listing;
 pub mod many;
 pub mod note;
 pub mod owned;
+pub mod owner_ends;
 pub mod pin;
 pub mod range;
 pub mod raw;
 pub mod reads;
 pub mod settling;
+pub mod upward;
 pub mod whole;

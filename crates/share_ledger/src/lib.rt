@@ -43,3 +43,18 @@ pub fn take_to<L: Ledger>(book: &mut Book<L>, share: &mut Share<L>, before: u128
         book.add(share, ((1 << 64) - taken) as u64);
     }
 }
+
+/// Books that so many pairs have become of `before`: it adds their difference to a share and to the total.
+pub fn add_to<L: Ledger>(book: &mut Book<L>, share: &mut Share<L>, before: u128, after: u128)
+    requires backed { 0 < share.old.parts }
+    requires more { before ≤ after }
+    requires few { after ≤ before + 2 ^ 64 }
+    ensures total { book.new.total ≡ book.old.total + (after - before) }
+    ensures parts { share.new.parts ≡ share.old.parts }
+{
+    // (2^64 at most, so that each half is a `u64`)
+    let added = after - before;
+    let half = added / 2;
+    book.add(share, half as u64);
+    book.add(share, (added - half) as u64);
+}

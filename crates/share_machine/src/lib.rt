@@ -3,6 +3,7 @@
 //! Tested in `share_maps`.
 #![tactic(auto)]
 
+mod ascending;
 mod calls;
 pub mod events;
 pub mod numbers;

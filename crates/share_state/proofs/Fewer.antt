@@ -1,13 +1,13 @@
--- How a removal of pairs is booked.
-use Rattle.std.proofs.Common.{◌≡◌, ℕ, ◌+◌, ◌-◌, ◌<◌, ◌≤◌, ◌%◌, ◌^◌, Bool, true, false, if◌then◌else◌, not, [], ◌∷◌, length, inl, inr, refl, ap, arith}
+-- How a removal of pairs is booked, and how an insertion.
+use Rattle.std.proofs.Common.{◌≡◌, ℕ, ◌+◌, ◌-◌, ◌<◌, ◌≤◌, ◌%◌, ◌^◌, Bool, List, true, false, if◌then◌else◌, not, [], ◌∷◌, length, inl, inr, refl, ap, arith}
 use Rattle.std.proofs.lemmas.Bool.{cases_eq, eq-eqb, ne_eqb}
 use Rattle.std.proofs.lemmas.List.Filters.{length-filter_both}
-use Rattle.std.specs.Prelude.{Option, Some, None, ◌&&◌, nat_le, nat_lt, filter}
-use Rattle.congee_tree.specs.Bulk.{outside, Retains}
-use Rattle.spec_map.specs.Map.{Pairs, without}
+use Rattle.std.specs.Prelude.{Option, Some, None, Result, Ok, Err, IfErr, OnOk, ◌&&◌, ◌==◌, nat_le, nat_lt, filter, take}
+use Rattle.congee_tree.specs.Bulk.{outside, put_all, Retains}
+use Rattle.spec_map.specs.Map.{Pairs, put, without}
 use Rattle.spec_map.specs.Near.{without_pair}
 
-fewer_by : (es : Pairs ℕ) (k : ℕ) → length (without es k) ≤ length es
+fewer_by : {V : Type 0} (es : Pairs V) (k : ℕ) → length (without es k) ≤ length es
 fewer_by [] k = omega arith
 fewer_by (e ∷ es) k =
     elim (cases_eq e.0 k) [
@@ -16,7 +16,7 @@ fewer_by (e ∷ es) k =
     ]
 
 -- no more pairs are left
-pub fewer_without : (es : Pairs ℕ) (e : Option (ℕ × ℕ)) → length (without_pair es e) ≤ length es
+pub fewer_without : {V : Type 0} (es : Pairs V) (e : Option (ℕ × V)) → length (without_pair es e) ≤ length es
 fewer_without es None = omega arith
 fewer_without es (Some e) = fewer_by es e.0
 
@@ -44,3 +44,31 @@ booked_to before after total next was fewer few less same =
       | inl is ↦ omega (arith, same is)
       | inr ne ↦ omega (arith, less (omega arith))
     ]
+
+-- no fewer pairs are there after an insertion
+more_by : (e : ℕ × ℕ) (es later : Pairs ℕ) (k v : ℕ) → length es ≤ length later → (below here : Bool)
+    → length (e ∷ es) ≤ length (if below then e ∷ later else (if here then (k, v) ∷ es else (k, v) ∷ e ∷ es))
+more_by e es later k v rest true here = omega (arith, rest)
+more_by e es later k v rest false true = omega arith
+more_by e es later k v rest false false = omega arith
+
+more_put : (es : Pairs ℕ) (k v : ℕ) → length es ≤ length (put es k v)
+more_put [] k v = omega arith
+more_put (e ∷ es) k v = more_by e es (put es k v) k v (more_put es k v) (nat_lt e.0 k) (e.0 == k)
+
+module _ {K V : Type 0} (key : K → ℕ) (value : V → ℕ) where
+  pub more_all : (m : Pairs ℕ) (many : List (K × V)) → length m ≤ length (put_all key value m many)
+  more_all m [] = omega arith
+  more_all m (pair ∷ many) =
+      omega (arith, more_put m (key pair.0) (value pair.1), more_all (put m (key pair.0) (value pair.1)) many)
+
+  -- of as many as went in
+  pub more_inserted : {U : Type 0} (m n : Pairs ℕ) (many : List (K × V)) (r : Result U ℕ) → OnOk r (n ≡ put_all key value m many) → IfErr r (λ inserted. (inserted < length many) × (n ≡ put_all key value m (take inserted many)))
+      → length m ≤ length n
+  more_inserted m n many (Ok done) all some = omega (arith, more_all m many, ap (λ (l : Pairs ℕ). length l) all)
+  more_inserted m n many (Err inserted) all some =
+      omega (arith, more_all m (take inserted many), ap (λ (l : Pairs ℕ). length l) some.1)
+
+-- the total is the number of those that there are then
+pub booked_up : (before after total next : ℕ) → before ≡ total % 2 ^ 128 → before ≤ after → after ≤ 2 ^ 64 → next ≡ total + (after - before) → after ≡ next % 2 ^ 128
+booked_up before after total next was more few is = omega (arith, is)

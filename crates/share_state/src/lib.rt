@@ -3,8 +3,10 @@
 //! Tested in `share_maps`.
 #![tactic(auto)]
 
+mod ascending;
 mod locked;
 mod ordered;
+mod owner_ends;
 pub mod purse;
 pub mod share;
 pub mod state;

@@ -1,19 +1,20 @@
-//! The state of a shared map of numbers whose map finds and removes pairs by their order. What a removal takes out is
-//! booked on the share that the state keeps.
+//! The state of a shared map of numbers whose map finds and removes pairs by their order, and inserts many. What a removal
+//! takes out is booked on the share that the state keeps, and so is what they put in.
 //!
 //! Tested in `test_share_ends`.
 
-ghost use Rattle.std.specs.Prelude.{◌≡◌, ◌+◌, ◌≤◌, ◌^◌, ℕ, length};
+ghost use Rattle.std.specs.Prelude.{◌≡◌, ◌+◌, ◌<◌, ◌≤◌, ◌^◌, ℕ, IfErr, OnOk, length, take};
 ghost use Rattle.std.specs.List.{FoldsTo};
-ghost use Rattle.congee_tree.specs.Bulk.{outside, Retains};
+ghost use Rattle.congee_tree.specs.Bulk.{outside, put_all, Retains};
 ghost use Rattle.spec_map.specs.Map.{between};
 
 use crate::state::LockedState;
 use share_backend::lent::CallStage;
 use share_backend::ordered::Ordered;
-use share_ledger::take_to;
+use share_ledger::{add_to, take_to};
 use share_works::map_state::MapState;
 use share_works::near::Near;
+use spec_map::traits::Word;
 use std::sync::ledger::Ledger;
 use tree_walk::range_scan::RangeEntry;
 
@@ -105,6 +106,29 @@ impl<L: Ledger, M: Ordered> MapState<CallStage<u64>> for LockedState<L, u64, u64
 }
 
 impl<L: Ledger, M: Ordered> LockedState<L, u64, u64, M> {
+    /// Inserts the pairs in their order. Where memory is missing for one of them, those before it are in the map, and
+    /// `Err` has their number.
+    pub fn insert_many<K: Word, V: Word>(&mut self, many: &[(K, V)]) -> Result<(), usize>
+        ensures ok { OnOk result
+            (M.pairs self.new.under
+            ≡ put_all K.number V.number (M.pairs self.old.under) many.now) }
+        ensures err { IfErr result (λ inserted. (inserted < length many.now)
+            × (M.pairs self.new.under
+            ≡ put_all K.number V.number (M.pairs self.old.under) (take inserted many.now))) }
+        ensures places { (k : ℕ) → M.place self.new.under k ≡ M.place self.old.under k }
+    {
+        let LockedState {
+            under,
+            book,
+            own,
+            of: _,
+        } = self;
+        let before = count_of(under);
+        let inserted = under.insert_many(many);
+        add_to(book, own, before, count_of(under));
+        inserted
+    }
+
     /// Removes the pairs with `start <= key <= last`, and returns how many.
     pub fn remove_range_inclusive(&mut self, start: u64, last: u64) -> u128
         ensures count { result ≡ length (between (M.pairs self.old.under) start (last + 1)) }

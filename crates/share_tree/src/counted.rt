@@ -2,9 +2,9 @@
 //!
 //! Tested in `share_maps` and `test_share_hostile/changes`.
 
-ghost use Rattle.std.specs.Prelude.{◌≡◌, ◌+◌, [], None, length, IfOk, OnOk, OnErr, IsSome, IsTrue, option_copied};
+ghost use Rattle.std.specs.Prelude.{◌≡◌, ◌+◌, ◌<◌, [], None, length, take, IfOk, IfErr, OnOk, OnErr, IsSome, IsTrue, option_copied};
 ghost use Rattle.std.specs.List.{FoldsTo};
-ghost use Rattle.congee_tree.specs.Bulk.{outside, Retains};
+ghost use Rattle.congee_tree.specs.Bulk.{outside, put_all, Retains};
 ghost use Rattle.spec_map.specs.Map.{IsMap, between, lookup, put, without, with_answer};
 ghost use Rattle.spec_map.specs.Near.{first_of, last_of, without_pair};
 ghost use Rattle.node_table.specs.inner.Kinds.{mapped};
@@ -18,6 +18,7 @@ use congee_tree::by_number;
 use congee_tree::tree::RawCongee;
 use node_table::allocator::Allocator;
 use spec_map::error::OOMError;
+use spec_map::traits::Word;
 use spec_olc::payload::HasMeaning;
 use std::alloc::Global;
 use std::marker::{Brand, Model};
@@ -231,6 +232,23 @@ impl<P: HasMeaning, A: Allocator> Counted<P, A> {
 }
 
 impl<A: Allocator> Counted<u64, A> {
+    /// Inserts the pairs in their order. Where memory is missing for one of them, those before it are in the tree, and
+    /// `Err` has their number.
+    pub(crate) fn insert_many<K: Word, V: Word>(&mut self, many: &[(K, V)]) -> Result<(), usize>
+        ensures ok { OnOk result
+            (self.new.pairs ≡ put_all K.number V.number self.old.pairs many.now) }
+        ensures err { IfErr result (λ inserted. (inserted < length many.now)
+            × (self.new.pairs ≡ put_all K.number V.number self.old.pairs
+            (take inserted many.now))) }
+        ensures onward { CountsRise (λ n. n) self.old self.new }
+    {
+        let inserted = self.tree.insert_many(many);
+        // For the proof: the keys still ascend.
+        self.tree.law_ordered();
+        self.changes.raise_all();
+        inserted
+    }
+
     /// Removes the pairs with `start <= key < end`, and calls the closure with each, keys ascending.
     pub(crate) fn extract_range<F: FnMut(u64, u64)>(&mut self, start: u64, end: u64, f: &mut F)
         requires { F.IsAlwaysCallable f.old }

@@ -16,6 +16,7 @@
 //! Tested in `share_maps` and `test_share_hostile/changes`.
 #![tactic(auto)]
 
+mod ascending;
 mod asking;
 mod bulk;
 mod calls;
@@ -25,6 +26,7 @@ pub mod direct;
 mod numbers;
 mod opened;
 mod ordered;
+mod owner_ends;
 mod owners;
 mod payloads;
 pub mod seat;

@@ -2,10 +2,10 @@
 //!
 //! Tested in `test_share_ends`.
 
-ghost use Rattle.std.specs.Prelude.{◌≡◌, ◌+◌, [], length};
+ghost use Rattle.std.specs.Prelude.{◌≡◌, ◌+◌, ◌<◌, [], length, take, OnOk, IfErr};
 ghost use Rattle.std.specs.List.{FoldsTo};
 ghost use Rattle.std.specs.Option.{option_map};
-ghost use Rattle.congee_tree.specs.Bulk.{outside, Retains};
+ghost use Rattle.congee_tree.specs.Bulk.{outside, put_all, Retains};
 ghost use Rattle.spec_map.specs.Map.{between};
 ghost use Rattle.spec_map.specs.Near.{first_of, last_of, without_pair};
 
@@ -13,6 +13,7 @@ use crate::direct::Direct;
 use congee_tree::tree::RawCongee;
 use node_table::allocator::Allocator;
 use share_backend::ordered::Ordered;
+use spec_map::traits::Word;
 use spec_olc::payload::HasMeaning;
 use tree_walk::range_scan::RangeEntry;
 
@@ -70,6 +71,19 @@ impl<P: HasMeaning, A: Allocator> Direct<P, A> {
 }
 
 impl<A: Allocator> Direct<u64, A> {
+    /// Inserts the pairs in their order. Where memory is missing for one of them, those before it are in the tree, and
+    /// `Err` has their number.
+    pub(crate) fn put_many<K: Word, V: Word>(&mut self, many: &[(K, V)]) -> Result<(), usize>
+        ensures ok { OnOk result
+            (self.new.pairs ≡ put_all K.number V.number self.old.pairs many.now) }
+        ensures err { IfErr result (λ inserted. (inserted < length many.now)
+            × (self.new.pairs ≡ put_all K.number V.number self.old.pairs
+            (take inserted many.now))) }
+        ensures seats { self.new.seats ≡ self.old.seats }
+    {
+        self.tree.insert_many(many)
+    }
+
     /// Removes the pairs with `start <= key < end`, and calls the closure with each, keys ascending.
     pub(crate) fn take_each<F: FnMut(u64, u64)>(&mut self, start: u64, end: u64, f: &mut F)
         requires { F.IsAlwaysCallable f.old }
@@ -151,6 +165,10 @@ impl<A: Allocator> Ordered for Direct<u64, A> {
 
     fn pop_last(&mut self) -> Option<(u64, u64)> {
         self.take_last()
+    }
+
+    fn insert_many<K: Word, V: Word>(&mut self, many: &[(K, V)]) -> Result<(), usize> {
+        self.put_many(many)
     }
 
     fn clear(&mut self) {

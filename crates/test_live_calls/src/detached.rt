@@ -51,7 +51,7 @@ fn filled(map: &Congee, alloc: Global, first: u64, step: u64, count: u32) -> u32
 }
 
 // Inserts a key with a value of its own, again where another writer is in the way. Returns whether it was new.
-fn is_new(map: &Congee, alloc: Global, guard: &mut Guard, key: u64) -> bool
+pub(crate) fn is_new(map: &Congee, alloc: Global, guard: &mut Guard, key: u64) -> bool
     requires { guard.old.book ≡ map.now }
     ensures { guard.new.book ≡ map.now }
 {
@@ -64,7 +64,7 @@ fn is_new(map: &Congee, alloc: Global, guard: &mut Guard, key: u64) -> bool
 }
 
 // Removes a key, again where another writer is in the way. Returns whether it had its value.
-fn is_gone(map: &Congee, guard: &mut Guard, key: u64) -> bool
+pub(crate) fn is_gone(map: &Congee, guard: &mut Guard, key: u64) -> bool
     requires { guard.old.book ≡ map.now }
     ensures { guard.new.book ≡ map.now }
 {

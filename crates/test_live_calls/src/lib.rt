@@ -8,6 +8,10 @@ mod detached;
 #[cfg(test)]
 mod exchanges;
 #[cfg(test)]
+mod limits;
+#[cfg(test)]
+mod narrowed;
+#[cfg(test)]
 mod tests;
 #[cfg(test)]
 mod updates;

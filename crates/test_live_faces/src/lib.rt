@@ -6,4 +6,6 @@ mod chains;
 #[cfg(test)]
 mod guards;
 #[cfg(test)]
+mod limits;
+#[cfg(test)]
 mod words;

@@ -17,6 +17,11 @@ pub fn new_nodes(alloc: Global) -> Result<Nodes, AllocError> {
     Heap::new(alloc, 1)
 }
 
+/// The same with a limit on the bytes of its segments.
+pub fn limited_nodes(alloc: Global, limit: u64) -> Result<Nodes, AllocError> {
+    Heap::with_limit(alloc, 1, limit)
+}
+
 /// One more seat.
 pub fn enter(nodes: &Nodes) -> Mine
     ensures book { result.book ≡ nodes.now }

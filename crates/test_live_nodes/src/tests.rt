@@ -1,7 +1,7 @@
 //! One thread, and several threads at the same leaves.
 
 use crate::obsolete::{renew_pair, retire_pair};
-use crate::pairs::{Nodes, child, enter, name, new_leaf, new_nodes, pair, set_pair};
+use crate::pairs::{Nodes, child, enter, limited_nodes, name, new_leaf, new_nodes, pair, set_pair};
 use std::alloc::Global;
 use std::test::Fail;
 use std::thread::{Threads, join};
@@ -253,4 +253,62 @@ fn by_two_anew<R: Threads + Sync>(
 fn a_reader_of_a_leaf_that_is_made_anew_sees_whole_pairs(rt: HostRuntime) {
     let seen = by_two_anew(&rt, rt.alloc());
     assert!(rt; seen == Some((50_000, 50_000, 0, Some((50_000, 50_000)))));
+}
+
+// The bytes that all segments of some nodes have.
+fn charged(nodes: &Nodes) -> u64 {
+    let mut seat = enter(nodes);
+    nodes.charged(&mut seat)
+}
+
+// How many leaves come in, each in a segment of its own, below a limit, and the bytes of these segments.
+fn within(alloc: Global, limit: u64) -> Option<(u64, u64)> {
+    let nodes = limited_nodes(alloc, limit).ok()?;
+    if nodes.limit() != limit {
+        return None;
+    }
+    let made = named_often(&nodes, alloc, 9);
+    Some((made, charged(&nodes)))
+}
+
+// Limits, and how many segments each is for, of how many bytes.
+const LIMITS: [(u64, u64, u64); 9] = [
+    (0, 0, 0),
+    (8_191, 0, 0),
+    (8_192, 1, 8_192),
+    (24_575, 1, 8_192),
+    (24_576, 2, 24_576),
+    (57_344, 3, 57_344),
+    (1_040_383, 6, 516_096),
+    (1_040_384, 7, 1_040_384),
+    (1_564_672, 8, 1_564_672),
+];
+
+#[test]
+fn no_segment_comes_in_past_the_limit(rt: HostRuntime) {
+    for (limit, segments, bytes) in LIMITS {
+        assert!(rt; within(rt.alloc(), limit) == Some((segments, bytes)));
+    }
+}
+
+// Two threads make leaves at once, as long as the limit allows it. The bytes of all segments then.
+fn both_within<R: Threads + Sync>(rt: &R, alloc: Global, limit: u64) -> Option<u64> {
+    let nodes = limited_nodes(alloc, limit).ok()?;
+    let shared = &nodes;
+    let (one, two) = join(
+        rt,
+        || named_often(shared, alloc, 20),
+        || named_often(shared, alloc, 20),
+    );
+    if one.wrapping_add(two) > 7 {
+        return None;
+    }
+    Some(charged(shared))
+}
+
+#[test]
+fn two_threads_make_no_segment_past_the_limit(rt: HostRuntime) {
+    for _ in 0..20u32 {
+        assert!(rt; both_within(&rt, rt.alloc(), 1_564_671) == Some(1_040_384));
+    }
 }

@@ -4,4 +4,6 @@
 #[cfg(test)]
 mod emptied;
 #[cfg(test)]
+mod narrowed;
+#[cfg(test)]
 mod rooms;

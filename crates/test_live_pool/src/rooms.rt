@@ -197,12 +197,12 @@ fn nodes_that_are_taken_out_are_the_next_of_any_guard(rt: HostRuntime) -> Result
     assert!(rt; come_and_go(&map, rt.alloc(), &mut guard) == LEAVES);
     assert!(rt; guard.room.spare.n4 > 0 && guard.room.spare.more == 0);
     let left = guard.room.left;
-    // It does so again with the same nodes, and one of seven words more: where the second key parts from the first, a call needs
-    // two of one form.
+    // It does so again with the same nodes. Where the second key parts from the first, a call needs two of one form.
+    assert!(rt; guard.room.spare.second > 0);
     assert!(rt; come_and_go(&map, rt.alloc(), &mut guard) == LEAVES);
-    assert!(rt; left.wrapping_sub(guard.room.left) <= 7);
-    // Another guard has a segment of its own, the next larger one. All its leaves but one are those of the first guard. It makes
-    // that leaf, and an inner node for sixteen, since the first guard keeps its own.
+    assert!(rt; left == guard.room.left);
+    // Another guard has a segment of its own, the next larger one. All its leaves but two are those of the first guard. It makes
+    // those, and an inner node for sixteen, since the first guard keeps its own.
     let (stored, room) = by_another(&map, rt.alloc());
     assert!(rt; stored == LEAVES);
     let used = room.start.wrapping_sub(START + COUNT);
@@ -210,16 +210,17 @@ fn nodes_that_are_taken_out_are_the_next_of_any_guard(rt: HostRuntime) -> Result
     Ok(())
 }
 
-// A window of keys moves on by so many steps: how many keys came and went.
-fn move_on(map: &Pool, alloc: Global, guard: &mut Guard, steps: u64) -> u64
+// A window of multiples of a number moves on by so many steps: how many keys came and went.
+fn move_on(map: &Pool, alloc: Global, guard: &mut Guard, by: u64, from: u64, to: u64) -> u64
     requires { guard.old.book ≡ map.now }
     ensures { guard.new.book ≡ map.now }
 {
     let mut moved = 0u64;
-    for step in 0..steps {
-        let came = has_stored(map, alloc, guard, step.wrapping_add(100));
-        let went = map.remove(guard, step);
-        if came && (step < 100 || went == Ok(Some(step ^ 3))) {
+    for step in from..to {
+        let first = step.wrapping_mul(by);
+        let came = has_stored(map, alloc, guard, step.wrapping_add(100).wrapping_mul(by));
+        let went = map.remove(guard, first);
+        if came && (step < 100 || went == Ok(Some(first ^ 3))) {
             moved = moved.wrapping_add(1);
         }
     }
@@ -230,9 +231,23 @@ fn move_on(map: &Pool, alloc: Global, guard: &mut Guard, steps: u64) -> u64
 fn a_window_that_moves_on_stays_in_its_room(rt: HostRuntime) -> Result<(), Fail> {
     let map = Pool::new(rt.alloc())?;
     let mut guard = map.pin();
-    assert!(rt; move_on(&map, rt.alloc(), &mut guard, 20_000) == 20_000);
+    assert!(rt; move_on(&map, rt.alloc(), &mut guard, 1, 0, 20_000) == 20_000);
     let room = guard.room;
     // (two leaves of the largest form, and one of each other form)
     assert!(rt; room.start < START + COUNT);
+    Ok(())
+}
+
+// Its multiples spread over all keys.
+const SPREAD: u64 = 0x9e37_79b9_7f4a_7c15;
+
+#[test]
+fn a_window_of_spread_keys_stays_in_its_room(rt: HostRuntime) -> Result<(), Fail> {
+    let map = Pool::new(rt.alloc())?;
+    let mut guard = map.pin();
+    assert!(rt; move_on(&map, rt.alloc(), &mut guard, SPREAD, 0, 1_000) == 1_000);
+    let room = guard.room;
+    assert!(rt; move_on(&map, rt.alloc(), &mut guard, SPREAD, 1_000, 100_000) == 99_000);
+    assert!(rt; guard.room.start == room.start && guard.room.left == room.left);
     Ok(())
 }

@@ -1,6 +1,8 @@
-//! Tests of ranges, first pairs and neighbours of the map that threads read without a lock.
+//! Tests of ranges, first pairs, neighbours and counts of the map that threads read without a lock.
 #![tactic(auto)]
 
+#[cfg(test)]
+mod counts;
 #[cfg(test)]
 mod neighbours;
 #[cfg(test)]

@@ -19,7 +19,7 @@ pub struct Keys {
 }
 
 // Leaves of each form, inner nodes of each form, prefixes that are skipped, and both ends.
-const KEYS: [Keys; 12] = [
+pub const KEYS: [Keys; 12] = [
     Keys {
         first: 0,
         step: 1,

@@ -5,6 +5,7 @@ mod budgets;
 mod bulk;
 mod counted;
 mod faces;
+mod held;
 mod hostile;
 mod iterators;
 mod leaks;

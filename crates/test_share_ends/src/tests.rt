@@ -1,5 +1,7 @@
 mod ends;
+mod inserted;
 mod listed;
 mod many;
 mod numbers;
+mod owners;
 mod popped;

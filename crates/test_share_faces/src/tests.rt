@@ -5,3 +5,4 @@ mod rows;
 mod settled;
 mod threads;
 mod typed;
+mod upward;

@@ -8,13 +8,14 @@ use Rattle.node_table.proofs.DownLaws.{KeepsBelow, frame}
 use Rattle.node_table.proofs.NodesLaws.{below, frame_nodes}
 use Rattle.spec_map.specs.Map.{lookup, put}
 use Rattle.std.specs.Prelude.{Bool, None}
-use Rattle.tree_path.specs.inner.Root.{depth, HasRoot, HasTree, tree_nodes}
+use Rattle.tree_path.specs.inner.Root.{depth, HasRoot, HasTree, tree_nodes, tree_pairs}
 use Rattle.tree_path.specs.inner.Supply.{IsCounted}
 use Rattle.tree_path.specs.declared.supply.FormCounts.{FormCounts}
 use Rattle.tree_edit.specs.Reduce.{AreFilled}
+use Rattle.tree_edit.specs.Tree.{TreeView}
 use Rattle.tree_edit.specs.inner.Rise.{IsRemoval}
 use Rattle.tree_edit.specs.inner.Whole.{IsWhole}
-use Rattle.tree_links.specs.SameTree.{SameTree}
+use Rattle.tree_links.specs.SameTree.{MovesTree, SameTree}
 use Rattle.tree_edit.specs.inner.Gains.{GainsPair}
 
 module _ {P : Type 0} where
@@ -26,12 +27,12 @@ module _ {P : Type 0} where
       record { tree = f.tree; pairs = f.pairs; nodes = frame_nodes s t depth [] root tree keeps }
 
   -- the top of the same list of nodes is the same root
-  top_node : (s t : NodeTable P) (levels root : ℕ) (q : List ℕ) → IsTree s levels q root → IsTree t levels q root → nodes_at t levels q root ≡ nodes_at s levels q root → HasRoot s root → HasRoot t root
-  top_node s t zero root q h k same r = absurd h
-  top_node s t (suc levels) root q h k same r =
+  top_node : (s t : NodeTable P) (levels root other : ℕ) (q : List ℕ) → IsTree s levels q root → IsTree t levels q other → nodes_at t levels q other ≡ nodes_at s levels q root → HasRoot s root → HasRoot t other
+  top_node s t zero root other q h k same r = absurd h
+  top_node s t (suc levels) root other q h k same r =
       let both : Some h.node ≡ Some r.node = sym h.here ∙ r.here in
       let is : h.node ≡ r.node = cc in
-      let in_t : nodes_at t (suc levels) q root ≡ node_info q k.node ∷ nodes_of (below t levels) k.node.prefix k.node.children = rw k.here refl in
+      let in_t : nodes_at t (suc levels) q other ≡ node_info q k.node ∷ nodes_of (below t levels) k.node.prefix k.node.children = rw k.here refl in
       let in_s : nodes_at s (suc levels) q root ≡ node_info q h.node ∷ nodes_of (below s levels) h.node.prefix h.node.children = rw h.here refl in
       let lists : node_info q k.node ∷ nodes_of (below t levels) k.node.prefix k.node.children ≡ node_info q h.node ∷ nodes_of (below s levels) h.node.prefix h.node.children = sym in_t ∙ same ∙ in_s in
       let first : node_info q k.node ≡ node_info q h.node = cc in
@@ -42,9 +43,24 @@ module _ {P : Type 0} where
         prefix = ap (λ (i : NodeInfo). i.prefix) first ∙ ap (λ (n : TableNode P). n.prefix) is ∙ r.prefix;
       }
 
+  module _ (s t : NodeTable P) (root other : ℕ) (x : MovesTree s t root other) where
+    -- where its root has another place, the parts of a tree still agree with one another
+    pub moved_whole : (forms : FormCounts) (count : ℕ) → IsWhole s root forms count → IsWhole t other forms count
+    moved_whole forms count w = record {
+      tree = x.tree;
+      rooted = top_node s t depth root other [] w.tree x.tree x.nodes w.rooted;
+      filled = subst AreFilled (sym x.nodes) w.filled;
+      by_form = subst (IsCounted forms) (sym x.nodes) w.by_form;
+      counted = w.counted ∙ ap length (sym x.pairs);
+    }
+
+    -- and what is seen of it is the same
+    pub moved_view : {A : Type 0} (budget : A) → ◌≡◌ {A = TreeView P A} (record { pairs = tree_pairs t other; nodes = tree_nodes t other; budget = budget }) (record { pairs = tree_pairs s root; nodes = tree_nodes s root; budget = budget })
+    moved_view budget = rw (x.pairs, x.nodes) refl
+
   module _ (s t : NodeTable P) (root : ℕ) (x : SameTree s t root) where
     pub same_root : HasTree s root → HasRoot s root → HasRoot t root
-    same_root tree r = top_node s t depth root [] tree x.tree x.nodes r
+    same_root tree r = top_node s t depth root root [] tree x.tree x.nodes r
 
     -- so the parts of a tree still agree with one another
     pub same_whole : (forms : FormCounts) (count : ℕ) → IsWhole s root forms count → IsWhole t root forms count

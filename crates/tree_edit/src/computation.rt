@@ -56,7 +56,7 @@ impl<P: Drop, A: Allocator> Tree<P, A> {
                     unreachable!()
                 };
                 self.count -= 1;
-                self.release_slots();
+                self.release_slots(true);
                 Some(before)
             }
         }

@@ -188,7 +188,7 @@ impl<P: Drop, A: Allocator> Tree<P, A> {
             &last,
             stays,
         );
-        self.release_slots();
+        self.release_slots(true);
         u64::from_be_bytes(last)
     }
 }

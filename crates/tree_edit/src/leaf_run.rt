@@ -201,7 +201,7 @@ impl<P: Drop, A: Allocator> Tree<P, A> {
             unreachable!()
         };
         self.count -= 1;
-        self.release_slots();
+        self.release_slots(true);
         let taken = u64::from_be_bytes(last);
         R::receive(f, taken, payload);
     }

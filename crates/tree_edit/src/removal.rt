@@ -307,7 +307,7 @@ impl<P: Drop, A: Allocator> Tree<P, A> {
             return None;
         };
         self.count -= 1;
-        self.release_slots();
+        self.release_slots(true);
         Some(before)
     }
 }

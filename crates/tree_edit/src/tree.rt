@@ -148,21 +148,42 @@ impl<P: Drop, A: Allocator> Tree<P, A> {
         true
     }
 
-    /// Gives the memory of free slots past the last node back to the machine, where each pair is in a leaf that has a
-    /// slot. For each other pair a free slot is kept, and then all of them are.
+    /// Gives the memory of free slots back to the machine: moves the nodes into a smaller table where more than an eighth
+    /// of what they and the pairs need is free beside that. Without memory for it they stay.
     pub fn shrink_to_fit(&mut self)
+        ensures { self.new ≡ self.old }
+    {
+        self.root = self.nodes.compact(self.root, self.supply.memory());
+        self.trim();
+    }
+
+    /// Gives the slots of former nodes back to the machine once no pair is left, and where nodes are to shrink, also once
+    /// three quarters of the slots aren't needed.
+    pub(crate) fn release_slots(&mut self, shrinks: bool)
+        ensures { self.new ≡ self.old }
+    {
+        if self.count == 0 {
+            self.trim();
+        } else if shrinks {
+            self.compact_if_sparse();
+        }
+    }
+
+    // Gives the free slots past the last node back to the machine, where each pair is in a leaf that has a slot.
+    fn trim(&mut self)
         ensures { self.new ≡ self.old }
     {
         self.nodes.shrink_to_fit();
     }
 
-    /// Gives the slots of former nodes back to the machine once no pair is left.
-    pub(crate) fn release_slots(&mut self)
+    // Moves the nodes into a smaller table where fewer than a quarter of the slots are needed.
+    #[inline(always)]
+    fn compact_if_sparse(&mut self)
         ensures { self.new ≡ self.old }
     {
-        if self.count == 0 {
-            self.shrink_to_fit();
-        }
+        self.root = self
+            .nodes
+            .compact_if_sparse(self.root, self.supply.memory());
     }
 
     /// The table of the nodes and the slot of the root in it, for walks.

@@ -17,3 +17,6 @@ pub mod SplitTreeLaws
 pub mod SeekLaws
 pub mod ReadLaws
 pub mod SpareLaws
+pub mod AlikeLaws
+pub mod CompactLaws
+pub mod OverLaws

@@ -13,6 +13,12 @@ module _ {P : Type 0} where
     pub pairs : tree_pairs t root ≡ tree_pairs s root
     pub nodes : tree_nodes t root ≡ tree_nodes s root
 
+  -- the same, where its root may have another place
+  pub record MovesTree (s t : NodeTable P) (root other : ℕ) : Type 0 where
+    pub tree : HasTree t other
+    pub pairs : tree_pairs t other ≡ tree_pairs s root
+    pub nodes : tree_nodes t other ≡ tree_nodes s root
+
   -- the path of a key of eight bytes leads to the node at i, and goes on under this byte
   pub record GoesOnAt (s : NodeTable P) (root : ℕ) (key : List ℕ) (i byte : ℕ) : Type 0 where
     pub bytes : AreBytes key

@@ -1,3 +1,4 @@
+pub mod Compact
 pub mod Pairs
 pub mod Slots
 pub mod Steps

@@ -10,6 +10,7 @@
 #![tactic(auto)]
 
 pub mod bytes;
+pub mod compact;
 pub mod descent;
 pub mod leaves;
 pub mod link;

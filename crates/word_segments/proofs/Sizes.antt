@@ -1,5 +1,7 @@
 -- The sizes of segments, added up.
 use Rattle.std.proofs.Common.{◌≡◌, ℕ, zero, suc, ◌+◌, ◌-◌, ◌*◌, ◌/◌, ◌%◌, ◌^◌, ◌<◌, ◌≤◌, refl, sym, ap, ◌∙◌, subst, arith, pow_mono, pow-suc, lt_of_not-le, div-add-mod', mod-lt}
+use mathlib.Core.Logic.{dite}
+use native.Mathlib.Decide.{ℕ_discrete}
 use Rattle.std.specs.Prelude.{min}
 use Rattle.word_segments.specs.Segments.{size, before, IsWithin}
 
@@ -47,3 +49,19 @@ before_small j few = let b = small_before j (omega (arith, few)) in let e = shif
 
 pub before_large : (j : ℕ) → 6 ≤ j → (j - 6) * 65536 + 64512 ≡ before j
 before_large j many = let b = large_before (j - 6) in let e : j - 6 + 6 ≡ j = omega (arith, many) in (let r : (j - 6) * 65536 + 64512 ≡ before (j - 6 + 6) = omega (arith, b) in r) ∙ ap before e
+
+-- so many bytes have all segments before the one of the word behind them
+pub fits : (bytes j k : ℕ) → IsWithin (bytes / 8) j k → 8 * before j ≤ bytes
+fits bytes j k w = let d = div-add-mod' bytes 8 in let e = w.1 in omega (arith, d, e)
+
+-- and no more
+pub fills : (bytes j k : ℕ) → IsWithin (bytes / 8) j k → bytes < 8 * before (j + 1)
+fills bytes j k w = let d = div-add-mod' bytes 8 in let m : bytes % 8 < 8 = mod-lt bytes (omega arith) in let low = w.0 in let e = w.1 in
+    let is : before (j + 1) ≡ before j + size j = ap before (let e' : j + 1 ≡ suc j = omega arith in e') in omega (arith, d, m, low, e, is)
+
+-- a segment ends before each later one
+pub ends_before : (n m : ℕ) → n < m → before n + size n ≤ before m
+ends_before n zero h = absurd (omega arith)
+ends_before n (suc m) h = dite (ℕ_discrete n m)
+    (λ e. subst (λ (z : ℕ). before n + size n ≤ before (suc z)) e (let r : before n + size n ≤ before (suc n) = omega arith in r))
+    (λ ne. let r = ends_before n m (omega (arith, h, ne)) in omega (arith, r))

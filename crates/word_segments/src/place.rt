@@ -1,5 +1,5 @@
 //! Which segment a word is in, and which shelf a segment.
-ghost use Rattle.std.specs.Prelude.{◌≡◌, ◌+◌, ◌<◌, ◌^◌};
+ghost use Rattle.std.specs.Prelude.{◌≡◌, ◌+◌, ◌*◌, ◌<◌, ◌≤◌, ◌^◌};
 ghost use Rattle.boxcar.specs.Table.{span, IsAt};
 ghost use Rattle.word_segments.specs.Segments.{size, before, IsWithin};
 
@@ -23,6 +23,18 @@ pub fn before_of(number: u64) -> u64
     } else {
         (number - 6) * 65536 + 64512
     }
+}
+
+/// How many segments fit into so many bytes, from the first one on.
+pub fn fitting(bytes: u64) -> u64
+    ensures fits { 8 * before result ≤ bytes }
+    ensures most { bytes < 8 * before (result + 1) }
+{
+    let words = bytes / 8;
+    if words < 64512 {
+        return (words / 1024 + 1).ilog2() as u64;
+    }
+    (words - 64512) / 65536 + 6
 }
 
 /// The segment of a word, and the word's place there.

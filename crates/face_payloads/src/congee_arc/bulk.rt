@@ -53,9 +53,8 @@ impl<K: Word, P: Payload, A: Allocator> PayloadCongee<K, P, A> {
         self.tree.clear();
     }
 
-    /// Gives memory back to the machine that is held for nodes that are gone: what is free behind the last node. Not
-    /// while a pair is alone under the first seven bytes of its key's number: a place for a node is kept for each such
-    /// pair. An empty map has done it already. Never fails.
+    /// Gives memory back to the machine that is held for nodes that are gone: moves those that are left into a smaller
+    /// table, where it has memory for that. A removal does so once three quarters of a table are free. Never fails.
     pub fn shrink_to_fit(&mut self)
         ensures { self.new ≡ self.old }
     {

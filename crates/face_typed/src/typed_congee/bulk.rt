@@ -56,9 +56,8 @@ impl<K: Word, V: Word, A: Allocator, D: Drainer<K, V>> Congee<K, V, A, D> {
         self.tree.clear();
     }
 
-    /// Gives memory back to the machine that is held for nodes that are gone: what is free behind the last node. Not
-    /// while a pair is alone under the first seven bytes of its key's number: a place for a node is kept for each such
-    /// pair. An empty map has done it already. Never fails.
+    /// Gives memory back to the machine that is held for nodes that are gone: moves those that are left into a smaller
+    /// table, where it has memory for that. A removal does so once three quarters of a table are free. Never fails.
     pub fn shrink_to_fit(&mut self)
         ensures { self.new ≡ self.old }
     {
@@ -135,5 +134,21 @@ impl<K: Word, V: Word, A: Allocator, D: Drainer<K, V>> Congee<K, V, A, D> {
             Ok(()) => Ok(()),
             Err(inserted) => Err(InsertManyError { inserted }),
         }
+    }
+
+    /// As `insert_many`, by the numbers of keys and values.
+    pub fn insert_numbers(&mut self, pairs: &[(u64, u64)]) -> Result<(), InsertManyError>
+        ensures ok { OnOk result
+            (self.new.pairs ≡ put_all (λ key. key) (λ value. value) self.old.pairs pairs.now) }
+        ensures err { IfErr result (λ error. self.new.pairs
+            ≡ put_all (λ key. key) (λ value. value) self.old.pairs (take error.inserted pairs.now)) }
+        ensures refused { IfErr result (λ error. IsSomeAnd (slice_get pairs.now error.inserted)
+            (λ pair. NeedsNode self.new.pairs pair.0)) }
+        ensures charge { ChargesForNodes A.charge self.old self.new }
+    {
+        if let Err(inserted) = self.tree.insert_many(pairs) {
+            return Err(InsertManyError { inserted });
+        }
+        Ok(())
     }
 }

@@ -8,13 +8,14 @@ use Rattle.live_updates.specs.inner.Updates.{Update}
 use Rattle.share_rule.specs.History.{Entry}
 use Rattle.live_computes.specs.Entries.{computed_with, inserted_with}
 use Rattle.live_computes.specs.declared.absent.Tried.{Tried}
-use Rattle.live_computes.specs.declared.absent.Tried.TheVariants.{Entered, Present, Again}
+use Rattle.live_computes.specs.declared.absent.Tried.TheVariants.{Entered, Present, Again, Lacks}
 
 -- An insertion has ended the call, or the seat has seen no more.
 abbrev pub Tries : Update → Tried → SeatView View → SeatView View → Type 0
 Tries u Entered v w = Answers u.caller u.entry v.client.seen w.client.seen
 Tries u Present v w = w.client.seen ≡ v.client.seen
 Tries u Again v w = w.client.seen ≡ v.client.seen
+Tries u Lacks v w = w.client.seen ≡ v.client.seen
 
 abbrev pub Enters : Update → Result Bool Refusal → SeatView View → SeatView View → Type 0
 Enters u (Ok true) v w = Answers u.caller u.entry v.client.seen w.client.seen

@@ -1,23 +1,25 @@
-//! The ends of a map of numbers, the neighbours of a key, pops, ranges both ways, counts, and the removal of all pairs, where
+//! The greatest pair of a map of numbers, the neighbours of a key below it, pops, ranges both ways, counts, and the removal of all pairs, where
 //! the map under the lock finds pairs by their order. Each call takes one hold of the lock, and is an entry of its
 //! guard's history. None fails.
 //!
 //! Tested in `test_share_ends`.
 
-ghost use Rattle.std.specs.Prelude.{◌≡◌, ◌+◌, ℕ, IfOk, OnErr, length};
+ghost use Rattle.std.specs.Prelude.{◌≡◌, ◌+◌, ◌<◌, ℕ, IfErr, IfOk, OnErr, OnOk, length, take};
 ghost use Rattle.std.specs.Int.{to_be_bytes, w64};
 ghost use Rattle.std.specs.List.{FoldsTo};
 ghost use Rattle.congee_tree.specs.Bulk.{Retains};
-ghost use Rattle.spec_map.specs.Call.{count, counted, is_empty, keys, listed, tested, first as first_end, last as last_end, floor as floor_of, below as below_of, ceiling as ceiling_of, above as above_of};
+ghost use Rattle.spec_map.specs.Call.{count, counted, is_empty, keys, listed, tested, first as first_end, last as last_end, floor as floor_of, below as below_of};
 ghost use Rattle.spec_map.specs.Map.{Pairs};
 ghost use Rattle.spec_olc.specs.Runs.{same_number};
 ghost use Rattle.share_rule.specs.Known.{MadeCall, MadeCalls};
 ghost use Rattle.share_works.specs.Listed.{ListsFirst, ListsLast};
 ghost use Rattle.share_works.specs.Made.{returned, clearing, range_removal, retaining};
+ghost use Rattle.share_guards.specs.Many.{InsertsMany, numbers_of};
 ghost use Rattle.share_faces.specs.Returned.{ReturnsPair, ReturnsPopped};
 
 use super::U64Congee;
 use crate::typed_congee::Guard;
+use face_typed::many::InsertManyError;
 use share_backend::ordered::Ordered;
 use spec_map::error::OOMError;
 use spec_map::traits::Word;
@@ -26,15 +28,6 @@ use std::sync::Wait;
 use std::sync::ledger::Ledger;
 
 impl<L: Ledger, V: Word, M: Ordered> U64Congee<L, V, M> {
-    /// The pair with the least key, its value read back from its number.
-    pub fn first<R: Wait>(&self, rt: &R, guard: &mut Guard<'_, L, M>) -> Option<(u64, V)>
-        requires map { guard.old.table ≡ self.now }
-        ensures map { guard.new.table ≡ guard.old.table }
-        ensures made { ReturnsPair (λ key. key) V.of_number guard.old first_end result guard.new }
-    {
-        self.map.first(rt, guard)
-    }
-
     /// The pair with the greatest key, its value read back from its number.
     pub fn last<R: Wait>(&self, rt: &R, guard: &mut Guard<'_, L, M>) -> Option<(u64, V)>
         requires map { guard.old.table ≡ self.now }
@@ -62,31 +55,6 @@ impl<L: Ledger, V: Word, M: Ordered> U64Congee<L, V, M> {
             result guard.new }
     {
         self.map.below(rt, guard, &key)
-    }
-
-    /// The pair with the least key that is at least this one, its value read back from its number.
-    pub fn ceiling<R: Wait>(
-        &self,
-        rt: &R,
-        guard: &mut Guard<'_, L, M>,
-        key: u64,
-    ) -> Option<(u64, V)>
-        requires map { guard.old.table ≡ self.now }
-        ensures map { guard.new.table ≡ guard.old.table }
-        ensures made { ReturnsPair (λ key. key) V.of_number guard.old (ceiling_of key)
-            result guard.new }
-    {
-        self.map.ceiling(rt, guard, &key)
-    }
-
-    /// The pair with the least key above this one, its value read back from its number.
-    pub fn above<R: Wait>(&self, rt: &R, guard: &mut Guard<'_, L, M>, key: u64) -> Option<(u64, V)>
-        requires map { guard.old.table ≡ self.now }
-        ensures map { guard.new.table ≡ guard.old.table }
-        ensures made { ReturnsPair (λ key. key) V.of_number guard.old (above_of key)
-            result guard.new }
-    {
-        self.map.above(rt, guard, &key)
     }
 
     /// Removes the pair with the least key, and returns it, its value read back from its number.
@@ -195,6 +163,26 @@ impl<L: Ledger, V: Word, M: Ordered> U64Congee<L, V, M> {
             (returned is_empty (tested result)) guard.new }
     {
         self.map.is_empty_recorded(rt, guard)
+    }
+
+    /// Inserts the pairs in their order in one hold, so of two with one key the later one counts. Where memory is missing
+    /// for one of them, those before it are in the map, and the error has their number; the rest may be inserted again
+    /// from there.
+    pub fn insert_many<R: Wait>(
+        &self,
+        rt: &R,
+        guard: &mut Guard<'_, L, M>,
+        pairs: &[(u64, V)],
+    ) -> Result<(), InsertManyError>
+        requires map { guard.old.table ≡ self.now }
+        ensures map { guard.new.table ≡ guard.old.table }
+        ensures made { OnOk result
+            (InsertsMany guard.old (numbers_of (λ key. key) V.number pairs.now) guard.new) }
+        ensures missed { IfErr result (λ error. (error.inserted < length pairs.now)
+            × InsertsMany guard.old
+            (take error.inserted (numbers_of (λ key. key) V.number pairs.now)) guard.new) }
+    {
+        self.map.insert_many(rt, guard, pairs)
     }
 
     /// Removes all pairs in one hold.

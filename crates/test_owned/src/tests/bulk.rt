@@ -265,10 +265,17 @@ fn inserts_six(map: &mut Limited, limit: &Limit) -> bool {
         && [map.get(&1), map.get(&2), map.get(&256), map.get(&512)] == limit.2
 }
 
+// The same by numbers.
+fn inserts_numbers(map: &mut Limited, limit: &Limit) -> bool {
+    map.insert_numbers(&SIX) == limit.1
+        && [map.get(&1), map.get(&2), map.get(&256), map.get(&512)] == limit.2
+}
+
 #[test]
 fn many_inserted(rt: HostRuntime) -> Result<(), Fail> {
     for limit in &LIMITS {
         assert!(rt; inserts_six(&mut Congee::new(rt.alloc(), Budget::new(limit.0))?, limit));
+        assert!(rt; inserts_numbers(&mut Congee::new(rt.alloc(), Budget::new(limit.0))?, limit));
     }
     Ok(())
 }

@@ -10,7 +10,7 @@ use std::sync::ledger::{Blank, Ledger};
 use std::test::Fail;
 
 #[derive(Clone, Copy)]
-enum Call {
+pub(super) enum Call {
     First,
     Last,
     Floor(u64),
@@ -22,7 +22,7 @@ enum Call {
 }
 
 // The calls on a map of 10, 20 and the greatest key, whose values are 1, 2 and 3.
-const ROWS: [(Call, Option<(u64, u64)>); 23] = [
+pub(super) const ROWS: [(Call, Option<(u64, u64)>); 23] = [
     (Call::First, Some((10, 1))),
     (Call::Last, Some((u64::MAX, 3))),
     (Call::Floor(9), None),

@@ -1,6 +1,4 @@
-use Rattle.std.proofs.Common.{rules, sym, subst, arith, ◌≢◌}
-use Rattle.node_base.specs.declared.base_node.NodeType.TheVariants.{N4}
-use Rattle.live_calls.specs.Ways.{Sights}
+use Rattle.std.proofs.Common.{rules, arith, ◌≢◌}
 use Rattle.live_calls.proofs.Ready.{ready_grown, ready_again}
 use Rattle.live_calls.proofs.insert.lead_on.Goals as goal
 
@@ -12,9 +10,8 @@ returns-then-spare-eq0 c =
 
 pub link_again-requires-clause-spare : goal.link_again-requires-clause-spare
 link_again-requires-clause-spare c =
-    let some : c.get-spare.result ≢ 0 = search rules in
-    let kept = c.get-spare.ensures in
-    subst (Sights c.args.pass.now.view) (sym kept) (c.requires.ready.spare.0 N4 (omega (arith, kept, some))).sighted
+    let some : c.smallest-spare.result ≢ 0 = search rules in
+    (c.smallest-spare.ensures c.args.pass.now.view c.requires.ready.spare (omega (arith, some))).sighted
 
 pub returns : goal.returns
 returns c =

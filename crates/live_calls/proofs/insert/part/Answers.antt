@@ -1,6 +1,4 @@
-use Rattle.std.proofs.Common.{rules, sym, subst, arith, ◌≢◌}
-use Rattle.node_base.specs.declared.base_node.NodeType.TheVariants.{N4}
-use Rattle.live_calls.specs.Ways.{Sights}
+use Rattle.std.proofs.Common.{rules, arith, ◌≢◌}
 use Rattle.live_calls.proofs.Ready.{ready_grown, ready_again_met}
 use Rattle.live_calls.proofs.insert.part.Goals as goal
 
@@ -12,16 +10,14 @@ returns-then-spare-eq0 c =
 
 pub split_again-requires-clause-spare : goal.split_again-requires-clause-spare
 split_again-requires-clause-spare c =
-    let some : c.get-spare.result ≢ 0 = search rules in
-    let kept = c.get-spare.ensures in
-    subst (Sights c.args.pass.now.view) (sym kept) (c.requires.ready.spare.0 N4 (omega (arith, kept, some))).sighted
+    let some : c.smallest-spare.result ≢ 0 = search rules in
+    (c.smallest-spare.ensures c.args.pass.now.view c.requires.ready.spare (omega (arith, some))).sighted
 
 pub returns : goal.returns
 returns c =
     let t = c.split_again.ensures.told in
     let l = c.split_again.new in
-    let some : c.get-spare.result ≢ 0 = search rules in
-    let kept = c.get-spare.ensures in
+    let some : c.smallest-spare.result ≢ 0 = search rules in
     let v = c.args.pass.now.view in
-    let sighted = subst (Sights v) (sym kept) (c.requires.ready.spare.0 N4 (omega (arith, kept, some))).sighted in
-    record { told = (t.0, t.1, ready_again_met v l.pass.view c.args.room.now l.spares c.get-spare.result c.requires.ready t.2 t.3 sighted c.split_again.ensures.spares, t.2.seen) }
+    let sighted = (c.smallest-spare.ensures v c.requires.ready.spare (omega (arith, some))).sighted in
+    record { told = (t.0, t.1, ready_again_met v l.pass.view c.args.room.now l.spares c.smallest-spare.result c.requires.ready t.2 t.3 sighted c.split_again.ensures.spares, t.2.seen) }

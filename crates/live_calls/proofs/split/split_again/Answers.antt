@@ -385,15 +385,15 @@ returns-then-not-parts-clause-told g c =
 
 pub returns-then-not-parts-clause-spares : goal.returns-then-not-parts-clause-spares
 returns-then-not-parts-clause-spares g c =
-    λ v h s. c.keep.ensures.kept v (c.take.ensures.left v h) s
+    λ v h s. c.keep.ensures.kept v (c.forget.ensures.left v h) s
 
 pub returns-in_default-regain-clause-spares : goal.returns-in_default-regain-clause-spares
 returns-in_default-regain-clause-spares g c =
-    λ v h s. c.take.ensures.left v h
+    λ v h s. c.forget.ensures.left v h
 
 pub returns-clause-spares : goal.returns-clause-spares
 returns-clause-spares g c =
-    λ v h s. c.take.ensures.left v h
+    λ v h s. c.forget.ensures.left v h
 
 pub lay-requires-clause-may : goal.lay-requires-clause-may
 lay-requires-clause-may g c =

@@ -1,6 +1,6 @@
-use Rattle.std.proofs.Common.{rules, ◌≡◌, ◌∙◌}
-use Rattle.live_computes.specs.declared.absent.Tried.TheVariants.{Entered, Present, Again}
-use Rattle.live_computes.proofs.Ended.{entered_by, present_same, again_same, answers_later}
+use Rattle.std.proofs.Common.{rules, ◌≡◌, ◌⊎◌, ◌∙◌}
+use Rattle.live_computes.specs.declared.absent.Tried.TheVariants.{Entered, Present, Again, Lacks}
+use Rattle.live_computes.proofs.Ended.{entered_by, present_same, goes_on, answers_later}
 use Rattle.live_computes.proofs.absent.enter.Goals as goal
 
 pub returns-in-Entered : goal.returns-in-Entered
@@ -32,10 +32,10 @@ loop-preserved g c =
     let t = c.enter_once.ensures.told in
     let v = c.reserve.new.pass.view in
     let w = c.enter_once.new.pass.view in
-    let is : c.enter_once.result ≡ Again = search rules in
+    let is : (c.enter_once.result ≡ Again) ⊎ (c.enter_once.result ≡ Lacks) = search rules in
     record {
       book = t.0 ∙ (r.0 ∙ i.book);
       id = t.1 ∙ (r.1 ∙ i.id);
-      seen = again_same g.U.Updates.update c.enter_once.result v w is t.3 ∙ (r.3 ∙ i.seen);
+      seen = goes_on g.U.Updates.update c.enter_once.result v w is t.3 ∙ (r.3 ∙ i.seen);
       ready = t.2;
     }

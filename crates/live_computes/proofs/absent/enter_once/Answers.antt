@@ -16,7 +16,7 @@ pub returns-in-Some-fork : goal.returns-in-Some-fork
 returns-in-Some-fork g c =
     let t = c.descend.ensures.told in
     let l = c.part.ensures.told in
-    record { told = (l.0 ∙ t.0, l.1 ∙ t.1, l.2, l.3 ∙ t.3) }
+    record { told = (l.0 ∙ t.0, l.1 ∙ t.1, l.2, c.tried_with.ensures g.U.Updates.update c.args.pass.now.view c.part.new.pass.view (l.3 ∙ t.3)) }
 
 pub extend-requires-clause-ready : goal.extend-requires-clause-ready
 extend-requires-clause-ready g c = ready_kept c.args.pass.now.view c.descend.new.pass.view c.args.room.now c.requires.ready c.descend.ensures.told.2

@@ -1,13 +1,13 @@
 use Rattle.std.proofs.Common.{rules, sym, ap, subst, length, ℕ, List, ◌≡◌, ◌∙◌}
-use Rattle.node_table.specs.TableNode.{TableNode}
-use Rattle.live_encodes.specs.Encodes.{words_of, Encodes}
+use Rattle.live_encodes.specs.Encodes.{words_of}
 use Rattle.live_calls.proofs.Pairs.{pair_first, first_draft}
 use Rattle.live_detach.specs.Two.{PartsTwo}
-use Rattle.live_detach.proofs.Twos.{as_pair}
+use Rattle.live_detach.specs.declared.narrow.Fill.TheVariants.{Empty}
+use Rattle.live_detach.proofs.Twos.{as_pair, none_counted}
 use Rattle.live_detach.proofs.detach.detach.Goals as goal
 
-pub is_empty-requires-clause-may : goal.is_empty-requires-clause-may
-is_empty-requires-clause-may c =
+pub fill_of-requires-clause-may : goal.fill_of-requires-clause-may
+fill_of-requires-clause-may c =
     let v = c.args.pass.now.view in
     let words = c.in_ok-words.words.now in
     let words_p = c.in_ok-words_above.words_above.now in
@@ -21,8 +21,8 @@ is_empty-requires-clause-may c =
     let was = first_draft w b words words_p two.free two.free_above h.below h.above h.content h.content_above pair in
     pair_first w b words words_p two.free two.free_above h.below h.above h.content h.content_above pair h.held.long
 
-pub is_empty-requires-clause-long : goal.is_empty-requires-clause-long
-is_empty-requires-clause-long c =
+pub fill_of-requires-clause-long : goal.fill_of-requires-clause-long
+fill_of-requires-clause-long c =
     let v = c.args.pass.now.view in
     let words = c.in_ok-words.words.now in
     let words_p = c.in_ok-words_above.words_above.now in
@@ -36,8 +36,8 @@ is_empty-requires-clause-long c =
     let was = first_draft w b words words_p two.free two.free_above h.below h.above h.content h.content_above pair in
     ap (λ (t : List ℕ). length t) was ∙ (h.held.long ∙ ap words_of (sym form))
 
-pub part-again-requires-clause-parts : goal.part-again-requires-clause-parts
-part-again-requires-clause-parts c =
+pub part-left-requires-clause-parts : goal.part-left-requires-clause-parts
+part-left-requires-clause-parts c =
     let v = c.args.pass.now.view in
     let words = c.in_ok-words.words.now in
     let words_p = c.in_ok-words_above.words_above.now in
@@ -49,6 +49,7 @@ part-again-requires-clause-parts c =
     let pair = as_pair w b words words_p two.free two.free_above h in
     let form = c.form_below.ensures h.below.shape.key h.below.shape.form l.named in
     let was = first_draft w b words words_p two.free two.free_above h.below h.above h.content h.content_above pair in
-    let none = λ (n : TableNode ℕ) (encodes : Encodes h.content n) (formed : n.form ≡ h.below.shape.form). (c.is_empty.ensures.told n (subst (λ (t : List ℕ). Encodes t n) (sym was) encodes) (formed ∙ sym form)).0 (search rules) in
+    let empty : c.fill_of.result ≡ Empty = search rules in
+    let none = none_counted c.form_below.result h.below.shape.form _ h.content was form (c.fill_of.ensures.empty.0 empty) in
     let parts : PartsTwo w b words words_p two.free two.free_above c.args.stand c.args.key = record { lead = l; none = none } in
-    subst (λ s. PartsTwo s.view s.book words words_p two.free two.free_above c.args.stand c.args.key) (sym c.is_empty.ensures.seat.same) parts
+    subst (λ s. PartsTwo s.view s.book words words_p two.free two.free_above c.args.stand c.args.key) (sym c.fill_of.ensures.seat.same) parts

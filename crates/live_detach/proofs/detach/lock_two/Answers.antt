@@ -94,6 +94,8 @@ returns c =
             named_above = hp.names.named;
             high = hx.names.high;
             high_above = hp.names.high;
+            covers = hx.names.covers;
+            covers_above = hp.names.covers;
             leads = subst (λ (z : ℕ). HasWordOf hp.content p.shape.form z c.args.stand.name) c.byte_at-byte.ensures leads;
           },
         ),

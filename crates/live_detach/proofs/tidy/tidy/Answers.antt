@@ -9,13 +9,20 @@ returns-in_default c =
     let t = c.detach_one.ensures.told in
     record { told = (t.0 ∙ i.book, t.1 ∙ i.id, ready_kept c.loop.pass.view w c.loop.room i.ready t.2, t.3 ∙ i.seen) }
 
-pub returns-then-not-taken : goal.returns-then-not-taken
-returns-then-not-taken c =
+pub narrow_way-requires-clause-ready : goal.narrow_way-requires-clause-ready
+narrow_way-requires-clause-ready c =
     let i = c.loop.invariant in
     let w = c.detach_one.new.pass.view in
     let t = c.detach_one.ensures.told in
     let ready = ready_kept c.loop.pass.view w c.loop.room i.ready t.2 in
-    record { told = (t.0 ∙ i.book, t.1 ∙ i.id, ready_spare w c.loop.room c.keep.new.self ready (c.keep.ensures.kept w ready.spare c.in-Some.ensures.named), t.3 ∙ i.seen) }
+    ready_spare w c.loop.room c.keep.new.self ready (c.keep.ensures.kept w ready.spare c.in-Some.ensures.named)
+
+pub returns-then-ne : goal.returns-then-ne
+returns-then-ne c =
+    let i = c.loop.invariant in
+    let t = c.detach_one.ensures.told in
+    let n = c.narrow_way.ensures.told in
+    record { told = (n.0 ∙ (t.0 ∙ i.book), n.1 ∙ (t.1 ∙ i.id), n.2, n.3 ∙ (t.3 ∙ i.seen)) }
 
 pub loop-preserved : goal.loop-preserved
 loop-preserved c =

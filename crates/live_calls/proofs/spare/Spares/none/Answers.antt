@@ -5,4 +5,4 @@ use Rattle.live_calls.proofs.Spares.{spares_none}
 use Rattle.live_calls.proofs.spare.Spares.none.Goals as goal
 
 pub returns : goal.returns
-returns c = λ v. spares_none v _ (elim [ N4 ↦ refl | N16 ↦ refl | N48 ↦ refl | N256 ↦ refl ]) refl
+returns c = λ v. spares_none v _ (elim [ N4 ↦ refl | N16 ↦ refl | N48 ↦ refl | N256 ↦ refl ]) refl refl

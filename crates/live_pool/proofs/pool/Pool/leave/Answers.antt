@@ -6,7 +6,7 @@ use Rattle.live_pool.proofs.pool.Pool.leave.Goals as goal
 pub add_to-requires-clause-met : goal.add_to-requires-clause-met
 add_to-requires-clause-met c =
     let some : c.guard.inside.room.spare.more ≢ 0 = search rules in
-    c.guard.invariant.spare.1 (omega (arith, some))
+    c.guard.invariant.spare.2 (omega (arith, some))
 
 pub invariant_of-guard : goal.invariant_of-guard
 invariant_of-guard c =

@@ -1,9 +1,9 @@
-use Rattle.tree_links.specs.SeenTable.{name_of}
-use Rattle.tree_edit.proofs.SameLaws.{same_table, same_whole}
+use Rattle.std.proofs.Common.{◌∙◌}
+use Rattle.tree_edit.proofs.SameLaws.{moved_view, moved_whole}
 use Rattle.tree_edit.proofs.tree.Tree.shrink_to_fit.Goals as goal
 
 pub invariant_of-self : goal.invariant_of-self
-invariant_of-self g c =
-    let s = c.self.inside.nodes.table in
-    let root = name_of c.self.inside.root in
-    same_whole s _ root (same_table s _ root c.self.invariant.tree c.shrink_to_fit.ensures) _ _ c.self.invariant
+invariant_of-self g c = moved_whole _ _ _ _ c.compact-self-inside.ensures _ _ c.self.invariant
+
+pub returns : goal.returns
+returns g c = c.trim.ensures ∙ (moved_view _ _ _ _ c.compact-self-inside.ensures _ ∙ c.self.view_is)

@@ -1,0 +1,67 @@
+-- All nodes were locked, their pairs copied, and all unlocked again.
+use Rattle.std.proofs.Common.{◌≡◌, ℕ, List, [], ◌++◌, nat_eq, Result, Err, IfOk, sym, ap, ◌∙◌, subst}
+use Rattle.spec_map.specs.Map.{Pairs}
+use Rattle.share_rule.specs.History.{entries_of, IsHistory}
+use Rattle.share_rule.specs.inner.Rule.{HasSeen}
+use Rattle.word_book.specs.Book.{Book}
+use Rattle.live_nodes.specs.Seats.{Place, SeatView, IsIn}
+use Rattle.live_law.specs.Levels.{up, Spot}
+use Rattle.live_law.specs.Views.{View}
+use Rattle.live_law.specs.Known.{Known}
+use Rattle.live_calls.specs.Ways.{Keeps}
+use Rattle.live_calls.specs.Holds.{Alike}
+use Rattle.live_calls.specs.Calls.{known_of}
+use Rattle.live_scans.specs.Scans.{EntersNothing}
+use Rattle.live_scans.proofs.Composed.{has_seen_then}
+use Rattle.live_copies.specs.Copies.{HasCopied}
+use Rattle.live_copies.specs.inner.Whole.{HasWhole}
+use Rattle.live_copies.specs.inner.Locks.{Knows, Takes}
+use Rattle.live_copies.proofs.Told.{whole_is}
+
+abbrev Seen : Type 0
+Seen = SeatView View
+
+pub err_out : {A E : Type 0} (P : A → Type 0) (r : Result A E) (e : E) → r ≡ Err e → IfOk r P
+err_out P r e is = subst (λ z. IfOk z P) (sym is) tt
+
+pub keeps_knows : (v w : Seen) → Keeps v w → Knows v w
+keeps_knows v w k = record { places = k.places; met = k.met; room = k.room }
+
+pub knows_on : (u v w : Seen) → Knows u v → Knows v w → Knows u w
+knows_on u v w a b = record {
+  places = λ p h. b.places p (a.places p h);
+  met = λ s h. b.met s (a.met s h);
+  room = b.room ∙ a.room;
+}
+
+-- ALL PAIRS: they are those that were copied
+pub all_taken : (caller : ℕ) (v w : Seen) (name : ℕ) (old new : Pairs ℕ) → HasWhole caller v.client w.client → Takes v name 0 8 old new → old ≡ [] → IsHistory nat_eq w.client.seen new
+all_taken caller v w name old new x t none =
+    let its = t.2 in
+    let top : its.its.shape.top ≡ 0 = sym its.covers ∙ ap (λ (z : ℕ). up z 0) its.high in
+    subst (IsHistory nat_eq w.client.seen) (sym (t.1 ∙ ap (λ (ps : Pairs ℕ). ps ++ t.0) none)) (whole_is caller v.client w.client x its.its t.0 its.has its.high top)
+
+-- UNLOCKED
+pub unlocked_keeps : (u v w : Seen) → Knows u v → Alike v w → w.client.own ≡ [] → w.holds ≡ [] → u.client.own ≡ [] → u.holds ≡ [] → Keeps u w
+unlocked_keeps u v w k a own holds own_before holds_before = record {
+  places = λ p h. subst (λ (ps : List Place). IsIn p ps) (sym a.places) (k.places p h);
+  met = λ s h. subst (λ (l : List Spot). IsIn s l) (sym a.met) (k.met s h);
+  own = own ∙ sym own_before;
+  holds = holds ∙ sym holds_before;
+  room = a.room ∙ k.room;
+}
+
+-- what a guard knows then
+pub seen_on : (id : ℕ) (k : Known) (v w : Seen) → id ≡ k.caller → HasSeen v.client.seen k.caller k.seen → HasSeen w.client.seen id v.client.seen → HasSeen w.client.seen k.caller k.seen
+seen_on id k v w is first next = has_seen_then k.caller k.seen v.client.seen w.client.seen first (subst (λ (z : ℕ). HasSeen w.client.seen z v.client.seen) is next)
+
+pub nothing_entered : (k : Known) (b : Book) (c : ℕ) (w : Seen) → b ≡ k.book → c ≡ k.caller → HasSeen w.client.seen k.caller k.seen → EntersNothing k (known_of b c w)
+nothing_entered k b c w book caller h = record {
+  book = book;
+  caller = caller;
+  seen = h.begins;
+  own = ap (λ (z : ℕ). entries_of z w.client.seen) caller ∙ h.own;
+}
+
+pub copied : (k : Known) (b : Book) (c : ℕ) (w : Seen) (pairs : Pairs ℕ) → b ≡ k.book → c ≡ k.caller → HasSeen w.client.seen k.caller k.seen → IsHistory nat_eq w.client.seen pairs → HasCopied k pairs (known_of b c w)
+copied k b c w pairs book caller h legal = record { seen = nothing_entered k b c w book caller h; whole = legal }

@@ -1,0 +1,49 @@
+use Rattle.std.proofs.Common.{sym, ap, refl, arith, drop, List, ◌+◌, ◌/◌, ◌∙◌}
+use Rattle.live_nodes.specs.Seats.{SeatView, Hold}
+use Rattle.live_law.specs.Levels.{place_at}
+use Rattle.live_law.specs.Views.{View}
+use Rattle.live_law.specs.Tree.{StaysSame}
+use Rattle.live_law.proofs.Writes.{node_stays}
+use Rattle.live_calls.proofs.Views.{first_word}
+use Rattle.live_calls.proofs.Again.{first_frees, first_freed}
+use Rattle.live_copies.specs.inner.Locks.{own_of, holds_of}
+use Rattle.live_copies.proofs.Locking.{beside}
+use Rattle.live_copies.proofs.locks.unlock_one.Goals as goal
+
+pub unlock-requires-clause-frees : goal.unlock-requires-clause-frees
+unlock-requires-clause-frees c =
+    let v = c.args.pass.now.view in
+    let words = c.args.words.now in
+    let b = c.args.pass.now.book in
+    let free = c.args.free in
+    let t = c.requires.top.1 in
+    let first = c.index-words-0.result in
+    let at_k = (first_word (place_at t.spot) b words t.is.are first first (sym c.index-words-0.is)).0 in
+    let even = c.requires.word.0 in
+    first_frees v t.spot free t.content (holds_of t.grips) t.holds t.is.placed first.key at_k StaysSame c.args.pass.now.id (free + 4) (node_stays c.args.pass.now.id v.client t.spot t.content (own_of t.grips) t.own t.is.apart (free + 4) (free / 4 + 1) (omega (arith, even)) t.content refl)
+
+pub returns : goal.returns
+returns c =
+    let v = c.args.pass.now.view in
+    let words = c.args.words.now in
+    let b = c.args.pass.now.book in
+    let free = c.args.free in
+    let t = c.requires.top.1 in
+    let first = c.index-words-0.result in
+    let at_k = (first_word (place_at t.spot) b words t.is.are first first (sym c.index-words-0.is)).0 in
+    let s = c.unlock.ensures.seat in
+    let f = first_freed v t.spot free t.content (holds_of t.grips) t.holds t.is.placed first.key at_k StaysSame (beside t.spot.number t.grips t.is.apart) c.unlock.new.seat.view (free + 4) c.unlock.ensures.told in
+    record {
+      told = (
+        s.0,
+        s.1,
+        record {
+          places = ap (λ (z : SeatView View). z.places) f.1;
+          met = ap (λ (z : SeatView View). z.client.met) f.1 ∙ ap (λ (z : View). z.met) f.2;
+          room = ap (λ (z : SeatView View). z.room) f.1;
+        },
+        ap (λ (z : SeatView View). z.client.own) f.1 ∙ ap (λ (z : View). z.own) f.2,
+        ap (λ (z : SeatView View). z.holds) f.1 ∙ sym (ap (λ (hs : List Hold). drop 1 hs) t.holds),
+        ap (λ (z : SeatView View). z.client.seen) f.1 ∙ ap (λ (z : View). z.seen) f.2,
+      );
+    }

@@ -1,0 +1,10 @@
+use Rattle.std.proofs.Common.{ℕ, ◌<◌, slice_index}
+use Rattle.live_cells.specs.Words.{Looks}
+use Rattle.live_copies.specs.inner.Noted.{HasNamed}
+use Rattle.live_copies.proofs.names.has_children.Given as goal
+
+abbrev pub invariant-loop-byte : goal.invariant-loop-byte
+invariant-loop-byte g l = record {
+  seat : Looks g.D.Draft.may_write g.D.Draft.words l.draft l.fn.seat l.seat;
+  are : (b : ℕ) → b < l.byte → HasNamed (g.D.Draft.words l.draft l.fn.seat) l.form b (slice_index l.names b);
+}

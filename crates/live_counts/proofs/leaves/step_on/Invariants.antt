@@ -1,0 +1,12 @@
+use Rattle.std.proofs.Common.{◌≡◌}
+use Rattle.share_rule.specs.inner.Rule.{HasSeen}
+use Rattle.live_calls.specs.Ways.{Keeps}
+use Rattle.live_counts.proofs.leaves.step_on.Given as goal
+
+abbrev pub invariant-loop : goal.invariant-loop
+invariant-loop l = record {
+  book : l.pass.book ≡ l.fn.pass.book;
+  id : l.pass.id ≡ l.fn.pass.id;
+  keeps : Keeps l.fn.pass.view l.pass.view;
+  seen : HasSeen l.pass.view.client.seen l.fn.pass.id l.fn.pass.view.client.seen;
+}

@@ -1,0 +1,69 @@
+//! Steps from leaf to leaf. Each has all pairs of a leaf, or passes keys that are absent.
+ghost use Rattle.std.specs.Prelude.{◌≡◌, ◌%◌, length, IfSome};
+ghost use Rattle.share_rule.specs.inner.Rule.{HasSeen};
+ghost use Rattle.live_calls.specs.Ways.{KnowsTrunk, Keeps};
+ghost use Rattle.live_counts.specs.inner.Steps.{IsStep};
+
+use live_calls::way::{Nodes, Pass};
+use live_order::page::Part;
+use live_scans::seek::{Stop, seek};
+use live_scans::steps::leaf_page;
+use std::marker::Brand;
+
+// How often a step is tried before it is given up.
+const TRIES: u32 = 1000;
+
+/// How many pairs were written into the buffer, and the last key that was read.
+#[derive(Clone, Copy, Debug, PartialEq, Eq)]
+pub struct Step {
+    pub count: usize,
+    pub last: u64,
+}
+
+// One step from the first key of a leaf on: its pairs are written into the buffer, or keys are passed that are absent. `None`
+// where a writer came in between.
+fn try_step(nodes: &Nodes, key: u64, buffer: &mut [(u64, u64)], pass: &mut Pass) -> Option<Step>
+    requires book { pass.old.book ≡ nodes.now }
+    requires trunk { KnowsTrunk pass.old.view }
+    requires first { key % 256 ≡ 0 }
+    requires room { length buffer.old ≡ 256 }
+    ensures told { (pass.new.book ≡ pass.old.book) × (pass.new.id ≡ pass.old.id)
+        × Keeps pass.old.view pass.new.view
+        × HasSeen pass.new.view.client.seen pass.old.id pass.old.view.client.seen
+        × IfSome result (IsStep pass.old.id pass.old.view pass.new.view key buffer.new) }
+{
+    match seek::<Brand>(nodes, key, pass)? {
+        Stop::Gap(last) => Some(Step { count: 0, last }),
+        Stop::Leaf(name) => {
+            let leaf = Part {
+                base: key,
+                first: 0,
+                last: 255,
+            };
+            let filled = leaf_page::<Brand, (u64, u64)>(nodes, name, leaf, buffer, 0, pass)?;
+            Some(Step {
+                count: filled.count,
+                last: key + 255,
+            })
+        }
+    }
+}
+
+/// The same in some tries. `None` where too many writers came in between.
+pub fn step_on(nodes: &Nodes, key: u64, buffer: &mut [(u64, u64)], pass: &mut Pass) -> Option<Step>
+    requires book { pass.old.book ≡ nodes.now }
+    requires trunk { KnowsTrunk pass.old.view }
+    requires first { key % 256 ≡ 0 }
+    requires room { length buffer.old ≡ 256 }
+    ensures told { (pass.new.book ≡ pass.old.book) × (pass.new.id ≡ pass.old.id)
+        × Keeps pass.old.view pass.new.view
+        × HasSeen pass.new.view.client.seen pass.old.id pass.old.view.client.seen
+        × IfSome result (IsStep pass.old.id pass.old.view pass.new.view key buffer.new) }
+{
+    for _ in 0..TRIES {
+        if let Some(step) = try_step(nodes, key, buffer, pass) {
+            return Some(step);
+        }
+    }
+    None
+}
