@@ -1,8 +1,9 @@
 /* A thread that is stopped inside an insertion, by a signal whose handler waits. Where it holds its leaf, calls at keys of that
- * leaf are busy by each form that gives up, and change nothing. Calls at other keys go on. Once the thread goes on, so do all.
+ * leaf are busy by each form that gives up, change nothing and keep no memory. Calls at other keys go on. Once the thread goes on, so do all.
  * The thread is stopped until it was met with a lock and without one. A reader that is stopped keeps nobody. */
 #define _POSIX_C_SOURCE 200809L
 #include "congee.h"
+#include <malloc.h>
 #include <pthread.h>
 #include <sched.h>
 #include <signal.h>
@@ -61,6 +62,11 @@ static void *reads(void *at) {
     return NULL;
 }
 
+/* The bytes that malloc has lent. (Under a sanitizer it isn't asked, and 0 each time.) */
+static size_t lent(void) {
+    return mallinfo2().uordblks;
+}
+
 /* Calls beside a thread that is stopped: whether its leaf is busy. */
 static bool is_busy(struct congee_live *map) {
     uint64_t value = 99, old = 99, found = 99;
@@ -88,6 +94,10 @@ static bool is_busy(struct congee_live *map) {
         need(congee_live_try_is_empty(map) == CONGEE_BUSY, "a test for no pair, by its leaf");
         need(pair.key == 99 && n == 99, "a busy reader writes no pair and no number");
         need(value == 99 && old == 99 && found == 99, "a busy call writes nothing");
+        size_t before = lent();
+        for (int i = 0; i < 20; i++)
+            need(congee_live_try_insert(map, LEAF + 9 + i, 1, &old) == CONGEE_BUSY, "another insertion into its leaf");
+        need(lent() == before, "busy insertions keep no memory");
     }
     need(congee_live_try_get(map, LEAF + 256, &value) == 1, "a look-up elsewhere");
     need(congee_live_try_insert(map, LEAF + 256, value + 1, &old) == 1 && old == value, "an insertion elsewhere");

@@ -1,7 +1,7 @@
 /* A window of keys that moves on for ever, in a map that is read without a lock: each step stores the next key and removes the
  * one that leaves the window. Threads share the steps, and each has a handle of its own. The map holds at most three times the
- * memory that it has after a tenth of the steps, and two segments, since nodes that were taken out are used again. So it is over
- * dense keys and over spread ones. Handles that come and go meanwhile leave nothing behind.
+ * memory that it has after a tenth of the steps, since nodes that were taken out are used again. So it is over dense keys and over
+ * spread ones. Handles that come and go meanwhile leave nothing behind but the room of one more.
  *
  *     live_window [STEPS] [THREADS]     so many steps, in all */
 #define _POSIX_C_SOURCE 200809L
@@ -14,7 +14,7 @@
 #include <stdio.h>
 #include <stdlib.h>
 
-enum { MOST = 64, WINDOW = 1000, TURNS = 100000, SEGMENT = 1 << 19 };
+enum { MOST = 64, WINDOW = 1000, TURNS = 100000 };
 
 static uint64_t steps = 300000, threads = 4;
 static _Atomic uint64_t taken;
@@ -108,7 +108,7 @@ int main(int argc, char **argv) {
     move(dense, &start_dense, &end_dense);
     printf("%" PRIu64 " steps by %" PRIu64 " threads: from %zu to %zu bytes over spread keys, from %zu to %zu over dense ones\n", steps, threads,
            start, end, start_dense, end_dense);
-    need(end <= 3 * start + 2 * SEGMENT, "memory over spread keys that stays within three times what it was, and two segments");
-    need(end_dense <= 3 * start_dense + 2 * SEGMENT, "memory over dense keys that stays within three times what it was, and two segments");
+    need(end <= 3 * start, "memory over spread keys that stays within three times what it was");
+    need(end_dense <= 3 * start_dense, "memory over dense keys that stays within three times what it was");
     return 0;
 }

@@ -8,9 +8,6 @@ use Rattle.live_law.specs.Levels.{place_at}
 use Rattle.live_law.specs.Views.{View, Ask, ask, got, inserted}
 use Rattle.live_law.specs.Tree.{Answers}
 use Rattle.live_calls.specs.Ways.{Names, Sights, Keeps, Ended, Looked, Found}
-use Rattle.live_calls.specs.Sees.{Follows}
-use Rattle.live_calls.specs.declared.sight.Next.{Next}
-use Rattle.live_calls.specs.declared.sight.Next.TheVariants as nexts
 
 abbrev Seen : Type 0
 Seen = SeatView View

@@ -5,7 +5,7 @@ use Rattle.live_nodes.specs.Nodes.{Content}
 use Rattle.live_nodes.specs.Seats.{Place, Hold, hold, SeatView, seat_view, IsIn, Agree, with_draft, without}
 use Rattle.live_nodes.specs.Acts as acts
 use Rattle.live_nodes.specs.Plays as plays
-use Rattle.live_nodes.specs.Plays.{hold_of, took, locked, Takes, Locks}
+use Rattle.live_nodes.specs.Plays.{hold_of, locked, Locks}
 use Rattle.live_nodes.specs.Calls.{MayLock, MayFree}
 use Rattle.live_rows.specs.Rows.{nth, draft_of, undrafted, MayHold, without_draft}
 use Rattle.live_encodes.specs.Encodes.{words_of}
@@ -13,7 +13,7 @@ use Rattle.live_cells.specs.Head.{IsHead}
 use Rattle.live_cells.specs.Words as cells
 use Rattle.live_law.specs.Levels.{Shape, Spot, spot, place_at}
 use Rattle.live_law.specs.Views as views
-use Rattle.live_law.specs.Views.{View, view_of, Own}
+use Rattle.live_law.specs.Views.{View, Own}
 use Rattle.live_law.specs.Tree.{IsMap, LearnsLocked, IsHeld}
 use Rattle.live_law.proofs.Locks.{node_locks}
 use Rattle.live_calls.specs.Ways.{Names, AreNamed}

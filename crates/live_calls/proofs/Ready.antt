@@ -1,5 +1,5 @@
 -- A seat stays ready for the next call.
-use Rattle.std.proofs.Common.{◌≡◌, ℕ, nat_eq, List, [], ◌∷◌, ◌++◌, refl, sym, ap, ◌∙◌, subst, inl, arith, Option, Some, IfSome}
+use Rattle.std.proofs.Common.{◌≡◌, ℕ, nat_eq, List, [], ◌∷◌, ◌++◌, refl, sym, ap, ◌∙◌, subst, inl, arith, Option, Some, None, IfSome}
 use Rattle.share_rule.specs.History.{Entry, entries_of, IsLegalHistory}
 use Rattle.share_rule.proofs.Keeps.{entries-append}
 use Rattle.word_book.specs.Book.{Book}
@@ -45,8 +45,8 @@ pub sights_grown : (v w : Seen) (n key height : ℕ) → HasGrown v w → Names 
 sights_grown v w n key height g s = record { spot = s.spot; met = g.met s.spot s.met; placed = g.places (place_at s.spot) s.placed; named = s.named }
 
 -- a new seat
-pub ready_new : (v : Seen) (s : Spares) → v ≡ seat_view (view_of [] [] []) (place 0 1 1 ∷ []) [] [] no_room → ((u : Seen) → HasSpares u s) → IsReady v (record { start = 0; left = 0; spare = s })
-ready_new v s e has = subst (λ (u : Seen). IsReady u (record { start = 0; left = 0; spare = s })) (sym e) record {
+pub ready_new : (v : Seen) (s : Spares) → v ≡ seat_view (view_of [] [] []) (place 0 1 1 ∷ []) [] [] no_room → ((u : Seen) → HasSpares u s) → IsReady v (record { start = 0; left = 0; spare = s; owed = None })
+ready_new v s e has = subst (λ (u : Seen). IsReady u (record { start = 0; left = 0; spare = s; owed = None })) (sym e) record {
   trunk = inl refl;
   own = refl;
   holds = refl;
@@ -79,6 +79,10 @@ ready_grown v w m m' r g words same = ready_with v w m m' r g words (subst (HasS
 -- and another node may be used again
 pub ready_spare : (v : Seen) (m : Room) (s : Spares) → IsReady v m → HasSpares v s → IsReady v (record m { spare = s })
 ready_spare v m s r spare = record { trunk = r.trunk; own = r.own; holds = r.holds; words = r.words; spare = spare }
+
+-- and the way of a key is still to be tidied
+pub ready_owed : (v : Seen) (m : Room) (key : Option ℕ) → IsReady v m → IsReady v (record m { owed = key })
+ready_owed v m key r = record { trunk = r.trunk; own = r.own; holds = r.holds; words = r.words; spare = r.spare }
 
 -- and another node is in use again
 pub ready_again : (v w : Seen) (m : Room) (s : Spares) → IsReady v m → HasGrown v w → w.room ≡ v.room → ((u : Seen) → HasSpares u m.spare → HasSpares u s) → IsReady w (record m { spare = s })

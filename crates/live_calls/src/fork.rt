@@ -1,8 +1,8 @@
 //! A node that leads on to one whose way a key leaves: there the key's way ends.
-ghost use Rattle.std.specs.Prelude.{◌≡◌, ℕ, ◌+◌, ◌<◌, ◌≤◌, Some, None, false, IsTrue};
+ghost use Rattle.std.specs.Prelude.{◌≡◌, ◌≤◌, Some, None, false, IsTrue};
 ghost use Rattle.live_law.specs.Views.{got};
 ghost use Rattle.live_law.specs.Tree.{Answers};
-ghost use Rattle.live_calls.specs.Ways.{Names, Sights, IsOpen, Keeps};
+ghost use Rattle.live_calls.specs.Ways.{Sights, IsOpen, Keeps};
 ghost use Rattle.live_calls.specs.Forks.{first_number, IsForked, IsAbove, IsParted};
 
 use crate::sight::{Fork, Sight, compare, enter};

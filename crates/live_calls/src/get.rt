@@ -1,6 +1,6 @@
 //! A look-up.
-ghost use Rattle.std.specs.Prelude.{◌≡◌, ℕ, ◌+◌, ◌<◌, ◌≤◌, true, IfSome, IfNone};
-ghost use Rattle.live_calls.specs.Ways.{KnowsTrunk, Names, Keeps, Found};
+ghost use Rattle.std.specs.Prelude.{◌≡◌, true};
+ghost use Rattle.live_calls.specs.Ways.{KnowsTrunk, Keeps, Found};
 
 use crate::fork::ends_above;
 use crate::sight::{Next, step};

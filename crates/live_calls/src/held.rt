@@ -1,5 +1,5 @@
 //! Nodes are locked, and unlocked.
-ghost use Rattle.std.specs.Prelude.{◌≡◌, ℕ, ◌+◌, ◌%◌, ◌<◌, ◌^◌, drop, IfSome, IfNone};
+ghost use Rattle.std.specs.Prelude.{◌≡◌, ◌+◌, ◌%◌, ◌<◌, ◌^◌, drop, IfSome, IfNone};
 ghost use Rattle.word_book.specs.Book.{writes, none_joined};
 ghost use Rattle.live_nodes.specs.Nodes.{Content};
 ghost use Rattle.live_nodes.specs.Seats.{Hold};
@@ -8,7 +8,7 @@ ghost use Rattle.live_nodes.specs.Calls.{MayFree};
 ghost use Rattle.live_law.specs.Levels.{Spot};
 ghost use Rattle.live_law.specs.Views.{rest_of};
 ghost use Rattle.live_law.specs.Tree.{IsMap, LinksAgain};
-ghost use Rattle.live_calls.specs.Ways.{Names, Sights, AreNamed, Keeps};
+ghost use Rattle.live_calls.specs.Ways.{Names, Sights, AreNamed};
 ghost use Rattle.live_calls.specs.Holds.{Alike, HasLocked, HasRegained, HoldsLast, HoldsOne, HasRest};
 
 use crate::sight::{Sight, compare};

@@ -1,5 +1,5 @@
 //! An insertion.
-ghost use Rattle.std.specs.Prelude.{◌≡◌, ℕ, ◌+◌, ◌<◌, ◌≤◌, Some, IfOk, OnErr, IfSome};
+ghost use Rattle.std.specs.Prelude.{◌≡◌, ◌<◌, ◌≤◌, Some, IfSome};
 ghost use Rattle.live_law.specs.Views.{ask};
 ghost use Rattle.live_calls.specs.Ways.{KnowsTrunk, Keeps};
 ghost use Rattle.live_calls.specs.Stands.{Stands, HasFork, IsEnd};

@@ -1,5 +1,5 @@
 //! A new node comes below another.
-ghost use Rattle.std.specs.Prelude.{◌≡◌, ℕ, ◌+◌, ◌<◌, ◌≤◌, ◌^◌, [], length, None, IfNone};
+ghost use Rattle.std.specs.Prelude.{◌≡◌, ℕ, ◌≤◌, [], length, None, IfNone};
 ghost use Rattle.node_table.specs.TableNode.{TableNode};
 ghost use Rattle.spec_map.specs.Map.{lookup};
 ghost use Rattle.live_cells.specs.Words.{Looks};
@@ -29,12 +29,14 @@ use std::marker::Brand;
 /// The form of a new node: the smallest.
 pub const NEW: NodeType = NodeType::N4;
 
-/// A seat's room: the first of its words, how many there are at least, and nodes that it may use again.
+/// A seat's room: the first of its words, how many there are at least, and nodes that it may use again. With it a key is kept
+/// whose way may lead to a node without children, since a writer came in between.
 #[derive(Clone, Copy, Debug, PartialEq, Eq)]
 pub struct Room {
     pub start: u64,
     pub left: u64,
     pub spare: Spares,
+    pub owed: Option<u64>,
 }
 
 impl Room {

@@ -96,6 +96,7 @@ impl Congee {
             start: 0,
             left: 0,
             spare: Spares::none(),
+            owed: None,
         };
         let _ = reserve(&nodes, alloc, &mut room, &mut pass)?;
         if !plant::<Brand>(&nodes, &mut room, &mut pass) {
@@ -126,6 +127,7 @@ impl Congee {
                 start: 0,
                 left: 0,
                 spare: Spares::none(),
+                owed: None,
             },
         }
     }

@@ -1,5 +1,5 @@
 //! The root is made, and the trunk names it.
-ghost use Rattle.std.specs.Prelude.{◌≡◌, ℕ, ◌+◌, ◌<◌, ◌≤◌, ◌^◌, []};
+ghost use Rattle.std.specs.Prelude.{◌≡◌, []};
 ghost use Rattle.live_calls.specs.Ways.{KnowsTrunk};
 ghost use Rattle.live_calls.specs.Rooms.{HasRoom, HasGrown};
 

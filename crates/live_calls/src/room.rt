@@ -1,5 +1,5 @@
 //! A seat's room for new nodes, and the nodes that are made there.
-ghost use Rattle.std.specs.Prelude.{◌≡◌, ◌≢◌, ℕ, ◌+◌, ◌-◌, ◌<◌, ◌≤◌, ◌^◌, List, [], ◌∷◌, length, IfOk, IfSome};
+ghost use Rattle.std.specs.Prelude.{◌≡◌, ◌≢◌, ℕ, ◌+◌, ◌-◌, ◌<◌, ◌≤◌, ◌^◌, length};
 ghost use Rattle.node_table.specs.TableNode.{TableNode};
 ghost use Rattle.node_base.specs.Form.{next_form};
 ghost use Rattle.node_base.specs.declared.base_node.NodeType.TheVariants.{N4, N256};

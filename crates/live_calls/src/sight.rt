@@ -1,11 +1,10 @@
 //! A node that a key meets on its way, which may have no key that begins like it.
-ghost use Rattle.std.specs.Prelude.{◌≡◌, ◌≢◌, ℕ, ◌+◌, ◌-◌, ◌<◌, ◌≤◌, List, Some, None, IfSome, IfNone, IsTrue, false};
+ghost use Rattle.std.specs.Prelude.{◌≡◌, ◌≢◌, ℕ, ◌-◌, ◌<◌, ◌≤◌, List, Some, None, IfSome, IfNone};
 ghost use Rattle.std.specs.Int.{bit_at};
 ghost use Rattle.live_cells.specs.Words.{lane};
 ghost use Rattle.live_cells.specs.Head.{IsHead};
 ghost use Rattle.live_law.specs.Levels.{digit};
-ghost use Rattle.live_law.specs.Tree.{HasAnswer};
-ghost use Rattle.live_calls.specs.Ways.{Names, Sights, Leaves, IsOpen, Keeps, Ended};
+ghost use Rattle.live_calls.specs.Ways.{Sights, Leaves, IsOpen, Keeps, Ended};
 ghost use Rattle.live_calls.specs.Sees.{Sees, HasMet, Follows, IsNextOpen};
 
 use crate::way::{Nodes, Opened, Pass, byte_at, look, open};

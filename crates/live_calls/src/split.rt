@@ -1,5 +1,5 @@
 //! A key leaves the way of a node: a new node comes above that, where both ways part.
-ghost use Rattle.std.specs.Prelude.{◌≡◌, ℕ, ◌+◌, ◌<◌, ◌≤◌, ◌^◌, [], IsTrue};
+ghost use Rattle.std.specs.Prelude.{◌≡◌, ◌≤◌, [], IsTrue};
 ghost use Rattle.live_nodes.specs.Seats.{SeatView};
 ghost use Rattle.live_law.specs.Views.{View};
 ghost use Rattle.live_calls.specs.Ways.{Names, Sights, Leaves};

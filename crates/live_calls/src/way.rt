@@ -1,9 +1,7 @@
 //! The way of a key: from the trunk to the root, and from a node to the one below.
-ghost use Rattle.std.specs.Prelude.{◌≡◌, ℕ, ◌+◌, ◌-◌, ◌%◌, ◌<◌, ◌≤◌, ◌^◌, [], ◌∷◌, length, slice_index, IfSome, IfNone};
-ghost use Rattle.node_base.specs.Form.{form_place};
-ghost use Rattle.node_base.specs.declared.base_node.NodeType.{NodeType};
+ghost use Rattle.std.specs.Prelude.{◌≡◌, ℕ, ◌-◌, ◌%◌, ◌<◌, ◌≤◌, [], ◌∷◌, length, slice_index, IfSome};
 ghost use Rattle.live_nodes.specs.Seats.{read};
-ghost use Rattle.live_law.specs.Levels.{digit, up};
+ghost use Rattle.live_law.specs.Levels.{digit};
 ghost use Rattle.live_calls.specs.Ways.{KnowsTrunk, Names, Sights, AreNamed, HasOpened, IsOpen, Keeps, Looked};
 
 use live_encodes::form::{form_below, slot_below, words_in};

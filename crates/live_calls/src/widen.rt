@@ -1,5 +1,5 @@
 //! A full node grows: a larger one takes its place below the node above.
-ghost use Rattle.std.specs.Prelude.{◌≡◌, ℕ, ◌+◌, ◌<◌, ◌≤◌, ◌^◌, [], length, IsTrue};
+ghost use Rattle.std.specs.Prelude.{◌≡◌, ◌<◌, ◌≤◌, [], length, IsTrue};
 ghost use Rattle.live_cells.specs.Words.{Looks};
 ghost use Rattle.live_encodes.specs.Encodes.{words_of};
 ghost use Rattle.live_nodes.specs.Seats.{SeatView};

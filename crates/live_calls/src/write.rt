@@ -1,10 +1,10 @@
 //! A value is written into a leaf.
-ghost use Rattle.std.specs.Prelude.{◌≡◌, ℕ, ◌+◌, ◌<◌, ◌≤◌, List, [], length, IfOk, OnErr};
+ghost use Rattle.std.specs.Prelude.{◌≡◌, ℕ, [], length, IfOk, OnErr};
 ghost use Rattle.node_table.specs.TableNode.{TableNode};
 ghost use Rattle.live_cells.specs.Words.{Stays};
 ghost use Rattle.live_encodes.specs.Encodes.{words_of, Encodes};
-ghost use Rattle.live_calls.specs.Ways.{KnowsTrunk, Names, Keeps};
-ghost use Rattle.live_calls.specs.Holds.{Alike, HasRest, IsWritten, IsDone};
+ghost use Rattle.live_calls.specs.Ways.{Names};
+ghost use Rattle.live_calls.specs.Holds.{HasRest, IsWritten, IsDone};
 
 use crate::held::{lock_node, unlock_same};
 use crate::way::{Nodes, Pass, byte_at, words_at};

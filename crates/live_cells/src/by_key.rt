@@ -1,6 +1,6 @@
 //! The child of a key is searched for and changed in one call, where it has one.
 
-ghost use Rattle.std.specs.Prelude.{◌≡◌, ℕ, ◌+◌, ◌<◌, ◌≤◌, List, length, IfSome, IfNone};
+ghost use Rattle.std.specs.Prelude.{◌≡◌, ℕ, ◌+◌, ◌≤◌, List, length, IfSome, IfNone};
 ghost use Rattle.spec_map.specs.Map.{lookup, put, without};
 ghost use Rattle.live_cells.specs.Words.{at, Stays};
 ghost use Rattle.live_cells.specs.ListCells.{count, first, HasList};

@@ -1,6 +1,6 @@
 //! The list of a node that has room for a few children.
 
-ghost use Rattle.std.specs.Prelude.{◌≡◌, ◌≢◌, ℕ, ◌+◌, ◌/◌, ◌<◌, ◌≤◌, List, [], length, Some, None, IfSome, IsTrue, ◌↔◌, slice_set};
+ghost use Rattle.std.specs.Prelude.{◌≡◌, ℕ, ◌+◌, ◌/◌, ◌<◌, ◌≤◌, List, [], length, Some, None, IfSome, IsTrue, ◌↔◌, slice_set};
 ghost use Rattle.spec_map.specs.Map.{lookup, put, without};
 ghost use Rattle.live_cells.specs.Words.{at, Stays, Looks, Apart};
 ghost use Rattle.live_cells.specs.ListCells.{count, first, key, child, HasList, IsFound, word_found};

@@ -1,6 +1,6 @@
 //! From one layout to the other.
 
-ghost use Rattle.std.specs.Prelude.{◌≡◌, ℕ, ◌+◌, ◌<◌, ◌≤◌, List, length};
+ghost use Rattle.std.specs.Prelude.{◌≡◌, ℕ, ◌+◌, ◌≤◌, List, length};
 ghost use Rattle.spec_map.specs.Map.{between};
 ghost use Rattle.live_cells.specs.Words.{at, Stays, Apart};
 ghost use Rattle.live_cells.specs.ListCells.{count, first, HasList};

@@ -1,10 +1,10 @@
 //! The places of a node that can have a child for each byte.
 
-ghost use Rattle.std.specs.Prelude.{◌≡◌, ◌≢◌, ℕ, ◌+◌, ◌<◌, ◌≤◌, List, [], length, Some, None, IsSome, IsTrue, false, slice_set};
+ghost use Rattle.std.specs.Prelude.{◌≡◌, ◌≢◌, ℕ, ◌+◌, ◌<◌, List, [], length, Some, None, IsSome, IsTrue, false, slice_set};
 ghost use Rattle.std.specs.Int.{bit_at};
 ghost use Rattle.spec_map.specs.Map.{lookup, put, without};
-ghost use Rattle.live_cells.specs.Words.{at, Stays, Looks};
-ghost use Rattle.live_cells.specs.PlaceCells.{HasPlaces, Keeps, mark, child_of};
+ghost use Rattle.live_cells.specs.Words.{at, Stays};
+ghost use Rattle.live_cells.specs.PlaceCells.{HasPlaces, Keeps};
 
 use crate::words::{Cells, Draft};
 

@@ -1,5 +1,5 @@
 //! A key that is absent gets a value.
-ghost use Rattle.std.specs.Prelude.{◌≡◌, ℕ, Some, None, IfOk, OnErr};
+ghost use Rattle.std.specs.Prelude.{◌≡◌, Some, None};
 ghost use Rattle.live_calls.specs.Stands.{Stands};
 ghost use Rattle.live_calls.specs.Calls.{IsReady};
 ghost use Rattle.live_nodes.specs.Seats.{SeatView};

@@ -1,8 +1,6 @@
 //! Nodes without children are taken out.
-ghost use Rattle.std.specs.Prelude.{◌≡◌, ℕ, ◌+◌, ◌%◌, ◌<◌, ◌≤◌, ◌^◌, [], length, IfSome, IfNone};
-ghost use Rattle.live_nodes.specs.Nodes.{Content};
-ghost use Rattle.live_law.specs.Levels.{digit};
-ghost use Rattle.live_calls.specs.Ways.{KnowsTrunk, Names, Sights, AreNamed, Keeps};
+ghost use Rattle.std.specs.Prelude.{◌≡◌, ◌<◌, ◌≤◌, [], IfOk, IfSome, IfNone};
+ghost use Rattle.live_calls.specs.Ways.{AreNamed, Keeps};
 ghost use Rattle.live_calls.specs.Holds.{Alike, HasRest};
 ghost use Rattle.live_calls.specs.Stands.{Stands};
 ghost use Rattle.live_detach.specs.Two.{HoldsTwo, LeadsTwo, PartsTwo};
@@ -32,6 +30,13 @@ pub struct Taken {
     pub name: u64,
     pub above: u64,
     pub left: Fill,
+}
+
+/// Why no node was taken out: there is none without children, or a writer is busy there.
+#[derive(Clone, Copy, Debug, PartialEq, Eq)]
+pub enum Stays {
+    InUse,
+    Busy,
 }
 
 /// Locks a node and the one above it, which leads to it.
@@ -105,9 +110,8 @@ fn part(
     left
 }
 
-/// Takes a node without children out, below the node above it, on the way of a key. `None` where it has children, or a writer
-/// is busy at one of them. Nobody uses the node then.
-pub fn detach(nodes: &Nodes, stand: Stand, key: u64, pass: &mut Pass) -> Option<Taken>
+/// Takes a node without children out, below the node above it, on the way of a key. Nobody uses the node then.
+pub fn detach(nodes: &Nodes, stand: Stand, key: u64, pass: &mut Pass) -> Result<Taken, Stays>
     requires book { pass.old.book ≡ nodes.now }
     requires stands { Stands pass.old.view key stand }
     requires below { stand.height < 8 }
@@ -115,18 +119,24 @@ pub fn detach(nodes: &Nodes, stand: Stand, key: u64, pass: &mut Pass) -> Option<
     ensures told { (pass.new.book ≡ pass.old.book) × (pass.new.id ≡ pass.old.id)
         × Keeps pass.old.view pass.new.view
         × (pass.new.view.client.seen ≡ pass.old.view.client.seen) }
-    ensures named { IfSome result (λ taken. taken.name ≡ stand.name) }
+    ensures named { IfOk result (λ taken. taken.name ≡ stand.name) }
 {
-    let words_above = words_at(nodes, stand.above)?;
-    let words = words_at(nodes, stand.name)?;
-    let two = lock_two(words, words_above, stand, key, pass)?;
+    let Some(words_above) = words_at(nodes, stand.above) else {
+        return Err(Stays::Busy);
+    };
+    let Some(words) = words_at(nodes, stand.name) else {
+        return Err(Stays::Busy);
+    };
+    let Some(two) = lock_two(words, words_above, stand, key, pass) else {
+        return Err(Stays::Busy);
+    };
     let held: Held<'_, Mine, Levels, 0> = Held { words };
     let Fill::Empty = fill_of(&held, form_below(stand.name), pass) else {
         unlock_two(words, words_above, two, pass);
-        return None;
+        return Err(Stays::InUse);
     };
     let left = part(words, words_above, stand, key, two, pass);
-    Some(Taken {
+    Ok(Taken {
         name: stand.name,
         above: stand.above,
         left,

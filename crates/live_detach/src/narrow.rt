@@ -1,6 +1,6 @@
 //! A node of few children is replaced by one of the next smaller form.
-ghost use Rattle.std.specs.Prelude.{◌≡◌, ◌≢◌, ◌↔◌, ℕ, ◌+◌, ◌<◌, ◌≤◌, ◌^◌, [], length};
-ghost use Rattle.node_base.specs.Form.{limit, smaller_form, few_in};
+ghost use Rattle.std.specs.Prelude.{◌≡◌, ◌↔◌, ◌<◌, ◌≤◌, ◌^◌, [], length};
+ghost use Rattle.node_base.specs.Form.{limit, few_in};
 ghost use Rattle.live_cells.specs.Words.{Looks};
 ghost use Rattle.live_encodes.specs.Encodes.{words_of, counted};
 ghost use Rattle.live_nodes.specs.Seats.{SeatView};
@@ -24,7 +24,7 @@ use live_cells::list;
 use live_cells::words::Draft;
 use live_encodes::change::change;
 use live_encodes::fill::shrink;
-use live_encodes::form::{form_below, place_of, room_of, word_below};
+use live_encodes::form::{form_below, place_of, room_of, smaller_of, word_below};
 use live_law::law::{Asks, Levels, Mine, Same};
 use live_nodes::node;
 use live_rows::rows::Held;
@@ -37,17 +37,6 @@ pub enum Fill {
     Empty,
     Few,
     Enough,
-}
-
-/// The form that a node of few children goes into.
-fn smaller_of(form: NodeType) -> NodeType
-    ensures { result ≡ smaller_form form }
-{
-    match form {
-        NodeType::N4 | NodeType::N16 => NodeType::N4,
-        NodeType::N48 => NodeType::N16,
-        NodeType::N256 => NodeType::N48,
-    }
 }
 
 /// With so many children at most, a node of this form has few. The next larger form has more then, so that an insertion doesn't

@@ -1,6 +1,6 @@
 //! The changes of a node that stays in its form.
 
-ghost use Rattle.std.specs.Prelude.{◌≡◌, ◌↔◌, ◌+◌, ◌<◌, ◌≤◌, ℕ, List, length, Some, None, IfSome, IfNone, IsTrue, false};
+ghost use Rattle.std.specs.Prelude.{◌≡◌, ◌↔◌, ◌≤◌, ℕ, length, Some, None, IfSome, IfNone, IsTrue, false};
 ghost use Rattle.spec_map.specs.Map.{lookup};
 ghost use Rattle.node_base.specs.Form.{limit};
 ghost use Rattle.node_table.specs.TableNode.{TableNode, Child, MayHave};

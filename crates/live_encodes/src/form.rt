@@ -1,7 +1,7 @@
 //! Forms, as words have them.
 
 ghost use Rattle.std.specs.Prelude.{◌≡◌, ℕ, ◌+◌, ◌*◌, ◌^◌, ◌<◌, ◌≤◌, List, IfSome};
-ghost use Rattle.node_base.specs.Form.{limit, form_place, next_form};
+ghost use Rattle.node_base.specs.Form.{limit, form_place, next_form, smaller_form};
 ghost use Rattle.node_base.specs.declared.base_node.NodeType.{NodeType};
 ghost use Rattle.live_cells.specs.Head.{IsHead};
 ghost use Rattle.node_table.specs.declared.child.Child.TheVariants.{Node};
@@ -98,5 +98,16 @@ pub fn next_of(form: NodeType) -> NodeType
         NodeType::N4 => NodeType::N16,
         NodeType::N16 => NodeType::N48,
         NodeType::N48 | NodeType::N256 => NodeType::N256,
+    }
+}
+
+/// The form that a node of few children goes into.
+pub fn smaller_of(form: NodeType) -> NodeType
+    ensures { result ≡ smaller_form form }
+{
+    match form {
+        NodeType::N4 | NodeType::N16 => NodeType::N4,
+        NodeType::N48 => NodeType::N16,
+        NodeType::N256 => NodeType::N48,
     }
 }

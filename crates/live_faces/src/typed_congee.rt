@@ -1,7 +1,7 @@
 //! `Congee`, the map from keys to values that numbers represent, which threads read without a lock.
 //!
 //! Tested in `test_live_faces`.
-ghost use Rattle.std.specs.Prelude.{◌≡◌, ◌≢◌, ℕ, [], IfOk, OnErr};
+ghost use Rattle.std.specs.Prelude.{◌≡◌, ◌≢◌, [], IfOk, OnErr};
 ghost use Rattle.std.specs.Option.{option_map};
 ghost use Rattle.live_law.specs.Views.{ask, got, inserted};
 ghost use Rattle.live_calls.specs.Meetings.{SeenMore};

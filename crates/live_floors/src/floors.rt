@@ -1,5 +1,5 @@
 //! The calls that find the pair before a key. Each is made by a guard of the map, and enters nothing in the history.
-ghost use Rattle.std.specs.Prelude.{◌≡◌, ℕ, ◌+◌, ◌^◌, IfOk, IfSome, OnErr};
+ghost use Rattle.std.specs.Prelude.{◌≡◌, ◌+◌, ◌^◌, IfOk, IfSome, OnErr};
 ghost use Rattle.share_rule.specs.inner.Rule.{HasSeen};
 ghost use Rattle.live_calls.specs.Ways.{KnowsTrunk, Keeps};
 ghost use Rattle.live_scans.specs.Scans.{EntersNothing};

@@ -1,5 +1,5 @@
 -- One node changes, and what stays so.
-use Rattle.std.proofs.Common.{◌≡◌, ◌≢◌, ⊎_elim, ℕ, ◌/◌, ◌<◌, ◌≤◌, nat_eq, List, [], ◌∷◌, length, length-set, set, Option, Some, None, refl, sym, ap, ◌∙◌, subst, arith}
+use Rattle.std.proofs.Common.{◌≡◌, ◌≢◌, ⊎_elim, ℕ, ◌/◌, ◌<◌, ◌≤◌, nat_eq, List, [], ◌∷◌, length, length-set, set, Option, Some, None, sym, ap, ◌∙◌, subst, arith}
 use mathlib.Core.Logic.{dite}
 use native.Mathlib.Decide.{ℕ_discrete}
 use Rattle.atomic_table.proofs.Lists.{at_set}
@@ -10,7 +10,7 @@ use Rattle.live_nodes.proofs.Frames.{each_map, node_here, node_else}
 use Rattle.live_nodes.specs.Nodes.{Content, at, Node, node}
 use Rattle.live_nodes.specs.Seats.{Each}
 use Rattle.live_law.specs.Levels.{Spot}
-use Rattle.live_law.specs.Views.{View, Watch, Own, locked, fresh, outgrown, trunk, number_of}
+use Rattle.live_law.specs.Views.{View, Watch, Own, locked, fresh, outgrown, trunk}
 use Rattle.live_law.specs.Tree.{Plan, home_of, IsFree, NamesRoot, IsCurrent, IsSpot, IsMet, IsBound, NoLater, IsWatched, IsOwn, IsApart, Knows, AreNodes, AreAlive, IsSettled, IsTree, IsMap}
 
 -- ANOTHER MAP, which all other seats know as well as the one before

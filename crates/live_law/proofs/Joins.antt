@@ -15,8 +15,8 @@ use Rattle.live_nodes.specs.Seats.{Each, IsIn}
 use Rattle.live_nodes.specs.Acts as acts
 use Rattle.live_encodes.specs.Encodes.{words_of, Encodes, IsBelow, IsWord, with_child, in_form}
 use Rattle.live_law.specs.Levels.{up, digit, Shape, name_of, Covers, way, Spot}
-use Rattle.live_law.specs.Views.{View, view_of, Watch, watch, Own, locked, fresh, outgrown, trunk, Ask}
-use Rattle.live_law.specs.Tree.{Plan, home_of, HasPrefix, IsFree, LeadsTo, IsUnder, IsCurrent, NamesRoot, IsSpot, LeadsDown, IsWatched, IsLocked, IsFresh, IsOutgrown, IsOwn, IsTree, IsMap, Links, leads_on, left_over, again, leads_again, left_again, LinksAgain}
+use Rattle.live_law.specs.Views.{View, view_of, watch, Own, locked, fresh, outgrown, trunk, Ask}
+use Rattle.live_law.specs.Tree.{Plan, home_of, HasPrefix, LeadsTo, IsUnder, IsCurrent, NamesRoot, IsSpot, LeadsDown, IsWatched, IsLocked, IsFresh, IsOutgrown, IsOwn, IsTree, IsMap, Links, leads_on, left_over, again, leads_again, left_again, LinksAgain}
 use Rattle.live_law.proofs.Plans.{joined, up-up, way-key, way-own, none_below, none_way, descends, same_name}
 use Rattle.live_law.proofs.Changes.{is_here, is_else}
 use Rattle.live_law.proofs.Makes.{under_alike}

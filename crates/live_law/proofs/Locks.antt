@@ -7,8 +7,8 @@ use Rattle.live_nodes.specs.Nodes.{Node, node, node_at}
 use Rattle.live_nodes.specs.Seats.{Each, IsIn}
 use Rattle.live_nodes.specs.Acts as acts
 use Rattle.live_law.specs.Levels.{Shape, Spot, spot}
-use Rattle.live_law.specs.Views.{View, view_of, Watch, Own, locked, outgrown, trunk}
-use Rattle.live_law.specs.Tree.{Plan, home_of, IsFree, IsSpot, IsMet, IsWatched, IsOwn, IsMap, IsNow, IsApart, IsHeld, LearnsLocked, IsRegained, LearnsRegained, LearnsTrunk}
+use Rattle.live_law.specs.Views.{View, view_of, Own, locked, outgrown, trunk}
+use Rattle.live_law.specs.Tree.{Plan, home_of, IsFree, IsMet, IsOwn, IsMap, IsNow, IsApart, LearnsLocked, LearnsRegained, LearnsTrunk}
 use Rattle.live_law.proofs.Changes.{with_map, nodes_stay, settled_stays, alive_stays, met_stays, watch_stays, own_stays, each_stays, apart_from, tree_same, is_here, low_stays, changed}
 use Rattle.live_law.proofs.Looks.{met, is_now, is_current}
 

@@ -16,7 +16,7 @@ use Rattle.live_cells.specs.Head.{IsHead}
 use Rattle.live_encodes.specs.Encodes.{words_of, long_for, HasChildren, Encodes}
 use Rattle.live_law.specs.Levels.{up, Shape, name_of, way, IsBelow, Spot, spot}
 use Rattle.live_law.specs.Views.{View, with_own, Watch, Own, locked, fresh, outgrown, trunk, Ask}
-use Rattle.live_law.specs.Tree.{Plan, home_of, IsFree, LeadsTo, IsUnder, IsCurrent, NamesRoot, IsSpot, IsMet, LeadsDown, IsBound, NoLater, IsWatched, IsOwn, AreNodes, AreAlive, IsSettled, IsTree, IsMap, IsMade}
+use Rattle.live_law.specs.Tree.{Plan, home_of, IsFree, LeadsTo, IsUnder, IsCurrent, NamesRoot, IsSpot, IsMet, IsBound, NoLater, IsWatched, IsOwn, AreNodes, AreAlive, IsSettled, IsTree, IsMap, IsMade}
 use Rattle.live_law.proofs.Changes.{with_map}
 
 -- how long a content is, and what form it has

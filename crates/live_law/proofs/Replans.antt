@@ -1,19 +1,16 @@
 -- A node that a seat has locked, and that is no part of the map, is going to be another one: where it will be, and what it will
 -- have, may be chosen at any time.
-use Rattle.std.proofs.Common.{◌≡◌, ◌≢◌, ⊎_elim, ℕ, suc, ◌+◌, ◌*◌, ◌<◌, ◌≤◌, Bool, cond, nat_eq, List, ◌∷◌, length, Option, Some, None, refl, sym, ap, ◌∙◌, subst, inl, inr, arith, eq-eqb, ne_eqb}
-use mathlib.Core.Option.{some}
+use Rattle.std.proofs.Common.{◌≡◌, ◌≢◌, ⊎_elim, ℕ, suc, ◌+◌, ◌*◌, ◌≤◌, Bool, cond, nat_eq, List, Option, Some, None, refl, sym, ap, ◌∙◌, subst, inl, inr, eq-eqb, ne_eqb}
 use mathlib.Core.Logic.{dite}
 use native.Mathlib.Decide.{ℕ_discrete}
-use lib.ListN.{get_elem?}
 use Rattle.node_table.specs.TableNode.{Child}
 use Rattle.node_table.specs.declared.child.Child.TheVariants.{Payload, Node as Below}
-use Rattle.spec_map.specs.Map.{Pairs}
 use Rattle.live_nodes.proofs.Frames.{each_map, put_at, put_here, put_else}
-use Rattle.live_nodes.specs.Nodes.{Content, at, Node, node}
+use Rattle.live_nodes.specs.Nodes.{Content, Node, node}
 use Rattle.live_encodes.specs.Encodes.{words_of}
 use Rattle.live_law.specs.Levels.{Shape, name_of, way, IsBelow, Spot, spot}
 use Rattle.live_law.specs.Views.{View, Watch, Own, locked, fresh, outgrown, trunk}
-use Rattle.live_law.specs.Tree.{Plan, home_of, IsFree, LeadsTo, IsCurrent, NamesRoot, IsSpot, IsMet, IsWatched, IsOutgrown, IsOwn, AreNodes, AreAlive, IsSettled, IsTree, IsMap}
+use Rattle.live_law.specs.Tree.{Plan, home_of, LeadsTo, IsCurrent, IsSpot, IsMet, IsWatched, IsOutgrown, IsOwn, AreNodes, AreAlive, IsSettled, IsTree, IsMap}
 use Rattle.live_law.proofs.Plans.{at_home}
 use Rattle.live_law.proofs.Makes.{current_alike}
 use Rattle.live_law.proofs.Links.{IsOff}

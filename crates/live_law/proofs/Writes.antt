@@ -17,7 +17,7 @@ use Rattle.live_nodes.specs.Acts as acts
 use Rattle.live_encodes.specs.Encodes.{words_of, Encodes, with_child}
 use Rattle.live_law.specs.Levels.{up, digit, Shape, Covers, Spot}
 use Rattle.live_law.specs.Views.{View, view_of, Own, locked, outgrown, trunk, rest_of, content_of, Ask, inserted}
-use Rattle.live_law.specs.Tree.{Plan, home_of, IsFree, HasValue, IsUnder, IsCurrent, IsSpot, IsMet, IsOwn, IsLocked, IsOutgrown, IsApart, IsTree, IsMap, StaysSame, Inserts}
+use Rattle.live_law.specs.Tree.{Plan, home_of, IsFree, HasValue, IsUnder, IsCurrent, IsMet, IsOwn, IsLocked, IsOutgrown, IsApart, IsTree, IsMap, StaysSame, Inserts}
 use Rattle.live_law.proofs.Histories.{put_legal, others_alike, sees_all, sees_less}
 use Rattle.live_law.proofs.Plans.{joined}
 use Rattle.live_law.proofs.Looks.{at_leaf}

@@ -1,8 +1,8 @@
 //! The nearest child from a byte on.
 
-ghost use Rattle.std.specs.Prelude.{◌≡◌, ℕ, ◌+◌, ◌-◌, ◌/◌, ◌<◌, ◌≤◌, List, Some, None, IfSome, length};
+ghost use Rattle.std.specs.Prelude.{◌≡◌, ℕ, ◌+◌, ◌/◌, ◌<◌, ◌≤◌, List, Some, None, IfSome};
 ghost use Rattle.node_table.specs.TableNode.{TableNode};
-ghost use Rattle.live_cells.specs.Words.{at, lane, Stays};
+ghost use Rattle.live_cells.specs.Words.{at, Stays};
 ghost use Rattle.live_cells.specs.ListCells.{count, key, first, HasList};
 ghost use Rattle.live_cells.specs.PlaceCells.{HasPlaces};
 ghost use Rattle.live_encodes.specs.Encodes.{words_of, Encodes};

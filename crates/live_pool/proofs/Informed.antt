@@ -1,10 +1,10 @@
 -- Two seats tell each other where nodes are, and the rule is kept: what a seat has met is so for each.
-use Rattle.std.proofs.Common.{◌≡◌, ◌≢◌, ⊎_elim, ℕ, List, length, length-set, map, set, sym, refl, ap, ◌∙◌, subst, arith}
+use Rattle.std.proofs.Common.{◌≡◌, ⊎_elim, ℕ, List, length-set, map, set, sym, refl, ap, ◌∙◌, subst, arith}
 use mathlib.Core.Option.{some}
 use lib.ListN.{get_elem?}
 use lib.Seq.{map-set}
 use Rattle.atomic_table.proofs.Lists.{at_set}
-use Rattle.word_book.specs.Book.{State, Meets}
+use Rattle.word_book.specs.Book.{Meets}
 use Rattle.live_nodes.specs.Nodes.{Node}
 use Rattle.live_nodes.specs.Seats.{SeatView}
 use Rattle.live_nodes.specs.Rule.{PlaceFits, Knows, RoomFits, client, IsLive}

@@ -1,12 +1,9 @@
 -- A seat takes another's room over, and the rule is kept: each of its words is the second seat's from then on.
-use Rattle.std.proofs.Common.{◌≡◌, ◌≢◌, ℕ, Bool, cond, nat_eq, List, length, map, set, sym, refl, ap, ◌∙◌, subst, eq-eqb, ne_eqb}
-use mathlib.Core.Option.{some, some-ne-none}
-use lib.ListN.{get_elem?}
+use Rattle.std.proofs.Common.{◌≡◌, ◌≢◌, ℕ, Bool, cond, nat_eq, List, map, set, sym, refl, ap, ◌∙◌, subst, eq-eqb, ne_eqb}
+use mathlib.Core.Option.{some-ne-none}
 use lib.Seq.{map-set}
-use mathlib.Core.Logic.{dite}
-use native.Mathlib.Decide.{ℕ_discrete}
 use Rattle.atomic_table.proofs.Lists.{set_again}
-use Rattle.word_book.specs.Book.{State, Meets}
+use Rattle.word_book.specs.Book.{Meets}
 use Rattle.live_nodes.specs.Nodes.{Content, Node, Owner, counts, in_node, in_room, IsNode}
 use Rattle.live_nodes.specs.Seats.{Room, no_room, SeatView}
 use Rattle.live_nodes.specs.Rule.{Knows, RoomFits, client, IsLive}

@@ -1,14 +1,13 @@
 -- What a seat has met that was informed by another.
 use Rattle.std.proofs.Common.{◌≡◌, ℕ, ⊎_elim, List, [], ◌∷◌, ◌++◌, inl, inr, refl, sym, subst, ◌∙◌}
-use Rattle.live_nodes.specs.Seats.{Place, place, SeatView, IsIn, Each}
+use Rattle.live_nodes.specs.Seats.{place, SeatView, IsIn, Each}
 use Rattle.live_nodes.proofs.Frames.{each_map}
-use Rattle.live_law.specs.Levels.{Spot, place_at}
+use Rattle.live_law.specs.Levels.{place_at}
 use Rattle.live_law.specs.Views.{View}
 use Rattle.live_calls.specs.Ways.{Sights, Keeps}
 use Rattle.live_calls.specs.Calls.{IsReady}
 use Rattle.live_calls.specs.declared.link.Room.{Room}
 use Rattle.live_pool.specs.Successions.{with_room, informed}
-use Rattle.live_pool.proofs.Lists.{each_parts}
 
 abbrev Seen : Type 0
 Seen = SeatView View

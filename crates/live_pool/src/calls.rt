@@ -1,6 +1,7 @@
 //! The calls that make nodes or take nodes out, with the guard's spare nodes kept in order.
 //!
-//! Each is the call of the map. Before it a guard with little room gets nodes, and after it one too many goes to the others.
+//! Each is the call of the map. Before it a guard with little room gets nodes. After it one too many goes to the others, and paths
+//! are tidied that a writer was busy at.
 ghost use Rattle.std.specs.Prelude.{◌≡◌, ℕ, IfOk, IfSome, OnErr, unwrap_or};
 ghost use Rattle.live_law.specs.Views.{ask, inserted};
 ghost use Rattle.live_law.specs.Known.{MadeCall};
@@ -30,7 +31,11 @@ impl Pool {
     {
         let before = self.ready(guard);
         let done = self.map.insert(alloc, guard, key, value);
-        self.settle(guard, before);
+        if done.is_err() {
+            self.settle_refusal(guard, before, key);
+        } else {
+            self.settle(guard, before);
+        }
         done
     }
 
@@ -41,9 +46,9 @@ impl Pool {
             (removed guard.old.caller key before) guard.new) }
         ensures busy { OnErr result (guard.new ≡ guard.old) }
     {
-        let before = guard.room;
+        let before = self.begin(guard);
         let done = calls::remove(&self.map, guard, key);
-        self.settle_way(guard, before, key);
+        self.settle(guard, before);
         done
     }
 
@@ -62,9 +67,9 @@ impl Pool {
         ensures stored { IfOk result (λ answer. IfOk answer (λ stored. stored ≡ new)) }
         ensures busy { OnErr result (guard.new ≡ guard.old) }
     {
-        let before = guard.room;
+        let before = self.begin(guard);
         let done = calls::compare_exchange(&self.map, guard, key, old, new);
-        self.settle_way(guard, before, key);
+        self.settle(guard, before);
         done
     }
 
@@ -83,7 +88,11 @@ impl Pool {
     {
         let before = self.ready(guard);
         let done = present::get_or_insert(&self.map, alloc, guard, key, value);
-        self.settle(guard, before);
+        if done.is_err() {
+            self.settle_refusal(guard, before, key);
+        } else {
+            self.settle(guard, before);
+        }
         done
     }
 
@@ -102,7 +111,11 @@ impl Pool {
     {
         let before = self.ready(guard);
         let done = present::add(&self.map, alloc, guard, key, number);
-        self.settle(guard, before);
+        if done.is_err() {
+            self.settle_refusal(guard, before, key);
+        } else {
+            self.settle(guard, before);
+        }
         done
     }
 
@@ -124,9 +137,9 @@ impl Pool {
             (state : F) × F.step state pair.0 pair.1 f.new)) }
         ensures busy { OnErr result (guard.new ≡ guard.old) }
     {
-        let before = guard.room;
+        let before = self.begin(guard);
         let done = present::compute_if_present(&self.map, guard, key, f);
-        self.settle_way(guard, before, key);
+        self.settle(guard, before);
         done
     }
 
@@ -149,7 +162,11 @@ impl Pool {
     {
         let before = self.ready(guard);
         let done = present::compute_or_insert(&self.map, alloc, guard, key, f);
-        self.settle(guard, before);
+        if done.is_err() {
+            self.settle_refusal(guard, before, key);
+        } else {
+            self.settle(guard, before);
+        }
         done
     }
 }

@@ -3,13 +3,16 @@
 //! A guard that has inserted has words for further nodes to itself, of 512 KiB at most. They are the map's for good, so they
 //! would be lost with the guard. Here its room goes to the next guard instead: as many rooms are in use as there were guards
 //! at one time. A guard also keeps a node or two of each form that were taken out of the map. It gives further ones to all, and
-//! takes others' before it uses words of its room. So a map that changes for ever has as many nodes as it needs at most.
+//! takes others' before it uses words of its room. Where a writer is busy at a node that a removal would take out, a later call
+//! takes it out. So a map that changes for ever has few more nodes than it needs.
 //!
 //! Tested in `test_live_pool`.
 #![tactic(auto)]
 
 pub mod calls;
+mod deferred;
 pub mod pool;
 mod slot;
 pub mod stock;
 pub mod succession;
+pub mod upkeep;

@@ -1,19 +1,17 @@
-//! The map, guards that were given back, and nodes to use again.
+//! The map, and guards that have ended, whose rooms others get.
 //!
 //! Nobody waits. What is in a slot is taken out by one step, and put back by another. Who finds each list of guards taken looks
 //! again a bounded number of times, and then goes without.
 ghost use Rattle.std.specs.Prelude.{◌≡◌, [], IfOk, IfSome};
 ghost use Rattle.live_pool.specs.Pools.{AreOf, AreFor};
 
+use crate::deferred::Deferred;
 use crate::slot::swap;
-use crate::stock::{Stock, add_to, take_from};
+use crate::stock::Stock;
 use crate::succession::succeed;
 use counted_slot::{Counted, FREE, Fits, MARKED, PRESENT};
-use live_calls::link::Room;
 use live_calls::map::{Congee, Guard};
 use live_calls::spare::Spares;
-use live_detach::tidy::tidy;
-use live_encodes::form::{form_below, place_of};
 use node_base::base_node::NodeType;
 use std::alloc::{AllocError, Global};
 use std::hint::spin_loop;
@@ -23,13 +21,15 @@ use std::marker::Model;
 const SLOTS: usize = 8;
 
 /// The forms of nodes, by their places.
-const FORMS: [NodeType; 4] = [NodeType::N4, NodeType::N16, NodeType::N48, NodeType::N256];
+pub(crate) const FORMS: [NodeType; 4] = [
+    NodeType::N4,
+    NodeType::N16,
+    NodeType::N48,
+    NodeType::N256,
+];
 
-/// How many nodes a removal takes out at most.
-const MOST: usize = 7;
-
-/// How many words the largest node has.
-const LEAST: u64 = 263;
+/// How many stocks each form has, and how many queues of deferred keys there are. Where a thread stops at one, others use the next.
+pub(crate) const STRIPES: usize = 4;
 
 /// How often a list is looked for, where each is taken.
 const LOOKS: u32 = 100;
@@ -48,14 +48,15 @@ impl Fits for Left {
     ghost fits = { λ book left. AreOf book left.guards.items };
 }
 
-/// A map, guards of it that were given back, and nodes that any guard may use again.
+/// A map, guards of it that have ended, nodes that any guard may use again, and keys whose paths any guard may tidy.
 #[derive(Drop)]
 pub struct Pool {
     /// The map.
     pub map: Congee,
     slots: Vec<Counted<Left>>,
-    stocks: Vec<Counted<Stock>>,
-    alloc: Global,
+    pub(crate) stocks: Vec<Counted<Stock>>,
+    pub(crate) deferred: Vec<Counted<Deferred>>,
+    pub(crate) alloc: Global,
 }
 
 impl Model for Pool {
@@ -83,15 +84,24 @@ fn free_slots(alloc: Global, map: &Congee) -> Result<Vec<Counted<Left>>, AllocEr
     Ok(slots)
 }
 
-// A stock for each form, without nodes.
+// The stocks of each form, without nodes: a stripe of one for each form after another.
 fn no_stocks(alloc: Global, map: &Congee) -> Result<Vec<Counted<Stock>>, AllocError>
     ensures { IfOk result (λ stocks. AreFor map.now stocks.items) }
 {
-    let mut stocks = Vec::with_capacity(alloc, FORMS.len())?;
-    for _ in 0..FORMS.len() {
+    let mut stocks = Vec::with_capacity(alloc, FORMS.len() * STRIPES)?;
+    for _ in 0..FORMS.len() * STRIPES {
         stocks.push(Counted::new(Stock::none(map, alloc), map))?;
     }
     Ok(stocks)
+}
+
+// The queues, without keys.
+fn no_keys(alloc: Global, map: &Congee) -> Result<Vec<Counted<Deferred>>, AllocError> {
+    let mut deferred = Vec::with_capacity(alloc, STRIPES)?;
+    for _ in 0..STRIPES {
+        deferred.push(Counted::new(Deferred::none(alloc), map))?;
+    }
+    Ok(deferred)
 }
 
 impl Pool {
@@ -100,110 +110,20 @@ impl Pool {
         Pool::with_limit(alloc, u64::MAX)
     }
 
-    /// An empty map. It has a root of 2,104 bytes, the slots and the stocks. Its segments may take so many bytes together, as
+    /// An empty map. It has a root of 2,104 bytes, the slots, the stocks and the queues. Its segments may take so many bytes together, as
     /// in `Congee::with_limit`.
     pub fn with_limit(alloc: Global, limit: u64) -> Result<Pool, AllocError> {
         let map = Congee::with_limit(alloc, limit)?;
         let slots = free_slots(alloc, &map)?;
         let stocks = no_stocks(alloc, &map)?;
+        let deferred = no_keys(alloc, &map)?;
         Ok(Pool {
             map,
             slots,
             stocks,
+            deferred,
             alloc,
         })
-    }
-
-    /// To be called before a call that may insert: a guard with few words left gets nodes of the stocks. What it has then.
-    pub fn ready(&self, guard: &mut Guard) -> Room
-        requires map { guard.old.book ≡ self.now }
-        ensures { guard.new ≡ guard.old }
-    {
-        if guard.room.left < LEAST && !guard.room.spare.is_full() {
-            self.supply(guard);
-        }
-        guard.room
-    }
-
-    /// To be called after a call that may insert or remove, with what the guard had before it. If it made nodes or took some
-    /// out, one too many goes to the stock of its form, and of those that it has none of it gets one.
-    pub fn settle(&self, guard: &mut Guard, before: Room)
-        requires map { guard.old.book ≡ self.now }
-        ensures { guard.new ≡ guard.old }
-    {
-        if guard.room == before {
-            return;
-        }
-        self.leave(guard);
-        self.supply(guard);
-    }
-
-    /// The same after a call that may remove this key. Where there was no place for the name of another node, the way of the key is
-    /// tidied on.
-    pub fn settle_way(&self, guard: &mut Guard, before: Room, key: u64)
-        requires map { guard.old.book ≡ self.now }
-        ensures { guard.new ≡ guard.old }
-    {
-        for _ in 0..MOST {
-            if guard.room.spare.more == 0 {
-                break;
-            }
-            self.leave(guard);
-            self.tidy_on(guard, key);
-        }
-        self.settle(guard, before);
-    }
-
-    // Nodes without children on the way of a key are taken out.
-    fn tidy_on(&self, guard: &mut Guard, key: u64)
-        requires map { guard.old.book ≡ self.now }
-        ensures { guard.new ≡ guard.old }
-    {
-        tidy(&self.map.nodes, key, &mut guard.room, &mut guard.pass);
-    }
-
-    // The guard's further node goes to the stock of its form, if there is one.
-    fn leave(&self, guard: &mut Guard)
-        requires map { guard.old.book ≡ self.now }
-        ensures { guard.new ≡ guard.old }
-    {
-        let name = guard.room.spare.more;
-        if name == 0 {
-            return;
-        }
-        let Some(slot) = self.stocks.get(place_of(form_below(name)) as usize) else {
-            return;
-        };
-        if add_to(slot, &self.map, self.alloc, name, &mut guard.pass) {
-            guard.room.spare.more = 0;
-        }
-    }
-
-    // A node of each form that the guard has none of, if there is one, and a second one of the smallest.
-    fn supply(&self, guard: &mut Guard)
-        requires map { guard.old.book ≡ self.now }
-        ensures { guard.new ≡ guard.old }
-    {
-        for form in FORMS {
-            if guard.room.spare.get(form) == 0 {
-                self.supply_one(guard, form);
-            }
-        }
-        if guard.room.spare.second == 0 {
-            self.supply_one(guard, NodeType::N4);
-        }
-    }
-
-    fn supply_one(&self, guard: &mut Guard, form: NodeType)
-        requires map { guard.old.book ≡ self.now }
-        ensures { guard.new ≡ guard.old }
-    {
-        let Some(slot) = self.stocks.get(place_of(form) as usize) else {
-            return;
-        };
-        if let Some(name) = take_from(slot, &self.map, self.alloc, &mut guard.pass) {
-            let _ = guard.room.spare.keep(name);
-        }
     }
 
     /// A guard that has seen nothing. It has the room of one that was given back, if there is one.
@@ -221,6 +141,8 @@ impl Pool {
     pub fn unpin(&self, guard: Guard)
         requires map { guard.book ≡ self.now }
     {
+        let mut guard = guard;
+        self.defer(&mut guard);
         if guard.room.left == 0 && guard.room.spare == Spares::none() {
             return;
         }

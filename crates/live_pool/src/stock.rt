@@ -13,10 +13,6 @@ use counted_slot::{Counted, FREE, Fits, MARKED, PRESENT};
 use live_calls::map::Congee;
 use live_calls::way::Pass;
 use std::alloc::Global;
-use std::hint::spin_loop;
-
-/// How often a stock is looked for, where another thread is at it.
-const LOOKS: u32 = 1000;
 
 /// Names of nodes of one form.
 #[derive(Drop)]
@@ -86,38 +82,15 @@ fn open(slot: &Counted<Stock>, word: u64, map: &Congee, alloc: Global) -> Option
     }
 }
 
-// Takes a stock that has names out of its slot, also where another thread is just at it.
-fn open_some(slot: &Counted<Stock>, map: &Congee, alloc: Global) -> Option<Stock>
-    requires map { slot.now ≡ map.now }
-    ensures { IfSome result (λ s. IsStock map.now s.keeper.book s.keeper.view s.names.items) }
-{
-    for _ in 0..LOOKS {
-        if let Some(stock) = open(slot, PRESENT, map, alloc) {
-            return Some(stock);
-        }
-        if slot.load() == FREE {
-            return None;
-        }
-        spin_loop();
-    }
-    None
-}
-
-// The same of one that may have none.
+// Takes a stock out of its slot, whether it has names or not.
 fn open_any(slot: &Counted<Stock>, map: &Congee, alloc: Global) -> Option<Stock>
     requires map { slot.now ≡ map.now }
     ensures { IfSome result (λ s. IsStock map.now s.keeper.book s.keeper.view s.names.items) }
 {
-    for _ in 0..LOOKS {
-        if let Some(stock) = open(slot, PRESENT, map, alloc) {
-            return Some(stock);
-        }
-        if let Some(stock) = open(slot, FREE, map, alloc) {
-            return Some(stock);
-        }
-        spin_loop();
+    if let Some(stock) = open(slot, PRESENT, map, alloc) {
+        return Some(stock);
     }
-    None
+    open(slot, FREE, map, alloc)
 }
 
 // Puts it back.
@@ -160,7 +133,7 @@ pub fn take_from(slot: &Counted<Stock>, map: &Congee, alloc: Global, pass: &mut 
         × Keeps pass.old.view pass.new.view × (pass.new.view.client.seen ≡ pass.old.view.client.seen) }
     ensures met { IfSome result (Sights pass.new.view) }
 {
-    let mut stock = open_some(slot, map, alloc)?;
+    let mut stock = open(slot, PRESENT, map, alloc)?;
     let name = stock.take(pass);
     close(slot, stock);
     name

@@ -1,6 +1,6 @@
 //! Words in a row, by what the seat may do with them.
 
-ghost use Rattle.std.specs.Prelude.{◌≡◌, ℕ, ◌+◌, ◌-◌, length};
+ghost use Rattle.std.specs.Prelude.{◌-◌, length};
 ghost use Rattle.live_nodes.specs.Seats.{Agree};
 ghost use Rattle.live_rows.specs.Rows.{last_saw, draft_of, nth, filled, MayRead, MayHold, MayFill, without_reads, without_draft, without_fill};
 

@@ -1,5 +1,5 @@
 //! A node that leads on to one whose way a key leaves.
-ghost use Rattle.std.specs.Prelude.{◌≡◌, ℕ, ◌≤◌, Some, IsTrue};
+ghost use Rattle.std.specs.Prelude.{◌≡◌, ◌≤◌, Some, IsTrue};
 ghost use Rattle.live_calls.specs.Ways.{Sights, IsOpen, Keeps};
 ghost use Rattle.live_calls.specs.Forks.{first_number};
 ghost use Rattle.live_scans.specs.inner.Forks.{IsAside};

@@ -1,5 +1,5 @@
 //! Pages of a range, leaf by leaf.
-ghost use Rattle.std.specs.Prelude.{◌≡◌, ◌≢◌, ℕ, ◌+◌, ◌%◌, ◌^◌, ◌<◌, ◌≤◌, List, length, take, drop, IfSome};
+ghost use Rattle.std.specs.Prelude.{◌≡◌, ◌≢◌, ◌+◌, ◌%◌, ◌^◌, ◌<◌, ◌≤◌, length, take, IfSome};
 ghost use Rattle.share_rule.specs.inner.Rule.{HasSeen};
 ghost use Rattle.live_order.specs.Page.{pairs_of};
 ghost use Rattle.live_calls.specs.Ways.{KnowsTrunk, Keeps};

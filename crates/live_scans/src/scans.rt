@@ -1,5 +1,5 @@
 //! The calls that read many keys. Each is made by a guard of the map, and enters nothing in the history.
-ghost use Rattle.std.specs.Prelude.{◌≡◌, ℕ, ◌+◌, ◌≤◌, length, take, IfOk, OnErr};
+ghost use Rattle.std.specs.Prelude.{◌≡◌, ◌+◌, ◌≤◌, length, take, IfOk, OnErr};
 ghost use Rattle.live_order.specs.Page.{pairs_of};
 ghost use Rattle.live_scans.specs.Scans.{EntersNothing, HasPage, HasNext};
 

@@ -1,5 +1,5 @@
 //! The steps of a reader upwards, each at the check of one node.
-ghost use Rattle.std.specs.Prelude.{◌≡◌, ◌≢◌, ℕ, ◌+◌, ◌-◌, ◌*◌, ◌%◌, ◌<◌, ◌≤◌, ◌^◌, List, length, take, drop, true, IfSome, IsTrue};
+ghost use Rattle.std.specs.Prelude.{◌≡◌, ◌≢◌, ℕ, ◌+◌, ◌%◌, ◌<◌, ◌≤◌, ◌^◌, length, take, drop, true, IfSome, IsTrue};
 ghost use Rattle.share_rule.specs.inner.Rule.{HasSeen};
 ghost use Rattle.live_law.specs.Levels.{digit};
 ghost use Rattle.live_order.specs.Page.{pairs_of};

@@ -1,5 +1,5 @@
 //! A leaf is locked, and a key there gets another value, or none.
-ghost use Rattle.std.specs.Prelude.{◌≡◌, ℕ, ◌+◌, ◌<◌, ◌≤◌, List, [], length, Some, None};
+ghost use Rattle.std.specs.Prelude.{◌≡◌, ℕ, [], length, Some, None};
 ghost use Rattle.node_table.specs.TableNode.{TableNode};
 ghost use Rattle.live_cells.specs.Words.{Stays, Looks};
 ghost use Rattle.live_encodes.specs.Encodes.{words_of, IsCounted, Encodes};

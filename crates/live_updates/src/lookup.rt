@@ -1,6 +1,6 @@
 //! A look-up of a key, which may end a call: the key's value, and its leaf.
-ghost use Rattle.std.specs.Prelude.{◌≡◌, ℕ, ◌+◌, ◌<◌, ◌≤◌};
-ghost use Rattle.live_calls.specs.Ways.{KnowsTrunk, Names, Sights, IsOpen, Keeps};
+ghost use Rattle.std.specs.Prelude.{◌≡◌, ◌≤◌};
+ghost use Rattle.live_calls.specs.Ways.{KnowsTrunk, Sights, IsOpen, Keeps};
 ghost use Rattle.live_updates.specs.inner.Lookups.{IsLookup, MaySight, Found, Lacks, Sought};
 
 use live_calls::fork::watch;

@@ -6,4 +6,6 @@ mod emptied;
 #[cfg(test)]
 mod narrowed;
 #[cfg(test)]
+mod owed;
+#[cfg(test)]
 mod rooms;

@@ -4,7 +4,7 @@
 //! and nothing is entered in the history.
 //!
 //! Tested in `test_live_scans`.
-ghost use Rattle.std.specs.Prelude.{◌≡◌, ℕ, ◌+◌, ◌^◌, IfOk, OnErr};
+ghost use Rattle.std.specs.Prelude.{◌≡◌, ◌+◌, ◌^◌, IfOk, OnErr};
 ghost use Rattle.live_scans.specs.Scans.{EntersNothing};
 ghost use Rattle.live_faces.specs.Returned.{ReturnsBefore, pair_of};
 

@@ -5,7 +5,7 @@
 //! nothing in the history.
 //!
 //! Tested in `test_live_scans`.
-ghost use Rattle.std.specs.Prelude.{◌≡◌, ℕ, ◌+◌, ◌≤◌, length, take, IfOk, OnErr};
+ghost use Rattle.std.specs.Prelude.{◌≡◌, ◌+◌, ◌≤◌, length, take, IfOk, OnErr};
 ghost use Rattle.std.specs.Option.{option_map};
 ghost use Rattle.live_scans.specs.Scans.{EntersNothing, HasPage};
 ghost use Rattle.live_faces.specs.Returned.{ReturnsNext, pair_of};

@@ -1,20 +1,21 @@
 use Rattle.std.proofs.Common.{rules, sym, ap, subst, length, ℕ, List, ◌≡◌, ◌∙◌}
 use Rattle.live_encodes.specs.Encodes.{words_of}
+use Rattle.live_calls.specs.Holds.{HasRest}
 use Rattle.live_calls.proofs.Pairs.{pair_first, first_draft}
 use Rattle.live_detach.specs.Two.{PartsTwo}
 use Rattle.live_detach.specs.declared.narrow.Fill.TheVariants.{Empty}
-use Rattle.live_detach.proofs.Twos.{as_pair, none_counted}
+use Rattle.live_detach.proofs.Twos.{as_pair, none_counted, rest_keeps}
 use Rattle.live_detach.proofs.detach.detach.Goals as goal
 
 pub fill_of-requires-clause-may : goal.fill_of-requires-clause-may
 fill_of-requires-clause-may c =
     let v = c.args.pass.now.view in
-    let words = c.in_ok-words.words.now in
-    let words_p = c.in_ok-words_above.words_above.now in
-    let two = c.in_ok-two.two in
+    let words = c.in-Some-words_at.words.now in
+    let words_p = c.in-Some.words_above.now in
+    let two = c.in-Some-lock_two.two in
     let w = c.lock_two.new.pass.view in
     let b = c.lock_two.new.pass.book in
-    let l = c.in_ok-two.ensures.told.3.1 in
+    let l = c.in-Some-lock_two.ensures.told.3.1 in
     let h = l.two in
     let pair = as_pair w b words words_p two.free two.free_above h in
     let form = c.form_below.ensures h.below.shape.key h.below.shape.form l.named in
@@ -24,12 +25,12 @@ fill_of-requires-clause-may c =
 pub fill_of-requires-clause-long : goal.fill_of-requires-clause-long
 fill_of-requires-clause-long c =
     let v = c.args.pass.now.view in
-    let words = c.in_ok-words.words.now in
-    let words_p = c.in_ok-words_above.words_above.now in
-    let two = c.in_ok-two.two in
+    let words = c.in-Some-words_at.words.now in
+    let words_p = c.in-Some.words_above.now in
+    let two = c.in-Some-lock_two.two in
     let w = c.lock_two.new.pass.view in
     let b = c.lock_two.new.pass.book in
-    let l = c.in_ok-two.ensures.told.3.1 in
+    let l = c.in-Some-lock_two.ensures.told.3.1 in
     let h = l.two in
     let pair = as_pair w b words words_p two.free two.free_above h in
     let form = c.form_below.ensures h.below.shape.key h.below.shape.form l.named in
@@ -39,12 +40,12 @@ fill_of-requires-clause-long c =
 pub part-left-requires-clause-parts : goal.part-left-requires-clause-parts
 part-left-requires-clause-parts c =
     let v = c.args.pass.now.view in
-    let words = c.in_ok-words.words.now in
-    let words_p = c.in_ok-words_above.words_above.now in
-    let two = c.in_ok-two.two in
+    let words = c.in-Some-words_at.words.now in
+    let words_p = c.in-Some.words_above.now in
+    let two = c.in-Some-lock_two.two in
     let w = c.lock_two.new.pass.view in
     let b = c.lock_two.new.pass.book in
-    let l = c.in_ok-two.ensures.told.3.1 in
+    let l = c.in-Some-lock_two.ensures.told.3.1 in
     let h = l.two in
     let pair = as_pair w b words words_p two.free two.free_above h in
     let form = c.form_below.ensures h.below.shape.key h.below.shape.form l.named in
@@ -53,3 +54,29 @@ part-left-requires-clause-parts c =
     let none = none_counted c.form_below.result h.below.shape.form _ h.content was form (c.fill_of.ensures.empty.0 empty) in
     let parts : PartsTwo w b words words_p two.free two.free_above c.args.stand c.args.key = record { lead = l; none = none } in
     subst (λ s. PartsTwo s.view s.book words words_p two.free two.free_above c.args.stand c.args.key) (sym c.fill_of.ensures.seat.same) parts
+
+pub returns-in_default-fill_of : goal.returns-in_default-fill_of
+returns-in_default-fill_of c =
+    let v = c.args.pass.now.view in
+    let l = c.lock_two.ensures.told in
+    let same = c.fill_of.ensures.seat.same in
+    let u = c.unlock_two.ensures.told in
+    let alike = c.in-Some-lock_two.ensures.told.3.0 in
+    let rest : HasRest v c.unlock_two.new.pass.view = record {
+      own = u.2.own;
+      holds = u.2.holds;
+      alike = record {
+        places = u.2.alike.places ∙ (ap (λ s. s.view.places) same ∙ alike.places);
+        met = u.2.alike.met ∙ (ap (λ s. s.view.client.met) same ∙ alike.met);
+        room = u.2.alike.room ∙ (ap (λ s. s.view.room) same ∙ alike.room);
+      };
+    } in
+    record {
+      told = (
+        u.0 ∙ (ap (λ s. s.book) same ∙ l.0),
+        u.1 ∙ (ap (λ s. s.id) same ∙ l.1),
+        rest_keeps v c.unlock_two.new.pass.view c.requires.rests.0 c.requires.rests.1 rest,
+        u.3 ∙ (ap (λ s. s.view.client.seen) same ∙ l.2),
+      );
+      named = tt;
+    }

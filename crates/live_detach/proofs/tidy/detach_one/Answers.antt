@@ -1,12 +1,12 @@
-use Rattle.std.proofs.Common.{Option, Some, None, IfSome, sym, subst, ◌∙◌}
+use Rattle.std.proofs.Common.{Result, Ok, Err, IfOk, sym, subst, ◌∙◌}
 use Rattle.live_calls.specs.Ways.{Sights}
 use Rattle.live_calls.proofs.Finds.{keeps_then}
 use Rattle.live_calls.proofs.Sights.{sights_names, sights_kept}
 use Rattle.live_detach.proofs.tidy.detach_one.Goals as goal
 
-if_some : {A : Type 0} (P Q : A → Type 0) (o : Option A) → ((x : A) → P x → Q x) → IfSome o P → IfSome o Q
-if_some P Q None f h = h
-if_some P Q (Some x) f h = f x h
+if_ok : {A E : Type 0} (P Q : A → Type 0) (r : Result A E) → ((x : A) → P x → Q x) → IfOk r P → IfOk r Q
+if_ok P Q (Err e) f h = h
+if_ok P Q (Ok x) f h = f x h
 
 pub returns-clause-told : goal.returns-clause-told
 returns-clause-told c =
@@ -19,7 +19,7 @@ pub returns-clause-named : goal.returns-clause-named
 returns-clause-named c =
     let u = c.descend.new.pass.view in
     let w = c.detach.new.pass.view in
-    let stand = c.in_ok-stand.field-0.stand in
-    let named = c.in_ok-stand.ensures.told.4.0.named in
+    let stand = c.in-Some.field-0.stand in
+    let named = c.in-Some.ensures.told.4.0.named in
     let sight = sights_kept u w c.detach.ensures.told.2 stand.name (sights_names u stand.name c.args.key stand.height named) in
-    if_some _ (λ taken. Sights w taken.name) c.detach.result (λ taken same. subst (Sights w) (sym same) sight) c.detach.ensures.named
+    if_ok _ (λ taken. Sights w taken.name) c.detach.result (λ taken same. subst (Sights w) (sym same) sight) c.detach.ensures.named

@@ -1,13 +1,25 @@
-use Rattle.std.proofs.Common.{◌∙◌}
-use Rattle.live_calls.proofs.Ready.{ready_kept, ready_spare}
+use Rattle.std.proofs.Common.{Some, ◌∙◌}
+use Rattle.live_calls.proofs.Ready.{ready_kept, ready_owed, ready_spare}
 use Rattle.live_detach.proofs.tidy.tidy.Goals as goal
 
-pub returns-in_default : goal.returns-in_default
-returns-in_default c =
+pub returns-then-room-ne0 : goal.returns-then-room-ne0
+returns-then-room-ne0 c =
+    let i = c.loop.invariant in
+    record { told = (i.book, i.id, ready_owed c.loop.pass.view c.loop.room (Some c.args.key) i.ready, i.seen) }
+
+pub returns-in-Err-InUse : goal.returns-in-Err-InUse
+returns-in-Err-InUse c =
     let i = c.loop.invariant in
     let w = c.detach_one.new.pass.view in
     let t = c.detach_one.ensures.told in
     record { told = (t.0 ∙ i.book, t.1 ∙ i.id, ready_kept c.loop.pass.view w c.loop.room i.ready t.2, t.3 ∙ i.seen) }
+
+pub returns-in-Err-Busy : goal.returns-in-Err-Busy
+returns-in-Err-Busy c =
+    let i = c.loop.invariant in
+    let w = c.detach_one.new.pass.view in
+    let t = c.detach_one.ensures.told in
+    record { told = (t.0 ∙ i.book, t.1 ∙ i.id, ready_owed w c.loop.room (Some c.args.key) (ready_kept c.loop.pass.view w c.loop.room i.ready t.2), t.3 ∙ i.seen) }
 
 pub narrow_way-requires-clause-ready : goal.narrow_way-requires-clause-ready
 narrow_way-requires-clause-ready c =
@@ -15,7 +27,7 @@ narrow_way-requires-clause-ready c =
     let w = c.detach_one.new.pass.view in
     let t = c.detach_one.ensures.told in
     let ready = ready_kept c.loop.pass.view w c.loop.room i.ready t.2 in
-    ready_spare w c.loop.room c.keep.new.self ready (c.keep.ensures.kept w ready.spare c.in-Some.ensures.named)
+    ready_spare w c.loop.room c.keep.new.self ready (c.keep.ensures.kept w ready.spare c.in-Ok.ensures.named)
 
 pub returns-then-ne : goal.returns-then-ne
 returns-then-ne c =
@@ -33,6 +45,6 @@ loop-preserved c =
     record {
       book = t.0 ∙ i.book;
       id = t.1 ∙ i.id;
-      ready = ready_spare w c.loop.room c.keep.new.self ready (c.keep.ensures.kept w ready.spare c.in-Some.ensures.named);
+      ready = ready_spare w c.loop.room c.keep.new.self ready (c.keep.ensures.kept w ready.spare c.in-Ok.ensures.named);
       seen = t.3 ∙ i.seen;
     }

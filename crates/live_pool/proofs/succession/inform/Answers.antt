@@ -1,4 +1,3 @@
-use Rattle.live_law.specs.Tree.{IsMap}
 use Rattle.live_pool.proofs.Informed.{may_inform}
 use Rattle.live_pool.proofs.succession.inform.Goals as goal
 

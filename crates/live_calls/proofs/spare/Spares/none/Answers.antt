@@ -1,5 +1,4 @@
 use Rattle.std.proofs.Common.{refl}
-use Rattle.node_base.specs.declared.base_node.NodeType.{NodeType}
 use Rattle.node_base.specs.declared.base_node.NodeType.TheVariants.{N4, N16, N48, N256}
 use Rattle.live_calls.proofs.Spares.{spares_none}
 use Rattle.live_calls.proofs.spare.Spares.none.Goals as goal

@@ -1,5 +1,4 @@
-use Rattle.std.proofs.Common.{◌≡◌}
-use Rattle.live_pool.specs.Pools.{AreOf, AreFor}
+use Rattle.live_pool.specs.Pools.{AreOf}
 use Rattle.live_pool.proofs.pool.Pool.add_list.Given as goal
 
 abbrev pub invariant-loop-at : goal.invariant-loop-at

@@ -1,4 +1,4 @@
-use Rattle.std.proofs.Common.{◌≡◌, ℕ, Bool, List, [], ◌∷◌, ◌++◌, sym, subst, ◌∙◌, ap, if◌then◌else◌, is_ok, refl}
+use Rattle.std.proofs.Common.{ℕ, Bool, List, [], ◌∷◌, ◌++◌, sym, subst, ap, if◌then◌else◌, is_ok}
 use Rattle.live_nodes.specs.Seats.{SeatView, Each}
 use Rattle.live_nodes.proofs.Frames.{each_both}
 use Rattle.live_law.specs.Views.{View}

@@ -1,4 +1,4 @@
-use Rattle.std.proofs.Common.{◌≡◌, ℕ, List, [], ◌∷◌, ◌++◌, sym, subst, ◌∙◌, ap, refl, Option, Some, None, IfSome}
+use Rattle.std.proofs.Common.{ℕ, subst, ap, Option, Some, None, IfSome}
 use Rattle.std.specs.Option.{option_to_list}
 use Rattle.live_nodes.specs.Seats.{SeatView, Each}
 use Rattle.live_law.specs.Views.{View}

@@ -1,5 +1,5 @@
 use Rattle.std.proofs.Common.{◌≡◌}
-use Rattle.live_pool.proofs.pool.Pool.settle_way.Given as goal
+use Rattle.live_pool.proofs.pool.Pool.leave.Given as goal
 
 abbrev pub invariant-loop : goal.invariant-loop
 invariant-loop l = l.guard ≡ l.fn.guard

@@ -1,7 +1,7 @@
 use Rattle.std.proofs.Common.{rules, ◌≢◌, arith}
 use Rattle.live_calls.proofs.Ready.{ready_kept, ready_spare}
 use Rattle.live_calls.proofs.Spares.{spares_more}
-use Rattle.live_pool.proofs.pool.Pool.leave.Goals as goal
+use Rattle.live_pool.proofs.pool.Pool.leave_at.Goals as goal
 
 pub add_to-requires-clause-met : goal.add_to-requires-clause-met
 add_to-requires-clause-met c =

@@ -1,0 +1,284 @@
+//! What a call leaves to be done: nodes for others, and paths to tidy.
+ghost use Rattle.std.specs.Prelude.{◌≡◌, IfSome};
+
+use crate::deferred;
+use crate::pool::{FORMS, Pool, STRIPES};
+use crate::stock::{Stock, add_to, take_from};
+use counted_slot::{Counted, MARKED};
+use live_calls::link::Room;
+use live_calls::map::Guard;
+use live_detach::tidy::tidy;
+use live_encodes::form::{form_below, place_of};
+use node_base::base_node::NodeType;
+use std::hint::spin_loop;
+
+/// How many nodes a removal takes out at most: one of each height below the root's.
+const HEIGHTS: usize = 7;
+
+/// How many words the largest node has.
+const LARGEST: u64 = 263;
+
+/// How many paths of earlier calls a call tidies at most.
+const EARLIER: usize = 2;
+
+/// How often a stock is looked for, where other threads are at some.
+const LOOKS: u32 = 30;
+
+// Which key's path the guard has still to tidy.
+fn owe(guard: &mut Guard, key: Option<u64>)
+    ensures { guard.new ≡ guard.old }
+{
+    guard.room.owed = key;
+}
+
+impl Pool {
+    /// To be called before a call that may remove. What the guard has then.
+    pub fn begin(&self, guard: &mut Guard) -> Room
+        ensures { guard.new ≡ guard.old }
+    {
+        self.defer(guard);
+        guard.room
+    }
+
+    /// To be called before a call that may insert: a guard with few words left gets nodes of the stocks, and one too many goes
+    /// there. What it has then.
+    pub fn ready(&self, guard: &mut Guard) -> Room
+        requires map { guard.old.book ≡ self.now }
+        ensures { guard.new ≡ guard.old }
+    {
+        self.leave(guard);
+        if guard.room.left < LARGEST && !guard.room.spare.is_full() {
+            self.supply(guard);
+        }
+        guard.room
+    }
+
+    /// To be called after a call that may insert or remove, with what the guard had before it. The path that the guard has still to
+    /// tidy is tried. If it made nodes or took some out, so are up to two that others have deferred. Then one node too many goes to
+    /// a stock of its form, and of those forms that the guard has none of it gets one.
+    pub fn settle(&self, guard: &mut Guard, before: Room)
+        requires map { guard.old.book ≡ self.now }
+        ensures { guard.new ≡ guard.old }
+    {
+        if let Some(key) = guard.room.owed {
+            let _ = self.tidy_path(guard, key);
+        }
+        if guard.room == before {
+            return;
+        }
+        self.tidy_earlier(guard);
+        self.leave(guard);
+        self.supply(guard);
+    }
+
+    /// The same after an insertion that was refused. It may have made a leaf before.
+    pub fn settle_refusal(&self, guard: &mut Guard, before: Room, key: u64)
+        requires map { guard.old.book ≡ self.now }
+        ensures { guard.new ≡ guard.old }
+    {
+        if guard.room != before {
+            let _ = self.tidy_path(guard, key);
+        }
+        self.settle(guard, before);
+    }
+
+    /// Nodes without children on the path of a key are taken out. Where a writer is busy there, the guard keeps the key, and tries
+    /// again after its next call: `false`. The nodes are its own then, as a map at its limit has no others for it.
+    pub fn tidy_path(&self, guard: &mut Guard, key: u64) -> bool
+        requires map { guard.old.book ≡ self.now }
+        ensures { guard.new ≡ guard.old }
+    {
+        if guard.room.owed != Some(key) {
+            self.defer(guard);
+        }
+        for _ in 0..HEIGHTS {
+            self.leave(guard);
+            self.tidy_on(guard, key);
+            if guard.room.owed.is_none() {
+                return true;
+            }
+            if guard.room.spare.more == 0 {
+                break;
+            }
+        }
+        false
+    }
+
+    // The same once. Where a writer is busy, or the guard has a further node already, the guard keeps the key.
+    fn tidy_on(&self, guard: &mut Guard, key: u64)
+        requires map { guard.old.book ≡ self.now }
+        ensures { guard.new ≡ guard.old }
+    {
+        owe(guard, None);
+        tidy(&self.map.nodes, key, &mut guard.room, &mut guard.pass);
+    }
+
+    // The guard's key goes to the first queue that no other thread is at. Else the guard keeps it.
+    pub(crate) fn defer(&self, guard: &mut Guard)
+        ensures { guard.new ≡ guard.old }
+    {
+        let Some(key) = guard.room.owed else {
+            return;
+        };
+        for at in 0..self.deferred.len() {
+            if deferred::add_to(&self.deferred[at], self.alloc, key) {
+                owe(guard, None);
+                return;
+            }
+        }
+    }
+
+    // A key that was deferred. The first queue is asked last, so that those behind it are emptied.
+    fn earlier(&self) -> Option<u64> {
+        let count = self.deferred.len();
+        for at in 0..count {
+            if let Some(key) = deferred::take_from(&self.deferred[count - 1 - at], self.alloc) {
+                return Some(key);
+            }
+        }
+        None
+    }
+
+    // The paths of some keys that were deferred are tidied, up to the first at which a writer is busy. The guard's own key is kept.
+    fn tidy_earlier(&self, guard: &mut Guard)
+        requires map { guard.old.book ≡ self.now }
+        ensures { guard.new ≡ guard.old }
+    {
+        let own = guard.room.owed;
+        owe(guard, None);
+        for _ in 0..EARLIER {
+            let Some(key) = self.earlier() else {
+                break;
+            };
+            if !self.tidy_path(guard, key) {
+                self.defer(guard);
+                break;
+            }
+        }
+        if own.is_some() {
+            owe(guard, own);
+        }
+    }
+
+    // The guard's further node goes to a stock of its form, if it has one.
+    fn leave(&self, guard: &mut Guard)
+        requires map { guard.old.book ≡ self.now }
+        ensures { guard.new ≡ guard.old }
+    {
+        if guard.room.spare.more == 0 {
+            return;
+        }
+        for _ in 0..LOOKS {
+            self.leave_once(guard);
+            if guard.room.spare.more == 0 {
+                return;
+            }
+            spin_loop();
+        }
+    }
+
+    // The same to the first stock of them that no other thread is at.
+    fn leave_once(&self, guard: &mut Guard)
+        requires map { guard.old.book ≡ self.now }
+        ensures { guard.new ≡ guard.old }
+    {
+        for stripe in 0..STRIPES {
+            self.leave_at(guard, stripe);
+        }
+    }
+
+    // The same to the stock in a stripe.
+    fn leave_at(&self, guard: &mut Guard, stripe: usize)
+        requires map { guard.old.book ≡ self.now }
+        ensures { guard.new ≡ guard.old }
+    {
+        let name = guard.room.spare.more;
+        if name == 0 {
+            return;
+        }
+        let Some(slot) = self.stock_at(form_below(name), stripe) else {
+            return;
+        };
+        if add_to(slot, &self.map, self.alloc, name, &mut guard.pass) {
+            guard.room.spare.more = 0;
+        }
+    }
+
+    // The stock of a form in a stripe.
+    fn stock_at(&self, form: NodeType, stripe: usize) -> Option<&Counted<Stock>>
+        ensures { IfSome result (λ slot. slot.now ≡ self.now) }
+    {
+        let place = stripe
+            .wrapping_mul(FORMS.len())
+            .wrapping_add(place_of(form) as usize);
+        self.stocks.get(place)
+    }
+
+    // Whether another thread is at a stock of this form.
+    fn is_taken(&self, form: NodeType) -> bool {
+        for stripe in 0..STRIPES {
+            if let Some(slot) = self.stock_at(form, stripe) {
+                if slot.load() == MARKED {
+                    return true;
+                }
+            }
+        }
+        false
+    }
+
+    // A node of each form that the guard has none of, if there is one, and a second one of the smallest.
+    fn supply(&self, guard: &mut Guard)
+        requires map { guard.old.book ≡ self.now }
+        ensures { guard.new ≡ guard.old }
+    {
+        for form in FORMS {
+            if guard.room.spare.get(form) == 0 {
+                self.supply_one(guard, form);
+            }
+        }
+        if guard.room.spare.second == 0 {
+            self.supply_one(guard, NodeType::N4);
+        }
+    }
+
+    // A node of a form, if a stock has one.
+    fn supply_one(&self, guard: &mut Guard, form: NodeType)
+        requires map { guard.old.book ≡ self.now }
+        ensures { guard.new ≡ guard.old }
+    {
+        for _ in 0..LOOKS {
+            if self.supply_once(guard, form) || !self.is_taken(form) {
+                return;
+            }
+            spin_loop();
+        }
+    }
+
+    // The same out of the first stock of it that has one. Whether there was one.
+    fn supply_once(&self, guard: &mut Guard, form: NodeType) -> bool
+        requires map { guard.old.book ≡ self.now }
+        ensures { guard.new ≡ guard.old }
+    {
+        for stripe in 0..STRIPES {
+            if self.supply_at(guard, form, stripe) {
+                return true;
+            }
+        }
+        false
+    }
+
+    // The same out of the stock in a stripe.
+    fn supply_at(&self, guard: &mut Guard, form: NodeType, stripe: usize) -> bool
+        requires map { guard.old.book ≡ self.now }
+        ensures { guard.new ≡ guard.old }
+    {
+        let Some(slot) = self.stock_at(form, stripe) else {
+            return false;
+        };
+        if let Some(name) = take_from(slot, &self.map, self.alloc, &mut guard.pass) {
+            let _ = guard.room.spare.keep(name);
+            return true;
+        }
+        false
+    }
+}
