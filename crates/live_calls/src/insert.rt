@@ -6,6 +6,7 @@ ghost use Rattle.live_calls.specs.Stands.{Stands, HasFork, IsEnd};
 ghost use Rattle.live_calls.specs.Rooms.{HasGrown};
 ghost use Rattle.live_calls.specs.Calls.{IsReady, Inserts};
 
+use crate::fork::stays_forked;
 use crate::link::{Room, link, link_again};
 use crate::map::Refusal;
 use crate::sight::{Fork, Next, step};
@@ -13,7 +14,7 @@ use crate::split::{split, split_again};
 use crate::way::{Nodes, Pass, open, root};
 use crate::widen::{widen, widen_again};
 use crate::write::{Hindrance, insert_here};
-use live_encodes::form::{form_below, next_of};
+use live_encodes::form::form_below;
 use std::alloc::{AllocError, Global};
 use std::marker::Brand;
 
@@ -115,7 +116,7 @@ fn replace(nodes: &Nodes, stand: Stand, key: u64, room: &mut Room, pass: &mut Pa
         name,
         height,
     } = stand;
-    let spare = room.spare.get(next_of(form_below(name)));
+    let spare = room.spare_above(form_below(name));
     if spare == 0 {
         return widen::<Brand>(nodes, above, level, name, height, key, room, pass);
     }
@@ -136,7 +137,7 @@ pub fn enlarge(nodes: &Nodes, stand: Stand, key: u64, room: &mut Room, pass: &mu
     if stand.height >= 8 {
         return false;
     }
-    if room.lacks(room.spare.get(next_of(form_below(stand.name)))) {
+    if room.lacks(room.spare_above(form_below(stand.name))) {
         return true;
     }
     if replace(nodes, stand, key, room, pass) {
@@ -160,7 +161,7 @@ fn lead_on(
     ensures told { (pass.new.book ≡ pass.old.book) × (pass.new.id ≡ pass.old.id)
         × IsReady pass.new.view room.new × HasGrown pass.old.view pass.new.view }
 {
-    let spare = room.spare.smallest();
+    let spare = room.spare_for_new();
     if spare == 0 {
         return link::<Brand>(nodes, stand.name, stand.height, key, room, pass);
     }
@@ -185,7 +186,7 @@ pub fn extend(nodes: &Nodes, stand: Stand, key: u64, room: &mut Room, pass: &mut
         × IsReady pass.new.view room.new
         × (pass.new.view.client.seen ≡ pass.old.view.client.seen) }
 {
-    if room.lacks(room.spare.smallest()) {
+    if room.lacks(room.spare_for_new()) {
         return true;
     }
     match lead_on(nodes, stand, key, room, pass) {
@@ -230,7 +231,8 @@ fn insert_at(
 }
 
 /// Makes a node where the key's way leaves that of a node below. A node that may be used again is taken, where there is one.
-/// Whether a node is lacking for that.
+/// Whether a node is lacking for that. It is lacking only where the node above still leads there: else the key may be present,
+/// and need none.
 pub fn part(
     nodes: &Nodes,
     stand: Stand,
@@ -247,9 +249,9 @@ pub fn part(
         × IsReady pass.new.view room.new
         × (pass.new.view.client.seen ≡ pass.old.view.client.seen) }
 {
-    let spare = room.spare.smallest();
+    let spare = room.spare_for_new();
     if room.lacks(spare) {
-        return true;
+        return stays_forked(nodes, stand.name, stand.height, fork.below, key, pass);
     }
     if spare == 0 {
         let _ = split::<Brand>(nodes, stand.name, stand.height, fork, key, room, pass);

@@ -18,7 +18,7 @@ use crate::write::Hindrance;
 use live_cells::words::{Draft, Drafted};
 use live_encodes::change::{is_full, put};
 use live_encodes::fill::lay;
-use live_encodes::form::{form_below, word_below, words_in};
+use live_encodes::form::{form_below, next_of, word_below, words_in};
 use live_encodes::search::find;
 use live_law::law::{Asks, Levels, Link, Mine, Same};
 use live_nodes::node;
@@ -40,6 +40,34 @@ pub struct Room {
 }
 
 impl Room {
+    /// The name of the node that is the next new one: of the smallest form, or of a larger one where there is neither such a
+    /// one nor room. 0 for none.
+    pub fn spare_for_new(&self) -> u64
+        ensures { (v : SeatView View) → HasSpares v self.now.spare → 1 ≤ result → Sights v result }
+    {
+        let spare = self.spare.smallest();
+        if !self.lacks(spare) {
+            return spare;
+        }
+        let larger = self.spare.larger(NEW);
+        if larger != 0 {
+            return larger;
+        }
+        self.spare.more
+    }
+
+    /// The name of the node that takes the place of a full one of this form: of the next form, or of a larger one where there is
+    /// neither such a one nor room. 0 for none.
+    pub fn spare_above(&self, form: NodeType) -> u64
+        ensures { (v : SeatView View) → HasSpares v self.now.spare → 1 ≤ result → Sights v result }
+    {
+        let spare = self.spare.get(next_of(form));
+        if self.lacks(spare) {
+            return self.spare.larger(form);
+        }
+        spare
+    }
+
     /// Whether there is neither this node to be used again nor room for a new one of any form.
     pub fn lacks(&self, spare: u64) -> bool {
         spare == 0 && self.left < 263

@@ -6,7 +6,7 @@ ghost use Rattle.live_law.specs.Views.{View};
 ghost use Rattle.live_calls.specs.Ways.{Sights};
 ghost use Rattle.live_calls.specs.Spares.{IsSpare, slot_of, with_slot, HasSpares, Lacks, KeepsOthers};
 
-use live_encodes::form::form_below;
+use live_encodes::form::{form_below, next_of};
 use node_base::base_node::NodeType;
 
 // A name, or none where it is this one.
@@ -77,6 +77,22 @@ impl Spares {
         } else {
             self.n4
         }
+    }
+
+    /// The name of a node of a larger form than this one, the smallest that is kept.
+    pub fn larger(&self, form: NodeType) -> u64
+        ensures { (v : SeatView View) → HasSpares v self.now → 1 ≤ result → Sights v result }
+    {
+        let next = next_of(form);
+        let near = self.get(next);
+        if near != 0 {
+            return near;
+        }
+        let far = self.get(next_of(next));
+        if far != 0 {
+            return far;
+        }
+        self.get(NodeType::N256)
     }
 
     /// A name is kept no longer. The others are.

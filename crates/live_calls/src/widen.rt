@@ -17,7 +17,7 @@ use crate::spare::Spares;
 use crate::way::{Nodes, Pass, byte_at, words_at};
 use live_cells::words::{Draft, Drafted};
 use live_encodes::change::change;
-use live_encodes::fill::grow;
+use live_encodes::fill::grow_to;
 use live_encodes::form::{form_below, next_of, place_of, slot_below, word_below, words_in};
 use live_encodes::search::find;
 use live_law::law::{Asks, Levels, Link, Mine, Same};
@@ -138,9 +138,7 @@ pub fn widen_again<A: Asks>(
     if form == NodeType::N256 || spare >= 1 << 56 {
         return false;
     }
-    let place = place_of(wider);
-    let next = place_of(next_of(form));
-    if place != next {
+    if place_of(wider) <= place_of(form) {
         return false;
     }
     let Some(words_above) = words_at(nodes, above) else {
@@ -173,7 +171,7 @@ pub fn widen_again<A: Asks>(
     };
     let source = Source { words: full };
     let new: Held<'_, Mine, Levels, 0> = Held { words: others };
-    grow(&source, form, &new, pass);
+    grow_to(&source, form, &new, wider, pass);
     let held: Held<'_, Mine, Levels, 2> = Held { words: words_above };
     let _ = change(
         &held,

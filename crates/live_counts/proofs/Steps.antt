@@ -1,5 +1,5 @@
 -- Steps from leaf to leaf, from an earlier view on, and one after the other.
-use Rattle.std.proofs.Common.{◌≡◌, ◌≢◌, ℕ, ◌+◌, ◌%◌, ◌≤◌, true, List, ◌++◌, length, take, subst, inl, arith}
+use Rattle.std.proofs.Common.{◌≡◌, ◌≢◌, ◌⊎◌, ℕ, ◌+◌, ◌%◌, ◌≤◌, true, List, [], ◌++◌, length, take, subst, inl, inr, arith}
 use mathlib.Core.Logic.{dite}
 use native.Mathlib.Decide.{ℕ_discrete}
 use Rattle.std.proofs.lemmas.List.{length-append, length-take-le, map-id}
@@ -52,6 +52,22 @@ leaf_step c id u v w key count reached buffer is seen first within full fits rea
       fits = fits;
       few = omega (arith, few, long, whole);
       reads = reads_since id u v w key (key + 255 + 1) ps seen (subst (λ (z : ℕ). ReadsOn id v w key (key + z + 1) ps) whole here);
+    }
+
+-- a leaf's first key
+pub first_whole : (key first : ℕ) → key % 256 ≡ 0 → (first % 256 ≡ 0) ⊎ (key ≡ first) → first % 256 ≡ 0
+first_whole key first whole seam = elim seam [ inl is ↦ is | inr same ↦ omega (arith, whole, same) ]
+
+-- keys that are absent, and then a leaf
+pub step_after : (c id : ℕ) (u v w : Seen) (key first : ℕ) (buffer : List (ℕ × ℕ)) (s : Step) → c ≡ id → HasSeen v.client.seen id u.client.seen → ReadsOn id u v key first [] → key ≤ first → first % 256 ≡ 0 → IsStep c v w first buffer s → IsStep id u w key buffer s
+step_after c id u v w key first buffer s is seen r low whole h =
+    let on = h.low in
+    let few = h.few in record {
+      low = omega (arith, low, on);
+      seam = h.seam;
+      fits = h.fits;
+      few = omega (arith, low, few);
+      reads = reads_then id u v w key first (s.last + 1) [] (take s.count buffer) seen r.read (subst (λ (z : ℕ). ReadsOn z v w first (s.last + 1) (take s.count buffer)) is h.reads) low (omega (arith, on)) (inl whole);
     }
 
 -- what was read, and then a step

@@ -23,13 +23,16 @@ fn count_all(nodes: &Nodes, pass: &mut Pass) -> Option<u128>
     let mut leaf = [(0u64, 0u64); 256];
     let mut count = 0u128;
     let mut from = 0u64;
+    let mut at = None;
     loop {
-        let step = step_on(nodes, from, &mut leaf, pass)?;
+        let stepped = step_on(nodes, at, from, &mut leaf, pass)?;
+        let step = stepped.step;
         count += step.count as u128;
         if step.last == u64::MAX {
             return Some(count);
         }
         from = step.last + 1;
+        at = Some(stepped.stand);
     }
 }
 

@@ -2,11 +2,12 @@
 ghost use Rattle.std.specs.Prelude.{◌≡◌, ◌%◌, length, IfSome};
 ghost use Rattle.share_rule.specs.inner.Rule.{HasSeen};
 ghost use Rattle.live_calls.specs.Ways.{KnowsTrunk, Keeps};
+ghost use Rattle.live_scans.specs.inner.Stops.{IsStand};
 ghost use Rattle.live_counts.specs.inner.Steps.{IsStep};
 
 use live_calls::way::{Nodes, Pass};
 use live_order::page::Part;
-use live_scans::seek::{Stop, seek};
+use live_scans::seek::{Reach, Stand, begin, seek_on};
 use live_scans::steps::leaf_page;
 use std::marker::Brand;
 
@@ -20,50 +21,83 @@ pub struct Step {
     pub last: u64,
 }
 
-// One step from the first key of a leaf on: its pairs are written into the buffer, or keys are passed that are absent. `None`
-// where a writer came in between.
-fn try_step(nodes: &Nodes, key: u64, buffer: &mut [(u64, u64)], pass: &mut Pass) -> Option<Step>
+/// A step, and the node above where it has come to.
+#[derive(Clone, Copy, Debug, PartialEq, Eq)]
+pub struct Stepped {
+    pub step: Step,
+    pub stand: Stand,
+}
+
+// One step from the first key of a leaf on: the pairs of a leaf are written into the buffer, or keys are passed that are absent.
+// `None` where a writer came in between.
+fn try_step(
+    nodes: &Nodes,
+    stand: Option<Stand>,
+    key: u64,
+    buffer: &mut [(u64, u64)],
+    pass: &mut Pass,
+) -> Option<Stepped>
     requires book { pass.old.book ≡ nodes.now }
     requires trunk { KnowsTrunk pass.old.view }
+    requires stand { IfSome stand (IsStand pass.old.view) }
     requires first { key % 256 ≡ 0 }
     requires room { length buffer.old ≡ 256 }
     ensures told { (pass.new.book ≡ pass.old.book) × (pass.new.id ≡ pass.old.id)
         × Keeps pass.old.view pass.new.view
         × HasSeen pass.new.view.client.seen pass.old.id pass.old.view.client.seen
-        × IfSome result (IsStep pass.old.id pass.old.view pass.new.view key buffer.new) }
+        × IfSome result (λ s. IsStand pass.new.view s.stand
+        × IsStep pass.old.id pass.old.view pass.new.view key buffer.new s.step) }
 {
-    match seek::<Brand>(nodes, key, pass)? {
-        Stop::Gap(last) => Some(Step { count: 0, last }),
-        Stop::Leaf(name) => {
+    let at = begin(nodes, stand, key, pass)?;
+    let sought = seek_on::<Brand>(nodes, at, pass)?;
+    match sought.reach {
+        Reach::Past(last) => Some(Stepped {
+            step: Step { count: 0, last },
+            stand: sought.stand,
+        }),
+        Reach::Leaf(name, first) => {
             let leaf = Part {
-                base: key,
+                base: first,
                 first: 0,
                 last: 255,
             };
             let filled = leaf_page::<Brand, (u64, u64)>(nodes, name, leaf, buffer, 0, pass)?;
-            Some(Step {
-                count: filled.count,
-                last: key + 255,
+            Some(Stepped {
+                step: Step {
+                    count: filled.count,
+                    last: first + 255,
+                },
+                stand: sought.stand,
             })
         }
     }
 }
 
-/// The same in some tries. `None` where too many writers came in between.
-pub fn step_on(nodes: &Nodes, key: u64, buffer: &mut [(u64, u64)], pass: &mut Pass) -> Option<Step>
+/// The same in some tries, from the root on after the first. `None` where too many writers came in between.
+pub fn step_on(
+    nodes: &Nodes,
+    stand: Option<Stand>,
+    key: u64,
+    buffer: &mut [(u64, u64)],
+    pass: &mut Pass,
+) -> Option<Stepped>
     requires book { pass.old.book ≡ nodes.now }
     requires trunk { KnowsTrunk pass.old.view }
+    requires stand { IfSome stand (IsStand pass.old.view) }
     requires first { key % 256 ≡ 0 }
     requires room { length buffer.old ≡ 256 }
     ensures told { (pass.new.book ≡ pass.old.book) × (pass.new.id ≡ pass.old.id)
         × Keeps pass.old.view pass.new.view
         × HasSeen pass.new.view.client.seen pass.old.id pass.old.view.client.seen
-        × IfSome result (IsStep pass.old.id pass.old.view pass.new.view key buffer.new) }
+        × IfSome result (λ s. IsStand pass.new.view s.stand
+        × IsStep pass.old.id pass.old.view pass.new.view key buffer.new s.step) }
 {
+    let mut at = stand;
     for _ in 0..TRIES {
-        if let Some(step) = try_step(nodes, key, buffer, pass) {
-            return Some(step);
+        if let Some(stepped) = try_step(nodes, at, key, buffer, pass) {
+            return Some(stepped);
         }
+        at = None;
     }
     None
 }

@@ -137,6 +137,45 @@ pub fn grow<S, D: Draft<S>, E: Draft<S>>(from: &D, form: NodeType, to: &E, seat:
     }
 }
 
+/// A node of a larger form, with the same children.
+pub fn grow_to<S, D: Draft<S>, E: Draft<S>>(
+    from: &D,
+    form: NodeType,
+    to: &E,
+    wider: NodeType,
+    seat: &mut S,
+)
+    requires wider { form_place form < form_place wider }
+    requires may { D.may_write from.now seat.old × E.may_write to.now seat.old }
+    requires apart { Apart D.may_write D.words E.rest from.now to.now }
+    requires long { (length (D.words from.now seat.old) ≡ words_of form)
+        × (length (E.words to.now seat.old) ≡ words_of wider) }
+    requires few { IsCounted form (D.words from.now seat.old) }
+    ensures seat { Stays E.may_write E.rest to.now seat.old seat.new }
+    ensures long { length (E.words to.now seat.new) ≡ words_of wider }
+    ensures is { (n : TableNode ℕ) → Encodes (D.words from.now seat.old) n → n.form ≡ form
+        → Encodes (E.words to.now seat.new) (in_form n wider) }
+{
+    match form {
+        NodeType::N4 => match wider {
+            NodeType::N4 => unreachable!(),
+            NodeType::N16 => copy_list(from, 4, to, 16, NodeType::N16, seat),
+            NodeType::N48 => copy_list(from, 4, to, 48, NodeType::N48, seat),
+            NodeType::N256 => spread_list(from, 4, to, seat),
+        },
+        NodeType::N16 => match wider {
+            NodeType::N4 | NodeType::N16 => unreachable!(),
+            NodeType::N48 => copy_list(from, 16, to, 48, NodeType::N48, seat),
+            NodeType::N256 => spread_list(from, 16, to, seat),
+        },
+        NodeType::N48 => match wider {
+            NodeType::N4 | NodeType::N16 | NodeType::N48 => unreachable!(),
+            NodeType::N256 => spread_list(from, 48, to, seat),
+        },
+        NodeType::N256 => unreachable!(),
+    }
+}
+
 /// A node of the form before, with the same children, of which there are few enough.
 pub fn shrink<S, D: Draft<S>, E: Draft<S>>(from: &D, form: NodeType, to: &E, seat: &mut S)
     requires form { form ≢ N4 }

@@ -12,6 +12,7 @@ mod computes;
 mod counts;
 mod floors;
 mod moves;
+pub mod notes;
 mod scans;
 mod updates;
 

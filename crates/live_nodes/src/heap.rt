@@ -23,13 +23,14 @@ pub struct Grown {
     pub count: usize,
 }
 
-/// The words of all nodes. `door` lets threads enter. `limit` is of the bytes of all segments.
+/// The words of all nodes. `door` lets threads enter. `limit` is of the bytes of all segments, and `most` of their number.
 #[derive(Drop)]
 pub struct Heap<V, L: NodeLaw<V>> {
     trunk: Vec<Word<V, L>>,
     segments: Segments<View<V, L>, Law<L>>,
     door: Seat<V, L>,
     limit: u64,
+    most: u64,
 }
 
 impl<V, L: NodeLaw<V>> Model for Heap<V, L> {
@@ -40,7 +41,8 @@ impl<V, L: NodeLaw<V>> Model for Heap<V, L> {
     ghost view = { λ h. h.door.book };
 
     ghost invariant = { λ h. (length h.trunk.items ≡ L.root + 2) × AreWords 0 h.door.book h.trunk.items
-        × (h.segments ≡ record { base = L.root + 2; book = h.door.book }) };
+        × (h.segments ≡ record { base = L.root + 2; most = h.most; book = h.door.book })
+        × (8 * before h.most ≤ h.limit) };
 }
 
 impl<V, L: NodeLaw<V>> Heap<V, L> {
@@ -59,18 +61,32 @@ impl<V, L: NodeLaw<V>> Heap<V, L> {
     {
         let (door, pens) = room::open::<V, L>(root);
         let trunk = filled(Vec::with_capacity(alloc, root + 2)?, root + 2, pens);
-        let segments = Segments::new(alloc, root as u64 + 2, &trunk[0])?;
+        let most = fitting(limit);
+        let segments = Segments::new(alloc, root as u64 + 2, most, &trunk[0])?;
         Ok(Heap {
             trunk,
             segments,
             door,
             limit,
+            most,
         })
     }
 
     /// How many bytes all segments may take together.
     pub fn limit(&self) -> u64 {
         self.limit
+    }
+
+    /// How many bytes the segments take that were counted so far, and how many they may.
+    pub fn usage(&self, seat: &mut Seat<V, L>) -> (u64, u64)
+        requires { seat.old.book ≡ self.now }
+        ensures seat { (seat.new.book ≡ seat.old.book) × (seat.new.id ≡ seat.old.id) × (seat.new.view ≡ seat.old.view) }
+        ensures whole { (n : ℕ) × (result.0 ≡ 8 * before n) }
+        ensures within { result.0 ≤ result.1 }
+    {
+        let number = self.trunk[0].load::<Idle>(seat);
+        let counted = number.min(self.most).min((1 << 44) - 1);
+        (8 * before_of(counted), self.limit)
     }
 
     /// How many bytes the segments take that were counted so far: those of so many first ones.
@@ -93,6 +109,7 @@ impl<V, L: NodeLaw<V>> Heap<V, L> {
     }
 
     /// The word with a key. `None` where its segment isn't there yet, or never will be. The root's words are always there.
+    #[inline(always)]
     pub fn word(&self, key: u64) -> Option<&Word<V, L>>
         ensures word { IfSome result (λ word. word.now ≡ name key self.now) }
         ensures none { IfNone result (L.root + 2 ≤ key) }
@@ -106,6 +123,7 @@ impl<V, L: NodeLaw<V>> Heap<V, L> {
 
     /// So many words, with the keys from this one on, as those of a node. `None` where they don't lie in one segment, or it
     /// isn't there yet.
+    #[inline(always)]
     pub fn span(&self, key: u64, count: usize) -> Option<&[Word<V, L>]>
         ensures { IfSome result (λ words. (length words.now ≡ count)
             × AreWords key self.now words.now) }
@@ -131,7 +149,7 @@ impl<V, L: NodeLaw<V>> Heap<V, L> {
         ensures lost { IfOk result (λ grown. IfNone grown (seat.new.view ≡ seat.old.view)) }
         ensures refused { OnErr result (seat.new.view ≡ seat.old.view) }
     {
-        self.grow_within(alloc, fitting(self.limit), seat)
+        self.grow_within(alloc, self.most, seat)
     }
 
     /// The same among so many first segments. An error where there are as many, before any memory is taken.
@@ -153,7 +171,7 @@ impl<V, L: NodeLaw<V>> Heap<V, L> {
         let first = self.trunk.len() as u64;
         let count = &self.trunk[0];
         let number = count.load::<Idle>(seat);
-        if number >= most || number >= 1 << 44 || first >= 1 << 33 {
+        if number >= most || number >= self.most || number >= 1 << 44 || first >= 1 << 33 {
             return Err(AllocError);
         }
         let Some(words) = self.segments.reserve(alloc, number)? else {

@@ -24,6 +24,11 @@ const EARLIER: usize = 2;
 /// How often a stock is looked for, where other threads are at some.
 const LOOKS: u32 = 30;
 
+// The stripe whose stock a node goes to first: its name, mixed.
+fn stripe_of(name: u64) -> usize {
+    (name.wrapping_mul(0x9e37_79b9_7f4a_7c15) >> 62) as usize
+}
+
 // Which key's path the guard has still to tidy.
 fn owe(guard: &mut Guard, key: Option<u64>)
     ensures { guard.new ≡ guard.old }
@@ -49,6 +54,7 @@ impl Pool {
         self.leave(guard);
         if guard.room.left < LARGEST && !guard.room.spare.is_full() {
             self.supply(guard);
+            self.supply_further(guard);
         }
         guard.room
     }
@@ -177,13 +183,15 @@ impl Pool {
         }
     }
 
-    // The same to the first stock of them that no other thread is at.
+    // The same to the first stock of them that no other thread is at. Each begins at a stripe of its own, so that a thread that stops
+    // at a stock keeps a part of them alone from the others.
     fn leave_once(&self, guard: &mut Guard)
         requires map { guard.old.book ≡ self.now }
         ensures { guard.new ≡ guard.old }
     {
+        let first = stripe_of(guard.room.spare.more);
         for stripe in 0..STRIPES {
-            self.leave_at(guard, stripe);
+            self.leave_at(guard, first.wrapping_add(stripe) % STRIPES);
         }
     }
 
@@ -238,6 +246,23 @@ impl Pool {
         }
         if guard.room.spare.second == 0 {
             self.supply_one(guard, NodeType::N4);
+        }
+    }
+
+    // A further node of a larger form, where the guard has one such node alone: a call may need two.
+    fn supply_further(&self, guard: &mut Guard)
+        requires map { guard.old.book ≡ self.now }
+        ensures { guard.new ≡ guard.old }
+    {
+        let spare = guard.room.spare;
+        if spare.smallest() != 0 {
+            return;
+        }
+        match (spare.n16 != 0, spare.n48 != 0, spare.n256 != 0) {
+            (true, false, false) => self.supply_one(guard, NodeType::N16),
+            (false, true, false) => self.supply_one(guard, NodeType::N48),
+            (false, false, true) => self.supply_one(guard, NodeType::N256),
+            _ => {}
         }
     }
 

@@ -5,3 +5,7 @@ pub mod Composed
 pub mod Nones
 pub mod Passes
 pub mod Pages
+pub mod Nexts
+pub mod Afters
+pub mod Leasts
+pub mod Joints

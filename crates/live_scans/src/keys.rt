@@ -21,13 +21,20 @@ pub fn span(height: usize) -> u64
 
 /// The bytes of a key above a node of this height.
 pub fn upper(key: u64, height: usize) -> u64
+    requires { height ≤ 8 }
     ensures { result ≡ up height key }
 {
-    let mut upper = key;
-    for _ in 0..height {
-        upper /= 256;
+    match height {
+        0 => key,
+        1 => key / (1 << 8),
+        2 => key / (1 << 16),
+        3 => key / (1 << 24),
+        4 => key / (1 << 32),
+        5 => key / (1 << 40),
+        6 => key / (1 << 48),
+        7 => key / (1 << 56),
+        _ => 0,
     }
-    upper
 }
 
 /// The last key that begins like this one down to a height, and has that byte there.
@@ -38,4 +45,17 @@ pub fn last_of(key: u64, height: usize, byte: u8) -> u64
     let begin = 256 * upper(key, height) + byte as u64;
     let rest = span(height - 1);
     begin * rest + (rest - 1)
+}
+
+/// The first key of a node with this head.
+pub fn floor_of(head: u64) -> u64 {
+    let bytes = head.to_le_bytes();
+    let all = u64::from_be_bytes([
+        bytes[1], bytes[2], bytes[3], bytes[4], bytes[5], bytes[6], bytes[7], 0,
+    ]);
+    let rest = 8 * (8 - (bytes[0] % 8) as u32);
+    if rest > 63 {
+        return 0;
+    }
+    all >> rest << rest
 }

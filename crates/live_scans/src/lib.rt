@@ -6,10 +6,12 @@
 //! Tested in `test_live_scans`.
 #![tactic(auto)]
 
+pub mod after;
 pub mod fork;
 pub mod keys;
 pub mod laws;
 pub mod lesson;
+pub mod next;
 pub mod page;
 pub mod scans;
 pub mod seek;

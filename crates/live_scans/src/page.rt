@@ -4,8 +4,9 @@ ghost use Rattle.share_rule.specs.inner.Rule.{HasSeen};
 ghost use Rattle.live_order.specs.Page.{pairs_of};
 ghost use Rattle.live_calls.specs.Ways.{KnowsTrunk, Keeps};
 ghost use Rattle.live_scans.specs.inner.Steps.{IsStep, IsPage};
+ghost use Rattle.live_scans.specs.inner.Stops.{IsStand};
 
-use crate::seek::{Stop, seek};
+use crate::seek::{Reach, Stand, begin, seek_on};
 use crate::steps::leaf_page;
 use live_calls::way::{Nodes, Pass};
 use live_order::page::{Part, RangeEntry};
@@ -37,18 +38,27 @@ fn part_of(key: u64, limit: u64) -> Part
     }
 }
 
-// One step from a key on: a part of its leaf is written into the buffer, or keys are passed that are absent. `None` where a
-// writer came in between.
+// A step, and the node above where it has come to.
+#[derive(Clone, Copy, Debug, PartialEq, Eq)]
+struct Stepped {
+    step: Step,
+    stand: Stand,
+}
+
+// One step from a key on: a part of a leaf is written into the buffer, or keys are passed that are absent. `None` where a writer
+// came in between.
 fn try_step<P: RangeEntry>(
     nodes: &Nodes,
+    stand: Option<Stand>,
     key: u64,
     limit: u64,
     buffer: &mut [P],
     start: usize,
     pass: &mut Pass,
-) -> Option<Step>
+) -> Option<Stepped>
     requires book { pass.old.book ≡ nodes.now }
     requires trunk { KnowsTrunk pass.old.view }
+    requires stand { IfSome stand (IsStand pass.old.view) }
     requires order { key ≤ limit }
     requires start { start < length buffer.old }
     ensures before { take start (pairs_of P.pair buffer.new)
@@ -56,36 +66,56 @@ fn try_step<P: RangeEntry>(
     ensures told { (pass.new.book ≡ pass.old.book) × (pass.new.id ≡ pass.old.id)
         × Keeps pass.old.view pass.new.view
         × HasSeen pass.new.view.client.seen pass.old.id pass.old.view.client.seen
-        × IfSome result (λ s. IsStep pass.old.id pass.old.view pass.new.view
-        key limit start (pairs_of P.pair buffer.new) s.count s.last) }
+        × IfSome result (λ s. IsStand pass.new.view s.stand
+        × IsStep pass.old.id pass.old.view pass.new.view
+        key limit start (pairs_of P.pair buffer.new) s.step.count s.step.last) }
 {
-    match seek::<Brand>(nodes, key, pass)? {
-        Stop::Gap(last) => Some(Step {
-            count: start,
-            last: last.min(limit),
+    let at = begin(nodes, stand, key, pass)?;
+    let sought = seek_on::<Brand>(nodes, at, pass)?;
+    match sought.reach {
+        Reach::Past(last) => Some(Stepped {
+            step: Step {
+                count: start,
+                last: last.min(limit),
+            },
+            stand: sought.stand,
         }),
-        Stop::Leaf(name) => {
-            let part = part_of(key, limit);
+        Reach::Leaf(name, first) => {
+            if first > limit {
+                return Some(Stepped {
+                    step: Step {
+                        count: start,
+                        last: limit,
+                    },
+                    stand: sought.stand,
+                });
+            }
+            let part = part_of(first, limit);
             let filled = leaf_page::<Brand, P>(nodes, name, part, buffer, start, pass)?;
-            Some(Step {
-                count: filled.count,
-                last: part.base + filled.reached as u64,
+            Some(Stepped {
+                step: Step {
+                    count: filled.count,
+                    last: part.base + filled.reached as u64,
+                },
+                stand: sought.stand,
             })
         }
     }
 }
 
-// The same in some tries. `None` where too many writers came in between.
+// The same in some tries, from the root on after the first. `None` where too many writers came in between.
 fn read_on<P: RangeEntry>(
     nodes: &Nodes,
+    stand: Option<Stand>,
     key: u64,
     limit: u64,
     buffer: &mut [P],
     start: usize,
     pass: &mut Pass,
-) -> Option<Step>
+) -> Option<Stepped>
     requires book { pass.old.book ≡ nodes.now }
     requires trunk { KnowsTrunk pass.old.view }
+    requires stand { IfSome stand (IsStand pass.old.view) }
     requires order { key ≤ limit }
     requires start { start < length buffer.old }
     ensures before { take start (pairs_of P.pair buffer.new)
@@ -93,13 +123,16 @@ fn read_on<P: RangeEntry>(
     ensures told { (pass.new.book ≡ pass.old.book) × (pass.new.id ≡ pass.old.id)
         × Keeps pass.old.view pass.new.view
         × HasSeen pass.new.view.client.seen pass.old.id pass.old.view.client.seen
-        × IfSome result (λ s. IsStep pass.old.id pass.old.view pass.new.view
-        key limit start (pairs_of P.pair buffer.new) s.count s.last) }
+        × IfSome result (λ s. IsStand pass.new.view s.stand
+        × IsStep pass.old.id pass.old.view pass.new.view
+        key limit start (pairs_of P.pair buffer.new) s.step.count s.step.last) }
 {
+    let mut at = stand;
     for _ in 0..TRIES {
-        if let Some(step) = try_step(nodes, key, limit, buffer, start, pass) {
-            return Some(step);
+        if let Some(stepped) = try_step(nodes, at, key, limit, buffer, start, pass) {
+            return Some(stepped);
         }
+        at = None;
     }
     None
 }
@@ -125,8 +158,10 @@ pub fn page<P: RangeEntry>(
 {
     let mut count = 0;
     let mut from = key;
+    let mut at = None;
     loop {
-        let step = read_on(nodes, from, limit, buffer, count, pass)?;
+        let stepped = read_on(nodes, at, from, limit, buffer, count, pass)?;
+        let step = stepped.step;
         if step.count == buffer.len() {
             return Some(step);
         }
@@ -135,5 +170,6 @@ pub fn page<P: RangeEntry>(
         }
         count = step.count;
         from = step.last + 1;
+        at = Some(stepped.stand);
     }
 }

@@ -65,3 +65,8 @@ ends_before n zero h = absurd (omega arith)
 ends_before n (suc m) h = dite (ℕ_discrete n m)
     (λ e. subst (λ (z : ℕ). before n + size n ≤ before (suc z)) e (let r : before n + size n ≤ before (suc n) = omega arith in r))
     (λ ne. let r = ends_before n m (omega (arith, h, ne)) in omega (arith, r))
+
+pub before_mono : (n m : ℕ) → n ≤ m → before n ≤ before m
+before_mono n m h = dite (ℕ_discrete n m)
+    (λ e. subst (λ (z : ℕ). before n ≤ before z) e (let r : before n ≤ before n = omega arith in r))
+    (λ ne. let r : before n + size n ≤ before m = ends_before n m (omega (arith, h, ne)) in omega (arith, r))

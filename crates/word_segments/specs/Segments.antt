@@ -16,13 +16,15 @@ before (suc j) = before j + size j
 abbrev pub IsWithin : ℕ → ℕ → ℕ → Type 0
 IsWithin place j k = (k < size j) × (before j + k ≡ place)
 
--- A directory: its book, and the first key of its first segment.
+-- A directory: its book, the first key of its first segment, and how many segments it may have.
 pub record Directed : Type 0 where
   pub base : ℕ
+  pub most : ℕ
   pub book : Book
 
 abbrev pub directed_coded : Coded Directed
-directed_coded = coded_via (coded× coded_ℕ book_coded) (λ (d : Directed). (d.base, d.book)) (λ x y e i. record { base = (e i).0; book = (e i).1 })
+directed_coded = coded_via (coded× coded_ℕ (coded× coded_ℕ book_coded)) (λ (d : Directed). (d.base, (d.most, d.book)))
+    (λ x y e i. record { base = (e i).0; most = (e i).1.0; book = (e i).1.1 })
 
 abbrev pub first_key : Directed → ℕ → ℕ
 first_key d j = d.base + before j
@@ -32,14 +34,15 @@ abbrev pub AreWords : ℕ → Book → List Name → Type 0
 AreWords k b words = (i : ℕ) (d : Name) → i < length words → slice_index_or words i d ≡ name (k + i) b
 
 abbrev pub IsSegment : Directed → ℕ → List Name → Type 0
-IsSegment d j words = (length words ≡ size j) × AreWords (first_key d j) d.book words
+IsSegment d j words = (length words ≡ size j) × AreWords (first_key d j) d.book words × (j < d.most)
 
 -- a directory as numbers, which tag its slots
 abbrev pub numbers : Directed → List ℕ
-numbers d = d.base ∷ d.book.number ∷ d.book.views_name ∷ d.book.words_name ∷ []
+numbers d = d.base ∷ d.book.number ∷ d.book.views_name ∷ d.book.words_name ∷ d.most ∷ []
 
 abbrev pub directed_by : List ℕ → Directed
 directed_by t = record {
   base = first t;
+  most = first (others (others (others (others t))));
   book = record { number = first (others t); views_name = first (others (others t)); words_name = first (others (others (others t))) };
 }

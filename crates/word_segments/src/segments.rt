@@ -12,6 +12,9 @@ use std::marker::Model;
 use word_book::seat::{Pens, Rule};
 use word_book::word::Word;
 
+// How many segments lie in the directory itself: those of 60 MB.
+const NEAR: usize = 128;
+
 // One past the last place of a word.
 const LIMIT: u64 = 1 << 60;
 
@@ -29,16 +32,17 @@ impl<V, P: Rule<V>> SlotRule<Vec<OnceSlot<Vec<Word<V, P>>, InOrder>>> for OfShel
     ghost holds = { λ t s. Tagged (others t) (span (first t) - 32) (span (first t)) s.items };
 }
 
-// The first key, and a word of the book.
+// The first key, how many segments there may be, and a word of the book.
 struct Origin<'a, V, P: Rule<V>> {
     base: u64,
+    most: u64,
     word: &'a Word<V, P>,
 }
 
 struct OfOrigin;
 
 impl<'a, V, P: Rule<V>> Names<Origin<'a, V, P>> for OfOrigin {
-    ghost numbers = { λ o. numbers record { base = o.base; book = o.word.now.book } };
+    ghost numbers = { λ o. numbers record { base = o.base; most = o.most; book = o.word.now.book } };
 }
 
 // A number before those of a tag.
@@ -62,9 +66,11 @@ fn with_number(number: usize, tag: &Tag) -> Tag
     tag
 }
 
-/// The segments of a book, by number. The key of the first one's first word is fixed when it is made.
+/// The segments of a book, by number. The key of the first one's first word is fixed when it is made. The first 128 lie in
+/// the directory itself.
 #[derive(Drop)]
 pub struct Segments<V, P: Rule<V>> {
+    near: Vec<OnceSlot<Vec<Word<V, P>>, InOrder>>,
     shelves: Vec<OnceSlot<Vec<OnceSlot<Vec<Word<V, P>>, InOrder>>, OfShelves>>,
     base: u64,
     tag: Tag,
@@ -77,7 +83,8 @@ impl<V, P: Rule<V>> Model for Segments<V, P> {
 
     ghost view = { λ s. directed_by s.tag.numbers };
 
-    ghost invariant = { λ s. Tagged s.tag.numbers 0 40 s.shelves.items × (first s.tag.numbers ≡ s.base) };
+    ghost invariant = { λ s. Tagged s.tag.numbers 0 40 s.shelves.items × (first s.tag.numbers ≡ s.base)
+        × Tagged s.tag.numbers 0 128 s.near.items };
 }
 
 /// The next words of a book, as many as the pens may write, in memory that is there.
@@ -98,18 +105,57 @@ pub fn filled<V, P: Rule<V>>(words: Vec<Word<V, P>>, count: usize, pens: Pens) -
 }
 
 impl<V, P: Rule<V>> Segments<V, P> {
-    /// No segments yet. The first one's first word will have the key `base`, in the book of this word.
-    pub fn new(alloc: Global, base: u64, word: &Word<V, P>) -> Result<Segments<V, P>, AllocError>
-        ensures { IfOk result (λ s. s ≡ record { base = base; book = word.now.book }) }
+    /// No segments yet, and so many at most. The first one's first word will have the key `base`, in the book of this word.
+    pub fn new(
+        alloc: Global,
+        base: u64,
+        most: u64,
+        word: &Word<V, P>,
+    ) -> Result<Segments<V, P>, AllocError>
+        ensures { IfOk result (λ s. s ≡ record { base = base; most = most; book = word.now.book }) }
     {
-        let origin = Origin { base, word };
+        let origin = Origin { base, most, word };
         let tag = Tag::of::<Origin<'_, V, P>, OfOrigin>(&origin);
-        let Origin { base: _, word: _ } = origin;
+        let Origin {
+            base: _,
+            most: _,
+            word: _,
+        } = origin;
         let shelves = row(alloc, &tag, 0, SHELVES)?;
-        Ok(Segments { shelves, base, tag })
+        let near = row(alloc, &tag, 0, NEAR)?;
+        Ok(Segments {
+            near,
+            shelves,
+            base,
+            tag,
+        })
+    }
+
+    // The segment with a number, if it is in the directory.
+    #[inline(always)]
+    fn segment(&self, number: u64) -> Option<&Vec<Word<V, P>>>
+        requires { number < 2 ^ 44 + 7 }
+        ensures { IfSome result (λ words. IsSegment self.now number words.now.items) }
+    {
+        if number < 128 {
+            return self.near[number as usize].get();
+        }
+        self.far(number)
+    }
+
+    // The same of a segment on a shelf.
+    #[inline(never)]
+    fn far(&self, number: u64) -> Option<&Vec<Word<V, P>>>
+        requires { number < 2 ^ 44 + 7 }
+        ensures { IfSome result (λ words. IsSegment self.now number words.now.items) }
+    {
+        let (shelf, slot) = shelve(number);
+        let slots = self.shelves[shelf].get()?;
+        slots[slot].get()
     }
 
     /// The word with a key, if its segment is in the directory.
+    #[inline(always)]
     pub fn get(&self, key: u64) -> Option<&Word<V, P>>
         requires { self.now.base ≤ key }
         ensures { IfSome result (λ word. word.now ≡ name key self.now.book) }
@@ -119,14 +165,13 @@ impl<V, P: Rule<V>> Segments<V, P> {
             return None;
         }
         let (number, offset) = locate(place);
-        let (shelf, slot) = shelve(number);
-        let slots = self.shelves[shelf].get()?;
-        let segment = slots[slot].get()?;
+        let segment = self.segment(number)?;
         Some(&segment[offset as usize])
     }
 
     /// So many words, with the keys from this one on. `None` where they don't lie in one segment, or it isn't in the
     /// directory.
+    #[inline(always)]
     pub fn span(&self, key: u64, count: usize) -> Option<&[Word<V, P>]>
         requires { self.now.base ≤ key }
         ensures { IfSome result (λ words. (length words.now ≡ count)
@@ -137,9 +182,7 @@ impl<V, P: Rule<V>> Segments<V, P> {
             return None;
         }
         let (number, offset) = locate(place);
-        let (shelf, slot) = shelve(number);
-        let slots = self.shelves[shelf].get()?;
-        let segment = slots[slot].get()?;
+        let segment = self.segment(number)?;
         let at = offset as usize;
         if count > segment.len() - at {
             return None;
@@ -152,6 +195,9 @@ impl<V, P: Rule<V>> Segments<V, P> {
         requires { number < 2 ^ 44 }
         ensures { IfOk result (λ got. IfSome got (λ words. (words.items ≡ []) × (size number ≤ words.cap))) }
     {
+        if number < 128 {
+            return Ok(Some(Vec::with_capacity(alloc, size_of(number))?));
+        }
         let (shelf, _) = shelve(number);
         if self.shelves[shelf].get().is_none() {
             let span = span_of(shelf);
@@ -169,6 +215,12 @@ impl<V, P: Rule<V>> Segments<V, P> {
         requires segment { IsSegment self.now number words.items }
         ensures { IfErr result (λ back. back.items ≡ words.items) }
     {
+        if number < 128 {
+            return match self.near[number as usize].set(words) {
+                Ok(_) => Ok(()),
+                Err(words) => Err(words),
+            };
+        }
         let (shelf, slot) = shelve(number);
         let Some(slots) = self.shelves[shelf].get() else {
             return Err(words);

@@ -10,8 +10,8 @@ returns-then-spare-eq0 c =
 
 pub link_again-requires-clause-spare : goal.link_again-requires-clause-spare
 link_again-requires-clause-spare c =
-    let some : c.smallest-spare.result ≢ 0 = search rules in
-    (c.smallest-spare.ensures c.args.pass.now.view c.requires.ready.spare (omega (arith, some))).sighted
+    let some : c.spare_for_new-spare.result ≢ 0 = search rules in
+    (c.spare_for_new-spare.ensures c.args.pass.now.view c.requires.ready.spare (omega (arith, some)))
 
 pub returns : goal.returns
 returns c =

@@ -1,5 +1,5 @@
 use Rattle.std.proofs.Common.{rules, arith, ◌≢◌}
-use Rattle.live_calls.proofs.Ready.{ready_grown, ready_again_met}
+use Rattle.live_calls.proofs.Ready.{ready_kept, ready_grown, ready_again_met}
 use Rattle.live_calls.proofs.insert.part.Goals as goal
 
 pub returns-then-spare-eq0 : goal.returns-then-spare-eq0
@@ -10,14 +10,19 @@ returns-then-spare-eq0 c =
 
 pub split_again-requires-clause-spare : goal.split_again-requires-clause-spare
 split_again-requires-clause-spare c =
-    let some : c.smallest-spare.result ≢ 0 = search rules in
-    (c.smallest-spare.ensures c.args.pass.now.view c.requires.ready.spare (omega (arith, some))).sighted
+    let some : c.spare_for_new-spare.result ≢ 0 = search rules in
+    (c.spare_for_new-spare.ensures c.args.pass.now.view c.requires.ready.spare (omega (arith, some)))
 
 pub returns : goal.returns
 returns c =
     let t = c.split_again.ensures.told in
     let l = c.split_again.new in
-    let some : c.smallest-spare.result ≢ 0 = search rules in
+    let some : c.spare_for_new-spare.result ≢ 0 = search rules in
     let v = c.args.pass.now.view in
-    let sighted = (c.smallest-spare.ensures v c.requires.ready.spare (omega (arith, some))).sighted in
-    record { told = (t.0, t.1, ready_again_met v l.pass.view c.args.room.now l.spares c.smallest-spare.result c.requires.ready t.2 t.3 sighted c.split_again.ensures.spares, t.2.seen) }
+    let sighted = (c.spare_for_new-spare.ensures v c.requires.ready.spare (omega (arith, some))) in
+    record { told = (t.0, t.1, ready_again_met v l.pass.view c.args.room.now l.spares c.spare_for_new-spare.result c.requires.ready t.2 t.3 sighted c.split_again.ensures.spares, t.2.seen) }
+
+pub returns-then-lacks : goal.returns-then-lacks
+returns-then-lacks c =
+    let t = c.stays_forked.ensures.told in
+    record { told = (t.0, t.1, ready_kept c.args.pass.now.view c.stays_forked.new.pass.view c.args.room.now c.requires.ready t.2, t.3) }

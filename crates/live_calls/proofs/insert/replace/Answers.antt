@@ -1,5 +1,4 @@
-use Rattle.std.proofs.Common.{rules, sym, subst, arith, ◌≢◌}
-use Rattle.live_calls.specs.Ways.{Sights}
+use Rattle.std.proofs.Common.{rules, arith, ◌≢◌}
 use Rattle.live_calls.proofs.Ready.{ready_grown, ready_again}
 use Rattle.live_calls.proofs.insert.replace.Goals as goal
 
@@ -11,9 +10,8 @@ returns-then-spare-eq0 c =
 
 pub widen_again-requires-clause-spare : goal.widen_again-requires-clause-spare
 widen_again-requires-clause-spare c =
-    let some : c.get-spare.result ≢ 0 = search rules in
-    let kept = c.get-spare.ensures in
-    subst (Sights c.args.pass.now.view) (sym kept) (c.requires.ready.spare.0 c.next_of.result (omega (arith, kept, some))).sighted
+    let some : c.spare_above-spare.result ≢ 0 = search rules in
+    c.spare_above-spare.ensures c.args.pass.now.view c.requires.ready.spare (omega (arith, some))
 
 pub returns : goal.returns
 returns c =

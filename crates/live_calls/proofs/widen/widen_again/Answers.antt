@@ -1,5 +1,4 @@
 use Rattle.std.proofs.Common.{rules, arith, sym, ap, subst, length, ℕ, Option, Some, None, List, [], ◌∷◌, ◌≡◌, ◌+◌, ◌/◌, ◌∙◌}
-use Rattle.node_base.specs.Form.{next_form}
 use Rattle.node_base.specs.declared.base_node.NodeType.{NodeType}
 use Rattle.node_table.specs.TableNode.{TableNode, Child}
 use Rattle.node_table.specs.declared.child.Child.TheVariants.{Node}
@@ -20,7 +19,6 @@ use Rattle.live_calls.proofs.Grips.{Grips, grip_frees, grip_freed}
 use Rattle.live_calls.proofs.Pairs.{pair_locked, few_counted, change_done, at_result, grown_changes}
 use Rattle.live_calls.proofs.Again.{first_frees, first_freed}
 use Rattle.live_calls.proofs.Sources.{source_apart}
-use Rattle.live_calls.proofs.Spares.{one_form}
 use Rattle.live_calls.proofs.Triples.{triple_regained, triple_first, triple_second, triple_third, triple_drafts, triple_filled, triple_wrote, triple_frees, triple_freed, regrown}
 use Rattle.live_calls.proofs.Linked.{when_none}
 use Rattle.live_calls.proofs.widen.widen_again.Goals as goal
@@ -118,8 +116,8 @@ returns-in_default-regain-clause-told g c =
       st.2.alike.room ∙ (lt.2.room ∙ (left.0.room ∙ room_u)),
     )
 
-pub grow-requires-clause-may : goal.grow-requires-clause-may
-grow-requires-clause-may g c =
+pub grow_to-requires-clause-may : goal.grow_to-requires-clause-may
+grow_to-requires-clause-may g c =
     let v = c.args.pass.now.view in
     let key = c.args.key in
     let height = c.args.height in
@@ -162,21 +160,19 @@ grow-requires-clause-may g c =
     let hr = taken_by c.regain.result back is_back (HasRegained u o c.args.spare) rt.2 in
     let r = hr.spot in
     let kind = c.form_below-wider.ensures r.shape.key r.shape.form hr.named in
-    let same_place : c.place_of-place.result ≡ c.place_of-next.result = search rules in
-    let wider_next : c.form_below-wider.result ≡ c.next_of.result = one_form c.form_below-wider.result c.next_of.result (sym c.place_of-place.ensures.is ∙ (same_place ∙ c.place_of-next.ensures.is)) in
-    let wider_is : r.shape.form ≡ next_form c.form_below-form.result = sym kind ∙ (wider_next ∙ c.next_of.ensures) in
+    let wider_is : r.shape.form ≡ c.form_below-wider.result = sym kind in
     let book_o = rt.0 ∙ book_u in
     let triple = triple_regained u o ub ob others words words_p back free free_p c.args.spare hr x p hx.content hp.content hx.content hp.content rt.0 pair own_u (subst (λ z. AreNamed z c.args.spare others) (sym (book_o ∙ c.requires.book)) c.in-Some-words_at-2.ensures) in
     let own_o = hr.own ∙ ap (λ (os : List Own). outgrown r ∷ os) own_u in
     let drafts = triple_drafts o ob others words words_p back free free_p r x p hr.content hx.content hp.content triple in
     (triple_second o ob others words words_p back free free_p r x p hr.content hx.content hp.content triple hx.long, triple_first o ob others words words_p back free free_p r x p hr.content hx.content hp.content triple hr.long)
 
-pub grow-requires-clause-apart : goal.grow-requires-clause-apart
-grow-requires-clause-apart g c =
+pub grow_to-requires-clause-apart : goal.grow_to-requires-clause-apart
+grow_to-requires-clause-apart g c =
     λ s t same may. source_apart c.in-Some-words_at.full.now s.book t.book s.view t.view (ap (λ z. z.book) same) (ap (λ z. z.view.places) same) (ap (λ z. z.view.holds) same) may
 
-pub grow-requires-clause-long : goal.grow-requires-clause-long
-grow-requires-clause-long g c =
+pub grow_to-requires-clause-long : goal.grow_to-requires-clause-long
+grow_to-requires-clause-long g c =
     let v = c.args.pass.now.view in
     let key = c.args.key in
     let height = c.args.height in
@@ -219,17 +215,15 @@ grow-requires-clause-long g c =
     let hr = taken_by c.regain.result back is_back (HasRegained u o c.args.spare) rt.2 in
     let r = hr.spot in
     let kind = c.form_below-wider.ensures r.shape.key r.shape.form hr.named in
-    let same_place : c.place_of-place.result ≡ c.place_of-next.result = search rules in
-    let wider_next : c.form_below-wider.result ≡ c.next_of.result = one_form c.form_below-wider.result c.next_of.result (sym c.place_of-place.ensures.is ∙ (same_place ∙ c.place_of-next.ensures.is)) in
-    let wider_is : r.shape.form ≡ next_form c.form_below-form.result = sym kind ∙ (wider_next ∙ c.next_of.ensures) in
+    let wider_is : r.shape.form ≡ c.form_below-wider.result = sym kind in
     let book_o = rt.0 ∙ book_u in
     let triple = triple_regained u o ub ob others words words_p back free free_p c.args.spare hr x p hx.content hp.content hx.content hp.content rt.0 pair own_u (subst (λ z. AreNamed z c.args.spare others) (sym (book_o ∙ c.requires.book)) c.in-Some-words_at-2.ensures) in
     let own_o = hr.own ∙ ap (λ (os : List Own). outgrown r ∷ os) own_u in
     let drafts = triple_drafts o ob others words words_p back free free_p r x p hr.content hx.content hp.content triple in
     (ap (λ (z : List ℕ). length z) drafts.1 ∙ (hx.long ∙ ap words_of (sym form)), ap (λ (z : List ℕ). length z) drafts.0 ∙ (hr.long ∙ ap words_of wider_is))
 
-pub grow-requires-clause-few : goal.grow-requires-clause-few
-grow-requires-clause-few g c =
+pub grow_to-requires-clause-few : goal.grow_to-requires-clause-few
+grow_to-requires-clause-few g c =
     let v = c.args.pass.now.view in
     let key = c.args.key in
     let height = c.args.height in
@@ -272,9 +266,7 @@ grow-requires-clause-few g c =
     let hr = taken_by c.regain.result back is_back (HasRegained u o c.args.spare) rt.2 in
     let r = hr.spot in
     let kind = c.form_below-wider.ensures r.shape.key r.shape.form hr.named in
-    let same_place : c.place_of-place.result ≡ c.place_of-next.result = search rules in
-    let wider_next : c.form_below-wider.result ≡ c.next_of.result = one_form c.form_below-wider.result c.next_of.result (sym c.place_of-place.ensures.is ∙ (same_place ∙ c.place_of-next.ensures.is)) in
-    let wider_is : r.shape.form ≡ next_form c.form_below-form.result = sym kind ∙ (wider_next ∙ c.next_of.ensures) in
+    let wider_is : r.shape.form ≡ c.form_below-wider.result = sym kind in
     let book_o = rt.0 ∙ book_u in
     let triple = triple_regained u o ub ob others words words_p back free free_p c.args.spare hr x p hx.content hp.content hx.content hp.content rt.0 pair own_u (subst (λ z. AreNamed z c.args.spare others) (sym (book_o ∙ c.requires.book)) c.in-Some-words_at-2.ensures) in
     let own_o = hr.own ∙ ap (λ (os : List Own). outgrown r ∷ os) own_u in
@@ -325,16 +317,14 @@ change-requires-clause-may g c =
     let hr = taken_by c.regain.result back is_back (HasRegained u o c.args.spare) rt.2 in
     let r = hr.spot in
     let kind = c.form_below-wider.ensures r.shape.key r.shape.form hr.named in
-    let same_place : c.place_of-place.result ≡ c.place_of-next.result = search rules in
-    let wider_next : c.form_below-wider.result ≡ c.next_of.result = one_form c.form_below-wider.result c.next_of.result (sym c.place_of-place.ensures.is ∙ (same_place ∙ c.place_of-next.ensures.is)) in
-    let wider_is : r.shape.form ≡ next_form c.form_below-form.result = sym kind ∙ (wider_next ∙ c.next_of.ensures) in
+    let wider_is : r.shape.form ≡ c.form_below-wider.result = sym kind in
     let book_o = rt.0 ∙ book_u in
     let triple = triple_regained u o ub ob others words words_p back free free_p c.args.spare hr x p hx.content hp.content hx.content hp.content rt.0 pair own_u (subst (λ z. AreNamed z c.args.spare others) (sym (book_o ∙ c.requires.book)) c.in-Some-words_at-2.ensures) in
     let own_o = hr.own ∙ ap (λ (os : List Own). outgrown r ∷ os) own_u in
     let drafts = triple_drafts o ob others words words_p back free free_p r x p hr.content hx.content hp.content triple in
-    let f = c.grow.new.seat.view in
-    let fb = c.grow.new.seat.book in
-    let fr = c.grow.ensures.seat.others in
+    let f = c.grow_to.new.seat.view in
+    let fb = c.grow_to.new.seat.book in
+    let fr = c.grow_to.ensures.seat.others in
     let filled = triple_filled o ob others words words_p back free free_p r x p hr.content hx.content hp.content triple f fb (ap (λ s. s.book) fr) (ap (λ s. s.view) fr) in
     let cf = draft_of (nth 0 f.holds) in
     let drafts_f = triple_drafts f fb others words words_p back free free_p r x p cf hx.content hp.content filled in
@@ -385,16 +375,14 @@ change-requires-clause-long g c =
     let hr = taken_by c.regain.result back is_back (HasRegained u o c.args.spare) rt.2 in
     let r = hr.spot in
     let kind = c.form_below-wider.ensures r.shape.key r.shape.form hr.named in
-    let same_place : c.place_of-place.result ≡ c.place_of-next.result = search rules in
-    let wider_next : c.form_below-wider.result ≡ c.next_of.result = one_form c.form_below-wider.result c.next_of.result (sym c.place_of-place.ensures.is ∙ (same_place ∙ c.place_of-next.ensures.is)) in
-    let wider_is : r.shape.form ≡ next_form c.form_below-form.result = sym kind ∙ (wider_next ∙ c.next_of.ensures) in
+    let wider_is : r.shape.form ≡ c.form_below-wider.result = sym kind in
     let book_o = rt.0 ∙ book_u in
     let triple = triple_regained u o ub ob others words words_p back free free_p c.args.spare hr x p hx.content hp.content hx.content hp.content rt.0 pair own_u (subst (λ z. AreNamed z c.args.spare others) (sym (book_o ∙ c.requires.book)) c.in-Some-words_at-2.ensures) in
     let own_o = hr.own ∙ ap (λ (os : List Own). outgrown r ∷ os) own_u in
     let drafts = triple_drafts o ob others words words_p back free free_p r x p hr.content hx.content hp.content triple in
-    let f = c.grow.new.seat.view in
-    let fb = c.grow.new.seat.book in
-    let fr = c.grow.ensures.seat.others in
+    let f = c.grow_to.new.seat.view in
+    let fb = c.grow_to.new.seat.book in
+    let fr = c.grow_to.ensures.seat.others in
     let filled = triple_filled o ob others words words_p back free free_p r x p hr.content hx.content hp.content triple f fb (ap (λ s. s.book) fr) (ap (λ s. s.view) fr) in
     let cf = draft_of (nth 0 f.holds) in
     let drafts_f = triple_drafts f fb others words words_p back free free_p r x p cf hx.content hp.content filled in
@@ -445,16 +433,14 @@ unlock_again-requires-clause-frees g c =
     let hr = taken_by c.regain.result back is_back (HasRegained u o c.args.spare) rt.2 in
     let r = hr.spot in
     let kind = c.form_below-wider.ensures r.shape.key r.shape.form hr.named in
-    let same_place : c.place_of-place.result ≡ c.place_of-next.result = search rules in
-    let wider_next : c.form_below-wider.result ≡ c.next_of.result = one_form c.form_below-wider.result c.next_of.result (sym c.place_of-place.ensures.is ∙ (same_place ∙ c.place_of-next.ensures.is)) in
-    let wider_is : r.shape.form ≡ next_form c.form_below-form.result = sym kind ∙ (wider_next ∙ c.next_of.ensures) in
+    let wider_is : r.shape.form ≡ c.form_below-wider.result = sym kind in
     let book_o = rt.0 ∙ book_u in
     let triple = triple_regained u o ub ob others words words_p back free free_p c.args.spare hr x p hx.content hp.content hx.content hp.content rt.0 pair own_u (subst (λ z. AreNamed z c.args.spare others) (sym (book_o ∙ c.requires.book)) c.in-Some-words_at-2.ensures) in
     let own_o = hr.own ∙ ap (λ (os : List Own). outgrown r ∷ os) own_u in
     let drafts = triple_drafts o ob others words words_p back free free_p r x p hr.content hx.content hp.content triple in
-    let f = c.grow.new.seat.view in
-    let fb = c.grow.new.seat.book in
-    let fr = c.grow.ensures.seat.others in
+    let f = c.grow_to.new.seat.view in
+    let fb = c.grow_to.new.seat.book in
+    let fr = c.grow_to.ensures.seat.others in
     let filled = triple_filled o ob others words words_p back free free_p r x p hr.content hx.content hp.content triple f fb (ap (λ s. s.book) fr) (ap (λ s. s.view) fr) in
     let cf = draft_of (nth 0 f.holds) in
     let drafts_f = triple_drafts f fb others words words_p back free free_p r x p cf hx.content hp.content filled in
@@ -482,7 +468,7 @@ unlock_again-requires-clause-frees g c =
     let covers_p = ap (up p.shape.height) asks.0 ∙ hp.names.covers in
     let covers_x = ap (up x.shape.height) asks.0 ∙ hx.names.covers in
     let long = c.change.ensures.long ∙ ap words_of form_q in
-    let grows = λ (k : TableNode ℕ) (encodes : Encodes hx.content k) (formed : k.form ≡ x.shape.form). subst (λ (z : List ℕ × NodeType). Encodes z.0 (in_form k z.1)) (λ i. (sym drafts_n.0 i, sym wider_is i)) (c.grow.ensures.is k (subst (λ z. Encodes z k) (sym drafts.1) encodes) (formed ∙ sym form)) in
+    let grows = λ (k : TableNode ℕ) (encodes : Encodes hx.content k) (formed : k.form ≡ x.shape.form). subst (λ (z : List ℕ × NodeType). Encodes z.0 (in_form k z.1)) (λ i. (sym drafts_n.0 i, sym wider_is i)) (c.grow_to.ensures.is k (subst (λ z. Encodes z k) (sym drafts.1) encodes) (formed ∙ sym form)) in
     let hp_high = hp.names.high in
     let hx_high = hx.names.high in
     let first = c.index-words_above-0.result in
@@ -534,16 +520,14 @@ unlock-requires-clause-frees g c =
     let hr = taken_by c.regain.result back is_back (HasRegained u o c.args.spare) rt.2 in
     let r = hr.spot in
     let kind = c.form_below-wider.ensures r.shape.key r.shape.form hr.named in
-    let same_place : c.place_of-place.result ≡ c.place_of-next.result = search rules in
-    let wider_next : c.form_below-wider.result ≡ c.next_of.result = one_form c.form_below-wider.result c.next_of.result (sym c.place_of-place.ensures.is ∙ (same_place ∙ c.place_of-next.ensures.is)) in
-    let wider_is : r.shape.form ≡ next_form c.form_below-form.result = sym kind ∙ (wider_next ∙ c.next_of.ensures) in
+    let wider_is : r.shape.form ≡ c.form_below-wider.result = sym kind in
     let book_o = rt.0 ∙ book_u in
     let triple = triple_regained u o ub ob others words words_p back free free_p c.args.spare hr x p hx.content hp.content hx.content hp.content rt.0 pair own_u (subst (λ z. AreNamed z c.args.spare others) (sym (book_o ∙ c.requires.book)) c.in-Some-words_at-2.ensures) in
     let own_o = hr.own ∙ ap (λ (os : List Own). outgrown r ∷ os) own_u in
     let drafts = triple_drafts o ob others words words_p back free free_p r x p hr.content hx.content hp.content triple in
-    let f = c.grow.new.seat.view in
-    let fb = c.grow.new.seat.book in
-    let fr = c.grow.ensures.seat.others in
+    let f = c.grow_to.new.seat.view in
+    let fb = c.grow_to.new.seat.book in
+    let fr = c.grow_to.ensures.seat.others in
     let filled = triple_filled o ob others words words_p back free free_p r x p hr.content hx.content hp.content triple f fb (ap (λ s. s.book) fr) (ap (λ s. s.view) fr) in
     let cf = draft_of (nth 0 f.holds) in
     let drafts_f = triple_drafts f fb others words words_p back free free_p r x p cf hx.content hp.content filled in
@@ -571,7 +555,7 @@ unlock-requires-clause-frees g c =
     let covers_p = ap (up p.shape.height) asks.0 ∙ hp.names.covers in
     let covers_x = ap (up x.shape.height) asks.0 ∙ hx.names.covers in
     let long = c.change.ensures.long ∙ ap words_of form_q in
-    let grows = λ (k : TableNode ℕ) (encodes : Encodes hx.content k) (formed : k.form ≡ x.shape.form). subst (λ (z : List ℕ × NodeType). Encodes z.0 (in_form k z.1)) (λ i. (sym drafts_n.0 i, sym wider_is i)) (c.grow.ensures.is k (subst (λ z. Encodes z k) (sym drafts.1) encodes) (formed ∙ sym form)) in
+    let grows = λ (k : TableNode ℕ) (encodes : Encodes hx.content k) (formed : k.form ≡ x.shape.form). subst (λ (z : List ℕ × NodeType). Encodes z.0 (in_form k z.1)) (λ i. (sym drafts_n.0 i, sym wider_is i)) (c.grow_to.ensures.is k (subst (λ z. Encodes z k) (sym drafts.1) encodes) (formed ∙ sym form)) in
     let hp_high = hp.names.high in
     let hx_high = hx.names.high in
     let first = c.index-words_above-0.result in
@@ -637,16 +621,14 @@ retire-requires-clause-frees g c =
     let hr = taken_by c.regain.result back is_back (HasRegained u o c.args.spare) rt.2 in
     let r = hr.spot in
     let kind = c.form_below-wider.ensures r.shape.key r.shape.form hr.named in
-    let same_place : c.place_of-place.result ≡ c.place_of-next.result = search rules in
-    let wider_next : c.form_below-wider.result ≡ c.next_of.result = one_form c.form_below-wider.result c.next_of.result (sym c.place_of-place.ensures.is ∙ (same_place ∙ c.place_of-next.ensures.is)) in
-    let wider_is : r.shape.form ≡ next_form c.form_below-form.result = sym kind ∙ (wider_next ∙ c.next_of.ensures) in
+    let wider_is : r.shape.form ≡ c.form_below-wider.result = sym kind in
     let book_o = rt.0 ∙ book_u in
     let triple = triple_regained u o ub ob others words words_p back free free_p c.args.spare hr x p hx.content hp.content hx.content hp.content rt.0 pair own_u (subst (λ z. AreNamed z c.args.spare others) (sym (book_o ∙ c.requires.book)) c.in-Some-words_at-2.ensures) in
     let own_o = hr.own ∙ ap (λ (os : List Own). outgrown r ∷ os) own_u in
     let drafts = triple_drafts o ob others words words_p back free free_p r x p hr.content hx.content hp.content triple in
-    let f = c.grow.new.seat.view in
-    let fb = c.grow.new.seat.book in
-    let fr = c.grow.ensures.seat.others in
+    let f = c.grow_to.new.seat.view in
+    let fb = c.grow_to.new.seat.book in
+    let fr = c.grow_to.ensures.seat.others in
     let filled = triple_filled o ob others words words_p back free free_p r x p hr.content hx.content hp.content triple f fb (ap (λ s. s.book) fr) (ap (λ s. s.view) fr) in
     let cf = draft_of (nth 0 f.holds) in
     let drafts_f = triple_drafts f fb others words words_p back free free_p r x p cf hx.content hp.content filled in
@@ -674,7 +656,7 @@ retire-requires-clause-frees g c =
     let covers_p = ap (up p.shape.height) asks.0 ∙ hp.names.covers in
     let covers_x = ap (up x.shape.height) asks.0 ∙ hx.names.covers in
     let long = c.change.ensures.long ∙ ap words_of form_q in
-    let grows = λ (k : TableNode ℕ) (encodes : Encodes hx.content k) (formed : k.form ≡ x.shape.form). subst (λ (z : List ℕ × NodeType). Encodes z.0 (in_form k z.1)) (λ i. (sym drafts_n.0 i, sym wider_is i)) (c.grow.ensures.is k (subst (λ z. Encodes z k) (sym drafts.1) encodes) (formed ∙ sym form)) in
+    let grows = λ (k : TableNode ℕ) (encodes : Encodes hx.content k) (formed : k.form ≡ x.shape.form). subst (λ (z : List ℕ × NodeType). Encodes z.0 (in_form k z.1)) (λ i. (sym drafts_n.0 i, sym wider_is i)) (c.grow_to.ensures.is k (subst (λ z. Encodes z k) (sym drafts.1) encodes) (formed ∙ sym form)) in
     let hp_high = hp.names.high in
     let hx_high = hx.names.high in
     let first = c.index-words_above-0.result in
@@ -754,16 +736,14 @@ returns-clause-told g c =
     let hr = taken_by c.regain.result back is_back (HasRegained u o c.args.spare) rt.2 in
     let r = hr.spot in
     let kind = c.form_below-wider.ensures r.shape.key r.shape.form hr.named in
-    let same_place : c.place_of-place.result ≡ c.place_of-next.result = search rules in
-    let wider_next : c.form_below-wider.result ≡ c.next_of.result = one_form c.form_below-wider.result c.next_of.result (sym c.place_of-place.ensures.is ∙ (same_place ∙ c.place_of-next.ensures.is)) in
-    let wider_is : r.shape.form ≡ next_form c.form_below-form.result = sym kind ∙ (wider_next ∙ c.next_of.ensures) in
+    let wider_is : r.shape.form ≡ c.form_below-wider.result = sym kind in
     let book_o = rt.0 ∙ book_u in
     let triple = triple_regained u o ub ob others words words_p back free free_p c.args.spare hr x p hx.content hp.content hx.content hp.content rt.0 pair own_u (subst (λ z. AreNamed z c.args.spare others) (sym (book_o ∙ c.requires.book)) c.in-Some-words_at-2.ensures) in
     let own_o = hr.own ∙ ap (λ (os : List Own). outgrown r ∷ os) own_u in
     let drafts = triple_drafts o ob others words words_p back free free_p r x p hr.content hx.content hp.content triple in
-    let f = c.grow.new.seat.view in
-    let fb = c.grow.new.seat.book in
-    let fr = c.grow.ensures.seat.others in
+    let f = c.grow_to.new.seat.view in
+    let fb = c.grow_to.new.seat.book in
+    let fr = c.grow_to.ensures.seat.others in
     let filled = triple_filled o ob others words words_p back free free_p r x p hr.content hx.content hp.content triple f fb (ap (λ s. s.book) fr) (ap (λ s. s.view) fr) in
     let cf = draft_of (nth 0 f.holds) in
     let drafts_f = triple_drafts f fb others words words_p back free free_p r x p cf hx.content hp.content filled in
@@ -791,7 +771,7 @@ returns-clause-told g c =
     let covers_p = ap (up p.shape.height) asks.0 ∙ hp.names.covers in
     let covers_x = ap (up x.shape.height) asks.0 ∙ hx.names.covers in
     let long = c.change.ensures.long ∙ ap words_of form_q in
-    let grows = λ (k : TableNode ℕ) (encodes : Encodes hx.content k) (formed : k.form ≡ x.shape.form). subst (λ (z : List ℕ × NodeType). Encodes z.0 (in_form k z.1)) (λ i. (sym drafts_n.0 i, sym wider_is i)) (c.grow.ensures.is k (subst (λ z. Encodes z k) (sym drafts.1) encodes) (formed ∙ sym form)) in
+    let grows = λ (k : TableNode ℕ) (encodes : Encodes hx.content k) (formed : k.form ≡ x.shape.form). subst (λ (z : List ℕ × NodeType). Encodes z.0 (in_form k z.1)) (λ i. (sym drafts_n.0 i, sym wider_is i)) (c.grow_to.ensures.is k (subst (λ z. Encodes z k) (sym drafts.1) encodes) (formed ∙ sym form)) in
     let hp_high = hp.names.high in
     let hx_high = hx.names.high in
     let first = c.index-words_above-0.result in

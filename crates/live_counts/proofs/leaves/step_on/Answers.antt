@@ -22,7 +22,7 @@ returns-in-Some c =
         t.1 ∙ i.id,
         keeps_then u v w i.keeps t.2,
         seen_since c.loop.pass.id id u v w i.id i.seen t.3,
-        step_since c.loop.pass.id id u v w c.args.key c.try_step.new.buffer c.in-Some.step i.id i.seen t.4,
+        (t.4.0, step_since c.loop.pass.id id u v w c.args.key c.try_step.new.buffer c.in-Some.stepped.step i.id i.seen t.4.1),
       );
     }
 
@@ -39,4 +39,5 @@ loop-preserved c =
       id = t.1 ∙ i.id;
       keeps = keeps_then u v w i.keeps t.2;
       seen = seen_since c.loop.pass.id id u v w i.id i.seen t.3;
+      stand = tt;
     }

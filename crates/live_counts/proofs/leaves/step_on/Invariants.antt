@@ -1,6 +1,7 @@
-use Rattle.std.proofs.Common.{◌≡◌}
+use Rattle.std.proofs.Common.{◌≡◌, IfSome}
 use Rattle.share_rule.specs.inner.Rule.{HasSeen}
 use Rattle.live_calls.specs.Ways.{Keeps}
+use Rattle.live_scans.specs.inner.Stops.{IsStand}
 use Rattle.live_counts.proofs.leaves.step_on.Given as goal
 
 abbrev pub invariant-loop : goal.invariant-loop
@@ -9,4 +10,5 @@ invariant-loop l = record {
   id : l.pass.id ≡ l.fn.pass.id;
   keeps : Keeps l.fn.pass.view l.pass.view;
   seen : HasSeen l.pass.view.client.seen l.fn.pass.id l.fn.pass.view.client.seen;
+  stand : IfSome l.at (IsStand l.pass.view);
 }

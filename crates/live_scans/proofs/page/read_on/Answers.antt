@@ -16,12 +16,12 @@ returns-in-Some-clause-told g c =
     let v = c.loop.pass.view in
     let w = c.try_step.new.pass.view in
     let t = c.in-Some.ensures.told in
-    let s = c.in-Some.step in (
+    let s = c.in-Some.stepped.step in (
       t.0 ∙ i.book,
       t.1 ∙ i.id,
       keeps_then u v w i.keeps t.2,
       seen_since c.loop.pass.id id u v w i.id i.seen t.3,
-      step_since c.loop.pass.id id u v w c.args.key c.args.limit c.args.start s.count s.last (pairs_of g.P.RangeEntry.pair c.try_step.new.buffer) i.id i.seen t.4,
+      (t.4.0, step_since c.loop.pass.id id u v w c.args.key c.args.limit c.args.start s.count s.last (pairs_of g.P.RangeEntry.pair c.try_step.new.buffer) i.id i.seen t.4.1),
     )
 
 pub loop-preserved : goal.loop-preserved
@@ -37,5 +37,6 @@ loop-preserved g c =
       id = t.1 ∙ i.id;
       keeps = keeps_then u v w i.keeps t.2;
       seen = seen_since c.loop.pass.id id u v w i.id i.seen t.3;
+      stand = tt;
       before = c.try_step.ensures.before ∙ i.before;
     }

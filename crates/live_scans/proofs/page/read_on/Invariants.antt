@@ -1,7 +1,8 @@
-use Rattle.std.proofs.Common.{◌≡◌, take}
+use Rattle.std.proofs.Common.{◌≡◌, take, IfSome}
 use Rattle.share_rule.specs.inner.Rule.{HasSeen}
 use Rattle.live_calls.specs.Ways.{Keeps}
 use Rattle.live_order.specs.Page.{pairs_of}
+use Rattle.live_scans.specs.inner.Stops.{IsStand}
 use Rattle.live_scans.proofs.page.read_on.Given as goal
 
 abbrev pub invariant-loop : goal.invariant-loop
@@ -10,5 +11,6 @@ invariant-loop g l = record {
   id : l.pass.id ≡ l.fn.pass.id;
   keeps : Keeps l.fn.pass.view l.pass.view;
   seen : HasSeen l.pass.view.client.seen l.fn.pass.id l.fn.pass.view.client.seen;
+  stand : IfSome l.at (IsStand l.pass.view);
   before : take l.start (pairs_of g.P.RangeEntry.pair l.buffer) ≡ take l.start (pairs_of g.P.RangeEntry.pair l.fn.buffer);
 }

@@ -1,0 +1,50 @@
+use Rattle.std.proofs.Common.{rules, arith, sym, ap, subst, ◌/◌, ◌≡◌, ◌∙◌, ℕ, IsTrue}
+use mathlib.Core.Logic.{dite}
+use native.Mathlib.Decide.{ℕ_discrete}
+use Rattle.share_rule.specs.inner.Rule.{HasSeen}
+use Rattle.live_law.specs.Levels.{place_at}
+use Rattle.live_law.specs.Views.{View}
+use Rattle.live_calls.proofs.Views.{first_word}
+use Rattle.live_scans.specs.inner.Moments.{HasNone}
+use Rattle.live_scans.specs.inner.Nexts.{IsOutside}
+use Rattle.live_scans.proofs.Passes.{seen_equal}
+use Rattle.live_scans.proofs.Nexts.{may_be_still, still_missed, still_keeps, still_head, none_outside}
+use Rattle.live_scans.proofs.next.is_still.Goals as goal
+
+pub check-requires-clause-learns : goal.check-requires-clause-learns
+check-requires-clause-learns g c =
+    let v = c.args.pass.now.view in
+    let b = c.args.pass.now.book in
+    let words = c.args.here.words.now in
+    let t = c.args.here.taken in
+    let f = c.requires.next in
+    let l = c.args.lower in
+    let first = c.index-words-0.result in
+    let at_k = (first_word (place_at f.names.spot) b words f.are first first (sym c.index-words-0.is)).0 in
+    may_be_still v b words t c.args.name c.args.key c.args.height c.args.byte c.args.word l.name l.height l.first l.here.words.now l.here.taken f first.key at_k g.A.Asks.ask.caller c.args.pass.now.id (t / 4) c.requires.asks (let e = f.free in omega (arith, e))
+
+pub returns : goal.returns
+returns g c =
+    let v = c.args.pass.now.view in
+    let b = c.args.pass.now.book in
+    let id = c.args.pass.now.id in
+    let words = c.args.here.words.now in
+    let t = c.args.here.taken in
+    let f = c.requires.next in
+    let l = c.args.lower in
+    let first = c.index-words-0.result in
+    let at_k = (first_word (place_at f.names.spot) b words f.are first first (sym c.index-words-0.is)).0 in
+    let tells = c.check.ensures.told in
+    let seat = c.check.ensures.seat in
+    let w = c.check.new.seat.view in
+    let caller = g.A.Asks.ask.caller in
+    let missed = still_missed v b words t c.args.name c.args.key c.args.height c.args.byte c.args.word l.name l.height l.first l.here.words.now l.here.taken f first.key at_k caller w tells.0 tells.2 in
+    let keeps = still_keeps v b words t c.args.name c.args.key c.args.height c.args.byte c.args.word l.name l.height l.first l.here.words.now l.here.taken f first.key at_k caller w tells.0 tells.2 in
+    record {
+      told = dite (ℕ_discrete tells.0 t)
+          (λ e. let k = keeps e in (seat.0, seat.1, k.0, subst (λ (z : ℕ). HasSeen w.client.seen z v.client.seen) c.requires.asks k.1))
+          (λ ne. let k = missed ne in (seat.0, seat.1, k.0, seen_equal id v w (ap (λ (z : View). z.seen) k.1)));
+      none = λ yes. subst (λ (z : ℕ). HasNone z v w (IsOutside c.args.height c.args.key c.args.byte l.height l.first)) c.requires.asks
+          (none_outside v b words t c.args.name c.args.key c.args.height c.args.byte c.args.word l.name l.height l.first l.here.words.now l.here.taken f first.key at_k caller w tells.0 tells.2 (tells.1.0 yes) c.requires.height.0);
+      head = λ yes. still_head v b words t c.args.name c.args.key c.args.height c.args.byte c.args.word l.name l.height l.first l.here.words.now l.here.taken f first.key at_k caller w tells.0 tells.2 (tells.1.0 yes) c.check.new.seat.book seat.0;
+    }

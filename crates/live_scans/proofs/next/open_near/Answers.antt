@@ -1,0 +1,46 @@
+use Rattle.std.proofs.Common.{rules, arith, sym, ap, subst, ◌≡◌, ◌∙◌, true, None}
+use Rattle.live_nodes.specs.Seats.{Agree}
+use Rattle.live_rows.specs.Rows.{last_saw}
+use Rattle.live_order.specs.Order.{HasNearest}
+use Rattle.live_encodes.specs.Encodes.{words_of}
+use Rattle.live_law.specs.Views.{View}
+use Rattle.live_calls.proofs.Finds.{keeps_then}
+use Rattle.live_calls.proofs.Views.{may_read_open, open_read, reading_on_keeps}
+use Rattle.live_scans.proofs.Nexts.{near_read}
+use Rattle.live_scans.proofs.next.open_near.Goals as goal
+
+pub child_after-found-requires : goal.child_after-found-requires
+child_after-found-requires c =
+    let u = c.enter.new.pass.view in
+    let b = c.enter.new.pass.book in
+    let words = c.in_ok-here.here.words.now in
+    let t = c.in_ok-here.here.taken in
+    let o = c.in_ok-here.ensures.open in
+    let spot = o.names.spot in
+    let form = c.form_below.ensures spot.shape.key spot.shape.form o.names.named in
+    record { cells = (may_read_open u b words t spot o.names.placed o.opened, (let l = o.opened.are.0 in let e = ap words_of form in omega (arith, l, e))) }
+
+pub returns : goal.returns
+returns c =
+    let v = c.args.pass.now.view in
+    let u = c.enter.new.pass.view in
+    let entered = c.enter.ensures.told in
+    let name = c.args.name in
+    let key = c.args.key in
+    let height = c.args.height in
+    let b = c.enter.new.pass.book in
+    let words = c.in_ok-here.here.words.now in
+    let t = c.in_ok-here.here.taken in
+    let o = c.in_ok-here.ensures.open in
+    let spot = o.names.spot in
+    let form = c.form_below.ensures spot.shape.key spot.shape.form o.names.named in
+    let v₂ = c.child_after-found.new.seat.view in
+    let r = c.child_after-found.ensures.seat.others in
+    let rest = ap (λ s. s.view) r in
+    let book = ap (λ s. s.book) r in
+    let k = reading_on_keeps u v₂ o.opened.before spot.number t (last_saw v₂.reads) (open_read u b words t spot o.names.placed o.opened v₂ rest) in
+    record {
+      told = (book ∙ entered.0, ap (λ s. s.id) r ∙ entered.1, keeps_then v u v₂ entered.2 k.0, ap (λ (z : View). z.seen) k.1 ∙ entered.3);
+      near = near_read u v₂ b c.child_after-found.new.seat.book words t name key height o rest book (λ content agrees. subst (λ z. Agree content (last_saw z)) o.opened.reads (c.child_after-found.ensures.kept content agrees)) c.child_after-found.result
+          (λ content n agrees encodes formed. subst (λ z. HasNearest true n.children z c.child_after-found.result) c.byte_at.ensures (c.child_after-found.ensures.is content n agrees encodes (formed ∙ sym form)));
+    }

@@ -1,0 +1,318 @@
+//! The way on from a key below a node: to the next node, or past keys that are absent.
+ghost use Rattle.std.specs.Prelude.{◌≡◌, ℕ, ◌+◌, ◌-◌, ◌*◌, ◌^◌, ◌%◌, ◌<◌, ◌≤◌, true, false, Some, IfSome, IsTrue};
+ghost use Rattle.share_rule.specs.inner.Rule.{HasSeen};
+ghost use Rattle.node_table.specs.declared.child.Child.TheVariants.{Node};
+ghost use Rattle.live_encodes.specs.Encodes.{IsWord};
+ghost use Rattle.live_law.specs.Levels.{up, digit};
+ghost use Rattle.live_calls.specs.Ways.{Names, Sights, Keeps};
+ghost use Rattle.live_calls.specs.Forks.{first_number};
+ghost use Rattle.live_scans.specs.inner.Moments.{HasNone};
+ghost use Rattle.live_scans.specs.inner.Nexts.{IsNear, IsNext, HasHead, IsOutside, Chooses, Turns};
+
+use crate::after::child_after;
+use crate::keys::{floor_of, last_of, upper};
+use crate::lesson::Whole;
+use live_calls::sight::{Sight, compare, enter};
+use live_calls::way::{Cell, Nodes, Opened, Pass, byte_at, open};
+use live_cells::words::Cells;
+use live_encodes::form::{form_below, slot_below};
+use live_law::law::{Above, Asks, Below, Head, Levels, Look, Mine};
+use live_nodes::node;
+use live_rows::rows::Row;
+use std::marker::Brand;
+
+/// An open node, and its child nearest to a key's byte: the byte and the word.
+#[derive(Clone, Copy)]
+pub struct Near<'a> {
+    pub here: Opened<'a>,
+    pub found: Option<(u8, u64)>,
+}
+
+/// A node below an open one, which is open, too: its name, its height, and the first key that begins like it.
+#[derive(Clone, Copy)]
+pub struct Lower<'a> {
+    pub name: u64,
+    pub height: usize,
+    pub first: u64,
+    pub here: Opened<'a>,
+}
+
+/// A node that is next on the way of a reader, its height, and the first of its keys that isn't passed.
+#[derive(Clone, Copy, Debug, PartialEq, Eq)]
+pub struct Child {
+    pub name: u64,
+    pub height: usize,
+    pub first: u64,
+}
+
+/// What is next from a key on: none up to another one, which is the last of a leaf, or a node.
+#[derive(Clone, Copy, Debug, PartialEq, Eq)]
+pub enum Turn {
+    Past(u64),
+    Goes(Child),
+}
+
+/// A node that a key has come to is open, and its nearest child read. `None` where a writer came in between.
+fn open_near<'a>(
+    nodes: &'a Nodes,
+    name: u64,
+    height: usize,
+    key: u64,
+    pass: &mut Pass,
+) -> Option<Near<'a>>
+    requires book { pass.old.book ≡ nodes.now }
+    requires named { Names pass.old.view name key height }
+    requires height { (2 ≤ height) × (height ≤ 8) }
+    ensures told { (pass.new.book ≡ pass.old.book) × (pass.new.id ≡ pass.old.id)
+        × Keeps pass.old.view pass.new.view
+        × (pass.new.view.client.seen ≡ pass.old.view.client.seen) }
+    ensures near { IfSome result (λ n. let here = n.here
+        in IsNear pass.new.view pass.new.book here.words.now here.taken name key height n.found) }
+{
+    let here = enter(nodes, name, height, key, pass)?;
+    let row = Row { words: here.words };
+    let found = child_after(&row, form_below(name), byte_at(key, height), pass);
+    Some(Near { here, found })
+}
+
+/// Meets the nearest child of an open node, which has a key under the same byte. `false` where a writer came in between.
+fn meet_under<A: Asks>(
+    here: Opened<'_>,
+    name: u64,
+    height: usize,
+    key: u64,
+    byte: u8,
+    word: u64,
+    to: u64,
+    pass: &mut Pass,
+) -> bool
+    requires asks { (A.ask.key ≡ to) × (A.ask.caller ≡ pass.old.id) }
+    requires to { up (height - 1) to ≡ 256 * up height key + byte }
+    requires near { IsNear pass.old.view pass.old.book here.words.now here.taken name key height
+        (Some (byte, word)) }
+    requires height { (2 ≤ height) × (height ≤ 8) }
+    ensures told { (pass.new.book ≡ pass.old.book) × (pass.new.id ≡ pass.old.id)
+        × Keeps pass.old.view pass.new.view
+        × (pass.new.view.client.seen ≡ pass.old.view.client.seen) }
+    ensures near { IsTrue result → IsNear pass.new.view pass.new.book here.entry.words.now here.entry.taken
+        name key height (Some (byte, word)) }
+    ensures met { IsTrue result → ((s : ℕ) × IsWord word (Node s) × Sights pass.new.view s) }
+{
+    let _ = to;
+    let Opened { words, taken } = here;
+    node::check::<Mine, Levels, Look<A>>(&words[0], taken, pass)
+}
+
+/// Opens a child of an open node, and watches it there. `None` where a writer came in between.
+fn watch_next<'a, N: Above>(
+    nodes: &'a Nodes,
+    here: Opened<'_>,
+    name: u64,
+    height: usize,
+    key: u64,
+    byte: u8,
+    word: u64,
+    pass: &mut Pass,
+) -> Option<Lower<'a>>
+    requires book { pass.old.book ≡ nodes.now }
+    requires near { IsNear pass.old.view pass.old.book here.words.now here.taken name key height
+        (Some (byte, word)) }
+    requires height { (2 ≤ height) × (height ≤ 8) }
+    requires met { (s : ℕ) × IsWord word (Node s) × Sights pass.old.view s }
+    requires above { (N.number ≡ first_number pass.old.view.reads) × (N.word ≡ Some here.taken) }
+    ensures told { (pass.new.book ≡ pass.old.book) × (pass.new.id ≡ pass.old.id)
+        × Keeps pass.old.view pass.new.view
+        × (pass.new.view.client.seen ≡ pass.old.view.client.seen) }
+    ensures next { IfSome result (λ l. let there = l.here
+        in IsNext pass.new.view pass.new.book here.entry.words.now here.entry.taken name key height byte word
+        l.name l.height l.first there.words.now there.taken) }
+{
+    let below = slot_below(word);
+    if below == name {
+        return None;
+    }
+    let there = open(nodes, below, pass)?;
+    let row = Row { words: there.words };
+    let head = row.word(0, pass);
+    if !node::check::<Mine, Levels, Below<N>>(&there.words[0], there.taken, pass) {
+        return None;
+    }
+    let first = floor_of(head);
+    match compare(head, first) {
+        Sight::Covers(height) => Some(Lower {
+            name: below,
+            height,
+            first,
+            here: there,
+        }),
+        Sight::Leaves(_, _) => None,
+    }
+}
+
+/// Whether an open node is what it was. So no other keys are there, up to a child's byte, than those of the child.
+fn is_still<A: Asks>(
+    here: Opened<'_>,
+    name: u64,
+    height: usize,
+    key: u64,
+    byte: u8,
+    word: u64,
+    lower: Lower<'_>,
+    pass: &mut Pass,
+) -> bool
+    requires asks { A.ask.caller ≡ pass.old.id }
+    requires height { (2 ≤ height) × (height ≤ 8) }
+    requires next { IsNext pass.old.view pass.old.book here.words.now here.taken name key height byte word
+        lower.name lower.height lower.first lower.here.words.now lower.here.taken }
+    ensures told { (pass.new.book ≡ pass.old.book) × (pass.new.id ≡ pass.old.id)
+        × Keeps pass.old.view pass.new.view
+        × HasSeen pass.new.view.client.seen pass.old.id pass.old.view.client.seen }
+    ensures none { IsTrue result → HasNone pass.old.id pass.old.view pass.new.view
+        (IsOutside height key byte lower.entry.height lower.entry.first) }
+    ensures head { IsTrue result → HasHead pass.new.view pass.new.book lower.entry.name lower.entry.height
+        lower.entry.first lower.entry.here.words.now lower.entry.here.taken }
+{
+    let Opened { words, taken } = here;
+    node::check::<Mine, Levels, Whole<A>>(&words[0], taken, pass)
+}
+
+/// Whether a node is still what its head says.
+fn arrive(lower: Lower<'_>, pass: &mut Pass) -> bool
+    requires head { HasHead pass.old.view pass.old.book lower.name lower.height lower.first
+        lower.here.words.now lower.here.taken }
+    ensures told { (pass.new.book ≡ pass.old.book) × (pass.new.id ≡ pass.old.id)
+        × Keeps pass.old.view pass.new.view
+        × (pass.new.view.client.seen ≡ pass.old.view.client.seen) }
+    ensures named { IsTrue result → Names pass.new.view lower.entry.name lower.entry.first lower.entry.height }
+{
+    let Opened { words, taken } = lower.here;
+    node::check::<Mine, Levels, Head>(&words[0], taken, pass)
+}
+
+// Where to go on: at the node below, if it has this key or a later one, or behind its byte.
+fn choose(key: u64, height: usize, byte: u8, to: u64, lower: Lower<'_>) -> Option<Turn>
+    requires height { (2 ≤ height) × (height ≤ 8) }
+    requires to { up (height - 1) to ≡ 256 * up height key + byte }
+    ensures { Chooses height key byte lower.entry.name lower.entry.height lower.entry.first result }
+{
+    let Lower {
+        name,
+        height: low,
+        first,
+        ..
+    } = lower;
+    if low < 1 || low >= height {
+        return None;
+    }
+    let base = upper(first, low);
+    if upper(key, low) == base {
+        return Some(Turn::Goes(Child {
+            name,
+            height: low,
+            first: key,
+        }));
+    }
+    if first < key {
+        if to < key || to % 256 != 255 {
+            return None;
+        }
+        return Some(Turn::Past(to));
+    }
+    if first == key || first % 256 != 0 {
+        return None;
+    }
+    if upper(first - 1, low) == base || upper(first, height - 1) != upper(to, height - 1) {
+        return None;
+    }
+    Some(Turn::Goes(Child {
+        name,
+        height: low,
+        first,
+    }))
+}
+
+/// What is next where an open node has a child from the key's byte on. `None` where a writer came in between.
+fn beside<A: Asks>(
+    nodes: &Nodes,
+    here: Opened<'_>,
+    name: u64,
+    height: usize,
+    key: u64,
+    byte: u8,
+    word: u64,
+    pass: &mut Pass,
+) -> Option<Turn>
+    requires book { pass.old.book ≡ nodes.now }
+    requires asks { A.ask.caller ≡ pass.old.id }
+    requires near { IsNear pass.old.view pass.old.book here.words.now here.taken name key height
+        (Some (byte, word)) }
+    requires height { (2 ≤ height) × (height ≤ 8) }
+    ensures told { (pass.new.book ≡ pass.old.book) × (pass.new.id ≡ pass.old.id)
+        × Keeps pass.old.view pass.new.view
+        × HasSeen pass.new.view.client.seen pass.old.id pass.old.view.client.seen
+        × Turns pass.old.id pass.old.view pass.new.view key height result }
+{
+    let to = last_of(key, height, byte);
+    if !meet_under::<Brand>(here, name, height, key, byte, word, to, pass) {
+        return None;
+    }
+    let lower = watch_next::<Brand>(nodes, here, name, height, key, byte, word, pass)?;
+    if !is_still::<A>(here, name, height, key, byte, word, lower, pass) {
+        return None;
+    }
+    if !arrive(lower, pass) {
+        return None;
+    }
+    choose(key, height, byte, to, lower)
+}
+
+// What is next where an open node has no child from the key's byte on.
+fn behind<A: Asks>(
+    here: Opened<'_>,
+    name: u64,
+    height: usize,
+    key: u64,
+    pass: &mut Pass,
+) -> Option<Turn>
+    requires asks { A.ask.caller ≡ pass.old.id }
+    requires near { IsNear pass.old.view pass.old.book here.words.now here.taken name key height None }
+    requires height { (2 ≤ height) × (height ≤ 8) }
+    ensures told { (pass.new.book ≡ pass.old.book) × (pass.new.id ≡ pass.old.id)
+        × Keeps pass.old.view pass.new.view
+        × HasSeen pass.new.view.client.seen pass.old.id pass.old.view.client.seen
+        × Turns pass.old.id pass.old.view pass.new.view key height result }
+{
+    let Opened { words, taken } = here;
+    if !node::check::<Mine, Levels, Whole<A>>(&words[0], taken, pass) {
+        return None;
+    }
+    let last = last_of(key, height, 255);
+    if last < key || last % 256 != 255 {
+        return None;
+    }
+    Some(Turn::Past(last))
+}
+
+/// What is next from a key on below a node that has keys which begin like it. `None` where a writer came in between.
+pub fn next_turn<A: Asks>(
+    nodes: &Nodes,
+    name: u64,
+    height: usize,
+    key: u64,
+    pass: &mut Pass,
+) -> Option<Turn>
+    requires book { pass.old.book ≡ nodes.now }
+    requires asks { A.ask.caller ≡ pass.old.id }
+    requires named { Names pass.old.view name key height }
+    requires height { (2 ≤ height) × (height ≤ 8) }
+    ensures told { (pass.new.book ≡ pass.old.book) × (pass.new.id ≡ pass.old.id)
+        × Keeps pass.old.view pass.new.view
+        × HasSeen pass.new.view.client.seen pass.old.id pass.old.view.client.seen
+        × Turns pass.old.id pass.old.view pass.new.view key height result }
+{
+    let near = open_near(nodes, name, height, key, pass)?;
+    match near.found {
+        None => behind::<A>(near.here, name, height, key, pass),
+        Some((byte, word)) => beside::<A>(nodes, near.here, name, height, key, byte, word, pass),
+    }
+}
