@@ -1,0 +1,96 @@
+/* Recorded histories of a map that threads share, and a search for one order of the calls that explains each answer.
+ *
+ * Each thread writes down the calls that it made: start, end, arguments and answer. The clock is one counter that all
+ * threads raise by atomic additions. So a call whose end has a smaller number than the start of another one had ended before
+ * that one began.
+ *
+ * A history is explained where each call has a moment between its start and its end (its linearization point), such that the
+ * calls in the order of these moments have the answers of a map with one owner. Calls of one key and of several are told of
+ * two ways:
+ *
+ *   - explain: of few keys, the map as a whole. Where ranges, ends and counts of a map aren't of one moment, each
+ *     has one moment for all keys that share a leaf, in the order in which it reads
+ *   - explain_by_key: of many keys, each key by itself (Herlihy and Wing, Linearizability, 1990: objects are linearizable
+ *     together where each one is). A range is a look-up of each key that it passed. No count, pop or clear is taken
+ *
+ * The search goes through starts and ends by their numbers, and keeps each pair of a content and the calls that are made in
+ * it already (Wing and Gong, Testing and Verifying Concurrent Objects, 1993). A call is put in order as late as a call's end
+ * demands it, and no pair is kept twice (Lowe, Testing for Linearizability, 2017). Horn and Kroening (Faster Linearizability
+ * Checking via P-Compositionality, 2015) search key by key. */
+#ifndef HISTORIES_H
+#define HISTORIES_H
+
+#include <stdbool.h>
+#include <stddef.h>
+#include <stdint.h>
+#include <stdio.h>
+
+enum { MOST_KEYS = 64, MOST_WHOLE = 8, MOST_THREADS = 8 };
+
+/* REFUSED is a call that would insert, and found no memory: its key was absent. FIND and FIND_DOWN are ranges and ends. */
+enum kind {
+    GET,
+    INSERT,
+    REMOVE,
+    EXCHANGE,
+    COMPARE_REMOVE,
+    ADD,
+    GET_OR_INSERT,
+    REFUSED,
+    FIND,
+    FIND_DOWN,
+    COUNT,
+    IS_FILLED,
+    POP,
+    CLEAR
+};
+
+/* Keys go by their numbers, in ascending order of keys. Sets of keys have a bit for each. */
+struct call {
+    uint64_t start, end;
+    enum kind kind;
+    int code;
+    uint64_t key, argument, expected, answer;
+    uint64_t passed, found; /* of FIND, FIND_DOWN and POP: which keys it passed, and which of them it found */
+    const uint64_t *values; /* what was found at these, in ascending order of keys */
+};
+
+/* What a thread writes down. */
+struct record {
+    struct call *calls;
+    uint64_t *values;
+    size_t count, valued, most, most_values;
+};
+
+struct content {
+    uint64_t value[MOST_KEYS]; /* 0 where the key is absent */
+    uint64_t present;
+};
+
+struct history {
+    struct record records[MOST_THREADS];
+    size_t threads, keys;
+    uint64_t leaf[MOST_KEYS]; /* of each key, which leaf it is in */
+    bool is_of_one_moment;    /* each range, end and count is */
+    struct content first;     /* what was there before all calls */
+};
+
+/* The next number of the clock. */
+uint64_t clock_now(void);
+
+/* Whether there is memory for so many calls and values that ranges found. */
+bool make_record(struct record *record, size_t calls, size_t values);
+void free_record(struct record *record);
+
+/* UNDECIDED is a search that was given up, as it found too much to go through. */
+enum verdict { EXPLAINED, UNEXPLAINED, UNDECIDED };
+
+/* Whether an order explains all calls. If none does, prints the calls that lead to the first end that isn't explained. */
+enum verdict explain(const struct history *history, FILE *out);
+enum verdict explain_by_key(const struct history *history, FILE *out);
+
+/* Prints the calls of all threads in the order of their starts, the last so many of those that began up to a number of the
+ * clock. */
+void print_calls(const struct history *history, uint64_t until, size_t most, FILE *out);
+
+#endif
