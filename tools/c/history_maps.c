@@ -248,6 +248,7 @@ static void call_key(struct caller *caller, enum kind kind, uint64_t key, bool w
         return;
     if (call.code == CONGEE_OOM) {
         call.kind = REFUSED;
+        caller->refused++;
         if (kind != INSERT && kind != ADD && kind != GET_OR_INSERT)
             caller->wrong = "a call that needs no memory is refused for it";
     } else if (call.code < 0 || call.code > (kind == EXCHANGE || kind == COMPARE_REMOVE ? 2 : 1)) {
@@ -444,11 +445,17 @@ static void call_pop(struct caller *caller, uint64_t which, bool waits) {
     write_down(caller, call);
 }
 
+/* One of the keys at which this caller makes calls of one key. */
+static uint64_t some_key(struct caller *caller) {
+    uint64_t few = caller->few ? caller->few : caller->set->count;
+    return (caller->from + next_random(&caller->random) % few) % caller->set->count;
+}
+
 void call_at_random(struct caller *caller) {
     uint64_t random = next_random(&caller->random), which = random % 64;
     bool waits = random >> 32 & 1;
     if (which < 48)
-        call_key(caller, which / 4 % 7, (random >> 8) % caller->set->count, waits);
+        call_key(caller, which / 4 % 7, some_key(caller), waits);
     else if (which < 54)
         call_range(caller, which % 3, waits);
     else if (which < 60 || !is_small(caller->set))
@@ -460,7 +467,7 @@ void call_at_random(struct caller *caller) {
     else if (caller->kind->clear && caller->set->stays == 0)
         call_pop(caller, (random >> 8) % 3, waits);
     else
-        call_key(caller, GET, (random >> 8) % caller->set->count, waits);
+        call_key(caller, GET, some_key(caller), waits);
 }
 
 void look_up_all(struct caller *caller) {

@@ -38,7 +38,7 @@ struct shared {
 struct stand_in {
     struct shared *shared;
     struct congee_pair seen;
-    uint64_t counted, calls;
+    uint64_t counted;
 };
 
 static void hold(const struct stand_in *map) {
@@ -49,9 +49,10 @@ static void give_back(const struct stand_in *map) {
     pthread_mutex_unlock(&map->shared->lock);
 }
 
-/* Whether this call has the fault: each fourth call of a handle. */
-static bool has(const struct stand_in *map, enum fault fault) {
-    return stand_in_fault == fault && ++((struct stand_in *)map)->calls % 4 == 0;
+/* Whether this call has the fault: each fourth of those that may have it. */
+static bool has(enum fault fault) {
+    static _Atomic uint64_t calls;
+    return stand_in_fault == fault && calls++ % 4 == 0;
 }
 
 /* Lets others come in. */
@@ -139,7 +140,7 @@ static int look(const struct stand_in *map, uint64_t key, uint64_t *value) {
 }
 
 int stand_in_try_get(const struct stand_in *map, uint64_t key, uint64_t *value) {
-    if (map->seen.value != 0 && map->seen.key == key && has(map, STALE_LOOK_UP)) {
+    if (map->seen.value != 0 && map->seen.key == key && has(STALE_LOOK_UP)) {
         *value = map->seen.value;
         return 1;
     }
@@ -154,24 +155,24 @@ int stand_in_try_insert(struct stand_in *map, uint64_t key, uint64_t value, uint
     map->counted = map->shared->pairs.count;
     struct pairs before = map->shared->pairs;
     int code = look(map, key, old);
-    if (code == 1 && has(map, REFUSED_BUT_PRESENT)) {
+    if (code == 1 && has(REFUSED_BUT_PRESENT)) {
         give_back(map);
         return CONGEE_OOM;
     }
-    if (has(map, LOST_INSERTION)) {
+    if (has(LOST_INSERTION)) {
         let_in(map);
         map->shared->pairs = before;
     }
     put(&map->shared->pairs, key, value);
     give_back(map);
-    return has(map, BUSY_BUT_MADE) ? CONGEE_BUSY : code;
+    return has(BUSY_BUT_MADE) ? CONGEE_BUSY : code;
 }
 
 int stand_in_try_remove(struct stand_in *map, uint64_t key, uint64_t *old) {
     hold(map);
     map->counted = map->shared->pairs.count;
     int code = look(map, key, old);
-    if (has(map, REMOVAL_IN_TWO))
+    if (has(REMOVAL_IN_TWO))
         let_in(map);
     take(&map->shared->pairs, key);
     give_back(map);
@@ -183,7 +184,7 @@ static int compare(struct stand_in *map, uint64_t key, uint64_t expected, const 
     hold(map);
     int code = look(map, key, found);
     code = code == 1 && *found != expected ? 2 : code;
-    if (has(map, EXCHANGE_IN_TWO))
+    if (has(EXCHANGE_IN_TWO))
         let_in(map);
     if (code == 1 && desired)
         put(&map->shared->pairs, key, *desired);
@@ -204,7 +205,7 @@ int stand_in_try_compare_remove(struct stand_in *map, uint64_t key, uint64_t exp
 int stand_in_try_add(struct stand_in *map, uint64_t key, uint64_t number, uint64_t *old) {
     hold(map);
     int code = look(map, key, old);
-    if (has(map, ADDITION_IN_TWO))
+    if (has(ADDITION_IN_TWO))
         let_in(map);
     put(&map->shared->pairs, key, code == 1 ? *old + number : number);
     give_back(map);
@@ -214,7 +215,7 @@ int stand_in_try_add(struct stand_in *map, uint64_t key, uint64_t number, uint64
 int stand_in_try_get_or_insert(struct stand_in *map, uint64_t key, uint64_t value, uint64_t *found) {
     hold(map);
     int code = look(map, key, found);
-    if (has(map, INSERTION_IN_TWO))
+    if (has(INSERTION_IN_TWO))
         let_in(map);
     if (code == 0)
         put(&map->shared->pairs, key, value);
@@ -224,7 +225,7 @@ int stand_in_try_get_or_insert(struct stand_in *map, uint64_t key, uint64_t valu
 
 int stand_in_try_range_inclusive(const struct stand_in *map, uint64_t start, uint64_t last, struct congee_pair *buffer,
                                  size_t n, size_t *written) {
-    bool is_torn = has(map, TORN_LEAF), skips = has(map, SKIPPED_PAIR);
+    bool is_torn = has(TORN_LEAF), skips = has(SKIPPED_PAIR);
     *written = 0;
     hold(map);
     const struct pairs *pairs = &map->shared->pairs;
@@ -267,7 +268,7 @@ int stand_in_try_ceiling(const struct stand_in *map, uint64_t key, struct congee
     hold(map);
     const struct pairs *pairs = &map->shared->pairs;
     size_t at = place_of(pairs, key);
-    if (at + 1 < pairs->count && has(map, NEIGHBOUR_TOO_FAR))
+    if (at + 1 < pairs->count && has(NEIGHBOUR_TOO_FAR))
         at++;
     bool is_there = at < pairs->count;
     if (is_there)
@@ -301,7 +302,7 @@ static int pop(struct stand_in *map, bool is_first, struct congee_pair *pair) {
     bool is_there = pairs->count > 0;
     if (is_there) {
         *pair = pairs->all[is_first ? 0 : pairs->count - 1];
-        if (has(map, POPPED_TWICE))
+        if (has(POPPED_TWICE))
             let_in(map);
         take(pairs, pair->key);
     }
@@ -320,9 +321,12 @@ int stand_in_try_pop_last(struct stand_in *map, struct congee_pair *pair) {
 int stand_in_try_clear(struct stand_in *map) {
     hold(map);
     struct pairs *pairs = &map->shared->pairs;
-    if (pairs->count > 0 && has(map, KEPT_AFTER_CLEAR))
+    if (pairs->count > 0 && has(KEPT_AFTER_CLEAR)) {
         pairs->all[0] = pairs->all[pairs->count - 1];
-    pairs->count = pairs->count > 0 && stand_in_fault == KEPT_AFTER_CLEAR && map->calls % 4 == 0;
+        pairs->count = 1;
+    } else {
+        pairs->count = 0;
+    }
     give_back(map);
     return 0;
 }
@@ -336,7 +340,7 @@ int stand_in_try_is_empty(const struct stand_in *map) {
 
 int stand_in_try_count(const struct stand_in *map, uint64_t *count) {
     hold(map);
-    *count = has(map, COUNT_OF_BEFORE) ? map->counted : map->shared->pairs.count;
+    *count = has(COUNT_OF_BEFORE) ? map->counted : map->shared->pairs.count;
     give_back(map);
     return 0;
 }
