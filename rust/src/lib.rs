@@ -42,6 +42,12 @@
 //! are constant. Iterators read pages of pairs: 4, then 16, and then 64 at a time. Where `BTreeMap` takes a key by
 //! reference, a call takes `7` and `&7`.
 //!
+//! # Keys and values of other types
+//!
+//! [`keyed::OrdMap`] has keys and values of any type that is written as a number which keeps the order: `i32`, `char`, pairs
+//! of small numbers, and types of one's own. So have [`keyed::OrdSharedMap`] and [`keyed::OrdLiveMap`]. A cast won't do:
+//! `-1i64 as u64` comes behind all others.
+//!
 //! # Threads
 //!
 //! Threads share a [`SharedMap`], each by a [`Guard`] of its own, under one lock of the library. Or a [`LiveMap`], each by a
@@ -94,6 +100,7 @@
 #![warn(missing_docs, missing_debug_implementations)]
 
 mod frozen;
+pub mod keyed;
 mod live;
 mod map;
 mod pages;

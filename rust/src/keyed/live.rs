@@ -1,0 +1,213 @@
+//! The typed map that threads read without a lock.
+
+use super::{bounds, pair, LiveRange, Word};
+use crate::{LiveGuard, LiveMap, OutOfMemory};
+use std::fmt;
+use std::marker::PhantomData;
+use std::ops::RangeBounds;
+
+/// A map from `K` to `V` that threads share, each by an [`OrdLiveGuard`] of its own, over a [`LiveMap`] of their numbers.
+///
+/// ```
+/// use proved_congee::keyed::OrdLiveMap;
+/// use std::thread;
+///
+/// # fn main() -> Result<(), proved_congee::OutOfMemory> {
+/// let squares = OrdLiveMap::<i32, u32>::new()?;
+/// thread::scope(|scope| {
+///     for first in [-100, 0] {
+///         let squares = squares.pin()?;
+///         scope.spawn(move || {
+///             for number in first..first + 100 {
+///                 squares.insert(number, number.unsigned_abs().pow(2)).unwrap();
+///             }
+///         });
+///     }
+///     Ok::<(), proved_congee::OutOfMemory>(())
+/// })?;
+/// let squares = squares.pin()?;
+/// assert_eq!((squares.len(), squares.first()), (200, Some((-100, 10_000))));
+/// assert!(squares.range(-2..=1).eq([(-2, 4), (-1, 1), (0, 0), (1, 1)]));
+/// # Ok(())
+/// # }
+/// ```
+pub struct OrdLiveMap<K, V> {
+    map: LiveMap,
+    _types: PhantomData<fn() -> (K, V)>,
+}
+
+impl<K: Word, V: Word> OrdLiveMap<K, V> {
+    /// An empty map. Fails where there is no memory.
+    pub fn new() -> Result<Self, OutOfMemory> {
+        Ok(LiveMap::new()?.into())
+    }
+
+    /// An empty map whose nodes may take so many bytes, as [`LiveMap::with_limit`] counts them.
+    pub fn with_limit(bytes: u64) -> Result<Self, OutOfMemory> {
+        Ok(LiveMap::with_limit(bytes)?.into())
+    }
+
+    /// A guard, by which one thread at a time calls the map. See [`LiveMap::pin`].
+    pub fn pin(&self) -> Result<OrdLiveGuard<K, V>, OutOfMemory> {
+        Ok(self.map.pin()?.into())
+    }
+
+    /// The map of the numbers.
+    pub fn as_map(&self) -> &LiveMap {
+        &self.map
+    }
+}
+
+impl<K, V> From<LiveMap> for OrdLiveMap<K, V> {
+    fn from(map: LiveMap) -> Self {
+        OrdLiveMap {
+            map,
+            _types: PhantomData,
+        }
+    }
+}
+
+impl<K, V> fmt::Debug for OrdLiveMap<K, V> {
+    fn fmt(&self, f: &mut fmt::Formatter<'_>) -> fmt::Result {
+        f.debug_struct("OrdLiveMap").finish_non_exhaustive()
+    }
+}
+
+/// One caller of an [`OrdLiveMap`]: a thread's at a time. Its calls wait as those of a [`LiveGuard`] do. For forms
+/// that don't wait take [`as_guard`](OrdLiveGuard::as_guard).
+pub struct OrdLiveGuard<K, V> {
+    guard: LiveGuard,
+    _types: PhantomData<fn() -> (K, V)>,
+}
+
+impl<K: Word, V: Word> OrdLiveGuard<K, V> {
+    /// One more guard of the same map, which has seen what this one had.
+    pub fn try_clone(&self) -> Result<Self, OutOfMemory> {
+        Ok(self.guard.try_clone()?.into())
+    }
+
+    /// The value at the key.
+    #[inline]
+    pub fn get(&self, key: K) -> Option<V> {
+        self.guard.get(key.into_u64()).map(V::from_u64)
+    }
+
+    /// Whether the key is there.
+    pub fn contains_key(&self, key: K) -> bool {
+        self.guard.contains_key(key.into_u64())
+    }
+
+    /// Sets the key's value, and returns the previous one. Refused where there is no memory.
+    #[inline]
+    pub fn insert(&self, key: K, value: V) -> Result<Option<V>, OutOfMemory> {
+        let before = self.guard.insert(key.into_u64(), value.into_u64())?;
+        Ok(before.map(V::from_u64))
+    }
+
+    /// Gives the key the value if it is absent, and returns the value that it has then. Refused where there is no memory.
+    pub fn get_or_insert(&self, key: K, value: V) -> Result<V, OutOfMemory> {
+        let it = self.guard.get_or_insert(key.into_u64(), value.into_u64())?;
+        Ok(V::from_u64(it))
+    }
+
+    /// Removes the key, and returns the value that it had.
+    #[inline]
+    pub fn remove(&self, key: K) -> Option<V> {
+        self.guard.remove(key.into_u64()).map(V::from_u64)
+    }
+
+    /// Replaces the key's value by `desired` if it is `expected`. Otherwise changes nothing, and returns as an error the
+    /// current value, or `None` if the key is absent.
+    pub fn compare_exchange(&self, key: K, expected: V, desired: V) -> Result<(), Option<V>> {
+        self.guard
+            .compare_exchange(key.into_u64(), expected.into_u64(), desired.into_u64())
+            .map_err(|found| found.map(V::from_u64))
+    }
+
+    /// Removes the key if its value is `expected`. Otherwise changes nothing, and returns as an error the current value, or
+    /// `None` if the key is absent.
+    pub fn compare_remove(&self, key: K, expected: V) -> Result<(), Option<V>> {
+        self.guard
+            .compare_remove(key.into_u64(), expected.into_u64())
+            .map_err(|found| found.map(V::from_u64))
+    }
+
+    /// The least key and its value.
+    pub fn first(&self) -> Option<(K, V)> {
+        self.guard.first().map(pair)
+    }
+
+    /// The greatest key and its value.
+    pub fn last(&self) -> Option<(K, V)> {
+        self.guard.last().map(pair)
+    }
+
+    /// The greatest key up to this one, and its value.
+    pub fn floor(&self, key: K) -> Option<(K, V)> {
+        self.guard.floor(key.into_u64()).map(pair)
+    }
+
+    /// The least key from this one on, and its value.
+    pub fn ceiling(&self, key: K) -> Option<(K, V)> {
+        self.guard.ceiling(key.into_u64()).map(pair)
+    }
+
+    /// The greatest key below this one, and its value.
+    pub fn below(&self, key: K) -> Option<(K, V)> {
+        self.guard.below(key.into_u64()).map(pair)
+    }
+
+    /// The least key above this one, and its value.
+    pub fn above(&self, key: K) -> Option<(K, V)> {
+        self.guard.above(key.into_u64()).map(pair)
+    }
+
+    /// How many pairs there are.
+    pub fn len(&self) -> usize {
+        self.guard.len()
+    }
+
+    /// Whether there is no pair.
+    pub fn is_empty(&self) -> bool {
+        self.guard.is_empty()
+    }
+
+    /// The pairs of a range, keys ascending. Each key has its value at a moment of the page that it is read by.
+    pub fn range(&self, of: impl RangeBounds<K>) -> LiveRange<'_, K, V> {
+        LiveRange::of(self.guard.range(bounds(of)))
+    }
+
+    /// All pairs, keys ascending. Each key has its value at a moment of the page that it is read by.
+    pub fn iter(&self) -> LiveRange<'_, K, V> {
+        self.range(..)
+    }
+
+    /// The guard of the numbers.
+    pub fn as_guard(&self) -> &LiveGuard {
+        &self.guard
+    }
+}
+
+impl<K, V> From<LiveGuard> for OrdLiveGuard<K, V> {
+    fn from(guard: LiveGuard) -> Self {
+        OrdLiveGuard {
+            guard,
+            _types: PhantomData,
+        }
+    }
+}
+
+impl<'a, K: Word, V: Word> IntoIterator for &'a OrdLiveGuard<K, V> {
+    type Item = (K, V);
+    type IntoIter = LiveRange<'a, K, V>;
+
+    fn into_iter(self) -> LiveRange<'a, K, V> {
+        self.iter()
+    }
+}
+
+impl<K: Word + fmt::Debug, V: Word + fmt::Debug> fmt::Debug for OrdLiveGuard<K, V> {
+    fn fmt(&self, f: &mut fmt::Formatter<'_>) -> fmt::Result {
+        f.debug_map().entries(self).finish()
+    }
+}
