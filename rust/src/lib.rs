@@ -105,7 +105,10 @@ mod live;
 mod map;
 mod pages;
 mod shared;
-mod sys;
+
+pub use proved_congee_sys::Pair;
+// (its declarations, for the modules)
+use proved_congee_sys as sys;
 
 pub use frozen::{Frozen, Readers};
 pub use live::{LiveGuard, LiveMap};
@@ -119,28 +122,6 @@ use std::fmt;
 #[cfg(doctest)]
 #[doc = include_str!("../README.md")]
 struct Readme;
-
-/// A key and its value.
-#[repr(C)]
-#[derive(Clone, Copy, Debug, Default, PartialEq, Eq, PartialOrd, Ord, Hash)]
-pub struct Pair {
-    /// The key.
-    pub key: u64,
-    /// Its value.
-    pub value: u64,
-}
-
-impl From<(u64, u64)> for Pair {
-    fn from((key, value): (u64, u64)) -> Pair {
-        Pair { key, value }
-    }
-}
-
-impl From<Pair> for (u64, u64) {
-    fn from(pair: Pair) -> (u64, u64) {
-        (pair.key, pair.value)
-    }
-}
 
 /// There is no memory, or the map's limit is reached. The call has changed nothing.
 #[derive(Clone, Copy, Debug, PartialEq, Eq)]
