@@ -1,0 +1,539 @@
+/* congee.hpp: the maps of congee.h as C++ classes, C++17. MIT license.
+ *
+ *   congee_cpp::map         a map that one thread has. It has the calls of std::map<std::uint64_t, std::uint64_t>, but
+ *                           returns values and lends none
+ *   congee_cpp::live_map    a map that threads share, whose look-ups take no lock: an object for each thread
+ *   congee_cpp::shared_map  a map that threads share under a lock, or in 64 shards: an object for each thread
+ *
+ * The rules of congee.h hold. Here they are: an object is in one call at a time, calls that read included. So no two threads
+ * may call one const map either. An object goes to another thread by a lock, or by the thread's start or join.
+ *
+ * Where there is no memory, or the limit is reached, a call throws std::bad_alloc, and nothing has changed. A call whose
+ * name begins with try_ returns CONGEE_OOM in its place, and is noexcept. Without exceptions (-fno-exceptions) the others
+ * end the program by std::abort. */
+#ifndef CONGEE_HPP
+#define CONGEE_HPP
+
+#include "congee.h"
+#include "congee_live.h"
+#include "congee_shared.h"
+
+#include <cstddef>
+#include <cstdint>
+#include <cstdlib>
+#include <initializer_list>
+#include <iterator>
+#include <new>
+#include <optional>
+#include <stdexcept>
+#include <utility>
+
+namespace congee_cpp {
+
+using pair = std::pair<std::uint64_t, std::uint64_t>;
+
+namespace inner {
+
+/* Whether a call's code isn't a refusal: the code, or std::bad_alloc. */
+inline int made(int code) {
+    if (code == CONGEE_OOM) {
+#ifdef __cpp_exceptions
+        throw std::bad_alloc();
+#else
+        std::abort();
+#endif
+    }
+    return code;
+}
+
+[[noreturn]] inline void no_key() {
+#ifdef __cpp_exceptions
+    throw std::out_of_range("congee_cpp: there is no such key");
+#else
+    std::abort();
+#endif
+}
+
+inline std::optional<pair> pair_if(int code, const congee_pair &at) {
+    return code ? std::optional<pair>(std::in_place, at.key, at.value) : std::nullopt;
+}
+
+/* How many pairs are read at once. */
+constexpr std::size_t page = 64;
+
+/* Calls the function with all pairs from first to last, which `read` reads by pages. */
+template <class R, class F> void each(std::uint64_t first, std::uint64_t last, R read, F f) {
+    congee_pair pairs[page] = {};
+    for (std::size_t n; (n = read(first, last, pairs, page)) > 0; first = pairs[n - 1].key + 1) {
+        for (std::size_t i = 0; i < n; i++)
+            f(pairs[i].key, pairs[i].value);
+        if (n < page || pairs[n - 1].key >= last)
+            return;
+    }
+}
+
+} // namespace inner
+
+/* An ordered map from std::uint64_t to std::uint64_t. It can be moved, and copied by copy(), which may throw. A map that was
+ * moved from is empty, and can be used again. */
+class map {
+public:
+    using key_type = std::uint64_t;
+    using mapped_type = std::uint64_t;
+    using value_type = pair;
+    using size_type = std::uint64_t;
+
+    map() { inner::made(congee_new(&map_)); }
+    /* A map whose nodes may take so many bytes (congee_new_with_limit). */
+    static map with_limit(std::uint64_t bytes) {
+        map made(nullptr);
+        inner::made(congee_new_with_limit(&made.map_, bytes));
+        return made;
+    }
+    map(std::initializer_list<pair> pairs) : map(pairs.begin(), pairs.end()) {}
+    template <class I, class = typename std::iterator_traits<I>::iterator_category> map(I first, I last) : map() {
+        insert(first, last);
+    }
+    ~map() { congee_free(map_); }
+    map(map &&other) noexcept : map_(std::exchange(other.map_, nullptr)) {}
+    map &operator=(map &&other) noexcept {
+        map taken(std::move(other));
+        swap(taken);
+        return *this;
+    }
+    map(const map &) = delete;
+    map &operator=(const map &) = delete;
+    /* A map, or none where there is no memory. */
+    static std::optional<map> try_new(std::uint64_t limit = UINT64_MAX) noexcept {
+        map made(nullptr);
+        if (congee_new_with_limit(&made.map_, limit) == CONGEE_OOM)
+            return std::nullopt;
+        return made;
+    }
+    /* One more map of the same pairs, with the same limit. */
+    map copy() const {
+        map other = map_ ? with_limit(congee_limit(map_)) : map();
+        each([&other](std::uint64_t key, std::uint64_t value) { other.insert_or_assign(key, value); });
+        return other;
+    }
+    void swap(map &other) noexcept { std::swap(map_, other.map_); }
+    friend void swap(map &a, map &b) noexcept { a.swap(b); }
+
+    /* A pair of the map, read as the iterator comes to it, or its end. It goes on from its key, whether that is still there
+     * or not. So no change of the map leaves it dangling. It ends with the map. */
+    class const_iterator {
+    public:
+        /* (it returns values, so it is an input iterator to C++17, and bidirectional to C++20) */
+        using iterator_category = std::input_iterator_tag;
+        using iterator_concept = std::bidirectional_iterator_tag;
+        using value_type = pair;
+        using difference_type = std::ptrdiff_t;
+        using reference = pair;
+        /* What `it->first` reads. */
+        class pointer {
+        public:
+            const pair *operator->() const { return &at_; }
+
+        private:
+            friend class const_iterator;
+            explicit pointer(const pair &at) : at_(at) {}
+            pair at_;
+        };
+
+        const_iterator() = default;
+        reference operator*() const { return {at_.key, at_.value}; }
+        pointer operator->() const { return pointer(**this); }
+        const_iterator &operator++() {
+            there_ = congee_above(map_, at_.key, &at_) != 0;
+            return *this;
+        }
+        const_iterator operator++(int) {
+            const_iterator before = *this;
+            ++*this;
+            return before;
+        }
+        const_iterator &operator--() {
+            there_ = (there_ ? congee_below(map_, at_.key, &at_) : congee_last(map_, &at_)) != 0;
+            return *this;
+        }
+        const_iterator operator--(int) {
+            const_iterator before = *this;
+            --*this;
+            return before;
+        }
+        friend bool operator==(const const_iterator &a, const const_iterator &b) {
+            return a.there_ == b.there_ && (!a.there_ || a.at_.key == b.at_.key);
+        }
+        friend bool operator!=(const const_iterator &a, const const_iterator &b) { return !(a == b); }
+
+    private:
+        friend class map;
+        const congee *map_ = nullptr;
+        congee_pair at_ = {0, 0};
+        bool there_ = false;
+    };
+    using iterator = const_iterator;
+
+    const_iterator begin() const {
+        return found([](const congee *of, congee_pair *at) { return congee_first(of, at); });
+    }
+    const_iterator end() const {
+        return found([](const congee *, congee_pair *) { return 0; });
+    }
+    const_iterator cbegin() const { return begin(); }
+    const_iterator cend() const { return end(); }
+    const_iterator lower_bound(std::uint64_t key) const {
+        return found([key](const congee *of, congee_pair *at) { return congee_ceiling(of, key, at); });
+    }
+    const_iterator upper_bound(std::uint64_t key) const {
+        return found([key](const congee *of, congee_pair *at) { return congee_above(of, key, at); });
+    }
+    std::pair<const_iterator, const_iterator> equal_range(std::uint64_t key) const {
+        return {lower_bound(key), upper_bound(key)};
+    }
+    const_iterator find(std::uint64_t key) const {
+        return found([key](const congee *of, congee_pair *at) { return congee_get(of, at->key = key, &at->value); });
+    }
+    /* The greatest key up to this one, or end(). */
+    const_iterator floor(std::uint64_t key) const {
+        return found([key](const congee *of, congee_pair *at) { return congee_floor(of, key, at); });
+    }
+
+    bool empty() const { return !map_ || congee_is_empty(map_); }
+    size_type size() const { return map_ ? congee_count(map_) : 0; }
+    bool contains(std::uint64_t key) const { return map_ && congee_get(map_, key, nullptr); }
+    size_type count(std::uint64_t key) const { return contains(key); }
+    std::optional<std::uint64_t> get(std::uint64_t key) const {
+        std::uint64_t value = 0;
+        return map_ && congee_get(map_, key, &value) ? std::optional<std::uint64_t>(value) : std::nullopt;
+    }
+    /* The key's value, or std::out_of_range. */
+    std::uint64_t at(std::uint64_t key) const {
+        std::optional<std::uint64_t> value = get(key);
+        if (!value)
+            inner::no_key();
+        return *value;
+    }
+    /* Calls the function with the key and the value of all pairs, or of those from first to last, keys ascending. Reads 64
+     * pairs at once, so it is faster than iterators, and the function doesn't see what it changes of these. */
+    template <class F> void each(std::uint64_t first, std::uint64_t last, F f) const {
+        const congee *of = map_;
+        if (of && first <= last)
+            inner::each(
+                first, last,
+                [of](std::uint64_t low, std::uint64_t high, congee_pair *pairs, std::size_t n) {
+                    return congee_range_inclusive(of, low, high, pairs, n);
+                },
+                f);
+    }
+    template <class F> void each(F f) const { each(0, UINT64_MAX, f); }
+
+    /* Sets the key's value. Returns its place, and whether the key is new. */
+    std::pair<const_iterator, bool> insert_or_assign(std::uint64_t key, std::uint64_t value) {
+        bool is_new = inner::made(congee_insert(native(), key, value, nullptr)) == 0;
+        return {at_pair(key, value), is_new};
+    }
+    /* The code of congee_insert, which may be CONGEE_OOM, and at `old` the value before, if there was one. */
+    int try_insert_or_assign(std::uint64_t key, std::uint64_t value, std::uint64_t *old = nullptr) noexcept {
+        return map_ || congee_new(&map_) != CONGEE_OOM ? congee_insert(map_, key, value, old) : CONGEE_OOM;
+    }
+    /* Gives the key the value if it is absent. Returns its place, and whether the key is new. */
+    std::pair<const_iterator, bool> try_emplace(std::uint64_t key, std::uint64_t value) {
+        std::uint64_t current = value;
+        bool is_new = inner::made(congee_get_or_insert(native(), key, value, &current)) == 0;
+        return {at_pair(key, current), is_new};
+    }
+    std::pair<const_iterator, bool> emplace(std::uint64_t key, std::uint64_t value) { return try_emplace(key, value); }
+    std::pair<const_iterator, bool> insert(const pair &it) { return try_emplace(it.first, it.second); }
+    template <class I, class = typename std::iterator_traits<I>::iterator_category> void insert(I first, I last) {
+        for (; first != last; ++first)
+            insert(pair(*first));
+    }
+    void insert(std::initializer_list<pair> pairs) { insert(pairs.begin(), pairs.end()); }
+    size_type erase(std::uint64_t key) { return map_ && congee_remove(map_, key, nullptr) ? 1 : 0; }
+    const_iterator erase(const const_iterator &it) {
+        if (!it.there_)
+            return end();
+        erase(it.at_.key);
+        return upper_bound(it.at_.key);
+    }
+    /* Erases the keys from the first place on and below the last, and returns that. */
+    const_iterator erase(const const_iterator &first, const const_iterator &last) {
+        if (first.there_ && !(last.there_ && last.at_.key <= first.at_.key))
+            congee_remove_range_inclusive(map_, first.at_.key, last.there_ ? last.at_.key - 1 : UINT64_MAX);
+        return last;
+    }
+    /* Takes the least or the greatest key out. */
+    std::optional<pair> pop_first() {
+        congee_pair at = {0, 0};
+        return inner::pair_if(map_ ? congee_pop_first(map_, &at) : 0, at);
+    }
+    std::optional<pair> pop_last() {
+        congee_pair at = {0, 0};
+        return inner::pair_if(map_ ? congee_pop_last(map_, &at) : 0, at);
+    }
+    /* As of std::atomic: false where the value isn't `expected`, which is then set to the current one. For an absent key
+     * false, and `expected` stays. */
+    bool compare_exchange(std::uint64_t key, std::uint64_t &expected, std::uint64_t desired) {
+        return map_ && congee_compare_exchange(map_, key, expected, desired, &expected) == 1;
+    }
+    void clear() {
+        if (map_)
+            congee_clear(map_);
+    }
+
+    /* The place of a key's value. `m[k]` reads it, or 0, and inserts nothing. `m[k] = v`, `m[k] += n` and `m[k] -= n` are one
+     * call each. */
+    class place {
+    public:
+        operator std::uint64_t() const { return map_->get(key_).value_or(0); }
+        place &operator=(std::uint64_t value) {
+            map_->insert_or_assign(key_, value);
+            return *this;
+        }
+        place &operator=(const place &other) { return *this = static_cast<std::uint64_t>(other); }
+        place(const place &) = default;
+        place &operator+=(std::uint64_t n) {
+            inner::made(congee_add(map_->native(), key_, n, nullptr));
+            return *this;
+        }
+        place &operator-=(std::uint64_t n) { return *this += 0 - n; }
+        place &operator++() { return *this += 1; }
+        place &operator--() { return *this -= 1; }
+
+    private:
+        friend class map;
+        place(map *of, std::uint64_t key) : map_(of), key_(key) {}
+        map *map_;
+        std::uint64_t key_;
+    };
+    place operator[](std::uint64_t key) { return place(this, key); }
+
+    friend bool operator==(const map &a, const map &b) {
+        if (a.size() != b.size())
+            return false;
+        bool same = true;
+        a.each([&](std::uint64_t key, std::uint64_t value) { same = same && b.get(key) == value; });
+        return same;
+    }
+    friend bool operator!=(const map &a, const map &b) { return !(a == b); }
+
+    /* For the calls of congee.h that have no other name here. */
+    congee *native() {
+        if (!map_)
+            inner::made(congee_new(&map_));
+        return map_;
+    }
+    const congee *native() const { return map_; }
+
+private:
+    explicit map(std::nullptr_t) noexcept {}
+
+    template <class F> const_iterator found(F f) const {
+        const_iterator it;
+        it.map_ = map_;
+        it.there_ = map_ && f(map_, &it.at_);
+        return it;
+    }
+    const_iterator at_pair(std::uint64_t key, std::uint64_t value) const {
+        const_iterator it;
+        it.map_ = map_;
+        it.at_ = {key, value};
+        it.there_ = true;
+        return it;
+    }
+
+    congee *map_ = nullptr;
+};
+
+namespace inner {
+
+/* The calls of a handle of each kind, by one name. */
+struct live_calls {
+    using native = congee_live;
+    static constexpr auto another = congee_live_another;
+    static constexpr auto free = congee_live_free;
+    static constexpr auto get = congee_live_get;
+    static constexpr auto insert = congee_live_insert;
+    static constexpr auto remove = congee_live_remove;
+    static constexpr auto compare_exchange = congee_live_compare_exchange;
+    static constexpr auto compare_remove = congee_live_compare_remove;
+    static constexpr auto add = congee_live_add;
+    static constexpr auto get_or_insert = congee_live_get_or_insert;
+    static constexpr auto range_inclusive = congee_live_range_inclusive;
+    static constexpr auto first = congee_live_first;
+    static constexpr auto last = congee_live_last;
+    static constexpr auto ceiling = congee_live_ceiling;
+    static constexpr auto above = congee_live_above;
+    static constexpr auto floor = congee_live_floor;
+    static constexpr auto below = congee_live_below;
+    static constexpr auto is_empty = congee_live_is_empty;
+    static constexpr auto count = congee_live_count;
+};
+
+struct shared_calls {
+    using native = congee_shared;
+    static constexpr auto another = congee_shared_another;
+    static constexpr auto free = congee_shared_free;
+    static constexpr auto get = congee_shared_get;
+    static constexpr auto insert = congee_shared_insert;
+    static constexpr auto remove = congee_shared_remove;
+    static constexpr auto compare_exchange = congee_shared_compare_exchange;
+    static constexpr auto compare_remove = congee_shared_compare_remove;
+    static constexpr auto add = congee_shared_add;
+    static constexpr auto get_or_insert = congee_shared_get_or_insert;
+    static constexpr auto range_inclusive = congee_shared_range_inclusive;
+    static constexpr auto first = congee_shared_first;
+    static constexpr auto last = congee_shared_last;
+    static constexpr auto ceiling = congee_shared_ceiling;
+    static constexpr auto above = congee_shared_above;
+    static constexpr auto floor = congee_shared_floor;
+    static constexpr auto below = congee_shared_below;
+    static constexpr auto is_empty = congee_shared_is_empty;
+    static constexpr auto count = congee_shared_count;
+};
+
+/* A handle of a map that threads share: an object for each thread. A copy is one more handle, which has seen what the first
+ * had. Copying is a call of the first, too, so make a thread's copy before the thread starts. Each call waits where it has to. */
+template <class C> class handle {
+public:
+    using key_type = std::uint64_t;
+    using mapped_type = std::uint64_t;
+    using native_type = typename C::native;
+
+    handle(const handle &other) { made(C::another(other.map_, &map_)); }
+    handle(handle &&other) noexcept : map_(std::exchange(other.map_, nullptr)) {}
+    handle &operator=(handle other) noexcept {
+        std::swap(map_, other.map_);
+        return *this;
+    }
+    ~handle() { C::free(map_); }
+
+    std::optional<std::uint64_t> get(std::uint64_t key) {
+        std::uint64_t value = 0;
+        return C::get(map_, key, &value) ? std::optional<std::uint64_t>(value) : std::nullopt;
+    }
+    bool contains(std::uint64_t key) { return C::get(map_, key, nullptr) != 0; }
+    /* Sets the key's value. Returns whether the key is new. */
+    bool insert_or_assign(std::uint64_t key, std::uint64_t value) { return made(C::insert(map_, key, value, nullptr)) == 0; }
+    /* The code of the call in C, which may be CONGEE_OOM, and at `old` the value before, if there was one. */
+    int try_insert_or_assign(std::uint64_t key, std::uint64_t value, std::uint64_t *old = nullptr) noexcept {
+        return C::insert(map_, key, value, old);
+    }
+    /* Gives the key the value if it is absent. Returns the value that it has then, and whether the key is new. */
+    std::pair<std::uint64_t, bool> try_emplace(std::uint64_t key, std::uint64_t value) {
+        std::uint64_t current = value;
+        bool is_new = made(C::get_or_insert(map_, key, value, &current)) == 0;
+        return {current, is_new};
+    }
+    /* Removes the key. Returns whether it was there. */
+    bool erase(std::uint64_t key) { return C::remove(map_, key, nullptr) != 0; }
+    /* Removes the key, and returns the value that it had. */
+    std::optional<std::uint64_t> take(std::uint64_t key) {
+        std::uint64_t value = 0;
+        return C::remove(map_, key, &value) ? std::optional<std::uint64_t>(value) : std::nullopt;
+    }
+    /* Adds to the key's value, or to 0, and returns the value before, or 0. */
+    std::uint64_t fetch_add(std::uint64_t key, std::uint64_t n) {
+        std::uint64_t before = 0;
+        made(C::add(map_, key, n, &before));
+        return before;
+    }
+    /* As of std::atomic: false where the value isn't `expected`, which is then set to the current one. For an absent key
+     * false, and `expected` stays. */
+    bool compare_exchange(std::uint64_t key, std::uint64_t &expected, std::uint64_t desired) {
+        return C::compare_exchange(map_, key, expected, desired, &expected) == 1;
+    }
+    /* Removes the key if its value is `expected`, in other respects as compare_exchange. */
+    bool compare_erase(std::uint64_t key, std::uint64_t &expected) {
+        return C::compare_remove(map_, key, expected, &expected) == 1;
+    }
+
+    /* The ends, and the neighbours of a key: the least key from it on or above it, the greatest up to it or below it. */
+    std::optional<pair> first() {
+        congee_pair at = {0, 0};
+        return pair_if(C::first(map_, &at), at);
+    }
+    std::optional<pair> last() {
+        congee_pair at = {0, 0};
+        return pair_if(C::last(map_, &at), at);
+    }
+    std::optional<pair> ceiling(std::uint64_t key) {
+        congee_pair at = {0, 0};
+        return pair_if(C::ceiling(map_, key, &at), at);
+    }
+    std::optional<pair> above(std::uint64_t key) {
+        congee_pair at = {0, 0};
+        return pair_if(C::above(map_, key, &at), at);
+    }
+    std::optional<pair> floor(std::uint64_t key) {
+        congee_pair at = {0, 0};
+        return pair_if(C::floor(map_, key, &at), at);
+    }
+    std::optional<pair> below(std::uint64_t key) {
+        congee_pair at = {0, 0};
+        return pair_if(C::below(map_, key, &at), at);
+    }
+    /* Calls the function with the key and the value of the pairs from first to last, keys ascending. Reads 64 at once, and
+     * other threads' calls come in between. */
+    template <class F> void each(std::uint64_t first, std::uint64_t last, F f) {
+        native_type *of = map_;
+        if (first <= last)
+            inner::each(
+                first, last,
+                [of](std::uint64_t low, std::uint64_t high, congee_pair *pairs, std::size_t n) {
+                    return C::range_inclusive(of, low, high, pairs, n);
+                },
+                f);
+    }
+    template <class F> void each(F f) { each(0, UINT64_MAX, f); }
+    bool empty() { return C::is_empty(map_); }
+    std::uint64_t size() { return C::count(map_); }
+    /* For the calls in C that have no other name here. */
+    native_type *native() { return map_; }
+
+protected:
+    handle() = default;
+    native_type *map_ = nullptr;
+};
+
+} // namespace inner
+
+/* A map that threads share, whose look-ups take no lock and write nothing that other threads read (congee_live.h). */
+class live_map : public inner::handle<inner::live_calls> {
+public:
+    live_map() { inner::made(congee_live_new(&map_)); }
+    /* A map whose nodes may take so many bytes. */
+    explicit live_map(std::uint64_t limit) {
+        congee_live_handle made = {nullptr};
+        inner::made(congee_c_live_new(limit, &made));
+        map_ = made.guard;
+    }
+};
+
+/* A map that threads share under one lock, or in 64 shards each under its own (congee_shared.h). */
+class shared_map : public inner::handle<inner::shared_calls> {
+public:
+    explicit shared_map(std::uint64_t limit = UINT64_MAX) { inner::made(congee_shared_new(limit, &map_)); }
+    static shared_map sharded(std::uint64_t limit = UINT64_MAX) {
+        shared_map made(nullptr);
+        inner::made(congee_shared_new_sharded(limit, &made.map_));
+        return made;
+    }
+    std::optional<pair> pop_first() {
+        congee_pair at = {0, 0};
+        return inner::pair_if(congee_shared_pop_first(map_, &at), at);
+    }
+    std::optional<pair> pop_last() {
+        congee_pair at = {0, 0};
+        return inner::pair_if(congee_shared_pop_last(map_, &at), at);
+    }
+    void clear() { congee_shared_clear(map_); }
+
+private:
+    explicit shared_map(std::nullptr_t) {}
+};
+
+} // namespace congee_cpp
+
+#endif

@@ -1,0 +1,239 @@
+// congee.hpp beside std::map: the same lines over both have to return the same, by calls at random and by what a user writes.
+// Then handles in threads, what a map is after a move, and refusals.
+//
+//     c++ -std=c++17 -Iinclude tools/c/maps.cpp out/c-library/libcongee.a -pthread -o maps && ./maps
+#include "congee.hpp"
+#include <algorithm>
+#include <cstdio>
+#include <cstdlib>
+#include <map>
+#include <random>
+#include <thread>
+#include <type_traits>
+#include <vector>
+
+using std_map = std::map<std::uint64_t, std::uint64_t>;
+using congee_cpp::live_map;
+using congee_cpp::map;
+using congee_cpp::shared_map;
+
+#define CHECK(is_so)                                                                                                   \
+    do {                                                                                                               \
+        if (!(is_so)) {                                                                                                \
+            std::fprintf(stderr, "%s:%d: %s\n", __FILE__, __LINE__, #is_so);                                           \
+            std::exit(1);                                                                                              \
+        }                                                                                                              \
+    } while (0)
+
+static_assert(std::is_nothrow_move_constructible_v<map> && !std::is_copy_constructible_v<map>);
+static_assert(std::is_nothrow_move_constructible_v<live_map> && std::is_copy_constructible_v<live_map>);
+#if __cplusplus >= 202002L
+static_assert(std::bidirectional_iterator<map::const_iterator> && std::ranges::bidirectional_range<map>);
+#endif
+
+// What a user of std::map writes, as a sum of all that is returned.
+template <class M> static std::uint64_t lines(M &m) {
+    std::uint64_t sum = 0;
+    auto add = [&sum](std::uint64_t n) { sum = sum * 31 + n; };
+    for (std::uint64_t k = 0; k < 100; k += 7)
+        m[k] = k * k;
+    m[7] += 1;
+    ++m[3];
+    m[200] = m[7];
+    add(m.erase(14));
+    add(m.erase(14));
+    add(m.find(14) == m.end());
+    add(m.find(7)->second);
+    add(m.count(3));
+    for (auto it = m.lower_bound(20); it != m.end(); ++it)
+        add((*it).first ^ it->second);
+    for (auto [k, v] : m)
+        add(k + v);
+    for (auto it = m.end(); it != m.begin();)
+        add((--it)->first);
+    auto both = m.equal_range(21);
+    add(both.first->first + both.second->first);
+    add(m.erase(m.find(21))->first);
+    add(m.erase(m.lower_bound(60), m.lower_bound(80))->first);
+    add(m.upper_bound(14)->first + m.size());
+    add(m.insert({7, 1}).second);
+    add(m.insert({8, 1}).second);
+    add(m.emplace(8, 2).first->second);
+    add(m.try_emplace(9, 5).first->second);
+    add(m.insert_or_assign(9, 6).second);
+    m.insert({{1, 2}, {3, 4}, {500, 6}});
+    add(m.at(500));
+    try {
+        m.at(501);
+    } catch (const std::out_of_range &) {
+        add(1);
+    }
+    return sum;
+}
+
+// Calls at random over both.
+static void at_random(map &ours, std_map &theirs, unsigned calls) {
+    std::mt19937_64 dice(7);
+    for (unsigned i = 0; i < calls; i++) {
+        std::uint64_t shift = dice() % 60, k = (dice() % 512) << shift, v = dice();
+        switch (dice() % 8) {
+        case 0:
+        case 1:
+            CHECK(ours.insert_or_assign(k, v).second == theirs.insert_or_assign(k, v).second);
+            break;
+        case 2:
+            CHECK(ours.try_emplace(k, v).first->second == theirs.try_emplace(k, v).first->second);
+            break;
+        case 3:
+            CHECK(ours.erase(k) == theirs.erase(k));
+            break;
+        case 4: {
+            auto a = ours.lower_bound(k);
+            auto b = theirs.lower_bound(k);
+            for (int n = 0; n < 5 && b != theirs.end(); n++, ++a, ++b)
+                CHECK(*a == congee_cpp::pair(*b));
+            CHECK((a == ours.end()) == (b == theirs.end()));
+            break;
+        }
+        case 5: {
+            auto a = ours.upper_bound(k);
+            auto b = theirs.upper_bound(k);
+            for (int n = 0; n < 5 && b != theirs.begin(); n++)
+                CHECK(*--a == congee_cpp::pair(*--b));
+            CHECK((a == ours.begin()) == (b == theirs.begin()));
+            break;
+        }
+        case 6: {
+            std::uint64_t high = k + (dice() % 64 << shift), sum = 0, sum_theirs = 0;
+            ours.each(k, high, [&](std::uint64_t key, std::uint64_t value) { sum = sum * 3 + (key ^ value); });
+            for (auto it = theirs.lower_bound(k); it != theirs.end() && it->first <= high; ++it)
+                sum_theirs = sum_theirs * 3 + (it->first ^ it->second);
+            CHECK(sum == sum_theirs);
+            break;
+        }
+        default: {
+            auto it = theirs.find(k);
+            CHECK(ours.contains(k) == (it != theirs.end()));
+            CHECK(ours.get(k).value_or(1) == (it == theirs.end() ? 1 : it->second));
+            if (i % 64 == 0 && !theirs.empty()) {
+                auto last = std::prev(theirs.end());
+                CHECK(ours.pop_last() == congee_cpp::pair(*last));
+                theirs.erase(last);
+            }
+        }
+        }
+        CHECK(ours.size() == theirs.size());
+    }
+    CHECK(std::equal(theirs.begin(), theirs.end(), ours.begin(), ours.end(),
+                     [](const congee_cpp::pair &a, const congee_cpp::pair &b) { return a == b; }));
+}
+
+// No change of a map leaves an iterator dangling: it goes on from its key.
+static void changes() {
+    map m{{1, 10}, {2, 20}, {3, 30}};
+    auto it = m.find(2);
+    m.erase(2);
+    CHECK((++it)->first == 3);
+    m.clear();
+    CHECK(++it == m.end());
+    m[7] = 70;
+    CHECK((--it)->second == 70);
+    for (auto at = m.begin(); at != m.end() && m.size() < 50; ++at)
+        m[at->first + 1] = 0;
+    CHECK(m.size() == 50);
+}
+
+static void moves() {
+    map m{{1, 10}};
+    map other = std::move(m);
+    CHECK(m.empty() && m.begin() == m.end() && !m.contains(1) && m.erase(1) == 0 && m.size() == 0 && !m.get(1));
+    m[5] = 50;
+    CHECK(m.at(5) == 50 && other.at(1) == 10);
+    other = std::move(m);
+    CHECK(other.at(5) == 50 && m.empty());
+    swap(m, other);
+    map copy = m.copy();
+    CHECK(copy == m && copy != other);
+    copy.clear();
+    CHECK(copy.empty() && m.at(5) == 50);
+    std::vector<map> maps;
+    for (std::uint64_t i = 0; i < 20; i++)
+        maps.push_back(map{{i, i}});
+    CHECK(maps[13].at(13) == 13);
+    std_map std_pairs{{1, 2}, {3, 4}};
+    CHECK(map(std_pairs.begin(), std_pairs.end()).at(3) == 4);
+}
+
+static void refusals() {
+    map m = map::with_limit(2104 + 64);
+    m[1] = 10;
+    bool is_refused = false;
+    try {
+        m[UINT64_MAX] = 1;
+    } catch (const std::bad_alloc &) {
+        is_refused = true;
+    }
+    CHECK(is_refused && m.size() == 1);
+    CHECK(m.try_insert_or_assign(UINT64_MAX, 1) == CONGEE_OOM && m.try_insert_or_assign(1, 11) == 1);
+    CHECK(!map::try_new(100) && map::try_new().value().empty());
+    std::uint64_t expected = 7;
+    CHECK(!m.compare_exchange(1, expected, 12) && expected == 11 && m.compare_exchange(1, expected, 12));
+    is_refused = false;
+    try {
+        live_map none(100);
+    } catch (const std::bad_alloc &) {
+        is_refused = true;
+    }
+    CHECK(is_refused);
+}
+
+// Counts of four threads, each with a handle of its own, and what one handle returns.
+template <class M> static void in_threads(M counts) {
+    std::vector<std::thread> threads;
+    for (int t = 0; t < 4; t++)
+        threads.emplace_back([own = counts]() mutable {
+            for (std::uint64_t i = 0; i < 10000; i++)
+                own.fetch_add(i % 10 << 40, 1);
+        });
+    for (std::thread &it : threads)
+        it.join();
+    CHECK(counts.size() == 10 && counts.get(std::uint64_t{7} << 40) == 4000u && !counts.contains(7));
+    CHECK(counts.first() == congee_cpp::pair(0, 4000) && counts.last()->first == std::uint64_t{9} << 40);
+    CHECK(counts.above(0)->first == std::uint64_t{1} << 40 && counts.ceiling(1) == counts.above(0));
+    CHECK(counts.floor(1)->first == 0 && !counts.below(0));
+    std::uint64_t sum = 0, expected = 1;
+    counts.each([&](std::uint64_t, std::uint64_t value) { sum += value; });
+    CHECK(sum == 40000);
+    CHECK(!counts.compare_exchange(0, expected, 2) && expected == 4000 && counts.compare_exchange(0, expected, 2));
+    CHECK(!counts.compare_erase(0, expected) && expected == 2 && counts.compare_erase(0, expected));
+    CHECK((counts.try_emplace(0, 5) == std::pair<std::uint64_t, bool>(5, true)) && !counts.try_emplace(0, 6).second);
+    CHECK(!counts.insert_or_assign(0, 6) && counts.take(0) == 6u && !counts.erase(0));
+    M other = counts, moved = std::move(counts);
+    counts = other;
+    moved.insert_or_assign(3, 30);
+    CHECK(counts.get(3) == 30u && other.get(3) == 30u);
+}
+
+int main() {
+    map ours;
+    std_map theirs;
+    CHECK(lines(ours) == lines(theirs));
+    at_random(ours, theirs, 200000);
+    changes();
+    moves();
+    refusals();
+    in_threads(live_map());
+    in_threads(live_map(8 << 20));
+    in_threads(shared_map());
+    in_threads(shared_map::sharded());
+    shared_map pops;
+    pops.insert_or_assign(1, 10);
+    pops.insert_or_assign(2, 20);
+    CHECK(pops.pop_last() == congee_cpp::pair(2, 20) && pops.pop_first()->second == 10 && !pops.pop_first());
+    pops.clear();
+    CHECK(pops.empty());
+#if __cplusplus >= 202002L
+    CHECK(std::ranges::is_sorted(ours) && std::ranges::distance(ours) == std::ranges::distance(theirs));
+#endif
+    std::puts("all return what std::map returns");
+}
