@@ -11,6 +11,7 @@ struct fiber {
     void *top; /* of the stack of one that isn't running */
     char *stack;
     uint64_t priority;
+    uint64_t rests; /* how many calls others end before it goes on, if it was stopped within one */
     bool is_over;
 };
 
@@ -64,18 +65,33 @@ static void go_to(struct fiber *to) {
     switch_stacks(from ? &from->top : &outside, to ? to->top : outside);
 }
 
-/* The fiber that goes on in place of the one that is running: one of the others if there is one, or by priority. */
-static struct fiber *chosen(bool is_other) {
+/* Another fiber that goes on in place of the one that is running, whether or not it rests. NULL: there is none. */
+static struct fiber *another(bool whether_or_not) {
     struct fiber *found = NULL;
     size_t others = 0;
     for (size_t i = 0; i < running; i++) {
         struct fiber *it = &fibers[i];
-        if (it->is_over || (choice->one_in && is_other && it == current))
+        if (it->is_over || it == current || (it->rests && !whether_or_not))
             continue;
         others++;
-        bool is_better = choice->one_in ? next_random(&choice->random) % others == 0 : !found || it->priority > found->priority;
-        found = is_better ? it : found;
+        if (!found || next_random(&choice->random) % others == 0)
+            found = it;
     }
+    return found;
+}
+
+static struct fiber *of_highest_priority(void) {
+    struct fiber *found = NULL;
+    for (size_t i = 0; i < running; i++)
+        if (!fibers[i].is_over && (!found || fibers[i].priority > found->priority))
+            found = &fibers[i];
+    return found;
+}
+
+/* The fiber that goes on. NULL: all are over. */
+static struct fiber *chosen(void) {
+    struct fiber *found = choice->is_by_priority ? of_highest_priority() : another(false);
+    found = found ? found : another(true);
     return found ? found : current && !current->is_over ? current : NULL;
 }
 
@@ -85,38 +101,82 @@ static void give_up(void) {
     go_to(NULL);
 }
 
-/* Each atomic access begins with it. */
+/* How often words were written: a table by their addresses. What has no place in it counts as written often. */
+static struct {
+    volatile uint64_t *at;
+    uint64_t round, count;
+} written[1 << 14];
+static uint64_t the_round = 1;
+
+void forget_writes(void) {
+    the_round++;
+}
+
+static uint64_t *writes_of(volatile uint64_t *at) {
+    static uint64_t often;
+    size_t mask = sizeof written / sizeof written[0] - 1, slot = (uintptr_t)at / 8 * 0x9e3779b97f4a7c15u >> 50;
+    for (size_t tries = 0; tries < 64; tries++, slot = (slot + 1) & mask) {
+        if (written[slot].round != the_round) {
+            written[slot].at = at;
+            written[slot].round = the_round;
+            written[slot].count = 0;
+        }
+        if (written[slot].at == at)
+            return &written[slot].count;
+    }
+    often = 2;
+    return &often;
+}
+
 static void choose(void) {
     if (!current)
         return;
     if (++points == choice->most)
         give_up();
-    if (choice->one_in) {
-        if (next_random(&choice->random) % choice->one_in == 0)
-            go_to(chosen(true));
-        return;
+    uint64_t one_in = choice->one_in[current - fibers];
+    if (!choice->is_by_priority && one_in && next_random(&choice->random) % one_in == 0) {
+        current->rests = next_random(&choice->random) % 8;
+        go_to(chosen());
     }
-    for (size_t i = 0; i < MOST_CHANGES; i++)
+    for (size_t i = 0; choice->is_by_priority && i < MOST_CHANGES; i++)
         if (choice->changes[i] == points) {
             current->priority = --lowest;
-            go_to(chosen(true));
+            go_to(chosen());
         }
+}
+
+/* Before a word is written. */
+static void choose_and_write(volatile uint64_t *at) {
+    choose();
+    ++*writes_of(at);
+}
+
+static void rest_less(void) {
+    for (size_t i = 0; i < running; i++)
+        fibers[i].rests -= fibers[i].rests > 0;
 }
 
 void pause_here(void) {
     if (!current)
         return;
+    rest_less();
     if (++points == choice->most)
         give_up();
     current->priority = --lowest;
-    go_to(chosen(true));
+    go_to(chosen());
+}
+
+void end_call(void) {
+    rest_less();
+    if (current && !choice->is_by_priority && next_random(&choice->random) % 2)
+        go_to(chosen());
 }
 
 /* Where a fiber begins. */
 static void begin(void) {
     the_work(current - fibers);
     current->is_over = true;
-    go_to(chosen(true));
+    go_to(chosen());
     abort();
 }
 
@@ -128,6 +188,7 @@ static void prepare(struct fiber *fiber) {
     memcpy(top, &first, sizeof first);
     fiber->top = top - 6;
     fiber->is_over = false;
+    fiber->rests = 0;
 }
 
 uint64_t run_fibers(size_t count, void (*work)(size_t fiber), struct choice *by) {
@@ -140,16 +201,24 @@ uint64_t run_fibers(size_t count, void (*work)(size_t fiber), struct choice *by)
         prepare(&fibers[i]);
         fibers[i].priority = lowest + 1 + next_random(&choice->random) % 1000;
     }
-    go_to(chosen(false));
+    go_to(chosen());
     return points;
 }
 
 /* -- What instrumented code calls -- */
 
+uint32_t left_out;
+uint64_t times_left_out;
+
 /* (no header declares these functions) */
 #define INSTEAD(result, name, parameters)                                                                                      \
     result name parameters;                                                                                                    \
     result name parameters
+
+INSTEAD(uint32_t, has_passed, (uint32_t place, uint32_t passed)) {
+    times_left_out += place == left_out && !passed;
+    return passed || place == left_out;
+}
 
 /* Other accesses, and the borders of functions, are passed over. */
 #define PASSED(name)                                                                                                           \
@@ -184,19 +253,20 @@ INSTEAD(void, __tsan_init, (void)) {
 
 INSTEAD(uint64_t, __tsan_atomic64_load, (volatile uint64_t * at, int order)) {
     (void)order;
-    choose();
+    if (current && *writes_of(at) >= 2)
+        choose();
     return *at;
 }
 
 INSTEAD(void, __tsan_atomic64_store, (volatile uint64_t * at, uint64_t value, int order)) {
     (void)order;
-    choose();
+    choose_and_write(at);
     *at = value;
 }
 
 INSTEAD(uint64_t, __tsan_atomic64_exchange, (volatile uint64_t * at, uint64_t value, int order)) {
     (void)order;
-    choose();
+    choose_and_write(at);
     uint64_t before = *at;
     *at = value;
     return before;
@@ -204,14 +274,14 @@ INSTEAD(uint64_t, __tsan_atomic64_exchange, (volatile uint64_t * at, uint64_t va
 
 INSTEAD(uint64_t, __tsan_atomic64_fetch_add, (volatile uint64_t * at, uint64_t value, int order)) {
     (void)order;
-    choose();
+    choose_and_write(at);
     *at += value;
     return *at - value;
 }
 
 INSTEAD(uint64_t, __tsan_atomic64_fetch_sub, (volatile uint64_t * at, uint64_t value, int order)) {
     (void)order;
-    choose();
+    choose_and_write(at);
     *at -= value;
     return *at + value;
 }
@@ -220,7 +290,7 @@ INSTEAD(uint64_t, __tsan_atomic64_compare_exchange_val,
         (volatile uint64_t * at, uint64_t expected, uint64_t desired, int order, int failed)) {
     (void)order;
     (void)failed;
-    choose();
+    choose_and_write(at);
     uint64_t before = *at;
     if (before == expected)
         *at = desired;

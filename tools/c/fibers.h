@@ -3,9 +3,13 @@
  * again by it. What runs is one order of all atomic accesses. So it shows what sequentially consistent ones may do, and neither
  * races of other accesses nor weaker orders.
  *
- * Two ways of choosing: at each point another fiber goes on with some likelihood, or the one of the highest priority goes on, and
- * loses it at a few points that are drawn before (Burckhardt, Kothari, Musuvathi and Nagarakatte, A Randomized Scheduler with
- * Probabilistic Guarantees of Finding Bugs, 2010). */
+ * A load is a point of choice where its word was written at least twice since `forget_writes`, and each store is one. The tables that
+ * are written once are most of what a call loads. Three ways of choosing:
+ *
+ *   - at each point another fiber goes on with some likelihood
+ *   - one fiber or two are stopped in the midst of calls so, and the others make some whole calls meanwhile
+ *   - the fiber of the highest priority goes on, and loses it at a few points that are drawn before (Burckhardt, Kothari,
+ *     Musuvathi and Nagarakatte, A Randomized Scheduler with Probabilistic Guarantees of Finding Bugs, 2010) */
 #ifndef FIBERS_H
 #define FIBERS_H
 
@@ -18,7 +22,8 @@ enum { MOST_FIBERS = 8, MOST_CHANGES = 8 };
 /* How fibers are chosen. */
 struct choice {
     uint64_t random;                /* the state of its random numbers */
-    uint64_t one_in;                /* another fiber goes on at one point in so many. 0: by priorities */
+    bool is_by_priority;            /* else by these: */
+    uint64_t one_in[MOST_FIBERS];   /* of each fiber: another goes on at one of its points in so many. 0: at none */
     uint64_t changes[MOST_CHANGES]; /* the points at which the fiber that is running loses its priority */
     uint64_t most;                  /* the run is given up behind so many points */
 };
@@ -29,5 +34,17 @@ void free_fibers(void);
 
 /* Runs the work of each fiber, with its number, to its end. Returns how many points of choice were met. 0: it was given up. */
 uint64_t run_fibers(size_t count, void (*work)(size_t fiber), struct choice *choice);
+
+/* Begins anew with what was written, before a map is made. */
+void forget_writes(void);
+
+/* What a fiber does between two calls: often another one goes on. */
+void end_call(void);
+
+/* A module may ask at numbered places whether a test has passed. At this place it has, whatever the test says. 0: at none. */
+extern uint32_t left_out;
+
+/* How often it hadn't passed there. */
+extern uint64_t times_left_out;
 
 #endif

@@ -173,14 +173,16 @@ static uint64_t staying_value(uint64_t key) {
 }
 
 bool fill_map(const struct map_kind *kind, const struct key_set *set, void *map) {
+    enum fault fault = stand_in_fault;
     uint64_t old;
+    bool is_filled = true;
+    stand_in_fault = NO_FAULT;
     for (size_t i = 0; i < set->stays; i++)
-        if (kind->insert(map, set->staying[i], staying_value(set->staying[i]), &old) != 0)
-            return false;
+        is_filled = is_filled && kind->insert(map, set->staying[i], staying_value(set->staying[i]), &old) == 0;
     for (size_t i = 0; i < set->count; i += 2)
-        if (kind->insert(map, set->keys[i], i + 1, &old) != 0)
-            return false;
-    return true;
+        is_filled = is_filled && kind->insert(map, set->keys[i], i + 1, &old) == 0;
+    stand_in_fault = fault;
+    return is_filled;
 }
 
 void begin_history(struct history *history, const struct map_kind *kind, const struct key_set *set, void *map) {
@@ -452,7 +454,8 @@ static uint64_t some_key(struct caller *caller) {
 }
 
 void call_at_random(struct caller *caller) {
-    uint64_t random = next_random(&caller->random), which = random % 64;
+    uint64_t random = next_random(&caller->random), kinds = caller->kinds ? caller->kinds : 64;
+    uint64_t which = (caller->first_call + random % kinds) % 64;
     bool waits = random >> 32 & 1;
     if (which < 48)
         call_key(caller, which / 4 % 7, some_key(caller), waits);

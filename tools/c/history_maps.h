@@ -59,9 +59,10 @@ struct caller {
     void *map;
     struct record *record;
     uint64_t id, number, random;
-    uint64_t from, few;       /* calls of one key are at so many keys from this one on. 0: at all */
-    uint64_t seen[MOST_KEYS]; /* the last value that it saw at each key */
-    uint64_t busy, refused;   /* how many calls were busy, and how many found no memory */
+    uint64_t from, few;         /* calls of one key are at so many keys from this one on. 0: at all */
+    uint64_t first_call, kinds; /* it makes so many kinds of calls from this one on. 0: all */
+    uint64_t seen[MOST_KEYS];   /* the last value that it saw at each key */
+    uint64_t busy, refused;     /* how many calls were busy, and how many found no memory */
     const char *wrong;
 };
 
