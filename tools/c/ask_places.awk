@@ -1,6 +1,6 @@
-# Changes the text of a module of live maps: each test whether a node's version is as it was, and each lock of a node, becomes a place with a
-# number, and its result is asked of has_passed (tools/c/fibers.c). So one program can leave out any of them. What and where each
-# place is goes to the file `names`, a line each.
+# Changes the text of a module of live maps. Each test whether a node's version is as it was, and each lock of a node, becomes a
+# place with a number, and its result is asked of has_passed (tools/c/fibers.c). So one program can leave out any of them.
+# The file `names` gets a line for each place: its number, what it is, and in which function.
 #
 #   awk -v names=FILE -f tools/c/ask_places.awk MODULE.ll
 

@@ -1,4 +1,5 @@
-/* The fibers of fibers.h, for x86-64, and in place of the thread sanitizer's runtime the functions that instrumented code calls. */
+/* The fibers of fibers.h, for x86-64. In place of the thread sanitizer's runtime, the functions that instrumented code
+ * calls. */
 #include "fibers.h"
 #include "history_maps.h"
 #include "pauses.h"

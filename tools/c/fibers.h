@@ -1,13 +1,13 @@
-/* Fibers of one thread in place of threads. They change where the program says, and at each atomic access of code that a compiler
- * instrumented for the thread sanitizer: fibers.c has the functions which such code calls. So a run is chosen by a seed, and comes
- * again by it. What runs is one order of all atomic accesses. So it shows what sequentially consistent ones may do, and neither
- * races of other accesses nor weaker orders.
+/* Fibers of one thread in place of threads. They change where the program allows it, and at atomic accesses of code that a
+ * compiler instrumented for the thread sanitizer: fibers.c has the functions which such code calls. A seed chooses the run,
+ * and repeats it. A run is one order of all atomic accesses. So it shows what sequentially consistent ones may do. It shows
+ * no race of other accesses and no weaker order.
  *
- * A load is a point of choice where its word was written at least twice since `forget_writes`, and each store is one. The tables that
- * are written once are most of what a call loads. Three ways of choosing:
+ * A load is a point of choice where its word was written at least twice since forget_writes, and each store is one. Most of
+ * what a call loads are tables that are written once. There are three ways of choosing:
  *
  *   - at each point another fiber goes on with some likelihood
- *   - one fiber or two are stopped in the midst of calls so, and the others make some whole calls meanwhile
+ *   - one fiber is stopped within its calls so, and the others make some whole calls meanwhile
  *   - the fiber of the highest priority goes on, and loses it at a few points that are drawn before (Burckhardt, Kothari,
  *     Musuvathi and Nagarakatte, A Randomized Scheduler with Probabilistic Guarantees of Finding Bugs, 2010) */
 #ifndef FIBERS_H

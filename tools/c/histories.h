@@ -2,19 +2,18 @@
  *
  * Each thread writes down the calls that it made: start, end, arguments and answer. The clock is one counter that all
  * threads raise by atomic additions. So a call whose end has a smaller number than the start of another one had ended before
- * that one began.
+ * that one began. A call that was busy isn't written down.
  *
- * A history is explained where each call has a moment between its start and its end (its linearization point), such that the
- * calls in the order of these moments have the answers of a map with one owner. Calls of one key and of several are told of
- * two ways:
+ * A history is explained if each call has a moment between its start and its end (its linearization point), such that the
+ * calls in the order of these moments have the answers of a map with one owner. There are two searches:
  *
- *   - explain: of few keys, the map as a whole. Where ranges, ends and counts of a map aren't of one moment, each
- *     has one moment for all keys that share a leaf, in the order in which it reads
- *   - explain_by_key: of many keys, each key by itself (Herlihy and Wing, Linearizability, 1990: objects are linearizable
- *     together where each one is). A range is a look-up of each key that it passed. No count, pop or clear is taken
+ *   - explain, for few keys: the map as a whole. A range, an end or a count has one moment, or where the map's aren't of one
+ *     moment, one for all keys that share a leaf, in the order in which it reads
+ *   - explain_by_key, for many keys: each key by itself. A range is a look-up of each key that it passed. Counts, pops and
+ *     clears aren't searched. Objects are linearizable together where each one is (Herlihy and Wing, Linearizability, 1990)
  *
- * The search goes through starts and ends by their numbers, and keeps each pair of a content and the calls that are made in
- * it already (Wing and Gong, Testing and Verifying Concurrent Objects, 1993). A call is put in order as late as a call's end
+ * The search goes through starts and ends by their numbers. It keeps each pair of a content and the calls that are made by
+ * then (Wing and Gong, Testing and Verifying Concurrent Objects, 1993). A call is put in order only when a call's end
  * demands it, and no pair is kept twice (Lowe, Testing for Linearizability, 2017). Horn and Kroening (Faster Linearizability
  * Checking via P-Compositionality, 2015) search key by key. */
 #ifndef HISTORIES_H
@@ -27,7 +26,8 @@
 
 enum { MOST_KEYS = 64, MOST_WHOLE = 8, MOST_THREADS = 8 };
 
-/* REFUSED is a call that would insert, and found no memory: its key was absent. FIND and FIND_DOWN are ranges and ends. */
+/* REFUSED is a call that found no memory to insert its key, so the key was absent at a moment. FIND and FIND_DOWN are ranges
+ * and ends, IS_FILLED is a test for none that found a pair. */
 enum kind {
     GET,
     INSERT,

@@ -1,14 +1,13 @@
 /* The tables of maps and keys, and the calls of history_maps.h. */
-#include "pauses.h"
-#define CONGEE_YIELD() pause_here()
 #include "history_maps.h"
+#include "pauses.h"
 #include "stand_in.h"
 #include <stdio.h>
 #include <string.h>
 
 /* -- Maps -- */
 
-/* (each call by a map whose type isn't told) */
+/* (each call by a map of any type) */
 #define CALL(map, name, parameters, ...)                                                                                    \
     static int map##_##name parameters {                                                                                    \
         return map##_is(name)(__VA_ARGS__);                                                                                 \
@@ -86,10 +85,10 @@ static int sharded_new(uint64_t limit, void **out) {
 #define ENTRIES_OF_ONE_MOMENT(map)                                                                                          \
     ENTRIES_OF_ALL(map), .is_of_one_moment = true, .range_descending = map##_range_descending,                              \
                          .pop_first = map##_pop_first, .pop_last = map##_pop_last, .clear = map##_clear
-const struct map_kind live_map = {"live", .new = live_new, ENTRIES_OF_ALL(live)};
-const struct map_kind locked_map = {"locked", .new = shared_new, ENTRIES_OF_ONE_MOMENT(shared)};
-const struct map_kind sharded_map = {"sharded", .new = sharded_new, ENTRIES_OF_ONE_MOMENT(shared)};
-const struct map_kind stand_in_map = {"stand-in", .new = alone_new, ENTRIES_OF_ONE_MOMENT(alone)};
+const struct map_kind live_map = {"live", .make = live_new, ENTRIES_OF_ALL(live)};
+const struct map_kind locked_map = {"locked", .make = shared_new, ENTRIES_OF_ONE_MOMENT(shared)};
+const struct map_kind sharded_map = {"sharded", .make = sharded_new, ENTRIES_OF_ONE_MOMENT(shared)};
+const struct map_kind stand_in_map = {"stand-in", .make = alone_new, ENTRIES_OF_ONE_MOMENT(alone)};
 
 /* -- Keys -- */
 

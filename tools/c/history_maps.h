@@ -9,7 +9,7 @@
 struct map_kind {
     const char *name;
     bool is_of_one_moment; /* each range, end and count is */
-    int (*new)(uint64_t limit, void **out);
+    int (*make)(uint64_t limit, void **out);
     int (*another)(void *map, void **out);
     void (*free)(void *map);
     int (*get)(void *map, uint64_t key, uint64_t *value);

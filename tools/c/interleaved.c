@@ -8,8 +8,8 @@
  *     interleaved stand-in faults         each fault of stand_in.h has to be found by 20,000 seeds
  *     interleaved live without PLACE SEEDS
  *     interleaved live without 0 SEEDS PLACES
- *                                         with the test at this place left out, or at each of so many in turn, where the code of
- *                                         live maps asks at places (ask_places.awk): by which seed that is found
+ *                                         where the code of live maps asks at places (ask_places.awk): by which seed it is
+ *                                         found that the test at this place is left out, or at each of so many
  *
  * MAP is live, locked, sharded or stand-in. */
 #include "fibers.h"
@@ -132,7 +132,7 @@ static enum verdict verdict_of(const struct map_kind *kind, uint64_t seed, FILE 
     while (set.stays > 40 && next_random(&random) % 8);
     limit = draw_limit(kind, &random);
     forget_writes();
-    if (kind->new (limit, &map))
+    if (kind->make(limit, &map))
         abort();
     enum verdict verdict = run_on(kind, &set, map, limit != UINT64_MAX, &random, out);
     kind->free(map);
@@ -162,7 +162,7 @@ static bool show(const struct map_kind *kind, uint64_t seed) {
     return is_right;
 }
 
-/* By which seed the first history comes that isn't explained, or 0. What is said of it goes nowhere. */
+/* By which seed the first history comes that isn't explained, or 0. The calls that show it aren't printed. */
 static uint64_t first_found(const struct map_kind *kind, uint64_t seeds) {
     FILE *out = fopen("/dev/null", "w");
     uint64_t seed = 1;

@@ -3,10 +3,9 @@
  * that part at each depth, and nodes at the border of each form, from 4 children to 256.
  *
  *     recorded MAP [ROUNDS] [THREADS] [CALLS]     so many rounds of each set of keys, and calls a thread in each
- *     recorded stand-in FAULT                     until the fault of this number is found (stand_in.h), or 400 rounds were
- * made
+ *     recorded stand-in faults                    each fault of stand_in.h has to be found within 400 rounds
  *
- * MAP is live, locked or sharded. */
+ * MAP is live, locked, sharded, stand-in or all. */
 #include "history_maps.h"
 #include "pauses.h"
 #include "stand_in.h"
@@ -80,7 +79,7 @@ static uint64_t right_rounds(const struct map_kind *kind, size_t number, uint64_
     void *map;
     uint64_t right = 0;
     make_key_set(number, &set);
-    if (kind->new (UINT64_MAX, &map) || !fill_map(kind, &set, map))
+    if (kind->make(UINT64_MAX, &map) || !fill_map(kind, &set, map))
         abort();
     for (uint64_t i = 0; i < threads; i++) {
         struct caller *caller = &workers[i].caller;
@@ -99,7 +98,7 @@ static uint64_t right_rounds(const struct map_kind *kind, size_t number, uint64_
     return right;
 }
 
-/* Whether the fault is found. What is said of it goes nowhere. */
+/* Whether the fault is found. The calls that show it aren't printed. */
 static bool is_found(void) {
     FILE *out = fopen("/dev/null", "w");
     if (!out)
@@ -115,9 +114,9 @@ static bool is_found(void) {
     return false;
 }
 
-static bool are_faults_found(int first, int last) {
+static bool are_faults_found(void) {
     bool are = true;
-    for (int fault = first; fault <= last; fault++) {
+    for (int fault = NO_FAULT + 1; fault < FAULTS; fault++) {
         stand_in_fault = fault;
         are = is_found() && are;
     }
@@ -127,6 +126,7 @@ static bool are_faults_found(int first, int last) {
 
 static bool is_all_right(const struct map_kind *kind) {
     uint64_t busy = 0, all = 0;
+    beside = undecided = 0;
     for (size_t number = 0; number < KEY_SETS; number++) {
         if (right_rounds(kind, number, rounds, stderr) < rounds)
             return false;
@@ -140,25 +140,42 @@ static bool is_all_right(const struct map_kind *kind) {
     return true;
 }
 
+static const struct map_kind *const kinds[] = {&live_map, &locked_map, &sharded_map, &stand_in_map};
+enum { KINDS = sizeof kinds / sizeof kinds[0] };
+
+static bool is_meant(const struct map_kind *kind, const char *word) {
+    return strcmp(word, kind->name) == 0 || strcmp(word, "all") == 0;
+}
+
+static bool are_known(const char *word) {
+    bool are = false;
+    for (size_t i = 0; i < KINDS; i++)
+        are = are || is_meant(kinds[i], word);
+    return are;
+}
+
+static bool are_all_right(const char *word) {
+    bool are = true;
+    for (size_t i = 0; i < KINDS; i++)
+        are = are && (!is_meant(kinds[i], word) || is_all_right(kinds[i]));
+    return are;
+}
+
 int main(int words, char **word) {
-    static const struct map_kind *const kinds[] = {&live_map, &locked_map, &sharded_map, &stand_in_map};
-    const struct map_kind *kind = NULL;
-    for (size_t i = 0; words > 1 && i < 4; i++)
-        if (strcmp(word[1], kinds[i]->name) == 0)
-            kind = kinds[i];
+    bool is_known = words > 1 && are_known(word[1]);
     bool is_fault = words > 2 && strcmp(word[2], "faults") == 0;
     rounds = words > 2 && !is_fault ? strtoull(word[2], NULL, 10) : rounds;
     threads = words > 3 ? strtoull(word[3], NULL, 10) : threads;
     calls = words > 4 ? strtoull(word[4], NULL, 10) : calls;
-    if (!kind || rounds == 0 || threads == 0 || threads > MOST_THREADS || calls == 0) {
-        fprintf(stderr, "usage: recorded live|locked|sharded|stand-in [ROUNDS|faults] [THREADS] [CALLS]\n");
+    if (!is_known || rounds == 0 || threads == 0 || threads > MOST_THREADS || calls == 0) {
+        fprintf(stderr, "usage: recorded live|locked|sharded|stand-in|all [ROUNDS|faults] [THREADS] [CALLS]\n");
         return 2;
     }
     history.threads = threads;
     for (uint64_t i = 0; i < threads; i++)
         if (!make_record(&history.records[i], calls + MOST_KEYS, (calls + MOST_KEYS) * MOST_KEYS))
             return 3;
-    bool is_right = is_fault ? are_faults_found(NO_FAULT + 1, FAULTS - 1) : is_all_right(kind);
+    bool is_right = is_fault ? are_faults_found() : are_all_right(word[1]);
     for (uint64_t i = 0; i < threads; i++)
         free_record(&history.records[i]);
     return is_right ? 0 : 1;
