@@ -5,8 +5,9 @@
 #include <stdlib.h>
 #include <string.h>
 
-/* A power of two. A search that comes to so many at one end is given up: many threads were stopped inside of calls there. */
-enum { MOST_CONFIGURATIONS = 1 << 18 };
+/* A search that comes to so many configurations at one end (a power of two), or to so many in all, is given up: many threads
+ * were stopped within calls there. */
+enum { MOST_CONFIGURATIONS = 1 << 16, MOST_WORK = 3000000 };
 
 static _Atomic uint64_t the_clock = 1;
 
@@ -25,11 +26,13 @@ void free_record(struct record *record) {
     free(record->values);
 }
 
-/* What may be so at an end: the content, and how many steps of its open call each thread has made. */
+/* What may be so at an end: the content, and how many steps of its open call each thread has made. Of a count, which numbers
+ * it may have come to after so many steps: a bit each. */
 struct configuration {
     uint64_t value[MOST_WHOLE];
     uint64_t present;
-    uint8_t made[MOST_THREADS], counted[MOST_THREADS];
+    uint8_t made[MOST_THREADS];
+    uint16_t counted[MOST_THREADS][MOST_WHOLE + 1];
 };
 
 /* Configurations, each once: an array, where each is in the table, and the table of their numbers and one more by their
@@ -46,6 +49,7 @@ struct search {
     size_t count[MOST_THREADS], at[MOST_THREADS], threads, keys;
     bool is_open[MOST_THREADS], is_of_one_moment, fits;
     const uint64_t *leaf;
+    size_t work; /* how many configurations were met */
     const struct call *failed;
 };
 
@@ -191,10 +195,6 @@ static bool advance(const struct search *search, size_t thread, struct configura
     case FIND:
     case FIND_DOWN:
         return has_found(call, keys_of_step(search, call, step), it);
-    case COUNT:
-        it->counted[thread] += __builtin_popcountll(it->present & keys_of_step(search, call, step));
-        return it->counted[thread] <= call->answer &&
-               (keys_of_step(search, call, step + 1) != 0 || it->counted[thread] == call->answer);
     case IS_FILLED:
         return it->present != 0;
     case POP:
@@ -222,6 +222,7 @@ static bool is_reading(const struct call *call) {
     case REFUSED:
     case FIND:
     case FIND_DOWN:
+    case COUNT:
     case IS_FILLED:
         return true;
     case REMOVE:
@@ -237,13 +238,32 @@ static bool is_reading(const struct call *call) {
     }
 }
 
+/* Notes what a thread's count may have come to. It is made where that may be its answer. */
+static void count_on(const struct search *search, size_t thread, size_t steps, struct configuration *it) {
+    const struct call *call = &search->calls[thread][search->at[thread]];
+    uint16_t *counted = it->counted[thread];
+    counted[0] = 1;
+    for (size_t step = 0; step < steps; step++)
+        counted[step + 1] |= counted[step] << __builtin_popcountll(it->present & keys_of_step(search, call, step));
+    if (counted[steps] >> call->answer & 1) {
+        memset(counted, 0, sizeof it->counted[thread]);
+        it->made[thread] = steps;
+    }
+}
+
 /* Makes all steps that open calls may make there and that change nothing. What is explained without them is so with them, as
  * these calls ask nothing of what comes then but their further steps. */
 static void read_on(const struct search *search, const size_t *steps, struct configuration *it) {
     for (size_t i = 0; i < search->threads; i++) {
+        const struct call *call = &search->calls[i][search->at[i]];
         struct configuration next = *it;
-        while (it->made[i] < steps[i] && is_reading(&search->calls[i][search->at[i]]) && advance(search, i, &next))
-            *it = next;
+        if (it->made[i] == steps[i] || !is_reading(call))
+            continue;
+        if (call->kind == COUNT)
+            count_on(search, i, steps[i], it);
+        else
+            while (it->made[i] < steps[i] && advance(search, i, &next))
+                *it = next;
     }
 }
 
@@ -260,10 +280,11 @@ static bool ends(struct search *search, size_t thread) {
     for (size_t i = 0; i < reached.count && search->fits; i++) {
         struct configuration it = reached.all[i];
         if (it.made[thread] == steps[thread]) {
-            it.made[thread] = it.counted[thread] = 0;
+            it.made[thread] = 0;
             search->fits = add(&ended, &it);
             continue;
         }
+        search->work++;
         for (size_t other = 0; other < search->threads; other++) {
             struct configuration next = it;
             if (it.made[other] == steps[other] || is_reading(&search->calls[other][search->at[other]]) ||
@@ -278,6 +299,8 @@ static bool ends(struct search *search, size_t thread) {
     swapped = now;
     now = ended;
     ended = swapped;
+    search->work += now.count;
+    search->fits = search->fits && search->work < MOST_WORK;
     return search->fits && now.count > 0;
 }
 
