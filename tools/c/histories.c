@@ -377,8 +377,9 @@ void print_calls(const struct history *history, uint64_t until, size_t most, FIL
             if (from[i] > 0 && (thread == history->threads || history->records[i].calls[from[i] - 1].start >
                                                                   history->records[thread].calls[from[thread] - 1].start))
                 thread = i;
-        if (thread < history->threads)
-            from[thread]--;
+        if (thread == history->threads)
+            break;
+        from[thread]--;
     }
     for (;;) {
         thread = history->threads;
