@@ -62,14 +62,21 @@ fn one_thread_takes_each_key() {
 
 /// A value that knows whether it was dropped.
 struct Owner {
+    key: usize,
     alive: AtomicUsize,
     all: Arc<AtomicIsize>,
 }
 
 impl Owner {
     fn new(all: &Arc<AtomicIsize>) -> Arc<Owner> {
+        Owner::at(0, all)
+    }
+
+    /// One for this key.
+    fn at(key: usize, all: &Arc<AtomicIsize>) -> Arc<Owner> {
         all.fetch_add(1, SeqCst);
         Arc::new(Owner {
+            key,
             alive: AtomicUsize::new(0xA11CE),
             all: all.clone(),
         })
@@ -108,12 +115,14 @@ fn owners_live_while_they_are_read() {
                 for i in 0..100_000 {
                     let key = (i * 31 + t * 7) % 16;
                     match (i + t) % 5 {
-                        0 => drop(map.insert(key, Owner::new(all), &guard).unwrap()),
+                        0 => drop(map.insert(key, Owner::at(key, all), &guard).unwrap()),
                         1 => drop(map.remove(key, &guard)),
-                        2 => drop(map.compute_if_present(key, |_| Some(Owner::new(all)), &guard)),
+                        2 => {
+                            drop(map.compute_if_present(key, |_| Some(Owner::at(key, all)), &guard))
+                        }
                         _ => {
                             if let Some(it) = map.get(key, &guard) {
-                                assert_eq!(it.alive.load(SeqCst), 0xA11CE);
+                                assert_eq!((it.key, it.alive.load(SeqCst)), (key, 0xA11CE));
                             }
                         }
                     }
@@ -142,9 +151,10 @@ fn owners_live_by_guards_that_protect_nothing() {
                 for i in 0..50_000 {
                     let key = (i * 31 + t * 7) % 4;
                     if (i + t) % 3 == 0 {
-                        drop(map.insert(key, Owner::new(all), guard).unwrap());
+                        drop(map.insert(key, Owner::at(key, all), guard).unwrap());
                     } else if let Some(it) = map.get(key, guard) {
-                        assert_eq!(it.alive.load(SeqCst), 0xA11CE);
+                        // (the place of one that was dropped early may be another's)
+                        assert_eq!((it.key, it.alive.load(SeqCst)), (key, 0xA11CE));
                     }
                 }
             });

@@ -4,7 +4,8 @@
 //     c++ -std=c++17 -O2 -fPIC -Iinclude -c tools/rust/standin.cpp -o standin.o && ar rcs libcongee.a standin.o
 //
 // STANDIN_BUSY=N makes each N-th call of a map that threads share busy. STANDIN_OOM=N refuses each N-th call that would make a
-// new pair. A handle that is in two calls at once, or is used after it was freed, ends the program by abort. At exit it is an
+// new pair. STANDIN_SLOW=N lets each N-th call return late, so that others come in between what it found and what its caller does
+// with that. A handle that is in two calls at once, or is used after it was freed, ends the program by abort. At exit it is an
 // error (status 3) if more than STANDIN_LEFT maps or handles are left, or any where that isn't set.
 #include "congee.h"
 #include "congee_live.h"
@@ -22,7 +23,7 @@ namespace {
 using Pairs = std::map<uint64_t, uint64_t>;
 
 std::atomic<long> maps{0}, handles{0};
-std::atomic<unsigned long> calls{0}, grown{0};
+std::atomic<unsigned long> calls{0}, grown{0}, returned{0};
 
 unsigned long number_of(const char *name) {
     const char *word = getenv(name);
@@ -30,6 +31,7 @@ unsigned long number_of(const char *name) {
 }
 
 const unsigned long busy_every = number_of("STANDIN_BUSY"), oom_every = number_of("STANDIN_OOM");
+const unsigned long slow_every = number_of("STANDIN_SLOW");
 const long may_be_left = static_cast<long>(number_of("STANDIN_LEFT"));
 
 struct AtExit {
@@ -81,7 +83,12 @@ struct Inside {
             broken("a handle in two calls at once");
         lock = std::unique_lock<std::mutex>(held.of->lock);
     }
-    ~Inside() { held.inside--; }
+    ~Inside() {
+        lock.unlock();
+        if (slow_every && ++returned % slow_every == 0)
+            usleep(20);
+        held.inside--;
+    }
     Pairs &pairs() { return held.of->pairs; }
 };
 
