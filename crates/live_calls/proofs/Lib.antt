@@ -1,5 +1,6 @@
 pub mod Bytes
 pub mod Views
+pub mod Roots
 pub mod Finds
 pub mod Locks
 pub mod Values

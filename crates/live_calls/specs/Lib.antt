@@ -7,3 +7,4 @@ pub mod Rooms
 pub mod Spares
 pub mod Forks
 pub mod Meetings
+pub mod Roots

@@ -2,15 +2,19 @@
 ghost use Rattle.std.specs.Prelude.{◌≡◌, ℕ, ◌-◌, ◌%◌, ◌<◌, ◌≤◌, [], ◌∷◌, length, slice_index, IfSome};
 ghost use Rattle.live_nodes.specs.Seats.{read};
 ghost use Rattle.live_law.specs.Levels.{digit};
+ghost use Rattle.live_law.specs.Roots.{MayLearnRoot};
 ghost use Rattle.live_calls.specs.Ways.{KnowsTrunk, Names, Sights, AreNamed, HasOpened, IsOpen, Keeps, Looked};
+ghost use Rattle.live_calls.specs.Roots.{SeesRoot, Begins};
 
 use live_encodes::form::{form_below, slot_below, words_in};
 use live_encodes::search::find;
-use live_law::law::{Asks, Levels, Look, Mine, Root};
+use live_law::law::{Asks, Levels, Look, Mine};
+use live_law::roots::{Root, Sees};
 use live_nodes::heap::Heap;
 use live_nodes::law::{Seat, Word};
 use live_nodes::node;
 use live_rows::rows::Row;
+use std::marker::Brand;
 
 pub type Nodes = Heap<Mine, Levels>;
 
@@ -44,6 +48,34 @@ pub fn bytes_of(key: u64) -> [u8; 8]
     ]
 }
 
+// The name of the root. The caller picks what the seat has seen then. `None` where there is none yet, or a writer came in
+// between.
+#[inline(always)]
+fn root_by<S: Sees>(nodes: &Nodes, key: u64, pass: &mut Pass) -> Option<u64>
+    requires book { pass.old.book ≡ nodes.now }
+    requires trunk { KnowsTrunk pass.old.view }
+    requires learns { MayLearnRoot S.sees pass.old.id pass.old.view.client }
+    ensures told { (pass.new.book ≡ pass.old.book) × (pass.new.id ≡ pass.old.id)
+        × Keeps pass.old.view pass.new.view
+        × SeesRoot S.sees pass.old.view pass.new.view result
+        × IfSome result (λ name. Names pass.new.view name key 8) }
+{
+    let trunk = nodes.word(1)?;
+    let number = nodes.word(2)?;
+    let taken = node::take(trunk, pass);
+    if taken % 4 != 0 {
+        return None;
+    }
+    let name = node::read(number, pass);
+    if !node::check::<Mine, Levels, Root<S>>(trunk, taken, pass) {
+        return None;
+    }
+    if name == 0 {
+        return None;
+    }
+    Some(name)
+}
+
 /// The name of the root. `None` where there is none yet, or a writer came in between.
 #[inline(always)]
 pub fn root(nodes: &Nodes, key: u64, pass: &mut Pass) -> Option<u64>
@@ -54,20 +86,21 @@ pub fn root(nodes: &Nodes, key: u64, pass: &mut Pass) -> Option<u64>
         × (pass.new.view.client.seen ≡ pass.old.view.client.seen)
         × IfSome result (λ name. Names pass.new.view name key 8) }
 {
-    let trunk = nodes.word(1)?;
-    let number = nodes.word(2)?;
-    let taken = node::take(trunk, pass);
-    if taken % 4 != 0 {
-        return None;
-    }
-    let name = node::read(number, pass);
-    if !node::check::<Mine, Levels, Root>(trunk, taken, pass) {
-        return None;
-    }
-    if name == 0 {
-        return None;
-    }
-    Some(name)
+    root_by::<Brand>(nodes, key, pass)
+}
+
+/// The name of the root, for a reader that begins. Its entry is then the last of the history that it has seen. `None` where there
+/// is none yet, or a writer came in between: then it has seen no more.
+#[inline(always)]
+pub fn root_begun(nodes: &Nodes, key: u64, pass: &mut Pass) -> Option<u64>
+    requires book { pass.old.book ≡ nodes.now }
+    requires trunk { KnowsTrunk pass.old.view }
+    ensures told { (pass.new.book ≡ pass.old.book) × (pass.new.id ≡ pass.old.id)
+        × Keeps pass.old.view pass.new.view
+        × SeesRoot (Begins pass.old.id) pass.old.view pass.new.view result
+        × IfSome result (λ name. Names pass.new.view name key 8) }
+{
+    root_by::<Brand>(nodes, key, pass)
 }
 
 /// The words of the node that a number names. `None` where its segment isn't there yet.

@@ -8,6 +8,7 @@ use Rattle.share_rule.specs.History.{Entry, entries_of, operations_of, IsHistory
 use Rattle.share_rule.specs.inner.Rule.{HasSeen}
 use Rattle.share_rule.proofs.Keeps.{entries-append}
 use Rattle.live_law.specs.Views.{Ask, got, inserted}
+use Rattle.live_law.specs.Begun.{began}
 
 abbrev History : Type 0
 History = List (Entry ℕ)
@@ -21,6 +22,9 @@ get_legal history m q found run is = legal-append [] m m history (got q found �
 
 pub put_legal : (history : History) (m : Pairs ℕ) (q : Ask) (found : Option ℕ) → IsHistory nat_eq history m → lookup m q.key ≡ found → IsHistory nat_eq (history ++ inserted q found ∷ []) (put m q.key q.value)
 put_legal history m q found run is = legal-append [] m (put m q.key q.value) history (inserted q found ∷ []) run ((refl, ap old_value (sym is)), refl)
+
+pub began_legal : (history : History) (m : Pairs ℕ) (caller : ℕ) → IsHistory nat_eq history m → IsHistory nat_eq (history ++ began caller ∷ []) m
+began_legal history m caller run = legal-append [] m m history (began caller ∷ []) run ((refl, refl), refl)
 
 -- of one entry, who has it
 pub its_own : (e : Entry ℕ) → entries_of e.caller (e ∷ []) ≡ e ∷ []

@@ -9,3 +9,4 @@ pub mod Links
 pub mod Replans
 pub mod Joins
 pub mod Begins
+pub mod Begun

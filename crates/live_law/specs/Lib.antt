@@ -2,3 +2,5 @@ pub mod Levels
 pub mod Views
 pub mod Known
 pub mod Tree
+pub mod Begun
+pub mod Roots

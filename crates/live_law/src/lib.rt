@@ -9,3 +9,4 @@
 #![tactic(auto)]
 
 pub mod law;
+pub mod roots;
