@@ -4,11 +4,10 @@ use Rattle.std.proofs.lemmas.Bool.{cases_lt, lt-ltb, le-ltb}
 use Rattle.spec_map.specs.Map.{Pairs, lookup, Rises}
 use Rattle.spec_map.proofs.JoinLaws.{Rises-append, lookup-append_left, lookup-append_right}
 use Rattle.share_rule.specs.History.{Entry, StartsWith, IsHistory}
-use Rattle.share_rule.specs.inner.Rule.{HasSeen}
 use Rattle.live_nodes.specs.Seats.{SeatView}
 use Rattle.live_law.specs.Views.{View}
 use Rattle.live_scans.specs.Scans.{Moment, IsBetween, HasRead}
-use Rattle.live_scans.specs.inner.Moments.{HasNone, ReadsOn}
+use Rattle.live_scans.specs.inner.Moments.{SeesMore, HasNone, ReadsOn}
 
 abbrev Seen : Type 0
 Seen = SeatView View
@@ -22,11 +21,11 @@ starts_same h = ([], sym (append-nil h))
 pub starts_then : (a b c : History) → StartsWith b a → StartsWith c b → StartsWith c a
 starts_then a b c s t = (s.0 ++ t.0, t.1 ∙ (ap (λ (z : History). z ++ t.0) s.1 ∙ append_assoc a s.0 t.0))
 
-pub has_seen_same : (id : ℕ) (h : History) → HasSeen h id h
-has_seen_same id h = record { begins = starts_same h; own = refl }
+pub more_same : (id : ℕ) (h : History) → SeesMore h id h
+more_same id h = record { begins = starts_same h; own = refl; legal = λ l. l }
 
-pub has_seen_then : (id : ℕ) (a b c : History) → HasSeen b id a → HasSeen c id b → HasSeen c id a
-has_seen_then id a b c s t = record { begins = starts_then a b c s.begins t.begins; own = t.own ∙ s.own }
+pub more_then : (id : ℕ) (a b c : History) → SeesMore b id a → SeesMore c id b → SeesMore c id a
+more_then id a b c s t = record { begins = starts_then a b c s.begins t.begins; own = t.own ∙ s.own; legal = λ l. t.legal (s.legal l) }
 
 -- AT ONE MOMENT
 pub one_moment : (up : Bool) (old new : History) (m : Pairs ℕ) (low high : ℕ) (ps : Pairs ℕ) → StartsWith new old → IsHistory nat_eq new m → Rises low high ps → ((k : ℕ) → low ≤ k → k < high → lookup ps k ≡ lookup m k) → HasRead up old new low high ps
@@ -40,8 +39,8 @@ one_moment up old new m low high ps begins legal rises same = record {
 }
 
 -- OF NO KEYS
-pub nothing_read : (up : Bool) (old : History) (low high : ℕ) → high ≤ low → HasRead up old old low high []
-nothing_read up old low high none = record {
+pub nothing_between : (up : Bool) (old new : History) (low high : ℕ) → high ≤ low → HasRead up old new low high []
+nothing_between up old new low high none = record {
   moment = λ k. record { history = old; pairs = [] };
   between = λ k l h. absurd (omega (arith, l, h, none));
   value = λ k l h. absurd (omega (arith, l, h, none));
@@ -49,6 +48,9 @@ nothing_read up old low high none = record {
   leaf = λ j k lj hj lk hk e. absurd (omega (arith, lj, hj, none));
   ascend = tt;
 }
+
+pub nothing_read : (up : Bool) (old : History) (low high : ℕ) → high ≤ low → HasRead up old old low high []
+nothing_read up old low high none = nothing_between up old old low high none
 
 -- OF FEWER
 pub narrowed : (old new : History) (low high high' : ℕ) (ps : Pairs ℕ) → HasRead true old new low high ps → high' ≤ high → Rises low high' ps → HasRead true old new low high' ps
@@ -136,21 +138,21 @@ read_since up older old new low high ps first r = record {
   ascend = r.ascend;
 }
 
-pub none_since : (id : ℕ) (u v w : Seen) (Is : ℕ → Type 0) → HasSeen v.client.seen id u.client.seen → HasNone id v w Is → HasNone id u w Is
+pub none_since : (id : ℕ) (u v w : Seen) (Is : ℕ → Type 0) → SeesMore v.client.seen id u.client.seen → HasNone id v w Is → HasNone id u w Is
 none_since id u v w Is first n = record {
-  fits = has_seen_then id u.client.seen v.client.seen w.client.seen first n.fits;
+  fits = more_then id u.client.seen v.client.seen w.client.seen first n.fits;
   pairs = n.pairs;
   legal = n.legal;
   none = n.none;
 }
 
-pub nones_since : (id : ℕ) (u v w : Seen) (Is : ℕ → ℕ → Type 0) (r : Option ℕ) → HasSeen v.client.seen id u.client.seen → IfSome r (λ b. HasNone id v w (Is b)) → IfSome r (λ b. HasNone id u w (Is b))
+pub nones_since : (id : ℕ) (u v w : Seen) (Is : ℕ → ℕ → Type 0) (r : Option ℕ) → SeesMore v.client.seen id u.client.seen → IfSome r (λ b. HasNone id v w (Is b)) → IfSome r (λ b. HasNone id u w (Is b))
 nones_since id u v w Is None first h = tt
 nones_since id u v w Is (Some b) first h = none_since id u v w (Is b) first h
 
-pub reads_since : (id : ℕ) (u v w : Seen) (low high : ℕ) (ps : Pairs ℕ) → HasSeen v.client.seen id u.client.seen → ReadsOn id v w low high ps → ReadsOn id u w low high ps
+pub reads_since : (id : ℕ) (u v w : Seen) (low high : ℕ) (ps : Pairs ℕ) → SeesMore v.client.seen id u.client.seen → ReadsOn id v w low high ps → ReadsOn id u w low high ps
 reads_since id u v w low high ps first r = record {
-  fits = has_seen_then id u.client.seen v.client.seen w.client.seen first r.fits;
+  fits = more_then id u.client.seen v.client.seen w.client.seen first r.fits;
   legal = r.legal;
   read = read_since true u.client.seen v.client.seen w.client.seen low high ps first.begins r.read;
 }
@@ -162,9 +164,9 @@ reads_fewer id v w low high high' ps r less rises = record {
   read = narrowed v.client.seen w.client.seen low high high' ps r.read less rises;
 }
 
-pub reads_then : (id : ℕ) (u v w : Seen) (low m high : ℕ) (xs ys : Pairs ℕ) → HasSeen v.client.seen id u.client.seen → HasRead true u.client.seen v.client.seen low m xs → ReadsOn id v w m high ys → low ≤ m → m ≤ high → (m % 256 ≡ 0) ⊎ (low ≡ m) → ReadsOn id u w low high (xs ++ ys)
+pub reads_then : (id : ℕ) (u v w : Seen) (low m high : ℕ) (xs ys : Pairs ℕ) → SeesMore v.client.seen id u.client.seen → HasRead true u.client.seen v.client.seen low m xs → ReadsOn id v w m high ys → low ≤ m → m ≤ high → (m % 256 ≡ 0) ⊎ (low ≡ m) → ReadsOn id u w low high (xs ++ ys)
 reads_then id u v w low m high xs ys first r s from to seam = record {
-  fits = has_seen_then id u.client.seen v.client.seen w.client.seen first s.fits;
+  fits = more_then id u.client.seen v.client.seen w.client.seen first s.fits;
   legal = s.legal;
   read = joined_reads u.client.seen v.client.seen w.client.seen low m high xs ys r s.read first.begins s.fits.begins from to seam;
 }

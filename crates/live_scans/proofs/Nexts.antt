@@ -8,7 +8,6 @@ use Rattle.node_table.specs.declared.child.Child.TheVariants.{Payload, Node as B
 use Rattle.spec_map.specs.Map.{Pairs, lookup}
 use Rattle.word_book.specs.Book.{Book, Name, reads, none_joined}
 use Rattle.share_rule.specs.History.{Entry, IsHistory}
-use Rattle.share_rule.specs.inner.Rule.{HasSeen}
 use Rattle.live_nodes.specs.Nodes.{Content}
 use Rattle.live_nodes.specs.Seats.{Place, Read, read, SeatView, IsIn, Agree}
 use Rattle.live_nodes.specs.Plays as Plays
@@ -30,7 +29,7 @@ use Rattle.live_calls.specs.declared.sight.Sight.TheVariants as sights
 use Rattle.live_calls.proofs.Views.{reading_on, reading_on_keeps, learned_keeps, open_read, may_check_open, open_checked, open_missed, may_look, look_missed, look_ends, may_meet, meet_missed, meet_head, IsHeaded, same_named}
 use Rattle.live_calls.proofs.Sights.{sights_kept, covers_by}
 use Rattle.live_calls.proofs.Finds.{keeps_then, names_kept, looked_below}
-use Rattle.live_scans.specs.inner.Moments.{HasUnder, IsRead, LearnsAll, HasNone, IsWithin, IsPassed, ReadsOn}
+use Rattle.live_scans.specs.inner.Moments.{SeesMore, HasUnder, IsRead, LearnsAll, HasNone, IsWithin, IsPassed, ReadsOn}
 use Rattle.live_scans.specs.Scans.{HasRead}
 use Rattle.live_scans.specs.inner.Nexts.{IsNear, HasHead, IsNext, IsOutside, Chooses, Turns}
 use Rattle.live_scans.specs.declared.next.Child.{Child}
@@ -255,7 +254,7 @@ module _ (v : Seen) (b : Book) (words : List Name) (t name key height byte word 
             subst (λ (z : Seen). IsRead caller v.client e e.shape t f.saw z.client) (sym h.2) x,
           )
 
-      pub still_keeps : Keeps v w × HasSeen w.client.seen caller v.client.seen
+      pub still_keeps : Keeps v w × SeesMore w.client.seen caller v.client.seen
       still_keeps = (still_read.0, still_read.1.fits)
 
       pub still_head : (b' : Book) → b' ≡ b → HasHead w b' below low first others other
@@ -332,7 +331,7 @@ apart_before low first k l ne same = let x = up-rises low k (first - 1) (omega (
 -- nobody wrote since
 pub none_to : (id : ℕ) (v w w' : Seen) (Is : ℕ → Type 0) → w'.client.seen ≡ w.client.seen → HasNone id v w Is → HasNone id v w' Is
 none_to id v w w' Is same n = record {
-  fits = subst (λ (h : List (Entry ℕ)). HasSeen h id v.client.seen) (sym same) n.fits;
+  fits = subst (λ (h : List (Entry ℕ)). SeesMore h id v.client.seen) (sym same) n.fits;
   pairs = n.pairs;
   legal = subst (λ (h : List (Entry ℕ)). IsHistory nat_eq h n.pairs) (sym same) n.legal;
   none = n.none;
@@ -379,7 +378,7 @@ pub seams : (a b c : ℕ) → (b % 256 ≡ 0) ⊎ (a ≡ b) → (c % 256 ≡ 0) 
 seams a b c first then = elim then [ inl whole ↦ inl whole | inr same ↦ elim first [ inl whole ↦ inl (omega (arith, whole, same)) | inr again ↦ inr (again ∙ same) ] ]
 
 -- ON FROM NODE TO NODE
-pub passed_on : (c id : ℕ) (u v w : Seen) (key from last : ℕ) → c ≡ id → HasSeen v.client.seen id u.client.seen → HasRead true u.client.seen v.client.seen key from [] → key ≤ from → (from % 256 ≡ 0) ⊎ (key ≡ from) → IsPassed c v w from last → IsPassed id u w key last
+pub passed_on : (c id : ℕ) (u v w : Seen) (key from last : ℕ) → c ≡ id → SeesMore v.client.seen id u.client.seen → HasRead true u.client.seen v.client.seen key from [] → key ≤ from → (from % 256 ≡ 0) ⊎ (key ≡ from) → IsPassed c v w from last → IsPassed id u w key last
 passed_on c id u v w key from last is seen read low seam p =
     let on = p.low in record {
       low = omega (arith, low, on);
@@ -387,16 +386,16 @@ passed_on c id u v w key from last is seen read low seam p =
       reads = reads_then id u v w key from (last + 1) [] [] seen read (subst (λ (z : ℕ). ReadsOn z v w from (last + 1) []) is p.reads) low (omega (arith, on)) seam;
     }
 
-pub reads_on_then : (c id : ℕ) (u v w : Seen) (key from to : ℕ) → c ≡ id → HasSeen v.client.seen id u.client.seen → HasRead true u.client.seen v.client.seen key from [] → key ≤ from → (from % 256 ≡ 0) ⊎ (key ≡ from) → from ≤ to → ReadsOn c v w from to [] → ReadsOn id u w key to []
+pub reads_on_then : (c id : ℕ) (u v w : Seen) (key from to : ℕ) → c ≡ id → SeesMore v.client.seen id u.client.seen → HasRead true u.client.seen v.client.seen key from [] → key ≤ from → (from % 256 ≡ 0) ⊎ (key ≡ from) → from ≤ to → ReadsOn c v w from to [] → ReadsOn id u w key to []
 reads_on_then c id u v w key from to is seen read low seam on r = reads_then id u v w key from to [] [] seen read (subst (λ (z : ℕ). ReadsOn z v w from to []) is r) low on seam
 
-pub turns_since : (c id : ℕ) (u v w : Seen) (key height : ℕ) (o : Option Turn) → c ≡ id → HasSeen v.client.seen id u.client.seen → Turns c v w key height o → Turns id u w key height o
+pub turns_since : (c id : ℕ) (u v w : Seen) (key height : ℕ) (o : Option Turn) → c ≡ id → SeesMore v.client.seen id u.client.seen → Turns c v w key height o → Turns id u w key height o
 turns_since c id u v w key height None is seen t = tt
 turns_since c id u v w key height (Some (turns.Past last)) is seen t = passed_since c id u v w key last is seen t
 turns_since c id u v w key height (Some (turns.Goes d)) is seen t = (t.0, t.1, t.2, t.3, t.4, reads_since id u v w key d.first [] seen (subst (λ (z : ℕ). ReadsOn z v w key d.first []) is t.5))
 
 -- a turn on the way of a reader
-pub turned_past : (c id : ℕ) (u v w : Seen) (key from height last : ℕ) (o : Option Turn) → c ≡ id → HasSeen v.client.seen id u.client.seen → HasRead true u.client.seen v.client.seen key from [] → key ≤ from → (from % 256 ≡ 0) ⊎ (key ≡ from) → Turns c v w from height o → o ≡ Some (turns.Past last) → IsPassed id u w key last
+pub turned_past : (c id : ℕ) (u v w : Seen) (key from height last : ℕ) (o : Option Turn) → c ≡ id → SeesMore v.client.seen id u.client.seen → HasRead true u.client.seen v.client.seen key from [] → key ≤ from → (from % 256 ≡ 0) ⊎ (key ≡ from) → Turns c v w from height o → o ≡ Some (turns.Past last) → IsPassed id u w key last
 turned_past c id u v w key from height last o is seen read low seam t e = passed_on c id u v w key from last is seen read low seam (subst (Turns c v w from height) e t)
 
 pub record HasTurned (id : ℕ) (u w : Seen) (key height : ℕ) (d : Child) : Type 0 where
@@ -407,7 +406,7 @@ pub record HasTurned (id : ℕ) (u w : Seen) (key height : ℕ) (d : Child) : Ty
   pub names : Names w d.name d.first d.height
   pub reads : ReadsOn id u w key d.first []
 
-pub turned_to : (c id : ℕ) (u v w : Seen) (key from height : ℕ) (d : Child) (o : Option Turn) → c ≡ id → HasSeen v.client.seen id u.client.seen → HasRead true u.client.seen v.client.seen key from [] → key ≤ from → (from % 256 ≡ 0) ⊎ (key ≡ from) → Turns c v w from height o → o ≡ Some (turns.Goes d) → HasTurned id u w key height d
+pub turned_to : (c id : ℕ) (u v w : Seen) (key from height : ℕ) (d : Child) (o : Option Turn) → c ≡ id → SeesMore v.client.seen id u.client.seen → HasRead true u.client.seen v.client.seen key from [] → key ≤ from → (from % 256 ≡ 0) ⊎ (key ≡ from) → Turns c v w from height o → o ≡ Some (turns.Goes d) → HasTurned id u w key height d
 turned_to c id u v w key from height d o is seen read low seam t e =
     let g = subst (Turns c v w from height) e t in
     let on = g.2 in record {
@@ -419,7 +418,7 @@ turned_to c id u v w key from height d o is seen read low seam t e =
       reads = reads_on_then c id u v w key from d.first is seen read low seam g.2 g.5;
     }
 
-pub reaches_since : (c id : ℕ) (u v w : Seen) (k key : ℕ) (r : Reach) → c ≡ id → k ≡ key → HasSeen v.client.seen id u.client.seen → Reaches c v w k r → Reaches id u w key r
+pub reaches_since : (c id : ℕ) (u v w : Seen) (k key : ℕ) (r : Reach) → c ≡ id → k ≡ key → SeesMore v.client.seen id u.client.seen → Reaches c v w k r → Reaches id u w key r
 reaches_since c id u v w k key (reaches.Past last) is same seen r = subst (λ (z : ℕ). IsPassed id u w z last) same (passed_since c id u v w k last is seen r)
 reaches_since c id u v w k key (reaches.Leaf name first) is same seen r = let low = r.0 in (
   omega (arith, low, same),
@@ -442,7 +441,7 @@ cut_step id u w key limit start first buffer low cut room r = record {
   reads = subst (λ (ps : Pairs ℕ). ReadsOn id u w key (limit + 1) ps) (sym (filled_none buffer start (omega (arith, room)))) (reads_fewer id u w key first (limit + 1) [] r (omega (arith, cut)) tt);
 }
 
-pub step_after : (c id : ℕ) (u v w : Seen) (key first limit start count last : ℕ) (buffer : List (ℕ × ℕ)) → c ≡ id → HasSeen v.client.seen id u.client.seen → ReadsOn id u v key first [] → key ≤ first → (first % 256 ≡ 0) ⊎ (key ≡ first) → IsStep c v w first limit start buffer count last → IsStep id u w key limit start buffer count last
+pub step_after : (c id : ℕ) (u v w : Seen) (key first limit start count last : ℕ) (buffer : List (ℕ × ℕ)) → c ≡ id → SeesMore v.client.seen id u.client.seen → ReadsOn id u v key first [] → key ≤ first → (first % 256 ≡ 0) ⊎ (key ≡ first) → IsStep c v w first limit start buffer count last → IsStep id u w key limit start buffer count last
 step_after c id u v w key first limit start count last buffer is seen r low seam s =
     let on = s.low in record {
       low = omega (arith, low, on);

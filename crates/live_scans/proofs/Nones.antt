@@ -14,7 +14,7 @@ use Rattle.live_law.specs.Tree.{IsOfKind}
 use Rattle.live_law.proofs.Plans.{way-key, joined, up-up, digit-low}
 use Rattle.live_calls.specs.Ways.{Names}
 use Rattle.live_calls.specs.Forks.{IsForked}
-use Rattle.live_scans.specs.inner.Moments.{HasUnder, IsRead, HasNone, IsByteBefore, IsWithin, IsBeside, IsPassed, ReadsOn}
+use Rattle.live_scans.specs.inner.Moments.{HasUnder, IsRead, HasNone, IsWithin, IsBeside, ReadsOn}
 use Rattle.live_scans.specs.inner.Forks.{IsAside}
 use Rattle.live_scans.proofs.Uppers.{up-rises}
 use Rattle.live_scans.proofs.Composed.{one_moment, none_read}
@@ -22,11 +22,7 @@ use Rattle.live_scans.proofs.Composed.{one_moment, none_read}
 abbrev Seen : Type 0
 Seen = SeatView View
 
--- WITHIN
-within_found : (fs : List (ℕ × Child ℕ)) (first b d : ℕ) (found : Option (ℕ × ℕ)) → first ≤ d → d ≤ b → HasNearest true fs first found → IsByteBefore found first (Some b) → lookup fs d ≡ None
-within_found fs first b d None low high near is = near d low
-within_found fs first b d (Some e) low high near is = let l = is.1 in near.2 d low (omega (arith, high, l))
-
+-- AT A NODE
 module _ (id : ℕ) (v w : Seen) (name key height : ℕ) (n : Names v name key height) (word : ℕ) (saw : List (ℕ × ℕ)) (x : IsRead id v.client n.spot n.spot.shape word saw w.client) where
   pub covers_like : (k : ℕ) → up height k ≡ up height key → Covers n.spot.shape k
   covers_like k e = subst (λ (z : ℕ). up z k ≡ up z key) (sym n.high) e ∙ n.covers
@@ -34,15 +30,14 @@ module _ (id : ℕ) (v w : Seen) (name key height : ℕ) (n : Names v name key h
   pub at_digit : (k : ℕ) → HasUnder v.client n.spot.number word x.pairs k (lookup x.node.its.children (digit n.spot.shape.height k)) → HasUnder v.client n.spot.number word x.pairs k (lookup x.node.its.children (digit height k))
   at_digit k h = subst (λ (z : ℕ). HasUnder v.client n.spot.number word x.pairs k (lookup x.node.its.children (digit z k))) n.high h
 
-  pub has_none_within : (byte : ℕ) (found : Option (ℕ × ℕ)) (r : Option ℕ) → byte ≡ digit height key → HasNearest true x.node.its.children byte found → IsByteBefore found byte r → IfSome r (λ b. HasNone id v w (IsWithin height key b))
-  has_none_within byte found None is near before = tt
-  has_none_within byte found (Some b) is near before = record {
+  pub has_none_from : (byte b : ℕ) → byte ≡ digit height key → HasNearest true x.node.its.children byte None → HasNone id v w (IsWithin height key b)
+  has_none_from byte b is near = record {
     fits = x.fits;
     pairs = x.pairs;
     legal = x.legal;
     none = λ k l.
         let low = l.1 in
-        let none : lookup x.node.its.children (digit height k) ≡ None = within_found x.node.its.children byte b (digit height k) found (omega (arith, is, low)) l.2 near before in
+        let none : lookup x.node.its.children (digit height k) ≡ None = near (digit height k) (omega (arith, is, low)) in
         subst (λ (o : Option (Child ℕ)). HasUnder v.client n.spot.number word x.pairs k o) none (at_digit k (x.under k (covers_like k l.0)));
   }
 
@@ -128,39 +123,3 @@ pub splits : (at k : ℕ) → 1 ≤ at → (up (at - 1) k ≡ 256 * up at k + di
 splits at k some =
     let e : suc (at - 1) ≡ at = omega (arith, some) in
     (subst (λ (z : ℕ). up (at - 1) k ≡ 256 * up z k + digit z k) e (sym (joined (at - 1) k (up (suc (at - 1)) k) refl)), digit-low at k)
-
--- before the byte's end, where the node is below the key
-pub is_past : (height key last at b k : ℕ) → 1 ≤ at → 1 ≤ height → b < digit at key → up (height - 1) last ≡ 256 * up height key + digit height key → key ≤ k → k ≤ last → IsBeside height key at b k
-is_past height key last at b k some_at some less is from to =
-    let x = up-rises (height - 1) key k from in
-    let y = up-rises (height - 1) k last to in
-    let s = splits height key some in
-    let e = s.0 in
-    let t = splits at key some_at in
-    let f = t.0 in
-    let z = up-rises (at - 1) key k from in
-    (omega (arith, x, y, is, e), λ same. omega (arith, same, z, f, less))
-
--- before the node, which is above the key
-pub is_before : (height key last at b k : ℕ) → 1 ≤ at → at < height → digit at key < b → b < 256 → up (at - 1) last ≡ 256 * up at key + (b - 1) → key ≤ k → k ≤ last → IsBeside height key at b k
-is_before height key last at b k some_at low less small is from to =
-    let z = up-rises (at - 1) key k from in
-    let y = up-rises (at - 1) k last to in
-    let t = splits at key some_at in
-    let f = t.0 in
-    let u = splits at k some_at in
-    let g = u.0 in
-    let d = u.1 in
-    let same : up at k ≡ up at key = omega (arith, z, y, f, g, d, is, less, small) in
-    let e : height - 1 - at + at ≡ height - 1 = omega (arith, low) in
-    let up_to = λ (q : ℕ). sym (subst (λ (r : ℕ). up (height - 1 - at) (up at q) ≡ up r q) e (up-up (height - 1 - at) at q)) in
-    (up_to k ∙ (ap (up (height - 1 - at)) same ∙ sym (up_to key)), λ other. omega (arith, other, y, is, less, small))
-
--- up to a leaf's last key
-pub is_passed : (id : ℕ) (v w : Seen) (Is : ℕ → Type 0) (key last : ℕ) (r : Option ℕ) → HasNone id v w Is → ((k : ℕ) → key ≤ k → k ≤ last → Is k) → IfSome r (λ l. (l ≡ last) × (key ≤ l) × ((l + 1) % 256 ≡ 0)) → IfSome r (λ l. IsPassed id v w key l)
-is_passed id v w Is key last None n all p = tt
-is_passed id v w Is key last (Some l) n all p = record {
-  low = p.1;
-  seam = p.2;
-  reads = none_read id v w Is key (l + 1) n (λ k from to. all k from (let e = p.0 in omega (arith, to, e)));
-}

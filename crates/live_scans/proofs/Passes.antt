@@ -5,7 +5,6 @@ use native.Mathlib.Decide.{ℕ_discrete}
 use Rattle.std.proofs.lemmas.List.{take-append-drop, take-take}
 use Rattle.spec_map.specs.Map.{Pairs}
 use Rattle.share_rule.specs.History.{Entry}
-use Rattle.share_rule.specs.inner.Rule.{HasSeen}
 use Rattle.live_nodes.specs.Seats.{SeatView}
 use Rattle.live_law.specs.Views.{View, Ask}
 use Rattle.live_calls.specs.Ways.{Ended, Keeps}
@@ -14,9 +13,9 @@ use Rattle.live_calls.specs.declared.sight.Next.{Next}
 use Rattle.live_calls.specs.declared.sight.Next.TheVariants as nexts
 use Rattle.live_order.proofs.PageLaws.{filled_none}
 use Rattle.live_scans.specs.Scans.{HasRead}
-use Rattle.live_scans.specs.inner.Moments.{IsPassed, ReadsOn}
+use Rattle.live_scans.specs.inner.Moments.{SeesMore, IsPassed, ReadsOn}
 use Rattle.live_scans.specs.inner.Steps.{IsStep}
-use Rattle.live_scans.proofs.Composed.{has_seen_same, has_seen_then, reads_since, reads_fewer, reads_then}
+use Rattle.live_scans.proofs.Composed.{more_same, more_then, reads_since, reads_fewer, reads_then}
 
 abbrev Seen : Type 0
 Seen = SeatView View
@@ -24,13 +23,13 @@ Seen = SeatView View
 pub keeps_same : (v : Seen) → Keeps v v
 keeps_same v = record { places = λ p h. h; met = λ a h. h; own = refl; holds = refl; room = refl }
 
-pub seen_equal : (id : ℕ) (u v : Seen) → v.client.seen ≡ u.client.seen → HasSeen v.client.seen id u.client.seen
-seen_equal id u v e = subst (λ (h : List (Entry ℕ)). HasSeen h id u.client.seen) (sym e) (has_seen_same id u.client.seen)
+pub seen_equal : (id : ℕ) (u v : Seen) → v.client.seen ≡ u.client.seen → SeesMore v.client.seen id u.client.seen
+seen_equal id u v e = subst (λ (h : List (Entry ℕ)). SeesMore h id u.client.seen) (sym e) (more_same id u.client.seen)
 
-pub seen_since : (c id : ℕ) (u v w : Seen) → c ≡ id → HasSeen v.client.seen id u.client.seen → HasSeen w.client.seen c v.client.seen → HasSeen w.client.seen id u.client.seen
-seen_since c id u v w is first then = has_seen_then id u.client.seen v.client.seen w.client.seen first (subst (λ (z : ℕ). HasSeen w.client.seen z v.client.seen) is then)
+pub seen_since : (c id : ℕ) (u v w : Seen) → c ≡ id → SeesMore v.client.seen id u.client.seen → SeesMore w.client.seen c v.client.seen → SeesMore w.client.seen id u.client.seen
+seen_since c id u v w is first then = more_then id u.client.seen v.client.seen w.client.seen first (subst (λ (z : ℕ). SeesMore w.client.seen z v.client.seen) is then)
 
-pub passed_since : (c id : ℕ) (u v w : Seen) (key last : ℕ) → c ≡ id → HasSeen v.client.seen id u.client.seen → IsPassed c v w key last → IsPassed id u w key last
+pub passed_since : (c id : ℕ) (u v w : Seen) (key last : ℕ) → c ≡ id → SeesMore v.client.seen id u.client.seen → IsPassed c v w key last → IsPassed id u w key last
 passed_since c id u v w key last is first p = record {
   low = p.low;
   seam = p.seam;
@@ -52,7 +51,7 @@ gap_step id u w key limit start last l buffer p low high whole from room = recor
   reads = subst (λ (ps : Pairs ℕ). ReadsOn id u w key (l + 1) ps) (sym (filled_none buffer start (omega (arith, room)))) (reads_fewer id u w key (last + 1) (l + 1) [] p.reads (omega (arith, low)) tt);
 }
 
-pub leaf_step : (c id : ℕ) (u v w : Seen) (key limit start base first end count reached : ℕ) (buffer : List (ℕ × ℕ)) → c ≡ id → HasSeen v.client.seen id u.client.seen → base % 256 ≡ 0 → base + first ≡ key → base + end ≤ limit → (end ≢ 255 → base + end ≡ limit) → start ≤ count → count ≤ length buffer → first ≤ reached → reached ≤ end → (reached ≢ end → count ≡ length buffer)
+pub leaf_step : (c id : ℕ) (u v w : Seen) (key limit start base first end count reached : ℕ) (buffer : List (ℕ × ℕ)) → c ≡ id → SeesMore v.client.seen id u.client.seen → base % 256 ≡ 0 → base + first ≡ key → base + end ≤ limit → (end ≢ 255 → base + end ≡ limit) → start ≤ count → count ≤ length buffer → first ≤ reached → reached ≤ end → (reached ≢ end → count ≡ length buffer)
     → ReadsOn c v w (base + first) (base + reached + 1) (drop start (take count buffer)) → IsStep id u w key limit start buffer count (base + reached)
 leaf_step c id u v w key limit start base first end count reached buffer is seen whole begins high cut from few low within full reads = record {
   low = omega (arith, begins, low);
@@ -67,7 +66,7 @@ leaf_step c id u v w key limit start base first end count reached buffer is seen
       (subst (λ (z : ℕ × ℕ). ReadsOn z.0 v w z.1 (base + reached + 1) (drop start (take count buffer))) (λ i. (is i, begins i)) reads);
 }
 
-pub step_since : (c id : ℕ) (u v w : Seen) (key limit start count last : ℕ) (buffer : List (ℕ × ℕ)) → c ≡ id → HasSeen v.client.seen id u.client.seen → IsStep c v w key limit start buffer count last → IsStep id u w key limit start buffer count last
+pub step_since : (c id : ℕ) (u v w : Seen) (key limit start count last : ℕ) (buffer : List (ℕ × ℕ)) → c ≡ id → SeesMore v.client.seen id u.client.seen → IsStep c v w key limit start buffer count last → IsStep id u w key limit start buffer count last
 step_since c id u v w key limit start count last buffer is seen s = record {
   low = s.low;
   high = s.high;
@@ -78,7 +77,7 @@ step_since c id u v w key limit start count last buffer is seen s = record {
 }
 
 -- a page that a step goes on with
-pub page_step : (c id : ℕ) (u v w : Seen) (key from limit start count last : ℕ) (old buffer : List (ℕ × ℕ)) → c ≡ id → HasSeen v.client.seen id u.client.seen → HasRead true u.client.seen v.client.seen key from (take start old) → take start buffer ≡ take start old → key ≤ from → (from % 256 ≡ 0) ⊎ (key ≡ from) → IsStep c v w from limit start buffer count last → ReadsOn id u w key (last + 1) (take count buffer)
+pub page_step : (c id : ℕ) (u v w : Seen) (key from limit start count last : ℕ) (old buffer : List (ℕ × ℕ)) → c ≡ id → SeesMore v.client.seen id u.client.seen → HasRead true u.client.seen v.client.seen key from (take start old) → take start buffer ≡ take start old → key ≤ from → (from % 256 ≡ 0) ⊎ (key ≡ from) → IsStep c v w from limit start buffer count last → ReadsOn id u w key (last + 1) (take count buffer)
 page_step c id u v w key from limit start count last old buffer is seen read same low seam s =
     let reads : ReadsOn id v w from (last + 1) (drop start (take count buffer)) = subst (λ (z : ℕ). ReadsOn z v w from (last + 1) (drop start (take count buffer))) is s.reads in
     let high = s.low in

@@ -3,7 +3,7 @@ use Rattle.std.proofs.Common.{◌≡◌, ◌≢◌, ℕ, zero, suc, ◌*◌, ◌
 use Rattle.node_table.specs.TableNode.{Child}
 use Rattle.node_table.specs.declared.child.Child.TheVariants.{Payload, Node as Below}
 use Rattle.spec_map.specs.Map.{lookup}
-use Rattle.share_rule.specs.inner.Rule.{HasSeen}
+use Rattle.share_rule.specs.History.{entries_of}
 use Rattle.word_book.specs.Book.{Book, Name, reads, none_joined}
 use Rattle.live_nodes.specs.Nodes.{Content, Node, node}
 use Rattle.live_nodes.specs.Seats.{Read, read, SeatView, IsIn, Agree}
@@ -76,7 +76,7 @@ node_whole caller id by v a mine word saw m even others ns vs p seat low is free
                 };
                 of_kind = λ x l. of_kind p.plan p.pairs s.height s.top x (lookup c.its.children x) (c.under x l);
                 is = refl;
-                fits = subst (λ (z : ℕ). HasSeen p.history z v.seen) (sym by) k.seen;
+                fits = record { begins = k.seen.begins; own = subst (λ (z : ℕ). entries_of z p.history ≡ entries_of z v.seen) (sym by) k.seen.own; legal = λ _. (p.pairs, p.legal) };
                 pairs = p.pairs;
                 legal = p.legal;
                 under = λ key covers. subst (λ (z : ℕ). HasUnder v z word p.pairs key (lookup c.its.children (digit s.height key))) (sym same)

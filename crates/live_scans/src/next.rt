@@ -1,12 +1,11 @@
 //! The way on from a key below a node: to the next node, or past keys that are absent.
 ghost use Rattle.std.specs.Prelude.{◌≡◌, ℕ, ◌+◌, ◌-◌, ◌*◌, ◌^◌, ◌%◌, ◌<◌, ◌≤◌, true, false, Some, IfSome, IsTrue};
-ghost use Rattle.share_rule.specs.inner.Rule.{HasSeen};
 ghost use Rattle.node_table.specs.declared.child.Child.TheVariants.{Node};
 ghost use Rattle.live_encodes.specs.Encodes.{IsWord};
 ghost use Rattle.live_law.specs.Levels.{up, digit};
 ghost use Rattle.live_calls.specs.Ways.{Names, Sights, Keeps};
 ghost use Rattle.live_calls.specs.Forks.{first_number};
-ghost use Rattle.live_scans.specs.inner.Moments.{HasNone};
+ghost use Rattle.live_scans.specs.inner.Moments.{SeesMore, HasNone};
 ghost use Rattle.live_scans.specs.inner.Nexts.{IsNear, IsNext, HasHead, IsOutside, Chooses, Turns};
 
 use crate::after::child_after;
@@ -166,7 +165,7 @@ fn is_still<A: Asks>(
         lower.name lower.height lower.first lower.here.words.now lower.here.taken }
     ensures told { (pass.new.book ≡ pass.old.book) × (pass.new.id ≡ pass.old.id)
         × Keeps pass.old.view pass.new.view
-        × HasSeen pass.new.view.client.seen pass.old.id pass.old.view.client.seen }
+        × SeesMore pass.new.view.client.seen pass.old.id pass.old.view.client.seen }
     ensures none { IsTrue result → HasNone pass.old.id pass.old.view pass.new.view
         (IsOutside height key byte lower.entry.height lower.entry.first) }
     ensures head { IsTrue result → HasHead pass.new.view pass.new.book lower.entry.name lower.entry.height
@@ -249,7 +248,7 @@ fn beside<A: Asks>(
     requires height { (2 ≤ height) × (height ≤ 8) }
     ensures told { (pass.new.book ≡ pass.old.book) × (pass.new.id ≡ pass.old.id)
         × Keeps pass.old.view pass.new.view
-        × HasSeen pass.new.view.client.seen pass.old.id pass.old.view.client.seen
+        × SeesMore pass.new.view.client.seen pass.old.id pass.old.view.client.seen
         × Turns pass.old.id pass.old.view pass.new.view key height result }
 {
     let to = last_of(key, height, byte);
@@ -279,7 +278,7 @@ fn behind<A: Asks>(
     requires height { (2 ≤ height) × (height ≤ 8) }
     ensures told { (pass.new.book ≡ pass.old.book) × (pass.new.id ≡ pass.old.id)
         × Keeps pass.old.view pass.new.view
-        × HasSeen pass.new.view.client.seen pass.old.id pass.old.view.client.seen
+        × SeesMore pass.new.view.client.seen pass.old.id pass.old.view.client.seen
         × Turns pass.old.id pass.old.view pass.new.view key height result }
 {
     let Opened { words, taken } = here;
@@ -307,7 +306,7 @@ pub fn next_turn<A: Asks>(
     requires height { (2 ≤ height) × (height ≤ 8) }
     ensures told { (pass.new.book ≡ pass.old.book) × (pass.new.id ≡ pass.old.id)
         × Keeps pass.old.view pass.new.view
-        × HasSeen pass.new.view.client.seen pass.old.id pass.old.view.client.seen
+        × SeesMore pass.new.view.client.seen pass.old.id pass.old.view.client.seen
         × Turns pass.old.id pass.old.view pass.new.view key height result }
 {
     let near = open_near(nodes, name, height, key, pass)?;

@@ -1,6 +1,6 @@
 //! Pages of a range, leaf by leaf.
 ghost use Rattle.std.specs.Prelude.{◌≡◌, ◌≢◌, ◌+◌, ◌%◌, ◌^◌, ◌<◌, ◌≤◌, length, take, IfSome};
-ghost use Rattle.share_rule.specs.inner.Rule.{HasSeen};
+ghost use Rattle.live_scans.specs.inner.Moments.{SeesMore};
 ghost use Rattle.live_order.specs.Page.{pairs_of};
 ghost use Rattle.live_calls.specs.Ways.{KnowsTrunk, Keeps};
 ghost use Rattle.live_scans.specs.inner.Steps.{IsStep, IsPage};
@@ -65,7 +65,7 @@ fn try_step<P: RangeEntry>(
         ≡ take start (pairs_of P.pair buffer.old) }
     ensures told { (pass.new.book ≡ pass.old.book) × (pass.new.id ≡ pass.old.id)
         × Keeps pass.old.view pass.new.view
-        × HasSeen pass.new.view.client.seen pass.old.id pass.old.view.client.seen
+        × SeesMore pass.new.view.client.seen pass.old.id pass.old.view.client.seen
         × IfSome result (λ s. IsStand pass.new.view s.stand
         × IsStep pass.old.id pass.old.view pass.new.view
         key limit start (pairs_of P.pair buffer.new) s.step.count s.step.last) }
@@ -122,7 +122,7 @@ fn read_on<P: RangeEntry>(
         ≡ take start (pairs_of P.pair buffer.old) }
     ensures told { (pass.new.book ≡ pass.old.book) × (pass.new.id ≡ pass.old.id)
         × Keeps pass.old.view pass.new.view
-        × HasSeen pass.new.view.client.seen pass.old.id pass.old.view.client.seen
+        × SeesMore pass.new.view.client.seen pass.old.id pass.old.view.client.seen
         × IfSome result (λ s. IsStand pass.new.view s.stand
         × IsStep pass.old.id pass.old.view pass.new.view
         key limit start (pairs_of P.pair buffer.new) s.step.count s.step.last) }
@@ -137,10 +137,11 @@ fn read_on<P: RangeEntry>(
     None
 }
 
-/// The pairs with keys from this one up to a limit, ascending, until the buffer is full. `None` where too many writers came
-/// in between.
+/// The pairs with keys from this one up to a limit, ascending, until the buffer is full. It goes on from a stand. `None` where
+/// too many writers came in between.
 pub fn page<P: RangeEntry>(
     nodes: &Nodes,
+    stand: Stand,
     key: u64,
     limit: u64,
     buffer: &mut [P],
@@ -148,17 +149,18 @@ pub fn page<P: RangeEntry>(
 ) -> Option<Step>
     requires book { pass.old.book ≡ nodes.now }
     requires trunk { KnowsTrunk pass.old.view }
+    requires stand { IsStand pass.old.view stand }
     requires order { key ≤ limit }
     requires room { 0 < length buffer.old }
     ensures told { (pass.new.book ≡ pass.old.book) × (pass.new.id ≡ pass.old.id)
         × Keeps pass.old.view pass.new.view
-        × HasSeen pass.new.view.client.seen pass.old.id pass.old.view.client.seen
+        × SeesMore pass.new.view.client.seen pass.old.id pass.old.view.client.seen
         × IfSome result (λ s. IsPage pass.old.id pass.old.view pass.new.view
         key limit (pairs_of P.pair buffer.new) s.count s.last) }
 {
     let mut count = 0;
     let mut from = key;
-    let mut at = None;
+    let mut at = Some(stand);
     loop {
         let stepped = read_on(nodes, at, from, limit, buffer, count, pass)?;
         let step = stepped.step;

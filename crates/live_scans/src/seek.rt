@@ -1,57 +1,14 @@
 //! The way of a reader to the leaf of a key.
-ghost use Rattle.std.specs.Prelude.{◌≡◌, false, IfSome};
-ghost use Rattle.share_rule.specs.inner.Rule.{HasSeen};
+ghost use Rattle.std.specs.Prelude.{◌≡◌, IfSome};
+ghost use Rattle.live_scans.specs.inner.Moments.{SeesMore};
 ghost use Rattle.live_calls.specs.Ways.{KnowsTrunk, Keeps};
-ghost use Rattle.live_scans.specs.inner.Stops.{Stops, IsStand, Reaches};
+ghost use Rattle.live_scans.specs.inner.Stops.{IsStand, Starts, Reaches};
 
 use crate::keys::upper;
 use crate::next::{Turn, next_turn};
-use crate::steps::{around, gap};
-use live_calls::sight::{Next, step};
-use live_calls::way::{Nodes, Pass, open, root};
+use live_calls::map::TRIES;
+use live_calls::way::{Nodes, Pass, root, root_begun};
 use live_law::law::Asks;
-
-/// Where a reader's way ends: at the leaf of its key, or above. Then this key and all before it, from its own on, are
-/// absent.
-#[derive(Clone, Copy, Debug, PartialEq, Eq)]
-pub enum Stop {
-    Leaf(u64),
-    Gap(u64),
-}
-
-/// The end of a reader's way. `None` where a writer came in between.
-pub fn seek<A: Asks>(nodes: &Nodes, key: u64, pass: &mut Pass) -> Option<Stop>
-    requires book { pass.old.book ≡ nodes.now }
-    requires asks { (A.ask.key ≡ key) × (A.ask.caller ≡ pass.old.id) × (A.reads ≡ false) }
-    requires trunk { KnowsTrunk pass.old.view }
-    ensures told { (pass.new.book ≡ pass.old.book) × (pass.new.id ≡ pass.old.id)
-        × Keeps pass.old.view pass.new.view
-        × HasSeen pass.new.view.client.seen pass.old.id pass.old.view.client.seen
-        × Stops pass.old.id pass.old.view pass.new.view key result }
-{
-    let mut name = root(nodes, key, pass)?;
-    let mut height = 8usize;
-    let mut here = open(nodes, name, pass)?;
-    while height > 1 {
-        let step = step::<A>(nodes, here, name, height, key, pass)?;
-        match step.next {
-            Next::Ends => {
-                let last = gap::<A>(nodes, name, height, key, pass)?;
-                return Some(Stop::Gap(last));
-            }
-            Next::Goes(below, lower) => {
-                name = below;
-                height = lower;
-                here = step.here;
-            }
-            Next::Forks(fork) => {
-                let last = around::<A>(nodes, name, height, fork, key, pass)?;
-                return Some(Stop::Gap(last));
-            }
-        }
-    }
-    Some(Stop::Leaf(name))
-}
 
 /// A node that a reader has come to, its height, and a key that begins like it.
 #[derive(Clone, Copy, Debug, PartialEq, Eq)]
@@ -82,7 +39,7 @@ pub fn seek_on<A: Asks>(nodes: &Nodes, stand: Stand, pass: &mut Pass) -> Option<
     requires stand { IsStand pass.old.view stand }
     ensures told { (pass.new.book ≡ pass.old.book) × (pass.new.id ≡ pass.old.id)
         × Keeps pass.old.view pass.new.view
-        × HasSeen pass.new.view.client.seen pass.old.id pass.old.view.client.seen
+        × SeesMore pass.new.view.client.seen pass.old.id pass.old.view.client.seen
         × IfSome result (λ s. IsStand pass.new.view s.stand
         × Reaches pass.old.id pass.old.view pass.new.view stand.key s.reach) }
 {
@@ -137,4 +94,25 @@ pub fn begin(nodes: &Nodes, stand: Option<Stand>, key: u64, pass: &mut Pass) -> 
         height: 8,
         key,
     })
+}
+
+/// A reader begins at the root, with this key. Its entry is then the last of the history that it has seen. `None` where too many
+/// writers came in between: then it has seen no more.
+pub fn start(nodes: &Nodes, key: u64, pass: &mut Pass) -> Option<Stand>
+    requires book { pass.old.book ≡ nodes.now }
+    requires trunk { KnowsTrunk pass.old.view }
+    ensures told { (pass.new.book ≡ pass.old.book) × (pass.new.id ≡ pass.old.id)
+        × Keeps pass.old.view pass.new.view
+        × Starts pass.old.id pass.old.view pass.new.view key result }
+{
+    for _ in 0..TRIES {
+        if let Some(name) = root_begun(nodes, key, pass) {
+            return Some(Stand {
+                name,
+                height: 8,
+                key,
+            });
+        }
+    }
+    None
 }

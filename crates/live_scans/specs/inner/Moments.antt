@@ -3,13 +3,18 @@ use Rattle.std.specs.Prelude.{◌≡◌, ◌≢◌, ℕ, ◌+◌, ◌-◌, ◌*�
 use Rattle.spec_map.specs.Map.{Pairs, lookup}
 use Rattle.node_table.specs.TableNode.{Child}
 use Rattle.node_table.specs.declared.child.Child.TheVariants as below
-use Rattle.share_rule.specs.History.{IsHistory, IsLegalHistory}
-use Rattle.share_rule.specs.inner.Rule.{HasSeen}
+use Rattle.share_rule.specs.History.{Entry, StartsWith, entries_of, IsHistory, IsLegalHistory}
 use Rattle.live_nodes.specs.Seats.{Place, SeatView, IsIn}
 use Rattle.live_law.specs.Levels.{up, digit, name_of, Covers, Shape, Spot}
 use Rattle.live_law.specs.Views.{Watch, View, view_of}
 use Rattle.live_law.specs.Tree.{IsOfKind, IsOf}
 use Rattle.live_scans.specs.Scans.{HasRead}
+
+-- MORE WAS SEEN: what was seen is a beginning of it, and has all of the caller's entries. It is legal, if what was seen is.
+pub record SeesMore (new : List (Entry ℕ)) (caller : ℕ) (old : List (Entry ℕ)) : Type 0 where
+  pub begins : StartsWith new old
+  pub own : entries_of caller new ≡ entries_of caller old
+  pub legal : IsLegalHistory nat_eq old → IsLegalHistory nat_eq new
 
 -- What a map has at a key, by what a node has under the key's digit. If that is a node without such keys, which the seat has
 -- watched below this one, it has nothing.
@@ -24,7 +29,7 @@ pub record IsRead (caller : ℕ) (v : View) (a : Spot) (s : Shape) (word : ℕ) 
   pub node : IsOf a s saw
   pub of_kind : (b : ℕ) → b < 256 → IsOfKind s.height (lookup node.its.children b)
   pub is : w ≡ view_of w.seen v.met v.own
-  pub fits : HasSeen w.seen caller v.seen
+  pub fits : SeesMore w.seen caller v.seen
   pub pairs : Pairs ℕ
   pub legal : IsHistory nat_eq w.seen pairs
   pub under : (k : ℕ) → Covers s k → HasUnder v a.number word pairs k (lookup node.its.children (digit s.height k))
@@ -34,16 +39,10 @@ LearnsAll caller v k word saw ps w = (a : Spot) → IsIn a v.met → a.number �
 
 -- Of these keys the map has none at this moment.
 pub record HasNone (caller : ℕ) (v w : SeatView View) (Is : ℕ → Type 0) : Type 0 where
-  pub fits : HasSeen w.client.seen caller v.client.seen
+  pub fits : SeesMore w.client.seen caller v.client.seen
   pub pairs : Pairs ℕ
   pub legal : IsHistory nat_eq w.client.seen pairs
   pub none : (k : ℕ) → Is k → lookup pairs k ≡ None
-
--- Nothing was found up to that byte from the first on.
-abbrev pub IsByteBefore : Option (ℕ × ℕ) → ℕ → Option ℕ → Type 0
-IsByteBefore found first None = Unit {0}
-IsByteBefore None first (Some b) = b ≡ 255
-IsByteBefore (Some e) first (Some b) = (first < e.0) × (b + 1 ≡ e.0)
 
 -- keys that begin like this one down to a height, and have there a byte from its own up to this one
 abbrev pub IsWithin : ℕ → ℕ → ℕ → ℕ → Type 0
@@ -55,7 +54,7 @@ IsBeside height key at b k = (up (height - 1) k ≡ up (height - 1) key) × (up 
 
 -- THE SEAT READ ON: these keys, and found these pairs.
 pub record ReadsOn (caller : ℕ) (v w : SeatView View) (low high : ℕ) (pairs : Pairs ℕ) : Type 0 where
-  pub fits : HasSeen w.client.seen caller v.client.seen
+  pub fits : SeesMore w.client.seen caller v.client.seen
   pub legal : IsLegalHistory nat_eq w.client.seen
   pub read : HasRead true v.client.seen w.client.seen low high pairs
 

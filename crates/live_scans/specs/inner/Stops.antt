@@ -3,17 +3,11 @@ use Rattle.std.specs.Prelude.{◌≡◌, ◌⊎◌, ℕ, ◌%◌, ◌≤◌, [],
 use Rattle.live_nodes.specs.Seats.{SeatView}
 use Rattle.live_law.specs.Views.{View}
 use Rattle.live_calls.specs.Ways.{Names}
+use Rattle.live_calls.specs.Roots.{Begins}
 use Rattle.live_scans.specs.inner.Moments.{IsPassed, ReadsOn}
 use Rattle.live_scans.specs.declared.seek.Stand.{Stand}
 use Rattle.live_scans.specs.declared.seek.Reach.{Reach}
 use Rattle.live_scans.specs.declared.seek.Reach.TheVariants as reaches
-use Rattle.live_scans.specs.declared.seek.Stop.{Stop}
-use Rattle.live_scans.specs.declared.seek.Stop.TheVariants.{Leaf, Gap}
-
-abbrev pub Stops : ℕ → SeatView View → SeatView View → ℕ → Option Stop → Type 0
-Stops caller v w key None = Unit {0}
-Stops caller v w key (Some (Leaf name)) = Names w name key 1
-Stops caller v w key (Some (Gap last)) = IsPassed caller v w key last
 
 -- an inner node that the seat has met, and a key that begins like it
 abbrev pub IsStand : SeatView View → Stand → Type 0
@@ -22,3 +16,8 @@ IsStand v s = (2 ≤ s.height) × (s.height ≤ 8) × Names v s.name s.key s.hei
 abbrev pub Reaches : ℕ → SeatView View → SeatView View → ℕ → Reach → Type 0
 Reaches caller v w key (reaches.Past last) = IsPassed caller v w key last
 Reaches caller v w key (reaches.Leaf name first) = (key ≤ first) × ((first % 256 ≡ 0) ⊎ (key ≡ first)) × Names w name first 1 × ReadsOn caller v w key first []
+
+-- A reader began, and is at the root. Or it has seen no more.
+abbrev pub Starts : ℕ → SeatView View → SeatView View → ℕ → Option Stand → Type 0
+Starts caller v w key None = w.client.seen ≡ v.client.seen
+Starts caller v w key (Some s) = Begins caller v.client.seen w.client.seen × (s.key ≡ key) × (s.height ≡ 8) × IsStand w s

@@ -8,7 +8,7 @@ use Rattle.live_scans.specs.inner.Moments.{IsRead, IsWithin, IsPassed}
 use Rattle.live_scans.proofs.Wholes.{may_whole, whole_missed, whole_hit}
 use Rattle.live_scans.proofs.Passes.{seen_equal}
 use Rattle.live_scans.proofs.Composed.{none_read}
-use Rattle.live_scans.proofs.Nones.{has_none_within, is_within}
+use Rattle.live_scans.proofs.Nones.{has_none_from, is_within}
 use Rattle.live_scans.proofs.next.behind.Goals as goal
 
 pub check-requires-clause-learns : goal.check-requires-clause-learns
@@ -81,7 +81,7 @@ returns g c =
     let node = x.node in
     let near = n.near node.content node.its (subst (Agree node.content) same node.agrees) node.encodes node.in_form in
     let high = c.requires.height.0 in
-    let none = has_none_within id v w c.args.name key height n.here.names t (last_saw v.reads) x _ None (Some 255) refl near refl in
+    let none = has_none_from id v w c.args.name key height n.here.names t (last_saw v.reads) x _ 255 refl near in
     let last = c.last_of-last.result in
     let passed : IsPassed id v w key last = record {
       low = omega (arith, c.if-last-key.false);

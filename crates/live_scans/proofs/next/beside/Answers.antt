@@ -1,8 +1,7 @@
 use Rattle.std.proofs.Common.{rules, arith, sym, ap, subst, ◌≡◌, ◌∙◌, ℕ, List, None}
 use Rattle.share_rule.specs.History.{Entry}
-use Rattle.share_rule.specs.inner.Rule.{HasSeen}
 use Rattle.live_calls.proofs.Finds.{keeps_then}
-use Rattle.live_scans.specs.inner.Moments.{HasNone}
+use Rattle.live_scans.specs.inner.Moments.{SeesMore, HasNone}
 use Rattle.live_scans.specs.inner.Nexts.{IsOutside, Turns}
 use Rattle.live_scans.proofs.Passes.{seen_equal, seen_since}
 use Rattle.live_scans.proofs.Composed.{none_since}
@@ -53,7 +52,7 @@ returns-then-not-arrive g c =
     let t₄ = c.arrive.ensures.told in
     let same = t₂.1 ∙ t₁.1 in
     let seen = seen_since c.watch_next.new.pass.id id v v₂ v₃ same (seen_equal id v v₂ (t₂.3 ∙ t₁.3)) t₃.3 in
-    record { told = (t₄.0 ∙ (t₃.0 ∙ (t₂.0 ∙ t₁.0)), t₄.1 ∙ (t₃.1 ∙ same), keeps_then v v₃ v₄ (keeps_then v v₂ v₃ (keeps_then v v₁ v₂ t₁.2 t₂.2) t₃.2) t₄.2, subst (λ (h : List (Entry ℕ)). HasSeen h id v.client.seen) (sym t₄.3) seen, tt) }
+    record { told = (t₄.0 ∙ (t₃.0 ∙ (t₂.0 ∙ t₁.0)), t₄.1 ∙ (t₃.1 ∙ same), keeps_then v v₃ v₄ (keeps_then v v₂ v₃ (keeps_then v v₁ v₂ t₁.2 t₂.2) t₃.2) t₄.2, subst (λ (h : List (Entry ℕ)). SeesMore h id v.client.seen) (sym t₄.3) seen, tt) }
 
 pub returns : goal.returns
 returns g c =
@@ -75,4 +74,4 @@ returns g c =
     let none = subst (λ (z : ℕ). HasNone z v₂ v₃ Is) same (c.is_still.ensures.none (search rules)) in
     let names = c.arrive.ensures.named (search rules) in
     let turned = turns_of id v v₄ c.args.key c.args.height c.args.byte l.name l.height l.first c.choose.result (none_to id v v₃ v₄ Is t₄.3 (none_since id v v₂ v₃ Is first none)) names c.choose.ensures in
-    record { told = (t₄.0 ∙ (t₃.0 ∙ (t₂.0 ∙ t₁.0)), t₄.1 ∙ (t₃.1 ∙ same), keeps_then v v₃ v₄ (keeps_then v v₂ v₃ (keeps_then v v₁ v₂ t₁.2 t₂.2) t₃.2) t₄.2, subst (λ (h : List (Entry ℕ)). HasSeen h id v.client.seen) (sym t₄.3) seen, turned) }
+    record { told = (t₄.0 ∙ (t₃.0 ∙ (t₂.0 ∙ t₁.0)), t₄.1 ∙ (t₃.1 ∙ same), keeps_then v v₃ v₄ (keeps_then v v₂ v₃ (keeps_then v v₁ v₂ t₁.2 t₂.2) t₃.2) t₄.2, subst (λ (h : List (Entry ℕ)). SeesMore h id v.client.seen) (sym t₄.3) seen, turned) }

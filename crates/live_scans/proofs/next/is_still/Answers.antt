@@ -1,11 +1,10 @@
 use Rattle.std.proofs.Common.{rules, arith, sym, ap, subst, ◌/◌, ◌≡◌, ◌∙◌, ℕ, IsTrue}
 use mathlib.Core.Logic.{dite}
 use native.Mathlib.Decide.{ℕ_discrete}
-use Rattle.share_rule.specs.inner.Rule.{HasSeen}
 use Rattle.live_law.specs.Levels.{place_at}
 use Rattle.live_law.specs.Views.{View}
 use Rattle.live_calls.proofs.Views.{first_word}
-use Rattle.live_scans.specs.inner.Moments.{HasNone}
+use Rattle.live_scans.specs.inner.Moments.{SeesMore, HasNone}
 use Rattle.live_scans.specs.inner.Nexts.{IsOutside}
 use Rattle.live_scans.proofs.Passes.{seen_equal}
 use Rattle.live_scans.proofs.Nexts.{may_be_still, still_missed, still_keeps, still_head, none_outside}
@@ -42,7 +41,7 @@ returns g c =
     let keeps = still_keeps v b words t c.args.name c.args.key c.args.height c.args.byte c.args.word l.name l.height l.first l.here.words.now l.here.taken f first.key at_k caller w tells.0 tells.2 in
     record {
       told = dite (ℕ_discrete tells.0 t)
-          (λ e. let k = keeps e in (seat.0, seat.1, k.0, subst (λ (z : ℕ). HasSeen w.client.seen z v.client.seen) c.requires.asks k.1))
+          (λ e. let k = keeps e in (seat.0, seat.1, k.0, subst (λ (z : ℕ). SeesMore w.client.seen z v.client.seen) c.requires.asks k.1))
           (λ ne. let k = missed ne in (seat.0, seat.1, k.0, seen_equal id v w (ap (λ (z : View). z.seen) k.1)));
       none = λ yes. subst (λ (z : ℕ). HasNone z v w (IsOutside c.args.height c.args.key c.args.byte l.height l.first)) c.requires.asks
           (none_outside v b words t c.args.name c.args.key c.args.height c.args.byte c.args.word l.name l.height l.first l.here.words.now l.here.taken f first.key at_k caller w tells.0 tells.2 (tells.1.0 yes) c.requires.height.0);

@@ -4,7 +4,7 @@ use Rattle.live_nodes.specs.Seats.{place}
 use Rattle.live_calls.proofs.Finds.{keeps_then, when_out}
 use Rattle.live_order.specs.Page.{pairs_of}
 use Rattle.live_scans.specs.inner.Steps.{IsPage}
-use Rattle.live_scans.proofs.Composed.{has_seen_same, nothing_read}
+use Rattle.live_scans.proofs.Composed.{more_same, nothing_read}
 use Rattle.live_scans.proofs.Passes.{keeps_same, seen_since, page_step}
 use Rattle.live_scans.proofs.page.page.Goals as goal
 
@@ -14,12 +14,12 @@ loop-stepped-init g c =
       book = refl;
       id = refl;
       keeps = keeps_same u;
-      seen = has_seen_same c.args.pass.now.id u.client.seen;
+      seen = more_same c.args.pass.now.id u.client.seen;
       room = c.requires.room;
       low = omega arith;
       high = c.requires.order;
       seam = inr refl;
-      stand = tt;
+      stand = c.requires.stand;
       read = nothing_read true u.client.seen c.args.key c.args.key (omega arith);
     }
 

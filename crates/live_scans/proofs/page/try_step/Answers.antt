@@ -7,7 +7,7 @@ use Rattle.live_scans.specs.inner.Stops.{IsStand, Reaches}
 use Rattle.live_scans.specs.declared.seek.Reach.TheVariants as reaches
 use Rattle.live_scans.proofs.Passes.{seen_equal, seen_since, gap_step, leaf_step}
 use Rattle.live_scans.proofs.Nexts.{reaches_since, stands_on, cut_step, step_after}
-use Rattle.live_scans.proofs.Composed.{has_seen_same}
+use Rattle.live_scans.proofs.Composed.{more_same}
 use Rattle.live_scans.proofs.page.try_step.Goals as goal
 
 pub returns-in_err-sought-clause-told : goal.returns-in_err-sought-clause-told
@@ -120,7 +120,7 @@ returns-in_ok-filled-in-Leaf-clause-told g c =
     let q = c.part_of-part.ensures in
     let n = length-map c.leaf_page.new.buffer g.P.RangeEntry.pair in
     let buffer = pairs_of g.P.RangeEntry.pair c.leaf_page.new.buffer in
-    let leaf = leaf_step c.seek_on.new.pass.id c.seek_on.new.pass.id w w x c.in-Leaf.first limit c.args.start p.base p.first p.last o.filled.count o.filled.reached buffer refl (has_seen_same c.seek_on.new.pass.id w.client.seen) q.base.0 q.first.0 q.last.0 q.last.1 f.0 (omega (arith, n, f)) f.2 f.3 (λ ne. omega (arith, n, f.4 ne)) e.4 in (
+    let leaf = leaf_step c.seek_on.new.pass.id c.seek_on.new.pass.id w w x c.in-Leaf.first limit c.args.start p.base p.first p.last o.filled.count o.filled.reached buffer refl (more_same c.seek_on.new.pass.id w.client.seen) q.base.0 q.first.0 q.last.0 q.last.1 f.0 (omega (arith, n, f)) f.2 f.3 (λ ne. omega (arith, n, f.4 ne)) e.4 in (
       e.0 ∙ (t.0 ∙ b.0),
       e.1 ∙ same,
       keeps_then u w x keeps e.2,

@@ -1,36 +1,64 @@
-use Rattle.std.proofs.Common.{rules, arith, ℕ, length, take, subst, ◌≡◌, ◌+◌, ◌∙◌}
+use Rattle.std.proofs.Common.{rules, arith, ℕ, length, take, subst, inr, ◌≡◌, ◌+◌, ◌∙◌}
 use Rattle.std.proofs.lemmas.List.{length-map}
+use Rattle.live_nodes.specs.Seats.{place}
 use Rattle.live_order.specs.Page.{pairs_of}
 use Rattle.live_law.specs.Known.{Known}
 use Rattle.live_calls.specs.Calls.{known_of}
+use Rattle.live_calls.proofs.Finds.{keeps_then}
 use Rattle.live_calls.proofs.Ready.{ready_kept}
-use Rattle.live_scans.specs.Scans.{HasPage}
-use Rattle.live_scans.proofs.Pages.{page_crossed, page_roomless, page_seat}
+use Rattle.live_scans.specs.Scans.{HasBegun, HasPage}
+use Rattle.live_scans.proofs.Pages.{begun_by, page_crossed, page_roomless, page_seat}
 use Rattle.live_scans.proofs.scans.range_inclusive.Goals as goal
 
 pub returns-then-first-last-clause-page : goal.returns-then-first-last-clause-page
-returns-then-first-last-clause-page g c = page_crossed c.args.guard.now c.args.first (c.args.last + 1) (length c.args.buffer.now) (omega arith)
+returns-then-first-last-clause-page g c = page_crossed c.args.guard.now c.begin_only.new.guard c.args.first (c.args.last + 1) (length c.args.buffer.now) (omega arith) c.in_ok-begin_only.ensures.begun
 
 pub returns-then-is_empty-clause-page : goal.returns-then-is_empty-clause-page
 returns-then-is_empty-clause-page g c =
     let none : length c.args.buffer.now ≡ 0 = search rules in
-    page_roomless c.args.guard.now c.args.first (c.args.last + 1) (length c.args.buffer.now) (omega arith) none
+    page_roomless c.args.guard.now c.begin_only-then-is_empty.new.guard c.args.first (c.args.last + 1) (length c.args.buffer.now) (omega arith) none c.in_ok-begin_only-2.ensures.begun
 
 pub invariant_of-guard : goal.invariant_of-guard
-invariant_of-guard g c = ready_kept c.guard.inside.pass.view c.page.new.pass.view c.guard.inside.room c.guard.invariant c.page.ensures.told.2
+invariant_of-guard g c = ready_kept c.guard.inside.pass.view c.start.new.pass.view c.guard.inside.room c.guard.invariant c.start.ensures.told.2
+
+pub page-requires-clause-trunk : goal.page-requires-clause-trunk
+page-requires-clause-trunk g c = c.in-Some.ensures.told.2.places (place 0 1 1) c.guard.invariant.trunk
+
+pub invariant_of-guard-in_default-page : goal.invariant_of-guard-in_default-page
+invariant_of-guard-in_default-page g c =
+    let u = c.guard.inside.pass.view in
+    let v = c.start.new.pass.view in
+    let w = c.page.new.pass.view in
+    ready_kept u w c.guard.inside.room c.guard.invariant (keeps_then u v w c.in-Some.ensures.told.2 c.in_default-page.ensures.told.2)
+
+pub returns-in_default-page-clause-busy : goal.returns-in_default-page-clause-busy
+returns-in_default-page-clause-busy g c =
+    let u = c.guard.inside.pass in
+    let v = c.start.new.pass in
+    let w = c.page.new.pass in
+    let s = c.in-Some.ensures.told in
+    let t = c.in_default-page.ensures.told in
+    let first : known_of u.book u.id u.view ≡ c.args.guard.now = search rules in
+    inr (subst (λ (z : Known). HasBegun z (known_of w.book w.id w.view)) first (begun_by u.book v.book w.book u.id v.id w.id u.view v.view w.view s.0 s.1 t.0 t.1 s.3.0 t.3))
+
+pub invariant_of-guard-2 : goal.invariant_of-guard-2
+invariant_of-guard-2 g c =
+    let u = c.guard.inside.pass.view in
+    let v = c.start.new.pass.view in
+    let w = c.page.new.pass.view in
+    ready_kept u w c.guard.inside.room c.guard.invariant (keeps_then u v w c.in-Some.ensures.told.2 c.in-Some-page.ensures.told.2)
 
 pub returns-clause-page : goal.returns-clause-page
 returns-clause-page g c =
-    let v = c.guard.inside.pass.view in
-    let w = c.page.new.pass.view in
-    let t = c.in-Some.ensures.told in
-    let s = c.in-Some.step in
+    let u = c.guard.inside.pass in
+    let v = c.start.new.pass in
+    let w = c.page.new.pass in
+    let s = c.in-Some.ensures.told in
+    let t = c.in-Some-page.ensures.told in
+    let e = c.in-Some-page.step in
     let l = c.page.new.buffer in
     let pair = g.P.RangeEntry.pair in
     let same : length (pairs_of pair l) ≡ length c.args.buffer.now = length-map l pair ∙ search rules in
-    let first : known_of c.guard.inside.pass.book c.guard.inside.pass.id v ≡ c.args.guard.now = search rules in
-    subst (λ (z : Known × ℕ). HasPage z.0 c.args.first (c.args.last + 1) z.1 (take s.count (pairs_of pair l)) (known_of c.page.new.pass.book c.page.new.pass.id w)) (λ i. (first i, same i))
-    (page_seat c.guard.inside.pass.book c.page.new.pass.book c.guard.inside.pass.id c.page.new.pass.id v w c.args.first c.args.last s.count s.last (pairs_of pair l) t.0 t.1 t.3 t.4)
-
-pub invariant_of-guard-2 : goal.invariant_of-guard-2
-invariant_of-guard-2 g c = ready_kept c.guard.inside.pass.view c.page.new.pass.view c.guard.inside.room c.guard.invariant c.page.ensures.told.2
+    let first : known_of u.book u.id u.view ≡ c.args.guard.now = search rules in
+    subst (λ (z : Known × ℕ). HasPage z.0 c.args.first (c.args.last + 1) z.1 (take e.count (pairs_of pair l)) (known_of w.book w.id w.view)) (λ i. (first i, same i))
+    (page_seat u.book v.book w.book u.id v.id w.id u.view v.view w.view c.args.first c.args.last e.count e.last (pairs_of pair l) s.0 s.1 t.0 t.1 s.3.0 t.3 t.4)

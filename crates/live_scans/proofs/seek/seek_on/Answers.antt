@@ -5,7 +5,7 @@ use Rattle.live_scans.specs.inner.Stops.{IsStand, Reaches}
 use Rattle.live_scans.specs.declared.next.Turn.TheVariants as turns
 use Rattle.live_scans.proofs.Nexts.{turned_past, turned_to}
 use Rattle.live_scans.proofs.Passes.{keeps_same, seen_since}
-use Rattle.live_scans.proofs.Composed.{has_seen_same, nothing_read}
+use Rattle.live_scans.proofs.Composed.{more_same, nothing_read}
 use Rattle.live_scans.proofs.seek.seek_on.Goals as goal
 
 pub loop-last-init : goal.loop-last-init
@@ -15,7 +15,7 @@ loop-last-init g c =
       book = refl;
       id = refl;
       keeps = keeps_same u;
-      seen = has_seen_same c.args.pass.now.id u.client.seen;
+      seen = more_same c.args.pass.now.id u.client.seen;
       stand = c.requires.stand;
       low = omega arith;
       seam = inr refl;

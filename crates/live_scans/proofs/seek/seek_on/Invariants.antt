@@ -1,5 +1,5 @@
 use Rattle.std.proofs.Common.{◌≡◌, ◌⊎◌, ◌%◌, ◌≤◌, true, []}
-use Rattle.share_rule.specs.inner.Rule.{HasSeen}
+use Rattle.live_scans.specs.inner.Moments.{SeesMore}
 use Rattle.live_calls.specs.Ways.{Keeps}
 use Rattle.live_scans.specs.Scans.{HasRead}
 use Rattle.live_scans.specs.inner.Stops.{IsStand}
@@ -10,7 +10,7 @@ invariant-loop-last g l = record {
   book : l.pass.book ≡ l.fn.pass.book;
   id : l.pass.id ≡ l.fn.pass.id;
   keeps : Keeps l.fn.pass.view l.pass.view;
-  seen : HasSeen l.pass.view.client.seen l.fn.pass.id l.fn.pass.view.client.seen;
+  seen : SeesMore l.pass.view.client.seen l.fn.pass.id l.fn.pass.view.client.seen;
   stand : IsStand l.pass.view l.at;
   low : l.fn.stand.key ≤ l.at.key;
   seam : (l.at.key % 256 ≡ 0) ⊎ (l.fn.stand.key ≡ l.at.key);

@@ -8,7 +8,7 @@ use Rattle.live_calls.proofs.Views.{first_word}
 use Rattle.live_calls.proofs.Sights.{sights_kept}
 use Rattle.live_scans.specs.inner.Moments.{IsRead, IsBeside}
 use Rattle.live_scans.proofs.Wholes.{may_whole_above, above_missed, above_hit}
-use Rattle.live_scans.proofs.Composed.{has_seen_then, none_since}
+use Rattle.live_scans.proofs.Composed.{more_then, none_since}
 use Rattle.live_scans.proofs.Nones.{has_none_beside}
 use Rattle.live_scans.proofs.Passes.{seen_equal}
 use Rattle.live_scans.proofs.steps.leads_aside.Goals as goal
@@ -98,7 +98,7 @@ returns g c =
     (λ same_word.
     let found = hit same_word in
     let r = subst (λ z. IsRead z w.client spot spot.shape t f.saw x.client) c.requires.asks found.1 in
-    record { told = (book, same, keeps_then v w x keeps found.0, has_seen_then id v.client.seen w.client.seen x.client.seen since r.fits, λ _. none_since id v w x Aside since (has_none_beside id w x b words t name key height c.args.fork.at c.args.fork.byte aside r c.requires.height.0)) })
+    record { told = (book, same, keeps_then v w x keeps found.0, more_then id v.client.seen w.client.seen x.client.seen since r.fits, λ _. none_since id v w x Aside since (has_none_beside id w x b words t name key height c.args.fork.at c.args.fork.byte aside r c.requires.height.0)) })
     (λ other.
     let kept = missed other in
     record { told = (book, same, keeps_then v w x keeps kept.0, seen_equal id v x (ap (λ (z : View). z.seen) kept.1 ∙ seen), λ h. absurd (other (tells.1.0 h))) })
