@@ -4,12 +4,11 @@ use Rattle.std.proofs.lemmas.Bool.{cases_lt, lt-ltb, le-ltb}
 use Rattle.spec_map.specs.Map.{Pairs, lookup, Rises}
 use Rattle.spec_map.proofs.JoinLaws.{lookup-above}
 use Rattle.share_rule.specs.History.{Entry, StartsWith}
-use Rattle.share_rule.specs.inner.Rule.{HasSeen}
 use Rattle.live_nodes.specs.Seats.{SeatView}
 use Rattle.live_law.specs.Views.{View}
 use Rattle.live_scans.specs.Scans.{Moment, IsBetween, HasRead}
-use Rattle.live_scans.specs.inner.Moments.{HasNone}
-use Rattle.live_scans.proofs.Composed.{starts_then, has_seen_then, one_moment, read_since}
+use Rattle.live_scans.specs.inner.Moments.{SeesMore, HasNone}
+use Rattle.live_scans.proofs.Composed.{starts_then, more_then, one_moment, read_since}
 use Rattle.live_floors.specs.inner.Downs.{ReadsDown, IsPassed, Finds}
 
 abbrev Seen : Type 0
@@ -87,29 +86,29 @@ none_down id v w Is low high n all = record {
 }
 
 -- FROM AN EARLIER VIEW ON
-pub down_since : (c id : ℕ) (u v w : Seen) (low high : ℕ) (ps : Pairs ℕ) → c ≡ id → HasSeen v.client.seen id u.client.seen → ReadsDown c v w low high ps → ReadsDown id u w low high ps
+pub down_since : (c id : ℕ) (u v w : Seen) (low high : ℕ) (ps : Pairs ℕ) → c ≡ id → SeesMore v.client.seen id u.client.seen → ReadsDown c v w low high ps → ReadsDown id u w low high ps
 down_since c id u v w low high ps is first r = record {
-  fits = has_seen_then id u.client.seen v.client.seen w.client.seen first (subst (λ (z : ℕ). HasSeen w.client.seen z v.client.seen) is r.fits);
+  fits = more_then id u.client.seen v.client.seen w.client.seen first (subst (λ (z : ℕ). SeesMore w.client.seen z v.client.seen) is r.fits);
   legal = r.legal;
   read = read_since false u.client.seen v.client.seen w.client.seen low high ps first.begins r.read;
 }
 
-pub passed_since : (c id : ℕ) (u v w : Seen) (first key : ℕ) → c ≡ id → HasSeen v.client.seen id u.client.seen → IsPassed c v w first key → IsPassed id u w first key
+pub passed_since : (c id : ℕ) (u v w : Seen) (first key : ℕ) → c ≡ id → SeesMore v.client.seen id u.client.seen → IsPassed c v w first key → IsPassed id u w first key
 passed_since c id u v w first key is seen p = record {
   high = p.high;
   seam = p.seam;
   reads = down_since c id u v w first (key + 1) [] is seen p.reads;
 }
 
-pub finds_since : (c id : ℕ) (u v w : Seen) (low high : ℕ) (r : Option (ℕ × ℕ)) → c ≡ id → HasSeen v.client.seen id u.client.seen → Finds c v w low high r → Finds id u w low high r
+pub finds_since : (c id : ℕ) (u v w : Seen) (low high : ℕ) (r : Option (ℕ × ℕ)) → c ≡ id → SeesMore v.client.seen id u.client.seen → Finds c v w low high r → Finds id u w low high r
 finds_since c id u v w low high None is seen f = down_since c id u v w low high [] is seen f
 finds_since c id u v w low high (Some p) is seen f = (f.0, f.1, down_since c id u v w p.0 high (p ∷ []) is seen f.2)
 
 -- on from keys at which nothing was found
-pub down_then : (c id : ℕ) (u v w : Seen) (low m high : ℕ) (ps : Pairs ℕ) → c ≡ id → HasSeen v.client.seen id u.client.seen → HasRead false u.client.seen v.client.seen m high [] → ReadsDown c v w low m ps → m ≤ high → (m % 256 ≡ 0) ⊎ (m ≡ high) → ReadsDown id u w low high ps
+pub down_then : (c id : ℕ) (u v w : Seen) (low m high : ℕ) (ps : Pairs ℕ) → c ≡ id → SeesMore v.client.seen id u.client.seen → HasRead false u.client.seen v.client.seen m high [] → ReadsDown c v w low m ps → m ≤ high → (m % 256 ≡ 0) ⊎ (m ≡ high) → ReadsDown id u w low high ps
 down_then c id u v w low m high ps is seen r s to seam =
-    let fits = subst (λ (z : ℕ). HasSeen w.client.seen z v.client.seen) is s.fits in record {
-      fits = has_seen_then id u.client.seen v.client.seen w.client.seen seen fits;
+    let fits = subst (λ (z : ℕ). SeesMore w.client.seen z v.client.seen) is s.fits in record {
+      fits = more_then id u.client.seen v.client.seen w.client.seen seen fits;
       legal = s.legal;
       read = joined_down u.client.seen v.client.seen w.client.seen low m high ps r s.read seen.begins fits.begins to seam;
     }

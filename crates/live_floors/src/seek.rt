@@ -1,12 +1,12 @@
 //! The way of a reader to the leaf of a key, from which it reads downwards.
 ghost use Rattle.std.specs.Prelude.{◌≡◌, false};
-ghost use Rattle.share_rule.specs.inner.Rule.{HasSeen};
-ghost use Rattle.live_calls.specs.Ways.{KnowsTrunk, Keeps};
+ghost use Rattle.live_scans.specs.inner.Moments.{SeesMore};
+ghost use Rattle.live_calls.specs.Ways.{Names, Keeps};
 ghost use Rattle.live_floors.specs.inner.Stops.{Stops};
 
 use crate::steps::{around, gap};
 use live_calls::sight::{Next, step};
-use live_calls::way::{Nodes, Pass, open, root};
+use live_calls::way::{Nodes, Pass, open};
 use live_law::law::Asks;
 
 /// Where a reader's way ends: at the leaf of its key, or above. Then this key and all after it, up to its own, are absent.
@@ -16,17 +16,17 @@ pub enum Stop {
     Gap(u64),
 }
 
-/// The end of a reader's way. `None` where a writer came in between.
-pub fn seek<A: Asks>(nodes: &Nodes, key: u64, pass: &mut Pass) -> Option<Stop>
+/// The end of a reader's way from the root, which has this name. `None` where a writer came in between.
+pub fn seek<A: Asks>(nodes: &Nodes, root: u64, key: u64, pass: &mut Pass) -> Option<Stop>
     requires book { pass.old.book ≡ nodes.now }
     requires asks { (A.ask.key ≡ key) × (A.ask.caller ≡ pass.old.id) × (A.reads ≡ false) }
-    requires trunk { KnowsTrunk pass.old.view }
+    requires root { Names pass.old.view root key 8 }
     ensures told { (pass.new.book ≡ pass.old.book) × (pass.new.id ≡ pass.old.id)
         × Keeps pass.old.view pass.new.view
-        × HasSeen pass.new.view.client.seen pass.old.id pass.old.view.client.seen
+        × SeesMore pass.new.view.client.seen pass.old.id pass.old.view.client.seen
         × Stops pass.old.id pass.old.view pass.new.view key result }
 {
-    let mut name = root(nodes, key, pass)?;
+    let mut name = root;
     let mut height = 8usize;
     let mut here = open(nodes, name, pass)?;
     while height > 1 {

@@ -1,9 +1,8 @@
 //! The steps of a reader downwards, each at the check of one node.
 ghost use Rattle.std.specs.Prelude.{◌≡◌, ◌≢◌, ℕ, ◌+◌, ◌%◌, ◌<◌, ◌≤◌, ◌^◌, IfSome, IfNone, None, Some};
-ghost use Rattle.share_rule.specs.inner.Rule.{HasSeen};
 ghost use Rattle.live_law.specs.Levels.{digit};
 ghost use Rattle.live_calls.specs.Ways.{Names, Leaves, Keeps};
-ghost use Rattle.live_scans.specs.inner.Moments.{HasNone, IsBeside};
+ghost use Rattle.live_scans.specs.inner.Moments.{SeesMore, HasNone, IsBeside};
 ghost use Rattle.live_floors.specs.inner.Downs.{IsByteAfter, IsUpTo, IsPassed, Finds};
 
 use crate::keys::first_of;
@@ -43,7 +42,7 @@ fn first_byte<A: Asks>(
     requires height { (2 ≤ height) × (height ≤ 8) }
     ensures told { (pass.new.book ≡ pass.old.book) × (pass.new.id ≡ pass.old.id)
         × Keeps pass.old.view pass.new.view
-        × HasSeen pass.new.view.client.seen pass.old.id pass.old.view.client.seen
+        × SeesMore pass.new.view.client.seen pass.old.id pass.old.view.client.seen
         × IfSome result (λ b. HasNone pass.old.id pass.old.view pass.new.view
         (IsUpTo height key b)) }
 {
@@ -85,7 +84,7 @@ pub fn leaf_floor<A: Asks>(
     requires base { (base + 255 < 2 ^ 64) × (base % 256 ≡ 0) }
     ensures told { (pass.new.book ≡ pass.old.book) × (pass.new.id ≡ pass.old.id)
         × Keeps pass.old.view pass.new.view
-        × HasSeen pass.new.view.client.seen pass.old.id pass.old.view.client.seen
+        × SeesMore pass.new.view.client.seen pass.old.id pass.old.view.client.seen
         × IfSome result (λ found. Finds pass.old.id pass.old.view pass.new.view
         base (base + byte + 1) found) }
 {
@@ -128,7 +127,7 @@ pub fn gap<A: Asks>(
     requires height { (2 ≤ height) × (height ≤ 8) }
     ensures told { (pass.new.book ≡ pass.old.book) × (pass.new.id ≡ pass.old.id)
         × Keeps pass.old.view pass.new.view
-        × HasSeen pass.new.view.client.seen pass.old.id pass.old.view.client.seen
+        × SeesMore pass.new.view.client.seen pass.old.id pass.old.view.client.seen
         × IfSome result (λ first. IsPassed pass.old.id pass.old.view pass.new.view first key) }
 {
     let byte = first_byte::<A>(nodes, name, height, key, pass)?;
@@ -165,7 +164,7 @@ pub fn around<A: Asks>(
     requires leaves { Leaves pass.old.view fork.below key fork.at fork.byte }
     ensures told { (pass.new.book ≡ pass.old.book) × (pass.new.id ≡ pass.old.id)
         × Keeps pass.old.view pass.new.view
-        × HasSeen pass.new.view.client.seen pass.old.id pass.old.view.client.seen
+        × SeesMore pass.new.view.client.seen pass.old.id pass.old.view.client.seen
         × IfSome result (λ first. IsPassed pass.old.id pass.old.view pass.new.view first key) }
 {
     if fork.at >= height {

@@ -2,7 +2,7 @@
 use Rattle.std.specs.Prelude.{◌≡◌, ℕ, ◌+◌, ◌%◌, ◌<◌, ◌≤◌, false, nat_eq, [], ◌∷◌, Option, Some, None}
 use Rattle.spec_map.specs.Map.{Pairs}
 use Rattle.share_rule.specs.History.{IsLegalHistory}
-use Rattle.share_rule.specs.inner.Rule.{HasSeen}
+use Rattle.live_scans.specs.inner.Moments.{SeesMore}
 use Rattle.live_nodes.specs.Seats.{SeatView}
 use Rattle.live_law.specs.Levels.{up, digit}
 use Rattle.live_law.specs.Views.{View}
@@ -20,7 +20,7 @@ IsUpTo height key b k = (up height k ≡ up height key) × (b ≤ digit height k
 
 -- THE SEAT READ DOWN: these keys, and found these pairs.
 pub record ReadsDown (caller : ℕ) (v w : SeatView View) (low high : ℕ) (pairs : Pairs ℕ) : Type 0 where
-  pub fits : HasSeen w.client.seen caller v.client.seen
+  pub fits : SeesMore w.client.seen caller v.client.seen
   pub legal : IsLegalHistory nat_eq w.client.seen
   pub read : HasRead false v.client.seen w.client.seen low high pairs
 

@@ -1,13 +1,12 @@
 use Rattle.std.proofs.Common.{rules, arith, refl, sym, inl, inr, subst, false, [], None, ◌≡◌, ◌∙◌, ◌+◌, ◌-◌}
-use Rattle.live_nodes.specs.Seats.{place}
-use Rattle.live_calls.proofs.Finds.{keeps_then, when_out}
+use Rattle.live_calls.proofs.Finds.{keeps_then, names_kept, when_out}
 use Rattle.live_scans.specs.Scans.{HasRead}
-use Rattle.live_scans.proofs.Composed.{has_seen_same, nothing_read}
+use Rattle.live_scans.proofs.Composed.{more_same, nothing_read}
 use Rattle.live_scans.proofs.Passes.{keeps_same, seen_since}
 use Rattle.live_floors.specs.inner.Downs.{ReadsDown, Finds}
 use Rattle.live_floors.specs.inner.Stops.{IsStep}
 use Rattle.live_floors.specs.declared.floors.Step.TheVariants.{Found, Passed}
-use Rattle.live_floors.proofs.Ends.{found_then, passed_then}
+use Rattle.live_floors.proofs.Ends.{found_then, passed_then, root_of}
 use Rattle.live_floors.proofs.floors.find_before.Goals as goal
 
 pub loop-found-init : goal.loop-found-init
@@ -16,14 +15,15 @@ loop-found-init c =
       book = refl;
       id = refl;
       keeps = keeps_same u;
-      seen = has_seen_same c.args.pass.now.id u.client.seen;
+      seen = more_same c.args.pass.now.id u.client.seen;
       high = omega arith;
+      root = c.requires.root;
       seam = inr refl;
       read = nothing_read false u.client.seen (c.args.key + 1) (c.args.key + 1) (omega arith);
     }
 
-pub step_down-requires-clause-trunk : goal.step_down-requires-clause-trunk
-step_down-requires-clause-trunk c = c.loop-found.invariant.keeps.places (place 0 1 1) c.requires.trunk
+pub step_down-requires-clause-root : goal.step_down-requires-clause-root
+step_down-requires-clause-root c = c.loop-found.invariant.root
 
 pub returns-in_err-found : goal.returns-in_err-found
 returns-in_err-found c =
@@ -86,6 +86,7 @@ loop-found-preserved c =
       keeps = keeps_then u v w i.keeps t.2;
       seen = seen_since c.loop-found.pass.id id u v w i.id i.seen t.3;
       high = omega (arith, low, to);
+      root = root_of w c.args.root c.loop-found.from (first - 1) (omega (arith, c.ranges.key.fits, to)) (omega (arith, c.ranges.key.fits, to, low)) (names_kept v w c.args.root c.loop-found.from 8 t.2 i.root);
       seam = inl (omega (arith, whole, more));
       read = subst (λ z. HasRead false u.client.seen w.client.seen z (c.args.key + 1) []) (sym more) reads.read;
     }

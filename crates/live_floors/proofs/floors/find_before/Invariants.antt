@@ -1,6 +1,6 @@
 use Rattle.std.proofs.Common.{◌≡◌, ◌⊎◌, ◌+◌, ◌%◌, ◌≤◌, false, []}
-use Rattle.share_rule.specs.inner.Rule.{HasSeen}
-use Rattle.live_calls.specs.Ways.{Keeps}
+use Rattle.live_scans.specs.inner.Moments.{SeesMore}
+use Rattle.live_calls.specs.Ways.{Names, Keeps}
 use Rattle.live_scans.specs.Scans.{HasRead}
 use Rattle.live_floors.proofs.floors.find_before.Given as goal
 
@@ -9,8 +9,9 @@ invariant-loop-found l = record {
   book : l.pass.book ≡ l.fn.pass.book;
   id : l.pass.id ≡ l.fn.pass.id;
   keeps : Keeps l.fn.pass.view l.pass.view;
-  seen : HasSeen l.pass.view.client.seen l.fn.pass.id l.fn.pass.view.client.seen;
+  seen : SeesMore l.pass.view.client.seen l.fn.pass.id l.fn.pass.view.client.seen;
   high : l.from ≤ l.key;
+  root : Names l.pass.view l.root l.from 8;
   seam : ((l.from + 1) % 256 ≡ 0) ⊎ (l.from + 1 ≡ l.key + 1);
   read : HasRead false l.fn.pass.view.client.seen l.pass.view.client.seen (l.from + 1) (l.key + 1) [];
 }

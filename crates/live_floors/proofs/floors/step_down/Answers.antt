@@ -1,12 +1,11 @@
 use Rattle.std.proofs.Common.{◌∙◌}
-use Rattle.live_nodes.specs.Seats.{place}
-use Rattle.live_calls.proofs.Finds.{keeps_then}
+use Rattle.live_calls.proofs.Finds.{keeps_then, names_kept}
 use Rattle.live_scans.proofs.Passes.{seen_since}
 use Rattle.live_floors.proofs.Ends.{step_since}
 use Rattle.live_floors.proofs.floors.step_down.Goals as goal
 
-pub try_step-requires-clause-trunk : goal.try_step-requires-clause-trunk
-try_step-requires-clause-trunk c = c.loop.invariant.keeps.places (place 0 1 1) c.requires.trunk
+pub try_step-requires-clause-root : goal.try_step-requires-clause-root
+try_step-requires-clause-root c = names_kept c.args.pass.now.view c.loop.pass.view c.args.root c.args.key 8 c.loop.invariant.keeps c.requires.root
 
 pub returns-in-Some : goal.returns-in-Some
 returns-in-Some c =

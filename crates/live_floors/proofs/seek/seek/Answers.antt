@@ -15,35 +15,32 @@ pub returns-in_err-here : goal.returns-in_err-here
 returns-in_err-here g c =
     let u = c.args.pass.now.view in
     let id = c.args.pass.now.id in
-    let rooted = c.root.ensures.told in
     let opened = c.open.ensures.told in
     let a = c.open.new.pass.view in
     let key = c.args.key in
-    let out : c.from_residual-in_err-here.result ≡ None = search rules in
-    record { told = (opened.0 ∙ rooted.0, opened.1 ∙ rooted.1, keeps_then u c.root.new.pass.view a rooted.2 opened.2, seen_equal id u a (ap (λ (z : View). z.seen) opened.3 ∙ rooted.3), subst (λ z. Stops id u a key z) (sym out) tt) }
+    let out : c.from_residual.result ≡ None = search rules in
+    record { told = (opened.0, opened.1, opened.2, seen_equal id u a (ap (λ (z : View). z.seen) opened.3), subst (λ z. Stops id u a key z) (sym out) tt) }
 
 pub loop-height-init : goal.loop-height-init
 loop-height-init g c =
     let u = c.args.pass.now.view in
     let id = c.args.pass.now.id in
-    let rooted = c.root.ensures.told in
     let opened = c.open.ensures.told in
     let a = c.open.new.pass.view in
     let key = c.args.key in
-    let r = c.root.new.pass.view in
-    let n = c.in_ok-name.ensures.told.4 in
-    let root_name = c.in_ok-name.name in
-    let sighted = sights_names r root_name key 8 n in
+    let n = c.requires.root in
+    let root = c.args.root in
+    let sighted = sights_names u root key 8 n in
     let there = c.in_ok-here.ensures.opened in
     record {
-      book = opened.0 ∙ rooted.0;
-      id = opened.1 ∙ rooted.1;
-      keeps = keeps_then u r a rooted.2 opened.2;
-      seen = ap (λ (z : View). z.seen) opened.3 ∙ rooted.3;
+      book = opened.0;
+      id = opened.1;
+      keeps = opened.2;
+      seen = ap (λ (z : View). z.seen) opened.3;
       low = omega arith;
       high = omega arith;
       node = record {
-        names = names_kept r a root_name key 8 opened.2 n;
+        names = names_kept u a root key 8 opened.2 n;
         opened = there.1 sighted;
         free = there.0;
         sure = sure_root n.spot (there.1 sighted).saw n.high;

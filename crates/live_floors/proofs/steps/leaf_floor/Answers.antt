@@ -9,7 +9,7 @@ use Rattle.live_calls.proofs.Views.{first_word, may_read_open}
 use Rattle.live_scans.specs.inner.Moments.{IsRead}
 use Rattle.live_scans.proofs.Wholes.{may_whole, whole_missed, whole_hit}
 use Rattle.live_scans.proofs.Passes.{seen_equal}
-use Rattle.live_scans.proofs.Composed.{has_seen_then}
+use Rattle.live_scans.proofs.Composed.{more_then}
 use Rattle.live_floors.specs.inner.Downs.{Finds}
 use Rattle.live_floors.proofs.Downs.{finds_since}
 use Rattle.live_floors.proofs.Behinds.{leaf_finds}
@@ -114,7 +114,7 @@ returns g c =
     let hit = whole_hit u b words t name key height o v₂ rest first.key at_k caller w tells.0 tells.2 (search rules) (λ content agrees. subst (λ z. Agree content (last_saw z)) o.opened.reads (c.nearest-found.ensures.kept content agrees)) in
     let x = subst (λ z. IsRead z u.client spot spot.shape t (last_saw v₂.reads) w.client) c.requires.asks hit.1 in
     let node = x.node in
-    let fits = has_seen_then id v.client.seen u.client.seen w.client.seen since x.fits in
+    let fits = more_then id v.client.seen u.client.seen w.client.seen since x.fits in
     let near = c.nearest-found.ensures.is node.content node.its node.agrees node.encodes (node.in_form ∙ sym form) in
     let deep = node.deep in
     let high = o.names.high in
