@@ -5,12 +5,11 @@ use native.Mathlib.Decide.{ℕ_discrete}
 use Rattle.std.proofs.lemmas.List.{length-append, length-take-le, map-id}
 use Rattle.spec_map.specs.Map.{Pairs}
 use Rattle.spec_map.proofs.ByteMapLaws.{length-from_Rises}
-use Rattle.share_rule.specs.inner.Rule.{HasSeen}
 use Rattle.live_nodes.specs.Seats.{SeatView}
 use Rattle.live_law.specs.Views.{View}
 use Rattle.live_order.specs.Page.{pairs_of}
 use Rattle.live_scans.specs.Scans.{HasRead}
-use Rattle.live_scans.specs.inner.Moments.{IsPassed, ReadsOn}
+use Rattle.live_scans.specs.inner.Moments.{SeesMore, IsPassed, ReadsOn}
 use Rattle.live_scans.proofs.Composed.{reads_since, reads_then}
 use Rattle.live_counts.specs.inner.Steps.{IsStep}
 use Rattle.live_counts.specs.declared.leaves.Step.{Step}
@@ -18,7 +17,7 @@ use Rattle.live_counts.specs.declared.leaves.Step.{Step}
 abbrev Seen : Type 0
 Seen = SeatView View
 
-pub step_since : (c id : ℕ) (u v w : Seen) (key : ℕ) (buffer : List (ℕ × ℕ)) (s : Step) → c ≡ id → HasSeen v.client.seen id u.client.seen → IsStep c v w key buffer s → IsStep id u w key buffer s
+pub step_since : (c id : ℕ) (u v w : Seen) (key : ℕ) (buffer : List (ℕ × ℕ)) (s : Step) → c ≡ id → SeesMore v.client.seen id u.client.seen → IsStep c v w key buffer s → IsStep id u w key buffer s
 step_since c id u v w key buffer s is seen h = record {
   low = h.low;
   seam = h.seam;
@@ -39,7 +38,7 @@ gap_step id u w key last buffer p =
     }
 
 -- A leaf. There is room for all of its pairs, since they ascend.
-pub leaf_step : (c id : ℕ) (u v w : Seen) (key count reached : ℕ) (buffer : List (ℕ × ℕ)) → c ≡ id → HasSeen v.client.seen id u.client.seen → key % 256 ≡ 0 → reached ≤ 255 → (reached ≢ 255 → count ≡ 256) → count ≤ length buffer → ReadsOn c v w (key + 0) (key + reached + 1) (take count (pairs_of (λ (p : ℕ × ℕ). p) buffer)) → IsStep id u w key buffer (record { count = count; last = key + 255 })
+pub leaf_step : (c id : ℕ) (u v w : Seen) (key count reached : ℕ) (buffer : List (ℕ × ℕ)) → c ≡ id → SeesMore v.client.seen id u.client.seen → key % 256 ≡ 0 → reached ≤ 255 → (reached ≢ 255 → count ≡ 256) → count ≤ length buffer → ReadsOn c v w (key + 0) (key + reached + 1) (take count (pairs_of (λ (p : ℕ × ℕ). p) buffer)) → IsStep id u w key buffer (record { count = count; last = key + 255 })
 leaf_step c id u v w key count reached buffer is seen first within full fits reads =
     let ps : Pairs ℕ = take count buffer in
     let begins : key + 0 ≡ key = omega arith in
@@ -59,7 +58,7 @@ pub first_whole : (key first : ℕ) → key % 256 ≡ 0 → (first % 256 ≡ 0) 
 first_whole key first whole seam = elim seam [ inl is ↦ is | inr same ↦ omega (arith, whole, same) ]
 
 -- keys that are absent, and then a leaf
-pub step_after : (c id : ℕ) (u v w : Seen) (key first : ℕ) (buffer : List (ℕ × ℕ)) (s : Step) → c ≡ id → HasSeen v.client.seen id u.client.seen → ReadsOn id u v key first [] → key ≤ first → first % 256 ≡ 0 → IsStep c v w first buffer s → IsStep id u w key buffer s
+pub step_after : (c id : ℕ) (u v w : Seen) (key first : ℕ) (buffer : List (ℕ × ℕ)) (s : Step) → c ≡ id → SeesMore v.client.seen id u.client.seen → ReadsOn id u v key first [] → key ≤ first → first % 256 ≡ 0 → IsStep c v w first buffer s → IsStep id u w key buffer s
 step_after c id u v w key first buffer s is seen r low whole h =
     let on = h.low in
     let few = h.few in record {
@@ -71,7 +70,7 @@ step_after c id u v w key first buffer s is seen r low whole h =
     }
 
 -- what was read, and then a step
-pub then_step : (c id : ℕ) (u v w : Seen) (from : ℕ) (ps : Pairs ℕ) (buffer : List (ℕ × ℕ)) (s : Step) → c ≡ id → HasSeen v.client.seen id u.client.seen → from % 256 ≡ 0 → HasRead true u.client.seen v.client.seen 0 from ps → IsStep c v w from buffer s → ReadsOn id u w 0 (s.last + 1) (ps ++ take s.count buffer)
+pub then_step : (c id : ℕ) (u v w : Seen) (from : ℕ) (ps : Pairs ℕ) (buffer : List (ℕ × ℕ)) (s : Step) → c ≡ id → SeesMore v.client.seen id u.client.seen → from % 256 ≡ 0 → HasRead true u.client.seen v.client.seen 0 from ps → IsStep c v w from buffer s → ReadsOn id u w 0 (s.last + 1) (ps ++ take s.count buffer)
 then_step c id u v w from ps buffer s is seen seam read h =
     let low = h.low in
     reads_then id u v w 0 from (s.last + 1) ps (take s.count buffer) seen read (subst (λ (z : ℕ). ReadsOn z v w from (s.last + 1) (take s.count buffer)) is h.reads) (omega arith) (omega (arith, low)) (inl seam)

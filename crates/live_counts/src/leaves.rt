@@ -1,6 +1,6 @@
 //! Steps from leaf to leaf. Each has all pairs of a leaf, or passes keys that are absent.
 ghost use Rattle.std.specs.Prelude.{◌≡◌, ◌%◌, length, IfSome};
-ghost use Rattle.share_rule.specs.inner.Rule.{HasSeen};
+ghost use Rattle.live_scans.specs.inner.Moments.{SeesMore};
 ghost use Rattle.live_calls.specs.Ways.{KnowsTrunk, Keeps};
 ghost use Rattle.live_scans.specs.inner.Stops.{IsStand};
 ghost use Rattle.live_counts.specs.inner.Steps.{IsStep};
@@ -44,7 +44,7 @@ fn try_step(
     requires room { length buffer.old ≡ 256 }
     ensures told { (pass.new.book ≡ pass.old.book) × (pass.new.id ≡ pass.old.id)
         × Keeps pass.old.view pass.new.view
-        × HasSeen pass.new.view.client.seen pass.old.id pass.old.view.client.seen
+        × SeesMore pass.new.view.client.seen pass.old.id pass.old.view.client.seen
         × IfSome result (λ s. IsStand pass.new.view s.stand
         × IsStep pass.old.id pass.old.view pass.new.view key buffer.new s.step) }
 {
@@ -88,7 +88,7 @@ pub fn step_on(
     requires room { length buffer.old ≡ 256 }
     ensures told { (pass.new.book ≡ pass.old.book) × (pass.new.id ≡ pass.old.id)
         × Keeps pass.old.view pass.new.view
-        × HasSeen pass.new.view.client.seen pass.old.id pass.old.view.client.seen
+        × SeesMore pass.new.view.client.seen pass.old.id pass.old.view.client.seen
         × IfSome result (λ s. IsStand pass.new.view s.stand
         × IsStep pass.old.id pass.old.view pass.new.view key buffer.new s.step) }
 {

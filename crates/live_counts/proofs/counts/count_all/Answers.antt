@@ -1,7 +1,7 @@
 use Rattle.std.proofs.Common.{rules, arith, refl, subst, [], ◌++◌, take, None, ℕ, true, ◌≡◌, ◌∙◌, ◌+◌, ◌^◌}
 use Rattle.live_nodes.specs.Seats.{place}
 use Rattle.live_calls.proofs.Finds.{keeps_then, when_out}
-use Rattle.live_scans.proofs.Composed.{has_seen_same, nothing_read}
+use Rattle.live_scans.proofs.Composed.{more_same, nothing_read}
 use Rattle.live_scans.specs.inner.Moments.{ReadsOn}
 use Rattle.live_scans.proofs.Passes.{keeps_same, seen_since}
 use Rattle.live_counts.specs.inner.Steps.{Counts}
@@ -14,13 +14,13 @@ loop-stepped-init c =
       book = refl;
       id = refl;
       keeps = keeps_same u;
-      seen = has_seen_same c.args.pass.now.id u.client.seen;
+      seen = more_same c.args.pass.now.id u.client.seen;
       seam = refl;
       few = omega arith;
       pairs = [];
       read = nothing_read true u.client.seen 0 0 (omega arith);
       count_is = refl;
-      stand = tt;
+      stand = c.requires.stand;
     }
 
 pub step_on-requires-clause-trunk : goal.step_on-requires-clause-trunk

@@ -1,6 +1,6 @@
 use Rattle.std.proofs.Common.{◌≡◌, ◌-◌, ◌%◌, ◌≤◌, ◌^◌, ℕ, true, length, IfSome}
 use Rattle.spec_map.specs.Map.{Pairs}
-use Rattle.share_rule.specs.inner.Rule.{HasSeen}
+use Rattle.live_scans.specs.inner.Moments.{SeesMore}
 use Rattle.live_calls.specs.Ways.{Keeps}
 use Rattle.live_scans.specs.Scans.{HasRead}
 use Rattle.live_scans.specs.inner.Stops.{IsStand}
@@ -11,7 +11,7 @@ invariant-loop-stepped l = record {
   book : l.pass.book ≡ l.fn.pass.book;
   id : l.pass.id ≡ l.fn.pass.id;
   keeps : Keeps l.fn.pass.view l.pass.view;
-  seen : HasSeen l.pass.view.client.seen l.fn.pass.id l.fn.pass.view.client.seen;
+  seen : SeesMore l.pass.view.client.seen l.fn.pass.id l.fn.pass.view.client.seen;
   seam : l.from % 256 ≡ 0;
   few : l.count ≤ l.from;
   pairs : Pairs ℕ;

@@ -1,5 +1,5 @@
 use Rattle.std.proofs.Common.{◌≡◌, IfSome}
-use Rattle.share_rule.specs.inner.Rule.{HasSeen}
+use Rattle.live_scans.specs.inner.Moments.{SeesMore}
 use Rattle.live_calls.specs.Ways.{Keeps}
 use Rattle.live_scans.specs.inner.Stops.{IsStand}
 use Rattle.live_counts.proofs.leaves.step_on.Given as goal
@@ -9,6 +9,6 @@ invariant-loop l = record {
   book : l.pass.book ≡ l.fn.pass.book;
   id : l.pass.id ≡ l.fn.pass.id;
   keeps : Keeps l.fn.pass.view l.pass.view;
-  seen : HasSeen l.pass.view.client.seen l.fn.pass.id l.fn.pass.view.client.seen;
+  seen : SeesMore l.pass.view.client.seen l.fn.pass.id l.fn.pass.view.client.seen;
   stand : IfSome l.at (IsStand l.pass.view);
 }

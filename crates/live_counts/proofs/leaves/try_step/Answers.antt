@@ -2,7 +2,7 @@ use Rattle.std.proofs.Common.{rules, arith, refl, subst, None, ◌≡◌, ◌+�
 use Rattle.live_calls.proofs.Finds.{keeps_then, when_out}
 use Rattle.live_scans.specs.inner.Stops.{IsStand, Reaches}
 use Rattle.live_scans.specs.declared.seek.Reach.TheVariants as reaches
-use Rattle.live_scans.proofs.Composed.{has_seen_same}
+use Rattle.live_scans.proofs.Composed.{more_same}
 use Rattle.live_scans.proofs.Passes.{seen_equal, seen_since}
 use Rattle.live_scans.proofs.Nexts.{reaches_since, stands_on}
 use Rattle.live_counts.specs.inner.Steps.{IsStep}
@@ -85,7 +85,7 @@ returns-in_ok-filled-in-Leaf c =
     let f = o.ensures.filled in
     let first = c.in-Leaf.first in
     let whole = first_whole key first c.requires.first reach.1 in
-    let leaf = leaf_step c.seek_on.new.pass.id c.seek_on.new.pass.id w w x first o.filled.count o.filled.reached c.leaf_page.new.buffer refl (has_seen_same c.seek_on.new.pass.id w.client.seen) whole f.3 (λ ne. f.4 ne ∙ c.requires.room) (let few = f.1 in search rules) e.4 in
+    let leaf = leaf_step c.seek_on.new.pass.id c.seek_on.new.pass.id w w x first o.filled.count o.filled.reached c.leaf_page.new.buffer refl (more_same c.seek_on.new.pass.id w.client.seen) whole f.3 (λ ne. f.4 ne ∙ c.requires.room) (let few = f.1 in search rules) e.4 in
     record {
       told = (
         e.0 ∙ (t.0 ∙ b.0),
