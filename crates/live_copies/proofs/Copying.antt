@@ -2,18 +2,12 @@
 use Rattle.std.proofs.Common.{◌≡◌, ℕ, List, [], ◌++◌, nat_eq, Result, Err, IfOk, sym, ap, ◌∙◌, subst}
 use Rattle.spec_map.specs.Map.{Pairs}
 use Rattle.share_rule.specs.History.{entries_of, IsHistory}
-use Rattle.share_rule.specs.inner.Rule.{HasSeen}
-use Rattle.word_book.specs.Book.{Book}
 use Rattle.live_nodes.specs.Seats.{Place, SeatView, IsIn}
 use Rattle.live_law.specs.Levels.{up, Spot}
 use Rattle.live_law.specs.Views.{View}
-use Rattle.live_law.specs.Known.{Known}
 use Rattle.live_calls.specs.Ways.{Keeps}
 use Rattle.live_calls.specs.Holds.{Alike}
-use Rattle.live_calls.specs.Calls.{known_of}
-use Rattle.live_scans.specs.Scans.{EntersNothing}
-use Rattle.live_scans.proofs.Composed.{has_seen_then}
-use Rattle.live_copies.specs.Copies.{HasCopied}
+use Rattle.live_scans.specs.inner.Moments.{SeesMore}
 use Rattle.live_copies.specs.inner.Whole.{HasWhole}
 use Rattle.live_copies.specs.inner.Locks.{Knows, Takes}
 use Rattle.live_copies.proofs.Told.{whole_is}
@@ -51,17 +45,10 @@ unlocked_keeps u v w k a own holds own_before holds_before = record {
   room = a.room ∙ k.room;
 }
 
--- what a guard knows then
-pub seen_on : (id : ℕ) (k : Known) (v w : Seen) → id ≡ k.caller → HasSeen v.client.seen k.caller k.seen → HasSeen w.client.seen id v.client.seen → HasSeen w.client.seen k.caller k.seen
-seen_on id k v w is first next = has_seen_then k.caller k.seen v.client.seen w.client.seen first (subst (λ (z : ℕ). HasSeen w.client.seen z v.client.seen) is next)
-
-pub nothing_entered : (k : Known) (b : Book) (c : ℕ) (w : Seen) → b ≡ k.book → c ≡ k.caller → HasSeen w.client.seen k.caller k.seen → EntersNothing k (known_of b c w)
-nothing_entered k b c w book caller h = record {
-  book = book;
-  caller = caller;
-  seen = h.begins;
-  own = ap (λ (z : ℕ). entries_of z w.client.seen) caller ∙ h.own;
+-- THE WHOLE is seen
+pub whole_more : (caller id : ℕ) (v w : View) → caller ≡ id → HasWhole caller v w → SeesMore w.seen id v.seen
+whole_more caller id v w is x = record {
+  begins = x.fits.begins;
+  own = subst (λ (z : ℕ). entries_of z w.seen ≡ entries_of z v.seen) is x.fits.own;
+  legal = λ _. (x.pairs, x.legal);
 }
-
-pub copied : (k : Known) (b : Book) (c : ℕ) (w : Seen) (pairs : Pairs ℕ) → b ≡ k.book → c ≡ k.caller → HasSeen w.client.seen k.caller k.seen → IsHistory nat_eq w.client.seen pairs → HasCopied k pairs (known_of b c w)
-copied k b c w pairs book caller h legal = record { seen = nothing_entered k b c w book caller h; whole = legal }

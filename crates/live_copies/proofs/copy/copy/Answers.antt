@@ -1,20 +1,43 @@
-use Rattle.std.proofs.Common.{◌∙◌}
+use Rattle.std.proofs.Common.{rules, refl, ℕ, subst, ◌≡◌, ◌∙◌}
+use Rattle.live_nodes.specs.Seats.{place}
+use Rattle.live_law.specs.Known.{Known}
+use Rattle.live_calls.specs.Calls.{known_of}
+use Rattle.live_calls.specs.Ways.{Names}
+use Rattle.live_calls.proofs.Finds.{names_kept}
 use Rattle.live_calls.proofs.Ready.{ready_kept}
-use Rattle.live_copies.proofs.Copying.{seen_on}
+use Rattle.live_scans.specs.Scans.{HasBegun}
+use Rattle.live_scans.proofs.Composed.{more_same}
+use Rattle.live_scans.proofs.Pages.{begun_by, begun_on}
 use Rattle.live_copies.proofs.copy.copy.Goals as goal
+
+pub invariant_of-guard : goal.invariant_of-guard
+invariant_of-guard c = ready_kept c.guard.inside.pass.view c.start.new.pass.view c.guard.inside.room c.guard.invariant c.start.ensures.told.2
+
+pub loop-init : goal.loop-init
+loop-init c =
+    let u = c.guard.inside.pass in
+    let v = c.start.new.pass in
+    let s = c.in-Some.ensures.told in
+    let first : known_of u.book u.id u.view ≡ c.args.guard.now = search rules in
+    record {
+      book = s.0 ∙ (search rules);
+      begun = subst (λ (z : Known). HasBegun z (known_of v.book v.id v.view)) first (begun_by u.book v.book v.book u.id v.id v.id u.view v.view v.view s.0 s.1 refl refl s.3.0 (more_same v.id v.view.client.seen));
+      ready = ready_kept u.view v.view c.guard.inside.room c.guard.invariant s.2;
+      root = subst (λ (z : ℕ × ℕ). Names v.view c.in-Some.stand.name z.0 z.1) (λ i. (s.3.1 i, s.3.2 i)) s.3.3.2;
+    }
 
 pub loop-preserved : goal.loop-preserved
 loop-preserved c =
     let i = c.loop.invariant in
     let k = c.args.guard.now in
-    let v = c.loop.guard-inside.pass.view in
-    let w = c.copy_once.new.pass.view in
+    let v = c.loop.guard-inside.pass in
+    let w = c.copy_once.new.pass in
     let t = c.copy_once.ensures.told in
     record {
       book = t.0 ∙ i.book;
-      id = t.1 ∙ i.id;
-      seen = seen_on c.loop.guard-inside.pass.id k v w i.id i.seen t.3;
-      ready = ready_kept v w c.loop.guard-inside.room i.ready t.2;
+      begun = begun_on k v.book w.book v.id w.id v.view w.view t.0 t.1 i.begun t.3;
+      ready = ready_kept v.view w.view c.loop.guard-inside.room i.ready t.2;
+      root = names_kept v.view w.view c.in-Some.stand.name 0 8 t.2 i.root;
     }
 
 pub invariant_of-guard-in-Ok : goal.invariant_of-guard-in-Ok

@@ -1,6 +1,6 @@
 use Rattle.std.proofs.Common.{rules, ◌≡◌, nat_eq, Err, sym, subst, ◌∙◌}
 use Rattle.share_rule.specs.History.{IsHistory}
-use Rattle.share_rule.specs.inner.Rule.{HasSeen}
+use Rattle.live_scans.specs.inner.Moments.{SeesMore}
 use Rattle.live_copies.proofs.Copying.{err_out, unlocked_keeps}
 use Rattle.live_copies.proofs.copy.copy_once.Goals as goal
 
@@ -18,7 +18,7 @@ returns-in_err-taken c =
         u.0 ∙ t.0,
         u.1 ∙ t.1,
         unlocked_keeps v w x t.2 u.2 u.3 u.4 c.requires.rests.0 c.requires.rests.1,
-        subst (λ z. HasSeen z id v.client.seen) (sym u.5) t.4,
+        subst (λ z. SeesMore z id v.client.seen) (sym u.5) t.4,
         err_out (λ pairs. IsHistory nat_eq x.client.seen pairs.items) c.from_residual.result c.in_err-taken.field-0.0 out,
       );
     }
@@ -36,7 +36,7 @@ returns c =
         u.0 ∙ t.0,
         u.1 ∙ t.1,
         unlocked_keeps v w x t.2 u.2 u.3 u.4 c.requires.rests.0 c.requires.rests.1,
-        subst (λ z. HasSeen z id v.client.seen) (sym u.5) t.4,
+        subst (λ z. SeesMore z id v.client.seen) (sym u.5) t.4,
         subst (λ z. IsHistory nat_eq z c.take_all-taken.new.work.pairs.items) (sym u.5) t.5,
       );
     }
