@@ -9,7 +9,7 @@ ghost use Rattle.live_calls.specs.Meetings.{SeenMore};
 ghost use Rattle.live_updates.specs.Entries.{removed, swapped};
 ghost use Rattle.live_computes.specs.Entries.{inserted_with, sum_with};
 ghost use Rattle.live_order.specs.Page.{pairs_of};
-ghost use Rattle.live_scans.specs.Scans.{EntersNothing, HasPage, HasNext};
+ghost use Rattle.live_scans.specs.Scans.{GaveUp, HasPage, HasNext};
 ghost use Rattle.live_floors.specs.Floors.{HasBefore};
 ghost use Rattle.live_counts.specs.Counts.{HasCounted};
 
@@ -171,7 +171,7 @@ impl Caller {
         ensures count { IfOk result (λ count. count ≤ length buffer.old) }
         ensures page { IfOk result (λ count. HasPage self.old start end (length buffer.old)
             (take count (pairs_of P.pair buffer.new)) self.new) }
-        ensures busy { OnErr result (EntersNothing self.old self.new) }
+        ensures busy { OnErr result (GaveUp self.old self.new) }
     {
         scans::range(&self.pool.map, &mut self.guard, start, end, buffer)
     }
@@ -186,7 +186,7 @@ impl Caller {
         ensures count { IfOk result (λ count. count ≤ length buffer.old) }
         ensures page { IfOk result (λ count. HasPage self.old first (last + 1) (length buffer.old)
             (take count (pairs_of P.pair buffer.new)) self.new) }
-        ensures busy { OnErr result (EntersNothing self.old self.new) }
+        ensures busy { OnErr result (GaveUp self.old self.new) }
     {
         scans::range_inclusive(&self.pool.map, &mut self.guard, first, last, buffer)
     }
@@ -194,7 +194,7 @@ impl Caller {
     /// The pair with the least key that is at least this one. `Busy` if too many writers came in between.
     pub fn ceiling(&mut self, key: u64) -> Result<Option<(u64, u64)>, Busy>
         ensures next { IfOk result (λ found. HasNext self.old key found self.new) }
-        ensures busy { OnErr result (EntersNothing self.old self.new) }
+        ensures busy { OnErr result (GaveUp self.old self.new) }
     {
         scans::ceiling(&self.pool.map, &mut self.guard, key)
     }
@@ -202,7 +202,7 @@ impl Caller {
     /// The pair with the least key that is above this one. `Busy` if too many writers came in between.
     pub fn above(&mut self, key: u64) -> Result<Option<(u64, u64)>, Busy>
         ensures next { IfOk result (λ found. HasNext self.old (key + 1) found self.new) }
-        ensures busy { OnErr result (EntersNothing self.old self.new) }
+        ensures busy { OnErr result (GaveUp self.old self.new) }
     {
         scans::above(&self.pool.map, &mut self.guard, key)
     }
@@ -210,7 +210,7 @@ impl Caller {
     /// The pair with the greatest key that is at most this one. `Busy` if too many writers came in between.
     pub fn floor(&mut self, key: u64) -> Result<Option<(u64, u64)>, Busy>
         ensures before { IfOk result (λ found. HasBefore self.old (key + 1) found self.new) }
-        ensures busy { OnErr result (EntersNothing self.old self.new) }
+        ensures busy { OnErr result (GaveUp self.old self.new) }
     {
         floors::floor(&self.pool.map, &mut self.guard, key)
     }
@@ -218,7 +218,7 @@ impl Caller {
     /// The pair with the greatest key that is below this one. `Busy` if too many writers came in between.
     pub fn below(&mut self, key: u64) -> Result<Option<(u64, u64)>, Busy>
         ensures before { IfOk result (λ found. HasBefore self.old key found self.new) }
-        ensures busy { OnErr result (EntersNothing self.old self.new) }
+        ensures busy { OnErr result (GaveUp self.old self.new) }
     {
         floors::below(&self.pool.map, &mut self.guard, key)
     }
@@ -226,7 +226,7 @@ impl Caller {
     /// The pair with the greatest key. `Busy` if too many writers came in between.
     pub fn last(&mut self) -> Result<Option<(u64, u64)>, Busy>
         ensures last { IfOk result (λ found. HasBefore self.old (2 ^ 64) found self.new) }
-        ensures busy { OnErr result (EntersNothing self.old self.new) }
+        ensures busy { OnErr result (GaveUp self.old self.new) }
     {
         floors::last(&self.pool.map, &mut self.guard)
     }
@@ -235,7 +235,7 @@ impl Caller {
     /// many writers came in between.
     pub fn count(&mut self) -> Result<u128, Busy>
         ensures counted { IfOk result (λ count. HasCounted self.old count self.new) }
-        ensures busy { OnErr result (EntersNothing self.old self.new) }
+        ensures busy { OnErr result (GaveUp self.old self.new) }
     {
         counts::count(&self.pool.map, &mut self.guard)
     }
