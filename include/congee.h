@@ -49,8 +49,20 @@ extern "C" {
 #define CONGEE_VERSION_PATCH 0
 #define CONGEE_VERSION (CONGEE_VERSION_MAJOR * 10000 + CONGEE_VERSION_MINOR * 100 + CONGEE_VERSION_PATCH)
 
-/* What a call returns where there is no memory. */
+/* What the calls of all three headers return. A function's comment names the codes that it may return.
+ *
+ * It was done, where no key is asked for. */
+#define CONGEE_DONE 0
+/* The key was absent, or there is no such pair. */
+#define CONGEE_ABSENT 0
+/* The key was present, or there is such a pair. */
+#define CONGEE_PRESENT 1
+/* The key has another value than the expected one. */
+#define CONGEE_OTHER 2
+/* malloc finds no memory, or the map's limit is reached. */
 #define CONGEE_OOM (-1)
+/* Other threads came in between at each of its tries (congee_shared.h, congee_live.h). */
+#define CONGEE_BUSY (-2)
 
 /* A map. */
 struct congee;
@@ -74,8 +86,8 @@ static inline uint32_t congee_version(void) {
 /* -- Maps -- */
 
 /* Makes an empty map whose nodes may take so many bytes by their stated sizes: 64, 168, 672 or 2104 bytes for a node of up to
- * 4, 16, 48 or 256 entries. The first node is of the largest size, so a smaller limit fails. Returns 0 with the map in
- * *out, or CONGEE_OOM with null there.
+ * 4, 16, 48 or 256 entries. The first node is of the largest size, so a smaller limit fails. Returns CONGEE_DONE with the
+ * map in *out, or CONGEE_OOM with null there.
  *
  * The limit bounds these sizes, not the memory that malloc lends: with a million random keys 88 bytes a key are charged,
  * and 144 lent. When a node grows, the larger one is charged while the smaller still is. So a map near its limit may
@@ -87,7 +99,7 @@ static inline int congee_new_with_limit(struct congee **out, uint64_t bytes) {
     return code;
 }
 
-/* Makes an empty map. Returns 0 with the map in *out, or CONGEE_OOM with null there. */
+/* Makes an empty map. Returns CONGEE_DONE with the map in *out, or CONGEE_OOM with null there. */
 static inline int congee_new(struct congee **out) {
     return congee_new_with_limit(out, UINT64_MAX);
 }
@@ -101,7 +113,7 @@ static inline void congee_free(struct congee *map) {
 
 /* -- One key -- */
 
-/* Looks the key up. Returns 1 with the value in *value, or 0 where the key is absent. Takes no memory. */
+/* Looks the key up. Returns CONGEE_PRESENT with the value in *value, or CONGEE_ABSENT. Takes no memory. */
 static inline int congee_get(const struct congee *map, uint64_t key, uint64_t *value) {
     struct congee_const_handle handle = {map};
     uint64_t it = 0;
@@ -112,8 +124,9 @@ static inline int congee_get(const struct congee *map, uint64_t key, uint64_t *v
     return 1;
 }
 
-/* Sets the key's value. Returns 0 for a new key, and *old is unchanged. Returns 1 for a present key, with its previous
- * value in *old. Returns CONGEE_OOM only for a new key that needs a node of its own or a larger one. */
+/* Sets the key's value. Returns CONGEE_ABSENT for a new key, and *old is unchanged. Returns CONGEE_PRESENT for a
+ * present key, with its previous value in *old. Returns CONGEE_OOM only for a new key that needs a node of its own or
+ * a larger one. */
 static inline int congee_insert(struct congee *map, uint64_t key, uint64_t value, uint64_t *old) {
     struct congee_handle handle = {map};
     uint64_t it = 0;
@@ -125,8 +138,9 @@ static inline int congee_insert(struct congee *map, uint64_t key, uint64_t value
     return 1;
 }
 
-/* Removes the key. Returns 1 with its value in *old, or 0 if the key is absent, and *old is unchanged. Never fails: nodes
- * that are empty then are freed, and one that has few entries left gets a smaller form if there is memory for that. */
+/* Removes the key. Returns CONGEE_PRESENT with its value in *old. Returns CONGEE_ABSENT if the key is absent, and
+ * *old is unchanged. Never fails: nodes that are empty then are freed, and one that has few entries left gets a
+ * smaller form if there is memory for that. */
 static inline int congee_remove(struct congee *map, uint64_t key, uint64_t *old) {
     struct congee_handle handle = {map};
     uint64_t it = 0;
@@ -137,8 +151,9 @@ static inline int congee_remove(struct congee *map, uint64_t key, uint64_t *old)
     return 1;
 }
 
-/* If the key's value is `expected`, replaces it by `desired` and returns 1. If it is another, returns 2 with that value in
- * *found. If the key is absent, returns 0. At 2 and 0 the map is unchanged. Takes no memory. */
+/* Replaces the key's value by `desired` if it is `expected`, and returns CONGEE_PRESENT. If it is another, returns
+ * CONGEE_OTHER with that value in *found. If the key is absent, returns CONGEE_ABSENT. After these two the map is
+ * unchanged. Takes no memory. */
 static inline int congee_compare_exchange(struct congee *map, uint64_t key, uint64_t expected, uint64_t desired,
                                           uint64_t *found) {
     struct congee_handle handle = {map};
@@ -151,8 +166,9 @@ static inline int congee_compare_exchange(struct congee *map, uint64_t key, uint
     return 2;
 }
 
-/* If the key's value is `expected`, removes the key and returns 1. If it is another, returns 2 with that value in *found.
- * If the key is absent, returns 0. At 2 and 0 the map is unchanged. Never fails. */
+/* Removes the key if its value is `expected`, and returns CONGEE_PRESENT. If it is another, returns CONGEE_OTHER with
+ * that value in *found. If the key is absent, returns CONGEE_ABSENT. After these two the map is unchanged. Never
+ * fails. */
 static inline int congee_compare_remove(struct congee *map, uint64_t key, uint64_t expected, uint64_t *found) {
     struct congee_handle handle = {map};
     uint64_t it = 0;
@@ -165,8 +181,9 @@ static inline int congee_compare_remove(struct congee *map, uint64_t key, uint64
 }
 
 /* Adds the number to the key's value. A new key gets the number as its value. The sum is modulo 2^64: it wraps, and
- * doesn't fail. Returns as congee_insert: 0 for a new key, and *old is unchanged. 1 with the value before the addition in
- * *old. CONGEE_OOM only for a new key that needs a node of its own or a larger one. To subtract, add -(uint64_t)number. */
+ * doesn't fail. Returns CONGEE_ABSENT for a new key, and *old is unchanged. Returns CONGEE_PRESENT for a present key,
+ * with the value before the addition in *old. Returns CONGEE_OOM only for a new key that needs a node of its own or a
+ * larger one. To subtract, add -(uint64_t)number. */
 static inline int congee_add(struct congee *map, uint64_t key, uint64_t number, uint64_t *old) {
     struct congee_handle handle = {map};
     uint64_t it = 0;
@@ -178,9 +195,9 @@ static inline int congee_add(struct congee *map, uint64_t key, uint64_t number, 
     return 1;
 }
 
-/* Gives the key the value if it is absent, and keeps the value of a present key. Returns 0 for a new key, and *found is
- * unchanged. Returns 1 with the present value in *found. Returns CONGEE_OOM only for a new key that needs a node of its own
- * or a larger one. */
+/* Gives the key the value if it is absent, and keeps the value of a present key. Returns CONGEE_ABSENT for a new key,
+ * and *found is unchanged. Returns CONGEE_PRESENT with the present value in *found. Returns CONGEE_OOM only for a new
+ * key that needs a node of its own or a larger one. */
 static inline int congee_get_or_insert(struct congee *map, uint64_t key, uint64_t value, uint64_t *found) {
     struct congee_handle handle = {map};
     uint64_t it = 0;
@@ -221,7 +238,8 @@ static inline size_t congee_range_descending(const struct congee *map, uint64_t 
 
 /* -- Ends and neighbours -- */
 
-/* Writes the pair with the least key to *pair and returns 1, or returns 0 for an empty map. Takes no memory. */
+/* Writes the pair with the least key to *pair and returns CONGEE_PRESENT, or returns CONGEE_ABSENT for an empty map.
+ * Takes no memory. */
 static inline int congee_first(const struct congee *map, struct congee_pair *pair) {
     struct congee_const_handle handle = {map};
     struct congee_pair it = {0, 0};
@@ -232,7 +250,8 @@ static inline int congee_first(const struct congee *map, struct congee_pair *pai
     return 1;
 }
 
-/* Writes the pair with the greatest key to *pair and returns 1, or returns 0 for an empty map. Takes no memory. */
+/* Writes the pair with the greatest key to *pair and returns CONGEE_PRESENT, or returns CONGEE_ABSENT for an empty
+ * map. Takes no memory. */
 static inline int congee_last(const struct congee *map, struct congee_pair *pair) {
     struct congee_const_handle handle = {map};
     struct congee_pair it = {0, 0};
@@ -243,8 +262,8 @@ static inline int congee_last(const struct congee *map, struct congee_pair *pair
     return 1;
 }
 
-/* Writes the pair with the greatest key <= this one to *pair and returns 1, or returns 0 where there is none. Takes no
- * memory. Reads the key's path, and at most one more. So do the next three. */
+/* Writes the pair with the greatest key <= this one to *pair and returns CONGEE_PRESENT, or returns CONGEE_ABSENT
+ * where there is none. Takes no memory. Reads the key's path, and at most one more. */
 static inline int congee_floor(const struct congee *map, uint64_t key, struct congee_pair *pair) {
     struct congee_const_handle handle = {map};
     struct congee_pair it = {0, 0};
@@ -255,7 +274,8 @@ static inline int congee_floor(const struct congee *map, uint64_t key, struct co
     return 1;
 }
 
-/* Writes the pair with the least key >= this one to *pair and returns 1, or returns 0 where there is none. */
+/* Writes the pair with the least key >= this one to *pair and returns CONGEE_PRESENT, or returns CONGEE_ABSENT where
+ * there is none. Takes no memory. Reads the key's path, and at most one more. */
 static inline int congee_ceiling(const struct congee *map, uint64_t key, struct congee_pair *pair) {
     struct congee_const_handle handle = {map};
     struct congee_pair it = {0, 0};
@@ -266,7 +286,8 @@ static inline int congee_ceiling(const struct congee *map, uint64_t key, struct 
     return 1;
 }
 
-/* Writes the pair with the greatest key < this one to *pair and returns 1, or returns 0 where there is none. */
+/* Writes the pair with the greatest key < this one to *pair and returns CONGEE_PRESENT, or returns CONGEE_ABSENT
+ * where there is none. Takes no memory. Reads the key's path, and at most one more. */
 static inline int congee_below(const struct congee *map, uint64_t key, struct congee_pair *pair) {
     struct congee_const_handle handle = {map};
     struct congee_pair it = {0, 0};
@@ -277,7 +298,8 @@ static inline int congee_below(const struct congee *map, uint64_t key, struct co
     return 1;
 }
 
-/* Writes the pair with the least key > this one to *pair and returns 1, or returns 0 where there is none. */
+/* Writes the pair with the least key > this one to *pair and returns CONGEE_PRESENT, or returns CONGEE_ABSENT where
+ * there is none. Takes no memory. Reads the key's path, and at most one more. */
 static inline int congee_above(const struct congee *map, uint64_t key, struct congee_pair *pair) {
     struct congee_const_handle handle = {map};
     struct congee_pair it = {0, 0};
@@ -288,7 +310,8 @@ static inline int congee_above(const struct congee *map, uint64_t key, struct co
     return 1;
 }
 
-/* Removes the pair with the least key, writes it to *pair and returns 1, or returns 0 for an empty map. Never fails. */
+/* Removes the pair with the least key, writes it to *pair and returns CONGEE_PRESENT, or returns CONGEE_ABSENT for an
+ * empty map. Never fails. */
 static inline int congee_pop_first(struct congee *map, struct congee_pair *pair) {
     struct congee_handle handle = {map};
     struct congee_pair it = {0, 0};
@@ -299,7 +322,8 @@ static inline int congee_pop_first(struct congee *map, struct congee_pair *pair)
     return 1;
 }
 
-/* Removes the pair with the greatest key, writes it to *pair and returns 1, or returns 0 for an empty map. Never fails. */
+/* Removes the pair with the greatest key, writes it to *pair and returns CONGEE_PRESENT, or returns CONGEE_ABSENT for
+ * an empty map. Never fails. */
 static inline int congee_pop_last(struct congee *map, struct congee_pair *pair) {
     struct congee_handle handle = {map};
     struct congee_pair it = {0, 0};
@@ -393,8 +417,8 @@ static inline uint64_t congee_limit(const struct congee *map) {
 /* -- Readers on several threads -- */
 
 /* Freezes a map: from here on nobody changes it, and threads may look keys up at once, each by a reader of its own.
- * Returns 0 with the first reader in *out and null in *map. Or returns CONGEE_OOM with null in *out, and *map is as it was.
- * Takes two small blocks beside the map's nodes, which stay where they are. */
+ * Returns CONGEE_DONE with the first reader in *out and null in *map. Or returns CONGEE_OOM with null in *out, and
+ * *map is as it was. Takes two small blocks beside the map's nodes, which stay where they are. */
 static inline int congee_freeze(struct congee **map, struct congee_frozen **out) {
     struct congee_handle handle = {*map}, back = {NULL};
     struct congee_frozen_handle made = {NULL};
@@ -404,8 +428,8 @@ static inline int congee_freeze(struct congee **map, struct congee_frozen **out)
     return code;
 }
 
-/* Makes one more reader of a frozen map, for another thread. Returns 0 with the reader in *out, or CONGEE_OOM with null
- * there. Takes a small block. */
+/* Makes one more reader of a frozen map, for another thread. Returns CONGEE_DONE with the reader in *out, or
+ * CONGEE_OOM with null there. Takes a small block. */
 static inline int congee_frozen_another(const struct congee_frozen *frozen, struct congee_frozen **out) {
     struct congee_const_frozen_handle handle = {frozen};
     struct congee_frozen_handle made = {NULL};
@@ -432,7 +456,7 @@ static inline void congee_frozen_free(struct congee_frozen *frozen) {
         congee_c_frozen_free(handle);
 }
 
-/* Looks the key up, as congee_get. */
+/* Looks the key up, as congee_get: returns CONGEE_PRESENT with the value in *value, or CONGEE_ABSENT. */
 static inline int congee_frozen_get(const struct congee_frozen *frozen, uint64_t key, uint64_t *value) {
     struct congee_const_frozen_handle handle = {frozen};
     uint64_t it = 0;

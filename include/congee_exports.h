@@ -136,7 +136,10 @@ int32_t congee_c_shared_charged(struct congee_const_shared_handle *handle, uint6
 int32_t congee_c_live_new(uint64_t limit, struct congee_live_handle *out);
 uint64_t congee_c_live_limit(struct congee_const_live_handle *handle);
 uint64_t congee_c_live_charged(struct congee_const_live_handle *handle);
+void congee_c_live_usage(struct congee_const_live_handle *handle, uint64_t *charged, uint64_t *limit);
 int32_t congee_c_live_another(struct congee_live_handle *handle, struct congee_live_handle *out);
+void congee_c_live_meet(struct congee_live_handle *handle, struct congee_live_handle *other);
+int32_t congee_c_live_note(struct congee_live_handle *handle, struct congee_live_handle *out);
 void congee_c_live_free(struct congee_live_handle handle);
 int32_t congee_c_live_get(struct congee_const_live_handle *handle, uint64_t key, uint64_t *value);
 int32_t congee_c_live_insert(struct congee_live_handle *handle, uint64_t key, uint64_t value, uint64_t *before);

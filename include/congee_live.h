@@ -14,8 +14,9 @@
  *
  * What a call of the library's own functions returns is proved of their code (congee_exports.h). There is one order of
  * the calls of all handles of a map, in which each reply is that of an ordered map. A handle's own calls are in it in
- * their order, and each comes after all that its handle had seen before. A new handle has seen what its maker had. A
- * call that is busy or finds no memory isn't in it. Ranges, next pairs and counts aren't in it either: each key that they pass
+ * their order, and each comes after all that its handle had seen before. A new handle has seen what its maker had. Handles
+ * that meet have seen what either had, and one that learns a note what was noted (congee_live_meet, congee_live_note). A call
+ * that is busy or finds no memory isn't in it. Ranges, next pairs and counts aren't in it either: each key that they pass
  * or give has its value at a moment of the call, and no moment is before that of a lower key. The functions for use are
  * plain C around the exports, and are tested.
  *
@@ -27,7 +28,7 @@
  *   - Ranges, ends and neighbours aren't of one moment.
  *   - congee_shared_range_descending: here congee_live_below, from pair to pair.
  *   - congee_shared_pop_first: here congee_live_first, and then congee_live_compare_remove of that pair, both again until
- *     the latter returns 1. So each pair goes to one caller. A lesser key may have come in between. Likewise of the last.
+ *     the latter returns CONGEE_PRESENT. So each pair goes to one caller. A lesser key may have come in between. Likewise of the last.
  *   - congee_live_count takes no constant time, and isn't of one moment.
  *   - congee_shared_clear: here pages of congee_live_range_inclusive and a removal for each pair, or a new map.
  *   - congee_shared_each and congee_shared_insert_many: loops by pages and by insertions.
@@ -61,45 +62,60 @@ extern "C" {
 /* A handle: one caller of a map that threads read without a lock. */
 struct congee_live;
 
+/* A note of what a handle had seen. */
+struct congee_live_note;
+
 /* -- Live maps -- */
 
-/* Makes an empty map whose nodes may take so many bytes, and its first handle. UINT64_MAX is no limit. The nodes lie in
- * segments. The first has 8,192 bytes, each further one twice as many up to 524,288. A handle that inserts has one to
- * itself. Below 8,192 bytes there is no map, and below 24,576 nothing can be inserted.
+/* Makes an empty map whose nodes may take so many bytes, and its first handle. UINT64_MAX is no limit. The nodes lie
+ * in segments. The first has 8,192 bytes, each further one twice as many up to 524,288. A handle that inserts has one
+ * to itself. Below 8,192 bytes there is no map, and below 24,576 nothing can be inserted.
  *
- * A call that needs one more segment than the limit is for is out of memory, and changes no pair. One that needs no new
- * node is made. A node that removals took out is the next of its size, so a program removes keys until one comes in.
- * That the limit isn't passed is tested, and no theorem states it. malloc lends some kilobytes more. Threads that need
- * the next segment at one time may each ask malloc for it. All but one then free theirs.
+ * A call that needs one more segment than the limit is for is out of memory, and changes no pair. One that needs no
+ * new node is made. A node that removals took out is the next of its size, so a program removes keys until one comes
+ * in. The bytes of the segments are at most the limit at any time, which is proved (congee_live_usage). That it is the
+ * limit that was handed over is tested. malloc lends some kilobytes more. Threads that need the next segment at one
+ * time may each ask malloc for it. All but one then free theirs.
  *
- * Returns 0 with the handle in *out, or CONGEE_OOM with null there. */
-static inline int congee_live_new_with_limit(uint64_t limit, struct congee_live **out) {
+ * Returns CONGEE_DONE with the handle in *out, or CONGEE_OOM with null there. */
+static inline int congee_live_new_with_limit(struct congee_live **out, uint64_t bytes) {
     struct congee_live_handle made = {NULL};
-    int code = congee_c_live_new(limit, &made);
+    int code = congee_c_live_new(bytes, &made);
     *out = made.guard;
     return code;
 }
 
-/* The same without a limit. */
+/* Makes an empty map without a limit, and its first handle. Returns CONGEE_DONE with the handle in *out, or
+ * CONGEE_OOM with null there. */
 static inline int congee_live_new(struct congee_live **out) {
-    return congee_live_new_with_limit(UINT64_MAX, out);
+    return congee_live_new_with_limit(out, UINT64_MAX);
 }
 
-/* The limit in bytes that the map was made with, UINT64_MAX for none, in constant time. */
+/* Returns the limit in bytes that the map was made with, UINT64_MAX for none. Takes constant time. */
 static inline uint64_t congee_live_limit(const struct congee_live *map) {
     struct congee_const_live_handle handle = {map};
     return congee_c_live_limit(&handle);
 }
 
-/* The bytes of the segments that the map has so far, in constant time. It never sinks. */
+/* Returns the bytes of the segments that the map has so far. They never sink. Takes constant time. */
 static inline uint64_t congee_live_charged(const struct congee_live *map) {
     struct congee_const_live_handle handle = {map};
     return congee_c_live_charged(&handle);
 }
 
-/* Makes one more handle of the map, for another thread. Takes a small block. A handle that has inserted has room for
- * nodes, of 512 KB at most. Once it is freed, a later handle gets that. Returns 0 with the handle in *out, or CONGEE_OOM
- * with null there. */
+/* Writes the bytes of the segments that the map has so far to *charged, and its limit to *limit. Neither place is null. The
+ * first is at most the second. Takes constant time. */
+static inline void congee_live_usage(const struct congee_live *map, uint64_t *charged, uint64_t *limit) {
+    struct congee_const_live_handle handle = {map};
+    uint64_t bytes = 0, most = 0;
+    congee_c_live_usage(&handle, &bytes, &most);
+    *charged = bytes;
+    *limit = most;
+}
+
+/* Makes one more handle of the map, for another thread. Both have then seen what this one had. Takes a small block. A
+ * handle that has inserted has room for nodes, of 512 KB at most. Once it is freed, a later handle gets that. Returns
+ * CONGEE_DONE with the handle in *out, or CONGEE_OOM with null there. */
 static inline int congee_live_another(struct congee_live *map, struct congee_live **out) {
     struct congee_live_handle handle = {map}, made = {NULL};
     int code = congee_c_live_another(&handle, &made);
@@ -114,9 +130,44 @@ static inline void congee_live_free(struct congee_live *map) {
         congee_c_live_free(handle);
 }
 
+/* -- Order in time -- */
+
+/* Two handles of one map meet. Both have then seen what either had, so a call that either makes later comes after all that
+ * either had made or read. A handle may meet itself, which does nothing. That both are of one map is what the program owes.
+ * Touches no memory that other handles use, and takes none. */
+static inline void congee_live_meet(struct congee_live *map, struct congee_live *other) {
+    struct congee_live_handle handle = {map}, second = {other};
+    if (map != other)
+        congee_c_live_meet(&handle, &second);
+}
+
+/* Makes a note of what the handle has seen so far, for handles that are never in one place with it. A note goes to
+ * another thread as a handle does. A call of this handle that returned before comes before each call of one that has
+ * learned the note since. The map is there as long as its notes. Takes a small block, and no room for nodes. Returns
+ * CONGEE_DONE with the note in *out, or CONGEE_OOM with null there. */
+static inline int congee_live_note(struct congee_live *map, struct congee_live_note **out) {
+    struct congee_live_handle handle = {map}, made = {NULL};
+    int code = congee_c_live_note(&handle, &made);
+    *out = (struct congee_live_note *)made.guard;
+    return code;
+}
+
+/* The handle has then seen what was noted, and the note what the handle has seen. The note is of the handle's map, and one call
+ * at a time uses it. Touches no memory that other handles use, and takes none. */
+static inline void congee_live_learn(struct congee_live *map, struct congee_live_note *note) {
+    struct congee_live_handle handle = {map}, noted = {(struct congee_live *)note};
+    congee_c_live_meet(&handle, &noted);
+}
+
+/* Frees the note, and with the last handle or note of a map the map. For null it does nothing. */
+static inline void congee_live_note_free(struct congee_live_note *note) {
+    congee_live_free((struct congee_live *)note);
+}
+
 /* -- One key -- */
 
-/* As congee_get, or CONGEE_BUSY. */
+/* Looks the key up. Takes no lock and no memory. Returns CONGEE_PRESENT with the value in *value, or CONGEE_ABSENT.
+ * Returns CONGEE_BUSY if writers came in between at each of its tries. Then nothing has changed. */
 static inline int congee_live_try_get(const struct congee_live *map, uint64_t key, uint64_t *value) {
     struct congee_const_live_handle handle = {map};
     uint64_t it = 0;
@@ -126,7 +177,8 @@ static inline int congee_live_try_get(const struct congee_live *map, uint64_t ke
     return code;
 }
 
-/* The same. Waits while the key's nodes are busy. */
+/* Looks the key up. Takes no lock and no memory. Waits while the key's nodes are busy. Returns CONGEE_PRESENT with
+ * the value in *value, or CONGEE_ABSENT. */
 static inline int congee_live_get(const struct congee_live *map, uint64_t key, uint64_t *value) {
     uint64_t it = 0;
     int code;
@@ -139,7 +191,10 @@ static inline int congee_live_get(const struct congee_live *map, uint64_t key, u
     return 1;
 }
 
-/* As congee_insert, or CONGEE_BUSY. A present key needs no memory. */
+/* Sets the key's value. A present key needs no memory. Returns CONGEE_ABSENT for a new key. Returns CONGEE_PRESENT
+ * for a present one, with its previous value in *old. Returns CONGEE_OOM only for a new key, if malloc finds no
+ * memory or the limit is reached. Then no pair has changed. Returns CONGEE_BUSY if writers came in between at each of
+ * its tries. Then nothing has changed. */
 static inline int congee_live_try_insert(struct congee_live *map, uint64_t key, uint64_t value, uint64_t *old) {
     struct congee_live_handle handle = {map};
     uint64_t it = 0;
@@ -149,7 +204,9 @@ static inline int congee_live_try_insert(struct congee_live *map, uint64_t key, 
     return code;
 }
 
-/* The same. Waits while the key's nodes are busy. */
+/* Sets the key's value. A present key needs no memory. Waits while the key's nodes are busy. Returns CONGEE_ABSENT
+ * for a new key. Returns CONGEE_PRESENT for a present one, with its previous value in *old. Returns CONGEE_OOM only
+ * for a new key, if malloc finds no memory or the limit is reached. Then no pair has changed. */
 static inline int congee_live_insert(struct congee_live *map, uint64_t key, uint64_t value, uint64_t *old) {
     int code;
     while ((code = congee_live_try_insert(map, key, value, old)) == CONGEE_BUSY)
@@ -157,7 +214,8 @@ static inline int congee_live_insert(struct congee_live *map, uint64_t key, uint
     return code;
 }
 
-/* As congee_remove, or CONGEE_BUSY. Needs no memory. */
+/* Removes the key. Needs no memory. Returns CONGEE_PRESENT with the key's value in *old, or CONGEE_ABSENT. Returns
+ * CONGEE_BUSY if writers came in between at each of its tries. Then nothing has changed. */
 static inline int congee_live_try_remove(struct congee_live *map, uint64_t key, uint64_t *old) {
     struct congee_live_handle handle = {map};
     uint64_t it = 0;
@@ -167,7 +225,8 @@ static inline int congee_live_try_remove(struct congee_live *map, uint64_t key, 
     return code;
 }
 
-/* The same. Waits while the key's nodes are busy. */
+/* Removes the key. Needs no memory. Waits while the key's nodes are busy. Returns CONGEE_PRESENT with the key's value
+ * in *old, or CONGEE_ABSENT. */
 static inline int congee_live_remove(struct congee_live *map, uint64_t key, uint64_t *old) {
     uint64_t it = 0;
     int code;
@@ -180,7 +239,10 @@ static inline int congee_live_remove(struct congee_live *map, uint64_t key, uint
     return 1;
 }
 
-/* As congee_compare_exchange, or CONGEE_BUSY. */
+/* Replaces the key's value by the desired one if it is the expected one. Needs no memory. Returns CONGEE_PRESENT if
+ * the value was replaced. Returns CONGEE_OTHER if the key has another value, which is written to *found. Returns
+ * CONGEE_ABSENT if the key is absent. Without CONGEE_PRESENT nothing has changed. Returns CONGEE_BUSY if writers came
+ * in between at each of its tries. Then nothing has changed. */
 static inline int congee_live_try_compare_exchange(struct congee_live *map, uint64_t key, uint64_t expected,
                                                    uint64_t desired, uint64_t *found) {
     struct congee_live_handle handle = {map};
@@ -191,7 +253,10 @@ static inline int congee_live_try_compare_exchange(struct congee_live *map, uint
     return code;
 }
 
-/* The same. Waits while the key's nodes are busy. */
+/* Replaces the key's value by the desired one if it is the expected one. Needs no memory. Waits while the key's nodes
+ * are busy. Returns CONGEE_PRESENT if the value was replaced. Returns CONGEE_OTHER if the key has another value,
+ * which is written to *found. Returns CONGEE_ABSENT if the key is absent. Without CONGEE_PRESENT nothing has changed.
+ */
 static inline int congee_live_compare_exchange(struct congee_live *map, uint64_t key, uint64_t expected,
                                                uint64_t desired, uint64_t *found) {
     int code;
@@ -200,7 +265,10 @@ static inline int congee_live_compare_exchange(struct congee_live *map, uint64_t
     return code;
 }
 
-/* As congee_compare_remove, or CONGEE_BUSY. Needs no memory. */
+/* Removes the key if its value is the expected one. Needs no memory. Returns CONGEE_PRESENT if the key was removed.
+ * Returns CONGEE_OTHER if the key has another value, which is written to *found. Returns CONGEE_ABSENT if the key is
+ * absent. Without CONGEE_PRESENT nothing has changed. Returns CONGEE_BUSY if writers came in between at each of its
+ * tries. Then nothing has changed. */
 static inline int congee_live_try_compare_remove(struct congee_live *map, uint64_t key, uint64_t expected,
                                                  uint64_t *found) {
     struct congee_live_handle handle = {map};
@@ -211,7 +279,9 @@ static inline int congee_live_try_compare_remove(struct congee_live *map, uint64
     return code;
 }
 
-/* The same. Waits while the key's nodes are busy. */
+/* Removes the key if its value is the expected one. Needs no memory. Waits while the key's nodes are busy. Returns
+ * CONGEE_PRESENT if the key was removed. Returns CONGEE_OTHER if the key has another value, which is written to
+ * *found. Returns CONGEE_ABSENT if the key is absent. Without CONGEE_PRESENT nothing has changed. */
 static inline int congee_live_compare_remove(struct congee_live *map, uint64_t key, uint64_t expected, uint64_t *found) {
     int code;
     while ((code = congee_live_try_compare_remove(map, key, expected, found)) == CONGEE_BUSY)
@@ -219,7 +289,10 @@ static inline int congee_live_compare_remove(struct congee_live *map, uint64_t k
     return code;
 }
 
-/* As congee_add, or CONGEE_BUSY. */
+/* Adds the number to the key's value, modulo 2^64. A new key gets the number as its value. A present key needs no
+ * memory. Returns CONGEE_ABSENT for a new key. Returns CONGEE_PRESENT for a present one, with the value before in
+ * *old. Returns CONGEE_OOM only for a new key, if malloc finds no memory or the limit is reached. Then no pair has
+ * changed. Returns CONGEE_BUSY if writers came in between at each of its tries. Then nothing has changed. */
 static inline int congee_live_try_add(struct congee_live *map, uint64_t key, uint64_t number, uint64_t *old) {
     struct congee_live_handle handle = {map};
     uint64_t it = 0;
@@ -229,7 +302,10 @@ static inline int congee_live_try_add(struct congee_live *map, uint64_t key, uin
     return code;
 }
 
-/* The same. Waits while the key's nodes are busy. */
+/* Adds the number to the key's value, modulo 2^64. A new key gets the number as its value. A present key needs no
+ * memory. Waits while the key's nodes are busy. Returns CONGEE_ABSENT for a new key. Returns CONGEE_PRESENT for a
+ * present one, with the value before in *old. Returns CONGEE_OOM only for a new key, if malloc finds no memory or the
+ * limit is reached. Then no pair has changed. */
 static inline int congee_live_add(struct congee_live *map, uint64_t key, uint64_t number, uint64_t *old) {
     int code;
     while ((code = congee_live_try_add(map, key, number, old)) == CONGEE_BUSY)
@@ -237,7 +313,11 @@ static inline int congee_live_add(struct congee_live *map, uint64_t key, uint64_
     return code;
 }
 
-/* As congee_get_or_insert, or CONGEE_BUSY. For a present key it takes no lock. */
+/* Gives the key the value if it is absent, and keeps the value of a present key. Of handles that give one key a value
+ * at once, one is first and gets CONGEE_ABSENT. For a present key it takes no lock and no memory. Returns
+ * CONGEE_ABSENT for a new key. Returns CONGEE_PRESENT for a present one, with its value in *found. Returns CONGEE_OOM
+ * only for a new key, if malloc finds no memory or the limit is reached. Then no pair has changed. Returns
+ * CONGEE_BUSY if writers came in between at each of its tries. Then nothing has changed. */
 static inline int congee_live_try_get_or_insert(struct congee_live *map, uint64_t key, uint64_t value, uint64_t *found) {
     struct congee_live_handle handle = {map};
     uint64_t it = 0;
@@ -247,7 +327,11 @@ static inline int congee_live_try_get_or_insert(struct congee_live *map, uint64_
     return code;
 }
 
-/* The same. Waits while the key's nodes are busy. */
+/* Gives the key the value if it is absent, and keeps the value of a present key. Of handles that give one key a value
+ * at once, one is first and gets CONGEE_ABSENT. For a present key it takes no lock and no memory. Waits while the
+ * key's nodes are busy. Returns CONGEE_ABSENT for a new key. Returns CONGEE_PRESENT for a present one, with its value
+ * in *found. Returns CONGEE_OOM only for a new key, if malloc finds no memory or the limit is reached. Then no pair
+ * has changed. */
 static inline int congee_live_get_or_insert(struct congee_live *map, uint64_t key, uint64_t value, uint64_t *found) {
     int code;
     while ((code = congee_live_try_get_or_insert(map, key, value, found)) == CONGEE_BUSY)
@@ -257,10 +341,11 @@ static inline int congee_live_get_or_insert(struct congee_live *map, uint64_t ke
 
 /* -- Ranges -- */
 
-/* As congee_range, but for other threads' calls meanwhile: the pairs aren't those of one moment. Each was there at a moment
- * of the call. Keys ascend, and a key that is there throughout is given. The pairs of one node that has values are of one
- * moment. The buffer's pairs behind those that are given are unspecified. Returns 0 with the number of pairs in *written,
- * or CONGEE_BUSY, after which all of the buffer is unspecified. */
+/* Writes the pairs with keys from start on and below end to the buffer, as many as there are or as fit. The pairs
+ * aren't those of one moment. Each was there at a moment of the call. Keys ascend, and a key that is there throughout
+ * is given. The pairs of one node that has values are of one moment. The buffer's pairs behind those that are given
+ * are unspecified. Returns CONGEE_DONE with the number of pairs in *written, which isn't null. Returns CONGEE_BUSY if
+ * writers came in between at each of its tries. Then all of the buffer is unspecified. */
 static inline int congee_live_try_range(const struct congee_live *map, uint64_t start, uint64_t end,
                                         struct congee_pair *buffer, size_t n, size_t *written) {
     struct congee_const_live_handle handle = {map};
@@ -271,7 +356,10 @@ static inline int congee_live_try_range(const struct congee_live *map, uint64_t 
     return code;
 }
 
-/* The same. Waits while nodes on its way are busy, and returns the number. */
+/* Writes the pairs with keys from start on and below end to the buffer, as many as there are or as fit, and returns
+ * their number. Waits while nodes on its way are busy. The pairs aren't those of one moment. Each was there at a
+ * moment of the call. Keys ascend, and a key that is there throughout is given. The pairs of one node that has values
+ * are of one moment. The buffer's pairs behind those that are given are unspecified. */
 static inline size_t congee_live_range(const struct congee_live *map, uint64_t start, uint64_t end,
                                        struct congee_pair *buffer, size_t n) {
     size_t written = 0;
@@ -280,7 +368,11 @@ static inline size_t congee_live_range(const struct congee_live *map, uint64_t s
     return written;
 }
 
-/* As congee_range_inclusive, with what congee_live_try_range says of the pairs, the buffer and what it returns. */
+/* Writes the pairs with keys from start to last to the buffer, as many as there are or as fit. The pairs aren't those
+ * of one moment. Each was there at a moment of the call. Keys ascend, and a key that is there throughout is given.
+ * The pairs of one node that has values are of one moment. The buffer's pairs behind those that are given are
+ * unspecified. Returns CONGEE_DONE with the number of pairs in *written, which isn't null. Returns CONGEE_BUSY if
+ * writers came in between at each of its tries. Then all of the buffer is unspecified. */
 static inline int congee_live_try_range_inclusive(const struct congee_live *map, uint64_t start, uint64_t last,
                                                   struct congee_pair *buffer, size_t n, size_t *written) {
     struct congee_const_live_handle handle = {map};
@@ -291,7 +383,10 @@ static inline int congee_live_try_range_inclusive(const struct congee_live *map,
     return code;
 }
 
-/* The same. Waits while nodes on its way are busy, and returns the number. */
+/* Writes the pairs with keys from start to last to the buffer, as many as there are or as fit, and returns their
+ * number. Waits while nodes on its way are busy. The pairs aren't those of one moment. Each was there at a moment of
+ * the call. Keys ascend, and a key that is there throughout is given. The pairs of one node that has values are of
+ * one moment. The buffer's pairs behind those that are given are unspecified. */
 static inline size_t congee_live_range_inclusive(const struct congee_live *map, uint64_t start, uint64_t last,
                                                  struct congee_pair *buffer, size_t n) {
     size_t written = 0;
@@ -302,8 +397,9 @@ static inline size_t congee_live_range_inclusive(const struct congee_live *map, 
 
 /* -- Ends and neighbours -- */
 
-/* As congee_first, but for other threads' calls meanwhile: the pair was there at a moment of the call, and no key below it is
- * there throughout. Or CONGEE_BUSY. */
+/* Finds the pair with the least key. The pair was there at a moment of the call, and no key below it is there
+ * throughout. Returns CONGEE_PRESENT with the pair in *pair, or CONGEE_ABSENT where there is none. Returns
+ * CONGEE_BUSY if writers came in between at each of its tries. */
 static inline int congee_live_try_first(const struct congee_live *map, struct congee_pair *pair) {
     struct congee_const_live_handle handle = {map};
     struct congee_pair it = {0, 0};
@@ -313,7 +409,9 @@ static inline int congee_live_try_first(const struct congee_live *map, struct co
     return code;
 }
 
-/* The same. Waits while nodes on its way are busy. */
+/* Finds the pair with the least key. Waits while nodes on its way are busy. The pair was there at a moment of the
+ * call, and no key below it is there throughout. Returns CONGEE_PRESENT with the pair in *pair, or CONGEE_ABSENT
+ * where there is none. */
 static inline int congee_live_first(const struct congee_live *map, struct congee_pair *pair) {
     struct congee_pair it = {0, 0};
     int code;
@@ -326,7 +424,9 @@ static inline int congee_live_first(const struct congee_live *map, struct congee
     return 1;
 }
 
-/* As congee_ceiling, in the same way. Or CONGEE_BUSY. */
+/* Finds the pair with the least key that is at least this one. The pair was there at a moment of the call, and no key
+ * between the two is there throughout. Returns CONGEE_PRESENT with the pair in *pair, or CONGEE_ABSENT where there is
+ * none. Returns CONGEE_BUSY if writers came in between at each of its tries. */
 static inline int congee_live_try_ceiling(const struct congee_live *map, uint64_t key, struct congee_pair *pair) {
     struct congee_const_live_handle handle = {map};
     struct congee_pair it = {0, 0};
@@ -336,7 +436,9 @@ static inline int congee_live_try_ceiling(const struct congee_live *map, uint64_
     return code;
 }
 
-/* The same. Waits while nodes on its way are busy. */
+/* Finds the pair with the least key that is at least this one. Waits while nodes on its way are busy. The pair was
+ * there at a moment of the call, and no key between the two is there throughout. Returns CONGEE_PRESENT with the pair
+ * in *pair, or CONGEE_ABSENT where there is none. */
 static inline int congee_live_ceiling(const struct congee_live *map, uint64_t key, struct congee_pair *pair) {
     struct congee_pair it = {0, 0};
     int code;
@@ -349,7 +451,9 @@ static inline int congee_live_ceiling(const struct congee_live *map, uint64_t ke
     return 1;
 }
 
-/* As congee_above, in the same way. Or CONGEE_BUSY. */
+/* Finds the pair with the least key that is above this one. The pair was there at a moment of the call, and no key
+ * between the two is there throughout. Returns CONGEE_PRESENT with the pair in *pair, or CONGEE_ABSENT where there is
+ * none. Returns CONGEE_BUSY if writers came in between at each of its tries. */
 static inline int congee_live_try_above(const struct congee_live *map, uint64_t key, struct congee_pair *pair) {
     struct congee_const_live_handle handle = {map};
     struct congee_pair it = {0, 0};
@@ -359,7 +463,9 @@ static inline int congee_live_try_above(const struct congee_live *map, uint64_t 
     return code;
 }
 
-/* The same. Waits while nodes on its way are busy. */
+/* Finds the pair with the least key that is above this one. Waits while nodes on its way are busy. The pair was there
+ * at a moment of the call, and no key between the two is there throughout. Returns CONGEE_PRESENT with the pair in
+ * *pair, or CONGEE_ABSENT where there is none. */
 static inline int congee_live_above(const struct congee_live *map, uint64_t key, struct congee_pair *pair) {
     struct congee_pair it = {0, 0};
     int code;
@@ -372,8 +478,9 @@ static inline int congee_live_above(const struct congee_live *map, uint64_t key,
     return 1;
 }
 
-/* As congee_last, but for other threads' calls meanwhile: the pair was there at a moment of the call, and no key above it is
- * there throughout. Or CONGEE_BUSY. */
+/* Finds the pair with the greatest key. The pair was there at a moment of the call, and no key above it is there
+ * throughout. Returns CONGEE_PRESENT with the pair in *pair, or CONGEE_ABSENT where there is none. Returns
+ * CONGEE_BUSY if writers came in between at each of its tries. */
 static inline int congee_live_try_last(const struct congee_live *map, struct congee_pair *pair) {
     struct congee_const_live_handle handle = {map};
     struct congee_pair it = {0, 0};
@@ -383,7 +490,9 @@ static inline int congee_live_try_last(const struct congee_live *map, struct con
     return code;
 }
 
-/* The same. Waits while nodes on its way are busy. */
+/* Finds the pair with the greatest key. Waits while nodes on its way are busy. The pair was there at a moment of the
+ * call, and no key above it is there throughout. Returns CONGEE_PRESENT with the pair in *pair, or CONGEE_ABSENT
+ * where there is none. */
 static inline int congee_live_last(const struct congee_live *map, struct congee_pair *pair) {
     struct congee_pair it = {0, 0};
     int code;
@@ -396,7 +505,9 @@ static inline int congee_live_last(const struct congee_live *map, struct congee_
     return 1;
 }
 
-/* As congee_floor, in the same way. Or CONGEE_BUSY. */
+/* Finds the pair with the greatest key that is at most this one. The pair was there at a moment of the call, and no
+ * key between the two is there throughout. Returns CONGEE_PRESENT with the pair in *pair, or CONGEE_ABSENT where
+ * there is none. Returns CONGEE_BUSY if writers came in between at each of its tries. */
 static inline int congee_live_try_floor(const struct congee_live *map, uint64_t key, struct congee_pair *pair) {
     struct congee_const_live_handle handle = {map};
     struct congee_pair it = {0, 0};
@@ -406,7 +517,9 @@ static inline int congee_live_try_floor(const struct congee_live *map, uint64_t 
     return code;
 }
 
-/* The same. Waits while nodes on its way are busy. */
+/* Finds the pair with the greatest key that is at most this one. Waits while nodes on its way are busy. The pair was
+ * there at a moment of the call, and no key between the two is there throughout. Returns CONGEE_PRESENT with the pair
+ * in *pair, or CONGEE_ABSENT where there is none. */
 static inline int congee_live_floor(const struct congee_live *map, uint64_t key, struct congee_pair *pair) {
     struct congee_pair it = {0, 0};
     int code;
@@ -419,7 +532,9 @@ static inline int congee_live_floor(const struct congee_live *map, uint64_t key,
     return 1;
 }
 
-/* As congee_below, in the same way. Or CONGEE_BUSY. */
+/* Finds the pair with the greatest key that is below this one. The pair was there at a moment of the call, and no key
+ * between the two is there throughout. Returns CONGEE_PRESENT with the pair in *pair, or CONGEE_ABSENT where there is
+ * none. Returns CONGEE_BUSY if writers came in between at each of its tries. */
 static inline int congee_live_try_below(const struct congee_live *map, uint64_t key, struct congee_pair *pair) {
     struct congee_const_live_handle handle = {map};
     struct congee_pair it = {0, 0};
@@ -429,7 +544,9 @@ static inline int congee_live_try_below(const struct congee_live *map, uint64_t 
     return code;
 }
 
-/* The same. Waits while nodes on its way are busy. */
+/* Finds the pair with the greatest key that is below this one. Waits while nodes on its way are busy. The pair was
+ * there at a moment of the call, and no key between the two is there throughout. Returns CONGEE_PRESENT with the pair
+ * in *pair, or CONGEE_ABSENT where there is none. */
 static inline int congee_live_below(const struct congee_live *map, uint64_t key, struct congee_pair *pair) {
     struct congee_pair it = {0, 0};
     int code;
@@ -444,14 +561,14 @@ static inline int congee_live_below(const struct congee_live *map, uint64_t key,
 
 /* -- Counts -- */
 
-/* As congee_is_empty, but for other threads' calls meanwhile: by a look for the first pair. 1 where there is no pair, and 0
- * where there is one. Or CONGEE_BUSY. */
+/* Whether there is no pair, by a look for the first one. Returns 1 where there is no pair, and 0 where there is one.
+ * Returns CONGEE_BUSY if writers came in between at each of its tries. */
 static inline int congee_live_try_is_empty(const struct congee_live *map) {
     int code = congee_live_try_first(map, NULL);
     return code == CONGEE_BUSY ? code : code == 0;
 }
 
-/* The same. Waits while nodes on its way are busy. */
+/* Whether there is no pair, by a look for the first one. Waits while nodes on its way are busy. */
 static inline bool congee_live_is_empty(const struct congee_live *map) {
     int code;
     while ((code = congee_live_try_is_empty(map)) == CONGEE_BUSY)
@@ -459,9 +576,10 @@ static inline bool congee_live_is_empty(const struct congee_live *map) {
     return code == 1;
 }
 
-/* As congee_count, but it reads all nodes that have values, so takes time by their number. It is exact where no other thread
- * writes. Else each key is counted, or not, as it was at a moment of the call. Returns 0 with the number in *count, or
- * CONGEE_BUSY. */
+/* Counts the pairs. Reads all nodes that have values, so it takes time by their number. The count is exact where no
+ * other thread writes. Else each key is counted, or not, as it was at a moment of the call. Returns CONGEE_DONE with
+ * the number in *count, which isn't null. It saturates at UINT64_MAX. Returns CONGEE_BUSY if writers came in between
+ * at each of its tries. */
 static inline int congee_live_try_count(const struct congee_live *map, uint64_t *count) {
     struct congee_const_live_handle handle = {map};
     uint64_t it = 0;
@@ -471,7 +589,9 @@ static inline int congee_live_try_count(const struct congee_live *map, uint64_t 
     return code;
 }
 
-/* The same. Waits while nodes on its way are busy, and returns the number. */
+/* Counts the pairs, and returns their number, which saturates at UINT64_MAX. Waits while nodes on its way are busy.
+ * Reads all nodes that have values, so it takes time by their number. The count is exact where no other thread
+ * writes. Else each key is counted, or not, as it was at a moment of the call. */
 static inline uint64_t congee_live_count(const struct congee_live *map) {
     uint64_t count = 0;
     while (congee_live_try_count(map, &count) == CONGEE_BUSY)

@@ -51,17 +51,15 @@
 extern "C" {
 #endif
 
-/* What a call returns where a lock was taken at each of its tries. */
-#define CONGEE_BUSY (-2)
-
 /* A handle: one caller of a map that threads share. */
 struct congee_shared;
 
 /* -- Shared maps -- */
 
-/* Makes an empty map whose nodes may take so many bytes, as congee_new_with_limit, and its first handle. UINT64_MAX is no
- * limit. That a limit isn't passed is tested, and no theorem states it. Returns 0 with the handle in *out, or CONGEE_OOM
- * with null there. */
+/* Makes an empty map under one lock whose nodes may take so many bytes by their stated sizes, and its first handle.
+ * UINT64_MAX is no limit. The sizes are 64, 168, 672 or 2104 bytes for a node of up to 4, 16, 48 or 256 entries. The
+ * first node is of the largest size, so a smaller limit fails. That a limit isn't passed is tested, and no theorem
+ * states it. Returns CONGEE_DONE with the handle in *out, or CONGEE_OOM with null there. */
 static inline int congee_shared_new(uint64_t limit, struct congee_shared **out) {
     struct congee_shared_handle made = {NULL};
     int code = congee_c_shared_new(limit, &made);
@@ -69,10 +67,11 @@ static inline int congee_shared_new(uint64_t limit, struct congee_shared **out) 
     return code;
 }
 
-/* The same of a map in 64 shards, for many threads. Keys that differ in their last eight bits alone are of one shard.
- * Calls of keys of different shards go on side by side. A call that is not of one key takes 64 locks, and looks into 64
- * trees. Each shard has a 64th of the limit, rounded down, so a call may be out of memory while other shards have room.
- * The 64 first nodes take 134,656 bytes. */
+/* Makes an empty map in 64 shards, for many threads, and its first handle. Keys that differ in their last eight bits
+ * alone are of one shard. Calls of keys of different shards go on side by side. A call that is not of one key takes
+ * 64 locks, and looks into 64 trees. Each shard has a 64th of the limit, rounded down, so a call may be out of memory
+ * while other shards have room. The 64 first nodes take 134,656 bytes. Returns CONGEE_DONE with the handle in *out,
+ * or CONGEE_OOM with null there. */
 static inline int congee_shared_new_sharded(uint64_t limit, struct congee_shared **out) {
     struct congee_shared_handle made = {NULL};
     int code = congee_c_shared_new_sharded(limit, &made);
@@ -80,8 +79,9 @@ static inline int congee_shared_new_sharded(uint64_t limit, struct congee_shared
     return code;
 }
 
-/* Makes one more handle of the map, for another thread. Takes a small block, so a thread keeps its handle for many calls.
- * Returns 0 with the handle in *out, or CONGEE_OOM with null there. */
+/* Makes one more handle of the map, for another thread. Both have then seen what this one had. Takes a small block,
+ * so a thread keeps its handle for many calls. Returns CONGEE_DONE with the handle in *out, or CONGEE_OOM with null
+ * there. */
 static inline int congee_shared_another(struct congee_shared *map, struct congee_shared **out) {
     struct congee_shared_handle handle = {map}, made = {NULL};
     int code = congee_c_shared_another(&handle, &made);
@@ -98,7 +98,8 @@ static inline void congee_shared_free(struct congee_shared *map) {
 
 /* -- One key -- */
 
-/* As congee_get, or CONGEE_BUSY. */
+/* Looks the key up. Takes no memory. Returns CONGEE_PRESENT with the value in *value, or CONGEE_ABSENT. Returns
+ * CONGEE_BUSY if a lock was taken at each of its tries. Then nothing has changed. */
 static inline int congee_shared_try_get(const struct congee_shared *map, uint64_t key, uint64_t *value) {
     struct congee_const_shared_handle handle = {map};
     uint64_t it = 0;
@@ -108,7 +109,8 @@ static inline int congee_shared_try_get(const struct congee_shared *map, uint64_
     return code;
 }
 
-/* The same. Waits while the map is busy. */
+/* Looks the key up. Takes no memory. Waits while the map is busy. Returns CONGEE_PRESENT with the value in *value, or
+ * CONGEE_ABSENT. */
 static inline int congee_shared_get(const struct congee_shared *map, uint64_t key, uint64_t *value) {
     uint64_t it = 0;
     int code;
@@ -121,7 +123,10 @@ static inline int congee_shared_get(const struct congee_shared *map, uint64_t ke
     return 1;
 }
 
-/* As congee_insert, or CONGEE_BUSY. */
+/* Sets the key's value. A present key needs no memory. Returns CONGEE_ABSENT for a new key. Returns CONGEE_PRESENT
+ * for a present one, with its previous value in *old. Returns CONGEE_OOM only for a new key, if malloc finds no
+ * memory or the limit is reached. Then nothing has changed. Returns CONGEE_BUSY if a lock was taken at each of its
+ * tries. Then nothing has changed. */
 static inline int congee_shared_try_insert(struct congee_shared *map, uint64_t key, uint64_t value, uint64_t *old) {
     struct congee_shared_handle handle = {map};
     uint64_t it = 0;
@@ -131,7 +136,9 @@ static inline int congee_shared_try_insert(struct congee_shared *map, uint64_t k
     return code;
 }
 
-/* The same. Waits while the map is busy. */
+/* Sets the key's value. A present key needs no memory. Waits while the map is busy. Returns CONGEE_ABSENT for a new
+ * key. Returns CONGEE_PRESENT for a present one, with its previous value in *old. Returns CONGEE_OOM only for a new
+ * key, if malloc finds no memory or the limit is reached. Then nothing has changed. */
 static inline int congee_shared_insert(struct congee_shared *map, uint64_t key, uint64_t value, uint64_t *old) {
     int code;
     while ((code = congee_shared_try_insert(map, key, value, old)) == CONGEE_BUSY)
@@ -139,7 +146,8 @@ static inline int congee_shared_insert(struct congee_shared *map, uint64_t key, 
     return code;
 }
 
-/* As congee_remove, or CONGEE_BUSY. */
+/* Removes the key. Is never out of memory. Returns CONGEE_PRESENT with the key's value in *old, or CONGEE_ABSENT.
+ * Returns CONGEE_BUSY if a lock was taken at each of its tries. Then nothing has changed. */
 static inline int congee_shared_try_remove(struct congee_shared *map, uint64_t key, uint64_t *old) {
     struct congee_shared_handle handle = {map};
     uint64_t it = 0;
@@ -149,7 +157,8 @@ static inline int congee_shared_try_remove(struct congee_shared *map, uint64_t k
     return code;
 }
 
-/* The same. Waits while the map is busy. */
+/* Removes the key. Is never out of memory. Waits while the map is busy. Returns CONGEE_PRESENT with the key's value
+ * in *old, or CONGEE_ABSENT. */
 static inline int congee_shared_remove(struct congee_shared *map, uint64_t key, uint64_t *old) {
     uint64_t it = 0;
     int code;
@@ -162,7 +171,10 @@ static inline int congee_shared_remove(struct congee_shared *map, uint64_t key, 
     return 1;
 }
 
-/* As congee_compare_exchange, or CONGEE_BUSY. */
+/* Replaces the key's value by the desired one if it is the expected one. Takes no memory. Returns CONGEE_PRESENT if
+ * the value was replaced. Returns CONGEE_OTHER if the key has another value, which is written to *found. Returns
+ * CONGEE_ABSENT if the key is absent. Without CONGEE_PRESENT nothing has changed. Returns CONGEE_BUSY if a lock was
+ * taken at each of its tries. Then nothing has changed. */
 static inline int congee_shared_try_compare_exchange(struct congee_shared *map, uint64_t key, uint64_t expected,
                                                      uint64_t desired, uint64_t *found) {
     struct congee_shared_handle handle = {map};
@@ -173,7 +185,9 @@ static inline int congee_shared_try_compare_exchange(struct congee_shared *map, 
     return code;
 }
 
-/* The same. Waits while the map is busy. */
+/* Replaces the key's value by the desired one if it is the expected one. Takes no memory. Waits while the map is
+ * busy. Returns CONGEE_PRESENT if the value was replaced. Returns CONGEE_OTHER if the key has another value, which is
+ * written to *found. Returns CONGEE_ABSENT if the key is absent. Without CONGEE_PRESENT nothing has changed. */
 static inline int congee_shared_compare_exchange(struct congee_shared *map, uint64_t key, uint64_t expected,
                                                  uint64_t desired, uint64_t *found) {
     int code;
@@ -182,7 +196,10 @@ static inline int congee_shared_compare_exchange(struct congee_shared *map, uint
     return code;
 }
 
-/* As congee_compare_remove, or CONGEE_BUSY. */
+/* Removes the key if its value is the expected one. Is never out of memory. Returns CONGEE_PRESENT if the key was
+ * removed. Returns CONGEE_OTHER if the key has another value, which is written to *found. Returns CONGEE_ABSENT if
+ * the key is absent. Without CONGEE_PRESENT nothing has changed. Returns CONGEE_BUSY if a lock was taken at each of
+ * its tries. Then nothing has changed. */
 static inline int congee_shared_try_compare_remove(struct congee_shared *map, uint64_t key, uint64_t expected,
                                                    uint64_t *found) {
     struct congee_shared_handle handle = {map};
@@ -193,7 +210,9 @@ static inline int congee_shared_try_compare_remove(struct congee_shared *map, ui
     return code;
 }
 
-/* The same. Waits while the map is busy. */
+/* Removes the key if its value is the expected one. Is never out of memory. Waits while the map is busy. Returns
+ * CONGEE_PRESENT if the key was removed. Returns CONGEE_OTHER if the key has another value, which is written to
+ * *found. Returns CONGEE_ABSENT if the key is absent. Without CONGEE_PRESENT nothing has changed. */
 static inline int congee_shared_compare_remove(struct congee_shared *map, uint64_t key, uint64_t expected,
                                                uint64_t *found) {
     int code;
@@ -202,7 +221,10 @@ static inline int congee_shared_compare_remove(struct congee_shared *map, uint64
     return code;
 }
 
-/* As congee_add, or CONGEE_BUSY. */
+/* Adds the number to the key's value, modulo 2^64. A new key gets the number as its value. A present key needs no
+ * memory. Returns CONGEE_ABSENT for a new key. Returns CONGEE_PRESENT for a present one, with the value before in
+ * *old. Returns CONGEE_OOM only for a new key, if malloc finds no memory or the limit is reached. Then nothing has
+ * changed. Returns CONGEE_BUSY if a lock was taken at each of its tries. Then nothing has changed. */
 static inline int congee_shared_try_add(struct congee_shared *map, uint64_t key, uint64_t number, uint64_t *old) {
     struct congee_shared_handle handle = {map};
     uint64_t it = 0;
@@ -212,7 +234,10 @@ static inline int congee_shared_try_add(struct congee_shared *map, uint64_t key,
     return code;
 }
 
-/* The same. Waits while the map is busy. */
+/* Adds the number to the key's value, modulo 2^64. A new key gets the number as its value. A present key needs no
+ * memory. Waits while the map is busy. Returns CONGEE_ABSENT for a new key. Returns CONGEE_PRESENT for a present one,
+ * with the value before in *old. Returns CONGEE_OOM only for a new key, if malloc finds no memory or the limit is
+ * reached. Then nothing has changed. */
 static inline int congee_shared_add(struct congee_shared *map, uint64_t key, uint64_t number, uint64_t *old) {
     int code;
     while ((code = congee_shared_try_add(map, key, number, old)) == CONGEE_BUSY)
@@ -220,7 +245,11 @@ static inline int congee_shared_add(struct congee_shared *map, uint64_t key, uin
     return code;
 }
 
-/* As congee_get_or_insert, or CONGEE_BUSY. */
+/* Gives the key the value if it is absent, and keeps the value of a present key. Of handles that give one key a value
+ * at once, one is first and gets CONGEE_ABSENT. A present key needs no memory. Returns CONGEE_ABSENT for a new key.
+ * Returns CONGEE_PRESENT for a present one, with its value in *found. Returns CONGEE_OOM only for a new key, if
+ * malloc finds no memory or the limit is reached. Then nothing has changed. Returns CONGEE_BUSY if a lock was taken
+ * at each of its tries. Then nothing has changed. */
 static inline int congee_shared_try_get_or_insert(struct congee_shared *map, uint64_t key, uint64_t value,
                                                   uint64_t *found) {
     struct congee_shared_handle handle = {map};
@@ -231,7 +260,10 @@ static inline int congee_shared_try_get_or_insert(struct congee_shared *map, uin
     return code;
 }
 
-/* The same. Waits while the map is busy. */
+/* Gives the key the value if it is absent, and keeps the value of a present key. Of handles that give one key a value
+ * at once, one is first and gets CONGEE_ABSENT. A present key needs no memory. Waits while the map is busy. Returns
+ * CONGEE_ABSENT for a new key. Returns CONGEE_PRESENT for a present one, with its value in *found. Returns CONGEE_OOM
+ * only for a new key, if malloc finds no memory or the limit is reached. Then nothing has changed. */
 static inline int congee_shared_get_or_insert(struct congee_shared *map, uint64_t key, uint64_t value, uint64_t *found) {
     int code;
     while ((code = congee_shared_try_get_or_insert(map, key, value, found)) == CONGEE_BUSY)
@@ -241,8 +273,10 @@ static inline int congee_shared_get_or_insert(struct congee_shared *map, uint64_
 
 /* -- Ranges -- */
 
-/* As congee_range. The pairs are those of one moment. A further page is of a later one. Returns 0 with the number of
- * pairs in *written, or CONGEE_BUSY. */
+/* Writes the first pairs with keys from start on and below end to the buffer, keys ascending, as many as there are or
+ * as fit. The pairs are those of one moment, and a further page is of a later one. The rest of the buffer is
+ * unchanged. Returns CONGEE_DONE with the number of pairs in *written, which isn't null. Returns CONGEE_BUSY if a
+ * lock was taken at each of its tries. Then the buffer is unchanged. */
 static inline int congee_shared_try_range(const struct congee_shared *map, uint64_t start, uint64_t end,
                                           struct congee_pair *buffer, size_t n, size_t *written) {
     struct congee_const_shared_handle handle = {map};
@@ -253,7 +287,9 @@ static inline int congee_shared_try_range(const struct congee_shared *map, uint6
     return code;
 }
 
-/* The same. Waits while the map is busy, and returns the number. */
+/* Writes the first pairs with keys from start on and below end to the buffer, keys ascending, as many as there are or
+ * as fit, and returns their number. Waits while the map is busy. The pairs are those of one moment, and a further
+ * page is of a later one. The rest of the buffer is unchanged. */
 static inline size_t congee_shared_range(const struct congee_shared *map, uint64_t start, uint64_t end,
                                          struct congee_pair *buffer, size_t n) {
     size_t written = 0;
@@ -262,7 +298,10 @@ static inline size_t congee_shared_range(const struct congee_shared *map, uint64
     return written;
 }
 
-/* As congee_range_inclusive, the pairs of one moment. Returns 0 with the number of pairs in *written, or CONGEE_BUSY. */
+/* Writes the first pairs with keys from start to last to the buffer, keys ascending, as many as there are or as fit.
+ * The pairs are those of one moment, and a further page is of a later one. The rest of the buffer is unchanged.
+ * Returns CONGEE_DONE with the number of pairs in *written, which isn't null. Returns CONGEE_BUSY if a lock was taken
+ * at each of its tries. Then the buffer is unchanged. */
 static inline int congee_shared_try_range_inclusive(const struct congee_shared *map, uint64_t start, uint64_t last,
                                                     struct congee_pair *buffer, size_t n, size_t *written) {
     struct congee_const_shared_handle handle = {map};
@@ -273,7 +312,9 @@ static inline int congee_shared_try_range_inclusive(const struct congee_shared *
     return code;
 }
 
-/* The same. Waits while the map is busy, and returns the number. */
+/* Writes the first pairs with keys from start to last to the buffer, keys ascending, as many as there are or as fit,
+ * and returns their number. Waits while the map is busy. The pairs are those of one moment, and a further page is of
+ * a later one. The rest of the buffer is unchanged. */
 static inline size_t congee_shared_range_inclusive(const struct congee_shared *map, uint64_t start, uint64_t last,
                                                    struct congee_pair *buffer, size_t n) {
     size_t written = 0;
@@ -282,7 +323,10 @@ static inline size_t congee_shared_range_inclusive(const struct congee_shared *m
     return written;
 }
 
-/* As congee_range_descending, the pairs of one moment. Returns 0 with the number of pairs in *written, or CONGEE_BUSY. */
+/* Writes the last pairs with keys from start to last to the buffer, keys descending, as many as there are or as fit.
+ * The pairs are those of one moment, and a further page is of a later one. The rest of the buffer is unchanged.
+ * Returns CONGEE_DONE with the number of pairs in *written, which isn't null. Returns CONGEE_BUSY if a lock was taken
+ * at each of its tries. Then the buffer is unchanged. */
 static inline int congee_shared_try_range_descending(const struct congee_shared *map, uint64_t start, uint64_t last,
                                                      struct congee_pair *buffer, size_t n, size_t *written) {
     struct congee_const_shared_handle handle = {map};
@@ -293,7 +337,9 @@ static inline int congee_shared_try_range_descending(const struct congee_shared 
     return code;
 }
 
-/* The same. Waits while the map is busy, and returns the number. */
+/* Writes the last pairs with keys from start to last to the buffer, keys descending, as many as there are or as fit,
+ * and returns their number. Waits while the map is busy. The pairs are those of one moment, and a further page is of
+ * a later one. The rest of the buffer is unchanged. */
 static inline size_t congee_shared_range_descending(const struct congee_shared *map, uint64_t start, uint64_t last,
                                                     struct congee_pair *buffer, size_t n) {
     size_t written = 0;
@@ -304,7 +350,8 @@ static inline size_t congee_shared_range_descending(const struct congee_shared *
 
 /* -- Ends and neighbours -- */
 
-/* As congee_first, or CONGEE_BUSY. */
+/* Finds the pair with the least key. Returns CONGEE_PRESENT with the pair in *pair, or CONGEE_ABSENT where there is
+ * none. Returns CONGEE_BUSY if a lock was taken at each of its tries. */
 static inline int congee_shared_try_first(const struct congee_shared *map, struct congee_pair *pair) {
     struct congee_const_shared_handle handle = {map};
     struct congee_pair it = {0, 0};
@@ -314,7 +361,8 @@ static inline int congee_shared_try_first(const struct congee_shared *map, struc
     return code;
 }
 
-/* The same. Waits while the map is busy. */
+/* Finds the pair with the least key. Waits while the map is busy. Returns CONGEE_PRESENT with the pair in *pair, or
+ * CONGEE_ABSENT where there is none. */
 static inline int congee_shared_first(const struct congee_shared *map, struct congee_pair *pair) {
     struct congee_pair it = {0, 0};
     int code;
@@ -327,7 +375,8 @@ static inline int congee_shared_first(const struct congee_shared *map, struct co
     return 1;
 }
 
-/* As congee_last, or CONGEE_BUSY. */
+/* Finds the pair with the greatest key. Returns CONGEE_PRESENT with the pair in *pair, or CONGEE_ABSENT where there
+ * is none. Returns CONGEE_BUSY if a lock was taken at each of its tries. */
 static inline int congee_shared_try_last(const struct congee_shared *map, struct congee_pair *pair) {
     struct congee_const_shared_handle handle = {map};
     struct congee_pair it = {0, 0};
@@ -337,7 +386,8 @@ static inline int congee_shared_try_last(const struct congee_shared *map, struct
     return code;
 }
 
-/* The same. Waits while the map is busy. */
+/* Finds the pair with the greatest key. Waits while the map is busy. Returns CONGEE_PRESENT with the pair in *pair,
+ * or CONGEE_ABSENT where there is none. */
 static inline int congee_shared_last(const struct congee_shared *map, struct congee_pair *pair) {
     struct congee_pair it = {0, 0};
     int code;
@@ -350,7 +400,8 @@ static inline int congee_shared_last(const struct congee_shared *map, struct con
     return 1;
 }
 
-/* As congee_floor, or CONGEE_BUSY. */
+/* Finds the pair with the greatest key that is at most this one. Returns CONGEE_PRESENT with the pair in *pair, or
+ * CONGEE_ABSENT where there is none. Returns CONGEE_BUSY if a lock was taken at each of its tries. */
 static inline int congee_shared_try_floor(const struct congee_shared *map, uint64_t key, struct congee_pair *pair) {
     struct congee_const_shared_handle handle = {map};
     struct congee_pair it = {0, 0};
@@ -360,7 +411,8 @@ static inline int congee_shared_try_floor(const struct congee_shared *map, uint6
     return code;
 }
 
-/* The same. Waits while the map is busy. */
+/* Finds the pair with the greatest key that is at most this one. Waits while the map is busy. Returns CONGEE_PRESENT
+ * with the pair in *pair, or CONGEE_ABSENT where there is none. */
 static inline int congee_shared_floor(const struct congee_shared *map, uint64_t key, struct congee_pair *pair) {
     struct congee_pair it = {0, 0};
     int code;
@@ -373,7 +425,8 @@ static inline int congee_shared_floor(const struct congee_shared *map, uint64_t 
     return 1;
 }
 
-/* As congee_ceiling, or CONGEE_BUSY. */
+/* Finds the pair with the least key that is at least this one. Returns CONGEE_PRESENT with the pair in *pair, or
+ * CONGEE_ABSENT where there is none. Returns CONGEE_BUSY if a lock was taken at each of its tries. */
 static inline int congee_shared_try_ceiling(const struct congee_shared *map, uint64_t key, struct congee_pair *pair) {
     struct congee_const_shared_handle handle = {map};
     struct congee_pair it = {0, 0};
@@ -383,7 +436,8 @@ static inline int congee_shared_try_ceiling(const struct congee_shared *map, uin
     return code;
 }
 
-/* The same. Waits while the map is busy. */
+/* Finds the pair with the least key that is at least this one. Waits while the map is busy. Returns CONGEE_PRESENT
+ * with the pair in *pair, or CONGEE_ABSENT where there is none. */
 static inline int congee_shared_ceiling(const struct congee_shared *map, uint64_t key, struct congee_pair *pair) {
     struct congee_pair it = {0, 0};
     int code;
@@ -396,7 +450,8 @@ static inline int congee_shared_ceiling(const struct congee_shared *map, uint64_
     return 1;
 }
 
-/* As congee_below, or CONGEE_BUSY. */
+/* Finds the pair with the greatest key that is below this one. Returns CONGEE_PRESENT with the pair in *pair, or
+ * CONGEE_ABSENT where there is none. Returns CONGEE_BUSY if a lock was taken at each of its tries. */
 static inline int congee_shared_try_below(const struct congee_shared *map, uint64_t key, struct congee_pair *pair) {
     struct congee_const_shared_handle handle = {map};
     struct congee_pair it = {0, 0};
@@ -406,7 +461,8 @@ static inline int congee_shared_try_below(const struct congee_shared *map, uint6
     return code;
 }
 
-/* The same. Waits while the map is busy. */
+/* Finds the pair with the greatest key that is below this one. Waits while the map is busy. Returns CONGEE_PRESENT
+ * with the pair in *pair, or CONGEE_ABSENT where there is none. */
 static inline int congee_shared_below(const struct congee_shared *map, uint64_t key, struct congee_pair *pair) {
     struct congee_pair it = {0, 0};
     int code;
@@ -419,7 +475,8 @@ static inline int congee_shared_below(const struct congee_shared *map, uint64_t 
     return 1;
 }
 
-/* As congee_above, or CONGEE_BUSY. */
+/* Finds the pair with the least key that is above this one. Returns CONGEE_PRESENT with the pair in *pair, or
+ * CONGEE_ABSENT where there is none. Returns CONGEE_BUSY if a lock was taken at each of its tries. */
 static inline int congee_shared_try_above(const struct congee_shared *map, uint64_t key, struct congee_pair *pair) {
     struct congee_const_shared_handle handle = {map};
     struct congee_pair it = {0, 0};
@@ -429,7 +486,8 @@ static inline int congee_shared_try_above(const struct congee_shared *map, uint6
     return code;
 }
 
-/* The same. Waits while the map is busy. */
+/* Finds the pair with the least key that is above this one. Waits while the map is busy. Returns CONGEE_PRESENT with
+ * the pair in *pair, or CONGEE_ABSENT where there is none. */
 static inline int congee_shared_above(const struct congee_shared *map, uint64_t key, struct congee_pair *pair) {
     struct congee_pair it = {0, 0};
     int code;
@@ -442,7 +500,8 @@ static inline int congee_shared_above(const struct congee_shared *map, uint64_t 
     return 1;
 }
 
-/* As congee_pop_first, or CONGEE_BUSY. */
+/* Removes the pair with the least key. Is never out of memory. Returns CONGEE_PRESENT with the pair in *pair, or
+ * CONGEE_ABSENT where there is none. Returns CONGEE_BUSY if a lock was taken at each of its tries. */
 static inline int congee_shared_try_pop_first(struct congee_shared *map, struct congee_pair *pair) {
     struct congee_shared_handle handle = {map};
     struct congee_pair it = {0, 0};
@@ -452,7 +511,8 @@ static inline int congee_shared_try_pop_first(struct congee_shared *map, struct 
     return code;
 }
 
-/* The same. Waits while the map is busy. */
+/* Removes the pair with the least key. Is never out of memory. Waits while the map is busy. Returns CONGEE_PRESENT
+ * with the pair in *pair, or CONGEE_ABSENT where there is none. */
 static inline int congee_shared_pop_first(struct congee_shared *map, struct congee_pair *pair) {
     struct congee_pair it = {0, 0};
     int code;
@@ -465,7 +525,8 @@ static inline int congee_shared_pop_first(struct congee_shared *map, struct cong
     return 1;
 }
 
-/* As congee_pop_last, or CONGEE_BUSY. */
+/* Removes the pair with the greatest key. Is never out of memory. Returns CONGEE_PRESENT with the pair in *pair, or
+ * CONGEE_ABSENT where there is none. Returns CONGEE_BUSY if a lock was taken at each of its tries. */
 static inline int congee_shared_try_pop_last(struct congee_shared *map, struct congee_pair *pair) {
     struct congee_shared_handle handle = {map};
     struct congee_pair it = {0, 0};
@@ -475,7 +536,8 @@ static inline int congee_shared_try_pop_last(struct congee_shared *map, struct c
     return code;
 }
 
-/* The same. Waits while the map is busy. */
+/* Removes the pair with the greatest key. Is never out of memory. Waits while the map is busy. Returns CONGEE_PRESENT
+ * with the pair in *pair, or CONGEE_ABSENT where there is none. */
 static inline int congee_shared_pop_last(struct congee_shared *map, struct congee_pair *pair) {
     struct congee_pair it = {0, 0};
     int code;
@@ -490,19 +552,22 @@ static inline int congee_shared_pop_last(struct congee_shared *map, struct conge
 
 /* -- Many pairs and counts -- */
 
-/* As congee_clear, at one moment. Other calls are busy meanwhile. Returns 0, or CONGEE_BUSY. */
+/* Removes all pairs at one moment. Other calls are busy meanwhile. Is never out of memory. Returns CONGEE_DONE.
+ * Returns CONGEE_BUSY if a lock was taken at each of its tries. Then nothing has changed. */
 static inline int congee_shared_try_clear(struct congee_shared *map) {
     struct congee_shared_handle handle = {map};
     return congee_c_shared_clear(&handle);
 }
 
-/* The same. Waits while the map is busy. */
+/* Removes all pairs at one moment. Other calls are busy meanwhile. Is never out of memory. Waits while the map is
+ * busy. */
 static inline void congee_shared_clear(struct congee_shared *map) {
     while (congee_shared_try_clear(map) == CONGEE_BUSY)
         CONGEE_YIELD();
 }
 
-/* As congee_is_empty: 1 where there is no pair, and 0 where there is one. Or CONGEE_BUSY. */
+/* Whether there is no pair. Returns 1 where there is no pair, and 0 where there is one. Returns CONGEE_BUSY if a lock
+ * was taken at each of its tries. */
 static inline int congee_shared_try_is_empty(const struct congee_shared *map) {
     struct congee_const_shared_handle handle = {map};
     uint64_t it = 0;
@@ -510,7 +575,7 @@ static inline int congee_shared_try_is_empty(const struct congee_shared *map) {
     return code == 0 ? it != 0 : code;
 }
 
-/* The same. Waits while the map is busy. */
+/* Whether there is no pair. Waits while the map is busy. */
 static inline bool congee_shared_is_empty(const struct congee_shared *map) {
     int code;
     while ((code = congee_shared_try_is_empty(map)) == CONGEE_BUSY)
@@ -518,7 +583,8 @@ static inline bool congee_shared_is_empty(const struct congee_shared *map) {
     return code == 1;
 }
 
-/* As congee_count. Returns 0 with the number in *count, or CONGEE_BUSY. */
+/* Counts the pairs, in constant time for each shard. Returns CONGEE_DONE with the number in *count, which isn't null.
+ * It saturates at UINT64_MAX. Returns CONGEE_BUSY if a lock was taken at each of its tries. */
 static inline int congee_shared_try_count(const struct congee_shared *map, uint64_t *count) {
     struct congee_const_shared_handle handle = {map};
     uint64_t it = 0;
@@ -528,7 +594,8 @@ static inline int congee_shared_try_count(const struct congee_shared *map, uint6
     return code;
 }
 
-/* The same. Waits while the map is busy, and returns the number. */
+/* Counts the pairs, in constant time for each shard, and returns their number, which saturates at UINT64_MAX. Waits
+ * while the map is busy. */
 static inline uint64_t congee_shared_count(const struct congee_shared *map) {
     uint64_t count = 0;
     while (congee_shared_try_count(map, &count) == CONGEE_BUSY)
@@ -536,8 +603,10 @@ static inline uint64_t congee_shared_count(const struct congee_shared *map) {
     return count;
 }
 
-/* As congee_charged. Of this number it is proved that a tree with as many pairs as there are is charged it. Returns 0 with
- * it in *bytes, or CONGEE_BUSY. */
+/* Adds up the stated sizes of the map's nodes in bytes, which its limit is for. Of this number it is proved that a
+ * tree with as many pairs as there are is charged it. In shards it is so of each tree, and of the sum. Returns
+ * CONGEE_DONE with the sum in *bytes, which isn't null. Returns CONGEE_BUSY if a lock was taken at each of its tries.
+ */
 static inline int congee_shared_try_charged(const struct congee_shared *map, uint64_t *bytes) {
     struct congee_const_shared_handle handle = {map};
     uint64_t it = 0;
@@ -547,7 +616,9 @@ static inline int congee_shared_try_charged(const struct congee_shared *map, uin
     return code;
 }
 
-/* The same. Waits while the map is busy, and returns the number. */
+/* Adds up the stated sizes of the map's nodes in bytes, which its limit is for, and returns the sum. Waits while the
+ * map is busy. Of this number it is proved that a tree with as many pairs as there are is charged it. In shards it is
+ * so of each tree, and of the sum. */
 static inline uint64_t congee_shared_charged(const struct congee_shared *map) {
     uint64_t bytes = 0;
     while (congee_shared_try_charged(map, &bytes) == CONGEE_BUSY)
@@ -555,7 +626,9 @@ static inline uint64_t congee_shared_charged(const struct congee_shared *map) {
     return bytes;
 }
 
-/* As congee_each, with pages of 64 pairs of one moment each. Between two pages other calls come in. f may call the map. */
+/* Calls f(pair, with) for each pair with start <= key <= last, keys ascending, until a call returns something else
+ * than 0. Returns what the last call returned, or 0 where there is no pair. Reads pages of 64 pairs of one moment
+ * each. Between two pages other calls come in. f may call the map. Waits while the map is busy. */
 static inline int congee_shared_each(const struct congee_shared *map, uint64_t start, uint64_t last, congee_visitor *f,
                                      void *with) {
     struct congee_pair page[64] = {{0, 0}};
@@ -573,7 +646,9 @@ static inline int congee_shared_each(const struct congee_shared *map, uint64_t s
     return 0;
 }
 
-/* As congee_insert_many, a call for each pair. Other calls may come in between two of them. */
+/* Inserts n pairs in their order, a call of congee_shared_insert for each. Other calls may come in between two of
+ * them. Returns how many it inserted: n, or fewer where the next one was out of memory. Those before it are in the
+ * map. Waits while the map is busy. */
 static inline size_t congee_shared_insert_many(struct congee_shared *map, const struct congee_pair *pairs, size_t n) {
     size_t done = 0;
     while (done < n && congee_shared_insert(map, pairs[done].key, pairs[done].value, NULL) != CONGEE_OOM)

@@ -301,7 +301,10 @@ extern "C" {
     pub fn congee_c_live_new(limit: u64, out: *mut LiveHandle) -> i32;
     pub fn congee_c_live_limit(handle: *mut LiveHandle) -> u64;
     pub fn congee_c_live_charged(handle: *mut LiveHandle) -> u64;
+    pub fn congee_c_live_usage(handle: *mut LiveHandle, charged: *mut u64, limit: *mut u64);
     pub fn congee_c_live_another(handle: *mut LiveHandle, out: *mut LiveHandle) -> i32;
+    pub fn congee_c_live_meet(handle: *mut LiveHandle, other: *mut LiveHandle);
+    pub fn congee_c_live_note(handle: *mut LiveHandle, out: *mut LiveHandle) -> i32;
     pub fn congee_c_live_free(handle: LiveHandle);
     pub fn congee_c_live_get(handle: *mut LiveHandle, key: u64, value: *mut u64) -> i32;
     pub fn congee_c_live_insert(

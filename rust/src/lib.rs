@@ -111,7 +111,7 @@ pub use proved_congee_sys::Pair;
 use proved_congee_sys as sys;
 
 pub use frozen::{Frozen, Readers};
-pub use live::{LiveGuard, LiveMap};
+pub use live::{LiveGuard, LiveMap, LiveNote};
 pub use map::{ExtendError, FreezeError, Map};
 pub use pages::{IntoIter, Keys, LiveRange, Range, Values};
 pub use shared::{Busy, Guard, SharedMap, TryError};

@@ -2,7 +2,7 @@
 
 use crate::map::{as_length, if_expected};
 use crate::pages::LiveRange;
-use crate::shared::{if_made, unless_busy, waiting, waiting_for_memory, Busy, TryError};
+use crate::shared::{if_made, next_map, unless_busy, waiting, waiting_for_memory, Busy, TryError};
 use crate::sys::*;
 use crate::{OutOfMemory, Pair};
 use std::borrow::Borrow;
@@ -84,7 +84,10 @@ impl LiveMap {
         let mut made = LiveHandle::none();
         match unsafe { congee_c_live_new(bytes, &mut made) } {
             0 => Ok(LiveMap {
-                first: Mutex::new(LiveGuard { guard: made.guard }),
+                first: Mutex::new(LiveGuard {
+                    guard: made.guard,
+                    map: next_map(),
+                }),
             }),
             _ => Err(OutOfMemory),
         }
@@ -116,6 +119,20 @@ impl LiveMap {
     /// ```
     pub fn charged(&self) -> u64 {
         self.first().charged()
+    }
+
+    /// The bytes of the segments that the map has so far, and the limit. The first is at most the second. Waits while another
+    /// thread takes a guard.
+    ///
+    /// ```
+    /// # fn main() -> Result<(), proved_congee::OutOfMemory> {
+    /// let map = proved_congee::LiveMap::with_limit(10_000)?;
+    /// assert_eq!(map.usage(), (8_192, 10_000));
+    /// # Ok(())
+    /// # }
+    /// ```
+    pub fn usage(&self) -> (u64, u64) {
+        self.first().usage()
     }
 
     fn first(&self) -> MutexGuard<'_, LiveGuard> {
@@ -151,10 +168,23 @@ impl LiveMap {
 /// the child.
 pub struct LiveGuard {
     guard: *mut OneLiveGuardForEachThread,
+    // (which map it is of)
+    map: u64,
 }
 
 // SAFETY: the library proves that a handle may go to another thread (`unsafe impl Send` of its handle).
 unsafe impl Send for LiveGuard {}
+
+/// What a [`LiveGuard`] had seen, which another thread's guard can learn ([`LiveGuard::note`]).
+///
+/// ```
+/// fn goes_to_another_thread<T: Send>() {}
+/// goes_to_another_thread::<proved_congee::LiveNote>();
+/// ```
+#[derive(Debug)]
+pub struct LiveNote {
+    guard: LiveGuard,
+}
 
 // SAFETY of the calls below. The address is one that the library returned and that `drop` hasn't freed. No other call is
 // made by it meanwhile: a `LiveGuard` isn't `Sync`, so no two threads are in a call on it, and the library calls nothing
@@ -177,7 +207,10 @@ impl LiveGuard {
     pub fn try_clone(&self) -> Result<LiveGuard, OutOfMemory> {
         let mut made = LiveHandle::none();
         match unsafe { congee_c_live_another(&mut self.handle(), &mut made) } {
-            0 => Ok(LiveGuard { guard: made.guard }),
+            0 => Ok(LiveGuard {
+                guard: made.guard,
+                map: self.map,
+            }),
             _ => Err(OutOfMemory),
         }
     }
@@ -204,6 +237,103 @@ impl LiveGuard {
     /// ```
     pub fn charged(&self) -> u64 {
         unsafe { congee_c_live_charged(&mut self.handle()) }
+    }
+
+    /// The bytes of the map's segments and its limit, as [`LiveMap::usage`].
+    ///
+    /// ```
+    /// # fn main() -> Result<(), proved_congee::OutOfMemory> {
+    /// let guard = proved_congee::LiveMap::with_limit(30_000)?.pin()?;
+    /// guard.insert(7, 70)?;
+    /// assert_eq!(guard.usage(), (8_192 + 16_384, 30_000));
+    /// # Ok(())
+    /// # }
+    /// ```
+    pub fn usage(&self) -> (u64, u64) {
+        let (mut charged, mut limit) = (0, 0);
+        unsafe { congee_c_live_usage(&mut self.handle(), &mut charged, &mut limit) };
+        (charged, limit)
+    }
+
+    /// Two guards of one map meet. Both have then seen what either had, so a call that either makes later comes after all that
+    /// either had made or read. A guard may meet itself, which does nothing.
+    ///
+    /// # Panics
+    ///
+    /// If they are of two maps.
+    ///
+    /// ```
+    /// # fn main() -> Result<(), proved_congee::OutOfMemory> {
+    /// let map = proved_congee::LiveMap::new()?;
+    /// let (one, other) = (map.pin()?, map.pin()?);
+    /// one.insert(7, 70)?;
+    /// one.meet(&other);
+    /// // (also a page of the other one is of no moment before the insertion)
+    /// assert_eq!(other.first(), Some((7, 70)));
+    /// # Ok(())
+    /// # }
+    /// ```
+    pub fn meet(&self, other: &LiveGuard) {
+        assert_eq!(self.map, other.map, "guards of two maps don't meet");
+        if self.guard != other.guard {
+            unsafe { congee_c_live_meet(&mut self.handle(), &mut other.handle()) }
+        }
+    }
+
+    /// A note of what the guard has seen so far, for guards of other threads. A call of this guard that returned before
+    /// comes before each call of one that has learned the note since. Takes a small block, and no room for nodes. The map's memory
+    /// is there as long as its notes.
+    ///
+    /// ```
+    /// use proved_congee::LiveMap;
+    /// use std::thread;
+    ///
+    /// # fn main() -> Result<(), proved_congee::OutOfMemory> {
+    /// let map = LiveMap::new()?;
+    /// let guard = map.pin()?;
+    /// let other = map.pin()?;
+    /// let note = thread::spawn(move || {
+    ///     other.insert(7, 70)?;
+    ///     other.note()
+    /// })
+    /// .join()
+    /// .unwrap()?;
+    /// guard.learn(&note);
+    /// assert_eq!(guard.first(), Some((7, 70)));
+    /// # Ok(())
+    /// # }
+    /// ```
+    pub fn note(&self) -> Result<LiveNote, OutOfMemory> {
+        let mut made = LiveHandle::none();
+        match unsafe { congee_c_live_note(&mut self.handle(), &mut made) } {
+            0 => Ok(LiveNote {
+                guard: LiveGuard {
+                    guard: made.guard,
+                    map: self.map,
+                },
+            }),
+            _ => Err(OutOfMemory),
+        }
+    }
+
+    /// The guard has then seen what was noted, and the note what the guard has seen.
+    ///
+    /// # Panics
+    ///
+    /// If the note is of another map.
+    ///
+    /// ```
+    /// # fn main() -> Result<(), proved_congee::OutOfMemory> {
+    /// let map = proved_congee::LiveMap::new()?;
+    /// let (one, other) = (map.pin()?, map.pin()?);
+    /// one.insert(7, 70)?;
+    /// other.learn(&one.note()?);
+    /// assert_eq!(other.len(), 1);
+    /// # Ok(())
+    /// # }
+    /// ```
+    pub fn learn(&self, note: &LiveNote) {
+        self.meet(&note.guard);
     }
 
     /// The value at the key.
@@ -280,8 +410,9 @@ impl LiveGuard {
         if_made(code, before)
     }
 
-    /// Gives the key the value if it is absent, and returns the value that it has then. No lock is taken for a present key.
-    /// Refused as [`insert`](LiveGuard::insert).
+    /// Gives the key the value if it is absent, and returns the value that it has then. Who gave it that is told by
+    /// [`insert_absent`](LiveGuard::insert_absent). No lock is taken for a present key. Refused as
+    /// [`insert`](LiveGuard::insert).
     ///
     /// ```
     /// # fn main() -> Result<(), proved_congee::OutOfMemory> {
@@ -305,10 +436,46 @@ impl LiveGuard {
     /// # }
     /// ```
     pub fn try_get_or_insert(&self, key: u64, value: u64) -> Result<u64, TryError> {
+        Ok(self.try_insert_absent(key, value)?.unwrap_or(value))
+    }
+
+    /// Gives the key the value if it is absent. Returns `None` to the guard that inserted it, and the current value to all
+    /// others. So of threads that claim one key at once, one gets `None`. No lock is taken for a present key. Refused as
+    /// [`insert`](LiveGuard::insert).
+    ///
+    /// ```
+    /// use proved_congee::LiveMap;
+    /// use std::thread;
+    ///
+    /// # fn main() -> Result<(), proved_congee::OutOfMemory> {
+    /// let jobs = LiveMap::new()?;
+    /// let guards = [jobs.pin()?, jobs.pin()?];
+    /// let claims = guards.map(|guard| thread::spawn(move || guard.insert_absent(7, 70)));
+    /// let answers = claims.map(|claim| claim.join().unwrap());
+    /// assert_eq!(answers.iter().filter(|it| **it == Ok(None)).count(), 1);
+    /// assert_eq!(jobs.pin()?.insert_absent(7, 71)?, Some(70));
+    /// # Ok(())
+    /// # }
+    /// ```
+    pub fn insert_absent(&self, key: u64, value: u64) -> Result<Option<u64>, OutOfMemory> {
+        waiting_for_memory(|| self.try_insert_absent(key, value))
+    }
+
+    /// The same, which doesn't wait.
+    ///
+    /// ```
+    /// # fn main() -> Result<(), Box<dyn std::error::Error>> {
+    /// let guard = proved_congee::LiveMap::new()?.pin()?;
+    /// assert_eq!(guard.try_insert_absent(7, 70)?, None);
+    /// assert_eq!(guard.try_insert_absent(7, 71)?, Some(70));
+    /// # Ok(())
+    /// # }
+    /// ```
+    pub fn try_insert_absent(&self, key: u64, value: u64) -> Result<Option<u64>, TryError> {
         let mut found = 0;
         let code =
             unsafe { congee_c_live_get_or_insert(&mut self.handle(), key, value, &mut found) };
-        Ok(if_made(code, found)?.unwrap_or(value))
+        if_made(code, found)
     }
 
     /// Adds the number to the key's value, as [`Map::add`](crate::Map::add), and returns the value before.

@@ -7,6 +7,7 @@ use crate::{OutOfMemory, Pair};
 use std::borrow::Borrow;
 use std::fmt;
 use std::ops::RangeBounds;
+use std::sync::atomic::{AtomicU64, Ordering};
 use std::sync::{Mutex, PoisonError};
 use std::thread;
 
@@ -232,6 +233,12 @@ pub struct Guard {
     guard: *mut OneGuardForEachThread,
 }
 
+// The number of a new map.
+pub(crate) fn next_map() -> u64 {
+    static MAPS: AtomicU64 = AtomicU64::new(0);
+    MAPS.fetch_add(1, Ordering::Relaxed)
+}
+
 // SAFETY: the library proves that a handle may go to another thread (`unsafe impl Send` of its handle).
 unsafe impl Send for Guard {}
 
@@ -426,8 +433,8 @@ impl Guard {
         Ok(())
     }
 
-    /// Gives the key the value if it is absent, and returns the value that it has then. Refused as
-    /// [`insert`](Guard::insert).
+    /// Gives the key the value if it is absent, and returns the value that it has then. Who gave it that is told by
+    /// [`insert_absent`](Guard::insert_absent). Refused as [`insert`](Guard::insert).
     ///
     /// ```
     /// # fn main() -> Result<(), Box<dyn std::error::Error>> {
@@ -451,10 +458,45 @@ impl Guard {
     /// # }
     /// ```
     pub fn try_get_or_insert(&self, key: u64, value: u64) -> Result<u64, TryError> {
+        Ok(self.try_insert_absent(key, value)?.unwrap_or(value))
+    }
+
+    /// Gives the key the value if it is absent. Returns `None` to the guard that inserted it, and the current value to all
+    /// others. So of threads that claim one key at once, one gets `None`. Refused as [`insert`](Guard::insert).
+    ///
+    /// ```
+    /// use proved_congee::SharedMap;
+    /// use std::thread;
+    ///
+    /// # fn main() -> Result<(), proved_congee::OutOfMemory> {
+    /// let jobs = SharedMap::new()?;
+    /// let guards = [jobs.pin()?, jobs.pin()?];
+    /// let claims = guards.map(|guard| thread::spawn(move || guard.insert_absent(7, 70)));
+    /// let answers = claims.map(|claim| claim.join().unwrap());
+    /// assert_eq!(answers.iter().filter(|it| **it == Ok(None)).count(), 1);
+    /// assert_eq!(jobs.pin()?.insert_absent(7, 71)?, Some(70));
+    /// # Ok(())
+    /// # }
+    /// ```
+    pub fn insert_absent(&self, key: u64, value: u64) -> Result<Option<u64>, OutOfMemory> {
+        waiting_for_memory(|| self.try_insert_absent(key, value))
+    }
+
+    /// The same, which doesn't wait.
+    ///
+    /// ```
+    /// # fn main() -> Result<(), Box<dyn std::error::Error>> {
+    /// let guard = proved_congee::SharedMap::new()?.pin()?;
+    /// assert_eq!(guard.try_insert_absent(7, 70)?, None);
+    /// assert_eq!(guard.try_insert_absent(7, 71)?, Some(70));
+    /// # Ok(())
+    /// # }
+    /// ```
+    pub fn try_insert_absent(&self, key: u64, value: u64) -> Result<Option<u64>, TryError> {
         let mut found = 0;
         let code =
             unsafe { congee_c_shared_get_or_insert(&mut self.handle(), key, value, &mut found) };
-        Ok(if_made(code, found)?.unwrap_or(value))
+        if_made(code, found)
     }
 
     /// The key's value. If it is absent, it gets the value that the closure returns, unless another call gives it one
@@ -548,13 +590,7 @@ impl Guard {
 
     // Gives the key the value if it is absent, and else returns the value that it has.
     fn insert_new(&self, key: u64, value: u64) -> Result<Result<(), Option<u64>>, OutOfMemory> {
-        let found = waiting_for_memory(|| {
-            let mut found = 0;
-            let code = unsafe {
-                congee_c_shared_get_or_insert(&mut self.handle(), key, value, &mut found)
-            };
-            if_made(code, found)
-        })?;
+        let found = self.insert_absent(key, value)?;
         Ok(found.map_or(Ok(()), |found| Err(Some(found))))
     }
 

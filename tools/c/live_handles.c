@@ -2,6 +2,7 @@
  *   - a handle goes round between threads by a lock, with calls at each
  *   - handles are made and freed while other threads call, and the map is freed with the last one, on any thread
  *   - an atomic that is sequentially consistent hands a handle over, and what was stored before is seen
+ *   - handles that meet, and notes that are learned, change no pair, and a note keeps the map
  *   - handles that only look up leave nothing behind: a million of them in turn, and a hundred thousand at once
  *   - handles that insert leave their room for nodes to the next: a million in turn have one, and a hundred at once a
  *     hundred, however often they come again */
@@ -206,10 +207,46 @@ static void leave_their_room(void) {
     congee_live_free(map);
 }
 
+/* Two handles meet, and one learns what another thread's handle noted, which has ended by then. A note keeps the map, and what
+ * meets itself, or is freed as null, does nothing. */
+static void *insert_and_note(void *at) {
+    struct congee_live *map = at;
+    struct congee_live_note *note;
+    for (uint64_t i = 0; i < PAIRS; i++)
+        need(congee_live_insert(map, i << 8, i, NULL) == 0, "a pair before a note");
+    need(congee_live_note(map, &note) == 0, "a note");
+    congee_live_free(map);
+    return note;
+}
+
+static void meet_and_learn(void) {
+    struct congee_live *map, *other;
+    struct congee_pair page[PAIRS];
+    uint64_t value = 0;
+    for (int round = 0; round < MAPS; round++) {
+        pthread_t thread;
+        void *note;
+        need(congee_live_new(&map) == 0 && congee_live_another(map, &other) == 0, "a map");
+        run(&thread, insert_and_note, other);
+        pthread_join(thread, &note);
+        congee_live_learn(map, note);
+        need(congee_live_range(map, 0, UINT64_MAX, page, PAIRS) == PAIRS, "a page after a note was learned");
+        need(congee_live_another(map, &other) == 0 && congee_live_remove(other, 0, NULL) == 1, "a removal by another handle");
+        congee_live_meet(map, other);
+        congee_live_meet(map, map);
+        need(congee_live_get(map, 0, &value) == 0 && congee_live_count(map) == PAIRS - 1, "what a handle that was met removed");
+        congee_live_free(map);
+        congee_live_free(other);
+        congee_live_note_free(note);
+    }
+    congee_live_note_free(NULL);
+}
+
 int main(void) {
     pass_on();
     end_beside_others();
     hand_over();
+    meet_and_learn();
     leave_nothing_behind();
     leave_their_room();
     printf("%d threads, %d maps that ended beside look-ups, %d handles in turn and %d at once\n", THREADS, MAPS, IN_TURN, AT_ONCE);

@@ -31,7 +31,7 @@ static size_t lent(void) {
 
 static struct congee_live *made(uint64_t limit) {
     struct congee_live *map;
-    need(congee_live_new_with_limit(limit, &map) == 0 && congee_live_limit(map) == limit, "a map with a limit");
+    need(congee_live_new_with_limit(&map, limit) == 0 && congee_live_limit(map) == limit, "a map with a limit");
     return map;
 }
 
@@ -40,7 +40,9 @@ static uint64_t fill(struct congee_live *map, uint64_t i) {
     for (; i < MOST; i += THREADS) {
         uint64_t old = 99;
         int code = congee_live_insert(map, key_of(i), i, &old);
-        need(congee_live_charged(map) <= congee_live_limit(map), "no more than the limit");
+        uint64_t charged = 1, limit = 0;
+        congee_live_usage(map, &charged, &limit);
+        need(charged <= limit && limit == congee_live_limit(map), "no more than the limit");
         need((code == 0 || code == CONGEE_OOM) && old == 99, "a new key");
         if (code == CONGEE_OOM)
             return i;
@@ -149,10 +151,12 @@ static void move(uint64_t limit) {
 
 int main(void) {
     struct congee_live *map;
-    need(congee_live_new_with_limit(8191, &map) == CONGEE_OOM && map == NULL, "a limit below the first segment");
-    need(congee_live_new_with_limit(0, &map) == CONGEE_OOM && map == NULL, "no bytes");
+    need(congee_live_new_with_limit(&map, 8191) == CONGEE_OOM && map == NULL, "a limit below the first segment");
+    need(congee_live_new_with_limit(&map, 0) == CONGEE_OOM && map == NULL, "no bytes");
     need(congee_live_new(&map) == 0 && congee_live_limit(map) == UINT64_MAX, "a map without a limit");
-    need(congee_live_charged(map) == 8192, "its first segment");
+    uint64_t charged = 0, limit = 0;
+    congee_live_usage(map, &charged, &limit);
+    need(congee_live_charged(map) == 8192 && charged == 8192 && limit == UINT64_MAX, "its first segment");
     congee_live_free(map);
     fit(8192, 8192);
     fit(24575, 8192);

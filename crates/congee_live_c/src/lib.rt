@@ -7,12 +7,12 @@
 //! An answer is an `i32`: 0, 1 or 2 with the meaning that each call documents, `OOM` or `BUSY`.
 //!
 //! Here are the calls that make a map and its handles, its limit, and those that get, set and remove one key. `computed`,
-//! `next_pair` and `ranges` have the others.
+//! `meetings`, `next_pair` and `ranges` have the others.
 //!
 //! Tested in `tools/c-library`.
 #![tactic(auto)]
 
-ghost use Rattle.std.specs.Prelude.{◌≡◌, ◌≢◌, ◌⊎◌, [], Some, None, Ok, Err, IfSome, IsSome, pos};
+ghost use Rattle.std.specs.Prelude.{◌≡◌, ◌≢◌, ◌⊎◌, ◌≤◌, [], Some, None, Ok, Err, IfSome, IsSome, pos};
 ghost use Rattle.live_law.specs.Views.{ask, got, inserted};
 ghost use Rattle.live_law.specs.Known.{MadeCall};
 ghost use Rattle.live_calls.specs.Meetings.{SeenMore};
@@ -23,6 +23,7 @@ mod computed;
 mod counts;
 mod handle;
 mod held;
+mod meetings;
 mod next_pair;
 mod pair_before;
 mod parts;
@@ -96,7 +97,20 @@ pub extern "C" fn congee_c_live_charged(handle: &mut Handle) -> u64
     ensures same { handle.new.held ≡ handle.old.held }
     ensures place { handle.new.ptr ≡ handle.old.ptr }
 {
-    handle.as_mut().guard.charged()
+    handle.as_mut().guard.usage().0
+}
+
+/// Writes the bytes of the segments that the map has so far to `charged`, and its limit, which they are within, to `limit`.
+/// Takes constant time.
+#[unsafe(no_mangle)]
+pub extern "C" fn congee_c_live_usage(handle: &mut Handle, charged: &mut u64, limit: &mut u64)
+    ensures within { charged.new ≤ limit.new }
+    ensures same { handle.new.held ≡ handle.old.held }
+    ensures place { handle.new.ptr ≡ handle.old.ptr }
+{
+    let (bytes, most) = handle.as_mut().guard.usage();
+    *charged = bytes;
+    *limit = most;
 }
 
 /// Writes one more handle of the map to `out` and answers 0, or answers `OOM`, writes nothing and changes nothing. Both

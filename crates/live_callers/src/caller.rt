@@ -67,14 +67,28 @@ impl Caller {
         Ok(Caller { pool, guard })
     }
 
+    /// One more caller of the map, which has seen nothing yet, for a note. It gets no room for nodes. `OOMError` where there
+    /// are too many callers to count.
+    pub fn bare(&self) -> Result<Caller, OOMError>
+        ensures { IfOk result (λ other. (other.book ≡ self.now.book) × (other.seen ≡ [])) }
+    {
+        let Ok(pool) = Arc::try_clone(&self.pool) else {
+            return Err(OOMError::new());
+        };
+        let guard = pool.map.pin();
+        Ok(Caller { pool, guard })
+    }
+
     /// The limit in bytes that the map was made with.
     pub fn limit(&self) -> u64 {
         self.pool.map.limit()
     }
 
-    /// The bytes of the segments that the map has so far, which its limit is for.
-    pub fn charged(&self) -> u64 {
-        self.pool.map.charged()
+    /// The bytes of the segments that the map has so far, and its limit, which they are within.
+    pub fn usage(&self) -> (u64, u64)
+        ensures { result.0 ≤ result.1 }
+    {
+        self.pool.map.usage()
     }
 
     /// Two callers of one map meet. Both have then seen one legal history, which begins with what each had seen.

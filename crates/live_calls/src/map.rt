@@ -1,5 +1,5 @@
 //! The map, and its callers.
-ghost use Rattle.std.specs.Prelude.{◌≡◌, ◌≢◌, ℕ, ◌*◌, [], IfOk, OnErr};
+ghost use Rattle.std.specs.Prelude.{◌≡◌, ◌≢◌, ℕ, ◌*◌, ◌≤◌, [], IfOk, OnErr};
 ghost use Rattle.word_segments.specs.Segments.{before};
 ghost use Rattle.live_law.specs.Views.{ask, got, inserted};
 ghost use Rattle.live_law.specs.Known.{MadeCall};
@@ -47,8 +47,9 @@ impl Model for Congee {
     ghost view = { λ m. m.nodes };
 }
 
-/// A caller of a map. Clauses see which map, the caller's number, and the history that it has seen. Its seat and its room for
-/// nodes are for the crates that add calls.
+/// A caller of a map. Clauses see which map, the caller's number, and the history that it has seen.
+///
+/// Its fields are public for the crates that add calls. A program reads and writes none of them.
 #[derive(Drop)]
 pub struct Guard {
     /// Its seat, which knows the trunk and has nothing locked.
@@ -108,6 +109,14 @@ impl Congee {
     /// The limit in bytes that the map was made with, or `u64::MAX`.
     pub fn limit(&self) -> u64 {
         self.nodes.limit()
+    }
+
+    /// The bytes of the segments that the map has so far, and how many bytes they may take together.
+    pub fn usage(&self) -> (u64, u64)
+        ensures whole { (n : ℕ) × (result.0 ≡ 8 * before n) }
+        ensures within { result.0 ≤ result.1 }
+    {
+        self.nodes.usage(&mut self.nodes.enter())
     }
 
     /// The bytes of the segments that the map has so far.

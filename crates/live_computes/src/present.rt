@@ -5,7 +5,7 @@ ghost use Rattle.std.specs.Option.{option_map};
 ghost use Rattle.live_law.specs.Known.{MadeCall};
 ghost use Rattle.live_calls.specs.Calls.{IsReady};
 ghost use Rattle.live_updates.specs.inner.Lookups.{EndsBy};
-ghost use Rattle.live_computes.specs.Closures.{Reaches};
+ghost use Rattle.live_computes.specs.Closures.{Reaches, EndsWithCall};
 ghost use Rattle.live_computes.specs.Entries.{computed_with, inserted_with, sum_with};
 ghost use Rattle.live_computes.specs.inner.Ends.{Stores};
 
@@ -37,7 +37,7 @@ fn present_once<F: FnMut(u64) -> Option<u64>>(
         × EndsBy pass.old.id (option_map (computed_with pass.old.id key) result)
         pass.old.view pass.new.view }
     ensures asked { IfSome result (λ both. IfSome both (λ pair.
-        (state : F) × F.step state pair.0 pair.1 f.new)) }
+        EndsWithCall F.step f.old pair.0 pair.1 f.new)) }
 {
     match seek::<Brand>(nodes, key, pass)? {
         Site::Absent => Some(None),
@@ -68,7 +68,7 @@ fn always_once<F: FnMut(Option<u64>) -> u64>(
     ensures reached { Reaches F.step f.old f.new }
     ensures told { (pass.new.book ≡ pass.old.book) × (pass.new.id ≡ pass.old.id)
         × IsReady pass.new.view room.new
-        × Stores pass.old.id key (λ before new. (state : F) × F.step state before new f.new) result
+        × Stores pass.old.id key (λ before new. EndsWithCall F.step f.old before new f.new) result
         pass.old.view pass.new.view }
 {
     match seek::<Brand>(nodes, key, pass) {
@@ -168,7 +168,7 @@ pub fn compute_if_present<F: FnMut(u64) -> Option<u64>>(
     ensures made { IfOk result (λ both. MadeCall guard.old
         (computed_with guard.old.caller key both) guard.new) }
     ensures asked { IfOk result (λ both. IfSome both (λ pair.
-        (state : F) × F.step state pair.0 pair.1 f.new)) }
+        EndsWithCall F.step f.old pair.0 pair.1 f.new)) }
     ensures busy { OnErr result (guard.new ≡ guard.old) }
 {
     for _ in 0..TRIES {
@@ -194,7 +194,7 @@ pub fn compute_or_insert<F: FnMut(Option<u64>) -> u64>(
     ensures reached { Reaches F.step f.old f.new }
     ensures made { IfOk result (λ before. (new : ℕ)
         × MadeCall guard.old (inserted_with guard.old.caller key before new) guard.new
-        × ((state : F) × F.step state before new f.new)) }
+        × EndsWithCall F.step f.old before new f.new) }
     ensures refused { OnErr result (guard.new ≡ guard.old) }
 {
     for _ in 0..TRIES {

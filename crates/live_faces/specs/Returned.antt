@@ -8,6 +8,7 @@ use Rattle.live_law.specs.Known.{Known, MadeCall}
 use Rattle.live_updates.specs.Entries.{swapped}
 use Rattle.live_scans.specs.Scans.{HasNext}
 use Rattle.live_floors.specs.Floors.{HasBefore}
+use Rattle.live_computes.specs.Closures.{EndsWithCall}
 use Rattle.live_computes.specs.Entries.{inserted_with}
 use Rattle.live_copies.specs.Copies.{HasCopied}
 
@@ -28,12 +29,12 @@ module _ {V : Type 0} (of_number : ℕ → V) (k : Known) where
   ReturnsExchanged number key old new (Err current) n =
       (found : Option ℕ) × (current ≡ option_map of_number found) × MadeCall k (swapped k.caller key old (option_map number new) (Err found)) n
 
-  -- compute_or_insert returned the previous value. `step` are the calls of its closure, of which the last one, from the
-  -- previous value's number to the new one, left it as `last`
-  abbrev pub ReturnsInserted : {F : Type 0} → (F → Option ℕ → ℕ → F → Type 0) → F → ℕ → Option V → Known → Type 0
-  ReturnsInserted {F} step last key before n =
+  -- compute_or_insert returned the previous value. `step` are the calls of its closure, which was `first`. The last one of
+  -- them, from the previous value's number to the new one, left it as `last`
+  abbrev pub ReturnsInserted : {F : Type 0} → (F → Option ℕ → ℕ → F → Type 0) → F → F → ℕ → Option V → Known → Type 0
+  ReturnsInserted step first last key before n =
       (old : Option ℕ) × (new : ℕ) × (before ≡ option_map of_number old) × MadeCall k (inserted_with k.caller key old new) n
-      × ((state : F) × step state old new last)
+      × EndsWithCall step first old new last
 
 -- a pair, by its numbers
 abbrev pub pair_of : {K V : Type 0} → (ℕ → K) → (ℕ → V) → ℕ × ℕ → K × V

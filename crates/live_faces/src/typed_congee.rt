@@ -1,7 +1,7 @@
 //! `Congee`, the map from keys to values that numbers represent, which threads read without a lock.
 //!
 //! Tested in `test_live_faces`.
-ghost use Rattle.std.specs.Prelude.{◌≡◌, ◌≢◌, [], IfOk, OnErr};
+ghost use Rattle.std.specs.Prelude.{◌≡◌, ◌≢◌, ◌≤◌, [], IfOk, OnErr};
 ghost use Rattle.std.specs.Option.{option_map};
 ghost use Rattle.live_law.specs.Views.{ask, got, inserted};
 ghost use Rattle.live_calls.specs.Meetings.{SeenMore};
@@ -81,9 +81,17 @@ impl<K: Word, V: Word> Congee<K, V> {
         self.pool.map.limit()
     }
 
+    /// The bytes of the segments that the map has so far, and the limit, which they are within. Other threads may make more
+    /// segments meanwhile.
+    pub fn usage(&self) -> (u64, u64)
+        ensures { result.0 ≤ result.1 }
+    {
+        self.pool.map.usage()
+    }
+
     /// The bytes of the segments that the map has so far. Other threads may make more meanwhile.
     pub fn charged(&self) -> u64 {
-        self.pool.map.charged()
+        self.usage().0
     }
 
     /// A guard that has seen nothing. It takes no memory, and waits for nobody.

@@ -6,7 +6,7 @@ ghost use Rattle.std.specs.Prelude.{◌≡◌, ℕ, IfOk, IfSome, OnErr, unwrap_
 ghost use Rattle.live_law.specs.Views.{ask, inserted};
 ghost use Rattle.live_law.specs.Known.{MadeCall};
 ghost use Rattle.live_updates.specs.Entries.{removed, swapped};
-ghost use Rattle.live_computes.specs.Closures.{Reaches};
+ghost use Rattle.live_computes.specs.Closures.{Reaches, EndsWithCall};
 ghost use Rattle.live_computes.specs.Entries.{computed_with, inserted_with, sum_with};
 
 use crate::pool::Pool;
@@ -134,7 +134,7 @@ impl Pool {
         ensures made { IfOk result (λ both. MadeCall guard.old
             (computed_with guard.old.caller key both) guard.new) }
         ensures asked { IfOk result (λ both. IfSome both (λ pair.
-            (state : F) × F.step state pair.0 pair.1 f.new)) }
+            EndsWithCall F.step f.old pair.0 pair.1 f.new)) }
         ensures busy { OnErr result (guard.new ≡ guard.old) }
     {
         let before = self.begin(guard);
@@ -157,7 +157,7 @@ impl Pool {
         ensures reached { Reaches F.step f.old f.new }
         ensures made { IfOk result (λ before. (new : ℕ)
             × MadeCall guard.old (inserted_with guard.old.caller key before new) guard.new
-            × ((state : F) × F.step state before new f.new)) }
+            × EndsWithCall F.step f.old before new f.new) }
         ensures refused { OnErr result (guard.new ≡ guard.old) }
     {
         let before = self.ready(guard);

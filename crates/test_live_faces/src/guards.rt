@@ -85,6 +85,8 @@ fn in_turn<R: Wait>(rt: &R, alloc: Global, map: &Map) -> u64 {
 fn a_thousand_guards_in_turn(rt: HostRuntime) -> Result<(), Fail> {
     let map: Map = Congee::new(rt.alloc())?;
     assert!(rt; in_turn(&rt, rt.alloc(), &map) == EACH);
+    // (each has the room of the one before it)
+    assert!(rt; map.charged() < 1 << 17);
     assert!(rt; all_keys(&rt, &map, 2 * EACH) == EACH);
     Ok(())
 }

@@ -8,4 +8,8 @@ mod guards;
 #[cfg(test)]
 mod limits;
 #[cfg(test)]
+mod noted;
+#[cfg(test)]
+mod tries;
+#[cfg(test)]
 mod words;

@@ -80,7 +80,7 @@ fn two_threads_fill_a_map_up_to_its_limit(rt: HostRuntime) -> Result<(), Fail> {
     let (one, two) = by_two(&rt, rt.alloc(), &map);
     // (one of them may come late)
     assert!(rt; one.wrapping_add(two) > 200);
-    assert!(rt; map.limit() == LIMIT && map.charged() == 516_096);
+    assert!(rt; map.limit() == LIMIT && map.usage() == (516_096, LIMIT));
     assert!(rt; found(&rt, &map, 0, one) == one && found(&rt, &map, 1, two) == two);
     assert!(rt; one == 0 || is_replaced(&rt, rt.alloc(), &map, 0));
     assert!(rt; two == 0 || is_replaced(&rt, rt.alloc(), &map, 1));

@@ -130,6 +130,40 @@ fn a_closure_is_called_with_numbers(rt: HostRuntime) -> Result<(), Fail> {
 }
 
 #[test]
+fn a_closure_is_asked_once(rt: HostRuntime) -> Result<(), Fail> {
+    let map: Congee<u64, u64> = Congee::new(rt.alloc())?;
+    let mut guard = map.pin();
+    let mut asked = 0u64;
+    let mut up = |n: u64| -> Option<u64> {
+        asked = asked.wrapping_add(n);
+        Some(n.wrapping_add(1))
+    };
+    assert!(rt; map.try_compute_if_present(&mut guard, &7, &mut up) == Ok(None));
+    assert!(rt; map.try_insert(rt.alloc(), &mut guard, 7, 70) == Ok(None));
+    let done = map.try_compute_if_present(&mut guard, &7, &mut up);
+    assert!(rt; done == Ok(Some((70, Some(71)))));
+    assert!(rt; asked == 70);
+    Ok(())
+}
+
+#[test]
+fn a_closure_for_a_new_value_is_asked_once(rt: HostRuntime) -> Result<(), Fail> {
+    let map: Congee<u64, u64> = Congee::new(rt.alloc())?;
+    let mut guard = map.pin();
+    let mut asked = 0u64;
+    let mut next = |n: Option<u64>| -> u64 {
+        asked = asked.wrapping_add(n.map_or(1, |found: u64| -> u64 { found }));
+        70
+    };
+    let none = map.try_compute_or_insert(rt.alloc(), &mut guard, 7, &mut next);
+    assert!(rt; none == Ok(None));
+    let before = map.try_compute_or_insert(rt.alloc(), &mut guard, 7, &mut next);
+    assert!(rt; before == Ok(Some(70)));
+    assert!(rt; asked == 71);
+    Ok(())
+}
+
+#[test]
 fn a_number_is_added_to_that_of_the_value(rt: HostRuntime) -> Result<(), Fail> {
     let map: Congee<Tens, Tens> = Congee::new(rt.alloc())?;
     let mut guard = map.pin();

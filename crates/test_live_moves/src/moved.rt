@@ -158,7 +158,8 @@ fn goes_both_ways<R: Wait>(rt: &R, alloc: Global, keys: Keys) -> Result<bool, OO
     let gone = owned.remove(&123_456_789) == Some(5);
     let (map, guard) = Map::from_owned(rt, alloc, owned)?;
     let mut guard = guard;
-    let works = works_in(rt, alloc, &map, &mut guard, keys)?;
+    let free = map.limit() == u64::MAX;
+    let works = free && works_in(rt, alloc, &map, &mut guard, keys)?;
     let again = map.into_owned(rt, alloc, &mut guard)?;
     Ok(whole && new && gone && works && is_owned_whole(&again, keys))
 }

@@ -1,7 +1,7 @@
 //! Calls that store what a closure returns.
 ghost use Rattle.std.specs.Prelude.{◌≡◌, IfOk, IfSome, OnErr};
 ghost use Rattle.live_law.specs.Known.{MadeCall};
-ghost use Rattle.live_computes.specs.Closures.{Reaches};
+ghost use Rattle.live_computes.specs.Closures.{Reaches, EndsWithCall};
 ghost use Rattle.live_computes.specs.Entries.{computed_with};
 ghost use Rattle.live_faces.specs.Returned.{ReturnsInserted};
 
@@ -31,7 +31,7 @@ impl<K: Word, V: Word> Congee<K, V> {
         ensures made { IfOk result (λ both. MadeCall guard.old
             (computed_with guard.old.caller (K.number key.now) both) guard.new) }
         ensures asked { IfOk result (λ both. IfSome both (λ pair.
-            (state : F) × F.step state pair.0 pair.1 f.new)) }
+            EndsWithCall F.step f.old pair.0 pair.1 f.new)) }
         ensures busy { OnErr result (guard.new ≡ guard.old) }
     {
         self.pool.compute_if_present(guard, key.into_u64(), f)
@@ -52,7 +52,7 @@ impl<K: Word, V: Word> Congee<K, V> {
         ensures map { guard.new.book ≡ guard.old.book }
         ensures made { MadeCall guard.old
             (computed_with guard.old.caller (K.number key.now) result) guard.new }
-        ensures asked { IfSome result (λ pair. (state : F) × F.step state pair.0 pair.1 f.new) }
+        ensures asked { IfSome result (λ pair. EndsWithCall F.step f.old pair.0 pair.1 f.new) }
     {
         let pause = Backoff::new();
         for _ in rt.forever() {
@@ -79,7 +79,7 @@ impl<K: Word, V: Word> Congee<K, V> {
         ensures callable { F.IsAlwaysCallable f.new }
         ensures reached { Reaches F.step f.old f.new }
         ensures map { guard.new.book ≡ guard.old.book }
-        ensures made { IfOk result (λ before. ReturnsInserted V.of_number guard.old F.step f.new
+        ensures made { IfOk result (λ before. ReturnsInserted V.of_number guard.old F.step f.old f.new
             (K.number key) before guard.new) }
         ensures refused { OnErr result (guard.new ≡ guard.old) }
     {
@@ -104,7 +104,7 @@ impl<K: Word, V: Word> Congee<K, V> {
         ensures callable { F.IsAlwaysCallable f.new }
         ensures reached { Reaches F.step f.old f.new }
         ensures map { guard.new.book ≡ guard.old.book }
-        ensures made { IfOk result (λ before. ReturnsInserted V.of_number guard.old F.step f.new
+        ensures made { IfOk result (λ before. ReturnsInserted V.of_number guard.old F.step f.old f.new
             (K.number key) before guard.new) }
         ensures refused { OnErr result (guard.new ≡ guard.old) }
     {

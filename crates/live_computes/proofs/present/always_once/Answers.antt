@@ -7,7 +7,7 @@ use Rattle.live_updates.proofs.Made.{no_more, at_some, missed_same, updated_by, 
 use Rattle.live_computes.specs.Entries.{inserted_with}
 use Rattle.live_computes.specs.inner.Ends.{nowhere}
 use Rattle.live_computes.proofs.Called.{always_lookup, always_update}
-use Rattle.live_computes.proofs.Reached.{no_call, call_on}
+use Rattle.live_computes.proofs.Reached.{no_call, call_on, last_call}
 use Rattle.live_computes.proofs.present.always_once.Goals as goal
 
 pub seek-requires-clause-legal : goal.seek-requires-clause-legal
@@ -60,7 +60,7 @@ returns-else-is_some-clause-told g c =
     let none : c.update_here.result ≡ None = search rules in
     let later = c.seek.new.pass.id in
     let answers = updated_by (update_of later key (Some value) (Some new) (inserted_with later key (Some value) new)) c.update_here.result w u none e.3 in
-    (e.0 ∙ t.0, e.1 ∙ t.1, ready_rest w u room ready e.2, (new, answers_from later id (λ (z : ℕ). inserted_with z key (Some value) new) w.client.seen v.client.seen u.client.seen t.1 same answers, (c.args.f.now, c.f-new.ensures)))
+    (e.0 ∙ t.0, e.1 ∙ t.1, ready_rest w u room ready e.2, (new, answers_from later id (λ (z : ℕ). inserted_with z key (Some value) new) w.client.seen v.client.seen u.client.seen t.1 same answers, last_call (goal.F-step g) c.args.f.now c.f-new.new.self (Some value) new c.f-new.ensures))
 
 pub enter-requires-clause-legal : goal.enter-requires-clause-legal
 enter-requires-clause-legal g c = always_update c.seek.new.pass.id c.args.key None c.f-new-in-Some-Absent.result

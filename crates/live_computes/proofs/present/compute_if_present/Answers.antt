@@ -1,10 +1,11 @@
-use Rattle.std.proofs.Common.{rules, sym, subst, refl, ℕ, None, Some, ◌≡◌, ◌∙◌}
+use Rattle.std.proofs.Common.{rules, sym, subst, refl, ℕ, None, Some, IfSome, ◌≡◌, ◌∙◌}
 use Rattle.std.specs.Option.{option_map}
 use Rattle.live_law.specs.Tree.{Answers}
 use Rattle.live_calls.proofs.Ready.{made_call}
 use Rattle.live_updates.specs.inner.Lookups.{EndsBy}
+use Rattle.live_computes.specs.Closures.{EndsWithCall}
 use Rattle.live_computes.specs.Entries.{computed_with}
-use Rattle.live_computes.proofs.Reached.{calls_on}
+use Rattle.live_computes.proofs.Reached.{asked_on, calls_on}
 use Rattle.live_computes.proofs.present.compute_if_present.Goals as goal
 
 pub invariant_of-guard-in-Some : goal.invariant_of-guard-in-Some
@@ -15,6 +16,12 @@ invariant_of-guard-in-Some g c =
 
 pub returns-in-Some-clause-reached : goal.returns-in-Some-clause-reached
 returns-in-Some-clause-reached g c = calls_on (goal.F-step g) c.args.f.now c.loop.f c.present_once.new.f c.loop.invariant.reached c.present_once.ensures.reached
+
+pub returns-in-Some-clause-asked : goal.returns-in-Some-clause-asked
+returns-in-Some-clause-asked g c =
+    let made : c.present_once.result ≡ Some c.in-Some.both = search rules in
+    let asked = subst (λ z. IfSome z (λ both. IfSome both (λ pair. EndsWithCall (goal.F-step g) c.loop.f pair.0 pair.1 c.present_once.new.f))) made c.present_once.ensures.asked in
+    asked_on (goal.F-step g) c.args.f.now c.loop.f c.present_once.new.f c.in-Some.both c.loop.invariant.reached asked
 
 pub returns-in-Some-clause-made : goal.returns-in-Some-clause-made
 returns-in-Some-clause-made g c =

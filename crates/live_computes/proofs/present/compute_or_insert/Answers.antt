@@ -1,9 +1,10 @@
 use Rattle.std.proofs.Common.{rules, sym, subst, refl, ℕ, None, Ok, Some, Option, ◌≡◌, ◌∙◌}
 use Rattle.live_law.specs.Tree.{Answers}
 use Rattle.live_calls.proofs.Ready.{made_call}
+use Rattle.live_computes.specs.Closures.{EndsWithCall}
 use Rattle.live_computes.specs.Entries.{inserted_with}
 use Rattle.live_computes.proofs.Ended.{stores_done, stores_not}
-use Rattle.live_computes.proofs.Reached.{calls_on}
+use Rattle.live_computes.proofs.Reached.{calls_on, last_on}
 use Rattle.live_computes.proofs.present.compute_or_insert.Goals as goal
 
 pub returns-in_err-done-clause-reached : goal.returns-in_err-done-clause-reached
@@ -21,13 +22,13 @@ returns-in-Some-clause-made g c =
     let id = c.loop.guard-inside.pass.id in
     let key = c.args.key in
     let before = c.in-Some.before in
-    let Of : Option ℕ → ℕ → Type 0 = λ old new. (state : g.row.F.Denot) × goal.F-step g state old new c.always_once.new.f in
+    let Of : Option ℕ → ℕ → Type 0 = λ old new. EndsWithCall (goal.F-step g) c.loop.f old new c.always_once.new.f in
     let made : c.always_once.result ≡ Ok (Some before) = search rules in
     let s = stores_done id key Of c.always_once.result before v w made t.3 in (
       s.0,
       made_call c.args.guard.now c.always_once.new.pass.book c.always_once.new.pass.id v.client.seen w (λ (z : ℕ). inserted_with z key before s.0) (λ z. refl) (t.0 ∙ i.book) (t.1 ∙ i.id) i.seen
           (subst (λ (z : ℕ). Answers z (inserted_with z key before s.0) v.client.seen w.client.seen) (sym t.1) s.1),
-      s.2,
+      last_on (goal.F-step g) c.args.f.now c.loop.f c.always_once.new.f before s.0 i.reached s.2,
     )
 
 pub loop-preserved : goal.loop-preserved
@@ -36,7 +37,7 @@ loop-preserved g c =
     let v = c.loop.guard-inside.pass.view in
     let w = c.always_once.new.pass.view in
     let t = c.always_once.ensures.told in
-    let Of : Option ℕ → ℕ → Type 0 = λ old new. (state : g.row.F.Denot) × goal.F-step g state old new c.always_once.new.f in
+    let Of : Option ℕ → ℕ → Type 0 = λ old new. EndsWithCall (goal.F-step g) c.loop.f old new c.always_once.new.f in
     let not : c.always_once.result ≡ Ok None = search rules in
     record {
       book = t.0 ∙ i.book;
