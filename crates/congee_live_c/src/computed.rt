@@ -4,6 +4,7 @@
 
 ghost use Rattle.std.specs.Prelude.{◌≡◌, ◌≢◌, ◌⊎◌, None, Some, Ok, Err, pos};
 ghost use Rattle.live_law.specs.Known.{MadeCall};
+ghost use Rattle.live_updates.specs.Refusals.{FoundNone};
 ghost use Rattle.live_updates.specs.Entries.{swapped};
 ghost use Rattle.live_computes.specs.Entries.{inserted_with, sum_with};
 ghost use Rattle.congee_live_c.specs.Answer.{oom, busy};
@@ -29,7 +30,8 @@ pub extern "C" fn congee_c_live_add(
         (sum_with (Some before.new) number)) handle.new.held.guard }
     ensures absent { result ≡ pos 0 → MadeCall handle.old.held.guard
         (inserted_with handle.old.held.guard.caller key None number) handle.new.held.guard }
-    ensures missed { (result ≡ busy) ⊎ (result ≡ oom) → handle.new.held ≡ handle.old.held }
+    ensures missed { result ≡ busy → handle.new.held ≡ handle.old.held }
+    ensures refused { result ≡ oom → FoundNone handle.old.held.guard key handle.new.held.guard }
     ensures kept { result ≢ pos 1 → before.new ≡ before.old }
     ensures place { handle.new.ptr ≡ handle.old.ptr }
 {
@@ -52,7 +54,8 @@ pub extern "C" fn congee_c_live_get_or_insert(
         handle.new.held.guard }
     ensures absent { result ≡ pos 0 → MadeCall handle.old.held.guard
         (inserted_with handle.old.held.guard.caller key None value) handle.new.held.guard }
-    ensures missed { (result ≡ busy) ⊎ (result ≡ oom) → handle.new.held ≡ handle.old.held }
+    ensures missed { result ≡ busy → handle.new.held ≡ handle.old.held }
+    ensures refused { result ≡ oom → FoundNone handle.old.held.guard key handle.new.held.guard }
     ensures kept { result ≢ pos 1 → found.new ≡ found.old }
     ensures place { handle.new.ptr ≡ handle.old.ptr }
 {

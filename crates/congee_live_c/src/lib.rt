@@ -16,6 +16,7 @@ ghost use Rattle.std.specs.Prelude.{◌≡◌, ◌≢◌, ◌⊎◌, ◌≤◌, 
 ghost use Rattle.live_law.specs.Views.{ask, got, inserted};
 ghost use Rattle.live_law.specs.Known.{MadeCall};
 ghost use Rattle.live_calls.specs.Meetings.{SeenMore};
+ghost use Rattle.live_updates.specs.Refusals.{FoundNone};
 ghost use Rattle.live_updates.specs.Entries.{removed, swapped};
 ghost use Rattle.congee_live_c.specs.Answer.{oom, busy};
 
@@ -183,7 +184,8 @@ pub extern "C" fn congee_c_live_insert(
         handle.new.held.guard }
     ensures absent { result ≡ pos 0 → MadeCall handle.old.held.guard
         (inserted (ask handle.old.held.guard.caller key value 1) None) handle.new.held.guard }
-    ensures missed { (result ≡ busy) ⊎ (result ≡ oom) → handle.new.held ≡ handle.old.held }
+    ensures missed { result ≡ busy → handle.new.held ≡ handle.old.held }
+    ensures refused { result ≡ oom → FoundNone handle.old.held.guard key handle.new.held.guard }
     ensures kept { result ≢ pos 1 → before.new ≡ before.old }
     ensures place { handle.new.ptr ≡ handle.old.ptr }
 {

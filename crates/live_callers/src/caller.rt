@@ -2,10 +2,11 @@
 //!
 //! Tested in `tools/c-library`.
 
-ghost use Rattle.std.specs.Prelude.{◌≡◌, ◌≢◌, ◌+◌, ◌^◌, ◌≤◌, [], length, take, IfOk, OnErr, unwrap_or};
+ghost use Rattle.std.specs.Prelude.{◌≡◌, ◌≢◌, ◌+◌, ◌^◌, ◌≤◌, [], length, take, IfOk, IfErr, OnErr, unwrap_or};
 ghost use Rattle.live_law.specs.Views.{ask, got, inserted};
 ghost use Rattle.live_law.specs.Known.{MadeCall};
 ghost use Rattle.live_calls.specs.Meetings.{SeenMore};
+ghost use Rattle.live_updates.specs.Refusals.{Refused};
 ghost use Rattle.live_updates.specs.Entries.{removed, swapped};
 ghost use Rattle.live_computes.specs.Entries.{inserted_with, sum_with};
 ghost use Rattle.live_order.specs.Page.{pairs_of};
@@ -116,7 +117,7 @@ impl Caller {
     pub fn insert(&mut self, alloc: Global, key: u64, value: u64) -> Result<Option<u64>, Refusal>
         ensures made { IfOk result (λ old. MadeCall self.old
             (inserted (ask self.old.caller key value 1) old) self.new) }
-        ensures refused { OnErr result (self.new ≡ self.old) }
+        ensures refused { IfErr result (λ why. Refused self.old key why self.new) }
     {
         self.pool.insert(alloc, &mut self.guard, key, value)
     }
@@ -158,7 +159,7 @@ impl Caller {
     ) -> Result<Option<u64>, Refusal>
         ensures made { IfOk result (λ found. MadeCall self.old
             (inserted_with self.old.caller key found (unwrap_or found value)) self.new) }
-        ensures refused { OnErr result (self.new ≡ self.old) }
+        ensures refused { IfErr result (λ why. Refused self.old key why self.new) }
     {
         self.pool.get_or_insert(alloc, &mut self.guard, key, value)
     }
@@ -168,7 +169,7 @@ impl Caller {
     pub fn add(&mut self, alloc: Global, key: u64, number: u64) -> Result<Option<u64>, Refusal>
         ensures made { IfOk result (λ before. MadeCall self.old
             (inserted_with self.old.caller key before (sum_with before number)) self.new) }
-        ensures refused { OnErr result (self.new ≡ self.old) }
+        ensures refused { IfErr result (λ why. Refused self.old key why self.new) }
     {
         self.pool.add(alloc, &mut self.guard, key, number)
     }

@@ -16,8 +16,8 @@ use Rattle.live_cells.specs.Head.{IsHead}
 use Rattle.live_encodes.specs.Encodes.{IsBelow, IsWord, Encodes}
 use Rattle.live_law.specs.Levels.{up, digit, Shape, Spot, spot, Covers, place_at}
 use Rattle.live_law.specs.Views.{View, locked, watch, Ask, got}
-use Rattle.live_law.specs.Tree.{IsMap, HasPrefix, IsOf, LearnsBelow, Watches, LearnsMiss, Misses, HasAnswer, Answers, IsOfKind, LearnsHead, Headed}
-use Rattle.live_law.proofs.Looks.{node_below, node_misses, node_heads, HadBelow}
+use Rattle.live_law.specs.Tree.{IsMap, HasPrefix, IsOf, LearnsBelow, Watches, LearnsMiss, Misses, HasAnswer, Answers, IsOfKind}
+use Rattle.live_law.proofs.Looks.{node_below, node_misses, HadBelow}
 use Rattle.live_law.proofs.Plans.{way-key, joined, digit-low}
 use Rattle.live_calls.specs.Ways.{Sights, HasOpened, IsOpen, Keeps}
 use Rattle.live_calls.specs.Sees.{Sees}
@@ -199,30 +199,6 @@ module _ (v : Seen) (b : Book) (words : List Name) (t name key height : ℕ) (f 
         let g : HasAnswer q None v.client h.1 = misses x.shape.height o h.0 h.1 (subst (λ (z : ℕ). 2 ≤ z) (sym f.names.high) high) kind below then in (
           learned_keeps v w h.0 h.1 v.reads h.2 (λ z in_it. subst (λ (u : View). IsIn z u.met) (sym g.is) in_it) (ap (λ (u : View). u.own) g.is),
           subst (λ (z : Seen). Answers q.caller (got q None) v.client.seen z.client.seen) (sym h.2) g.answers,
-        )
-
--- Or it goes on.
-module _ (v : Seen) (b : Book) (words : List Name) (t name key height : ℕ) (f : IsForked v b words t name key height) (k : ℕ) (at_k : (place_at f.names.spot).key ≡ k) where
-  abbrev y : Spot
-  y = f.names.spot
-
-  pub may_stay : (id m : ℕ) → t ≡ 4 * m → MayCheck v k IsMap id LearnsHead t
-  may_stay id m even = (place_at y, read y.number t f.saw, (f.names.placed, at_k), f.reads, refl, node_heads id v.client y f.names.met t f.saw m even v.reads)
-
-  module _ (w : Seen) (m : ℕ) (told : Checks LearnsHead (reads k) v m none_joined w) where
-    stay_checked : Plays.Checked (LearnsHead v.client y.number t f.saw) t v m w
-    stay_checked = told (place_at y) (read y.number t f.saw) f.names.placed at_k f.reads
-
-    pub stay_lost : m ≢ t → Keeps v w × (w.client.seen ≡ v.client.seen)
-    stay_lost ne = subst (λ (z : Seen). Keeps v z × (z.client.seen ≡ v.client.seen)) (sym (stay_checked.miss ne))
-        (record { places = λ p h. h; met = λ s h. h; own = refl; holds = refl; room = refl }, refl)
-
-    pub stay_keeps : m ≡ t → Keeps v w × (w.client.seen ≡ v.client.seen)
-    stay_keeps hit =
-        let h = stay_checked.hit hit in
-        let g : Headed v.client y f.saw h.1 = h.3 y f.names.met refl in (
-          learned_keeps v w h.0 h.1 v.reads h.2 (λ z in_it. subst (λ (u : View). IsIn z u.met) (sym g.heads) (inr in_it)) (ap (λ (u : View). u.own) g.heads),
-          ap (λ (z : Seen). z.client.seen) h.2 ∙ ap (λ (u : View). u.seen) g.heads,
         )
 
 -- A NODE BELOW ONE THAT IS LOCKED

@@ -10,7 +10,7 @@ use crate::way::{Nodes, Opened, Pass, byte_at, open};
 use live_cells::words::Cells;
 use live_encodes::form::{form_below, slot_below};
 use live_encodes::search::find;
-use live_law::law::{Above, Asks, Below, Head, Levels, Mine, Miss};
+use live_law::law::{Above, Asks, Below, Levels, Mine, Miss};
 use live_nodes::node;
 use live_rows::rows::Row;
 use std::marker::Brand;
@@ -91,31 +91,6 @@ pub fn ends_above<A: Asks>(
         return false;
     }
     node::check::<Mine, Levels, Miss<A>>(&here.words[0], here.taken, pass)
-}
-
-/// The same where the call goes on: it has no answer by that.
-pub fn stays_forked(
-    nodes: &Nodes,
-    name: u64,
-    height: usize,
-    below: u64,
-    key: u64,
-    pass: &mut Pass,
-) -> bool
-    requires book { pass.old.book ≡ nodes.now }
-    requires sighted { Sights pass.old.view name × Sights pass.old.view below }
-    requires height { (2 ≤ height) × (height ≤ 8) }
-    ensures told { (pass.new.book ≡ pass.old.book) × (pass.new.id ≡ pass.old.id)
-        × Keeps pass.old.view pass.new.view
-        × (pass.new.view.client.seen ≡ pass.old.view.client.seen) }
-{
-    let Some(here) = enter(nodes, name, height, key, pass) else {
-        return false;
-    };
-    if !watch::<Brand>(nodes, here, name, height, below, key, pass) {
-        return false;
-    }
-    node::check::<Mine, Levels, Head>(&here.words[0], here.taken, pass)
 }
 
 /// Whether a node that the seat has locked leads on to one whose way the key leaves as it did. The seat watches that one.

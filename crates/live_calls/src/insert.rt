@@ -6,7 +6,6 @@ ghost use Rattle.live_calls.specs.Stands.{Stands, HasFork, IsEnd};
 ghost use Rattle.live_calls.specs.Rooms.{HasGrown};
 ghost use Rattle.live_calls.specs.Calls.{IsReady, Inserts};
 
-use crate::fork::stays_forked;
 use crate::link::{Room, link, link_again};
 use crate::map::Refusal;
 use crate::sight::{Fork, Next, step};
@@ -231,8 +230,7 @@ fn insert_at(
 }
 
 /// Makes a node where the key's way leaves that of a node below. A node that may be used again is taken, where there is one.
-/// Whether a node is lacking for that. It is lacking only where the node above still leads there: else the key may be present,
-/// and need none.
+/// Whether a node is lacking for that. A writer may have come in between, and the key be present: then it needs none.
 pub fn part(
     nodes: &Nodes,
     stand: Stand,
@@ -251,7 +249,7 @@ pub fn part(
 {
     let spare = room.spare_for_new();
     if room.lacks(spare) {
-        return stays_forked(nodes, stand.name, stand.height, fork.below, key, pass);
+        return true;
     }
     if spare == 0 {
         let _ = split::<Brand>(nodes, stand.name, stand.height, fork, key, room, pass);

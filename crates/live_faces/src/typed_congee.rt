@@ -1,7 +1,8 @@
 //! `Congee`, the map from keys to values that numbers represent, which threads read without a lock.
 //!
 //! Tested in `test_live_faces`.
-ghost use Rattle.std.specs.Prelude.{◌≡◌, ◌≢◌, ◌≤◌, [], IfOk, OnErr};
+ghost use Rattle.std.specs.Prelude.{◌≡◌, ◌≢◌, ◌≤◌, [], IfOk, IfErr, OnErr};
+ghost use Rattle.live_updates.specs.Refusals.{FoundNone, Refused};
 ghost use Rattle.std.specs.Option.{option_map};
 ghost use Rattle.live_law.specs.Views.{ask, got, inserted};
 ghost use Rattle.live_calls.specs.Meetings.{SeenMore};
@@ -154,7 +155,7 @@ impl<K: Word, V: Word> Congee<K, V> {
         ensures map { guard.new.book ≡ guard.old.book }
         ensures made { IfOk result (λ before. ReturnsOld V.of_number guard.old
             (inserted (ask guard.old.caller (K.number key) (V.number value) 1)) before guard.new) }
-        ensures refused { OnErr result (guard.new ≡ guard.old) }
+        ensures refused { IfErr result (λ why. Refused guard.old (K.number key) why guard.new) }
     {
         let number = self
             .pool
@@ -176,7 +177,7 @@ impl<K: Word, V: Word> Congee<K, V> {
         ensures map { guard.new.book ≡ guard.old.book }
         ensures made { IfOk result (λ before. ReturnsOld V.of_number guard.old
             (inserted (ask guard.old.caller (K.number key) (V.number value) 1)) before guard.new) }
-        ensures refused { OnErr result (guard.new ≡ guard.old) }
+        ensures refused { OnErr result (FoundNone guard.old (K.number key) guard.new) }
     {
         let pause = Backoff::new();
         for _ in rt.forever() {

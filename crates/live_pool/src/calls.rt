@@ -2,10 +2,11 @@
 //!
 //! Each is the call of the map. Before it a guard with little room gets nodes. After it one too many goes to the others, and paths
 //! are tidied that a writer was busy at.
-ghost use Rattle.std.specs.Prelude.{◌≡◌, ℕ, IfOk, IfSome, OnErr, unwrap_or};
+ghost use Rattle.std.specs.Prelude.{◌≡◌, ℕ, IfOk, IfErr, IfSome, OnErr, unwrap_or};
 ghost use Rattle.live_law.specs.Views.{ask, inserted};
 ghost use Rattle.live_law.specs.Known.{MadeCall};
 ghost use Rattle.live_updates.specs.Entries.{removed, swapped};
+ghost use Rattle.live_updates.specs.Refusals.{Refused};
 ghost use Rattle.live_computes.specs.Closures.{Reaches, EndsWithCall};
 ghost use Rattle.live_computes.specs.Entries.{computed_with, inserted_with, sum_with};
 
@@ -27,16 +28,16 @@ impl Pool {
         requires { guard.old.book ≡ self.now }
         ensures made { IfOk result (λ old. MadeCall guard.old
             (inserted (ask guard.old.caller key value 1) old) guard.new) }
-        ensures refused { OnErr result (guard.new ≡ guard.old) }
+        ensures refused { IfErr result (λ why. Refused guard.old key why guard.new) }
     {
         let before = self.ready(guard);
-        let done = self.map.insert(alloc, guard, key, value);
-        if done.is_err() {
-            self.settle_refusal(guard, before, key);
-        } else {
-            self.settle(guard, before);
+        match self.map.insert(alloc, guard, key, value) {
+            Ok(old) => {
+                self.settle(guard, before);
+                Ok(old)
+            }
+            Err(why) => Err(self.refuse(guard, before, key, why)),
         }
-        done
     }
 
     /// Removes a key: the value that it had. Needs no memory.
@@ -84,16 +85,16 @@ impl Pool {
         requires { guard.old.book ≡ self.now }
         ensures made { IfOk result (λ found. MadeCall guard.old
             (inserted_with guard.old.caller key found (unwrap_or found value)) guard.new) }
-        ensures refused { OnErr result (guard.new ≡ guard.old) }
+        ensures refused { IfErr result (λ why. Refused guard.old key why guard.new) }
     {
         let before = self.ready(guard);
-        let done = present::get_or_insert(&self.map, alloc, guard, key, value);
-        if done.is_err() {
-            self.settle_refusal(guard, before, key);
-        } else {
-            self.settle(guard, before);
+        match present::get_or_insert(&self.map, alloc, guard, key, value) {
+            Ok(old) => {
+                self.settle(guard, before);
+                Ok(old)
+            }
+            Err(why) => Err(self.refuse(guard, before, key, why)),
         }
-        done
     }
 
     /// Adds a number to a key's value, modulo 2 to the 64. An absent key gets the number itself. The value before.
@@ -107,16 +108,16 @@ impl Pool {
         requires { guard.old.book ≡ self.now }
         ensures made { IfOk result (λ before. MadeCall guard.old
             (inserted_with guard.old.caller key before (sum_with before number)) guard.new) }
-        ensures refused { OnErr result (guard.new ≡ guard.old) }
+        ensures refused { IfErr result (λ why. Refused guard.old key why guard.new) }
     {
         let before = self.ready(guard);
-        let done = present::add(&self.map, alloc, guard, key, number);
-        if done.is_err() {
-            self.settle_refusal(guard, before, key);
-        } else {
-            self.settle(guard, before);
+        match present::add(&self.map, alloc, guard, key, number) {
+            Ok(old) => {
+                self.settle(guard, before);
+                Ok(old)
+            }
+            Err(why) => Err(self.refuse(guard, before, key, why)),
         }
-        done
     }
 
     /// Stores what a closure returns for a present key's value, or removes the key for `None`. What it was called with last, and
@@ -158,15 +159,15 @@ impl Pool {
         ensures made { IfOk result (λ before. (new : ℕ)
             × MadeCall guard.old (inserted_with guard.old.caller key before new) guard.new
             × EndsWithCall F.step f.old before new f.new) }
-        ensures refused { OnErr result (guard.new ≡ guard.old) }
+        ensures refused { IfErr result (λ why. Refused guard.old key why guard.new) }
     {
         let before = self.ready(guard);
-        let done = present::compute_or_insert(&self.map, alloc, guard, key, f);
-        if done.is_err() {
-            self.settle_refusal(guard, before, key);
-        } else {
-            self.settle(guard, before);
+        match present::compute_or_insert(&self.map, alloc, guard, key, f) {
+            Ok(old) => {
+                self.settle(guard, before);
+                Ok(old)
+            }
+            Err(why) => Err(self.refuse(guard, before, key, why)),
         }
-        done
     }
 }

@@ -1,14 +1,16 @@
 //! What a call leaves to be done: nodes for others, and paths to tidy.
 ghost use Rattle.std.specs.Prelude.{◌≡◌, IfSome};
+ghost use Rattle.live_updates.specs.Refusals.{Refused};
 
 use crate::deferred;
 use crate::pool::{FORMS, Pool, STRIPES};
 use crate::stock::{Stock, add_to, take_from};
 use counted_slot::{Counted, MARKED};
 use live_calls::link::Room;
-use live_calls::map::Guard;
+use live_calls::map::{Guard, Refusal};
 use live_detach::tidy::tidy;
 use live_encodes::form::{form_below, place_of};
+use live_updates::absent::found_none;
 use node_base::base_node::NodeType;
 use std::hint::spin_loop;
 
@@ -77,15 +79,20 @@ impl Pool {
         self.supply(guard);
     }
 
-    /// The same after an insertion that was refused. It may have made a leaf before.
-    pub fn settle_refusal(&self, guard: &mut Guard, before: Room, key: u64)
+    /// To be called after an insertion that was refused, with why. It may have made a leaf before. Why it was refused then: it is
+    /// out of memory where the key is found absent, and busy where the key is present, as a writer came in between.
+    pub fn refuse(&self, guard: &mut Guard, before: Room, key: u64, why: Refusal) -> Refusal
         requires map { guard.old.book ≡ self.now }
-        ensures { guard.new ≡ guard.old }
+        ensures { Refused guard.old key result guard.new }
     {
         if guard.room != before {
             let _ = self.tidy_path(guard, key);
         }
         self.settle(guard, before);
+        if why == Refusal::OutOfMemory && found_none(&self.map, guard, key) {
+            return Refusal::OutOfMemory;
+        }
+        Refusal::Busy
     }
 
     /// Nodes without children on the path of a key are taken out. Where a writer is busy there, the guard keeps the key, and tries

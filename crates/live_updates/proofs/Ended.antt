@@ -6,8 +6,9 @@ use Rattle.spec_map.specs.Map.{Pairs, lookup, without}
 use Rattle.spec_map.specs.Refusal.{never}
 use Rattle.spec_map.proofs.MapLaws.{without-absent}
 use Rattle.share_rule.specs.History.{Entry, entry, operations_of, IsHistory}
+use Rattle.live_law.specs.Views.{ask, got}
 use Rattle.live_updates.specs.Entries.{removed, swapped}
-use Rattle.live_updates.specs.inner.Lookups.{lookup_of, IsLookup, removal, Swap, failure, exchange_fails}
+use Rattle.live_updates.specs.inner.Lookups.{lookup_of, IsLookup, removal, absence, Swap, failure, exchange_fails}
 use Rattle.live_updates.specs.inner.Updates.{update_of, IsUpdate}
 
 abbrev History : Type 0
@@ -46,6 +47,21 @@ removal_lookup c k = record {
 
 pub removal_update : (c k x : ℕ) → IsUpdate (update_of c k (Some x) None (removed c k (Some x)))
 removal_update c k x = record { by = refl; legal = remove_legal c k (Some x) }
+
+-- A LOOK-UP THAT FINDS NONE
+absence_ends : (c k : ℕ) (found : Option ℕ) (e : Entry ℕ) → absence c k found ≡ Some e → (e.caller ≡ c) × ((history : History) (m : Pairs ℕ) → IsHistory nat_eq history m → lookup m k ≡ found → IsHistory nat_eq (history ++ e ∷ []) m)
+absence_ends c k None e is =
+    let same : got (ask c k 0 0) None ≡ e = the_some is in (
+      sym (ap (λ (z : Entry ℕ). z.caller) same),
+      (λ history m run none. subst (λ (z : Entry ℕ). IsHistory nat_eq (history ++ z ∷ []) m) same (goes_on history m m c ((got (ask c k 0 0) None).operation) run (refl, ap old_value (sym none)) refl)),
+    )
+absence_ends c k (Some x) e is = absurd (none_some is)
+
+pub absence_lookup : (c k : ℕ) → IsLookup (lookup_of c k (absence c k))
+absence_lookup c k = record {
+  by = λ found e is. (absence_ends c k found e is).0;
+  legal = λ found e is. (absence_ends c k found e is).1;
+}
 
 -- AN EXCHANGE
 swap_legal : (c k old : ℕ) (new found : Option ℕ) (r : Result (Option ℕ) (Option ℕ)) → exchange nat_eq found old new ≡ r → (history : History) (m : Pairs ℕ) → IsHistory nat_eq history m → lookup m k ≡ found

@@ -1,2 +1,3 @@
 pub mod Entries
+pub mod Refusals
 pub mod inner

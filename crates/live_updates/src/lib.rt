@@ -6,6 +6,7 @@
 //! Tested in `test_live_calls`.
 #![tactic(auto)]
 
+pub mod absent;
 pub mod calls;
 pub mod leaf;
 pub mod lookup;

@@ -1,7 +1,8 @@
 //! The calls that put a new number together from the current one.
 //!
 //! Tested in `test_live_faces`.
-ghost use Rattle.std.specs.Prelude.{◌≡◌, IfOk, OnErr, unwrap_or};
+ghost use Rattle.std.specs.Prelude.{◌≡◌, IfOk, IfErr, OnErr, unwrap_or};
+ghost use Rattle.live_updates.specs.Refusals.{FoundNone, Refused};
 ghost use Rattle.live_computes.specs.Entries.{sum_with};
 ghost use Rattle.live_faces.specs.Returned.{ReturnsComputed};
 
@@ -27,7 +28,7 @@ impl<K: Word, V: Word> Congee<K, V> {
         ensures map { guard.new.book ≡ guard.old.book }
         ensures made { IfOk result (λ before. ReturnsComputed V.of_number guard.old
             (K.number key) (λ current. sum_with current number) before guard.new) }
-        ensures refused { OnErr result (guard.new ≡ guard.old) }
+        ensures refused { IfErr result (λ why. Refused guard.old (K.number key) why guard.new) }
     {
         let before = self.pool.add(alloc, guard, key.into_u64(), number)?;
         Ok(read_back(before))
@@ -47,7 +48,7 @@ impl<K: Word, V: Word> Congee<K, V> {
         ensures map { guard.new.book ≡ guard.old.book }
         ensures made { IfOk result (λ before. ReturnsComputed V.of_number guard.old
             (K.number key) (λ current. sum_with current number) before guard.new) }
-        ensures refused { OnErr result (guard.new ≡ guard.old) }
+        ensures refused { OnErr result (FoundNone guard.old (K.number key) guard.new) }
     {
         let pause = Backoff::new();
         for _ in rt.forever() {
@@ -73,7 +74,7 @@ impl<K: Word, V: Word> Congee<K, V> {
         ensures map { guard.new.book ≡ guard.old.book }
         ensures made { IfOk result (λ found. ReturnsComputed V.of_number guard.old
             (K.number key) (λ current. unwrap_or current (V.number value)) found guard.new) }
-        ensures refused { OnErr result (guard.new ≡ guard.old) }
+        ensures refused { IfErr result (λ why. Refused guard.old (K.number key) why guard.new) }
     {
         let found = self
             .pool
@@ -95,7 +96,7 @@ impl<K: Word, V: Word> Congee<K, V> {
         ensures map { guard.new.book ≡ guard.old.book }
         ensures made { IfOk result (λ found. ReturnsComputed V.of_number guard.old
             (K.number key) (λ current. unwrap_or current (V.number value)) found guard.new) }
-        ensures refused { OnErr result (guard.new ≡ guard.old) }
+        ensures refused { OnErr result (FoundNone guard.old (K.number key) guard.new) }
     {
         let pause = Backoff::new();
         for _ in rt.forever() {

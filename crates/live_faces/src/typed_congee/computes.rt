@@ -1,5 +1,6 @@
 //! Calls that store what a closure returns.
-ghost use Rattle.std.specs.Prelude.{◌≡◌, IfOk, IfSome, OnErr};
+ghost use Rattle.std.specs.Prelude.{◌≡◌, IfOk, IfErr, IfSome, OnErr};
+ghost use Rattle.live_updates.specs.Refusals.{FoundNone, Refused};
 ghost use Rattle.live_law.specs.Known.{MadeCall};
 ghost use Rattle.live_computes.specs.Closures.{Reaches, EndsWithCall};
 ghost use Rattle.live_computes.specs.Entries.{computed_with};
@@ -81,7 +82,7 @@ impl<K: Word, V: Word> Congee<K, V> {
         ensures map { guard.new.book ≡ guard.old.book }
         ensures made { IfOk result (λ before. ReturnsInserted V.of_number guard.old F.step f.old f.new
             (K.number key) before guard.new) }
-        ensures refused { OnErr result (guard.new ≡ guard.old) }
+        ensures refused { IfErr result (λ why. Refused guard.old (K.number key) why guard.new) }
     {
         let number = self
             .pool
@@ -106,7 +107,7 @@ impl<K: Word, V: Word> Congee<K, V> {
         ensures map { guard.new.book ≡ guard.old.book }
         ensures made { IfOk result (λ before. ReturnsInserted V.of_number guard.old F.step f.old f.new
             (K.number key) before guard.new) }
-        ensures refused { OnErr result (guard.new ≡ guard.old) }
+        ensures refused { OnErr result (FoundNone guard.old (K.number key) guard.new) }
     {
         let pause = Backoff::new();
         for _ in rt.forever() {

@@ -7,7 +7,7 @@ use Rattle.spec_map.specs.Map.{Pairs, lookup}
 use Rattle.share_rule.specs.History.{Entry, IsHistory}
 use Rattle.live_nodes.specs.Seats.{Place, SeatView}
 use Rattle.live_law.specs.Levels.{Spot}
-use Rattle.live_law.specs.Views.{Watch, View, view_of, Ask, ask}
+use Rattle.live_law.specs.Views.{Watch, View, view_of, Ask, ask, got}
 use Rattle.live_law.specs.Tree.{Answers, Parts, LearnsNode}
 use Rattle.live_calls.specs.Ways.{Names, Sights}
 use Rattle.live_updates.specs.Entries.{removed, swapped}
@@ -81,6 +81,11 @@ Sought q (Some (sites.At name x)) v w = EndsBy q.caller (q.entry (Some x)) v w �
 abbrev pub removal : ℕ → ℕ → Option ℕ → Option (Entry ℕ)
 removal c k None = Some (removed c k None)
 removal c k (Some x) = None
+
+-- A look-up that a refused insertion makes ends where the key is absent.
+abbrev pub absence : ℕ → ℕ → Option ℕ → Option (Entry ℕ)
+absence c k None = Some (got (ask c k 0 0) None)
+absence c k (Some x) = None
 
 -- who calls, with which key, the value that it expects there, and what it gives for it
 pub record Swap : Type 0 where

@@ -1,5 +1,5 @@
 use Rattle.std.proofs.Common.{rules, arith, ◌≢◌}
-use Rattle.live_calls.proofs.Ready.{ready_kept, ready_grown, ready_again_met}
+use Rattle.live_calls.proofs.Ready.{ready_grown, ready_again_met}
 use Rattle.live_calls.proofs.insert.part.Goals as goal
 
 pub returns-then-spare-eq0 : goal.returns-then-spare-eq0
@@ -21,8 +21,3 @@ returns c =
     let v = c.args.pass.now.view in
     let sighted = (c.spare_for_new-spare.ensures v c.requires.ready.spare (omega (arith, some))) in
     record { told = (t.0, t.1, ready_again_met v l.pass.view c.args.room.now l.spares c.spare_for_new-spare.result c.requires.ready t.2 t.3 sighted c.split_again.ensures.spares, t.2.seen) }
-
-pub returns-then-lacks : goal.returns-then-lacks
-returns-then-lacks c =
-    let t = c.stays_forked.ensures.told in
-    record { told = (t.0, t.1, ready_kept c.args.pass.now.view c.stays_forked.new.pass.view c.args.room.now c.requires.ready t.2, t.3) }
