@@ -11,10 +11,3 @@ pub record HandedOver (giver taker key value : ℕ) (found : Option ℕ) (histor
   pub before : Option ℕ
   pub is : history ≡ first ++ (inserts giver key value before ∷ (between ++ finds taker key found ∷ []))
   pub finds_it : AllLeave key between → found ≡ Some value
-
--- NOTED: the giver's insertion
-pub record IsNoted (giver key value : ℕ) (history : List (Entry ℕ)) : Type 0 where
-  pub first : List (Entry ℕ)
-  pub rest : List (Entry ℕ)
-  pub before : Option ℕ
-  pub is : history ≡ first ++ (inserts giver key value before ∷ rest)

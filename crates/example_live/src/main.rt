@@ -2,10 +2,8 @@
 #![tactic(auto)]
 
 mod hand_over;
-mod noted;
 
 use crate::hand_over::hand_over;
-use crate::noted::{learn_and_find, store_and_note};
 use live_faces::live::Congee;
 use std::io::Write;
 use std::test::Fail;
@@ -17,11 +15,6 @@ fn main(rt: HostRuntime) -> Result<(), Fail> {
     let found = hand_over(&rt, rt.alloc(), &map, &mut giver, &mut taker, 1, 42)?;
     if let Some(value) = found {
         writeln!(rt.stdout(), "handed over {value}")?;
-    }
-    let mut note = store_and_note(&rt, rt.alloc(), &map, &mut giver, 2, 11)?;
-    let noted = learn_and_find(&rt, &map, &mut taker, &mut note, 2);
-    if let Some(value) = noted {
-        writeln!(rt.stdout(), "noted {value}")?;
     }
     Ok(())
 }

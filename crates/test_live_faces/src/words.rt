@@ -152,7 +152,10 @@ fn a_closure_for_a_new_value_is_asked_once(rt: HostRuntime) -> Result<(), Fail> 
     let mut guard = map.pin();
     let mut asked = 0u64;
     let mut next = |n: Option<u64>| -> u64 {
-        asked = asked.wrapping_add(n.map_or(1, |found: u64| -> u64 { found }));
+        asked = asked.wrapping_add(match n {
+            Some(found) => found,
+            None => 1,
+        });
         70
     };
     let none = map.try_compute_or_insert(rt.alloc(), &mut guard, 7, &mut next);

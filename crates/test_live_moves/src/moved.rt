@@ -159,9 +159,9 @@ fn goes_both_ways<R: Wait>(rt: &R, alloc: Global, keys: Keys) -> Result<bool, OO
     let (map, guard) = Map::from_owned(rt, alloc, owned)?;
     let mut guard = guard;
     let free = map.limit() == u64::MAX;
-    let works = free && works_in(rt, alloc, &map, &mut guard, keys)?;
+    let works = works_in(rt, alloc, &map, &mut guard, keys)?;
     let again = map.into_owned(rt, alloc, &mut guard)?;
-    Ok(whole && new && gone && works && is_owned_whole(&again, keys))
+    Ok(whole && new && gone && free && works && is_owned_whole(&again, keys))
 }
 
 #[test]
