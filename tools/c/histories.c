@@ -362,35 +362,41 @@ static void print_call(const struct call *call, size_t thread, FILE *out) {
     fprintf(out, "\n");
 }
 
-/* (the thread whose next call began last, from the ends of all) */
+static uint64_t start_of(const struct history *history, size_t thread, size_t number) {
+    return history->records[thread].calls[number].start;
+}
+
+/* Of the calls before these numbers, the thread of the one that began last, or the number of threads. */
+static size_t thread_of_last(const struct history *history, const size_t *before) {
+    size_t thread = history->threads;
+    for (size_t i = 0; i < history->threads; i++)
+        if (before[i] > 0 && (thread == history->threads ||
+                              start_of(history, i, before[i] - 1) > start_of(history, thread, before[thread] - 1)))
+            thread = i;
+    return thread;
+}
+
+/* Of the calls from these numbers up to those, the thread of the one that began first, or the number of threads. */
+static size_t thread_of_first(const struct history *history, const size_t *from, const size_t *to) {
+    size_t thread = history->threads;
+    for (size_t i = 0; i < history->threads; i++)
+        if (from[i] < to[i] &&
+            (thread == history->threads || start_of(history, i, from[i]) < start_of(history, thread, from[thread])))
+            thread = i;
+    return thread;
+}
+
 void print_calls(const struct history *history, uint64_t until, size_t most, FILE *out) {
-    size_t at[MOST_THREADS], from[MOST_THREADS], thread;
+    size_t from[MOST_THREADS], to[MOST_THREADS], thread;
     for (size_t i = 0; i < history->threads; i++) {
-        const struct record *record = &history->records[i];
-        for (at[i] = record->count; at[i] > 0 && record->calls[at[i] - 1].start > until;)
-            at[i]--;
-        from[i] = at[i];
+        for (to[i] = history->records[i].count; to[i] > 0 && start_of(history, i, to[i] - 1) > until;)
+            to[i]--;
+        from[i] = to[i];
     }
-    for (size_t n = 0; n < most; n++) {
-        thread = history->threads;
-        for (size_t i = 0; i < history->threads; i++)
-            if (from[i] > 0 && (thread == history->threads || history->records[i].calls[from[i] - 1].start >
-                                                                  history->records[thread].calls[from[thread] - 1].start))
-                thread = i;
-        if (thread == history->threads)
-            break;
+    for (size_t n = 0; n < most && (thread = thread_of_last(history, from)) < history->threads; n++)
         from[thread]--;
-    }
-    for (;;) {
-        thread = history->threads;
-        for (size_t i = 0; i < history->threads; i++)
-            if (from[i] < at[i] && (thread == history->threads || history->records[i].calls[from[i]].start <
-                                                                      history->records[thread].calls[from[thread]].start))
-                thread = i;
-        if (thread == history->threads)
-            return;
+    while ((thread = thread_of_first(history, from, to)) < history->threads)
         print_call(&history->records[thread].calls[from[thread]++], thread, out);
-    }
 }
 
 static enum verdict report(const struct history *history, const struct search *search, enum verdict verdict,

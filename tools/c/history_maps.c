@@ -203,7 +203,6 @@ static uint64_t fresh(struct caller *caller) {
 }
 
 static void write_down(struct caller *caller, struct call call) {
-    call.end = clock_now();
     caller->record->calls[caller->record->count++] = call;
 }
 
@@ -245,6 +244,7 @@ static void call_key(struct caller *caller, enum kind kind, uint64_t key, bool w
     call.start = clock_now();
     while (call.answer = 0, call.code = make_call(caller, &call), is_again(caller, call.code, waits)) {
     }
+    call.end = clock_now();
     if (call.code == CONGEE_BUSY)
         return;
     if (call.code == CONGEE_OOM) {
@@ -327,41 +327,51 @@ static uint64_t near_key(struct caller *caller) {
     return random >> 32 & 1 ? key : key + (random >> 33 & 2) - 1;
 }
 
+/* The range itself: 0 without its last key, 1 with it, 2 downwards. */
+static int make_range(const struct caller *caller, uint64_t which, uint64_t start, uint64_t last, struct congee_pair *pairs,
+                      size_t n, size_t *written) {
+    const struct map_kind *kind = caller->kind;
+    return which == 0   ? kind->range(caller->map, start, last, pairs, n, written)
+           : which == 1 ? kind->range_inclusive(caller->map, start, last, pairs, n, written)
+                        : kind->range_descending(caller->map, start, last, pairs, n, written);
+}
+
+/* Notes the pairs of a range. One that is full has passed no key behind its last pair. */
+static void note_range(struct caller *caller, struct call *call, struct congee_pair *pairs, size_t n, bool is_full,
+                       uint64_t start, uint64_t last) {
+    bool is_down = call->kind == FIND_DOWN;
+    if (is_down)
+        reverse(pairs, n);
+    if (is_full && is_down)
+        start = pairs[0].key < start ? start : pairs[0].key;
+    else if (is_full)
+        last = pairs[n - 1].key > last ? last : pairs[n - 1].key;
+    note_found(caller, call, pairs, n, start, last);
+    write_down(caller, *call);
+}
+
 /* A range of at most so many pairs as there are keys. */
 static void call_range(struct caller *caller, uint64_t which, bool waits) {
-    const struct map_kind *kind = caller->kind;
     struct congee_pair pairs[MOST_KEYS + MOST_STAYING];
     uint64_t start = near_key(caller), last = near_key(caller), random = next_random(&caller->random);
     size_t n = 1 + random % (caller->set->count + caller->set->stays), written = 0;
-    bool is_down = which == 2 && kind->range_descending;
-    struct call call = {.kind = is_down ? FIND_DOWN : FIND};
+    which -= which == 2 && !caller->kind->range_descending;
+    struct call call = {.kind = which == 2 ? FIND_DOWN : FIND};
     if (random >> 40 & 1) {
         start = 0;
         last = UINT64_MAX;
     }
     call.start = clock_now();
-    while (call.code = is_down      ? kind->range_descending(caller->map, start, last, pairs, n, &written)
-                       : which == 0 ? kind->range(caller->map, start, last, pairs, n, &written)
-                                    : kind->range_inclusive(caller->map, start, last, pairs, n, &written),
-           is_again(caller, call.code, waits)) {
+    while (call.code = make_range(caller, which, start, last, pairs, n, &written), is_again(caller, call.code, waits)) {
     }
+    call.end = clock_now();
+    bool is_empty = start > last || (which == 0 && start == last);
     if (call.code == CONGEE_BUSY)
         return;
-    if (written > n)
-        caller->wrong = "more pairs than there is place for";
-    else if (start > last || (!is_down && which == 0 && start == last))
-        caller->wrong = written ? "a pair of an empty range" : NULL;
-    if (caller->wrong || start > last || (!is_down && which == 0 && start == last))
-        return;
-    last -= !is_down && which == 0;
-    if (is_down)
-        reverse(pairs, written);
-    if (written == n && is_down)
-        start = pairs[0].key < start ? start : pairs[0].key;
-    else if (written == n)
-        last = pairs[n - 1].key > last ? last : pairs[n - 1].key;
-    note_found(caller, &call, pairs, written, start, last);
-    write_down(caller, call);
+    if (written > n || (is_empty && written > 0))
+        caller->wrong = "more pairs than the range or its place has";
+    else if (!is_empty)
+        note_range(caller, &call, pairs, written, written == n, start, last - (which == 0));
 }
 
 /* The first or last pair from a key on. Where there is no such key, or the answer is a pair, the rest isn't passed. */
@@ -381,6 +391,7 @@ static void call_end(struct caller *caller, uint64_t which, bool waits) {
                                     : kind->below(caller->map, key, &pair),
            is_again(caller, call.code, waits)) {
     }
+    call.end = clock_now();
     if (call.code == CONGEE_BUSY)
         return;
     if ((which == 2 && key == UINT64_MAX) || (which == 5 && key == 0)) {
@@ -404,6 +415,7 @@ static void call_count(struct caller *caller, bool waits) {
     call.start = clock_now();
     while (call.code = caller->kind->count(caller->map, &call.answer), is_again(caller, call.code, waits)) {
     }
+    call.end = clock_now();
     if (call.code == CONGEE_BUSY)
         return;
     call.answer -= caller->set->stays;
@@ -417,6 +429,7 @@ static void call_is_empty(struct caller *caller, bool waits) {
     call.start = clock_now();
     while (call.code = caller->kind->is_empty(caller->map), is_again(caller, call.code, waits)) {
     }
+    call.end = clock_now();
     if (call.code == CONGEE_BUSY)
         return;
     if (call.code == 1)
@@ -438,6 +451,7 @@ static void call_pop(struct caller *caller, uint64_t which, bool waits) {
                                     : kind->pop_last(caller->map, &pair),
            is_again(caller, call.code, waits)) {
     }
+    call.end = clock_now();
     if (call.code == CONGEE_BUSY)
         return;
     if (which > 0)
