@@ -385,5 +385,14 @@ int32_t congee_c_shared_is_empty(congee_const_shared_handle *h, OUT) { SHARED(h,
 int32_t congee_c_shared_charged(congee_const_shared_handle *h, OUT) { SHARED(h, (*out = charged(p), 0)) }
 uint64_t congee_c_live_limit(congee_const_live_handle *h) { PLAIN(h, guard, in.held.of->limit) }
 uint64_t congee_c_live_charged(congee_const_live_handle *h) { PLAIN(h, guard, 8192) }
+void congee_c_live_usage(congee_const_live_handle *h, uint64_t *charged, uint64_t *limit) {
+    PLAIN(h, guard, (void)(*charged = 8192, *limit = in.held.of->limit))
+}
+// (who shares a map here sees all that is in it at once, so a meeting and a note have nothing to hand on)
+void congee_c_live_meet(congee_live_handle *h, congee_live_handle *other) {
+    { Inside in(*h->guard); }
+    { Inside in(*other->guard); }
+}
+int32_t congee_c_live_note(congee_live_handle *h, congee_live_handle *out) { return congee_c_live_another(h, out); }
 
 } // extern "C"
