@@ -36,7 +36,7 @@ fn range<K: Ord + Copy>(dice: &mut Dice, one: K, other: K) -> Option<(Bound<K>, 
 /// Calls that all three maps have.
 macro_rules! common {
     ($map:expr, $std:expr, $dice:expr, $key:expr, $other:expr, $value:expr) => {
-        match $dice.roll(16) {
+        match $dice.roll(17) {
             0..=4 => assert_eq!(
                 $map.insert($key, $value).unwrap(),
                 $std.insert($key, $value)
@@ -56,6 +56,11 @@ macro_rules! common {
                 $map.get_or_insert($key, $value).unwrap(),
                 *$std.entry($key).or_insert($value)
             ),
+            15 => {
+                let was = $std.get(&$key).copied();
+                assert_eq!($map.insert_absent($key, $value).unwrap(), was);
+                $std.entry($key).or_insert($value);
+            }
             _ => {
                 if let Some(of) = range(&mut $dice, $key, $other) {
                     assert!($map.range(of).eq($std.range(of).map(copied)));
@@ -84,17 +89,12 @@ fn own<K: Word + Ord + Debug>(
     key: K,
     value: i16,
 ) {
-    match dice.roll(8) {
+    match dice.roll(7) {
         0 => assert_eq!(map.pop_first(), std.pop_first()),
         1 => assert_eq!(map.pop_last(), std.pop_last()),
         2 => assert_eq!(map.remove_entry(key), std.remove_entry(&key)),
         3 => assert_eq!(map.get_key_value(key), std.get_key_value(&key).map(copied)),
         4 => {
-            let was = std.get(&key).copied();
-            assert_eq!(map.insert_absent(key, value).unwrap(), was);
-            std.entry(key).or_insert(value);
-        }
-        5 => {
             let it = map
                 .entry(key)
                 .and_modify(|it| it.wrapping_add(1))
@@ -106,7 +106,7 @@ fn own<K: Word + Ord + Debug>(
                     .or_insert(value)
             );
         }
-        6 if dice.roll(64) == 0 => {
+        5 if dice.roll(64) == 0 => {
             let taken: Vec<(K, i16)> = map.extract_if(|_, it| it % 5 == 0).take(7).collect();
             assert!(taken.iter().copied().eq(std
                 .iter()

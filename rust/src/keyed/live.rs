@@ -110,6 +110,13 @@ impl<K: Word, V: Word> OrdLiveGuard<K, V> {
         Ok(V::from_u64(it))
     }
 
+    /// Gives the key the value if it is absent, and returns `None` to the guard that inserted it. To all others it returns
+    /// the current value. Refused where there is no memory.
+    pub fn insert_absent(&self, key: K, value: V) -> Result<Option<V>, OutOfMemory> {
+        let found = self.guard.insert_absent(key.into_u64(), value.into_u64())?;
+        Ok(found.map(V::from_u64))
+    }
+
     /// Removes the key, and returns the value that it had.
     #[inline]
     pub fn remove(&self, key: K) -> Option<V> {

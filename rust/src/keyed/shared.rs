@@ -123,6 +123,13 @@ impl<K: Word, V: Word> OrdGuard<K, V> {
         Ok(V::from_u64(it))
     }
 
+    /// Gives the key the value if it is absent, and returns `None` to the guard that inserted it. To all others it returns
+    /// the current value. Refused where there is no memory.
+    pub fn insert_absent(&self, key: K, value: V) -> Result<Option<V>, OutOfMemory> {
+        let found = self.guard.insert_absent(key.into_u64(), value.into_u64())?;
+        Ok(found.map(V::from_u64))
+    }
+
     /// Sets the key's value to what the closure makes of it, or removes the key for `None`. Returns the value before. The
     /// closure is called under no lock, and again where another guard changed the key. See [`Guard::compute`].
     pub fn compute(
