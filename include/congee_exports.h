@@ -103,6 +103,7 @@ uint64_t congee_c_frozen_count(struct congee_const_frozen_handle *frozen);
 int32_t congee_c_shared_new(uint64_t limit, struct congee_shared_handle *out);
 int32_t congee_c_shared_new_sharded(uint64_t limit, struct congee_shared_handle *out);
 int32_t congee_c_shared_another(struct congee_shared_handle *handle, struct congee_shared_handle *out);
+void congee_c_shared_meet(struct congee_shared_handle *handle, struct congee_shared_handle *other);
 void congee_c_shared_free(struct congee_shared_handle handle);
 int32_t congee_c_shared_get(struct congee_const_shared_handle *handle, uint64_t key, uint64_t *value);
 int32_t congee_c_shared_insert(struct congee_shared_handle *handle, uint64_t key, uint64_t value, uint64_t *before);

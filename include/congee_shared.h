@@ -16,7 +16,8 @@
  *
  * What a call of the library's own functions returns is proved of their code (congee_exports.h). There is one order of
  * the calls of all handles of a map, in which each reply is that of an ordered map. A handle's own calls are in it in
- * their order, and each comes after all that its handle had seen before. A new handle has seen what its maker had. A
+ * their order, and each comes after all that its handle had seen before. A new handle has seen what its maker had. Handles
+ * that meet have seen what either had, and one that learns a note what was noted (congee_shared_meet, congee_shared_note). A
  * call that is busy or finds no memory isn't in it. The functions for use are plain C around the exports, and are
  * tested.
  *
@@ -53,6 +54,9 @@ extern "C" {
 
 /* A handle: one caller of a map that threads share. */
 struct congee_shared;
+
+/* A note of what a handle had seen. */
+struct congee_shared_note;
 
 /* -- Shared maps -- */
 
@@ -94,6 +98,39 @@ static inline void congee_shared_free(struct congee_shared *map) {
     struct congee_shared_handle handle = {map};
     if (map)
         congee_c_shared_free(handle);
+}
+
+/* -- Order in time -- */
+
+/* Two handles of one map meet. Both have then seen what either had, so a call that either makes later comes after all that
+ * either had made or read. A handle may meet itself, which does nothing. That both are of one map is what the program owes.
+ * Takes no lock and no memory. */
+static inline void congee_shared_meet(struct congee_shared *map, struct congee_shared *other) {
+    struct congee_shared_handle handle = {map}, second = {other};
+    if (map != other)
+        congee_c_shared_meet(&handle, &second);
+}
+
+/* Makes a note of what the handle has seen so far, for handles that are never in one place with it. A note goes to
+ * another thread as a handle does. A call of this handle that returned before comes before each call of one that has
+ * learned the note since. The map is there as long as its notes. Takes a small block. Returns CONGEE_DONE with the note
+ * in *out, or CONGEE_OOM with null there. */
+static inline int congee_shared_note(struct congee_shared *map, struct congee_shared_note **out) {
+    struct congee_shared *made;
+    int code = congee_shared_another(map, &made);
+    *out = (struct congee_shared_note *)made;
+    return code;
+}
+
+/* The handle has then seen what was noted, and the note what the handle has seen. The note is of the handle's map, and one call
+ * at a time uses it. Takes no lock and no memory. */
+static inline void congee_shared_learn(struct congee_shared *map, struct congee_shared_note *note) {
+    congee_shared_meet(map, (struct congee_shared *)note);
+}
+
+/* Frees the note, and with the last handle or note of a map the map. For null it does nothing. */
+static inline void congee_shared_note_free(struct congee_shared_note *note) {
+    congee_shared_free((struct congee_shared *)note);
 }
 
 /* -- One key -- */

@@ -228,6 +228,7 @@ extern "C" {
     pub fn congee_c_shared_new(limit: u64, out: *mut SharedHandle) -> i32;
     pub fn congee_c_shared_new_sharded(limit: u64, out: *mut SharedHandle) -> i32;
     pub fn congee_c_shared_another(handle: *mut SharedHandle, out: *mut SharedHandle) -> i32;
+    pub fn congee_c_shared_meet(handle: *mut SharedHandle, other: *mut SharedHandle);
     pub fn congee_c_shared_free(handle: SharedHandle);
     pub fn congee_c_shared_get(handle: *mut SharedHandle, key: u64, value: *mut u64) -> i32;
     pub fn congee_c_shared_insert(

@@ -114,7 +114,7 @@ pub use frozen::{Frozen, Readers};
 pub use live::{LiveGuard, LiveMap, LiveNote};
 pub use map::{ExtendError, FreezeError, Map};
 pub use pages::{IntoIter, Keys, LiveRange, Range, Values};
-pub use shared::{Busy, Guard, SharedMap, TryError};
+pub use shared::{Busy, Guard, Note, SharedMap, TryError};
 
 use std::fmt;
 

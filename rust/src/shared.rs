@@ -117,7 +117,10 @@ impl SharedMap {
         let mut made = SharedHandle::none();
         match unsafe { make(bytes, &mut made) } {
             0 => Ok(SharedMap {
-                first: Mutex::new(Guard { guard: made.guard }),
+                first: Mutex::new(Guard {
+                    guard: made.guard,
+                    map: next_map(),
+                }),
                 limit: bytes,
             }),
             _ => Err(OutOfMemory),
@@ -231,6 +234,19 @@ impl From<OutOfMemory> for TryError {
 /// Rust, leaves the map busy for ever. So does a fork inside another thread's call, in the child.
 pub struct Guard {
     guard: *mut OneGuardForEachThread,
+    // (which map it is of)
+    map: u64,
+}
+
+/// What a [`Guard`] had seen, which another thread's guard can learn ([`Guard::note`]).
+///
+/// ```
+/// fn goes_to_another_thread<T: Send>() {}
+/// goes_to_another_thread::<proved_congee::Note>();
+/// ```
+#[derive(Debug)]
+pub struct Note {
+    guard: Guard,
 }
 
 // The number of a new map.
@@ -333,9 +349,85 @@ impl Guard {
     pub fn try_clone(&self) -> Result<Guard, OutOfMemory> {
         let mut made = SharedHandle::none();
         match unsafe { congee_c_shared_another(&mut self.handle(), &mut made) } {
-            0 => Ok(Guard { guard: made.guard }),
+            0 => Ok(Guard {
+                guard: made.guard,
+                map: self.map,
+            }),
             _ => Err(OutOfMemory),
         }
+    }
+
+    /// Two guards of one map meet. Both have then seen what either had, so a call that either makes later comes after all that
+    /// either had made. A guard may meet itself, which does nothing. Takes no lock.
+    ///
+    /// # Panics
+    ///
+    /// If they are of two maps.
+    ///
+    /// ```
+    /// # fn main() -> Result<(), proved_congee::OutOfMemory> {
+    /// let map = proved_congee::SharedMap::new()?;
+    /// let (one, other) = (map.pin()?, map.pin()?);
+    /// one.insert(7, 70)?;
+    /// one.meet(&other);
+    /// assert_eq!(other.get(7), Some(70));
+    /// # Ok(())
+    /// # }
+    /// ```
+    pub fn meet(&self, other: &Guard) {
+        assert_eq!(self.map, other.map, "guards of two maps don't meet");
+        if self.guard != other.guard {
+            unsafe { congee_c_shared_meet(&mut self.handle(), &mut other.handle()) }
+        }
+    }
+
+    /// A note of what the guard has seen so far, for guards of other threads. A call of this guard that returned before
+    /// comes before each call of one that has learned the note since. Takes a small block. The map's memory is there as long as its
+    /// notes.
+    ///
+    /// ```
+    /// use proved_congee::SharedMap;
+    /// use std::thread;
+    ///
+    /// # fn main() -> Result<(), proved_congee::OutOfMemory> {
+    /// let map = SharedMap::new()?;
+    /// let guard = map.pin()?;
+    /// let other = map.pin()?;
+    /// let note = thread::spawn(move || {
+    ///     other.insert(7, 70)?;
+    ///     other.note()
+    /// })
+    /// .join()
+    /// .unwrap()?;
+    /// guard.learn(&note);
+    /// assert_eq!(guard.get(7), Some(70));
+    /// # Ok(())
+    /// # }
+    /// ```
+    pub fn note(&self) -> Result<Note, OutOfMemory> {
+        Ok(Note {
+            guard: self.try_clone()?,
+        })
+    }
+
+    /// The guard has then seen what was noted, and the note what the guard has seen.
+    ///
+    /// # Panics
+    ///
+    /// If the note is of another map.
+    ///
+    /// ```
+    /// # fn main() -> Result<(), proved_congee::OutOfMemory> {
+    /// let map = proved_congee::SharedMap::new()?;
+    /// let (one, other) = (map.pin()?, map.pin()?);
+    /// one.insert(7, 70)?;
+    /// other.learn(&one.note()?);
+    /// assert_eq!(other.len(), 1);
+    /// # Ok(())
+    /// # }
+    /// ```
+    pub fn learn(&self, note: &Note) {
+        self.meet(&note.guard);
     }
 
     /// The value at the key.

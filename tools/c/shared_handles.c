@@ -3,6 +3,7 @@
  *   - handles are made and freed while other threads call, and the map is freed with the last one, on any thread
  *   - a thread that is stopped between two calls keeps nobody, with the handle that it has
  *   - an atomic that is sequentially consistent hands a handle over, and what was stored before is seen
+ *   - handles that meet, and notes that are learned, change no pair, and a note keeps the map
  *   - beside a long call others are busy: they write nothing, or they yield as this program defines it, and see what was there
  *     before it, or after */
 #define _POSIX_C_SOURCE 200112L
@@ -196,11 +197,47 @@ static void call_beside_a_long_call(void) {
     need(busy > 0 && yields > 0, "a call beside a long one is busy");
 }
 
+/* Two handles meet, and one learns what another thread's handle noted, which has ended by then. A note keeps the map, and what
+ * meets itself, or is freed as null, does nothing. */
+static void *insert_and_note(void *at) {
+    struct congee_shared *map = at;
+    struct congee_shared_note *note;
+    for (uint64_t i = 0; i < PAIRS; i++)
+        need(congee_shared_insert(map, i << 8, i, NULL) == 0, "a pair before a note");
+    need(congee_shared_note(map, &note) == 0, "a note");
+    congee_shared_free(map);
+    return note;
+}
+
+static void meet_and_learn(void) {
+    struct congee_shared *map, *other;
+    struct congee_pair page[PAIRS];
+    uint64_t value = 0;
+    for (int round = 0; round < MAPS; round++) {
+        pthread_t thread;
+        void *note;
+        need(congee_shared_new(UINT64_MAX, &map) == 0 && congee_shared_another(map, &other) == 0, "a map");
+        run(&thread, insert_and_note, other);
+        pthread_join(thread, &note);
+        congee_shared_learn(map, note);
+        need(congee_shared_range(map, 0, UINT64_MAX, page, PAIRS) == PAIRS, "a page after a note was learned");
+        need(congee_shared_another(map, &other) == 0 && congee_shared_remove(other, 0, NULL) == 1, "a removal by another handle");
+        congee_shared_meet(map, other);
+        congee_shared_meet(map, map);
+        need(congee_shared_get(map, 0, &value) == 0 && congee_shared_count(map) == PAIRS - 1, "what a handle that was met removed");
+        congee_shared_free(map);
+        congee_shared_free(other);
+        congee_shared_note_free(note);
+    }
+    congee_shared_note_free(NULL);
+}
+
 int main(void) {
     pass_on();
     end_beside_others();
     stop_between_calls();
     hand_over();
+    meet_and_learn();
     call_beside_a_long_call();
     printf("%d threads, %d maps that ended beside look-ups\n", THREADS, MAPS);
     return 0;

@@ -126,6 +126,20 @@ pub extern "C" fn congee_c_shared_another(alloc: Global, handle: &mut Handle, ou
     0
 }
 
+/// Both handles, of one map, have then seen one history, which begins with what each had seen.
+#[unsafe(no_mangle)]
+pub extern "C" fn congee_c_shared_meet(handle: &mut Handle, other: &mut Handle)
+    requires map { other.old.held.guard.table ≡ handle.old.held.guard.table }
+    ensures first { SeenMore same_number handle.old.held.guard handle.new.held.guard }
+    ensures second { SeenMore same_number other.old.held.guard other.new.held.guard }
+    ensures one { handle.new.held.guard.seen ≡ other.new.held.guard.seen }
+    ensures differ { handle.old.held.guard.caller ≢ other.old.held.guard.caller }
+    ensures place { handle.new.ptr ≡ handle.old.ptr }
+    ensures second_place { other.new.ptr ≡ other.old.ptr }
+{
+    handle.as_mut().guard.meet(&mut other.as_mut().guard);
+}
+
 /// Frees the handle, and the map with its last one.
 #[unsafe(no_mangle)]
 pub extern "C" fn congee_c_shared_free(handle: Handle) {

@@ -8,6 +8,7 @@ pub mod computed;
 pub mod ends;
 pub mod guard;
 pub mod map;
+pub mod note;
 pub mod points;
 pub mod ranges;
 pub mod whole;

@@ -191,6 +191,20 @@ fn values_with_one_number_are_exchanged_alike(rt: HostRuntime) -> Result<(), Fai
 }
 
 #[test]
+fn what_a_guard_does_once_it_learned_a_note(rt: HostRuntime) -> Result<(), Fail> {
+    let map: Congee<u64, Tens> = Congee::new(rt.alloc(), Shards::SixtyFour, u64::MAX)?;
+    let mut a = map.pin()?;
+    let mut b = map.pin()?;
+    assert!(rt; map.try_insert(&mut a, 7, Tens(30)) == Ok(None));
+    let mut note = a.note();
+    assert!(rt; map.try_remove(&mut a, &7) == Ok(Some(Tens(30))));
+    b.learn(&mut note);
+    // (what was removed after the note is gone, too)
+    assert!(rt; map.try_get(&mut b, &7) == Ok(None));
+    Ok(())
+}
+
+#[test]
 fn what_two_guards_do_once_they_have_met(rt: HostRuntime) -> Result<(), Fail> {
     let map: Congee<u64, Tens> = Congee::new(rt.alloc(), Shards::SixtyFour, u64::MAX)?;
     let mut a = map.pin()?;
