@@ -12,13 +12,17 @@
  *   - congee_live_get and the others without it yield and try again. Nothing bounds how long that takes. CONGEE_YIELD() is
  *     how they yield: sched_yield, unless the program defines it before it includes congee.h.
  *
- * What a call of the library's own functions returns is proved of their code (congee_exports.h). There is one order of
- * the calls of all handles of a map, in which each reply is that of an ordered map. A handle's own calls are in it in
- * their order, and each comes after all that its handle had seen before. A new handle has seen what its maker had. Handles
- * that meet have seen what either had, and one that learns a note what was noted (congee_live_meet, congee_live_note). A call
- * that is busy or finds no memory isn't in it. Ranges, next pairs and counts aren't in it either: each key that they pass
- * or give has its value at a moment of the call, and no moment is before that of a lower key. The functions for use are
- * plain C around the exports, and are tested.
+ * What a call of the library's own functions returns is proved of their code (congee_exports.h): calls on keys are
+ * sequentially consistent. Each handle knows a history of the map, which is a legal run of one ordered map. The history
+ * explains each reply of the handle, and has the handle's own calls in their order. Any two handles can meet, which never
+ * fails, and have one history from then on. So no two handles know histories that contradict each other. A new handle begins
+ * with its maker's history. Handles that meet are in order of time from then on, and so are a handle that makes a note and
+ * one that learns the note (congee_live_meet, congee_live_note).
+ *
+ * A call that is busy isn't in the history. An insertion that finds no memory is in the history as a look-up of its key that
+ * found none. Ranges, next pairs and counts are in the history by their beginning alone: each key that they pass or give
+ * has its value at a moment after that. Moments follow the keys upwards, and for congee_live_last, congee_live_floor and
+ * congee_live_below downwards. The functions for use are plain C around the exports, and are tested.
  *
  * A program moves here from congee_shared.h call by call. A call that both headers have takes the same arguments and
  * returns the same numbers. Those of one key promise the same, too. What differs:
@@ -73,7 +77,8 @@ struct congee_live_note;
  *
  * A call that needs one more segment than the limit is for is out of memory, and changes no pair. One that needs no
  * new node is made. A node that removals took out is the next of its size, so a program removes keys until one comes
- * in. The bytes of the segments are at most the limit at any time, which is proved (congee_live_usage). That it is the
+ * in. Nodes are not cut: a map at its limit that was emptied of dense keys may refuse most random keys, and a new map
+ * takes them. The bytes of the segments are at most the limit at any time, which is proved (congee_live_usage). That it is the
  * limit that was handed over is tested. malloc lends some kilobytes more. Threads that need the next segment at one
  * time may each ask malloc for it. All but one then free theirs.
  *

@@ -14,12 +14,13 @@
  *     whoever tries next, so nothing bounds how long that takes. CONGEE_YIELD() is how they yield: sched_yield, unless
  *     the program defines it before it includes this header. A thread with a real-time priority has to sleep there.
  *
- * What a call of the library's own functions returns is proved of their code (congee_exports.h). There is one order of
- * the calls of all handles of a map, in which each reply is that of an ordered map. A handle's own calls are in it in
- * their order, and each comes after all that its handle had seen before. A new handle has seen what its maker had. Handles
- * that meet have seen what either had, and one that learns a note what was noted (congee_shared_meet, congee_shared_note). A
- * call that is busy or finds no memory isn't in it. The functions for use are plain C around the exports, and are
- * tested.
+ * What a call of the library's own functions returns is proved of their code (congee_exports.h): calls are sequentially
+ * consistent. Each handle knows a history of the map, which is a legal run of one ordered map. The history explains each
+ * reply of the handle, and has the handle's own calls in their order. Any two handles can meet, which never fails, and have
+ * one history from then on. So no two handles know histories that contradict each other. A new handle begins with its
+ * maker's history. Handles that meet are in order of time from then on, and so are a handle that makes a note and one that
+ * learns the note (congee_shared_meet, congee_shared_note). A call that is busy or finds no memory isn't in the history. The
+ * functions for use are plain C around the exports, and are tested.
  *
  * What a program owes, beside the rules of congee.h on places, buffers, stack and malloc. Nothing checks it:
  *

@@ -12,12 +12,13 @@ use std::sync::{Mutex, MutexGuard, PoisonError};
 
 /// A map that threads share, each by a [`LiveGuard`] of its own, whose look-ups take no lock. They write nothing that other
 /// threads read. A writer locks single nodes. A node that keeps no pair is taken out, and is used again. For pops, pages
-/// downwards and pages of one moment take a [`SharedMap`](crate::SharedMap). Which call of its guards has which in its place
-/// here is listed in `docs/LIVE.md`.
+/// downwards and pages of one moment take a [`SharedMap`](crate::SharedMap). `docs/LIVE.md` lists what replaces each call of
+/// its guards.
 ///
-/// There is one order of the calls of all guards in which each reply is that of an ordered map. A guard's own calls are in
-/// it in their order, and each comes after all that its guard had seen before. Ranges, next pairs and counts aren't in it:
-/// each key has its value at a moment of the call.
+/// Proved of the library beneath: calls on keys are *sequentially consistent*. Each guard knows a legal history of the map, which
+/// explains the guard's replies and has its own calls in their order. Guards that [meet](LiveGuard::meet), or hand over a
+/// [note](LiveGuard::note), are in order of time from then on. Ranges, next pairs and counts are in the history by their
+/// beginning alone: each key has its value at a moment after that.
 ///
 /// ```
 /// use proved_congee::LiveMap;

@@ -14,9 +14,11 @@ use std::thread;
 /// A map that threads share, each by a [`Guard`] of its own. Its calls are those of the guards, which take `&self`.
 ///
 /// The calls of a map are made under one lock of the library, or, of a map that [`sharded`](SharedMap::sharded) makes, under
-/// one of 64 locks, or all of them. There is one order of the calls of all guards in which each reply is that of an ordered
-/// map. A guard's own calls are in it in their order, and each comes after
-/// all that its guard had seen before.
+/// one of 64 locks, or all of them.
+///
+/// Proved of the library beneath: calls are *sequentially consistent*. Each guard knows a legal history of the map, which explains
+/// the guard's replies and has its own calls in their order. Guards that [meet](Guard::meet), or hand over a
+/// [note](Guard::note), are in order of time from then on.
 ///
 /// ```
 /// use proved_congee::SharedMap;

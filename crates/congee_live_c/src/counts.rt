@@ -1,12 +1,12 @@
 //! How many pairs there are, read while others write.
 //!
-//! Each key is read at a moment of the call. So the count is exact where nobody writes, and a key that is there throughout is
-//! counted. A reader enters nothing in the history.
+//! A reader begins with an entry of its own in the history. Each key is read at a moment after that. So the count is exact where
+//! nobody writes, and a key that is there throughout is counted.
 //!
 //! Tested in `tools/c-library`.
 
 ghost use Rattle.std.specs.Prelude.{◌≡◌, ◌⊎◌, ℕ, pos};
-ghost use Rattle.live_scans.specs.Scans.{EntersNothing};
+ghost use Rattle.live_scans.specs.Scans.{GaveUp};
 ghost use Rattle.live_counts.specs.Counts.{HasCounted};
 ghost use Rattle.congee_live_c.specs.Answer.{busy, capped};
 
@@ -22,7 +22,7 @@ pub extern "C" fn congee_c_live_count(handle: &mut Handle, out: &mut u64) -> i32
     ensures counted { result ≡ pos 0 → (number : ℕ) × (out.new ≡ capped number)
         × HasCounted handle.old.held.guard number handle.new.held.guard }
     ensures missed { result ≡ busy → (out.new ≡ out.old)
-        × EntersNothing handle.old.held.guard handle.new.held.guard }
+        × GaveUp handle.old.held.guard handle.new.held.guard }
     ensures place { handle.new.ptr ≡ handle.old.ptr }
 {
     match handle.as_mut().guard.count() {

@@ -1,13 +1,13 @@
 //! The first pair, and the next one from a key on, found while others write.
 //!
-//! Each key that was passed, and that of the pair, was read at a moment of the call. No moment is before that of a lower key.
-//! So the pair was there, and a key that was there throughout isn't passed. A reader enters nothing in the history.
+//! A reader begins with an entry of its own in the history. Each key that was passed, and that of the pair, was read at a moment
+//! after that. No moment is before that of a lower key. So the pair was there, and a key that was there throughout isn't passed.
 //!
 //! Tested in `tools/c-library`.
 
 ghost use Rattle.std.specs.Prelude.{◌≡◌, ◌≢◌, ◌⊎◌, ◌+◌, None, Some, Ok, Err, pos};
 ghost use Rattle.live_calls.specs.declared.map.Busy.{Busy};
-ghost use Rattle.live_scans.specs.Scans.{EntersNothing, HasNext};
+ghost use Rattle.live_scans.specs.Scans.{GaveUp, HasNext};
 ghost use Rattle.congee_live_c.specs.Answer.{busy};
 ghost use Rattle.congee_live_c.specs.Pairs.{pair_of};
 
@@ -25,7 +25,7 @@ pub extern "C" fn congee_c_live_first(handle: &mut Handle, pair: &mut Pair) -> i
     ensures absent { result ≡ pos 0
         → HasNext handle.old.held.guard 0 None handle.new.held.guard }
     ensures missed { result ≡ busy
-        → EntersNothing handle.old.held.guard handle.new.held.guard }
+        → GaveUp handle.old.held.guard handle.new.held.guard }
     ensures kept { result ≢ pos 1 → pair.new ≡ pair.old }
     ensures place { handle.new.ptr ≡ handle.old.ptr }
 {
@@ -42,7 +42,7 @@ pub extern "C" fn congee_c_live_ceiling(handle: &mut Handle, key: u64, pair: &mu
     ensures absent { result ≡ pos 0
         → HasNext handle.old.held.guard key None handle.new.held.guard }
     ensures missed { result ≡ busy
-        → EntersNothing handle.old.held.guard handle.new.held.guard }
+        → GaveUp handle.old.held.guard handle.new.held.guard }
     ensures kept { result ≢ pos 1 → pair.new ≡ pair.old }
     ensures place { handle.new.ptr ≡ handle.old.ptr }
 {
@@ -59,7 +59,7 @@ pub extern "C" fn congee_c_live_above(handle: &mut Handle, key: u64, pair: &mut 
     ensures absent { result ≡ pos 0
         → HasNext handle.old.held.guard (key + 1) None handle.new.held.guard }
     ensures missed { result ≡ busy
-        → EntersNothing handle.old.held.guard handle.new.held.guard }
+        → GaveUp handle.old.held.guard handle.new.held.guard }
     ensures kept { result ≢ pos 1 → pair.new ≡ pair.old }
     ensures place { handle.new.ptr ≡ handle.old.ptr }
 {

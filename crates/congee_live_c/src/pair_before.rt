@@ -1,12 +1,12 @@
 //! The last pair, and the one before a key, found while others write.
 //!
-//! Each key that was passed, and that of the pair, was read at a moment of the call. No moment is before that of a higher key.
-//! So the pair was there, and a key that was there throughout isn't passed. A reader enters nothing in the history.
+//! A reader begins with an entry of its own in the history. Each key that was passed, and that of the pair, was read at a moment
+//! after that. No moment is before that of a higher key. So the pair was there, and a key that was there throughout isn't passed.
 //!
 //! Tested in `tools/c-library`.
 
 ghost use Rattle.std.specs.Prelude.{◌≡◌, ◌≢◌, ◌⊎◌, ◌+◌, ◌^◌, None, Some, pos};
-ghost use Rattle.live_scans.specs.Scans.{EntersNothing};
+ghost use Rattle.live_scans.specs.Scans.{GaveUp};
 ghost use Rattle.live_floors.specs.Floors.{HasBefore};
 ghost use Rattle.congee_live_c.specs.Answer.{busy};
 ghost use Rattle.congee_live_c.specs.Pairs.{pair_of};
@@ -25,7 +25,7 @@ pub extern "C" fn congee_c_live_last(handle: &mut Handle, pair: &mut Pair) -> i3
     ensures absent { result ≡ pos 0
         → HasBefore handle.old.held.guard (2 ^ 64) None handle.new.held.guard }
     ensures missed { result ≡ busy
-        → EntersNothing handle.old.held.guard handle.new.held.guard }
+        → GaveUp handle.old.held.guard handle.new.held.guard }
     ensures kept { result ≢ pos 1 → pair.new ≡ pair.old }
     ensures place { handle.new.ptr ≡ handle.old.ptr }
 {
@@ -42,7 +42,7 @@ pub extern "C" fn congee_c_live_floor(handle: &mut Handle, key: u64, pair: &mut 
     ensures absent { result ≡ pos 0
         → HasBefore handle.old.held.guard (key + 1) None handle.new.held.guard }
     ensures missed { result ≡ busy
-        → EntersNothing handle.old.held.guard handle.new.held.guard }
+        → GaveUp handle.old.held.guard handle.new.held.guard }
     ensures kept { result ≢ pos 1 → pair.new ≡ pair.old }
     ensures place { handle.new.ptr ≡ handle.old.ptr }
 {
@@ -59,7 +59,7 @@ pub extern "C" fn congee_c_live_below(handle: &mut Handle, key: u64, pair: &mut 
     ensures absent { result ≡ pos 0
         → HasBefore handle.old.held.guard key None handle.new.held.guard }
     ensures missed { result ≡ busy
-        → EntersNothing handle.old.held.guard handle.new.held.guard }
+        → GaveUp handle.old.held.guard handle.new.held.guard }
     ensures kept { result ≢ pos 1 → pair.new ≡ pair.old }
     ensures place { handle.new.ptr ≡ handle.old.ptr }
 {

@@ -1,14 +1,14 @@
 //! Pages of a range, read while others write.
 //!
-//! A page is read leaf by leaf, each at one moment. So each pair was there between what the handle had seen and what it has
-//! seen then. Keys ascend, and no moment is before that of a lower key. A key that had one value throughout is given with it
-//! (`what_stays_is_given` of `live_scans`). It is no snapshot. A reader enters nothing in the history.
+//! A reader begins with an entry of its own in the history. A page is read leaf by leaf, each at one moment after that. Keys
+//! ascend, and no moment is before that of a lower key. A key that had one value throughout is given with it
+//! (`what_stays_is_given` of `live_scans`). It is no snapshot.
 //!
 //! Tested in `tools/c-library`.
 
 ghost use Rattle.std.specs.Prelude.{◌≡◌, ◌⊎◌, ◌+◌, ◌≤◌, length, take, pos};
 ghost use Rattle.live_order.specs.Page.{pairs_of};
-ghost use Rattle.live_scans.specs.Scans.{EntersNothing, HasPage};
+ghost use Rattle.live_scans.specs.Scans.{GaveUp, HasPage};
 ghost use Rattle.congee_live_c.specs.Answer.{busy};
 ghost use Rattle.congee_live_c.specs.Pairs.{pair_of};
 
@@ -32,7 +32,7 @@ pub extern "C" fn congee_c_live_range(
     ensures page { result ≡ pos 0 → HasPage handle.old.held.guard start end (length buffer.old)
         (take out.new (pairs_of pair_of buffer.new)) handle.new.held.guard }
     ensures missed { result ≡ busy → (out.new ≡ out.old)
-        × EntersNothing handle.old.held.guard handle.new.held.guard }
+        × GaveUp handle.old.held.guard handle.new.held.guard }
     ensures place { handle.new.ptr ≡ handle.old.ptr }
 {
     match handle.as_mut().guard.range(start, end, buffer) {
@@ -58,7 +58,7 @@ pub extern "C" fn congee_c_live_range_inclusive(
     ensures page { result ≡ pos 0 → HasPage handle.old.held.guard start (last + 1) (length buffer.old)
         (take out.new (pairs_of pair_of buffer.new)) handle.new.held.guard }
     ensures missed { result ≡ busy → (out.new ≡ out.old)
-        × EntersNothing handle.old.held.guard handle.new.held.guard }
+        × GaveUp handle.old.held.guard handle.new.held.guard }
     ensures place { handle.new.ptr ≡ handle.old.ptr }
 {
     match handle.as_mut().guard.range_inclusive(start, last, buffer) {

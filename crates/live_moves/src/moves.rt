@@ -2,7 +2,7 @@
 
 ghost use Rattle.std.specs.Prelude.{◌≡◌, nat_eq, IfOk, OnErr};
 ghost use Rattle.share_rule.specs.History.{IsHistory};
-ghost use Rattle.live_scans.specs.Scans.{EntersNothing};
+ghost use Rattle.live_scans.specs.Scans.{HasWaited, Waits};
 ghost use Rattle.live_copies.specs.Copies.{HasCopied};
 
 use crate::numbers::{is_same, numbers_of, owned_of};
@@ -24,8 +24,8 @@ pub fn copied<R: Wait>(
     guard: &mut Guard,
 ) -> Result<Vec<(u64, u64)>, OOMError>
     requires map { guard.old.book ≡ map.now }
-    ensures copied { IfOk result (λ pairs. HasCopied guard.old pairs.items guard.new) }
-    ensures refused { OnErr result (EntersNothing guard.old guard.new) }
+    ensures copied { IfOk result (λ pairs. Waits guard.old (λ k. HasCopied k pairs.items guard.new)) }
+    ensures refused { OnErr result (HasWaited guard.old guard.new) }
 {
     let pause = Backoff::new();
     for _ in rt.forever() {
@@ -46,8 +46,8 @@ pub fn moved_out<R: Wait, K: Word, V: Word>(
     guard: &mut Guard,
 ) -> Result<face_typed::typed_congee::Congee<K, V>, OOMError>
     requires map { guard.old.book ≡ map.now }
-    ensures copied { IfOk result (λ owned. HasCopied guard.old owned.pairs guard.new) }
-    ensures refused { OnErr result (EntersNothing guard.old guard.new) }
+    ensures copied { IfOk result (λ owned. Waits guard.old (λ k. HasCopied k owned.pairs guard.new)) }
+    ensures refused { OnErr result (HasWaited guard.old guard.new) }
 {
     let numbers = copied(rt, map, alloc, guard)?;
     owned_of(alloc, &numbers)

@@ -8,4 +8,6 @@ mod neighbours;
 #[cfg(test)]
 mod ranges;
 #[cfg(test)]
+mod sparse;
+#[cfg(test)]
 mod writers;

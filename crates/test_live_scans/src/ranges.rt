@@ -18,8 +18,8 @@ pub struct Keys {
     pub count: u32,
 }
 
-// Leaves of each form, inner nodes of each form, prefixes that are skipped, and both ends.
-pub const KEYS: [Keys; 12] = [
+// Leaves of each form, inner nodes of each form, sparse keys at each height, prefixes that are skipped, and both ends.
+pub const KEYS: [Keys; 17] = [
     Keys {
         first: 0,
         step: 1,
@@ -58,6 +58,31 @@ pub const KEYS: [Keys; 12] = [
     Keys {
         first: 128,
         step: 1 << 16,
+        count: 300,
+    },
+    Keys {
+        first: 5,
+        step: 1 << 8,
+        count: 300,
+    },
+    Keys {
+        first: 5,
+        step: 1 << 24,
+        count: 300,
+    },
+    Keys {
+        first: 5,
+        step: 1 << 32,
+        count: 300,
+    },
+    Keys {
+        first: 5,
+        step: 1 << 40,
+        count: 300,
+    },
+    Keys {
+        first: 5,
+        step: 1 << 48,
         count: 300,
     },
     Keys {

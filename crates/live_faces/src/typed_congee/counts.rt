@@ -4,7 +4,7 @@
 //!
 //! Tested in `test_live_scans`.
 ghost use Rattle.std.specs.Prelude.{◌≡◌, IfOk, OnErr};
-ghost use Rattle.live_scans.specs.Scans.{EntersNothing};
+ghost use Rattle.live_scans.specs.Scans.{GaveUp, Waits};
 ghost use Rattle.live_counts.specs.Counts.{HasCounted, HasTested};
 
 use super::{Busy, Congee, Guard};
@@ -20,7 +20,7 @@ impl<K: Word, V: Word> Congee<K, V> {
         requires map { guard.old.book ≡ self.now }
         ensures map { guard.new.book ≡ guard.old.book }
         ensures counted { IfOk result (λ count. HasCounted guard.old count guard.new) }
-        ensures busy { OnErr result (EntersNothing guard.old guard.new) }
+        ensures busy { OnErr result (GaveUp guard.old guard.new) }
     {
         counts::count(&self.pool.map, guard)
     }
@@ -29,7 +29,7 @@ impl<K: Word, V: Word> Congee<K, V> {
     pub fn value_count<R: Wait>(&self, rt: &R, guard: &mut Guard) -> u128
         requires map { guard.old.book ≡ self.now }
         ensures map { guard.new.book ≡ guard.old.book }
-        ensures counted { HasCounted guard.old result guard.new }
+        ensures counted { Waits guard.old (λ k. HasCounted k result guard.new) }
     {
         let pause = Backoff::new();
         for _ in rt.forever() {
@@ -46,7 +46,7 @@ impl<K: Word, V: Word> Congee<K, V> {
         requires map { guard.old.book ≡ self.now }
         ensures map { guard.new.book ≡ guard.old.book }
         ensures tested { IfOk result (λ empty. HasTested guard.old empty guard.new) }
-        ensures busy { OnErr result (EntersNothing guard.old guard.new) }
+        ensures busy { OnErr result (GaveUp guard.old guard.new) }
     {
         counts::is_empty(&self.pool.map, guard)
     }
@@ -55,7 +55,7 @@ impl<K: Word, V: Word> Congee<K, V> {
     pub fn is_empty<R: Wait>(&self, rt: &R, guard: &mut Guard) -> bool
         requires map { guard.old.book ≡ self.now }
         ensures map { guard.new.book ≡ guard.old.book }
-        ensures tested { HasTested guard.old result guard.new }
+        ensures tested { Waits guard.old (λ k. HasTested k result guard.new) }
     {
         let pause = Backoff::new();
         for _ in rt.forever() {

@@ -1,11 +1,11 @@
 //! The last pair and those before a key, read while others write.
 //!
-//! As `ceiling` and `above`: a reader goes downwards, each key behind the pair has a moment of the call at which it was absent,
-//! and nothing is entered in the history.
+//! As `ceiling` and `above`: a reader begins with an entry of its own in the history and goes downwards. Each key behind the pair
+//! has a moment after that at which it was absent.
 //!
 //! Tested in `test_live_scans`.
 ghost use Rattle.std.specs.Prelude.{◌≡◌, ◌+◌, ◌^◌, IfOk, OnErr};
-ghost use Rattle.live_scans.specs.Scans.{EntersNothing};
+ghost use Rattle.live_scans.specs.Scans.{GaveUp, Waits};
 ghost use Rattle.live_faces.specs.Returned.{ReturnsBefore, pair_of};
 
 use super::scans::pair_back;
@@ -22,7 +22,7 @@ impl<K: Word, V: Word> Congee<K, V> {
         ensures map { guard.new.book ≡ guard.old.book }
         ensures before { IfOk result (λ found. ReturnsBefore (pair_of K.of_number V.of_number)
             guard.old (K.number key.now + 1) found guard.new) }
-        ensures busy { OnErr result (EntersNothing guard.old guard.new) }
+        ensures busy { OnErr result (GaveUp guard.old guard.new) }
     {
         let found = floors::floor(&self.pool.map, guard, key.into_u64())?;
         Ok(pair_back(found))
@@ -32,8 +32,8 @@ impl<K: Word, V: Word> Congee<K, V> {
     pub fn floor<R: Wait>(&self, rt: &R, guard: &mut Guard, key: &K) -> Option<(K, V)>
         requires map { guard.old.book ≡ self.now }
         ensures map { guard.new.book ≡ guard.old.book }
-        ensures before { ReturnsBefore (pair_of K.of_number V.of_number)
-            guard.old (K.number key.now + 1) result guard.new }
+        ensures before { Waits guard.old (λ k. ReturnsBefore (pair_of K.of_number V.of_number)
+            k (K.number key.now + 1) result guard.new) }
     {
         let pause = Backoff::new();
         for _ in rt.forever() {
@@ -51,7 +51,7 @@ impl<K: Word, V: Word> Congee<K, V> {
         ensures map { guard.new.book ≡ guard.old.book }
         ensures before { IfOk result (λ found. ReturnsBefore (pair_of K.of_number V.of_number)
             guard.old (K.number key.now) found guard.new) }
-        ensures busy { OnErr result (EntersNothing guard.old guard.new) }
+        ensures busy { OnErr result (GaveUp guard.old guard.new) }
     {
         let found = floors::below(&self.pool.map, guard, key.into_u64())?;
         Ok(pair_back(found))
@@ -61,8 +61,8 @@ impl<K: Word, V: Word> Congee<K, V> {
     pub fn below<R: Wait>(&self, rt: &R, guard: &mut Guard, key: &K) -> Option<(K, V)>
         requires map { guard.old.book ≡ self.now }
         ensures map { guard.new.book ≡ guard.old.book }
-        ensures before { ReturnsBefore (pair_of K.of_number V.of_number)
-            guard.old (K.number key.now) result guard.new }
+        ensures before { Waits guard.old (λ k. ReturnsBefore (pair_of K.of_number V.of_number)
+            k (K.number key.now) result guard.new) }
     {
         let pause = Backoff::new();
         for _ in rt.forever() {
@@ -80,7 +80,7 @@ impl<K: Word, V: Word> Congee<K, V> {
         ensures map { guard.new.book ≡ guard.old.book }
         ensures before { IfOk result (λ found. ReturnsBefore (pair_of K.of_number V.of_number)
             guard.old (2 ^ 64) found guard.new) }
-        ensures busy { OnErr result (EntersNothing guard.old guard.new) }
+        ensures busy { OnErr result (GaveUp guard.old guard.new) }
     {
         let found = floors::last(&self.pool.map, guard)?;
         Ok(pair_back(found))
@@ -90,8 +90,8 @@ impl<K: Word, V: Word> Congee<K, V> {
     pub fn last<R: Wait>(&self, rt: &R, guard: &mut Guard) -> Option<(K, V)>
         requires map { guard.old.book ≡ self.now }
         ensures map { guard.new.book ≡ guard.old.book }
-        ensures before { ReturnsBefore (pair_of K.of_number V.of_number)
-            guard.old (2 ^ 64) result guard.new }
+        ensures before { Waits guard.old (λ k. ReturnsBefore (pair_of K.of_number V.of_number)
+            k (2 ^ 64) result guard.new) }
     {
         let pause = Backoff::new();
         for _ in rt.forever() {

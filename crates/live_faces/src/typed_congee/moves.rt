@@ -6,7 +6,7 @@
 //! Tested in `test_live_moves`.
 ghost use Rattle.std.specs.Prelude.{◌≡◌, nat_eq, IfOk, IfErr, OnErr};
 ghost use Rattle.share_rule.specs.History.{IsHistory};
-ghost use Rattle.live_scans.specs.Scans.{EntersNothing};
+ghost use Rattle.live_scans.specs.Scans.{GaveUp, HasWaited, Waits};
 ghost use Rattle.live_copies.specs.Copies.{HasCopied};
 ghost use Rattle.live_faces.specs.Returned.{ReturnsAll, pair_of};
 
@@ -29,7 +29,7 @@ impl<K: Word, V: Word> Congee<K, V> {
         ensures map { guard.new.book ≡ guard.old.book }
         ensures copied { IfOk result (λ pairs. ReturnsAll (pair_of K.of_number V.of_number)
             guard.old pairs.items guard.new) }
-        ensures refused { OnErr result (EntersNothing guard.old guard.new) }
+        ensures refused { OnErr result (GaveUp guard.old guard.new) }
     {
         let numbers = copy(&self.pool.map, alloc, guard)?;
         match pairs_back(alloc, &numbers) {
@@ -47,9 +47,9 @@ impl<K: Word, V: Word> Congee<K, V> {
     ) -> Result<Vec<(K, V)>, OOMError>
         requires map { guard.old.book ≡ self.now }
         ensures map { guard.new.book ≡ guard.old.book }
-        ensures copied { IfOk result (λ pairs. ReturnsAll (pair_of K.of_number V.of_number)
-            guard.old pairs.items guard.new) }
-        ensures refused { OnErr result (EntersNothing guard.old guard.new) }
+        ensures copied { IfOk result (λ pairs. Waits guard.old
+            (λ k. ReturnsAll (pair_of K.of_number V.of_number) k pairs.items guard.new)) }
+        ensures refused { OnErr result (HasWaited guard.old guard.new) }
     {
         let numbers = copied(rt, &self.pool.map, alloc, guard)?;
         match pairs_back(alloc, &numbers) {
@@ -68,9 +68,9 @@ impl<K: Word, V: Word> Congee<K, V> {
     ) -> Result<Owned<K, V>, AllocFailed<Self>>
         requires map { guard.old.book ≡ self }
         ensures map { guard.new.book ≡ guard.old.book }
-        ensures moved { IfOk result (λ owned. HasCopied guard.old owned.pairs guard.new) }
+        ensures moved { IfOk result (λ owned. Waits guard.old (λ k. HasCopied k owned.pairs guard.new)) }
         ensures kept { IfErr result (λ failed. failed.value ≡ self) }
-        ensures refused { OnErr result (EntersNothing guard.old guard.new) }
+        ensures refused { OnErr result (HasWaited guard.old guard.new) }
     {
         match moved_out(rt, &self.pool.map, alloc, guard) {
             Ok(owned) => Ok(owned),

@@ -1,13 +1,13 @@
 //! Pages of ranges, the first pair and those next to a key, read while others write.
 //!
-//! A page is read leaf by leaf, each at one moment. So each pair that is given was stored between what the guard had seen and
-//! what it has seen then, keys ascend, and a key that was stored throughout is given. It is no snapshot. A reader enters
-//! nothing in the history.
+//! A reader begins with an entry of its own in the history. A page is read leaf by leaf, each at one moment after that. So each
+//! pair that is given was stored at a moment of the call, keys ascend, and a key that was stored throughout is given. It is no
+//! snapshot.
 //!
 //! Tested in `test_live_scans`.
 ghost use Rattle.std.specs.Prelude.{◌≡◌, ◌+◌, ◌≤◌, length, take, IfOk, OnErr};
 ghost use Rattle.std.specs.Option.{option_map};
-ghost use Rattle.live_scans.specs.Scans.{EntersNothing, HasPage};
+ghost use Rattle.live_scans.specs.Scans.{GaveUp, HasPage, Waits};
 ghost use Rattle.live_faces.specs.Returned.{ReturnsNext, pair_of};
 
 use super::{Busy, Congee, Guard};
@@ -41,7 +41,7 @@ impl<K: Word, V: Word> Congee<K, V> {
         ensures count { IfOk result (λ count. count ≤ length buffer.old) }
         ensures page { IfOk result (λ count. HasPage guard.old (K.number start.now)
             (K.number end.now) (length buffer.old) (take count buffer.new) guard.new) }
-        ensures busy { OnErr result (EntersNothing guard.old guard.new) }
+        ensures busy { OnErr result (GaveUp guard.old guard.new) }
     {
         scans::range(
             &self.pool.map,
@@ -64,8 +64,8 @@ impl<K: Word, V: Word> Congee<K, V> {
         requires map { guard.old.book ≡ self.now }
         ensures map { guard.new.book ≡ guard.old.book }
         ensures count { result ≤ length buffer.old }
-        ensures page { HasPage guard.old (K.number start.now) (K.number end.now)
-            (length buffer.old) (take result buffer.new) guard.new }
+        ensures page { Waits guard.old (λ k. HasPage k (K.number start.now) (K.number end.now)
+            (length buffer.old) (take result buffer.new) guard.new) }
     {
         let pause = Backoff::new();
         for _ in rt.forever() {
@@ -90,7 +90,7 @@ impl<K: Word, V: Word> Congee<K, V> {
         ensures count { IfOk result (λ count. count ≤ length buffer.old) }
         ensures page { IfOk result (λ count. HasPage guard.old (K.number first.now)
             (K.number last.now + 1) (length buffer.old) (take count buffer.new) guard.new) }
-        ensures busy { OnErr result (EntersNothing guard.old guard.new) }
+        ensures busy { OnErr result (GaveUp guard.old guard.new) }
     {
         scans::range_inclusive(
             &self.pool.map,
@@ -113,8 +113,8 @@ impl<K: Word, V: Word> Congee<K, V> {
         requires map { guard.old.book ≡ self.now }
         ensures map { guard.new.book ≡ guard.old.book }
         ensures count { result ≤ length buffer.old }
-        ensures page { HasPage guard.old (K.number first.now) (K.number last.now + 1)
-            (length buffer.old) (take result buffer.new) guard.new }
+        ensures page { Waits guard.old (λ k. HasPage k (K.number first.now) (K.number last.now + 1)
+            (length buffer.old) (take result buffer.new) guard.new) }
     {
         let pause = Backoff::new();
         for _ in rt.forever() {
@@ -132,7 +132,7 @@ impl<K: Word, V: Word> Congee<K, V> {
         ensures map { guard.new.book ≡ guard.old.book }
         ensures next { IfOk result (λ found. ReturnsNext (pair_of K.of_number V.of_number)
             guard.old (K.number key.now) found guard.new) }
-        ensures busy { OnErr result (EntersNothing guard.old guard.new) }
+        ensures busy { OnErr result (GaveUp guard.old guard.new) }
     {
         let found = scans::ceiling(&self.pool.map, guard, key.into_u64())?;
         Ok(pair_back(found))
@@ -142,8 +142,8 @@ impl<K: Word, V: Word> Congee<K, V> {
     pub fn ceiling<R: Wait>(&self, rt: &R, guard: &mut Guard, key: &K) -> Option<(K, V)>
         requires map { guard.old.book ≡ self.now }
         ensures map { guard.new.book ≡ guard.old.book }
-        ensures next { ReturnsNext (pair_of K.of_number V.of_number)
-            guard.old (K.number key.now) result guard.new }
+        ensures next { Waits guard.old (λ k. ReturnsNext (pair_of K.of_number V.of_number)
+            k (K.number key.now) result guard.new) }
     {
         let pause = Backoff::new();
         for _ in rt.forever() {
@@ -161,7 +161,7 @@ impl<K: Word, V: Word> Congee<K, V> {
         ensures map { guard.new.book ≡ guard.old.book }
         ensures next { IfOk result (λ found. ReturnsNext (pair_of K.of_number V.of_number)
             guard.old (K.number key.now + 1) found guard.new) }
-        ensures busy { OnErr result (EntersNothing guard.old guard.new) }
+        ensures busy { OnErr result (GaveUp guard.old guard.new) }
     {
         let found = scans::above(&self.pool.map, guard, key.into_u64())?;
         Ok(pair_back(found))
@@ -171,8 +171,8 @@ impl<K: Word, V: Word> Congee<K, V> {
     pub fn above<R: Wait>(&self, rt: &R, guard: &mut Guard, key: &K) -> Option<(K, V)>
         requires map { guard.old.book ≡ self.now }
         ensures map { guard.new.book ≡ guard.old.book }
-        ensures next { ReturnsNext (pair_of K.of_number V.of_number)
-            guard.old (K.number key.now + 1) result guard.new }
+        ensures next { Waits guard.old (λ k. ReturnsNext (pair_of K.of_number V.of_number)
+            k (K.number key.now + 1) result guard.new) }
     {
         let pause = Backoff::new();
         for _ in rt.forever() {
@@ -190,7 +190,7 @@ impl<K: Word, V: Word> Congee<K, V> {
         ensures map { guard.new.book ≡ guard.old.book }
         ensures next { IfOk result (λ found. ReturnsNext (pair_of K.of_number V.of_number)
             guard.old 0 found guard.new) }
-        ensures busy { OnErr result (EntersNothing guard.old guard.new) }
+        ensures busy { OnErr result (GaveUp guard.old guard.new) }
     {
         let found = scans::ceiling(&self.pool.map, guard, 0)?;
         Ok(pair_back(found))
@@ -200,7 +200,8 @@ impl<K: Word, V: Word> Congee<K, V> {
     pub fn first<R: Wait>(&self, rt: &R, guard: &mut Guard) -> Option<(K, V)>
         requires map { guard.old.book ≡ self.now }
         ensures map { guard.new.book ≡ guard.old.book }
-        ensures next { ReturnsNext (pair_of K.of_number V.of_number) guard.old 0 result guard.new }
+        ensures next { Waits guard.old (λ k. ReturnsNext (pair_of K.of_number V.of_number)
+            k 0 result guard.new) }
     {
         let pause = Backoff::new();
         for _ in rt.forever() {

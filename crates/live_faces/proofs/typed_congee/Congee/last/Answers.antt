@@ -1,8 +1,12 @@
-use Rattle.std.proofs.Common.{◌^◌}
-use Rattle.live_floors.proofs.Ends.{before_since}
+use Rattle.std.proofs.Common.{rules}
+use Rattle.live_scans.proofs.Pages.{waited_none, waited_busy}
 use Rattle.live_faces.proofs.typed_congee.Congee.last.Goals as goal
 
+pub loop-init : goal.loop-init
+loop-init g c = (search rules, search rules, waited_none c.args.guard.now)
+
 pub returns-in-Ok-clause-before : goal.returns-in-Ok-clause-before
-returns-in-Ok-clause-before g c =
-    let n = c.in-Ok.ensures.before in
-    (n.0, n.1, before_since c.args.guard.now c.loop.guard c.try_last.new.guard (2 ^ 64) n.0 c.loop.invariant.2 n.2)
+returns-in-Ok-clause-before g c = (c.loop.guard, c.loop.invariant.2, c.in-Ok.ensures.before)
+
+pub loop-preserved : goal.loop-preserved
+loop-preserved g c = (search rules, search rules, waited_busy c.args.guard.now c.loop.guard c.try_last.new.guard c.try_last.result c.loop.invariant.2 (search rules) c.try_last.ensures.busy)

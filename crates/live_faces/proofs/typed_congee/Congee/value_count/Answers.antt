@@ -1,5 +1,12 @@
-use Rattle.live_counts.proofs.Knowing.{counted_since}
+use Rattle.std.proofs.Common.{rules}
+use Rattle.live_scans.proofs.Pages.{waited_none, waited_busy}
 use Rattle.live_faces.proofs.typed_congee.Congee.value_count.Goals as goal
 
+pub loop-init : goal.loop-init
+loop-init g c = (search rules, search rules, waited_none c.args.guard.now)
+
 pub returns-in-Ok-clause-counted : goal.returns-in-Ok-clause-counted
-returns-in-Ok-clause-counted g c = counted_since c.args.guard.now c.loop.guard c.try_value_count.new.guard c.in-Ok.count c.loop.invariant.2 c.in-Ok.ensures.counted
+returns-in-Ok-clause-counted g c = (c.loop.guard, c.loop.invariant.2, c.in-Ok.ensures.counted)
+
+pub loop-preserved : goal.loop-preserved
+loop-preserved g c = (search rules, search rules, waited_busy c.args.guard.now c.loop.guard c.try_value_count.new.guard c.try_value_count.result c.loop.invariant.2 (search rules) c.try_value_count.ensures.busy)
