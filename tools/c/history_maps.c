@@ -65,7 +65,11 @@ CALLS_OF_ONE_MOMENT(alone)
     static void map##_free(void *it) {                                                                                      \
         freed(it);                                                                                                          \
     }
-ENDS(live, struct congee_live, congee_live_new_with_limit, congee_live_another, congee_live_free)
+static int live_within(uint64_t limit, struct congee_live **out) {
+    return congee_live_new_with_limit(out, limit);
+}
+
+ENDS(live, struct congee_live, live_within, congee_live_another, congee_live_free)
 ENDS(shared, struct congee_shared, congee_shared_new, congee_shared_another, congee_shared_free)
 ENDS(alone, struct stand_in, stand_in_new, stand_in_another, stand_in_free)
 
