@@ -69,7 +69,8 @@ impl<K: Word, V: Word> Congee<K, V> {
     /// An empty map, whose nodes lie in segments that may take so many bytes together. The first has 8,192 bytes, each
     /// further one twice as many up to 524,288. `OOMError` if memory is missing, or the limit is below the first.
     ///
-    /// A call that needs one more than the limit is for is out of memory. Nodes that were taken out are used again.
+    /// A call that needs one more than the limit is for is out of memory. Nodes that were taken out are used again, and are not
+    /// cut: a map that was emptied of dense keys may refuse most keys that lie far from one another, and a new map takes them.
     pub fn with_limit(alloc: Global, limit: u64) -> Result<Self, OOMError> {
         Ok(Congee {
             pool: Pool::with_limit(alloc, limit)?,
@@ -143,7 +144,8 @@ impl<K: Word, V: Word> Congee<K, V> {
     }
 
     /// Stores a value at the key, and returns the previous one, read back from its number. `Refusal::Busy` if too many
-    /// writers came in between, and `Refusal::OutOfMemory` if memory was missing: then the pairs are as they were.
+    /// writers came in between, and `Refusal::OutOfMemory` if memory was missing for a new key: then a look-up of the key is
+    /// entered, which found none.
     pub fn try_insert(
         &self,
         alloc: Global,
