@@ -389,6 +389,10 @@ void congee_c_live_usage(congee_const_live_handle *h, uint64_t *charged, uint64_
     PLAIN(h, guard, (void)(*charged = 8192, *limit = in.held.of->limit))
 }
 // (who shares a map here sees all that is in it at once, so a meeting and a note have nothing to hand on)
+void congee_c_shared_meet(congee_shared_handle *h, congee_shared_handle *other) {
+    { Inside in(*h->guard); }
+    { Inside in(*other->guard); }
+}
 void congee_c_live_meet(congee_live_handle *h, congee_live_handle *other) {
     { Inside in(*h->guard); }
     { Inside in(*other->guard); }
